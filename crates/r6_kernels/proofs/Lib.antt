@@ -1,0 +1,4 @@
+pub mod BlockLaws
+pub mod Horner
+pub mod Loops
+pub mod ParityLaws
