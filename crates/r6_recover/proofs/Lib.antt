@@ -1,0 +1,12 @@
+pub mod ChangeLaws
+pub mod ClassLaws
+pub mod FactorLaws
+pub mod KnownLaws
+pub mod MissingLaws
+pub mod ParityWrites
+pub mod SumLaws
+pub mod RecoveryLaws
+pub mod RestoreLaws
+pub mod RowLaws
+pub mod UniqueClassLaws
+pub mod WrongBlockLaws

@@ -1,0 +1,15 @@
+use Rattle.std.proofs.Common.{◌≡◌, ◌+◌, ◌-◌, ℕ, List, length, ◌∙◌, ap, arith}
+use Rattle.r6_recover.proofs.RestoreLaws.{RestoresBlock-set, value_of_q}
+use Rattle.r6_recover.proofs.in_place.restore_q.Goals as goal
+
+pub returns-clause-restores : goal.returns-clause-restores
+returns-clause-restores c =
+    let blocks : List (List ℕ) = c.args.blocks.now in
+    let m : ℕ = length blocks - 2 in
+    let len : ℕ = length c.args.sum.now in
+    let least = c.requires.count in
+    let count : length blocks ≡ m + 2 = omega arith in
+    RestoresBlock-set m len (m + 1) m blocks c.copy_from.new.self c.requires.long
+    (ap length c.copy_from.ensures.copied ∙ c.parity.ensures.q_length ∙ c.requires.same)
+    (omega arith)
+    (λ full is agree. c.copy_from.ensures.copied ∙ c.parity.ensures.q ∙ value_of_q m len blocks full count is agree)

@@ -1,0 +1,90 @@
+//! How the P and Q of a row differ from those of its data, byte by byte.
+
+ghost use Rattle.std.specs.Prelude.{◌≡◌, ◌+◌, ◌-◌, ◌<◌, ◌≤◌, ◌↔◌, length, slice_index, IsTrue};
+ghost use Rattle.std.specs.List.{All};
+ghost use Rattle.r6_recover.specs.Rows.{block_length};
+ghost use Rattle.r6_recover.specs.Classes.{p_difference, q_difference, IsZero, IsWrongAt};
+
+use r6_field::Gf;
+use r6_kernels::Buffer;
+
+/// One byte of P*: the stored P and the P of the data, added.
+fn p_difference_at(blocks: &[Buffer], at: usize) -> u8
+    requires count { 2 ≤ length blocks.now }
+    requires long { All (λ block. length block ≡ block_length blocks.now) blocks.now }
+    requires within { at < block_length blocks.now }
+    ensures { result ≡ slice_index (p_difference blocks.now) at }
+{
+    let m = blocks.len() - 2;
+    let data_blocks = &blocks[..m];
+    let mut p = 0;
+    for block in data_blocks {
+        p ^= block.as_slice()[at];
+    }
+    p ^ blocks[m].as_slice()[at]
+}
+
+/// One byte of Q*: the stored Q and the Q of the data, added.
+fn q_difference_at(blocks: &[Buffer], at: usize) -> u8
+    requires count { 2 ≤ length blocks.now }
+    requires long { All (λ block. length block ≡ block_length blocks.now) blocks.now }
+    requires within { at < block_length blocks.now }
+    ensures { result ≡ slice_index (q_difference blocks.now) at }
+{
+    let m = blocks.len() - 2;
+    let data_blocks = &blocks[..m];
+    let mut q = 0;
+    for (i, block) in data_blocks.iter().enumerate() {
+        let product = Gf::exp((i % 255) as u32) * Gf(block.as_slice()[at]);
+        q ^= product.0;
+    }
+    q ^ blocks[m + 1].as_slice()[at]
+}
+
+/// Whether the stored P is that of the data.
+pub(crate) fn is_p_right(blocks: &[Buffer]) -> bool
+    requires count { 2 ≤ length blocks.now }
+    requires long { All (λ block. length block ≡ block_length blocks.now) blocks.now }
+    ensures { IsTrue result ↔ IsZero (p_difference blocks.now) }
+{
+    let len = blocks[0].len();
+    for at in 0..len {
+        if p_difference_at(blocks, at) != 0 {
+            return false;
+        }
+    }
+    true
+}
+
+/// Whether the stored Q is that of the data.
+pub(crate) fn is_q_right(blocks: &[Buffer]) -> bool
+    requires count { 2 ≤ length blocks.now }
+    requires long { All (λ block. length block ≡ block_length blocks.now) blocks.now }
+    ensures { IsTrue result ↔ IsZero (q_difference blocks.now) }
+{
+    let len = blocks[0].len();
+    for at in 0..len {
+        if q_difference_at(blocks, at) != 0 {
+            return false;
+        }
+    }
+    true
+}
+
+/// Whether P and Q differ as a wrong data block `z` makes them differ.
+pub(crate) fn is_wrong_at(blocks: &[Buffer], z: usize) -> bool
+    requires count { 2 ≤ length blocks.now }
+    requires long { All (λ block. length block ≡ block_length blocks.now) blocks.now }
+    ensures { IsTrue result ↔ IsWrongAt blocks.now z }
+{
+    let factor = Gf::exp((z % 255) as u32);
+    let len = blocks[0].len();
+    for at in 0..len {
+        let p = p_difference_at(blocks, at);
+        let q = q_difference_at(blocks, at);
+        if q != (factor * Gf(p)).0 {
+            return false;
+        }
+    }
+    true
+}

@@ -1,0 +1,95 @@
+//! Sets of positions of a row.
+
+ghost use Rattle.std.specs.Prelude.{◌≡◌, ◌<◌, ◌≤◌, true, false, slice_index_or, slice_set, replicate};
+ghost use Rattle.r6_recover.specs.Known.{IsMissing, with_missing};
+
+use std::marker::Model;
+
+/// The most positions of a row.
+pub const POSITIONS: usize = 32;
+
+/// A set of positions of a row: those whose blocks are known. Data block `k` has the position `k`; P and Q come behind the data.
+#[derive(Clone, Copy, Debug, PartialEq, Eq)]
+pub struct Known {
+    positions: [bool; POSITIONS],
+}
+
+impl Model for Known {
+    ghost use Rattle.std.specs.Prelude.{Bool, List, ◌≡◌, length};
+
+    ghost Value = { List Bool };
+
+    ghost view = { λ known. known.positions };
+
+    ghost invariant = { λ known. length known.positions ≡ 32 };
+
+    ghost inverse = { λ positions. record { positions = positions } };
+}
+
+impl Known {
+    /// The empty set.
+    pub fn none() -> Known
+        ensures { result ≡ replicate POSITIONS false }
+    {
+        Known {
+            positions: [false; POSITIONS],
+        }
+    }
+
+    /// Whether the block at a position is known.
+    pub fn contains(&self, position: usize) -> bool
+        requires { position < POSITIONS }
+        ensures { result ≡ slice_index_or self.now position false }
+    {
+        self.positions[position]
+    }
+
+    /// Adds a position.
+    pub fn insert(&mut self, position: usize)
+        requires { position < POSITIONS }
+        ensures { self.new ≡ slice_set self.old position true }
+    {
+        self.positions[position] = true;
+    }
+}
+
+/// Error 1 of `restore`: three or more blocks of the row are unknown.
+#[derive(Clone, Copy, Debug, PartialEq, Eq)]
+pub struct TooManyLost;
+
+/// The positions of a row that aren't known.
+#[derive(Clone, Copy)]
+pub(crate) enum Missing {
+    None,
+    One(usize),
+    Two(usize, usize),
+    Many,
+}
+
+impl Missing {
+    /// With one more position, which comes after these.
+    fn with(self, position: usize) -> Missing
+        ensures { result ≡ with_missing self position }
+    {
+        match self {
+            Missing::None => Missing::One(position),
+            Missing::One(first) => Missing::Two(first, position),
+            Missing::Two(_, _) => Missing::Many,
+            Missing::Many => Missing::Many,
+        }
+    }
+}
+
+/// Which of the first `count` positions aren't known.
+pub(crate) fn missing_among(known: Known, count: usize) -> Missing
+    requires { count ≤ POSITIONS }
+    ensures { IsMissing known count result }
+{
+    let mut missing = Missing::None;
+    for position in 0..count {
+        if !known.contains(position) {
+            missing = missing.with(position);
+        }
+    }
+    missing
+}

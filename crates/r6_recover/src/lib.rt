@@ -1,0 +1,23 @@
+//! Rows of blocks, and the recovery of up to two lost ones.
+#![tactic(auto)]
+
+pub mod apart;
+pub mod class;
+mod difference;
+mod factors;
+pub mod in_place;
+pub mod known;
+pub mod laws;
+pub mod parity;
+pub mod row;
+mod sums;
+
+pub use apart::{restore_from_p_into, restore_from_q_into, restore_two_into};
+pub use class::{RowClass, classify};
+pub use in_place::restore_pair;
+pub use known::{Known, TooManyLost};
+pub use parity::{rewrite_parity, write_parity};
+pub use row::{RowBuf, repair_parity, restore};
+
+#[cfg(test)]
+mod tests;
