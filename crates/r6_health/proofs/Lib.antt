@@ -1,0 +1,9 @@
+pub mod Failures
+pub mod Histories
+pub mod Keeps
+pub mod Outs
+pub mod Reports
+pub mod Runs
+pub mod Sets
+pub mod Tells
+pub mod Writes

@@ -1,0 +1,160 @@
+-- What a pass learns from steps in a row.
+use Rattle.std.proofs.Common.{◌≡◌, ◌-◌, ℕ, List, [], ◌∷◌, ◌++◌, append_assoc, append-nil, ◌+◌, nat_le, not, Bool, true, false, if◌then◌else◌, Result, Ok, Err, refl, sym, ap, ◌∙◌, subst, ⊎_elim, arith}
+use Rattle.r6_health.specs.declared.call.Call.{Call}
+use Rattle.r6_health.specs.declared.call.Answer.{Answer}
+use Rattle.r6_health.specs.declared.call.Call.TheVariants.{Attach}
+use Rattle.r6_health.specs.declared.call.Answer.TheVariants.{Generation}
+use Rattle.r6_health.specs.declared.refusal.Refusal.{Refusal}
+use Rattle.r6_health.specs.declared.refusal.Refusal.TheVariants.{NoSuchSlot, AlreadyLost, Stale, NotLost, ArrayFailed, AlreadyReported, GenerationsSpent, Contended}
+use Rattle.r6_health.specs.declared.snapshot.Snapshot.{Snapshot}
+use Rattle.r6_health.specs.Slots.{is_lost}
+use Rattle.r6_health.specs.Registers.{state_at}
+use Rattle.r6_health.specs.Registers.{answer, after}
+use Rattle.r6_health.specs.declared.history.Entry.{Entry}
+use Rattle.r6_health.specs.declared.history.Made.{Made}
+use Rattle.r6_health.specs.declared.history.Stage.TheVariants.{Begun}
+use Rattle.r6_health.specs.declared.history.View.{View}
+use Rattle.r6_health.specs.declared.register.Register.{Register}
+use Rattle.r6_health.specs.declared.pass.Pass.{Pass}
+use Rattle.r6_health.specs.Passes.{IsPassOf, view_of}
+use Rattle.r6_health.specs.Words.{snapshot_of, turn_of, last_call}
+use Rattle.r6_health.specs.Histories.{made, entry, answer_in, held, held_after, IsLegal, IsLegalAfter, StartsWith}
+use Rattle.r6_health.specs.Views.{IsGeneration, Grows, Looks, Extends, Refused, Answered, Attached, made_by, attached_by}
+use Rattle.r6_health.specs.Rule.{Calls}
+use Rattle.r6_health.proofs.Histories.{starts_with_itself, starts_with-trans}
+
+no_turn : (n : ℕ) → n ≡ 1 - n → ⊥
+no_turn n e = omega arith
+
+-- a step that leaves the words is a look
+pub looked : (v w : View) (words : List ℕ) → Calls v words words w → Looks v w × (held w.start w.seen ≡ snapshot_of words)
+looked v w words told = ⊎_elim
+    (λ (t : (words ≡ words) × Looks v w × (held w.start w.seen ≡ snapshot_of words)). (t.1, t.2))
+    (λ (t : (turn_of words ≡ 1 - turn_of words) × (reply : Answer) × (answer_in v.start (snapshot_of words) (last_call words) ≡ Ok reply) × Extends v (last_call words) reply w).
+    absurd (no_turn (turn_of words) t.0))
+    told
+
+ok_same : (result : Result Answer Refusal) (reply reply' : Answer) → result ≡ Ok reply → result ≡ Ok reply' → reply ≡ reply'
+ok_same result reply reply' e f = cc
+
+-- a step that writes a new turn is the call that the words name
+pub called : (v w : View) (before current new : List ℕ) (call : Call) (reply : Answer) → before ≡ current → turn_of new ≡ 1 - turn_of current → last_call new ≡ call
+    → answer_in v.start (snapshot_of current) call ≡ Ok reply → Calls v before new w → Extends v call reply w
+called v w before current new call reply same turn is_call answers told = ⊎_elim
+    (λ (t : (new ≡ before) × Looks v w × (held w.start w.seen ≡ snapshot_of new)).
+    absurd (no_turn (turn_of current) (sym (ap turn_of (t.0 ∙ same)) ∙ turn)))
+    (λ (t : (turn_of new ≡ 1 - turn_of before) × (r : Answer) × (answer_in v.start (snapshot_of before) (last_call new) ≡ Ok r) × Extends v (last_call new) r w).
+    let answers' : answer_in v.start (snapshot_of before) (last_call new) ≡ Ok reply = (λ i. answer_in v.start (snapshot_of (same i)) (is_call i)) ∙ answers in
+    let one : t.1 ≡ reply = ok_same (answer_in v.start (snapshot_of before) (last_call new)) t.1 reply t.2 answers' in
+    subst (λ (x : Call × Answer). Extends v x.0 x.1 w) (λ i. (is_call i, one i)) t.3)
+    told
+
+pub grows_none : (v : View) → v.stage ≡ Begun → Grows v v
+grows_none v begun = record { begun = begun; same_start = refl; seen = starts_with_itself v.seen; mine = refl; heard = refl }
+
+pub grows-trans : (v u w : View) → Grows v u → Grows u w → Grows v w
+grows-trans v u w a b = record {
+  begun = b.begun;
+  same_start = b.same_start ∙ a.same_start;
+  seen = starts_with-trans w.seen u.seen v.seen b.seen a.seen;
+  mine = b.mine ∙ a.mine;
+  heard = b.heard ∙ a.heard;
+}
+
+pub looks-after : (v u w : View) → Grows v u → Looks u w → Looks v w
+looks-after v u w a b = record { grows = grows-trans v u w a b.grows; legal = b.legal; by = b.by; own = b.own; told = b.told }
+
+pub extends-after : (v u w : View) (call : Call) (reply : Answer) → Grows v u → Extends u call reply w → Extends v call reply w
+extends-after v u w call reply a b = record {
+  begun = b.begun;
+  same_start = b.same_start ∙ a.same_start;
+  by = b.by;
+  between = a.seen.0 ++ b.between;
+  seen = b.seen ∙ ap (λ (front : List Entry). front ++ entry b.by call reply ∷ []) (ap (λ (front : List Entry). front ++ b.between) a.seen.1 ∙ append_assoc v.seen a.seen.0 b.between);
+  mine = b.mine ∙ ap (λ (l : List Made). l ++ made call reply ∷ []) a.mine;
+  own = b.own;
+  legal = b.legal;
+  heard = b.heard ∙ a.heard;
+  told = b.told;
+}
+
+-- a pass stays one of its register's
+pub pass_kept : (r : Register) (p q : Pass) → IsPassOf r p → q.seat.table_id ≡ p.seat.table_id → Grows (view_of p) (view_of q) → IsPassOf r q
+pass_kept r p q own same grows = record { same_cell = same ∙ own.same_cell; begun = grows.begun; same_start = grows.same_start ∙ own.same_start }
+
+pub pass_kept_called : (r : Register) (p q : Pass) (call : Call) (reply : Answer) → IsPassOf r p → q.seat.table_id ≡ p.seat.table_id → Extends (view_of p) call reply (view_of q) → IsPassOf r q
+pass_kept_called r p q call reply own same made = record { same_cell = same ∙ own.same_cell; begun = made.begun; same_start = made.same_start ∙ own.same_start }
+
+-- a refusal that was met at the last try
+pub refused : (v w : View) (call : Call) (refusal : Refusal) → Looks v w → answer_in w.start (held w.start w.seen) call ≡ Err refusal → Refused v call refusal w
+refused v w call Contended looks is = looks.grows
+refused v w call NoSuchSlot looks is = (looks, is)
+refused v w call AlreadyLost looks is = (looks, is)
+refused v w call Stale looks is = (looks, is)
+refused v w call NotLost looks is = (looks, is)
+refused v w call ArrayFailed looks is = (looks, is)
+refused v w call AlreadyReported looks is = (looks, is)
+refused v w call GenerationsSpent looks is = (looks, is)
+
+-- the last call of a legal history answered what the register answers there
+pub legal-last : (slots shards : ℕ) (now : Snapshot) (log : List Entry) (e : Entry) → IsLegalAfter slots shards now (log ++ e ∷ [])
+    → answer slots shards (held_after shards now log) e.call ≡ Ok e.answer
+legal-last slots shards now [] e legal = legal.0
+legal-last slots shards now (x ∷ xs) e legal = legal-last slots shards (after shards now x.call) xs e legal.1
+
+pub only_answer : (a b c d : Bool) (p q r s : Refusal) (reply reply' : Answer)
+    → (if a then Err p else if b then Err q else if c then Err r else if d then Err s else Ok reply) ≡ Ok reply' → reply ≡ reply'
+only_answer true b c d p q r s reply reply' e = cc
+only_answer false true c d p q r s reply reply' e = cc
+only_answer false false true d p q r s reply reply' e = cc
+only_answer false false false true p q r s reply reply' e = cc
+only_answer false false false false p q r s reply reply' e = cc
+
+-- an attach answers a generation
+pub attach_answers : (v w : View) (slot : ℕ) (reply : Answer) → Extends v (Attach slot) reply w → (generation : ℕ) × (Generation generation ≡ reply)
+attach_answers v w slot reply made =
+    let front : List Entry = v.seen ++ made.between in
+    let s = w.start in
+    let legal = subst (λ (log : List Entry). IsLegal s log) made.seen made.legal in
+    let last = legal-last s.slots s.shards s.snapshot front (entry made.by (Attach slot) reply) legal in
+    let now : Snapshot = held s front in (
+      now.attaches + 1,
+      only_answer (nat_le s.slots slot) now.failed (not (is_lost (state_at now slot))) (nat_le 1048575 now.attaches) NoSuchSlot ArrayFailed NotLost GenerationsSpent (Generation (now.attaches + 1)) reply last,
+    )
+
+pub refused-grows : (v w : View) (call : Call) (refusal : Refusal) → Refused v call refusal w → Grows v w
+refused-grows v w call Contended told = told
+refused-grows v w call NoSuchSlot told = told.0.grows
+refused-grows v w call AlreadyLost told = told.0.grows
+refused-grows v w call Stale told = told.0.grows
+refused-grows v w call NotLost told = told.0.grows
+refused-grows v w call ArrayFailed told = told.0.grows
+refused-grows v w call AlreadyReported told = told.0.grows
+refused-grows v w call GenerationsSpent told = told.0.grows
+
+pub attach_gives : (v w : View) (slot : ℕ) (reply : Answer) → Extends v (Attach slot) reply w → IsGeneration reply
+attach_gives v w slot reply made = let t = attach_answers v w slot reply made in subst IsGeneration t.1 tt
+
+pub seen_after_refusal : (v w : View) (call : Call) (refusal : Refusal) → Refused v call refusal w → StartsWith w.seen v.seen
+seen_after_refusal v w call refusal told = (refused-grows v w call refusal told).seen
+
+-- a call is one more of one's own, unless it is refused
+pub own_after : (v w : View) (call : Call) (result : Result Answer Refusal) → Answered v call result w → w.mine ≡ v.mine ++ made_by call result
+own_after v w call (Ok reply) told = told.mine
+own_after v w call (Err refusal) told = (refused-grows v w call refusal told).mine ∙ sym (append-nil v.mine)
+
+pub own_after_attach : (v w : View) (slot : ℕ) (result : Result ℕ Refusal) → Attached v slot result w → w.mine ≡ v.mine ++ attached_by slot result
+own_after_attach v w slot (Ok generation) told = told.mine
+own_after_attach v w slot (Err refusal) told = (refused-grows v w (Attach slot) refusal told).mine ∙ sym (append-nil v.mine)
+
+longer : (v w : View) (call : Call) (reply : Answer) → Extends v call reply w → StartsWith w.seen v.seen
+longer v w call reply told = (told.between ++ entry told.by call reply ∷ [], told.seen ∙ append_assoc v.seen told.between (entry told.by call reply ∷ []))
+
+-- the later view begins with the earlier one
+pub seen_after : (v w : View) (call : Call) (result : Result Answer Refusal) → Answered v call result w → StartsWith w.seen v.seen
+seen_after v w call (Ok reply) told = longer v w call reply told
+seen_after v w call (Err refusal) told = (refused-grows v w call refusal told).seen
+
+pub seen_after_attach : (v w : View) (slot : ℕ) (result : Result ℕ Refusal) → Attached v slot result w → StartsWith w.seen v.seen
+seen_after_attach v w slot (Ok generation) told = longer v w (Attach slot) (Generation generation) told
+seen_after_attach v w slot (Err refusal) told = (refused-grows v w (Attach slot) refusal told).seen
