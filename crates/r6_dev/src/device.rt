@@ -1,6 +1,6 @@
 //! What a device promises.
 
-ghost use Rattle.std.specs.Prelude.{◌≡◌, length, MatchResult};
+ghost use Rattle.std.specs.Prelude.{◌≡◌, ◌≢◌, length, Err, MatchResult};
 ghost use Rattle.r6_dev.specs.History.{Telling, Answers, Reads, Writes, Fails};
 
 use crate::fault::Fault;
@@ -19,12 +19,16 @@ pub trait BlockDevice {
     /// 1 `ReadFault`, 3 `Gone`, or 4 `Length`; the buffer may then have any bytes.
     fn read(&mut self, row: u64, buffer: &mut Buffer) -> Result<(), Fault>
         ensures answers { MatchResult result (λ _. Answers (told self.old) (Reads row buffer.new) (told self.new)) (λ _. Answers (told self.old) Fails (told self.new)) }
-        ensures same_length { length buffer.new ≡ length buffer.old };
+        ensures same_length { length buffer.new ≡ length buffer.old }
+        ensures refused { result ≡ Err Fault.Length → told self.new ≡ told self.old }
+        ensures faults { result ≢ Err Fault.WriteFault };
 
     /// Writes the buffer's bytes to a row.
     ///
     /// # Errors
     /// 2 `WriteFault`, 3 `Gone`, or 4 `Length`.
     fn write(&mut self, row: u64, buffer: &Buffer) -> Result<(), Fault>
-        ensures answers { MatchResult result (λ _. Answers (told self.old) (Writes row buffer.now) (told self.new)) (λ _. Answers (told self.old) Fails (told self.new)) };
+        ensures answers { MatchResult result (λ _. Answers (told self.old) (Writes row buffer.now) (told self.new)) (λ _. Answers (told self.old) Fails (told self.new)) }
+        ensures refused { result ≡ Err Fault.Length → told self.new ≡ told self.old }
+        ensures faults { result ≢ Err Fault.ReadFault };
 }

@@ -1,6 +1,6 @@
 //! A device that keeps its blocks in memory.
 
-ghost use Rattle.std.specs.Prelude.{◌≡◌, ◌↔◌, ◌≤◌, ◌<◌, ◌+◌, ◌-◌, length, replicate, slice_set, slice_index_or, [], Some, IfOk, IfErr, IfSome, IsNone, OnOk, OnErr, Err, MatchResult};
+ghost use Rattle.std.specs.Prelude.{◌≡◌, ◌≢◌, ◌↔◌, ◌≤◌, ◌<◌, ◌+◌, ◌-◌, length, replicate, slice_set, slice_index_or, [], Some, IfOk, IfErr, IfSome, IsNone, OnOk, OnErr, Err, MatchResult};
 ghost use Rattle.std.specs.List.{All};
 ghost use Rattle.r6_kernels.specs.Blocks.{zeros};
 ghost use Rattle.r6_dev.specs.History.{Answers, Reads, Writes, Fails};
@@ -72,6 +72,8 @@ impl BlockDevice for MemoryDevice {
     fn read(&mut self, row: u64, buffer: &mut Buffer) -> Result<(), Fault>
         ensures answers { MatchResult result (λ _. Answers (told_by self.old) (Reads row buffer.new) (told_by self.new)) (λ _. Answers (told_by self.old) Fails (told_by self.new)) }
         ensures same_length { length buffer.new ≡ length buffer.old }
+        ensures unchanged { result ≡ Err Fault.Length → told_by self.new ≡ told_by self.old }
+        ensures faults { result ≢ Err Fault.WriteFault }
         ensures kept { self.new ≡ self.old }
         ensures refused { (result ≡ Err Fault.Length) ↔ ¬ (Serves self.old row × (length buffer.old ≡ self.old.block)) }
         ensures nothing_else { IfErr result (λ fault. fault ≡ Fault.Length) }
@@ -89,6 +91,8 @@ impl BlockDevice for MemoryDevice {
 
     fn write(&mut self, row: u64, buffer: &Buffer) -> Result<(), Fault>
         ensures answers { MatchResult result (λ _. Answers (told_by self.old) (Writes row buffer.now) (told_by self.new)) (λ _. Answers (told_by self.old) Fails (told_by self.new)) }
+        ensures unchanged { result ≡ Err Fault.Length → told_by self.new ≡ told_by self.old }
+        ensures faults { result ≢ Err Fault.ReadFault }
         ensures written { OnOk result (self.new ≡ record self.old { blocks = slice_set self.old.blocks (row - self.old.first) buffer.now }) }
         ensures refused { (result ≡ Err Fault.Length) ↔ ¬ (Serves self.old row × (length buffer.now ≡ self.old.block)) }
         ensures nothing_else { IfErr result (λ fault. fault ≡ Fault.Length) }

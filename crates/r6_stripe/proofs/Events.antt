@@ -1,0 +1,234 @@
+-- What each event does to one place, and to its cell.
+use Rattle.std.proofs.Common.{◌≡◌, ◌≢◌, ◌⊎◌, inl, inr, Bool, true, false, ℕ, ◌-◌, ◌<◌, List, [], ◌∷◌, length, get_or, set, refl, sym, ◌∙◌, ap, subst, arith}
+use Rattle.std.specs.Prelude.{if◌then◌else◌, not, ◌||◌, ◌==◌, Option, Some, None}
+use Rattle.std.proofs.lemmas.List.{set-get_or}
+use Rattle.std.proofs.lemmas.Bool.{eq-eqb, le-leb}
+use Rattle.r6_stripe.specs.Holds.{Standing, Reading, Writing, Cell, Kind, Hold, cell_at, no_cell, wants_all}
+use Rattle.r6_stripe.specs.Holds.Event.{Confirms, Gives}
+use Rattle.r6_stripe.specs.Plans as plans
+use Rattle.r6_stripe.specs.Plans.{is_out, is_sent}
+use Rattle.r6_stripe.specs.Places.{standing_of, reading_of, writing_of, cell_of, cells_of, answered}
+use Rattle.r6_stripe.specs.Sound.{IsSettled, IsInCourse, IsPut}
+use Rattle.r6_stripe.specs.Steps.{with_answer}
+use Rattle.r6_stripe.specs.Views.{kind_of, plan_of}
+use Rattle.r6_stripe.specs.declared.command.Task.{Task}
+use Rattle.r6_stripe.specs.declared.command.Task.TheVariants as task
+use Rattle.r6_stripe.specs.declared.plan.Plan.{Plan}
+use Rattle.r6_stripe.specs.declared.plan.Plan.TheVariants as plan
+use Rattle.r6_stripe.specs.declared.place.State.{State}
+use Rattle.r6_stripe.specs.declared.place.ReadState.{ReadState}
+use Rattle.r6_stripe.specs.declared.place.WriteState.{WriteState}
+use Rattle.r6_stripe.specs.declared.place.State.TheVariants as state
+use Rattle.r6_stripe.specs.declared.place.ReadState.TheVariants as read
+use Rattle.r6_stripe.specs.declared.place.WriteState.TheVariants as write
+use Rattle.r6_stripe.specs.declared.place.Place.{Place}
+use Rattle.r6_stripe.proofs.Places.{changed}
+
+-- ---- cells
+
+pub ask_cell : (old : Place) (block : List ℕ) → (cell_of old block).writing ≡ Writing.Unwritten →
+    cell_of (record { state = old.state; read = read.Asked; write = old.write; away = true }) [] ≡ record (cell_of old block) { reading = Reading.Asked }
+ask_cell old block e = by_write old.write e
+  where
+    by_write : (w : WriteState) → writing_of w block ≡ Writing.Unwritten →
+        ◌≡◌ {A = Cell} (record { standing = standing_of old.state; reading = Reading.Asked; writing = writing_of w [] }) (record { standing = standing_of old.state; reading = Reading.Asked; writing = writing_of w block })
+    by_write write.Unwritten e = refl
+    by_write write.Ready e = absurd cc
+    by_write write.Sent e = absurd cc
+    by_write write.Confirmed e = absurd cc
+
+-- a place that has no known block looks the same whatever its buffer holds
+same_reading : (r : ReadState) (block other : List ℕ) → r ≢ read.Known → reading_of r block ≡ reading_of r other
+same_reading read.Unread block other h = refl
+same_reading read.Asked block other h = refl
+same_reading read.Known block other h = absurd (h refl)
+same_reading read.Replaced block other h = refl
+
+pub send_cell : (old : Place) (block : List ℕ) → old.read ≢ read.Known →
+    cell_of (record { state = old.state; read = old.read; write = write.Sent; away = true }) [] ≡ record (cell_of old block) { writing = Writing.Sent }
+send_cell old block h = ap (λ (r : Reading). record { standing = standing_of old.state; reading = r; writing = Writing.Sent }) (same_reading old.read [] block h)
+
+pub lose_cell : (old : Place) (block : List ℕ) → cell_of (record { state = state.Out; read = old.read; write = old.write; away = old.away }) block ≡ record (cell_of old block) { standing = Standing.Out }
+lose_cell old block = refl
+
+-- the cell when its command's buffer comes home
+answered_cell : Cell → List ℕ → Cell
+answered_cell cell block = if is_out cell.standing then cell else (if is_sent cell.writing then record cell { writing = Writing.Confirmed } else record cell { reading = Reading.Known block })
+
+answer_cell : (old : Place) (block given : List ℕ) → IsSettled old → old.away ≡ true → cell_of (answered old.state old.read old.write) given ≡ answered_cell (cell_of old block) given
+unfolding answered_cell
+answer_cell old block given settled away = by_all old.state old.read old.write (settled.away away) settled.one_block
+  where
+    by_all : (s : State) (r : ReadState) (w : WriteState) → ((r ≡ read.Asked) × (w ≡ write.Unwritten)) ⊎ (w ≡ write.Sent) → (w ≢ write.Unwritten → r ≢ read.Known) →
+        cell_of (answered s r w) given ≡
+        (if is_out (standing_of s) then record { standing = standing_of s; reading = reading_of r block; writing = writing_of w block }
+        else (if is_sent (writing_of w block) then record { standing = standing_of s; reading = reading_of r block; writing = Writing.Confirmed } else record { standing = standing_of s; reading = Reading.Known given; writing = writing_of w block }))
+    by_all state.Out r write.Sent h one = ap (λ (x : Reading). record { standing = Standing.Out; reading = x; writing = Writing.Sent }) (same_reading r given block (one (λ e. cc)))
+    by_all state.Out read.Asked write.Unwritten h one = refl
+    by_all state.Out read.Unread write.Unwritten (inl h) one = absurd (let e = h.0 in cc)
+    by_all state.Out read.Unread write.Unwritten (inr h) one = absurd cc
+    by_all state.Out read.Known write.Unwritten (inl h) one = absurd (let e = h.0 in cc)
+    by_all state.Out read.Known write.Unwritten (inr h) one = absurd cc
+    by_all state.Out read.Replaced write.Unwritten (inl h) one = absurd (let e = h.0 in cc)
+    by_all state.Out read.Replaced write.Unwritten (inr h) one = absurd cc
+    by_all state.Out r write.Ready (inl h) one = absurd (let e = h.1 in cc)
+    by_all state.Out r write.Ready (inr h) one = absurd cc
+    by_all state.Out r write.Confirmed (inl h) one = absurd (let e = h.1 in cc)
+    by_all state.Out r write.Confirmed (inr h) one = absurd cc
+    by_all state.InSync r write.Sent h one = ap (λ (x : Reading). record { standing = Standing.InSync; reading = x; writing = Writing.Confirmed }) (same_reading r given block (one (λ e. cc)))
+    by_all state.InSync r write.Unwritten h one = refl
+    by_all state.InSync r write.Ready (inl h) one = absurd (let e = h.1 in cc)
+    by_all state.InSync r write.Ready (inr h) one = absurd cc
+    by_all state.InSync r write.Confirmed (inl h) one = absurd (let e = h.1 in cc)
+    by_all state.InSync r write.Confirmed (inr h) one = absurd cc
+
+with_answer_cells : (planned : plans.Planned) (i : ℕ) (block : List ℕ) →
+    ◌≡◌ {A = plans.Planned} (record planned { hold = record planned.hold { cells = set planned.hold.cells i (answered_cell (cell_at planned.hold.cells i) block) } }) (with_answer planned i block)
+unfolding answered_cell
+with_answer_cells planned i block = by_tests (is_out (cell_at planned.hold.cells i).standing) (is_sent (cell_at planned.hold.cells i).writing)
+  where
+    by_tests : (out put : Bool) →
+        ◌≡◌ {A = plans.Planned} (record planned { hold = record planned.hold { cells = set planned.hold.cells i (if out then cell_at planned.hold.cells i else (if put then record (cell_at planned.hold.cells i) { writing = Writing.Confirmed } else record (cell_at planned.hold.cells i) { reading = Reading.Known block })) } })
+        (if out then planned else (if put then plans.planned_after planned (Confirms i) else plans.planned_after planned (Gives i block)))
+    by_tests true put = ap (λ (cells : List Cell). record planned { hold = record planned.hold { cells = cells } }) (set-get_or planned.hold.cells i no_cell)
+    by_tests false true = refl
+    by_tests false false = refl
+
+pub answer_planned : (size : ℕ) (kind : Kind) (p : plans.Plan) (places : List Place) (blocks : List (List ℕ)) (i : ℕ) (old : Place) (given : List ℕ) → i < length places → length blocks ≡ length places → old ≡ get_or places i old → IsSettled old → old.away ≡ true →
+    ◌≡◌ {A = plans.Planned} (record { plan = p; hold = record { size = size; kind = kind; cells = cells_of (set places i (answered old.state old.read old.write)) (set blocks i given); cut_short = false } })
+    (with_answer (record { plan = p; hold = record { size = size; kind = kind; cells = cells_of places blocks; cut_short = false } }) i given)
+answer_planned size kind p places blocks i old given below wide is settled away =
+    ap (λ (cells : List Cell). record { plan = p; hold = record { size = size; kind = kind; cells = cells; cut_short = false } })
+    (changed places blocks i old (answered old.state old.read old.write) given (λ (cell : Cell). answered_cell cell given) below wide is (answer_cell old (get_or blocks i []) given settled away))
+    ∙ with_answer_cells (record { plan = p; hold = record { size = size; kind = kind; cells = cells_of places blocks; cut_short = false } }) i given
+
+pub wants_some : (t : Option Task) → wants_all (kind_of t) ≡ false
+wants_some None = refl
+wants_some (Some (task.Read index)) = refl
+wants_some (Some (task.Write index block)) = refl
+
+-- ---- what stays true of a place
+
+pub ask_settled : (old : Place) → old.write ≡ write.Unwritten → IsSettled (record { state = old.state; read = read.Asked; write = old.write; away = true })
+ask_settled old unwritten = record { away = λ e. inl (refl, unwritten); one_block = λ e known. cc }
+
+pub send_settled : (old : Place) → old.read ≢ read.Known → IsSettled (record { state = old.state; read = old.read; write = write.Sent; away = true })
+send_settled old unknown = record { away = λ e. inr refl; one_block = λ e. unknown }
+
+pub lose_settled : (old : Place) → IsSettled old → IsSettled (record { state = state.Out; read = old.read; write = old.write; away = old.away })
+lose_settled old settled = record { away = settled.away; one_block = settled.one_block }
+
+pub answer_settled : (old : Place) → IsSettled old → old.away ≡ true → IsSettled (answered old.state old.read old.write)
+answer_settled old settled away = by_all old.state old.write (settled.away away) settled.one_block
+  where
+    by_all : (s : State) (w : WriteState) → ((old.read ≡ read.Asked) × (w ≡ write.Unwritten)) ⊎ (w ≡ write.Sent) → (w ≢ write.Unwritten → old.read ≢ read.Known) → IsSettled (answered s old.read w)
+    by_all state.Out w h one = record { away = λ e. cc; one_block = one }
+    by_all state.InSync write.Sent h one = record { away = λ e. cc; one_block = λ e. one (λ e. cc) }
+    by_all state.InSync write.Unwritten h one = record { away = λ e. cc; one_block = λ e known. e refl }
+    by_all state.InSync write.Ready (inl h) one = absurd (let e = h.1 in cc)
+    by_all state.InSync write.Ready (inr h) one = absurd cc
+    by_all state.InSync write.Confirmed (inl h) one = absurd (let e = h.1 in cc)
+    by_all state.InSync write.Confirmed (inr h) one = absurd cc
+
+pub answer_home : (old : Place) → (answered old.state old.read old.write).away ≡ false
+answer_home old = by_both old.state old.write
+  where
+    by_both : (s : State) (w : WriteState) → (answered s old.read w).away ≡ false
+    by_both state.Out w = refl
+    by_both state.InSync write.Sent = refl
+    by_both state.InSync write.Unwritten = refl
+    by_both state.InSync write.Ready = refl
+    by_both state.InSync write.Confirmed = refl
+
+-- the positions that a write changes are not those that reconstruct reads
+pub never_put : (hold : Hold) (index position : ℕ) (block : List ℕ) → hold.kind ≡ Kind.Write ((index, block) ∷ []) → plans.wants plans.Plan.Reconstruct hold position ≡ true → IsPut (length hold.cells) index position → ⊥
+never_put hold index position block kind wanted put = go put
+  where
+    not_true : (b : Bool) → b ≡ true → not b ≡ true → ⊥
+    not_true true e h = cc
+    not_true false e h = cc
+
+    or_right : (a b : Bool) → b ≡ true → (a || b) ≡ true
+    or_right true b e = refl
+    or_right false b e = e
+
+    or_left : (a b : Bool) → a ≡ true → (a || b) ≡ true
+    or_left true b e = refl
+    or_left false b e = absurd cc
+
+    go : IsPut (length hold.cells) index position → ⊥
+    go (inl same) =
+        not_true _ (or_right (plans.is_parity hold position) (plans.puts_data hold.kind position)
+        (ap (λ (k : Kind). plans.puts_data k position) kind ∙ or_left (index == position) false (eq-eqb index position (sym same)))) wanted
+    go (inr past) =
+        not_true _ (or_left (plans.is_parity hold position) (plans.puts_data hold.kind position) (le-leb (length hold.cells - 2) position (omega arith))) wanted
+
+-- ---- where a place stands in its plan's course
+
+pub ask_course : (p : Plan) (t : Option Task) (hold : Hold) (computed : Bool) (i : ℕ) (old : Place) → hold.kind ≡ kind_of t → plans.wants (plan_of p) hold i ≡ true →
+    IsInCourse p t (length hold.cells) computed i old → IsInCourse p t (length hold.cells) computed i (record { state = old.state; read = read.Asked; write = old.write; away = true })
+ask_course plan.One (Some (task.Read index)) hold computed i old kind wanted course = (course.0, λ e. cc)
+ask_course plan.One (Some (task.Write index block)) hold computed i old kind wanted course = course
+ask_course plan.One None hold computed i old kind wanted course = course
+ask_course plan.Reconstruct (Some (task.Read index)) hold computed i old kind wanted course = course
+ask_course plan.Reconstruct (Some (task.Write index block)) hold false i old kind wanted course = (course.0, λ e. cc, λ put. absurd (never_put hold index i block kind wanted put))
+ask_course plan.Reconstruct (Some (task.Write index block)) hold true i old kind wanted course = λ put. absurd (never_put hold index i block kind wanted put)
+ask_course plan.Reconstruct None hold computed i old kind wanted course = course
+ask_course plan.Recover (Some (task.Read index)) hold computed i old kind wanted course = course
+ask_course plan.Recover (Some (task.Write index block)) hold computed i old kind wanted course = course
+ask_course plan.Recover None hold computed i old kind wanted course = course
+
+pub send_course : (p : Plan) (t : Option Task) (count : ℕ) (computed : Bool) (i : ℕ) (old : Place) → old.write ≡ write.Ready →
+    IsInCourse p t count computed i old → IsInCourse p t count computed i (record { state = old.state; read = old.read; write = write.Sent; away = true })
+send_course plan.One (Some (task.Read index)) count computed i old ready course = absurd (let e = sym ready ∙ course.0 in cc)
+send_course plan.One (Some (task.Write index block)) count computed i old ready course = course
+send_course plan.One None count computed i old ready course = course
+send_course plan.Reconstruct (Some (task.Read index)) count computed i old ready course = course
+send_course plan.Reconstruct (Some (task.Write index block)) count false i old ready course = absurd (let e = sym ready ∙ course.0 in cc)
+send_course plan.Reconstruct (Some (task.Write index block)) count true i old ready course = λ put. (λ e. cc, (course put).1)
+send_course plan.Reconstruct None count computed i old ready course = course
+send_course plan.Recover (Some (task.Read index)) count computed i old ready course = course
+send_course plan.Recover (Some (task.Write index block)) count computed i old ready course = course
+send_course plan.Recover None count computed i old ready course = course
+
+-- a change that keeps the write's having begun, and what is asked and replaced
+later_course : (p : Plan) (t : Option Task) (count : ℕ) (computed : Bool) (i : ℕ) (old new : Place) → (old.write ≡ write.Unwritten → new.write ≡ write.Unwritten) → (old.write ≢ write.Unwritten → new.write ≢ write.Unwritten) →
+    (old.read ≢ read.Asked → new.read ≢ read.Asked) → (old.read ≢ read.Replaced → new.read ≢ read.Replaced) →
+    IsInCourse p t count computed i old → IsInCourse p t count computed i new
+later_course plan.One (Some (task.Read index)) count computed i old new stays goes asked replaced course = (stays course.0, replaced course.1)
+later_course plan.One (Some (task.Write index block)) count computed i old new stays goes asked replaced course = course
+later_course plan.One None count computed i old new stays goes asked replaced course = course
+later_course plan.Reconstruct (Some (task.Read index)) count computed i old new stays goes asked replaced course = course
+later_course plan.Reconstruct (Some (task.Write index block)) count false i old new stays goes asked replaced course = (stays course.0, replaced course.1, λ put. asked (course.2 put))
+later_course plan.Reconstruct (Some (task.Write index block)) count true i old new stays goes asked replaced course = λ put. (goes (course put).0, asked (course put).1)
+later_course plan.Reconstruct None count computed i old new stays goes asked replaced course = course
+later_course plan.Recover (Some (task.Read index)) count computed i old new stays goes asked replaced course = course
+later_course plan.Recover (Some (task.Write index block)) count computed i old new stays goes asked replaced course = course
+later_course plan.Recover None count computed i old new stays goes asked replaced course = course
+
+pub answer_course : (p : Plan) (t : Option Task) (count : ℕ) (computed : Bool) (i : ℕ) (old : Place) → IsSettled old → old.away ≡ true →
+    IsInCourse p t count computed i old → IsInCourse p t count computed i (answered old.state old.read old.write)
+answer_course p t count computed i old settled away = by_all old.state old.write (settled.away away)
+  where
+    by_all : (s : State) (w : WriteState) → ((old.read ≡ read.Asked) × (w ≡ write.Unwritten)) ⊎ (w ≡ write.Sent) →
+        IsInCourse p t count computed i (record { state = s; read = old.read; write = w; away = old.away }) → IsInCourse p t count computed i (answered s old.read w)
+    by_all state.Out w h = later_course p t count computed i (record { state = state.Out; read = old.read; write = w; away = old.away }) (answered state.Out old.read w) (λ e. e) (λ e. e) (λ e. e) (λ e. e)
+    by_all state.InSync write.Sent h = later_course p t count computed i (record { state = state.InSync; read = old.read; write = write.Sent; away = old.away }) (answered state.InSync old.read write.Sent) (λ e. absurd cc) (λ e f. cc) (λ e. e) (λ e. e)
+    by_all state.InSync write.Unwritten h = later_course p t count computed i (record { state = state.InSync; read = old.read; write = write.Unwritten; away = old.away }) (answered state.InSync old.read write.Unwritten) (λ e. e) (λ e. e) (λ e f. cc) (λ e f. cc)
+    by_all state.InSync write.Ready (inl h) = absurd (let e = h.1 in cc)
+    by_all state.InSync write.Ready (inr h) = absurd cc
+    by_all state.InSync write.Confirmed (inl h) = absurd (let e = h.1 in cc)
+    by_all state.InSync write.Confirmed (inr h) = absurd cc
+
+pub lose_course : (p q : Plan) (t : Option Task) (count : ℕ) (computed : Bool) (i : ℕ) (old : Place) (s : State) → (q ≡ p) ⊎ (q ≡ plan.Recover) →
+    IsInCourse p t count computed i old → IsInCourse q t count computed i (record { state = s; read = old.read; write = old.write; away = old.away })
+lose_course p q t count computed i old s (inl same) course =
+    subst (λ (r : Plan). IsInCourse r t count computed i (record { state = s; read = old.read; write = old.write; away = old.away })) (sym same)
+    (later_course p t count computed i old (record { state = s; read = old.read; write = old.write; away = old.away }) (λ e. e) (λ e. e) (λ e. e) (λ e. e) course)
+lose_course p q t count computed i old s (inr recover) course =
+    subst (λ (r : Plan). IsInCourse r t count computed i (record { state = s; read = old.read; write = old.write; away = old.away })) (sym recover) (no_course t)
+  where
+    no_course : (u : Option Task) → IsInCourse plan.Recover u count computed i (record { state = s; read = old.read; write = old.write; away = old.away })
+    no_course None = tt
+    no_course (Some (task.Read index)) = tt
+    no_course (Some (task.Write index block)) = tt

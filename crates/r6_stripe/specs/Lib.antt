@@ -1,0 +1,14 @@
+pub mod Examples
+pub mod FrameViews
+pub mod Frames
+pub mod HoldViews
+pub mod Holds
+pub mod Places
+pub mod PlanLaws
+pub mod Plans
+pub mod Refusals
+pub mod RowWorld
+pub mod Seen
+pub mod Sound
+pub mod Steps
+pub mod Views

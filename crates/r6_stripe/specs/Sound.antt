@@ -1,0 +1,68 @@
+-- What is true of the fields of every hold.
+use Rattle.std.specs.Prelude.{◌≡◌, ◌≢◌, ◌⊎◌, ℕ, ◌+◌, ◌<◌, ◌≤◌, ⊤, Bool, true, false, List, [], length, slice_index_or, Option, Some, None}
+use Rattle.r6_stripe.specs.Places.{no_place}
+use Rattle.r6_stripe.specs.declared.command.Task.{Task}
+use Rattle.r6_stripe.specs.declared.command.Task.TheVariants as task
+use Rattle.r6_stripe.specs.declared.place.ReadState.TheVariants as read
+use Rattle.r6_stripe.specs.declared.place.WriteState.TheVariants as write
+use Rattle.r6_stripe.specs.declared.place.Place.{Place}
+use Rattle.r6_stripe.specs.declared.plan.Plan.{Plan}
+use Rattle.r6_stripe.specs.declared.plan.Plan.TheVariants as plan
+use Rattle.r6_stripe.specs.declared.state.HoldState.{HoldState}
+
+-- the index is one of the data, and a block to be written has the length
+abbrev pub IsTask : ℕ → ℕ → Option Task → Type 0
+IsTask count size None = ⊤
+IsTask count size (Some (task.Read index)) = index + 2 < count
+IsTask count size (Some (task.Write index block)) = (index + 2 < count) × (length block ≡ size)
+
+-- a buffer that is away left with the position's last command; and it holds one block at most
+pub record IsSettled (place : Place) : Type 0 where
+  pub away : place.away ≡ true → ((place.read ≡ read.Asked) × (place.write ≡ write.Unwritten)) ⊎ (place.write ≡ write.Sent)
+  pub one_block : place.write ≢ write.Unwritten → place.read ≢ read.Known
+
+-- a position that a write of the index changes
+abbrev pub IsPut : ℕ → ℕ → ℕ → Type 0
+IsPut count index position = (position ≡ index) ⊎ (count ≤ position + 2)
+
+-- where a place stands in the course of the plan, before or after the new blocks were computed
+abbrev pub IsInCourse : Plan → Option Task → ℕ → Bool → ℕ → Place → Type 0
+IsInCourse plan.One (Some (task.Read index)) count computed position place = (place.write ≡ write.Unwritten) × (place.read ≢ read.Replaced)
+IsInCourse plan.Reconstruct (Some (task.Write index block)) count false position place =
+    (place.write ≡ write.Unwritten) × (place.read ≢ read.Replaced) × (IsPut count index position → place.read ≢ read.Asked)
+IsInCourse plan.Reconstruct (Some (task.Write index block)) count true position place =
+    IsPut count index position → (place.write ≢ write.Unwritten) × (place.read ≢ read.Asked)
+IsInCourse plan.Recover t count computed position place = ⊤
+IsInCourse p None count computed position place = ⊤
+-- no plan but to recover serves reads and writes
+IsInCourse _ _ count computed position place = ⊥
+
+abbrev pub Each : (ℕ → Place → Type 0) → List Place → Type 0
+Each holds places = (position : ℕ) → position < length places → holds position (slice_index_or places position no_place)
+
+-- the buffer of each position has the length, unless it is away
+abbrev pub AreHome : ℕ → List Place → List (List ℕ) → Type 0
+AreHome size places blocks =
+    (position : ℕ) → position < length places → (slice_index_or places position no_place).away ≡ false →
+    length (slice_index_or blocks position []) ≡ size
+
+-- 4 to 32 positions, a buffer for each that is not away, and two more
+pub record IsSound (state : HoldState) : Type 0 where
+  pub four_or_more : 4 ≤ length state.places.items
+  pub at_most : length state.places.items ≤ 32
+  pub wide : length state.blocks.items ≡ length state.places.items
+  pub sum : length state.sum ≡ state.len
+  pub weighted : length state.weighted ≡ state.len
+  pub fits : IsTask (length state.places.items) state.len state.task
+  pub at_home : AreHome state.len state.places.items state.blocks.items
+  pub settled : Each (λ position place. IsSettled place) state.places.items
+  pub computed : Bool
+  pub course : Each (IsInCourse state.plan state.task (length state.places.items) computed) state.places.items
+
+-- a plan that serves the task
+abbrev pub Suits : Plan → Option Task → Type 0
+Suits plan.Recover t = ⊤
+Suits p None = ⊤
+Suits plan.One (Some (task.Read index)) = ⊤
+Suits plan.Reconstruct (Some (task.Write index block)) = ⊤
+Suits _ _ = ⊥

@@ -1,0 +1,165 @@
+//! One operation that holds one row.
+
+ghost use Rattle.std.specs.Prelude.{◌≡◌, ◌<◌, ℕ, List, not, true, false, length, slice_index_or, map, if◌then◌else◌, Some, None, MatchOption, IfSome};
+ghost use Rattle.std.specs.List.{list_any};
+ghost use Rattle.r6_stripe.specs.Frames as frames;
+ghost use Rattle.r6_stripe.specs.Holds.{cell_at, MayEnd};
+ghost use Rattle.r6_stripe.specs.Holds.Kind.{Idle};
+ghost use Rattle.r6_stripe.specs.Plans.{outcome_of};
+ghost use Rattle.r6_stripe.specs.Sound.{IsTask};
+ghost use Rattle.r6_stripe.specs.Steps.{Held, begun_held, PutsOut, answered, lost, closed, has_outcome, IsKnownAs, IsUnknown, is_away};
+ghost use Rattle.r6_stripe.specs.Views.{kind_of, kind_of_task};
+
+use crate::command::{Outcome, RowCommand, Task};
+use crate::frame::{Frame, settle};
+use crate::plan::Plan;
+use crate::state::HoldState;
+use r6_kernels::Buffer;
+use std::marker::Model;
+
+/// One operation that holds one row, in the frame that it was handed.
+///
+/// No call takes memory. Whatever happened, drive it on by [`Hold::next_command`] until it answers none, and then ask for
+/// its [`Hold::outcome`].
+#[derive(Drop)]
+pub struct Hold {
+    state: HoldState,
+}
+
+impl Model for Hold {
+    ghost use Rattle.r6_stripe.specs.Steps.{Held};
+
+    ghost Value = { Held };
+
+    ghost use Rattle.r6_stripe.specs.HoldViews.{view_of, IsHold};
+
+    ghost view = { view_of };
+
+    ghost invariant = { IsHold };
+}
+
+impl Hold {
+    /// Begins a hold of a row, of whose positions these are in sync; the others are out. All buffers of the frame are home.
+    ///
+    /// A write reads the data that it doesn't change; a read reads its block. Where one of these is out, the hold could go
+    /// on only by recovery, which comes later: such a hold puts nothing out and doesn't end.
+    pub fn begin(frame: Frame, task: Task, in_sync: &[bool]) -> Hold
+        requires positions { length in_sync.now ≡ frame.count }
+        requires task { IsTask frame.count frame.size (Some task) }
+        ensures { result ≡ begun_held frame.size in_sync.now (kind_of_task task) }
+    {
+        let Frame {
+            mut places,
+            blocks,
+            sum,
+            weighted,
+            len,
+            alloc,
+        } = frame;
+        settle(&mut places, in_sync);
+        let mut state = HoldState {
+            task: Some(task),
+            plan: Plan::Recover,
+            len,
+            places,
+            blocks,
+            sum,
+            weighted,
+            alloc,
+        };
+        state.plan = state.first_plan();
+        Hold { state }
+    }
+
+    /// The command that comes next, if one does: the reads in row order; when all have been answered, the writes in row order.
+    ///
+    /// A hold that lost what its plan reads has none, and isn't over.
+    pub fn next_command(&mut self) -> Option<RowCommand>
+        ensures { PutsOut self.old result self.new }
+    {
+        self.state.next_command()
+    }
+
+    /// The buffer of a command comes home: with the answer, or late if the position was lost since.
+    pub fn done(&mut self, position: usize, buffer: Buffer)
+        requires away { is_away self.old position ≡ true }
+        requires size { length buffer ≡ self.old.planned.hold.size }
+        ensures { self.new ≡ answered self.old position buffer }
+    {
+        self.state.answer(position, buffer);
+    }
+
+    /// The position is lost, and its commands are abandoned. A buffer that is away with one may still come home.
+    pub fn lost(&mut self, position: usize)
+        requires { position < length self.old.planned.hold.cells }
+        ensures { self.new ≡ lost self.old position }
+    {
+        self.state.lose(position);
+    }
+
+    /// How the hold ends, if it is over.
+    pub fn outcome(&self) -> Option<Outcome>
+        ensures over { result ≡ (if has_outcome self.now.planned then Some Outcome.Done else None) }
+        ensures ends { IfSome result (λ _. MayEnd self.now.planned.hold (outcome_of self.now.planned.hold self.now.planned.hold.kind)) }
+    {
+        if self.state.has_outcome() {
+            Some(Outcome::Done)
+        } else {
+            None
+        }
+    }
+
+    /// The block of the position, if it was read and no new one took its place.
+    pub fn block(&self, position: usize) -> Option<&Buffer>
+        requires { position < length self.now.planned.hold.cells }
+        ensures { MatchOption result (IsUnknown (cell_at self.now.planned.hold.cells position)) (λ block. IsKnownAs (cell_at self.now.planned.hold.cells position) block.now × (length block.now ≡ self.now.planned.hold.size)) }
+    {
+        self.state.block(position)
+    }
+
+    /// Ends the hold, and hands its task back, with the caller's buffer as it was handed in. From then on nothing more is put
+    /// out, and only buffers come home.
+    pub fn take_task(&mut self) -> Option<Task>
+        ensures task { kind_of result ≡ self.old.planned.hold.kind }
+        ensures closed { self.new ≡ closed self.old }
+    {
+        self.state.take_task()
+    }
+
+    /// The number of the row's positions.
+    pub fn positions(&self) -> usize
+        ensures { result ≡ length self.now.planned.hold.cells }
+    {
+        self.state.positions()
+    }
+
+    /// The number of bytes of a block.
+    pub fn block_len(&self) -> usize
+        ensures { result ≡ self.now.planned.hold.size }
+    {
+        self.state.len
+    }
+
+    /// Whether the buffer of the position is away with a command.
+    pub fn is_away(&self, position: usize) -> bool
+        ensures { result ≡ is_away self.now position }
+    {
+        self.state.is_away(position)
+    }
+
+    /// Whether all buffers are home.
+    pub fn is_home(&self) -> bool
+        ensures { result ≡ not (list_any (λ away. away) self.now.away) }
+    {
+        self.state.is_home()
+    }
+
+    /// Gives the frame back. All its buffers are home, and the task was taken back.
+    pub fn end(self) -> Frame
+        requires home { list_any (λ away. away) self.away ≡ false }
+        requires ended { self.planned.hold.kind ≡ Idle }
+        ensures { result ≡ record { count = length self.planned.hold.cells; size = self.planned.hold.size } }
+    {
+        self.state.into_frame()
+    }
+}

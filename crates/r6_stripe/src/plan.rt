@@ -1,0 +1,342 @@
+//! What a hold reads, which command comes next, and when it is over.
+
+ghost use Rattle.std.specs.Prelude.{◌≡◌, ◌≢◌, ◌⊎◌, ◌<◌, ◌≤◌, ◌||◌, ℕ, length, not, option_map, false, IsTrue, List};
+ghost use Rattle.r6_stripe.specs.Holds.{MayEnd};
+ghost use Rattle.r6_stripe.specs.Holds.Kind.{Read, Write};
+ghost use Rattle.r6_stripe.specs.Plans as plans;
+ghost use Rattle.r6_stripe.specs.Sound.{IsSound, IsTask, Suits};
+ghost use Rattle.r6_stripe.specs.Steps.{beginning, has_outcome};
+ghost use Rattle.r6_stripe.specs.Views.{hold_of, plan_of, planned_of};
+
+use crate::command::Task;
+use crate::state::HoldState;
+
+/// Which positions a hold reads before it can end or write.
+#[derive(Clone, Copy, Debug, PartialEq, Eq)]
+pub(crate) enum Plan {
+    /// The one block that is wanted.
+    One,
+    /// The data that aren't written.
+    Reconstruct,
+    /// As many positions in sync as there are data. No code follows this plan yet.
+    Recover,
+}
+
+impl HoldState {
+    /// Whether this is the data block that a read wants.
+    fn is_its_block(&self, position: usize) -> bool
+        ensures { result ≡ plans.is_its_block (hold_of self.now).kind position }
+    {
+        match self.task {
+            Some(Task::Read(index)) => index == position,
+            _ => false,
+        }
+    }
+
+    /// Whether this is a data block that is written.
+    fn puts_data(&self, position: usize) -> bool
+        ensures { result ≡ plans.puts_data (hold_of self.now).kind position }
+    {
+        match self.task {
+            Some(Task::Write(index, _)) => index == position,
+            _ => false,
+        }
+    }
+
+    /// Whether this is the position of P or Q, or none.
+    fn is_parity(&self, position: usize) -> bool
+        requires { 2 ≤ length self.now.places.items }
+        ensures { result ≡ plans.is_parity (hold_of self.now) position }
+    {
+        self.places.len() - 2 <= position
+    }
+
+    /// Whether the plan reads the position.
+    fn wants(&self, position: usize) -> bool
+        requires { 2 ≤ length self.now.places.items }
+        ensures { result ≡ plans.wants (plan_of self.now.plan) (hold_of self.now) position }
+    {
+        match self.plan {
+            Plan::One => self.is_its_block(position),
+            Plan::Reconstruct => !(self.is_parity(position) || self.puts_data(position)),
+            Plan::Recover => true,
+        }
+    }
+
+    /// Whether the hold writes the position.
+    fn puts(&self, position: usize) -> bool
+        requires { 2 ≤ length self.now.places.items }
+        ensures { result ≡ plans.puts (hold_of self.now) (hold_of self.now).kind position }
+    {
+        match self.task {
+            Some(Task::Write(index, _)) => index == position || self.is_parity(position),
+            _ => false,
+        }
+    }
+
+    /// Whether nothing more is put out: the hold has ended.
+    pub(crate) fn gives_up(&self) -> bool
+        ensures { result ≡ plans.gives_up (hold_of self.now) }
+    {
+        match self.task {
+            Some(_) => false,
+            None => true,
+        }
+    }
+
+    /// Whether a read is put out that is neither answered nor abandoned.
+    fn has_read_out(&self) -> bool
+        ensures { result ≡ plans.has_read_out (hold_of self.now) }
+    {
+        for position in 0..self.places.len() {
+            if self.places[position].has_read_out() {
+                return true;
+            }
+        }
+        false
+    }
+
+    /// Whether a write is put out that is neither answered nor abandoned.
+    fn has_write_out(&self) -> bool
+        ensures { result ≡ plans.has_write_out (hold_of self.now) }
+    {
+        for position in 0..self.places.len() {
+            if self.places[position].has_write_out() {
+                return true;
+            }
+        }
+        false
+    }
+
+    /// Whether the new blocks were computed.
+    pub(crate) fn has_computed(&self) -> bool
+        ensures { result ≡ plans.has_computed (hold_of self.now) }
+    {
+        for position in 0..self.places.len() {
+            if self.places[position].is_computed() {
+                return true;
+            }
+        }
+        false
+    }
+
+    /// Whether the position's block is known, if the plan reads it.
+    fn is_served(&self, position: usize) -> bool
+        requires within { position < length self.now.places.items }
+        requires count { 2 ≤ length self.now.places.items }
+        ensures { result ≡ plans.is_served (plan_of self.now.plan) (hold_of self.now) position }
+    {
+        !self.wants(position) || self.places[position].is_known()
+    }
+
+    /// Whether enough is known for the hold to go on.
+    fn is_enough(&self) -> bool
+        requires count { 2 ≤ length self.now.places.items }
+        requires plan { plan_of self.now.plan ≢ plans.Plan.Recover }
+        ensures { result ≡ plans.is_enough (plan_of self.now.plan) (hold_of self.now) }
+    {
+        for position in 0..self.places.len() {
+            if !self.is_served(position) {
+                return false;
+            }
+        }
+        true
+    }
+
+    fn is_next_read(&self, position: usize) -> bool
+        requires within { position < length self.now.places.items }
+        requires count { 2 ≤ length self.now.places.items }
+        requires plan { plan_of self.now.plan ≢ plans.Plan.Recover }
+        ensures { result ≡ plans.is_next_read (plan_of self.now.plan) (hold_of self.now) position }
+    {
+        self.places[position].is_readable() && self.wants(position)
+    }
+
+    /// The lowest position that is to be read, and whose read wasn't put out.
+    fn first_unread(&self) -> Option<usize>
+        requires count { 2 ≤ length self.now.places.items }
+        requires plan { plan_of self.now.plan ≢ plans.Plan.Recover }
+        ensures { result ≡ plans.first_from (plans.is_next_read (plan_of self.now.plan) (hold_of self.now)) 0 (length (hold_of self.now).cells) }
+    {
+        for position in 0..self.places.len() {
+            if self.is_next_read(position) {
+                return Some(position);
+            }
+        }
+        None
+    }
+
+    /// The position whose read is put out next.
+    pub(crate) fn next_read(&self) -> Option<usize>
+        requires count { 2 ≤ length self.now.places.items }
+        requires plan { plan_of self.now.plan ≢ plans.Plan.Recover }
+        ensures { option_map plans.Next.ReadAt result ≡ plans.next_read (plan_of self.now.plan) (hold_of self.now) }
+    {
+        if self.has_computed() {
+            return None;
+        }
+        self.first_unread()
+    }
+
+    /// Whether the position is still to get its new block.
+    fn lacks_new(&self, position: usize) -> bool
+        requires within { position < length self.now.places.items }
+        requires count { 2 ≤ length self.now.places.items }
+        ensures { result ≡ plans.lacks_new (hold_of self.now) position }
+    {
+        self.places[position].is_unwritten() && self.puts(position)
+    }
+
+    /// Whether no position is still to get its new block.
+    pub(crate) fn is_computed(&self) -> bool
+        requires { 2 ≤ length self.now.places.items }
+        ensures { result ≡ plans.each_below (λ position. not (plans.lacks_new (hold_of self.now) position)) (length (hold_of self.now).cells) }
+    {
+        for position in 0..self.places.len() {
+            if self.lacks_new(position) {
+                return false;
+            }
+        }
+        true
+    }
+
+    /// The position whose write is put out next.
+    pub(crate) fn next_write(&self) -> Option<usize>
+        ensures { option_map plans.Next.WriteAt result ≡ plans.next_write (hold_of self.now) }
+    {
+        for position in 0..self.places.len() {
+            if self.places[position].is_sendable() {
+                return Some(position);
+            }
+        }
+        None
+    }
+
+    /// Whether all reads have been answered, and enough is known.
+    pub(crate) fn has_read(&self) -> bool
+        requires count { 2 ≤ length self.now.places.items }
+        requires plan { plan_of self.now.plan ≢ plans.Plan.Recover }
+        ensures { result ≡ not (plans.has_read_out (hold_of self.now) || not (plans.is_enough (plan_of self.now.plan) (hold_of self.now))) }
+    {
+        !self.has_read_out() && self.is_enough()
+    }
+
+    /// Whether nothing is put out, and nothing comes next.
+    pub(crate) fn is_over(&self) -> bool
+        requires sound { IsSound self.now }
+        requires plan { plan_of self.now.plan ≢ plans.Plan.Recover }
+        requires kind { plans.gives_up (hold_of self.now) ≡ false }
+        ensures { result ≡ plans.is_over (planned_of self.now) }
+    {
+        if !self.has_read() || self.has_write_out() {
+            return false;
+        }
+        if let Some(_) = self.next_read() {
+            return false;
+        }
+        if !self.is_computed() {
+            return false;
+        }
+        match self.next_write() {
+            Some(_) => false,
+            None => true,
+        }
+    }
+
+    /// The plan after the position is lost: without a block that it wants and doesn't know, it becomes recover.
+    pub(crate) fn plan_after_loss(&self, position: usize) -> Plan
+        requires within { position < length self.now.places.items }
+        requires count { 2 ≤ length self.now.places.items }
+        ensures plan { plan_of result ≡ plans.after_loss (plan_of self.now.plan) (hold_of self.now) position }
+        ensures same { (result ≡ self.now.plan) ⊎ (result ≡ Plan.Recover) }
+    {
+        if self.is_served(position) {
+            self.plan
+        } else {
+            Plan::Recover
+        }
+    }
+
+    /// Whether the position is in sync, if a write by reconstruction reads it.
+    fn is_readable(&self, position: usize) -> bool
+        requires within { position < length self.now.places.items }
+        requires count { 2 ≤ length self.now.places.items }
+        ensures { result ≡ plans.is_readable plans.Plan.Reconstruct (hold_of self.now) position }
+    {
+        if self.is_parity(position) {
+            return true;
+        }
+        if self.puts_data(position) {
+            return true;
+        }
+        self.places[position].is_in_sync()
+    }
+
+    /// Whether all data that aren't written are in sync.
+    fn can_reconstruct(&self) -> bool
+        requires { 2 ≤ length self.now.places.items }
+        ensures { result ≡ plans.each_below (plans.is_readable plans.Plan.Reconstruct (hold_of self.now)) (plans.data_count (hold_of self.now)) }
+    {
+        for position in 0..self.places.len() - 2 {
+            if !self.is_readable(position) {
+                return false;
+            }
+        }
+        true
+    }
+
+    /// The plan with which the hold begins.
+    pub(crate) fn first_plan(&self) -> Plan
+        requires count { 2 ≤ length self.now.places.items }
+        requires fits { IsTask (length self.now.places.items) self.now.len self.now.task }
+        ensures plan { plan_of result ≡ beginning (hold_of self.now) (hold_of self.now).kind }
+        ensures suits { Suits result self.now.task }
+    {
+        let Some(task) = &self.task else {
+            return Plan::Recover;
+        };
+        match task {
+            Task::Read(index) => self.plan_of_read(*index),
+            Task::Write(_, _) => self.plan_of_write(),
+        }
+    }
+
+    fn plan_of_read(&self, index: usize) -> Plan
+        requires { index < length self.now.places.items }
+        ensures plan { plan_of result ≡ plans.first_plan (hold_of self.now) (Read index) }
+        ensures either { (result ≡ Plan.One) ⊎ (result ≡ Plan.Recover) }
+    {
+        if self.places[index].is_in_sync() {
+            Plan::One
+        } else {
+            Plan::Recover
+        }
+    }
+
+    fn plan_of_write(&self) -> Plan
+        requires { 2 ≤ length self.now.places.items }
+        ensures plan { (batch : List (ℕ × List ℕ)) → plan_of result ≡ beginning (hold_of self.now) (Write batch) }
+        ensures either { (result ≡ Plan.Reconstruct) ⊎ (result ≡ Plan.Recover) }
+    {
+        if self.can_reconstruct() {
+            Plan::Reconstruct
+        } else {
+            Plan::Recover
+        }
+    }
+
+    /// Whether the hold is over, and may end.
+    pub(crate) fn has_outcome(&self) -> bool
+        requires { IsSound self.now }
+        ensures over { result ≡ has_outcome (planned_of self.now) }
+        ensures ends { IsTrue result → MayEnd (hold_of self.now) (plans.outcome_of (hold_of self.now) (hold_of self.now).kind) }
+    {
+        if self.gives_up() {
+            return false;
+        }
+        if let Plan::Recover = self.plan {
+            return false;
+        }
+        self.is_over()
+    }
+}

@@ -1,0 +1,203 @@
+//! The fields of a hold, and what each event does to them.
+
+ghost use Rattle.std.specs.Prelude.{◌≡◌, ◌<◌, ℕ, List, length, slice_index_or, true, false, not, MatchOption};
+ghost use Rattle.std.specs.List.{list_any};
+ghost use Rattle.r6_stripe.specs.Holds.{cell_at};
+ghost use Rattle.r6_stripe.specs.Places.{no_place};
+ghost use Rattle.r6_stripe.specs.Plans as plans;
+ghost use Rattle.r6_stripe.specs.Sound.{IsSound};
+ghost use Rattle.r6_stripe.specs.Steps.{asked, sent, answered, lost, closed, PutsOut, IsUnread, IsUnwritten, IsReady, IsUnknown, IsKnownAs, is_away};
+ghost use Rattle.r6_stripe.specs.Views.{hold_of, held_of, plan_of, kind_of};
+
+use crate::command::{RowCommand, Task};
+use crate::frame::Frame;
+use crate::place::{Place, ReadState, State, WriteState};
+use crate::plan::Plan;
+use r6_kernels::Buffer;
+use std::alloc::Global;
+use std::mem;
+
+/// A hold's task and plan, and its frame.
+#[derive(Drop)]
+pub(crate) struct HoldState {
+    /// None once the task was taken back.
+    pub(crate) task: Option<Task>,
+    pub(crate) plan: Plan,
+    /// The length of a block.
+    pub(crate) len: usize,
+    /// In row order.
+    pub(crate) places: Vec<Place>,
+    /// In row order. A block of no bytes stands where a buffer is away.
+    pub(crate) blocks: Vec<Buffer>,
+    /// Room for two more blocks.
+    pub(crate) sum: Buffer,
+    pub(crate) weighted: Buffer,
+    pub(crate) alloc: Global,
+}
+
+impl HoldState {
+    /// Puts out a read of the position, whose buffer leaves with it.
+    pub(crate) fn ask(&mut self, position: usize) -> Buffer
+        requires sound { IsSound self.old }
+        requires place { position < length self.old.places.items }
+        requires unread { IsUnread (cell_at (hold_of self.old).cells position) }
+        requires unwritten { IsUnwritten (cell_at (hold_of self.old).cells position) }
+        requires wanted { plans.wants (plan_of self.old.plan) (hold_of self.old) position ≡ true }
+        ensures held { held_of self.new ≡ asked (held_of self.old) position }
+        ensures size { length result ≡ self.old.len }
+        ensures sound { IsSound self.new }
+    {
+        let place = &mut self.places[position];
+        place.read = ReadState::Asked;
+        place.away = true;
+        mem::replace(&mut self.blocks[position], Buffer::empty(self.alloc))
+    }
+
+    /// Puts out the write of the position, whose buffer leaves with its new block.
+    pub(crate) fn send(&mut self, position: usize) -> Buffer
+        requires sound { IsSound self.old }
+        requires place { position < length self.old.places.items }
+        requires ready { (block : List ℕ) × IsReady (cell_at (hold_of self.old).cells position) block }
+        ensures held { held_of self.new ≡ sent (held_of self.old) position result }
+        ensures carried { IsReady (cell_at (hold_of self.old).cells position) result }
+        ensures size { length result ≡ self.old.len }
+        ensures sound { IsSound self.new }
+    {
+        let place = &mut self.places[position];
+        place.write = WriteState::Sent;
+        place.away = true;
+        mem::replace(&mut self.blocks[position], Buffer::empty(self.alloc))
+    }
+
+    /// Takes the buffer of a command home.
+    pub(crate) fn answer(&mut self, position: usize, buffer: Buffer)
+        requires sound { IsSound self.old }
+        requires place { position < length self.old.places.items }
+        requires away { (slice_index_or self.old.places.items position no_place).away ≡ true }
+        requires size { length buffer ≡ self.old.len }
+        ensures held { held_of self.new ≡ answered (held_of self.old) position buffer }
+        ensures sound { IsSound self.new }
+    {
+        self.places[position] = self.places[position].answered();
+        self.blocks[position] = buffer;
+    }
+
+    /// Loses the position.
+    pub(crate) fn lose(&mut self, position: usize)
+        requires sound { IsSound self.old }
+        requires place { position < length self.old.places.items }
+        ensures held { held_of self.new ≡ lost (held_of self.old) position }
+        ensures sound { IsSound self.new }
+    {
+        self.plan = self.plan_after_loss(position);
+        self.places[position].state = State::Out;
+    }
+
+    /// Puts out the command that comes next.
+    pub(crate) fn next_command(&mut self) -> Option<RowCommand>
+        requires { IsSound self.old }
+        ensures puts_out { PutsOut (held_of self.old) result (held_of self.new) }
+        ensures sound { IsSound self.new }
+    {
+        if self.gives_up() {
+            return None;
+        }
+        if let Plan::Recover = self.plan {
+            return None;
+        }
+        if let Some(position) = self.next_read() {
+            let buffer = self.ask(position);
+            return Some(RowCommand::Read(position, buffer));
+        }
+        if !self.has_read() {
+            return None;
+        }
+        self.prepare();
+        match self.next_write() {
+            Some(position) => {
+                let buffer = self.send(position);
+                Some(RowCommand::Write(position, buffer))
+            }
+            None => None,
+        }
+    }
+
+    /// The block of the position, if it is known.
+    pub(crate) fn block(&self, position: usize) -> Option<&Buffer>
+        requires sound { IsSound self.now }
+        requires place { position < length self.now.places.items }
+        ensures { MatchOption result (IsUnknown (cell_at (hold_of self.now).cells position)) (λ block. IsKnownAs (cell_at (hold_of self.now).cells position) block.now × (length block.now ≡ self.now.len)) }
+    {
+        match self.places[position].read {
+            ReadState::Known => Some(&self.blocks[position]),
+            ReadState::Unread => None,
+            ReadState::Asked => None,
+            ReadState::Replaced => None,
+        }
+    }
+
+    /// Takes the task back.
+    pub(crate) fn take_task(&mut self) -> Option<Task>
+        requires { IsSound self.old }
+        ensures task { kind_of result ≡ (hold_of self.old).kind }
+        ensures closed { held_of self.new ≡ closed (held_of self.old) }
+        ensures sound { IsSound self.new }
+    {
+        self.task.take()
+    }
+
+    pub(crate) fn positions(&self) -> usize
+        ensures { result ≡ length (hold_of self.now).cells }
+    {
+        self.places.len()
+    }
+
+    /// Whether the buffer of the position is away.
+    pub(crate) fn is_away(&self, position: usize) -> bool
+        ensures { result ≡ is_away (held_of self.now) position }
+    {
+        if position >= self.places.len() {
+            return false;
+        }
+        self.places[position].away
+    }
+
+    /// Whether all buffers are home.
+    pub(crate) fn is_home(&self) -> bool
+        ensures { result ≡ not (list_any (λ away. away) (held_of self.now).away) }
+    {
+        for position in 0..self.places.len() {
+            if self.places[position].away {
+                return false;
+            }
+        }
+        true
+    }
+
+    /// The frame, with all its buffers.
+    pub(crate) fn into_frame(self) -> Frame
+        requires sound { IsSound self }
+        requires home { list_any (λ away. away) (held_of self).away ≡ false }
+        ensures { result ≡ record { count = length self.places.items; size = self.len } }
+    {
+        let block_len = self.len;
+        let HoldState {
+            task: _,
+            plan: _,
+            len: _,
+            places,
+            blocks,
+            sum,
+            weighted,
+            alloc,
+        } = self;
+        Frame {
+            places,
+            blocks,
+            sum,
+            weighted,
+            len: block_len,
+            alloc,
+        }
+    }
+}

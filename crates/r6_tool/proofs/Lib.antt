@@ -1,0 +1,3 @@
+pub mod DocumentLemmas
+pub mod GrammarLemmas
+pub mod Walks

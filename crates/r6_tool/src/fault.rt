@@ -1,0 +1,149 @@
+//! Why the program ends with a status other than good, and the line that says so.
+ghost use Rattle.std.specs.Prelude.{◌≡◌};
+
+use r6_layout::GeometryError;
+use std::alloc::{AllocError, AllocFailed};
+use std::fmt;
+
+/// A key of the settings, in the order in which they are checked.
+#[derive(Clone, Copy, Debug, PartialEq, Eq)]
+pub enum Key {
+    Slots,
+    Chunk,
+    Block,
+    Rows,
+    Shards,
+    Window,
+    Workers,
+    Lost,
+    Devices,
+}
+
+impl Key {
+    ghost use Rattle.r6_tool.specs.Keys.{name_of};
+
+    /// The key as a settings file writes it.
+    pub fn name(self) -> &'static str
+        ensures { result.now ≡ name_of self }
+    {
+        match self {
+            Key::Slots => "slots",
+            Key::Chunk => "chunk",
+            Key::Block => "block",
+            Key::Rows => "rows",
+            Key::Shards => "shards",
+            Key::Window => "window",
+            Key::Workers => "workers",
+            Key::Lost => "lost",
+            Key::Devices => "devices",
+        }
+    }
+}
+
+/// What is wrong with the text of a settings file.
+#[derive(Clone, Copy, Debug, PartialEq, Eq)]
+pub enum SettingsFault {
+    /// The text is no TOML document.
+    NotToml,
+    /// The document has a key that settings do not have.
+    UnknownKey,
+    /// The key is missing, of a wrong type or out of its range.
+    Value(Key),
+    /// The five integers are no array's.
+    Geometry(GeometryError),
+    /// An allocation failed.
+    Memory,
+}
+
+impl<T: Drop> From<AllocFailed<T>> for SettingsFault {
+    ghost use Rattle.r6_tool.specs.declared.fault.SettingsFault.TheVariants.{Memory};
+
+    ghost from_gives = { λ _ fault. fault ≡ Memory };
+
+    fn from(_refused: AllocFailed<T>) -> SettingsFault {
+        SettingsFault::Memory
+    }
+}
+
+impl From<AllocError> for SettingsFault {
+    ghost use Rattle.r6_tool.specs.declared.fault.SettingsFault.TheVariants.{Memory};
+
+    ghost from_gives = { λ _ fault. fault ≡ Memory };
+
+    fn from(_refused: AllocError) -> SettingsFault {
+        SettingsFault::Memory
+    }
+}
+
+/// Why the program ends before its command is done. `Display` writes the line for standard error.
+#[derive(Clone, Copy, Debug, PartialEq, Eq)]
+pub enum Fault {
+    /// The command line is not UTF-8.
+    NotText,
+    /// The command is in the grammar and not in the program.
+    NotBuilt(&'static str),
+    /// The settings file can't be read, or isn't UTF-8.
+    Unreadable,
+    /// The settings are refused.
+    Settings(SettingsFault),
+    /// Standard output refused a write.
+    Output,
+    /// An allocation failed.
+    Memory,
+}
+
+impl Fault {
+    ghost use Rattle.r6_tool.specs.Status.{status_of};
+
+    /// The status with which the program ends: 2 for a use that it does not have, 3 for settings, 4 for
+    /// output and 5 for memory.
+    pub fn status(&self) -> u8
+        ensures { result ≡ status_of self.now }
+    {
+        match self {
+            Fault::NotText | Fault::NotBuilt(_) => 2,
+            Fault::Unreadable => 3,
+            Fault::Settings(SettingsFault::Memory) => 5,
+            Fault::Settings(_) => 3,
+            Fault::Output => 4,
+            Fault::Memory => 5,
+        }
+    }
+}
+
+impl fmt::Display for SettingsFault {
+    fn fmt<W: fmt::Write>(&self, f: &mut fmt::Formatter<W>) -> fmt::Result {
+        match self {
+            SettingsFault::NotToml => write!(f, "settings: toml"),
+            SettingsFault::UnknownKey => write!(f, "settings: key"),
+            SettingsFault::Value(key) => write!(f, "settings: {}", key.name()),
+            SettingsFault::Geometry(limit) => write!(f, "settings: geometry {}", limit.number()),
+            SettingsFault::Memory => write!(f, "memory"),
+        }
+    }
+}
+
+impl fmt::Display for Fault {
+    fn fmt<W: fmt::Write>(&self, f: &mut fmt::Formatter<W>) -> fmt::Result {
+        match self {
+            Fault::NotText => write!(f, "raid6: the command line is not UTF-8"),
+            Fault::NotBuilt(name) => write!(f, "raid6: {name} is not built yet"),
+            Fault::Unreadable => write!(f, "settings: unreadable"),
+            Fault::Settings(fault) => write!(f, "{fault}"),
+            Fault::Output => write!(f, "output"),
+            Fault::Memory => write!(f, "memory"),
+        }
+    }
+}
+
+impl From<SettingsFault> for Fault {
+    fn from(fault: SettingsFault) -> Fault {
+        Fault::Settings(fault)
+    }
+}
+
+impl From<AllocError> for Fault {
+    fn from(_refused: AllocError) -> Fault {
+        Fault::Memory
+    }
+}

@@ -1,0 +1,267 @@
+-- Runs in pieces: what one happening leaves of a world of the smallest array, as its one shard and row see it.
+use Rattle.std.proofs.Common.{◌≡◌, ◌⊎◌, ℕ, ◌<◌, List, [], ◌∷◌, ◌++◌, Bool, true, false, if◌then◌else◌, ◌==◌, inl, inr, refl, sym, ap, subst, ◌∙◌, arith, Option, Some, None}
+use Rattle.std.proofs.lemmas.Bool.{cases_eq, or_parts, eqb-false, eq-eqb, ne_eqb}
+use Rattle.r6_world.specs.Tables.{put, put_in}
+use Rattle.r6_world.specs.PlainArray.{Block}
+use Rattle.r6_world.specs.Layouts.{Layout}
+use Rattle.r6_world.specs.Registers.{Snapshot, RegisterCall, Told as Answer, answer_to, register_after}
+use Rattle.r6_world.specs.ShardStates.{Shard, Command, Fetch, Store, Call}
+use Rattle.r6_world.specs.Changes.{Hand_command, after}
+use Rattle.r6_world.specs.Steps.{Event, Good, Taken, Deliver, Take_command, Take_call, Told, Step}
+use Rattle.r6_world.specs.Worlds.{World, Devices, Happening, Core, Perform, Tell, Outside, Moment, MayCome, Possible, Run, happened, decayed, next, settles, broken_by, completed_by, settled_by, as_made}
+use Rattle.r6_world.specs.Laws.{IsOfOutside, is_among}
+use Rattle.r6_world.specs.Witness.{small, after_all}
+use Rattle.r6_world.proofs.Tables.{put-same, put-other, not_both}
+
+-- ---- pieces of runs
+
+-- a run leads on from this world to one of which this is claimed
+abbrev pub Reaches : Layout → World → (World → Type 0) → Type 0
+Reaches l w Claimed = (moments : List Moment) × Run l IsOfOutside w moments × Claimed (after_all l w moments)
+
+pub run-append : (l : Layout) (w : World) (a b : List Moment) → Run l IsOfOutside w a → Run l IsOfOutside (after_all l w a) b → Run l IsOfOutside w (a ++ b)
+run-append l w [] b r s = s
+run-append l w (m ∷ a) b r s = (r.0, run-append l (next l w m) a b r.1 s)
+
+pub after-append : (l : Layout) (w : World) (a b : List Moment) → after_all l w (a ++ b) ≡ after_all l (after_all l w a) b
+after-append l w [] b = refl
+after-append l w (m ∷ a) b = after-append l (next l w m) a b
+
+pub here : (l : Layout) (w : World) (Claimed : World → Type 0) → Claimed w → Reaches l w Claimed
+here l w Claimed claim = ([], record {}, claim)
+
+pub go_on : (l : Layout) (w : World) (A B : World → Type 0) → Reaches l w A → ((between : World) → A between → Reaches l between B) → Reaches l w B
+go_on l w A B first second =
+    let rest = second (after_all l w first.0) first.2 in (
+      first.0 ++ rest.0,
+      run-append l w first.0 rest.0 first.1 rest.1,
+      subst B (sym (after-append l w first.0 rest.0)) rest.2,
+    )
+
+-- one happening; what is broken would show what stands there
+one : (w : World) (happening : Happening) (Claimed : World → Type 0) → Possible small IsOfOutside w happening
+    → Claimed (next small w (record { happening = happening; noise = (happened small w happening).device })) → Reaches small w Claimed
+one w happening Claimed possible claim = (record { happening = happening; noise = (happened small w happening).device } ∷ [], (possible, record {}), claim)
+
+both : {A : Type 0} (b : Bool) (x : A) → (if b then x else x) ≡ x
+both true x = refl
+both false x = refl
+
+shown : (w : World) (d g row : ℕ) → (decayed small w.device w).device d g row ≡ w.device d g row
+shown w d g row = both (w.broken (small.shard_of row) d g) (w.device d g row)
+
+-- ---- what is known of a world
+
+pub record View : Type 0 where
+  pub shard : Shard
+  pub register : Snapshot
+  pub device : ℕ → ℕ → Block  -- by slot and generation: the block in row 0
+  pub used : List ℕ  -- the tokens whose commands were performed
+  pub completed : Option ℕ  -- of slot 1
+  pub settled : Bool
+
+pub record Stands (w : World) (v : View) : Type 0 where
+  pub shard_is : w.shard 0 ≡ v.shard
+  pub register_is : w.register ≡ v.register
+  pub whole : (d g : ℕ) → w.broken 0 d g ≡ false
+  pub device_is : (d g : ℕ) → w.device d g 0 ≡ v.device d g
+  pub unused : (t : ℕ) → is_among t v.used ≡ false → w.performed 0 t ≡ None
+  pub completed_is : w.completed 1 ≡ v.completed
+  pub settled_is : w.settled 0 ≡ v.settled
+
+-- from one known world to another
+pub leads : (w : World) (v : View) (B : World → Type 0) → Reaches small w (λ later. Stands later v) → ((between : World) → Stands between v → Reaches small between B) → Reaches small w B
+leads w v B first second = go_on small w (λ later. Stands later v) B first second
+
+none_below : 0 < 1
+none_below = omega arith
+
+-- a call of the core that breaks nothing
+pub core :
+    (w : World) (v : View) → Stands w v → (event : Event) (new : Shard)
+    → ((s : Shard) (parts : ℕ → ℕ → Bool) → broken_by s event parts ≡ parts)
+    → MayCome w 0 event → Step small 0 v.shard event new
+    → Reaches small w (λ later. Stands later (record v { shard = new; settled = settles event v.settled }))
+core w v at event new unbroken comes step =
+    one w (Core 0 event new) (λ later. Stands later (record v { shard = new; settled = settles event v.settled }))
+    (none_below, comes, subst (λ s. Step small 0 s event new) (sym at.shard_is) step)
+    (record {
+      shard_is = refl;
+      register_is = at.register_is;
+      whole = λ d g. ap (λ parts. parts d g) (unbroken (w.shard 0) (w.broken 0)) ∙ at.whole d g;
+      device_is = λ d g. shown (happened small w (Core 0 event new)) d g 0 ∙ at.device_is d g;
+      unused = at.unused;
+      completed_is = at.completed_is;
+      settled_is = ap (settles event) at.settled_is;
+    })
+
+-- ---- a command is taken, performed and answered
+
+-- commands of the hold in frame 0, to row 0
+abbrev pub fetch : (slot generation : ℕ) → Command
+fetch slot generation = record { frame = 0; slot = slot; generation = generation; row = 0; transfer = Fetch; taken = false; abandoned = false }
+
+abbrev pub store : (slot generation : ℕ) → Block → Command
+store slot generation b = record { frame = 0; slot = slot; generation = generation; row = 0; transfer = Store b; taken = false; abandoned = false }
+
+abbrev pub handed_out : Shard → ℕ → Command → Shard
+handed_out s t c = after small s (Hand_command t c)
+
+take :
+    (w : World) (v : View) → Stands w v → (t : ℕ) (c : Command) → v.shard.command t ≡ Some c → c.taken ≡ false
+    → Reaches small w (λ later. Stands later (record v { shard = handed_out v.shard t c }) × (later.flight 0 t ≡ Some c))
+take w v at t c there untaken =
+    one w (Core 0 (Take_command t c) (handed_out v.shard t c)) (λ later. Stands later (record v { shard = handed_out v.shard t c }) × (later.flight 0 t ≡ Some c))
+    (none_below, record {}, subst (λ s. Step small 0 s (Take_command t c) (handed_out v.shard t c)) (sym at.shard_is) ((there, untaken), refl)) (
+      record {
+        shard_is = refl;
+        register_is = at.register_is;
+        whole = at.whole;
+        device_is = λ d g. shown (happened small w (Core 0 (Take_command t c) (handed_out v.shard t c))) d g 0 ∙ at.device_is d g;
+        unused = at.unused;
+        completed_is = at.completed_is;
+        settled_is = at.settled_is;
+      },
+      put-same (w.flight 0) t (Some c) t refl,
+    )
+
+used_more : (w : World) (used : List ℕ) (t : ℕ) (b : Block) → ((s : ℕ) → is_among s used ≡ false → w.performed 0 s ≡ None)
+    → (s : ℕ) → is_among s (t ∷ used) ≡ false → put (w.performed 0) t (Some b) s ≡ None
+used_more w used t b unused s e =
+    let p = or_parts (s == t) (is_among s used) e in
+    put-other (w.performed 0) t (Some b) s (eqb-false s t p.0) ∙ unused s p.1
+
+fetched :
+    (w : World) (v : View) → Stands w v → (t slot generation : ℕ) → w.flight 0 t ≡ Some (fetch slot generation)
+    → (v.shard.command t ≡ None → ⊥) → is_among t v.used ≡ false
+    → Reaches small w (λ later. Stands later (record v { used = t ∷ v.used }) × (later.performed 0 t ≡ Some (v.device slot generation)))
+fetched w v at t slot generation flies out unused =
+    one w (Perform 0 t (fetch slot generation)) (λ later. Stands later (record v { used = t ∷ v.used }) × (later.performed 0 t ≡ Some (v.device slot generation)))
+    (none_below, flies, subst (λ s. s.command t ≡ None → ⊥) (sym at.shard_is) out, at.unused t unused) (
+      record {
+        shard_is = at.shard_is;
+        register_is = at.register_is;
+        whole = at.whole;
+        device_is = λ d g. shown (happened small w (Perform 0 t (fetch slot generation))) d g 0 ∙ at.device_is d g;
+        unused = used_more w v.used t (w.device slot generation 0) at.unused;
+        completed_is = at.completed_is;
+        settled_is = at.settled_is;
+      },
+      put-same (w.performed 0) t (Some (w.device slot generation 0)) t refl ∙ ap Some (at.device_is slot generation),
+    )
+
+put_row : (device : Devices) (seen : ℕ → ℕ → Block) (slot generation : ℕ) (b : Block) → ((d g : ℕ) → device d g 0 ≡ seen d g)
+    → (d g : ℕ) → put_in device slot generation (put (device slot generation) 0 b) d g 0 ≡ put_in seen slot generation b d g
+put_row device seen slot generation b same d g =
+    elim (cases_eq d slot) [
+      | inl at ↦ rw (eq-eqb d slot at) (at_slot (cases_eq g generation))
+      | inr off ↦ rw (ne_eqb d slot off) (same d g)
+    ]
+  where
+    at_slot : (g ≡ generation) ⊎ (g ≡ generation → ⊥) → put (device slot) generation (put (device slot generation) 0 b) g 0 ≡ put (seen slot) generation b g
+    at_slot (inl at) = rw (eq-eqb g generation at) refl
+    at_slot (inr off) = rw (ne_eqb g generation off) (same slot g)
+
+stored :
+    (w : World) (v : View) → Stands w v → (t slot generation : ℕ) (b : Block) → w.flight 0 t ≡ Some (store slot generation b)
+    → (v.shard.command t ≡ None → ⊥) → is_among t v.used ≡ false
+    → Reaches small w (λ later. Stands later (record v { device = put_in v.device slot generation b; used = t ∷ v.used }) × (later.performed 0 t ≡ Some b))
+stored w v at t slot generation b flies out unused =
+    one w (Perform 0 t (store slot generation b)) (λ later. Stands later (record v { device = put_in v.device slot generation b; used = t ∷ v.used }) × (later.performed 0 t ≡ Some b))
+    (none_below, flies, subst (λ s. s.command t ≡ None → ⊥) (sym at.shard_is) out, at.unused t unused) (
+      record {
+        shard_is = at.shard_is;
+        register_is = at.register_is;
+        whole = at.whole;
+        device_is = λ d g. shown (happened small w (Perform 0 t (store slot generation b))) d g 0 ∙ put_row w.device v.device slot generation b at.device_is d g;
+        unused = used_more w v.used t b at.unused;
+        completed_is = at.completed_is;
+        settled_is = at.settled_is;
+      },
+      put-same (w.performed 0) t (Some b) t refl,
+    )
+
+-- a command that was taken is still out
+still_out : (s : Shard) (t : ℕ) (c : Command) → (handed_out s t c).command t ≡ None → ⊥
+still_out s t c e =
+    not_both ((handed_out s t c).command t) _ e (put-same s.command t _ t refl)
+
+pub reads :
+    (w : World) (v : View) → Stands w v → (t slot generation : ℕ) (new : Shard)
+    → v.shard.command t ≡ Some (fetch slot generation) → is_among t v.used ≡ false
+    → Step small 0 (handed_out v.shard t (fetch slot generation)) (Deliver t (Good (v.device slot generation)) Taken) new
+    → Reaches small w (λ later. Stands later (record v { shard = new; used = t ∷ v.used; settled = false }))
+reads w v at t slot generation new there unused step =
+    go_on small w
+    (λ later. Stands later (record v { shard = handed_out v.shard t (fetch slot generation) }) × (later.flight 0 t ≡ Some (fetch slot generation)))
+    (λ later. Stands later (record v { shard = new; used = t ∷ v.used; settled = false }))
+    (take w v at t (fetch slot generation) there refl)
+    (λ w1 at1. go_on small w1
+    (λ later. Stands later (record v { shard = handed_out v.shard t (fetch slot generation); used = t ∷ v.used }) × (later.performed 0 t ≡ Some (v.device slot generation)))
+    (λ later. Stands later (record v { shard = new; used = t ∷ v.used; settled = false }))
+    (fetched w1 (record v { shard = handed_out v.shard t (fetch slot generation) }) at1.0 t slot generation at1.1 (still_out v.shard t (fetch slot generation)) unused)
+    (λ w2 at2. core w2 (record v { shard = handed_out v.shard t (fetch slot generation); used = t ∷ v.used }) at2.0 (Deliver t (Good (v.device slot generation)) Taken) new
+    (λ s parts. refl) at2.1 step))
+
+pub writes :
+    (w : World) (v : View) → Stands w v → (t slot generation : ℕ) (b : Block) (new : Shard)
+    → v.shard.command t ≡ Some (store slot generation b) → is_among t v.used ≡ false
+    → Step small 0 (handed_out v.shard t (store slot generation b)) (Deliver t (Good b) Taken) new
+    → Reaches small w (λ later. Stands later (record v { shard = new; device = put_in v.device slot generation b; used = t ∷ v.used; settled = false }))
+writes w v at t slot generation b new there unused step =
+    go_on small w
+    (λ later. Stands later (record v { shard = handed_out v.shard t (store slot generation b) }) × (later.flight 0 t ≡ Some (store slot generation b)))
+    (λ later. Stands later (record v { shard = new; device = put_in v.device slot generation b; used = t ∷ v.used; settled = false }))
+    (take w v at t (store slot generation b) there refl)
+    (λ w1 at1. go_on small w1
+    (λ later. Stands later (record v { shard = handed_out v.shard t (store slot generation b); device = put_in v.device slot generation b; used = t ∷ v.used }) × (later.performed 0 t ≡ Some b))
+    (λ later. Stands later (record v { shard = new; device = put_in v.device slot generation b; used = t ∷ v.used; settled = false }))
+    (stored w1 (record v { shard = handed_out v.shard t (store slot generation b) }) at1.0 t slot generation b at1.1 (still_out v.shard t (store slot generation b)) unused)
+    (λ w2 at2. core w2 (record v { shard = handed_out v.shard t (store slot generation b); device = put_in v.device slot generation b; used = t ∷ v.used }) at2.0 (Deliver t (Good b) Taken) new
+    (λ s parts. refl) at2.1 step))
+
+-- ---- calls at the register
+
+-- by slot 1: what becomes of it
+pub outside :
+    (w : World) (v : View) → Stands w v → (call : RegisterCall) → IsOfOutside call → (answer : Answer) → answer_to small v.register call ≡ answer
+    → (completed : Option ℕ) → ((before : ℕ → Option ℕ) → before 1 ≡ v.completed → completed_by call answer before 1 ≡ completed)
+    → (settled : Bool) → ((before : ℕ → Bool) → before 0 ≡ v.settled → settled_by answer before 0 ≡ settled)
+    → Reaches small w (λ later. Stands later (record v { register = register_after small v.register call answer; completed = completed; settled = settled }))
+outside w v at call may answer told completed completes settled settles' =
+    let heard : answer_to small w.register call ≡ answer = ap (λ r. answer_to small r call) at.register_is ∙ told in
+    one w (Outside call) (λ later. Stands later (record v { register = register_after small v.register call answer; completed = completed; settled = settled }))
+    may
+    (record {
+      shard_is = at.shard_is;
+      register_is = ap (λ a. register_after small w.register call a) heard ∙ ap (λ r. register_after small r call answer) at.register_is;
+      whole = at.whole;
+      device_is = λ d g. shown (happened small w (Outside call)) d g 0 ∙ at.device_is d g;
+      unused = at.unused;
+      completed_is = ap (λ a. completed_by call a w.completed 1) heard ∙ completes w.completed at.completed_is;
+      settled_is = ap (λ a. settled_by a w.settled 0) heard ∙ settles' w.settled at.settled_is;
+    })
+
+pub tells :
+    (w : World) (v : View) → Stands w v → (call : Call) (answer : Answer) (middle new : Shard) → answer_to small v.register (as_made 0 call) ≡ answer
+    → Step small 0 v.shard (Take_call call) middle → Step small 0 middle (Told call answer) new
+    → (completed : Option ℕ) → ((before : ℕ → Option ℕ) → before 1 ≡ v.completed → completed_by (as_made 0 call) answer before 1 ≡ completed)
+    → ((before : ℕ → Bool) → before 0 ≡ false → settled_by answer before 0 ≡ false)
+    → Reaches small w (λ later. Stands later (record v { shard = new; register = register_after small v.register (as_made 0 call) answer; completed = completed; settled = false }))
+tells w v at call answer middle new told takes hears completed completes unsettled =
+    one w (Tell 0 call answer middle new)
+    (λ later. Stands later (record v { shard = new; register = register_after small v.register (as_made 0 call) answer; completed = completed; settled = false })) (
+      none_below,
+      inl (sym (ap (λ r. answer_to small r (as_made 0 call)) at.register_is ∙ told)),
+      subst (λ s. Step small 0 s (Take_call call) middle) (sym at.shard_is) takes,
+      hears,
+    )
+    (record {
+      shard_is = refl;
+      register_is = ap (λ r. register_after small r (as_made 0 call) answer) at.register_is;
+      whole = at.whole;
+      device_is = λ d g. shown (happened small w (Tell 0 call answer middle new)) d g 0 ∙ at.device_is d g;
+      unused = at.unused;
+      completed_is = completes w.completed at.completed_is;
+      settled_is = unsettled (put w.settled 0 false) refl;
+    })

@@ -1,0 +1,14 @@
+pub mod Tables
+pub mod PlainArray
+pub mod Layouts
+pub mod Registers
+pub mod Tasks
+pub mod ShardStates
+pub mod Changes
+pub mod Steps
+pub mod Worlds
+pub mod Claims
+pub mod Laws
+pub mod Sequential
+pub mod Geometries
+pub mod Witness
