@@ -1,12 +1,13 @@
 -- Computing the new blocks of a write of one block follows the plan.
-use Rattle.std.proofs.Common.{◌≡◌, ◌≢◌, inl, inr, Bool, true, false, ℕ, ◌+◌, ◌-◌, ◌<◌, List, [], ◌∷◌, length, get_or, set, take, refl, sym, ◌∙◌, ap, subst, arith, Some, None}
+use Rattle.std.proofs.Common.{◌≡◌, ◌≢◌, ◌⊎◌, inl, inr, Bool, true, false, ℕ, ◌+◌, ◌-◌, ◌<◌, List, [], ◌∷◌, length, get_or, set, take, refl, sym, ◌∙◌, ap, subst, arith, Some, None}
 use Rattle.std.specs.Prelude.{◌&&◌, not, Option}
 use Rattle.std.proofs.lemmas.List.{get_or-set_same, get_or-set_other, length-set, length-take-le, get_or-take, ext_get_or, get_or_append_left}
 use Rattle.std.proofs.lemmas.Bool.{cases_eq, cases_lt}
 use Rattle.r6_kernels.specs.Blocks.{p_of, q_of}
 use Rattle.r6_recover.specs.Rows.{row_of, data_of, block_at}
-use Rattle.r6_stripe.specs.Holds.{Cell, Hold, cell_at, no_cell, made_ready, with_new, IsBefore, Carries, IsIndexOf}
+use Rattle.r6_stripe.specs.Holds.{Standing, Cell, Hold, cell_at, no_cell, made_ready, with_new, IsBefore, Carries, IsIndexOf}
 use Rattle.r6_stripe.specs.Holds.Event.{Computes}
+use Rattle.r6_stripe.specs.Holds.Standing.{InSync, Target, Out}
 use Rattle.r6_stripe.specs.Holds.Writing.{Unwritten}
 use Rattle.r6_stripe.specs.Plans as plans
 use Rattle.r6_stripe.specs.Places.{cell_of, cells_of, no_place, made_ready_place, with_ready, all_ready, is_writable}
@@ -19,7 +20,16 @@ use Rattle.r6_stripe.specs.declared.plan.Plan.{Plan}
 use Rattle.r6_stripe.specs.declared.plan.Plan.TheVariants as plan
 use Rattle.r6_stripe.specs.declared.place.Place.{Place}
 use Rattle.r6_stripe.proofs.Places.{length-cells_of, cell_at-cells_of, cell_past, cells_of-set_place}
-use Rattle.r6_stripe.proofs.Computed.{writing, ready_cell, and_false, put_or_read, puts_unput, unwritten, known, home_at, ready_settled, ready_course, then_writes, owed_course}
+use Rattle.r6_stripe.proofs.Computed.{writing, ready_cell, and_false, put_or_read, puts_put, puts_unput, unwritten, known, home_at, ready_settled, ready_course, then_writes, owed_course}
+
+-- a position without its new block that is owed one lacks it, or is out
+owed_or_out : (cell : Cell) (put : Bool) → cell.writing ≡ Unwritten → put ≡ true → ((is_writable cell && put) ≡ true) ⊎ (cell.standing ≡ Out)
+owed_or_out cell put unwritten owed = by_standing cell.standing refl
+  where
+    by_standing : (standing : Standing) → cell.standing ≡ standing → ((is_writable cell && put) ≡ true) ⊎ (cell.standing ≡ Out)
+    by_standing InSync e = inl (rw (e, unwritten, owed) refl)
+    by_standing Target e = inl (rw (e, unwritten, owed) refl)
+    by_standing Out e = inr e
 
 -- three positions are set in two lists that agree elsewhere
 three_set : (xs ys : List Cell) (a b d : ℕ) (x y z : Cell) → length xs ≡ length ys → a < length xs → b < length xs → d < length xs →
@@ -172,6 +182,18 @@ module _ (size index : ℕ) (block : List ℕ) (places : List Place) (blocks new
             | inr out ↦ absurd (let f = sym lacks ∙ ap (λ (cell : Cell). is_writable cell && plans.puts hold hold.kind j) (cell_past places blocks j out) in cc)
           ]
 
+  at_put : (j : ℕ) → j < length places → IsPut (length places) index j → (plans.lacks_new hold j ≡ true) ⊎ ((cell_at hold.cells j).standing ≡ Out)
+  at_put j inside put =
+      owed_or_out (cell_at hold.cells j) (plans.puts hold hold.kind j) (unwritten_at j inside)
+      (puts_put size index block hold.cells j (subst (λ (n : ℕ). IsPut n index j) (sym (length-cells_of places blocks)) put))
+
+  -- nothing else gets one, but what is out
+  none_beside : (j : ℕ) → IsIndexOf j entries → (plans.lacks_new hold j ≡ true) ⊎ ((cell_at hold.cells j).standing ≡ Out)
+  none_beside j (inl q) = at_put j (omega (arith, q, below)) (inr (omega (arith, q)))
+  none_beside j (inr (inl p)) = at_put j (omega (arith, p, below)) (inr (omega (arith, p)))
+  none_beside j (inr (inr (inl same))) = at_put j (omega (arith, same, below)) (inl (sym same))
+  none_beside j (inr (inr (inr none))) = absurd none
+
   pub prepares : plans.Prepares (record { hold = hold; plan = plans.Plan.Reconstruct }) (record { hold = ready; plan = plans.Plan.Reconstruct })
   prepares = (
     Computes entries ∷ [],
@@ -191,6 +213,7 @@ module _ (size index : ℕ) (block : List ℕ) (places : List Place) (blocks new
           ),
         ),
         complete,
+        none_beside,
       ),
       tt,
     ),

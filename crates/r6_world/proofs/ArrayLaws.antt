@@ -2,33 +2,29 @@
 use Rattle.std.proofs.Common.{◌≡◌, ℕ, ◌<◌, List, [], ◌∷◌, refl}
 use Rattle.r6_world.specs.PlainArray.{Plain}
 use Rattle.r6_world.specs.Layouts.{Layout}
-use Rattle.r6_world.specs.Worlds.{World, Happening, Core, Perform, Tell, Outside, Moment, Possible, Run, next, started}
+use Rattle.r6_world.specs.Worlds.{World, Happening, Core, Perform, Tell, Outside, Moment, Run, next, started}
 use Rattle.r6_world.specs.Claims.{RebuiltEverywhere}
 use Rattle.r6_world.specs.Laws.{Explained, AtEach, ShardHolds, ArrayHolds, IsOfOutside, IsOfShard, AreOfShard, IsByOthers, at_start, ArrayLaw, RebuiltLaw, ShardLaw}
+use Rattle.r6_world.proofs.Everywhere.{possible-in}
 use Rattle.r6_world.proofs.Besides.{IsIn}
 use Rattle.r6_world.proofs.Headline.{AreIn, holds-at, explained}
 use Rattle.r6_world.proofs.Starts.{kept-start}
 
+-- what holds at each moment holds at the first
+first-of : (l : Layout) (moments : List Moment) (w : World) → AtEach l (RebuiltEverywhere l) w moments → RebuiltEverywhere l w
+first-of l [] w y = y
+first-of l (m ∷ moments) w y = y.0
+
 -- in a run of the array every step is of one of its shards
 all-in : (l : Layout) (moments : List Moment) (w : World) → Run l IsOfOutside w moments → AreIn (λ n. n < l.shards) moments
 all-in l [] w run = record {}
-all-in l (m ∷ moments) w run = (is-in m.happening run.0, all-in l moments (next l w m) run.1)
-  where
-    is-in : (h : Happening) → Possible l IsOfOutside w h → IsIn (λ n. n < l.shards) h
-    is-in (Core n event new) p = p.0
-    is-in (Perform n token c) p = p.0
-    is-in (Tell n call answer middle new) p = p.0
-    is-in (Outside call) p = record {}
+all-in l (m ∷ moments) w run = (possible-in l IsOfOutside w m.happening run.0, all-in l moments (next l w m) run.1)
 
 with-rebuilt : (l : Layout) (moments : List Moment) (w : World) (plain : Plain) → Explained l (λ old new plain'. (n : ℕ) → n < l.shards → ShardHolds l n old new plain') w plain moments
     → AtEach l (RebuiltEverywhere l) w moments → Explained l (ArrayHolds l) w plain moments
 with-rebuilt l [] w plain x y = record {}
 with-rebuilt l (m ∷ moments) w plain x y =
-    (x.0, x.1, x.2, record { shards = x.3; rebuilt = first-of moments (next l w m) y.1 }, with-rebuilt l moments (next l w m) x.1 x.4 y.1)
-  where
-    first-of : (moments : List Moment) (w : World) → AtEach l (RebuiltEverywhere l) w moments → RebuiltEverywhere l w
-    first-of [] w y = y
-    first-of (m ∷ moments) w y = y.0
+    (x.0, x.1, x.2, record { shards = x.3; rebuilt = first-of l moments (next l w m) y.1 }, with-rebuilt l moments (next l w m) x.1 x.4 y.1)
 
 -- the laws, where the rebuilt slots are known
 pub array_law_by : RebuiltLaw → ArrayLaw
@@ -38,14 +34,10 @@ array_law_by rebuilt l is r device array start moments run =
     let y = rebuilt l is r device array start moments run in (
       record {
         shards = λ n below. holds-at l is (λ m. m < l.shards) IsOfOutside w w (at_start array) x n below (λ failed id op reply e none. absurd (none reply e));
-        rebuilt = first-of moments w y;
+        rebuilt = first-of l moments w y;
       },
       with-rebuilt l moments w (at_start array) (explained l is (λ n. n < l.shards) IsOfOutside moments w (at_start array) x (all-in l moments w run) run) y,
     )
-  where
-    first-of : (moments : List Moment) (w : World) → AtEach l (RebuiltEverywhere l) w moments → RebuiltEverywhere l w
-    first-of [] w y = y
-    first-of (m ∷ moments) w y = y.0
 
 -- one shard beside others' calls
 one-in : (l : Layout) (n : ℕ) (moments : List Moment) → AreOfShard n moments → AreIn (λ m. m ≡ n) moments

@@ -28,7 +28,7 @@ use Rattle.r6_world.proofs.Acting.{Acted, goes}
 use Rattle.r6_world.proofs.Endings.{same-after}
 use Rattle.r6_world.proofs.Changes.{step-kept, through-goes, through-scans}
 use Rattle.r6_world.proofs.Failing.{OnlyOld, old-kept, fails-all}
-use Rattle.r6_world.proofs.Shrinking.{InShard, rows-kept}
+use Rattle.r6_world.proofs.InShard.{InShard, rows-kept}
 use Rattle.r6_world.proofs.Parts.{Parting, Parted, Sane, live-was, sync-adopted, away-adopted, parting-kept, adopts-parted, adopts-new, failed-parted, sees-parted, loses-parted, late-parted}
 use Rattle.r6_world.proofs.RegisterCalls.{IsRegister, register-kept}
 use Rattle.r6_world.proofs.Renewals.{Renewed, renewed-call, renewed-parted, own-parted}

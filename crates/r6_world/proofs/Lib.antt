@@ -19,8 +19,10 @@ pub mod Tying
 pub mod Calls
 pub mod Tells
 pub mod Quiet
+pub mod Accepted
+pub mod Refusals
 pub mod Everywhere
-pub mod Shrinking
+pub mod InShard
 pub mod Failing
 pub mod Parts
 pub mod RegisterCalls
@@ -37,4 +39,7 @@ pub mod SmallShards
 pub mod WitnessWrite
 pub mod WitnessLoss
 pub mod WitnessRebuild
+pub mod WitnessError
+pub mod WitnessFailure
+pub mod WitnessCheck
 pub mod Witness

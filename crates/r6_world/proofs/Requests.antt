@@ -162,7 +162,7 @@ releases l saw request frame answers accepted r =
     stood id (Finished reply) s = s
     stood id (Released reply) s = s
 
-not_held : (f : ℕ) (reply : Reply) → Held f ≡ Released reply → ⊥
+pub not_held : (f : ℕ) (reply : Reply) → Held f ≡ Released reply → ⊥
 not_held f reply e = cc
 
 pub hands_reply : (l : Layout) (saw : Bool) (request : ℕ → Option Request) (frame : ℕ → Option Hold) (answers : ℕ → Option Reply) (accepted : ℕ)
@@ -235,7 +235,7 @@ staged-cases (Some r) f op stage e =
     let p = same_stage r.op op (Held f) stage e in
     (r.stage, ap (λ x. Some (request_at x r.stage)) p.0, p.1)
 
-not_waiting : (f : ℕ) → Waiting ≡ Held f → ⊥
+pub not_waiting : (f : ℕ) → Waiting ≡ Held f → ⊥
 not_waiting f e = cc
 
 pub held-inj : (f g : ℕ) → Held f ≡ Held g → f ≡ g

@@ -16,7 +16,7 @@ use Rattle.r6_world.specs.Steps.{Submit, Deliver, Good, Taken, Look, Take_reply,
 use Rattle.r6_world.specs.Worlds.{World}
 use Rattle.r6_world.specs.Witness.{small}
 use Rattle.r6_world.proofs.Tables.{not_both}
-use Rattle.r6_world.proofs.Reaches.{Reaches, View, Stands, leads, core, reads, outside, fetch, handed_out}
+use Rattle.r6_world.proofs.Reaches.{Reaches, View, Stands, leads, quiet, core, reads, outside, fetch, handed_out}
 use Rattle.r6_world.proofs.SmallRows.{p, restored_is}
 use Rattle.r6_world.proofs.SmallShards.{no_request, no_hold, no_command, but_one, but_one-put, asked, held, on, state, register_with, seen_slots, none_built, entry_is, none_is, put-gone, one_waits_not, none_wait, held_not, finished_not, released_not, held_rests, free_rests, each, read_held, unread_not_asked, known_not_asked, unwritten_not_sent, n0<1, n0<2, n1<4, n2<4, n3<4, n0<64, n1≤2}
 use Rattle.r6_world.proofs.WitnessWrite.{fetched, s7, v6, v7, reply_taken}
@@ -121,7 +121,7 @@ submits = (
       ),
     ),
   ),
-  held_rests c1 g2 refl 4 (fetch 2 0) refl refl refl (one_waits_not 1 (Read 0) (Held 0) (held_not 0)) (none_built Missing (λ x. x)),
+  held_rests c1 g2 refl refl 4 (fetch 2 0) refl refl refl (one_waits_not 1 (Read 0) (Held 0) (held_not 0)) (none_built Missing (λ x. x)),
 )
 
 abbrev a2 : (b other : Block) → Shard
@@ -141,7 +141,7 @@ learns_p b other = (
   c2 b other,
   ([], p_learned b other),
   ([], refl),
-  held_rests (c2 b other) (g3 b other) refl 4 (fetch 2 0) refl refl refl (one_waits_not 1 (Read 0) (Held 0) (held_not 0)) (none_built Missing (λ x. x)),
+  held_rests (c2 b other) (g3 b other) refl refl 4 (fetch 2 0) refl refl refl (one_waits_not 1 (Read 0) (Held 0) (held_not 0)) (none_built Missing (λ x. x)),
 )
 
 -- ---- the block is restored
@@ -247,16 +247,17 @@ pub loses : (array : Array) (b : Block) (w : World) → Stands w (v6 array b) �
 loses array b w at =
     leads w (v7 array b) (λ later. Stands later (when_lost array b)) (reply_taken array b w at)
     (λ x1 at1. leads x1 (failed array b) (λ later. Stands later (when_lost array b))
-    (outside x1 (v7 array b) at1 (Fail 1) (record {}) (Ok Degraded) refl None (λ before e. refl) false (λ before e. refl))
-    (λ x2 at2. core x2 (failed array b) at2 (Look (register_with Lost 0)) lost (λ s parts. refl) (sym at2.register_is) sees_loss))
+    (outside x1 (v7 array b) at1 (Fail 1) (record {}) (Ok Degraded) refl refl None (λ before e. refl) false (λ before e. refl))
+    (λ x2 at2. core x2 (failed array b) at2 (Look (register_with Lost 0)) lost n1≤2 (record {}) (sym at2.register_is) sees_loss))
 
 pub restores : (array : Array) (b : Block) → length b ≡ 16 → length (array 1) ≡ 16 → (w : World) → Stands w (when_lost array b)
     → Reaches small w (λ later. Stands later (when_restored array b))
 restores array b b-wide other-wide w at =
-    leads w (w1 array b) (λ later. Stands later (when_restored array b)) (core w (when_lost array b) at (Submit (Read 0) 1) c1 (λ s parts. refl) (record {}) submits)
-    (λ x1 at1. leads x1 (w2 array b) (λ later. Stands later (when_restored array b)) (reads x1 (w1 array b) at1 5 3 0 (c2 b (array 1)) refl refl (learns_p b (array 1)))
-    (λ x2 at2. leads x2 (w3 array b) (λ later. Stands later (when_restored array b)) (reads x2 (w2 array b) at2 4 2 0 (c3 b) refl refl (learns b (array 1) b-wide other-wide))
-    (λ x3 at3. core x3 (w3 array b) at3 (Look (register_with Lost 0)) (c4 b) (λ s parts. refl) (sym at3.register_is) (looks b))))
+    leads w (w1 array b) (λ later. Stands later (when_restored array b)) (core w (when_lost array b) at (Submit (Read 0) 1) c1 n1≤2
+    (quiet w (when_lost array b) at (λ t. refl) refl refl refl) (record {}) submits)
+    (λ x1 at1. leads x1 (w2 array b) (λ later. Stands later (when_restored array b)) (reads x1 (w1 array b) at1 5 3 0 (c2 b (array 1)) refl refl n1≤2 (learns_p b (array 1)))
+    (λ x2 at2. leads x2 (w3 array b) (λ later. Stands later (when_restored array b)) (reads x2 (w2 array b) at2 4 2 0 (c3 b) refl refl n1≤2 (learns b (array 1) b-wide other-wide))
+    (λ x3 at3. core x3 (w3 array b) at3 (Look (register_with Lost 0)) (c4 b) n1≤2 (record {}) (sym at3.register_is) (looks b))))
 
 pub restored_taken : (array : Array) (b : Block) (w : World) → Stands w (when_restored array b) → Reaches small w (λ later. Stands later (before_attach array b))
-restored_taken array b w at = core w (when_restored array b) at (Take_reply 1 (Data b)) c5 (λ s parts. refl) (record {}) (takes b)
+restored_taken array b w at = core w (when_restored array b) at (Take_reply 1 (Data b)) c5 n1≤2 (record {}) (record {}) (takes b)

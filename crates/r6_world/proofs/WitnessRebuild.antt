@@ -1,8 +1,8 @@
 -- A new device is attached to slot 1, its one row is built, its rebuild completes, and it is read.
-use Rattle.std.proofs.Common.{◌≡◌, ℕ, zero, suc, List, [], ◌∷◌, length, Bool, true, false, inl, inr, refl, sym, arith, Option, Some, None, Ok}
+use Rattle.std.proofs.Common.{◌≡◌, ◌⊎◌, ℕ, zero, suc, List, [], ◌∷◌, length, Bool, true, false, inl, inr, refl, sym, subst, arith, Option, Some, None, Ok}
 use Rattle.std.proofs.lemmas.Bool.{ne_eqb, false≢true}
 use Rattle.r6_stripe.specs.Plans.{lacks_new}
-use Rattle.r6_stripe.specs.Holds.{IsIndexOf, IsQuiet, MayCompute, MayEnd}
+use Rattle.r6_stripe.specs.Holds.{IsIndexOf, IsQuiet, MayCompute, MayEnd, cell_at}
 use Rattle.r6_stripe.specs.Holds.Standing.{Out as Absent}
 use Rattle.r6_stripe.specs.Holds.Outcome.{Data as Gave, Rebuilt as MadeAnew}
 use Rattle.r6_stripe.specs.Holds.Kind.{Rebuild as Building_anew, Repair}
@@ -19,7 +19,7 @@ use Rattle.r6_world.specs.Steps.{Submit, Deliver, Good, Taken, Look, Turn_starte
 use Rattle.r6_world.specs.Worlds.{World}
 use Rattle.r6_world.specs.Witness.{small}
 use Rattle.r6_world.proofs.Tables.{put-same, not_both}
-use Rattle.r6_world.proofs.Reaches.{Reaches, View, Stands, leads, core, reads, writes, outside, tells, fetch, store, handed_out}
+use Rattle.r6_world.proofs.Reaches.{Reaches, View, Stands, leads, quiet, core, reads, writes, outside, tells, fetch, store, handed_out}
 use Rattle.r6_world.proofs.SmallRows.{p, restored_is}
 use Rattle.r6_world.proofs.SmallShards.{no_request, no_hold, no_command, but_one, but_one-put, but_one-put_twice, asked, held, on, state, register_with, seen_slots, none_built, entry_is, none_is, put-gone, one_waits_not, none_wait, held_not, finished_not, released_not, held_rests, free_rests, each, read_held, rebuild_held, target_not_out, unread_not_asked, known_not_asked, unwritten_not_sent, confirmed_not_sent, storing_not_fetch, n0<1, n0<2, n0<4, n1<4, n2<4, n3<4, n0<64, n0≤2, n1≤2}
 use Rattle.r6_world.proofs.WitnessWrite.{fetched, stored, when_written}
@@ -138,7 +138,7 @@ turns = (
       ),
     ),
   ),
-  held_rests d1 r2 refl 6 (fetch 2 0) refl refl refl none_wait (none_built unbuilt not_built),
+  held_rests d1 r2 refl refl 6 (fetch 2 0) refl refl refl none_wait (none_built unbuilt not_built),
 )
 
 abbrev a2 : (b other : Block) → Shard
@@ -158,7 +158,7 @@ learns_p b other = (
   d2 b other,
   ([], p_learned b other),
   ([], refl),
-  held_rests (d2 b other) (r3 b other) refl 6 (fetch 2 0) refl refl refl none_wait (none_built unbuilt not_built),
+  held_rests (d2 b other) (r3 b other) refl refl 6 (fetch 2 0) refl refl refl none_wait (none_built unbuilt not_built),
 )
 
 -- ---- the block is computed and written
@@ -173,6 +173,11 @@ follows b other (suc zero) e = absurd (false≢true e)
 follows b other (suc (suc zero)) e = absurd (false≢true e)
 follows b other (suc (suc (suc zero))) e = absurd (false≢true e)
 follows b other (suc (suc (suc (suc at)))) e = absurd (false≢true e)
+
+-- and only this position gets one
+only : (b other : Block) (at : ℕ) → IsIndexOf at (new_block b) → (lacks_new (r4 b other).course at ≡ true) ⊎ ((cell_at (r4 b other).course.cells at).standing ≡ Absent)
+only b other at (inl same) = inl (subst (λ (k : ℕ). lacks_new (r4 b other).course k ≡ true) same refl)
+only b other at (inr none) = absurd none
 
 may_compute : (b other : Block) → length b ≡ 16 → length other ≡ 16 → MayCompute (r4 b other).course (new_block b)
 may_compute b other b-wide other-wide = record {
@@ -209,7 +214,7 @@ learns b other b-wide other-wide = (
     Prepare 0 (r4 b other) (Computes (new_block b)) ∷ Send 0 (r5 b other) 1 1 b ∷ [],
     (
       record {},
-      (refl, (n1≤2, refl), record {}, may_compute b other b-wide other-wide, (refl, (may_compute b other b-wide other-wide).are_new, follows b other)),
+      (refl, (n1≤2, refl), record {}, may_compute b other b-wide other-wide, (refl, (may_compute b other b-wide other-wide).are_new, follows b other, only b other)),
       (
         record {},
         (
@@ -225,7 +230,7 @@ learns b other b-wide other-wide = (
     ),
   ),
   ([], refl),
-  held_rests (d3 b other) (r6 b other) refl 8 (store 1 1 b) refl refl refl none_wait (none_built unbuilt not_built),
+  held_rests (d3 b other) (r6 b other) refl refl 8 (store 1 1 b) refl refl refl none_wait (none_built unbuilt not_built),
 )
 
 -- ---- the write is confirmed, and the slot comes in
@@ -341,7 +346,7 @@ submits = (
       ),
     ),
   ),
-  held_rests e1 k1 refl 9 (fetch 1 1) refl refl refl (one_waits_not 2 (Read 0) (Held 0) (held_not 0)) (none_built (Synced 1) (λ x. x)),
+  held_rests e1 k1 refl refl 9 (fetch 1 1) refl refl refl (one_waits_not 2 (Read 0) (Held 0) (held_not 0)) (none_built (Synced 1) (λ x. x)),
 )
 
 read_ends : (b : Block) → MayEnd (k2 b).course (Gave b)
@@ -434,22 +439,23 @@ pub attaches : (array : Array) (b : Block) (w : World) → Stands w (when_restor
 attaches array b w at =
     leads w (before_attach array b) (λ later. Stands later (when_attached array b)) (restored_taken array b w at)
     (λ x1 at1. leads x1 (device_there array b) (λ later. Stands later (when_attached array b))
-    (outside x1 (before_attach array b) at1 (Attach 1) (record {}) (Ok (Generation 1)) refl None (λ before e. e) false (λ before e. refl))
-    (λ x2 at2. core x2 (device_there array b) at2 (Look (register_with (Rebuilding 1 no_shards) 1)) attached (λ s parts. refl) (sym at2.register_is) sees_device))
+    (outside x1 (before_attach array b) at1 (Attach 1) (record {}) (Ok (Generation 1)) refl refl None (λ before e. e) false (λ before e. refl))
+    (λ x2 at2. core x2 (device_there array b) at2 (Look (register_with (Rebuilding 1 no_shards) 1)) attached n1≤2 (record {}) (sym at2.register_is) sees_device))
 
 pub rebuilds : (array : Array) (b : Block) → length b ≡ 16 → length (array 1) ≡ 16 → (w : World) → Stands w (when_attached array b)
     → Reaches small w (λ later. Stands later (when_rebuilt array b))
 rebuilds array b b-wide other-wide w at =
-    leads w (w1 array b) (λ later. Stands later (when_rebuilt array b)) (core w (when_attached array b) at (Turn_started (Rebuild 1 1)) d1 (λ s parts. refl) (record {}) turns)
-    (λ x1 at1. leads x1 (w2 array b) (λ later. Stands later (when_rebuilt array b)) (reads x1 (w1 array b) at1 7 3 0 (d2 b (array 1)) refl refl (learns_p b (array 1)))
-    (λ x2 at2. leads x2 (w3 array b) (λ later. Stands later (when_rebuilt array b)) (reads x2 (w2 array b) at2 6 2 0 (d3 b (array 1)) refl refl (learns b (array 1) b-wide other-wide))
-    (λ x3 at3. leads x3 (w4 array b) (λ later. Stands later (when_rebuilt array b)) (writes x3 (w3 array b) at3 8 1 1 b d4 refl refl (confirms b (array 1)))
+    leads w (w1 array b) (λ later. Stands later (when_rebuilt array b)) (core w (when_attached array b) at (Turn_started (Rebuild 1 1)) d1 n1≤2 (record {}) (record {}) turns)
+    (λ x1 at1. leads x1 (w2 array b) (λ later. Stands later (when_rebuilt array b)) (reads x1 (w1 array b) at1 7 3 0 (d2 b (array 1)) refl refl n1≤2 (learns_p b (array 1)))
+    (λ x2 at2. leads x2 (w3 array b) (λ later. Stands later (when_rebuilt array b)) (reads x2 (w2 array b) at2 6 2 0 (d3 b (array 1)) refl refl n1≤2 (learns b (array 1) b-wide other-wide))
+    (λ x3 at3. leads x3 (w4 array b) (λ later. Stands later (when_rebuilt array b)) (writes x3 (w3 array b) at3 8 1 1 b d4 refl refl n0≤2 (confirms b (array 1)))
     (λ x4 at4. leads x4 (w5 array b) (λ later. Stands later (when_rebuilt array b))
-    (tells x4 (w4 array b) at4 (RebuildOf 1 1) (Ok Complete) telling d5 refl ([], (refl, refl), refl) (refl, refl) (Some 1) (λ before e. refl) (λ before e. refl))
-    (λ x5 at5. core x5 (w5 array b) at5 (Look (register_with InSync 1)) d5 (λ s parts. refl) (sym at5.register_is) sees_sync)))))
+    (tells x4 (w4 array b) at4 (RebuildOf 1 1) (Ok Complete) telling d5 refl refl n0≤2 ([], (refl, refl), refl) (refl, refl) (Some 1) (λ before e. refl) (λ before e. refl))
+    (λ x5 at5. core x5 (w5 array b) at5 (Look (register_with InSync 1)) d5 n0≤2 (record {}) (sym at5.register_is) sees_sync)))))
 
 pub reads_again : (array : Array) (b : Block) (w : World) → Stands w (when_rebuilt array b) → Reaches small w (λ later. Stands later (at_last array b))
 reads_again array b w at =
-    leads w (w6 array b) (λ later. Stands later (at_last array b)) (core w (when_rebuilt array b) at (Submit (Read 0) 2) e1 (λ s parts. refl) (record {}) submits)
-    (λ x1 at1. leads x1 (w7 array b) (λ later. Stands later (at_last array b)) (reads x1 (w6 array b) at1 9 1 1 (e2 b) refl refl (learns_own b))
-    (λ x2 at2. core x2 (w7 array b) at2 (Look (register_with InSync 1)) (e3 b) (λ s parts. refl) (sym at2.register_is) (looks b)))
+    leads w (w6 array b) (λ later. Stands later (at_last array b)) (core w (when_rebuilt array b) at (Submit (Read 0) 2) e1 n0≤2
+    (quiet w (when_rebuilt array b) at (λ t. refl) refl refl refl) (record {}) submits)
+    (λ x1 at1. leads x1 (w7 array b) (λ later. Stands later (at_last array b)) (reads x1 (w6 array b) at1 9 1 1 (e2 b) refl refl n0≤2 (learns_own b))
+    (λ x2 at2. core x2 (w7 array b) at2 (Look (register_with InSync 1)) (e3 b) n0≤2 (record {}) (sym at2.register_is) (looks b)))

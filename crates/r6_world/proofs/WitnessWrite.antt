@@ -1,5 +1,5 @@
 -- A block of the smallest array is written: the other data block of the row is read, and three blocks are written.
-use Rattle.std.proofs.Common.{◌≡◌, ℕ, zero, suc, ◌≤◌, List, [], ◌∷◌, true, false, inl, inr, refl, sym, ap, arith, Option, Some, None}
+use Rattle.std.proofs.Common.{◌≡◌, ◌⊎◌, ℕ, zero, suc, ◌≤◌, List, [], ◌∷◌, true, false, inl, inr, refl, sym, ap, subst, arith, Option, Some, None}
 use Rattle.std.proofs.lemmas.Bool.{ne_eqb, false≢true}
 use Rattle.r6_kernels.specs.Blocks.{IsBlock}
 use Rattle.r6_recover.specs.Rows.{block_at}
@@ -22,7 +22,7 @@ use Rattle.r6_world.specs.Steps.{Submit, Deliver, Good, Taken, Look, Take_reply,
 use Rattle.r6_world.specs.Worlds.{World}
 use Rattle.r6_world.specs.Witness.{small}
 use Rattle.r6_world.proofs.Tables.{not_both}
-use Rattle.r6_world.proofs.Reaches.{Reaches, View, Stands, leads, core, reads, writes, fetch, store, handed_out}
+use Rattle.r6_world.proofs.Reaches.{Reaches, View, Stands, leads, quiet, core, reads, writes, fetch, store, handed_out}
 use Rattle.r6_world.proofs.SmallRows.{p, q, full, written_is}
 use Rattle.r6_world.proofs.SmallShards.{no_request, no_hold, no_command, but_one, asked, held, on, state, register_with, seen_slots, none_built, entry_is, none_is, put-gone, one_waits_not, held_not, finished_not, released_not, held_rests, free_rests, each, write_held, in_sync_not_out, out_not_in_sync, unread_not_asked, known_not_asked, unwritten_not_sent, confirmed_not_sent, storing_not_fetch, n0<1, n0<2, n0<4, n1<4, n2<4, n3<4, n0<64, n0≤2}
 
@@ -157,7 +157,7 @@ submits b sized = (
       (record {}, (refl, n2<4, refl, (n0≤2, refl), may_ask b, refl), submitted b),
     ),
   ),
-  held_rests (s1 b) (h1 b) refl 0 (fetch 2 0) refl refl refl (one_waits_not 0 (Write 0 b) (Held 0) (held_not 0)) (none_built (Synced 0) (λ x. x)),
+  held_rests (s1 b) (h1 b) refl refl 0 (fetch 2 0) refl refl refl (one_waits_not 0 (Write 0 b) (Held 0) (held_not 0)) (none_built (Synced 0) (λ x. x)),
 )
 
 -- ---- the new blocks are computed and written
@@ -172,6 +172,13 @@ follows b other (suc zero) e = absurd (false≢true e)
 follows b other (suc (suc zero)) e = inr (inl refl)
 follows b other (suc (suc (suc zero))) e = inr (inr (inl refl))
 follows b other (suc (suc (suc (suc at)))) e = absurd (false≢true e)
+
+-- and only these positions get one
+only : (b other : Block) (at : ℕ) → IsIndexOf at (new_blocks b other) → (lacks_new (h2 b other).course at ≡ true) ⊎ ((cell_at (h2 b other).course.cells at).standing ≡ Absent)
+only b other at (inl same) = inl (subst (λ (k : ℕ). lacks_new (h2 b other).course k ≡ true) same refl)
+only b other at (inr (inl same)) = inl (subst (λ (k : ℕ). lacks_new (h2 b other).course k ≡ true) same refl)
+only b other at (inr (inr (inl same))) = inl (subst (λ (k : ℕ). lacks_new (h2 b other).course k ≡ true) same refl)
+only b other at (inr (inr (inr none))) = absurd none
 
 may_compute : (b other : Block) → MayCompute (h2 b other).course (new_blocks b other)
 may_compute b other = record {
@@ -213,7 +220,7 @@ learns b other = (
     Prepare 0 (h2 b other) (Computes (new_blocks b other)) ∷ Send 0 (h3 b other) 1 0 b ∷ Send 0 (h4 b other) 3 0 (p b other) ∷ Send 0 (h5 b other) 0 0 (q b other) ∷ [],
     (
       record {},
-      (refl, (n0≤2, refl), record {}, may_compute b other, (refl, (may_compute b other).are_new, follows b other)),
+      (refl, (n0≤2, refl), record {}, may_compute b other, (refl, (may_compute b other).are_new, follows b other, only b other)),
       (
         record {},
         (refl, n1<4, inl refl, (n0≤2, refl), record { held = write_held (batch b); not_out = in_sync_not_out; not_asked = unread_not_asked; ready = refl }, (refl, refl)),
@@ -230,7 +237,7 @@ learns b other = (
     ),
   ),
   ([], refl),
-  held_rests (s2 b other) (h6 b other) refl 1 (store 1 0 b) refl refl refl (one_waits_not 0 (Write 0 b) (Held 0) (held_not 0)) (none_built (Synced 0) (λ x. x)),
+  held_rests (s2 b other) (h6 b other) refl refl 1 (store 1 0 b) refl refl refl (one_waits_not 0 (Write 0 b) (Held 0) (held_not 0)) (none_built (Synced 0) (λ x. x)),
 )
 
 -- ---- the writes are confirmed
@@ -255,7 +262,7 @@ confirms3 b other = (
   s3 b other,
   ([], confirmed3 b other),
   ([], refl),
-  held_rests (s3 b other) (h7 b other) refl 1 (store 1 0 b) refl refl refl (one_waits_not 0 (Write 0 b) (Held 0) (held_not 0)) (none_built (Synced 0) (λ x. x)),
+  held_rests (s3 b other) (h7 b other) refl refl 1 (store 1 0 b) refl refl refl (one_waits_not 0 (Write 0 b) (Held 0) (held_not 0)) (none_built (Synced 0) (λ x. x)),
 )
 
 abbrev a4 : (b other : Block) → Shard
@@ -275,7 +282,7 @@ confirms2 b other = (
   s4 b other,
   ([], confirmed2 b other),
   ([], refl),
-  held_rests (s4 b other) (h8 b other) refl 1 (store 1 0 b) refl refl refl (one_waits_not 0 (Write 0 b) (Held 0) (held_not 0)) (none_built (Synced 0) (λ x. x)),
+  held_rests (s4 b other) (h8 b other) refl refl 1 (store 1 0 b) refl refl refl (one_waits_not 0 (Write 0 b) (Held 0) (held_not 0)) (none_built (Synced 0) (λ x. x)),
 )
 
 abbrev a5 : (b other : Block) → Shard
@@ -384,12 +391,13 @@ v7 array b = record (v0 array) { shard = s7; device = when_written array b; used
 
 pub wrote : (array : Array) (b : Block) → IsBlock 16 b → (w : World) → Stands w (v0 array) → Reaches small w (λ later. Stands later (v6 array b))
 wrote array b sized w at =
-    leads w (v1 array b) (λ later. Stands later (v6 array b)) (core w (v0 array) at (Submit (Write 0 b) 0) (s1 b) (λ s parts. refl) (record {}) (submits b sized))
-    (λ w1 at1. leads w1 (v2 array b) (λ later. Stands later (v6 array b)) (reads w1 (v1 array b) at1 0 2 0 (s2 b (array 1)) refl refl (learns b (array 1)))
-    (λ w2 at2. leads w2 (v3 array b) (λ later. Stands later (v6 array b)) (writes w2 (v2 array b) at2 3 0 0 (q b (array 1)) (s3 b (array 1)) refl refl (confirms3 b (array 1)))
-    (λ w3 at3. leads w3 (v4 array b) (λ later. Stands later (v6 array b)) (writes w3 (v3 array b) at3 2 3 0 (p b (array 1)) (s4 b (array 1)) refl refl (confirms2 b (array 1)))
-    (λ w4 at4. leads w4 (v5 array b) (λ later. Stands later (v6 array b)) (writes w4 (v4 array b) at4 1 1 0 b (s5 b) refl refl (confirms1 b (array 1)))
-    (λ w5 at5. core w5 (v5 array b) at5 (Look (register_with InSync 0)) (s6 b) (λ s parts. refl) (sym at5.register_is) (looks b))))))
+    leads w (v1 array b) (λ later. Stands later (v6 array b)) (core w (v0 array) at (Submit (Write 0 b) 0) (s1 b) n0≤2
+    (quiet w (v0 array) at (λ t. refl) refl refl refl) (record {}) (submits b sized))
+    (λ w1 at1. leads w1 (v2 array b) (λ later. Stands later (v6 array b)) (reads w1 (v1 array b) at1 0 2 0 (s2 b (array 1)) refl refl n0≤2 (learns b (array 1)))
+    (λ w2 at2. leads w2 (v3 array b) (λ later. Stands later (v6 array b)) (writes w2 (v2 array b) at2 3 0 0 (q b (array 1)) (s3 b (array 1)) refl refl n0≤2 (confirms3 b (array 1)))
+    (λ w3 at3. leads w3 (v4 array b) (λ later. Stands later (v6 array b)) (writes w3 (v3 array b) at3 2 3 0 (p b (array 1)) (s4 b (array 1)) refl refl n0≤2 (confirms2 b (array 1)))
+    (λ w4 at4. leads w4 (v5 array b) (λ later. Stands later (v6 array b)) (writes w4 (v4 array b) at4 1 1 0 b (s5 b) refl refl n0≤2 (confirms1 b (array 1)))
+    (λ w5 at5. core w5 (v5 array b) at5 (Look (register_with InSync 0)) (s6 b) n0≤2 (record {}) (sym at5.register_is) (looks b))))))
 
 pub reply_taken : (array : Array) (b : Block) (w : World) → Stands w (v6 array b) → Reaches small w (λ later. Stands later (v7 array b))
-reply_taken array b w at = core w (v6 array b) at (Take_reply 0 Done) s7 (λ s parts. refl) (record {}) (takes b)
+reply_taken array b w at = core w (v6 array b) at (Take_reply 0 Done) s7 n0≤2 (record {}) (record {}) (takes b)

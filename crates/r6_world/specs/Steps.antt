@@ -1,10 +1,11 @@
 -- The shard step: the calls of a core, each with its answer, as lists of small changes (this project's own). A call is an
 -- opening change, then holds that go on and end, then waiting requests that start.
 use Rattle.std.specs.Prelude.{◌≡◌, ◌≢◌, ℕ, ◌⊎◌, List, [], ◌∷◌, Bool, true, false, Some, None}
+use Rattle.r6_stripe.specs.Plans.{next as next_of_plan}
 use Rattle.r6_world.specs.PlainArray.{Block, Op, Reply, block_of}
 use Rattle.r6_world.specs.Layouts.{Layout}
 use Rattle.r6_world.specs.Registers.{Snapshot, Told as Answer, status_of}
-use Rattle.r6_world.specs.Tasks.{Task, ReadFor, WriteFor, Rebuild, Check, Repair, Hold}
+use Rattle.r6_world.specs.Tasks.{Task, ReadFor, WriteFor, Rebuild, Check, Repair, Hold, planned}
 use Rattle.r6_world.specs.ShardStates.{Waiting, Released, Command, Call, Shard, IsLive, IsFree, NotHeld}
 use Rattle.r6_world.specs.Changes.{Change, Accept, Start, Ask, Prepare, Classify, Send, Learn, Confirm, Come_home, Lose, Adopt, See_failed, Finish, Bring_in, Release, Skip_turn, Hand_command, Hand_call, Hear, Hand_reply, adopted, AllBuilt, after, Allowed}
 
@@ -44,9 +45,11 @@ abbrev pub TakesOver : Snapshot → Change → Type 0
 TakesOver seen (Adopt slot status) = status ≡ status_of seen slot
 TakesOver seen change = ⊥
 
--- after each call of a live shard: each hold has a command out, no waiting request could start; and no slot with all rows built is out
+-- after each call of a live shard: each hold has a command out, and all that its plan puts out at one time; no waiting
+-- request could start; and no slot with all rows built is out
 pub record AtRest (l : Layout) (n : ℕ) (s : Shard) : Type 0 where
   pub goes_on : IsLive l s → (f : ℕ) (h : Hold) → s.frame f ≡ Some h → (t : ℕ) × (c : Command) × (s.command t ≡ Some c) × (c.abandoned ≡ false) × (c.frame ≡ f)
+  pub nothing_next : IsLive l s → (f : ℕ) (h : Hold) → s.frame f ≡ Some h → next_of_plan (planned h) ≡ None
   pub none_could_start : IsLive l s → (id : ℕ) (op : Op) → s.request id ≡ Some (record { op = op; stage = Waiting }) → NotHeld s (l.row_of (block_of op)) → (f : ℕ) → IsFree l s f → ⊥
   pub brought_in : IsLive l s → (slot : ℕ) → AllBuilt l n (s.slot slot) → ⊥
 
