@@ -1,7 +1,7 @@
 //! An owned block.
 
 ghost use Rattle.std.specs.Prelude.{◌≡◌, ◌↔◌, List, [], ℕ, length, IsTrue, IfOk};
-ghost use Rattle.r6_kernels.specs.Blocks.{zeros};
+ghost use Rattle.r6_kernels.specs.Blocks.{IsBlock, zeros};
 
 use crate::bytes;
 use std::alloc::{AllocError, Global};
@@ -53,6 +53,14 @@ impl Buffer {
         ensures { IsTrue result ↔ (self.now ≡ []) }
     {
         self.bytes.is_empty()
+    }
+
+    /// Does nothing. A caller knows of a block only that it is a list of numbers; this says that each
+    /// is a byte.
+    pub fn assure_bytes(&self)
+        ensures { IsBlock (length self.now) self.now }
+    {
+        bytes::assure(self.bytes.as_slice());
     }
 
     /// The bytes.

@@ -1,6 +1,7 @@
 //! The loops of single sums, over bytes.
 
-ghost use Rattle.std.specs.Prelude.{◌≡◌, length};
+ghost use Rattle.std.specs.Prelude.{◌≡◌, ◌<◌, length};
+ghost use Rattle.std.specs.List.{All};
 ghost use Rattle.r6_field.specs.Field.{generator, product};
 ghost use Rattle.r6_kernels.specs.Blocks.{zeros, block_sum, scale};
 
@@ -14,6 +15,11 @@ pub(crate) fn clear(dst: &mut [u8])
         *byte = 0;
     }
 }
+
+/// Does nothing. The type of the slice says that each of its numbers is a byte.
+pub(crate) fn assure(bytes: &[u8])
+    ensures { All (λ byte. byte < 256) bytes.now }
+{}
 
 /// Adds the bytes of `src`.
 pub(crate) fn add(dst: &mut [u8], src: &[u8])
