@@ -1,17 +1,21 @@
 -- A hold as it begins.
-use Rattle.std.proofs.Common.{◌≡◌, ◌⊎◌, inl, inr, Bool, true, false, ℕ, List, [], ◌∷◌, map, get_or, refl, sym, ap, subst, arith, Some, None}
-use Rattle.std.specs.Prelude.{Option}
+use Rattle.std.proofs.Common.{◌≡◌, ◌⊎◌, inl, inr, Bool, true, false, ℕ, ◌+◌, ◌-◌, ◌<◌, ◌≤◌, List, [], ◌∷◌, length, map, get_or, refl, sym, ◌∙◌, ap, subst, arith, Some, None}
+use Rattle.std.specs.Prelude.{Option, if◌then◌else◌}
+use Rattle.std.proofs.lemmas.Bool.{cases_eq}
 use Rattle.std.proofs.lemmas.List.{get_or-map, length-map}
-use Rattle.r6_stripe.specs.Holds.{Hold, Standing, standing_cell, resting, begun}
-use Rattle.r6_stripe.specs.Places.{cells_of, cell_of, away_of, no_place, fresh_place}
-use Rattle.r6_stripe.specs.Sound.{Each, IsInCourse, IsSettled, Suits}
+use Rattle.r6_stripe.specs.Holds.{Hold, Kind, Cell, Standing, cell_at, standing_cell, resting, begun}
+use Rattle.r6_stripe.specs.Places.{cells_of, cell_of, standing_of, away_of, no_place, fresh_place}
+use Rattle.r6_stripe.specs.Plans.{is_in_sync, parities_in_sync}
+use Rattle.r6_stripe.specs.Sound.{Each, IsInCourse, IsSettled, IsWritePlan, Suits}
 use Rattle.r6_stripe.specs.Steps.{standing_if}
 use Rattle.r6_stripe.specs.Views.{kind_of_task}
 use Rattle.r6_stripe.specs.declared.command.Task.{Task}
 use Rattle.r6_stripe.specs.declared.command.Task.TheVariants as task
 use Rattle.r6_stripe.specs.declared.plan.Plan.{Plan}
 use Rattle.r6_stripe.specs.declared.plan.Plan.TheVariants as plan
+use Rattle.r6_stripe.specs.declared.place.State.TheVariants as state
 use Rattle.r6_stripe.specs.declared.place.Place.{Place}
+use Rattle.r6_stripe.proofs.Places.{length-cells_of, cell_at-cells_of}
 
 fresh_cell : (b : Bool) (block : List ℕ) → cell_of (fresh_place b) block ≡ standing_cell (standing_if b)
 fresh_cell true block = refl
@@ -30,28 +34,71 @@ pub begun_is : (size : ℕ) (standings : List Standing) (t : Task) → ◌≡◌
 begun_is size standings (task.Read index) = refl
 begun_is size standings (task.Write index block) = refl
 
-fresh_each : (holds : ℕ → Place → Type 0) (in_sync : List Bool) → ((k : ℕ) (b : Bool) → holds k (fresh_place b)) → Each holds (map fresh_place in_sync)
-fresh_each holds in_sync each k below = subst (holds k) (sym (get_or-map fresh_place in_sync k false no_place (omega (arith, below, length-map in_sync fresh_place)))) (each k (get_or in_sync k false))
+fresh_each : (holds : ℕ → Place → Type 0) (in_sync : List Bool) → ((k : ℕ) → k < length in_sync → holds k (fresh_place (get_or in_sync k false))) → Each holds (map fresh_place in_sync)
+fresh_each holds in_sync each k below =
+    let inside : k < length in_sync = omega (arith, below, length-map in_sync fresh_place) in
+    subst (holds k) (sym (get_or-map fresh_place in_sync k false no_place inside)) (each k inside)
 
 pub fresh_settled : (in_sync : List Bool) → Each (λ position place. IsSettled place) (map fresh_place in_sync)
-fresh_settled in_sync = fresh_each (λ position place. IsSettled place) in_sync (λ k b. record { away = λ e. absurd cc; one_block = λ e known. cc })
+fresh_settled in_sync = fresh_each (λ position place. IsSettled place) in_sync (λ k below. record { away = λ e. absurd cc; one_block = λ e known. cc })
 
-pub fresh_course : (p : Plan) (t : Option Task) (count : ℕ) (in_sync : List Bool) → Suits p t → Each (IsInCourse p t count false) (map fresh_place in_sync)
-fresh_course p t count in_sync suits = fresh_each (IsInCourse p t count false) in_sync (λ k b. at p t suits k b)
+-- a hold that overwrites begins without P and Q
+abbrev pub LacksParities : Plan → ℕ → List Bool → Type 0
+LacksParities p count in_sync = p ≡ plan.Overwrite → (k : ℕ) → k < length in_sync → count ≤ k + 2 → get_or in_sync k false ≡ false
+
+pub fresh_course : (p : Plan) (t : Option Task) (count : ℕ) (in_sync : List Bool) → Suits p t → LacksParities p count in_sync → Each (IsInCourse p t count false) (map fresh_place in_sync)
+fresh_course p t count in_sync suits lacks = fresh_each (IsInCourse p t count false) in_sync (λ k below. at p t suits k (get_or in_sync k false) (λ e past. lacks e k below past))
   where
-    at : (p : Plan) (t : Option Task) → Suits p t → (k : ℕ) (b : Bool) → IsInCourse p t count false k (fresh_place b)
-    at plan.One (Some (task.Read index)) suits k b = (refl, λ e. cc)
-    at plan.One (Some (task.Write index block)) suits k b = suits
-    at plan.One None suits k b = tt
-    at plan.Reconstruct (Some (task.Read index)) suits k b = suits
-    at plan.Reconstruct (Some (task.Write index block)) suits k b = (refl, λ e. cc, λ put e. cc)
-    at plan.Reconstruct None suits k b = tt
-    at plan.Recover t suits k b = tt
+    out : (b : Bool) → b ≡ false → (fresh_place b).state ≡ state.Out
+    out true e = absurd cc
+    out false e = refl
+
+    at : (p : Plan) (t : Option Task) → Suits p t → (k : ℕ) (b : Bool) → (p ≡ plan.Overwrite → count ≤ k + 2 → b ≡ false) → IsInCourse p t count false k (fresh_place b)
+    at plan.One (Some (task.Read index)) suits k b none = (refl, λ e. cc)
+    at plan.One (Some (task.Write index block)) suits k b none = suits
+    at plan.One None suits k b none = tt
+    at plan.Reconstruct (Some (task.Read index)) suits k b none = suits
+    at plan.Reconstruct (Some (task.Write index block)) suits k b none = (refl, λ e. cc, λ put e. cc)
+    at plan.Reconstruct None suits k b none = tt
+    at plan.Modify (Some (task.Read index)) suits k b none = suits
+    at plan.Modify (Some (task.Write index block)) suits k b none = (refl, λ e. cc)
+    at plan.Modify None suits k b none = tt
+    at plan.Overwrite (Some (task.Read index)) suits k b none = suits
+    at plan.Overwrite (Some (task.Write index block)) suits k b none = (refl, refl, λ past. out b (none refl past))
+    at plan.Overwrite None suits k b none = tt
+    at plan.Recover t suits k b none = tt
+
+in_sync_of : (b : Bool) → is_in_sync (standing_of (fresh_place b).state) ≡ b
+in_sync_of true = refl
+in_sync_of false = refl
+
+none_of_two : (a b : Bool) → (if a then 1 else 0) + (if b then 1 else 0) ≡ 0 → (a ≡ false) × (b ≡ false)
+none_of_two true b e = absurd (omega arith)
+none_of_two false true e = absurd (omega arith)
+none_of_two false false e = (refl, refl)
+
+-- what the count of the parities in sync says of a fresh hold
+pub lacks_parities : (p : Plan) (size : ℕ) (kind : Kind) (in_sync : List Bool) (blocks : List (List ℕ)) → 2 ≤ length in_sync →
+    (p ≡ plan.Overwrite → parities_in_sync (record { size = size; kind = kind; cells = cells_of (map fresh_place in_sync) blocks; cut_short = false }) ≡ 0) → LacksParities p (length in_sync) in_sync
+lacks_parities p size kind in_sync blocks two counts e k below past =
+    let cells = cells_of (map fresh_place in_sync) blocks in
+    let wide : length cells ≡ length in_sync = length-cells_of (map fresh_place in_sync) blocks ∙ length-map in_sync fresh_place in
+    let at : (j : ℕ) → j < length in_sync → is_in_sync (cell_at cells j).standing ≡ get_or in_sync j false = λ j inside.
+    ap (λ (cell : Cell). is_in_sync cell.standing) (cell_at-cells_of (map fresh_place in_sync) blocks j no_place (omega (arith, inside, length-map in_sync fresh_place)))
+    ∙ ap (λ (place : Place). is_in_sync (standing_of place.state)) (get_or-map fresh_place in_sync j false no_place inside) ∙ in_sync_of (get_or in_sync j false) in
+    let none = none_of_two (is_in_sync (cell_at cells (length cells - 2)).standing) (is_in_sync (cell_at cells (length cells - 2 + 1)).standing) (counts e) in
+    elim (cases_eq k (length cells - 2)) [
+      | inl same ↦ sym (at k below) ∙ ap (λ (j : ℕ). is_in_sync (cell_at cells j).standing) same ∙ none.0
+      | inr other ↦ sym (at k below) ∙ ap (λ (j : ℕ). is_in_sync (cell_at cells j).standing) (omega (arith, past, below, wide, other)) ∙ none.1
+    ]
 
 pub suits_read : (p : Plan) (index : ℕ) → (p ≡ plan.One) ⊎ (p ≡ plan.Recover) → Suits p (Some (task.Read index))
 suits_read p index (inl e) = subst (λ (q : Plan). Suits q (Some (task.Read index))) (sym e) tt
 suits_read p index (inr e) = subst (λ (q : Plan). Suits q (Some (task.Read index))) (sym e) tt
 
-pub suits_write : (p : Plan) (index : ℕ) (block : List ℕ) → (p ≡ plan.Reconstruct) ⊎ (p ≡ plan.Recover) → Suits p (Some (task.Write index block))
-suits_write p index block (inl e) = subst (λ (q : Plan). Suits q (Some (task.Write index block))) (sym e) tt
-suits_write p index block (inr e) = subst (λ (q : Plan). Suits q (Some (task.Write index block))) (sym e) tt
+pub suits_write : (p : Plan) (index : ℕ) (block : List ℕ) → IsWritePlan p → Suits p (Some (task.Write index block))
+suits_write plan.One index block writes = writes
+suits_write plan.Reconstruct index block writes = tt
+suits_write plan.Modify index block writes = tt
+suits_write plan.Overwrite index block writes = tt
+suits_write plan.Recover index block writes = tt

@@ -2,7 +2,7 @@
 use Rattle.std.proofs.Common.{◌≡◌, ◌≢◌, inl, inr, Bool, true, false, ℕ, ◌<◌, ◌≤◌, List, [], ◌∷◌, length, get_or, refl, sym, ◌∙◌, ap, arith, Some, None}
 use Rattle.std.specs.Prelude.{◌||◌, ◌&&◌, not, Option, option_map}
 use Rattle.std.proofs.lemmas.Bool.{eq-eqb}
-use Rattle.r6_stripe.specs.Holds.{Standing, Reading, Writing, Cell, Hold, cell_at, is_known, IsQuiet, IsToWrite, MayEnd}
+use Rattle.r6_stripe.specs.Holds.{Standing, Reading, Writing, Cell, Hold, Outcome, cell_at, is_known, IsQuiet, IsToWrite, MayEnd}
 use Rattle.r6_stripe.specs.Holds.Kind.{Read, Write}
 use Rattle.r6_stripe.specs.Plans as plans
 use Rattle.r6_stripe.specs.Plans.{Next, or_else, is_none}
@@ -94,29 +94,14 @@ to_put size index block cells i (inl (inl same)) = inl (sym same)
 to_put size index block cells i (inl (inr none)) = absurd none
 to_put size index block cells i (inr parity) = inr parity
 
--- a read or write that is over may end
-pub ends : (p : Plan) (t : Option Task) (size : ℕ) (computed : Bool) (places : List Place) (blocks : List (List ℕ)) → 4 ≤ length places → IsTask (length places) size t → plan_of p ≢ plans.Plan.Recover →
-    Each (IsInCourse p t (length places) computed) places →
-    let hold : Hold = record { size = size; kind = kind_of t; cells = cells_of places blocks; cut_short = false } in
-    plans.gives_up hold ≡ false → plans.is_over (record { hold = hold; plan = plan_of p }) ≡ true → MayEnd hold (plans.outcome_of hold hold.kind)
-ends p None size computed places blocks some fits follows course up over = absurd cc
-ends plan.Recover (Some (task.Read index)) size computed places blocks some fits follows course up over = absurd (follows refl)
-ends plan.Recover (Some (task.Write index block)) size computed places blocks some fits follows course up over = absurd (follows refl)
-ends plan.Reconstruct (Some (task.Read index)) size computed places blocks some fits follows course up over = absurd (course 0 (omega arith))
-ends plan.One (Some (task.Write index block)) size computed places blocks some fits follows course up over = absurd (course 0 (omega arith))
-ends plan.One (Some (task.Read index)) size computed places blocks some fits follows course up over =
-    let hold : Hold = record { size = size; kind = Read index; cells = cells_of places blocks; cut_short = false } in
-    let parts = over_parts (plans.has_read_out hold) (plans.has_write_out hold) (plans.is_enough plans.Plan.One hold) (plans.each_below (λ position. not (plans.lacks_new hold position)) (length hold.cells))
-    (plans.next_read plans.Plan.One hold) (plans.next_restore hold hold.kind) (plans.next_write hold) over in
-    let served : plans.is_served plans.Plan.One hold index ≡ true = each_at (plans.is_served plans.Plan.One hold) (length hold.cells) parts.knows index (omega (arith, fits, length-cells_of places blocks)) in
-    let known : is_known (cell_at hold.cells index).reading ≡ true = sym (ap (λ (b : Bool). not b || is_known (cell_at hold.cells index).reading) (eq-eqb index index refl)) ∙ served in
-    let at : (cell_at hold.cells index).reading ≡ reading_of (get_or places index no_place).read (get_or blocks index []) = ap (λ (cell : Cell). cell.reading) (cell_at-cells_of places blocks index no_place (omega arith)) in
-    let is = known_is (get_or places index no_place).read (get_or blocks index []) (ap is_known (sym at) ∙ known) (course index (omega arith)).1 in
-    record { quiet = quiet hold parts.no_read parts.no_write; owes_nothing = at ∙ is ∙ ap (λ (r : Reading). Reading.Known (plans.known_block r)) (sym at) }
-ends plan.Reconstruct (Some (task.Write index block)) size computed places blocks some fits follows course up over =
-    let hold : Hold = record { size = size; kind = Write ((index, block) ∷ []); cells = cells_of places blocks; cut_short = false } in
-    let parts = over_parts (plans.has_read_out hold) (plans.has_write_out hold) (plans.is_enough plans.Plan.Reconstruct hold) (plans.each_below (λ position. not (plans.lacks_new hold position)) (length hold.cells))
-    (plans.next_read plans.Plan.Reconstruct hold) (plans.next_restore hold hold.kind) (plans.next_write hold) over in
+-- a write of one block that is over may end, whatever its plan
+write_ends : (p : plans.Plan) (size index : ℕ) (block : List ℕ) (cells : List Cell) →
+    let hold : Hold = record { size = size; kind = Write ((index, block) ∷ []); cells = cells; cut_short = false } in
+    plans.is_over (record { hold = hold; plan = p }) ≡ true → MayEnd hold Outcome.Done
+write_ends p size index block cells over =
+    let hold : Hold = record { size = size; kind = Write ((index, block) ∷ []); cells = cells; cut_short = false } in
+    let parts = over_parts (plans.has_read_out hold) (plans.has_write_out hold) (plans.is_enough p hold) (plans.each_below (λ position. not (plans.lacks_new hold position)) (length hold.cells))
+    (plans.next_read p hold) (plans.next_restore hold hold.kind) (plans.next_write hold) over in
     record {
       quiet = quiet hold parts.no_read parts.no_write;
       owes_nothing = λ i to_write in_sync.
@@ -128,3 +113,28 @@ ends plan.Reconstruct (Some (task.Write index block)) size computed places block
           (first_empty (plans.is_next_write hold) 0 (length hold.cells) (none_first _ parts.sent_all) i (omega arith) (omega (arith, below)))
           (any_each is_write_out hold.cells parts.no_write i below);
     }
+
+-- a read or write that is over may end
+pub ends : (p : Plan) (t : Option Task) (size : ℕ) (computed : Bool) (places : List Place) (blocks : List (List ℕ)) → 4 ≤ length places → IsTask (length places) size t → plan_of p ≢ plans.Plan.Recover →
+    Each (IsInCourse p t (length places) computed) places →
+    let hold : Hold = record { size = size; kind = kind_of t; cells = cells_of places blocks; cut_short = false } in
+    plans.gives_up hold ≡ false → plans.is_over (record { hold = hold; plan = plan_of p }) ≡ true → MayEnd hold (plans.outcome_of hold hold.kind)
+ends p None size computed places blocks some fits follows course up over = absurd cc
+ends plan.Recover (Some (task.Read index)) size computed places blocks some fits follows course up over = absurd (follows refl)
+ends plan.Recover (Some (task.Write index block)) size computed places blocks some fits follows course up over = absurd (follows refl)
+ends plan.Reconstruct (Some (task.Read index)) size computed places blocks some fits follows course up over = absurd (course 0 (omega arith))
+ends plan.Modify (Some (task.Read index)) size computed places blocks some fits follows course up over = absurd (course 0 (omega arith))
+ends plan.Overwrite (Some (task.Read index)) size computed places blocks some fits follows course up over = absurd (course 0 (omega arith))
+ends plan.One (Some (task.Write index block)) size computed places blocks some fits follows course up over = absurd (course 0 (omega arith))
+ends plan.One (Some (task.Read index)) size computed places blocks some fits follows course up over =
+    let hold : Hold = record { size = size; kind = Read index; cells = cells_of places blocks; cut_short = false } in
+    let parts = over_parts (plans.has_read_out hold) (plans.has_write_out hold) (plans.is_enough plans.Plan.One hold) (plans.each_below (λ position. not (plans.lacks_new hold position)) (length hold.cells))
+    (plans.next_read plans.Plan.One hold) (plans.next_restore hold hold.kind) (plans.next_write hold) over in
+    let served : plans.is_served plans.Plan.One hold index ≡ true = each_at (plans.is_served plans.Plan.One hold) (length hold.cells) parts.knows index (omega (arith, fits, length-cells_of places blocks)) in
+    let known : is_known (cell_at hold.cells index).reading ≡ true = sym (ap (λ (b : Bool). not b || is_known (cell_at hold.cells index).reading) (eq-eqb index index refl)) ∙ served in
+    let at : (cell_at hold.cells index).reading ≡ reading_of (get_or places index no_place).read (get_or blocks index []) = ap (λ (cell : Cell). cell.reading) (cell_at-cells_of places blocks index no_place (omega arith)) in
+    let is = known_is (get_or places index no_place).read (get_or blocks index []) (ap is_known (sym at) ∙ known) (course index (omega arith)).1 in
+    record { quiet = quiet hold parts.no_read parts.no_write; owes_nothing = at ∙ is ∙ ap (λ (r : Reading). Reading.Known (plans.known_block r)) (sym at) }
+ends plan.Reconstruct (Some (task.Write index block)) size computed places blocks some fits follows course up over = write_ends plans.Plan.Reconstruct size index block (cells_of places blocks) over
+ends plan.Modify (Some (task.Write index block)) size computed places blocks some fits follows course up over = write_ends plans.Plan.Modify size index block (cells_of places blocks) over
+ends plan.Overwrite (Some (task.Write index block)) size computed places blocks some fits follows course up over = write_ends plans.Plan.Overwrite size index block (cells_of places blocks) over

@@ -8,7 +8,7 @@ use Rattle.r6_stripe.specs.Holds.Event.{Confirms, Gives}
 use Rattle.r6_stripe.specs.Plans as plans
 use Rattle.r6_stripe.specs.Plans.{is_out, is_sent}
 use Rattle.r6_stripe.specs.Places.{standing_of, reading_of, writing_of, cell_of, cells_of, answered}
-use Rattle.r6_stripe.specs.Sound.{IsSettled, IsInCourse, IsPut}
+use Rattle.r6_stripe.specs.Sound.{IsSettled, IsInCourse, IsPut, IsRenewed}
 use Rattle.r6_stripe.specs.Steps.{with_answer}
 use Rattle.r6_stripe.specs.Views.{kind_of, plan_of}
 use Rattle.r6_stripe.specs.declared.command.Task.{Task}
@@ -172,8 +172,13 @@ ask_course plan.One (Some (task.Write index block)) hold computed i old kind wan
 ask_course plan.One None hold computed i old kind wanted course = course
 ask_course plan.Reconstruct (Some (task.Read index)) hold computed i old kind wanted course = course
 ask_course plan.Reconstruct (Some (task.Write index block)) hold false i old kind wanted course = (course.0, λ e. cc, λ put. absurd (never_put hold index i block kind wanted put))
-ask_course plan.Reconstruct (Some (task.Write index block)) hold true i old kind wanted course = λ put. absurd (never_put hold index i block kind wanted put)
+ask_course plan.Reconstruct (Some (task.Write index block)) hold true i old kind wanted course = course
 ask_course plan.Reconstruct None hold computed i old kind wanted course = course
+ask_course plan.Modify (Some (task.Read index)) hold computed i old kind wanted course = course
+ask_course plan.Modify (Some (task.Write index block)) hold false i old kind wanted course = (course.0, λ e. cc)
+ask_course plan.Modify (Some (task.Write index block)) hold true i old kind wanted course = course
+ask_course plan.Modify None hold computed i old kind wanted course = course
+ask_course plan.Overwrite t hold computed i old kind wanted course = absurd cc
 ask_course plan.Recover (Some (task.Read index)) hold computed i old kind wanted course = course
 ask_course plan.Recover (Some (task.Write index block)) hold computed i old kind wanted course = course
 ask_course plan.Recover None hold computed i old kind wanted course = course
@@ -185,26 +190,52 @@ send_course plan.One (Some (task.Write index block)) count computed i old ready 
 send_course plan.One None count computed i old ready course = course
 send_course plan.Reconstruct (Some (task.Read index)) count computed i old ready course = course
 send_course plan.Reconstruct (Some (task.Write index block)) count false i old ready course = absurd (let e = sym ready ∙ course.0 in cc)
-send_course plan.Reconstruct (Some (task.Write index block)) count true i old ready course = λ put. (λ e. cc, (course put).1)
+send_course plan.Reconstruct (Some (task.Write index block)) count true i old ready course = λ put. inl (λ e. cc)
 send_course plan.Reconstruct None count computed i old ready course = course
+send_course plan.Modify (Some (task.Read index)) count computed i old ready course = course
+send_course plan.Modify (Some (task.Write index block)) count false i old ready course = absurd (let e = sym ready ∙ course.0 in cc)
+send_course plan.Modify (Some (task.Write index block)) count true i old ready course = λ put. inl (λ e. cc)
+send_course plan.Modify None count computed i old ready course = course
+send_course plan.Overwrite (Some (task.Read index)) count computed i old ready course = course
+send_course plan.Overwrite (Some (task.Write index block)) count false i old ready course = absurd (let e = sym ready ∙ course.0 in cc)
+send_course plan.Overwrite (Some (task.Write index block)) count true i old ready course = λ put. inl (λ e. cc)
+send_course plan.Overwrite None count computed i old ready course = course
 send_course plan.Recover (Some (task.Read index)) count computed i old ready course = course
 send_course plan.Recover (Some (task.Write index block)) count computed i old ready course = course
 send_course plan.Recover None count computed i old ready course = course
 
--- a change that keeps the write's having begun, and what is asked and replaced
-later_course : (p : Plan) (t : Option Task) (count : ℕ) (computed : Bool) (i : ℕ) (old new : Place) → (old.write ≡ write.Unwritten → new.write ≡ write.Unwritten) → (old.write ≢ write.Unwritten → new.write ≢ write.Unwritten) →
-    (old.read ≢ read.Asked → new.read ≢ read.Asked) → (old.read ≢ read.Replaced → new.read ≢ read.Replaced) →
-    IsInCourse p t count computed i old → IsInCourse p t count computed i new
-later_course plan.One (Some (task.Read index)) count computed i old new stays goes asked replaced course = (stays course.0, replaced course.1)
-later_course plan.One (Some (task.Write index block)) count computed i old new stays goes asked replaced course = course
-later_course plan.One None count computed i old new stays goes asked replaced course = course
-later_course plan.Reconstruct (Some (task.Read index)) count computed i old new stays goes asked replaced course = course
-later_course plan.Reconstruct (Some (task.Write index block)) count false i old new stays goes asked replaced course = (stays course.0, replaced course.1, λ put. asked (course.2 put))
-later_course plan.Reconstruct (Some (task.Write index block)) count true i old new stays goes asked replaced course = λ put. (goes (course put).0, asked (course put).1)
-later_course plan.Reconstruct None count computed i old new stays goes asked replaced course = course
-later_course plan.Recover (Some (task.Read index)) count computed i old new stays goes asked replaced course = course
-later_course plan.Recover (Some (task.Write index block)) count computed i old new stays goes asked replaced course = course
-later_course plan.Recover None count computed i old new stays goes asked replaced course = course
+-- a change that keeps the write's having begun, what is unread, asked and replaced, and what is out
+record IsLater (old new : Place) : Type 0 where
+  stays : old.write ≡ write.Unwritten → new.write ≡ write.Unwritten
+  goes : old.write ≢ write.Unwritten → new.write ≢ write.Unwritten
+  unread : old.read ≡ read.Unread → new.read ≡ read.Unread
+  asked : old.read ≢ read.Asked → new.read ≢ read.Asked
+  replaced : old.read ≢ read.Replaced → new.read ≢ read.Replaced
+  out : old.state ≡ state.Out → new.state ≡ state.Out
+
+renewed_later : (old new : Place) → IsLater old new → IsRenewed old → IsRenewed new
+renewed_later old new later (inl written) = inl (later.goes written)
+renewed_later old new later (inr lost) = inr (later.out lost)
+
+later_course : (p : Plan) (t : Option Task) (count : ℕ) (computed : Bool) (i : ℕ) (old new : Place) → IsLater old new → IsInCourse p t count computed i old → IsInCourse p t count computed i new
+later_course plan.One (Some (task.Read index)) count computed i old new later course = (later.stays course.0, later.replaced course.1)
+later_course plan.One (Some (task.Write index block)) count computed i old new later course = course
+later_course plan.One None count computed i old new later course = course
+later_course plan.Reconstruct (Some (task.Read index)) count computed i old new later course = course
+later_course plan.Reconstruct (Some (task.Write index block)) count false i old new later course = (later.stays course.0, later.replaced course.1, λ put. later.asked (course.2 put))
+later_course plan.Reconstruct (Some (task.Write index block)) count true i old new later course = λ put. renewed_later old new later (course put)
+later_course plan.Reconstruct None count computed i old new later course = course
+later_course plan.Modify (Some (task.Read index)) count computed i old new later course = course
+later_course plan.Modify (Some (task.Write index block)) count false i old new later course = (later.stays course.0, later.replaced course.1)
+later_course plan.Modify (Some (task.Write index block)) count true i old new later course = λ put. renewed_later old new later (course put)
+later_course plan.Modify None count computed i old new later course = course
+later_course plan.Overwrite (Some (task.Read index)) count computed i old new later course = course
+later_course plan.Overwrite (Some (task.Write index block)) count false i old new later course = (later.stays course.0, later.unread course.1, λ past. later.out (course.2 past))
+later_course plan.Overwrite (Some (task.Write index block)) count true i old new later course = λ put. renewed_later old new later (course put)
+later_course plan.Overwrite None count computed i old new later course = course
+later_course plan.Recover (Some (task.Read index)) count computed i old new later course = course
+later_course plan.Recover (Some (task.Write index block)) count computed i old new later course = course
+later_course plan.Recover None count computed i old new later course = course
 
 pub answer_course : (p : Plan) (t : Option Task) (count : ℕ) (computed : Bool) (i : ℕ) (old : Place) → IsSettled old → old.away ≡ true →
     IsInCourse p t count computed i old → IsInCourse p t count computed i (answered old.state old.read old.write)
@@ -212,20 +243,28 @@ answer_course p t count computed i old settled away = by_all old.state old.write
   where
     by_all : (s : State) (w : WriteState) → ((old.read ≡ read.Asked) × (w ≡ write.Unwritten)) ⊎ (w ≡ write.Sent) →
         IsInCourse p t count computed i (record { state = s; read = old.read; write = w; away = old.away }) → IsInCourse p t count computed i (answered s old.read w)
-    by_all state.Out w h = later_course p t count computed i (record { state = state.Out; read = old.read; write = w; away = old.away }) (answered state.Out old.read w) (λ e. e) (λ e. e) (λ e. e) (λ e. e)
-    by_all state.InSync write.Sent h = later_course p t count computed i (record { state = state.InSync; read = old.read; write = write.Sent; away = old.away }) (answered state.InSync old.read write.Sent) (λ e. absurd cc) (λ e f. cc) (λ e. e) (λ e. e)
-    by_all state.InSync write.Unwritten h = later_course p t count computed i (record { state = state.InSync; read = old.read; write = write.Unwritten; away = old.away }) (answered state.InSync old.read write.Unwritten) (λ e. e) (λ e. e) (λ e f. cc) (λ e f. cc)
+    by_all state.Out w h =
+        later_course p t count computed i (record { state = state.Out; read = old.read; write = w; away = old.away }) (answered state.Out old.read w)
+        (record { stays = λ e. e; goes = λ e. e; unread = λ e. e; asked = λ e. e; replaced = λ e. e; out = λ e. e })
+    by_all state.InSync write.Sent h =
+        later_course p t count computed i (record { state = state.InSync; read = old.read; write = write.Sent; away = old.away }) (answered state.InSync old.read write.Sent)
+        (record { stays = λ e. absurd cc; goes = λ e f. cc; unread = λ e. e; asked = λ e. e; replaced = λ e. e; out = λ e. e })
+    by_all state.InSync write.Unwritten (inl h) =
+        later_course p t count computed i (record { state = state.InSync; read = old.read; write = write.Unwritten; away = old.away }) (answered state.InSync old.read write.Unwritten)
+        (record { stays = λ e. e; goes = λ e. e; unread = λ e. absurd (let f = sym e ∙ h.0 in cc); asked = λ e f. cc; replaced = λ e f. cc; out = λ e. e })
+    by_all state.InSync write.Unwritten (inr h) = absurd cc
     by_all state.InSync write.Ready (inl h) = absurd (let e = h.1 in cc)
     by_all state.InSync write.Ready (inr h) = absurd cc
     by_all state.InSync write.Confirmed (inl h) = absurd (let e = h.1 in cc)
     by_all state.InSync write.Confirmed (inr h) = absurd cc
 
-pub lose_course : (p q : Plan) (t : Option Task) (count : ℕ) (computed : Bool) (i : ℕ) (old : Place) (s : State) → (q ≡ p) ⊎ (q ≡ plan.Recover) →
+pub lose_course : (p q : Plan) (t : Option Task) (count : ℕ) (computed : Bool) (i : ℕ) (old : Place) (s : State) → (old.state ≡ state.Out → s ≡ state.Out) → (q ≡ p) ⊎ (q ≡ plan.Recover) →
     IsInCourse p t count computed i old → IsInCourse q t count computed i (record { state = s; read = old.read; write = old.write; away = old.away })
-lose_course p q t count computed i old s (inl same) course =
+lose_course p q t count computed i old s out (inl same) course =
     subst (λ (r : Plan). IsInCourse r t count computed i (record { state = s; read = old.read; write = old.write; away = old.away })) (sym same)
-    (later_course p t count computed i old (record { state = s; read = old.read; write = old.write; away = old.away }) (λ e. e) (λ e. e) (λ e. e) (λ e. e) course)
-lose_course p q t count computed i old s (inr recover) course =
+    (later_course p t count computed i old (record { state = s; read = old.read; write = old.write; away = old.away })
+    (record { stays = λ e. e; goes = λ e. e; unread = λ e. e; asked = λ e. e; replaced = λ e. e; out = out }) course)
+lose_course p q t count computed i old s out (inr recover) course =
     subst (λ (r : Plan). IsInCourse r t count computed i (record { state = s; read = old.read; write = old.write; away = old.away })) (sym recover) (no_course t)
   where
     no_course : (u : Option Task) → IsInCourse plan.Recover u count computed i (record { state = s; read = old.read; write = old.write; away = old.away })

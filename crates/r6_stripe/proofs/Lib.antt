@@ -1,11 +1,13 @@
 pub mod Begins
 pub mod Blocks
 pub mod Bound
+pub mod Changes
 pub mod Computed
 pub mod Course
 pub mod Ends
 pub mod Events
 pub mod Finite
+pub mod FirstPlans
 pub mod GoesOn
 pub mod Kept
 pub mod Knows
@@ -16,6 +18,7 @@ pub mod Places
 pub mod Planned
 pub mod Prepared
 pub mod Refusals
+pub mod Renewals
 pub mod Searches
 pub mod Seen
 pub mod Sound

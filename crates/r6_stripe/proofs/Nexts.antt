@@ -79,6 +79,8 @@ restore_none p None size computed places blocks count fits plan course enough = 
 restore_none p (Some (task.Write index block)) size computed places blocks count fits plan course enough = refl
 restore_none plan.Recover (Some (task.Read index)) size computed places blocks count fits plan course enough = absurd (plan refl)
 restore_none plan.Reconstruct (Some (task.Read index)) size computed places blocks count fits plan course enough = absurd (course 0 (omega arith))
+restore_none plan.Modify (Some (task.Read index)) size computed places blocks count fits plan course enough = absurd (course 0 (omega arith))
+restore_none plan.Overwrite (Some (task.Read index)) size computed places blocks count fits plan course enough = absurd (course 0 (omega arith))
 restore_none plan.One (Some (task.Read index)) size computed places blocks count fits plan course enough =
     let hold : Hold = record { size = size; kind = Kind.Read index; cells = cells_of places blocks; cut_short = false } in
     let served : plans.is_served plans.Plan.One hold index ≡ true = each_at (plans.is_served plans.Plan.One hold) (length hold.cells) enough index (omega (arith, fits, length-cells_of places blocks)) in
@@ -93,6 +95,8 @@ restore_none plan.One (Some (task.Read index)) size computed places blocks count
 pub follows : (p : Plan) → plan_of p ≢ plans.Plan.Recover → is_recover (plan_of p) ≡ false
 follows plan.One h = refl
 follows plan.Reconstruct h = refl
+follows plan.Modify h = refl
+follows plan.Overwrite h = refl
 follows plan.Recover h = absurd (h refl)
 
 some_is : (o : Option ℕ) (position : ℕ) (make : ℕ → Next) → ((a b : ℕ) → make a ≡ make b → a ≡ b) → option_map make (Some position) ≡ option_map make o → o ≡ Some position
@@ -156,4 +160,6 @@ idle_gives_up (Some (task.Write index block)) size places blocks e = refl
 pub not_recover : (p : Plan) → (p ≡ plan.Recover → ⊥) → plan_of p ≢ plans.Plan.Recover
 not_recover plan.One h e = cc
 not_recover plan.Reconstruct h e = cc
+not_recover plan.Modify h e = cc
+not_recover plan.Overwrite h e = cc
 not_recover plan.Recover h e = h refl

@@ -149,3 +149,7 @@ any_each test (cell ∷ cells) h (suc k) below = any_each test cells (right (tes
 pub in_sync-blind : IsBlind (λ cell. is_in_sync cell.standing)
 unfolding IsBlind
 in_sync-blind place block = refl
+
+pub out-blind : IsBlind (λ cell. is_out cell.standing)
+unfolding IsBlind
+out-blind place block = refl

@@ -1,291 +1,494 @@
--- Computing the new blocks of a write of one block follows the plan.
-use Rattle.std.proofs.Common.{◌≡◌, ◌≢◌, ◌⊎◌, inl, inr, Bool, true, false, ℕ, ◌+◌, ◌-◌, ◌<◌, List, [], ◌∷◌, length, get_or, set, take, refl, sym, ◌∙◌, ap, subst, arith, Some, None}
-use Rattle.std.specs.Prelude.{◌&&◌, not, Option}
+-- Computing the new blocks of a write of one block, by each plan: they are those of the row after the hold, whichever row it was.
+use Rattle.std.proofs.Common.{◌≡◌, ◌≢◌, ◌⊎◌, inl, inr, Bool, true, false, ℕ, ◌+◌, ◌-◌, ◌<◌, ◌≤◌, List, [], ◌∷◌, length, get_or, set, take, refl, sym, ◌∙◌, ap, subst, arith, Some, None}
+use Rattle.std.specs.Prelude.{◌&&◌, ◌||◌, not, Option, All}
 use Rattle.std.proofs.lemmas.List.{get_or-set_same, get_or-set_other, length-set, length-take-le, get_or-take, ext_get_or, get_or_append_left}
-use Rattle.std.proofs.lemmas.Bool.{cases_eq, cases_lt}
-use Rattle.r6_kernels.specs.Blocks.{p_of, q_of}
+use Rattle.std.proofs.lemmas.List.Elements.{All-take}
+use Rattle.std.proofs.lemmas.Bool.{cases_eq, leb-true}
+use Rattle.r6_field.specs.Field.{power, generator}
+use Rattle.r6_kernels.specs.Blocks.{IsBlock, p_of, q_of, block_sum, scale}
+use Rattle.r6_kernels.proofs.BlockLaws.{length-block_sum, length-scale}
 use Rattle.r6_recover.specs.Rows.{row_of, data_of, block_at}
-use Rattle.r6_stripe.specs.Holds.{Standing, Cell, Hold, cell_at, no_cell, made_ready, with_new, IsBefore, Carries, IsIndexOf}
-use Rattle.r6_stripe.specs.Holds.Event.{Computes}
-use Rattle.r6_stripe.specs.Holds.Standing.{InSync, Target, Out}
-use Rattle.r6_stripe.specs.Holds.Writing.{Unwritten}
+use Rattle.r6_recover.proofs.RowLaws.{block_at-row_of-p, block_at-row_of-q}
+use Rattle.r6_stripe.specs.Holds.{Reading, Cell, Hold, cell_at, is_known, IsBefore, Carries}
+use Rattle.r6_stripe.specs.Holds.Kind.{Write}
+use Rattle.r6_stripe.specs.Holds.Reading.{Known}
 use Rattle.r6_stripe.specs.Plans as plans
-use Rattle.r6_stripe.specs.Places.{cell_of, cells_of, no_place, made_ready_place, with_ready, all_ready, is_writable}
-use Rattle.r6_stripe.specs.Sound.{Each, IsInCourse, IsPut, IsSettled}
+use Rattle.r6_stripe.specs.Places.{standing_of, reading_of, cell_of, cells_of, no_place, ready_at, renewed, modified}
+use Rattle.r6_stripe.specs.Sound.{Each, AreHome, IsInCourse, IsPut, IsSettled, IsSound, IsTask, IsWritePlan}
 use Rattle.r6_stripe.specs.Steps.{coming}
-use Rattle.r6_stripe.specs.Views.{plan_of, kind_of}
+use Rattle.r6_stripe.specs.Views.{plan_of, kind_of, hold_of}
 use Rattle.r6_stripe.specs.declared.command.Task.{Task}
 use Rattle.r6_stripe.specs.declared.command.Task.TheVariants as task
 use Rattle.r6_stripe.specs.declared.plan.Plan.{Plan}
 use Rattle.r6_stripe.specs.declared.plan.Plan.TheVariants as plan
 use Rattle.r6_stripe.specs.declared.place.Place.{Place}
-use Rattle.r6_stripe.proofs.Places.{length-cells_of, cell_at-cells_of, cell_past, cells_of-set_place}
-use Rattle.r6_stripe.proofs.Computed.{writing, ready_cell, and_false, put_or_read, puts_put, puts_unput, unwritten, known, home_at, ready_settled, ready_course, then_writes, owed_course}
+use Rattle.r6_stripe.specs.declared.place.State.TheVariants as state
+use Rattle.r6_stripe.specs.declared.place.ReadState.{ReadState}
+use Rattle.r6_stripe.specs.declared.place.ReadState.TheVariants as read
+use Rattle.r6_stripe.specs.declared.place.WriteState.TheVariants as write
+use Rattle.r6_stripe.specs.declared.state.HoldState.{HoldState}
+use Rattle.r6_stripe.proofs.Changes.{p_of-changed, q_of-changed}
+use Rattle.r6_stripe.proofs.Computed.{writing, wanted, modify_wants, put_or_read, Renews, prepares, then_writes, ready_settled, ready_course, owed_course}
+use Rattle.r6_stripe.proofs.Nexts.{read_parts}
+use Rattle.r6_stripe.proofs.Places.{length-cells_of, cell_at-cells_of, at_place, any_default, known-blind}
+use Rattle.r6_stripe.proofs.Planned.{is_done_with, enough_each}
+use Rattle.r6_stripe.proofs.Renewals.{IsAmong, is_among, length-ready_at, ready_beside, index_among, p_among, q_among, among_cases, modified_data, modified_p, modified_q, modified_beside}
+use Rattle.r6_stripe.proofs.Searches.{each_at}
+use Rattle.r6_stripe.proofs.States.{known_home, not_away}
 
--- a position without its new block that is owed one lacks it, or is out
-owed_or_out : (cell : Cell) (put : Bool) → cell.writing ≡ Unwritten → put ≡ true → ((is_writable cell && put) ≡ true) ⊎ (cell.standing ≡ Out)
-owed_or_out cell put unwritten owed = by_standing cell.standing refl
-  where
-    by_standing : (standing : Standing) → cell.standing ≡ standing → ((is_writable cell && put) ≡ true) ⊎ (cell.standing ≡ Out)
-    by_standing InSync e = inl (rw (e, unwritten, owed) refl)
-    by_standing Target e = inl (rw (e, unwritten, owed) refl)
-    by_standing Out e = inr e
+known_only : (r : ReadState) → is_known (reading_of r []) ≡ true → r ≢ read.Replaced → r ≡ read.Known
+known_only read.Unread e h = absurd cc
+known_only read.Asked e h = absurd cc
+known_only read.Known e h = refl
+known_only read.Replaced e h = absurd (h refl)
 
--- three positions are set in two lists that agree elsewhere
-three_set : (xs ys : List Cell) (a b d : ℕ) (x y z : Cell) → length xs ≡ length ys → a < length xs → b < length xs → d < length xs →
-    ((j : ℕ) → j < length xs → j ≢ a → j ≢ b → j ≢ d → cell_at xs j ≡ cell_at ys j) →
-    set (set (set xs a x) b y) d z ≡ set (set (set ys a x) b y) d z
-three_set xs ys a b d x y z same below_a below_b below_d elsewhere =
-    ext_get_or no_cell (set (set (set xs a x) b y) d z) (set (set (set ys a x) b y) d z) (wide xs ∙ same ∙ sym (wide ys)) (λ j below. at j (omega (arith, below, wide xs)))
-  where
-    wide : (l : List Cell) → length (set (set (set l a x) b y) d z) ≡ length l
-    wide l = length-set (set (set l a x) b y) d z ∙ length-set (set l a x) b y ∙ length-set l a x
+-- what holds before the new blocks are computed
+pub record AwaitsNew (p : Plan) (size index : ℕ) (block : List ℕ) (places : List Place) (blocks : List (List ℕ)) : Type 0 where
+  pub wide : length blocks ≡ length places
+  pub below : index + 2 < length places
+  pub sized : length block ≡ size
+  pub settled : Each (λ position place. IsSettled place) places
+  pub course : Each (IsInCourse p (Some (task.Write index block)) (length places) false) places
+  pub goes_on : plan_of p ≢ plans.Plan.Recover
+  pub read_done : plans.has_read_out (writing size index block (cells_of places blocks)) ≡ false
+  pub enough : plans.is_enough (plan_of p) (writing size index block (cells_of places blocks)) ≡ true
+  pub no_read : plans.next_read (plan_of p) (writing size index block (cells_of places blocks)) ≡ None
+  pub owed : plans.each_below (λ position. not (plans.lacks_new (writing size index block (cells_of places blocks)) position)) (length (cells_of places blocks)) ≡ false
 
-    two : (l : List Cell) → length (set (set l a x) b y) ≡ length l
-    two l = length-set (set l a x) b y ∙ length-set l a x
+-- A write that doesn't reconstruct: which parities are known, and the block that is written with them; all that are in sync are.
+pub record IsModified (p : Plan) (index : ℕ) (places : List Place) (p_known q_known : Bool) : Type 0 where
+  pub writes : IsWritePlan p
+  pub unwritten : (j : ℕ) → j < length places → (get_or places j no_place).write ≡ write.Unwritten
+  pub own_home : (get_or places index no_place).away ≡ false
+  pub own : (p_known ≡ true) ⊎ (q_known ≡ true) → (get_or places index no_place).read ≡ read.Known
+  pub p_read : p_known ≡ true → (get_or places (length places - 2) no_place).read ≡ read.Known
+  pub q_read : q_known ≡ true → (get_or places (length places - 2 + 1) no_place).read ≡ read.Known
+  pub p_in_sync : (get_or places (length places - 2) no_place).state ≡ state.InSync → p_known ≡ true
+  pub q_in_sync : (get_or places (length places - 2 + 1) no_place).state ≡ state.InSync → q_known ≡ true
 
-    at : (j : ℕ) → j < length xs → cell_at (set (set (set xs a x) b y) d z) j ≡ cell_at (set (set (set ys a x) b y) d z) j
-    at j below =
-        elim (cases_eq j d) [
-          | inl e ↦ subst (λ (k : ℕ). cell_at (set (set (set xs a x) b y) d z) k ≡ cell_at (set (set (set ys a x) b y) d z) k) (sym e)
-              (get_or-set_same (set (set xs a x) b y) d z no_cell (omega (arith, two xs, below_d)) ∙ sym (get_or-set_same (set (set ys a x) b y) d z no_cell (omega (arith, two ys, below_d, same))))
-          | inr nd ↦
-              get_or-set_other (set (set xs a x) b y) d j z no_cell nd
-              ∙ elim (cases_eq j b) [
-                | inl e ↦ subst (λ (k : ℕ). cell_at (set (set xs a x) b y) k ≡ cell_at (set (set ys a x) b y) k) (sym e)
-                    (get_or-set_same (set xs a x) b y no_cell (omega (arith, length-set xs a x, below_b)) ∙ sym (get_or-set_same (set ys a x) b y no_cell (omega (arith, length-set ys a x, below_b, same))))
-                | inr nb ↦
-                    get_or-set_other (set xs a x) b j y no_cell nb
-                    ∙ elim (cases_eq j a) [
-                      | inl e ↦ subst (λ (k : ℕ). cell_at (set xs a x) k ≡ cell_at (set ys a x) k) (sym e)
-                          (get_or-set_same xs a x no_cell below_a ∙ sym (get_or-set_same ys a x no_cell (omega (arith, below_a, same))))
-                      | inr na ↦ get_or-set_other xs a j x no_cell na ∙ elsewhere j below na nb nd ∙ sym (get_or-set_other ys a j x no_cell na)
-                    ]
-                    ∙ sym (get_or-set_other (set ys a x) b j y no_cell nb)
-              ]
-              ∙ sym (get_or-set_other (set (set ys a x) b y) d j z no_cell nd)
-        ]
+-- of a row that may have stood there before
+module _ (size index : ℕ) (block : List ℕ) (places : List Place) (blocks : List (List ℕ)) (wide : length blocks ≡ length places) (below : index + 2 < length places) (sized : length block ≡ size)
+    (row : List (List ℕ)) (before : IsBefore (writing size index block (cells_of places blocks)) row) where
+  row_count : length row ≡ length places
+  row_count = before.wide ∙ length-cells_of places blocks
 
-module _ (size index : ℕ) (block : List ℕ) (places : List Place) (blocks new : List (List ℕ))
-    (wide : length blocks ≡ length places) (below : index + 2 < length places)
-    (course : Each (IsInCourse plan.Reconstruct (Some (task.Write index block)) (length places) false) places)
-    (settled : Each (λ position place. IsSettled place) places)
-    (read_done : plans.has_read_out (writing size index block (cells_of places blocks)) ≡ false)
-    (enough : plans.is_enough plans.Plan.Reconstruct (writing size index block (cells_of places blocks)) ≡ true)
-    (no_read : plans.next_read plans.Plan.Reconstruct (writing size index block (cells_of places blocks)) ≡ None)
-    (owed : plans.each_below (λ position. not (plans.lacks_new (writing size index block (cells_of places blocks)) position)) (length (cells_of places blocks)) ≡ false)
-    (is : new ≡ row_of size (take (length blocks - 2) (set blocks index block))) where
+  data_width : length (data_of row) ≡ length places - 2
+  data_width = length-take-le (length row - 2) row (omega arith) ∙ omega (arith, row_count)
+
+  set_width : length (set (data_of row) index block) ≡ length places - 2
+  set_width = length-set (data_of row) index block ∙ data_width
+
+  data_sized : All (IsBlock size) (data_of row)
+  data_sized = All-take (IsBlock size) (length row - 2) row before.sized
+
+  -- the known block of a position is that of the row
+  was : (j : ℕ) → j < length places → (get_or places j no_place).read ≡ read.Known → block_at row j ≡ get_or blocks j []
+  was j inside known =
+      before.same j (get_or blocks j [])
+      (ap (λ (cell : Cell). cell.reading) (cell_at-cells_of places blocks j no_place inside) ∙ ap (λ (r : ReadState). reading_of r (get_or blocks j [])) known)
+
+  is_row : row_of size (data_of row) ≡ row
+  is_row = (before.full (λ e. cc)).parities
+
+  old_data : (get_or places index no_place).read ≡ read.Known → get_or (data_of row) index [] ≡ get_or blocks index []
+  old_data known = get_or-take (length row - 2) row index [] (omega (arith, below, row_count)) ∙ was index (omega (arith, below)) known
+
+  pub after_data : block_at (row_of size (set (data_of row) index block)) index ≡ block
+  after_data =
+      get_or_append_left (set (data_of row) index block) (p_of size (set (data_of row) index block) ∷ q_of size (set (data_of row) index block) ∷ []) [] index (omega (arith, below, set_width))
+      ∙ get_or-set_same (data_of row) index block [] (omega (arith, below, data_width))
+
+  pub after_p : (get_or places index no_place).read ≡ read.Known → (get_or places (length places - 2) no_place).read ≡ read.Known →
+      block_at (row_of size (set (data_of row) index block)) (length places - 2) ≡ block_sum (get_or blocks (length places - 2) []) (block_sum (get_or blocks index []) block)
+  after_p known p_known =
+      let old_p : p_of size (data_of row) ≡ get_or blocks (length places - 2) [] =
+      sym (block_at-row_of-p (length places - 2) size (data_of row) data_width) ∙ ap (λ (r : List (List ℕ)). block_at r (length places - 2)) is_row ∙ was (length places - 2) (omega (arith, below)) p_known in
+      block_at-row_of-p (length places - 2) size (set (data_of row) index block) set_width
+      ∙ p_of-changed size index (data_of row) block data_sized sized (omega (arith, below, data_width))
+      ∙ (λ i. block_sum (old_p i) (block_sum (old_data known i) block))
+
+  pub after_q : (get_or places index no_place).read ≡ read.Known → (get_or places (length places - 2 + 1) no_place).read ≡ read.Known →
+      block_at (row_of size (set (data_of row) index block)) (length places - 2 + 1) ≡ block_sum (get_or blocks (length places - 2 + 1) []) (scale (power generator index) (block_sum (get_or blocks index []) block))
+  after_q known q_known =
+      let old_q : q_of size (data_of row) ≡ get_or blocks (length places - 2 + 1) [] =
+      sym (block_at-row_of-q (length places - 2) size (data_of row) data_width) ∙ ap (λ (r : List (List ℕ)). block_at r (length places - 2 + 1)) is_row ∙ was (length places - 2 + 1) (omega (arith, below)) q_known in
+      block_at-row_of-q (length places - 2) size (set (data_of row) index block) set_width
+      ∙ q_of-changed size index (data_of row) block data_sized sized (omega (arith, below, data_width))
+      ∙ (λ i. block_sum (old_q i) (scale (power generator index) (block_sum (old_data known i) block)))
+
+-- the parities stand last
+two_last : (count j : ℕ) → 2 ≤ count → j < count → count ≤ j + 2 → (j ≡ count - 2) ⊎ (j ≡ count - 2 + 1)
+two_last count j two inside past = elim (cases_eq j (count - 2)) [ inl same ↦ inl same | inr other ↦ inr (omega (arith, inside, past, other)) ]
+
+module _ (p : Plan) (size index : ℕ) (block : List ℕ) (places : List Place) (blocks : List (List ℕ)) (awaits : AwaitsNew p size index block places blocks) where
   abbrev hold : Hold
   hold = writing size index block (cells_of places blocks)
 
-  abbrev ready : Hold
-  ready = writing size index block (cells_of (all_ready places index) new)
+  abbrev place_at : ℕ → Place
+  place_at j = get_or places j no_place
 
-  at_cell : (j : ℕ) → j < length places → cell_at (cells_of places blocks) j ≡ cell_of (get_or places j no_place) (get_or blocks j [])
-  at_cell j h = cell_at-cells_of places blocks j no_place h
+  abbrev m : ℕ
+  m = length places - 2
 
-  data_count : length (take (length blocks - 2) (set blocks index block)) ≡ length places - 2
-  data_count = length-take-le (length blocks - 2) (set blocks index block) (omega (arith, length-set blocks index block)) ∙ omega (arith, wide)
+  served : (j : ℕ) → j < length places → is_done_with (plan_of p) hold j ≡ true
+  served j inside =
+      each_at (is_done_with (plan_of p) hold) (length hold.cells) (sym (enough_each p hold awaits.goes_on) ∙ awaits.enough) j (omega (arith, inside, length-cells_of places blocks))
 
-  -- the data after the write, of any row that agrees with what was read
-  same_data : (row : List (List ℕ)) → IsBefore hold row → take (length blocks - 2) (set blocks index block) ≡ set (data_of row) index block
-  same_data row before =
-      let count : length row ≡ length places = before.wide ∙ length-cells_of places blocks in
-      let width : length (data_of row) ≡ length places - 2 = length-take-le (length row - 2) row (omega arith) ∙ omega (arith, count) in
-      ext_get_or [] (take (length blocks - 2) (set blocks index block)) (set (data_of row) index block)
-      (data_count ∙ sym (length-set (data_of row) index block ∙ width))
-      (λ j h.
-      let inside : j < length places - 2 = omega (arith, h, data_count) in
-      get_or-take (length blocks - 2) (set blocks index block) j [] (omega (arith, inside, wide))
-      ∙ elim (cases_eq j index) [
-        | inl e ↦ subst (λ (k : ℕ). get_or (set blocks index block) k [] ≡ get_or (set (data_of row) index block) k []) (sym e)
-            (get_or-set_same blocks index block [] (omega (arith, below, wide)) ∙ sym (get_or-set_same (data_of row) index block [] (omega (arith, below, width))))
-        | inr other ↦
-            get_or-set_other blocks index j block [] other
-            ∙ sym (before.same j (get_or blocks j []) (known size index block places blocks new wide below course settled read_done enough j other (omega (arith, inside))))
-            ∙ sym (get_or-take (length row - 2) row j [] (omega (arith, inside, count)))
-            ∙ sym (get_or-set_other (data_of row) index j block [] other)
-      ])
+  known_at : (j : ℕ) → j < length places → is_known (cell_at hold.cells j).reading ≡ is_known (reading_of (place_at j).read [])
+  known_at j inside = at_place (λ cell. is_known cell.reading) known-blind places blocks j (place_at j) inside (any_default places j no_place (place_at j) inside)
 
-  carries : (j : ℕ) → Carries hold j (get_or new j [])
-  carries j row before = ap (λ (r : List (List ℕ)). block_at r j) (ap (row_of size) (sym (same_data row before)) ∙ sym is)
+  out_at : (j : ℕ) → j < length places → plans.is_out (cell_at hold.cells j).standing ≡ plans.is_out (standing_of (place_at j).state)
+  out_at j inside = ap (λ (cell : Cell). plans.is_out cell.standing) (cell_at-cells_of places blocks j no_place inside)
 
-  -- the data that are not written stay where they are
-  stays : (j : ℕ) → j < length places → j ≢ index → j ≢ length places - 2 → j ≢ length places - 2 + 1 → get_or new j [] ≡ get_or blocks j []
-  stays j h other not_p not_q =
-      let inside : j < length places - 2 = omega arith in
-      let d : List (List ℕ) = take (length blocks - 2) (set blocks index block) in
-      ap (λ (r : List (List ℕ)). get_or r j []) is
-      ∙ get_or_append_left d (p_of size d ∷ q_of size d ∷ []) [] j (omega (arith, inside, data_count))
-      ∙ get_or-take (length blocks - 2) (set blocks index block) j [] (omega (arith, inside, wide))
-      ∙ get_or-set_other blocks index j block [] other
+  -- ---- to reconstruct
 
-  abbrev entries : List (ℕ × List ℕ)
-  entries =
-      (length places - 2 + 1, get_or new (length places - 2 + 1) []) ∷ (length places - 2, get_or new (length places - 2) []) ∷ (index, get_or new index []) ∷ []
+  module _ (is : p ≡ plan.Reconstruct) where
+    course : Each (IsInCourse plan.Reconstruct (Some (task.Write index block)) (length places) false) places
+    course = subst (λ (q : Plan). Each (IsInCourse q (Some (task.Write index block)) (length places) false) places) is awaits.course
 
-  made : (j : ℕ) (place : Place) → j < length places → place ≡ get_or places j no_place → cell_of (made_ready_place place) (get_or new j []) ≡ made_ready (cell_at (cells_of places blocks) j) (get_or new j [])
-  made j place h e = ready_cell place (get_or new j []) (get_or blocks j []) ∙ ap (λ (cell : Cell). made_ready cell (get_or new j [])) (ap (λ (p : Place). cell_of p (get_or blocks j [])) e ∙ sym (at_cell j h))
+    read_known : (j : ℕ) → j ≢ index → j + 2 < length places → (place_at j).read ≡ read.Known
+    read_known j other inside =
+        let h : j < length places = omega arith in
+        let done = subst (λ (q : Plan). is_done_with (plan_of q) hold j ≡ true) is (served j h) in
+        let w = wanted size index block hold.cells j other (omega (arith, inside, length-cells_of places blocks)) in
+        known_only (place_at j).read (sym (known_at j h) ∙ by_parts (is_known (cell_at hold.cells j).reading) (plans.wants plans.Plan.Reconstruct hold j) w done) (course j h).1
+      where
+        by_parts : (known wants : Bool) → wants ≡ true → ((not wants || known) || false) ≡ true → known ≡ true
+        by_parts true wants w e = refl
+        by_parts false true w e = absurd cc
+        by_parts false false w e = absurd cc
 
-  new_cells : cells_of (all_ready places index) new ≡ with_new (cells_of places blocks) entries
-  new_cells =
-      let one = with_ready places index in
-      let two = with_ready one (length places - 2) in
-      let p : ℕ = length places - 2 in
-      let q : ℕ = length places - 2 + 1 in
-      let first : Place = get_or places index no_place in
-      let second : Place = get_or one p no_place in
-      let third : Place = get_or two q no_place in
-      let second_is : second ≡ get_or places p no_place = get_or-set_other places index p (made_ready_place first) no_place (omega arith) in
-      let third_is : third ≡ get_or places q no_place = get_or-set_other one p q (made_ready_place second) no_place (omega arith) ∙ get_or-set_other places index q (made_ready_place first) no_place (omega arith) in
-      let x = made index first (omega arith) refl in
-      let y = made p second (omega arith) second_is in
-      let z = made q third (omega arith) third_is in
-      cells_of-set_place two new q (made_ready_place third)
-      ∙ ap (λ (cells : List Cell). set cells q (cell_of (made_ready_place third) (get_or new q [])))
-      (cells_of-set_place one new p (made_ready_place second)
-      ∙ ap (λ (cells : List Cell). set cells p (cell_of (made_ready_place second) (get_or new p []))) (cells_of-set_place places new index (made_ready_place first)))
-      ∙ (λ i. set (set (set (cells_of places new) index (x i)) p (y i)) q (z i))
-      ∙ three_set (cells_of places new) (cells_of places blocks) index p q _ _ _
-      (length-cells_of places new ∙ sym (length-cells_of places blocks)) (omega (arith, below, length-cells_of places new)) (omega (arith, below, length-cells_of places new)) (omega (arith, below, length-cells_of places new))
-      (λ j h other not_p not_q.
-      let inside : j < length places = omega (arith, h, length-cells_of places new) in
-      cell_at-cells_of places new j no_place inside
-      ∙ ap (cell_of (get_or places j no_place)) (stays j inside other not_p not_q)
-      ∙ sym (at_cell j inside))
+    -- every buffer is at home
+    pub all_home : (j : ℕ) → j < length places → (place_at j).away ≡ false
+    all_home j h =
+        not_away (place_at j) (awaits.settled j h)
+        (λ e. elim (put_or_read (length places) index j) [
+          | inl put ↦ (course j h).2 put e.0
+          | inr unput ↦ (let f = sym (read_known j unput.0 unput.1) ∙ e.0 in cc)
+        ])
+        (λ e. let f = sym (course j h).0 ∙ e in cc)
 
-  unwritten_at : (j : ℕ) → j < length places → (cell_at (cells_of places blocks) j).writing ≡ Unwritten
-  unwritten_at j h = unwritten size index block places blocks new wide below course settled read_done enough j h
+  module _ (is : p ≡ plan.Reconstruct) (new : List (List ℕ)) (rows : new ≡ row_of size (take (length blocks - 2) (set blocks index block))) where
+    data_count : length (take (length blocks - 2) (set blocks index block)) ≡ m
+    data_count = length-take-le (length blocks - 2) (set blocks index block) (omega (arith, length-set blocks index block)) ∙ omega (arith, awaits.wide)
 
-  comes : plans.next (record { hold = hold; plan = plans.Plan.Reconstruct }) ≡ Some plans.Next.ComputeNew
-  comes = rw (no_read, read_done, enough, owed) refl
+    -- the data after the write, of any row that agrees with what was read
+    same_data : (row : List (List ℕ)) → IsBefore hold row → take (length blocks - 2) (set blocks index block) ≡ set (data_of row) index block
+    same_data row before =
+        let count : length row ≡ length places = before.wide ∙ length-cells_of places blocks in
+        let width : length (data_of row) ≡ m = length-take-le (length row - 2) row (omega arith) ∙ omega (arith, count) in
+        ext_get_or [] (take (length blocks - 2) (set blocks index block)) (set (data_of row) index block)
+        (data_count ∙ sym (length-set (data_of row) index block ∙ width))
+        (λ j h.
+        let inside : j < length places - 2 = omega (arith, h, data_count) in
+        get_or-take (length blocks - 2) (set blocks index block) j [] (omega (arith, inside, awaits.wide))
+        ∙ elim (cases_eq j index) [
+          | inl e ↦ subst (λ (k : ℕ). get_or (set blocks index block) k [] ≡ get_or (set (data_of row) index block) k []) (sym e)
+              (get_or-set_same blocks index block [] (omega (arith, awaits.below, awaits.wide)) ∙ sym (get_or-set_same (data_of row) index block [] (omega (arith, awaits.below, width))))
+          | inr other ↦
+              get_or-set_other blocks index j block [] other
+              ∙ sym (was size index block places blocks awaits.wide awaits.below awaits.sized row before j (omega (arith, inside)) (read_known is j other (omega (arith, inside))))
+              ∙ sym (get_or-take (length row - 2) row j [] (omega (arith, inside, count)))
+              ∙ sym (get_or-set_other (data_of row) index j block [] other)
+        ])
 
-  -- what lacks its new block gets it
-  complete : (j : ℕ) → plans.lacks_new hold j ≡ true → IsIndexOf j entries
-  complete j lacks =
-      elim (cases_lt j (length places)) [
-        | inl inside ↦ elim (put_or_read (length places) index j) [
-          | inl put ↦ at_put put
-          | inr unput ↦ absurd (let f = sym lacks ∙ ap (λ (b : Bool). is_writable (cell_at hold.cells j) && b) (puts_unput size index block hold.cells j unput.0 (omega (arith, unput.1, length-cells_of places blocks))) ∙ and_false (is_writable (cell_at hold.cells j)) in cc)
+    -- the data that are not written stay where they are
+    stays : (j : ℕ) → j + 2 < length places → j ≢ index → get_or new j [] ≡ get_or blocks j []
+    stays j inside other =
+        let d : List (List ℕ) = take (length blocks - 2) (set blocks index block) in
+        ap (λ (r : List (List ℕ)). get_or r j []) rows
+        ∙ get_or_append_left d (p_of size d ∷ q_of size d ∷ []) [] j (omega (arith, inside, data_count))
+        ∙ get_or-take (length blocks - 2) (set blocks index block) j [] (omega (arith, inside, awaits.wide))
+        ∙ get_or-set_other blocks index j block [] other
+
+    all_put : (j : ℕ) → j < length places → IsPut (length places) index j → IsAmong j (renewed (length places) index true true)
+    all_put j inside (inl same) = inr (inr (inl (sym same)))
+    all_put j inside (inr past) = elim (two_last (length places) j (omega (arith, awaits.below)) inside past) [ inl e ↦ inr (inl (sym e)) | inr e ↦ inl (sym e) ]
+
+    only_put : (j : ℕ) → IsAmong j (renewed (length places) index true true) → (j < length places) × IsPut (length places) index j
+    only_put j (inl e) = (omega (arith, e, awaits.below), inr (omega (arith, e)))
+    only_put j (inr (inl e)) = (omega (arith, e, awaits.below), inr (omega (arith, e)))
+    only_put j (inr (inr (inl e))) = (omega (arith, e, awaits.below), inl (sym e))
+    only_put j (inr (inr (inr none))) = absurd none
+
+    pub reconstructs : Renews p size index block places blocks new (renewed (length places) index true true)
+    reconstructs = record {
+      below = awaits.below;
+      writes = subst IsWritePlan (sym is) tt;
+      goes_on = awaits.goes_on;
+      unwritten = λ j h. (course is j h).0;
+      settled = awaits.settled;
+      read_done = awaits.read_done;
+      enough = awaits.enough;
+      no_read = awaits.no_read;
+      owed = awaits.owed;
+      own = index_among (length places) index true true;
+      put = only_put;
+      complete = λ j inside put in_sync. all_put j inside put;
+      home = λ j among. all_home is j (only_put j among).0;
+      kept = λ j inside none. elim (put_or_read (length places) index j) [ inl put ↦ absurd (none (all_put j inside put)) | inr unput ↦ stays j unput.1 unput.0 ];
+      carries = λ j among row before. ap (λ (r : List (List ℕ)). block_at r j) (ap (row_of size) (sym (same_data row before)) ∙ sym rows);
+    }
+
+  -- ---- to modify, or to overwrite
+
+  module _ (p_known q_known : Bool) (p_is : p_known ≡ is_known (reading_of (place_at m).read [])) (q_is : q_known ≡ is_known (reading_of (place_at (m + 1)).read [])) where
+    not_parity : (j : ℕ) → j + 2 < length places → plans.is_parity hold j ≡ false
+    not_parity j inside = by_test (plans.is_parity hold j) refl
+      where
+        by_test : (b : Bool) → plans.is_parity hold j ≡ b → b ≡ false
+        by_test true e = absurd (omega (arith, leb-true (length hold.cells - 2) j e, inside, length-cells_of places blocks))
+        by_test false e = refl
+
+    by_parts : (wants known drops : Bool) → wants ≡ true → drops ≡ false → ((not wants || known) || drops) ≡ true → known ≡ true
+    by_parts true true drops w d e = refl
+    by_parts true false true w d e = absurd cc
+    by_parts true false false w d e = absurd cc
+    by_parts false known drops w d e = absurd cc
+
+    and_out : (b : Bool) → (b && false) ≡ false
+    and_out true = refl
+    and_out false = refl
+
+    to_modify : p ≡ plan.Modify → IsModified p index places p_known q_known
+    to_modify is =
+        let course = subst (λ (q : Plan). Each (IsInCourse q (Some (task.Write index block)) (length places) false) places) is awaits.course in
+        let wanted_at : (j : ℕ) → IsPut (length places) index j → plans.wants plans.Plan.Modify hold j ≡ true = λ j put.
+        modify_wants size index block hold.cells j (subst (λ (n : ℕ). IsPut n index j) (sym (length-cells_of places blocks)) put) in
+        let done : (j : ℕ) → j < length places → is_done_with plans.Plan.Modify hold j ≡ true = λ j h. subst (λ (q : Plan). is_done_with (plan_of q) hold j ≡ true) is (served j h) in
+        let read_at : (j : ℕ) → j < length places → is_known (reading_of (place_at j).read []) ≡ true → (place_at j).read ≡ read.Known = λ j h e. known_only (place_at j).read e (course j h).1 in
+        let in_sync_known : (j : ℕ) → j < length places → IsPut (length places) index j → (place_at j).state ≡ state.InSync → is_known (reading_of (place_at j).read []) ≡ true = λ j h put in_sync.
+        sym (known_at j h)
+        ∙ by_parts (plans.wants plans.Plan.Modify hold j) (is_known (cell_at hold.cells j).reading) (plans.is_parity hold j && plans.is_out (cell_at hold.cells j).standing) (wanted_at j put)
+        (ap (λ (b : Bool). plans.is_parity hold j && b) (out_at j h ∙ ap (λ s. plans.is_out (standing_of s)) in_sync) ∙ and_out (plans.is_parity hold j)) (done j h) in
+        let own : (place_at index).read ≡ read.Known =
+        read_at index (omega (arith, awaits.below))
+        (sym (known_at index (omega (arith, awaits.below)))
+        ∙ by_parts (plans.wants plans.Plan.Modify hold index) (is_known (cell_at hold.cells index).reading) (plans.is_parity hold index && plans.is_out (cell_at hold.cells index).standing) (wanted_at index (inl refl))
+        (ap (λ (b : Bool). b && plans.is_out (cell_at hold.cells index).standing) (not_parity index awaits.below)) (done index (omega (arith, awaits.below)))) in
+        record {
+          writes = subst IsWritePlan (sym is) tt;
+          unwritten = λ j h. (course j h).0;
+          own_home = known_home (place_at index) (awaits.settled index (omega (arith, awaits.below))) own;
+          own = λ e. own;
+          p_read = λ e. read_at m (omega (arith, awaits.below)) (sym p_is ∙ e);
+          q_read = λ e. read_at (m + 1) (omega (arith, awaits.below)) (sym q_is ∙ e);
+          p_in_sync = λ e. p_is ∙ in_sync_known m (omega (arith, awaits.below)) (inr (omega arith)) e;
+          q_in_sync = λ e. q_is ∙ in_sync_known (m + 1) (omega (arith, awaits.below)) (inr (omega arith)) e;
+        }
+
+    to_overwrite : p ≡ plan.Overwrite → IsModified p index places p_known q_known
+    to_overwrite is =
+        let course = subst (λ (q : Plan). Each (IsInCourse q (Some (task.Write index block)) (length places) false) places) is awaits.course in
+        let inside : index < length places = omega (arith, awaits.below) in
+        let p_inside : m < length places = omega (arith, awaits.below) in
+        let q_inside : m + 1 < length places = omega (arith, awaits.below) in
+        let p_unknown : p_known ≡ false = p_is ∙ ap (λ (r : ReadState). is_known (reading_of r [])) (course m p_inside).1 in
+        let q_unknown : q_known ≡ false = q_is ∙ ap (λ (r : ReadState). is_known (reading_of r [])) (course (m + 1) q_inside).1 in
+        record {
+          writes = subst IsWritePlan (sym is) tt;
+          unwritten = λ j h. (course j h).0;
+          own_home = not_away (place_at index) (awaits.settled index inside) (λ e. let f = sym (course index inside).1 ∙ e.0 in cc) (λ e. let f = sym (course index inside).0 ∙ e in cc);
+          own = λ e. absurd (elim e [ inl on ↦ (let f = sym p_unknown ∙ on in cc) | inr on ↦ (let f = sym q_unknown ∙ on in cc) ]);
+          p_read = λ on. absurd (let f = sym p_unknown ∙ on in cc);
+          q_read = λ on. absurd (let f = sym q_unknown ∙ on in cc);
+          p_in_sync = λ e. absurd (let f = sym e ∙ (course m p_inside).2 (omega arith) in cc);
+          q_in_sync = λ e. absurd (let f = sym e ∙ (course (m + 1) q_inside).2 (omega arith) in cc);
+        }
+
+    pub otherwise_modifies : (p ≡ plan.Reconstruct → ⊥) → IsModified p index places p_known q_known
+    otherwise_modifies other = by_plan p refl
+      where
+        by_plan : (q : Plan) → p ≡ q → IsModified p index places p_known q_known
+        by_plan plan.One e = absurd (subst (λ (q : Plan). Each (IsInCourse q (Some (task.Write index block)) (length places) false) places) e awaits.course 0 (omega (arith, awaits.below)))
+        by_plan plan.Reconstruct e = absurd (other e)
+        by_plan plan.Modify e = to_modify e
+        by_plan plan.Overwrite e = to_overwrite e
+        by_plan plan.Recover e = absurd (awaits.goes_on (ap plan_of e))
+
+  module _ (p_known q_known : Bool) (modifies : IsModified p index places p_known q_known) where
+    pub p_home : p_known ≡ true → (place_at m).away ≡ false
+    p_home on = known_home (place_at m) (awaits.settled m (omega (arith, awaits.below))) (modifies.p_read on)
+
+    pub q_home : q_known ≡ true → (place_at (m + 1)).away ≡ false
+    q_home on = known_home (place_at (m + 1)) (awaits.settled (m + 1) (omega (arith, awaits.below))) (modifies.q_read on)
+
+  module _ (p_known q_known : Bool) (modifies : IsModified p index places p_known q_known) (new : List (List ℕ)) (blocks_are : new ≡ modified blocks index block p_known q_known) where
+    below_blocks : index + 2 < length blocks
+    below_blocks = omega (arith, awaits.below, awaits.wide)
+
+    abbrev change : List ℕ
+    change = block_sum (get_or blocks index []) block
+
+    new_data : get_or new index [] ≡ block
+    new_data = ap (λ (r : List (List ℕ)). get_or r index []) blocks_are ∙ modified_data blocks index block p_known q_known below_blocks
+
+    new_p : p_known ≡ true → get_or new m [] ≡ block_sum (get_or blocks m []) change
+    new_p on =
+        ap (λ (r : List (List ℕ)). get_or r m []) blocks_are
+        ∙ subst (λ (n : ℕ). get_or (modified blocks index block p_known q_known) (n - 2) [] ≡ block_sum (get_or blocks (n - 2) []) change) awaits.wide (modified_p blocks index block p_known q_known below_blocks on)
+
+    new_q : q_known ≡ true → get_or new (m + 1) [] ≡ block_sum (get_or blocks (m + 1) []) (scale (power generator index) change)
+    new_q on =
+        ap (λ (r : List (List ℕ)). get_or r (m + 1) []) blocks_are
+        ∙ subst (λ (n : ℕ). get_or (modified blocks index block p_known q_known) (n - 2 + 1) [] ≡ block_sum (get_or blocks (n - 2 + 1) []) (scale (power generator index) change)) awaits.wide (modified_q blocks index block p_known q_known below_blocks on)
+
+    put_at : (j : ℕ) → IsAmong j (renewed (length places) index p_known q_known) → (j < length places) × IsPut (length places) index j
+    put_at j among =
+        elim (among_cases (length places) index j p_known q_known among) [
+          | inl e ↦ (omega (arith, e, awaits.below), inl (sym e))
+          | inr parity ↦ elim parity [ inl e ↦ (omega (arith, e.1, awaits.below), inr (omega (arith, e.1))) | inr e ↦ (omega (arith, e.1, awaits.below), inr (omega (arith, e.1))) ]
         ]
-        | inr past ↦ absurd (let f = sym lacks ∙ ap (λ (cell : Cell). is_writable cell && plans.puts hold hold.kind j) (cell_past places blocks j past) in cc)
-      ]
-    where
-      at_put : IsPut (length places) index j → IsIndexOf j entries
-      at_put (inl same) = inr (inr (inl (sym same)))
-      at_put (inr past) =
-          elim (cases_lt j (length places)) [
-            | inl inside ↦ elim (cases_eq j (length places - 2)) [
-              | inl same ↦ inr (inl (sym same))
-              | inr other ↦ inl (omega (arith, past, inside, other))
-            ]
-            | inr out ↦ absurd (let f = sym lacks ∙ ap (λ (cell : Cell). is_writable cell && plans.puts hold hold.kind j) (cell_past places blocks j out) in cc)
+
+    complete_at : (j : ℕ) → j < length places → IsPut (length places) index j → (place_at j).state ≡ state.InSync → IsAmong j (renewed (length places) index p_known q_known)
+    complete_at j inside (inl same) in_sync = subst (λ (k : ℕ). IsAmong k (renewed (length places) index p_known q_known)) (sym same) (index_among (length places) index p_known q_known)
+    complete_at j inside (inr past) in_sync =
+        elim (two_last (length places) j (omega (arith, awaits.below)) inside past) [
+          | inl e ↦ subst (λ (k : ℕ). IsAmong k (renewed (length places) index p_known q_known)) (sym e)
+              (p_among (length places) index p_known q_known (modifies.p_in_sync (ap (λ (k : ℕ). (place_at k).state) (sym e) ∙ in_sync)))
+          | inr e ↦ subst (λ (k : ℕ). IsAmong k (renewed (length places) index p_known q_known)) (sym e)
+              (q_among (length places) index p_known q_known (modifies.q_in_sync (ap (λ (k : ℕ). (place_at k).state) (sym e) ∙ in_sync)))
+        ]
+
+    home_at : (j : ℕ) → IsAmong j (renewed (length places) index p_known q_known) → (place_at j).away ≡ false
+    home_at j among =
+        elim (among_cases (length places) index j p_known q_known among) [
+          | inl e ↦ subst (λ (k : ℕ). (place_at k).away ≡ false) e modifies.own_home
+          | inr parity ↦ elim parity [
+            | inl e ↦ subst (λ (k : ℕ). (place_at k).away ≡ false) e.1 (p_home p_known q_known modifies e.0)
+            | inr e ↦ subst (λ (k : ℕ). (place_at k).away ≡ false) e.1 (q_home p_known q_known modifies e.0)
           ]
+        ]
 
-  at_put : (j : ℕ) → j < length places → IsPut (length places) index j → (plans.lacks_new hold j ≡ true) ⊎ ((cell_at hold.cells j).standing ≡ Out)
-  at_put j inside put =
-      owed_or_out (cell_at hold.cells j) (plans.puts hold hold.kind j) (unwritten_at j inside)
-      (puts_put size index block hold.cells j (subst (λ (n : ℕ). IsPut n index j) (sym (length-cells_of places blocks)) put))
+    carried : (j : ℕ) → IsAmong j (renewed (length places) index p_known q_known) → (row : List (List ℕ)) → IsBefore hold row → block_at (row_of size (set (data_of row) index block)) j ≡ get_or new j []
+    carried j among row before =
+        elim (among_cases (length places) index j p_known q_known among) [
+          | inl e ↦ subst (λ (k : ℕ). block_at (row_of size (set (data_of row) index block)) k ≡ get_or new k []) e
+              (after_data size index block places blocks awaits.wide awaits.below awaits.sized row before ∙ sym new_data)
+          | inr parity ↦ elim parity [
+            | inl e ↦ subst (λ (k : ℕ). block_at (row_of size (set (data_of row) index block)) k ≡ get_or new k []) e.1
+                (after_p size index block places blocks awaits.wide awaits.below awaits.sized row before (modifies.own (inl e.0)) (modifies.p_read e.0) ∙ sym (new_p e.0))
+            | inr e ↦ subst (λ (k : ℕ). block_at (row_of size (set (data_of row) index block)) k ≡ get_or new k []) e.1
+                (after_q size index block places blocks awaits.wide awaits.below awaits.sized row before (modifies.own (inr e.0)) (modifies.q_read e.0) ∙ sym (new_q e.0))
+          ]
+        ]
 
-  -- nothing else gets one, but what is out
-  none_beside : (j : ℕ) → IsIndexOf j entries → (plans.lacks_new hold j ≡ true) ⊎ ((cell_at hold.cells j).standing ≡ Out)
-  none_beside j (inl q) = at_put j (omega (arith, q, below)) (inr (omega (arith, q)))
-  none_beside j (inr (inl p)) = at_put j (omega (arith, p, below)) (inr (omega (arith, p)))
-  none_beside j (inr (inr (inl same))) = at_put j (omega (arith, same, below)) (inl (sym same))
-  none_beside j (inr (inr (inr none))) = absurd none
+    kept_at : (j : ℕ) → (IsAmong j (renewed (length places) index p_known q_known) → ⊥) → get_or new j [] ≡ get_or blocks j []
+    kept_at j none =
+        ap (λ (r : List (List ℕ)). get_or r j []) blocks_are
+        ∙ modified_beside blocks index block p_known q_known below_blocks j (subst (λ (n : ℕ). IsAmong j (renewed n index p_known q_known) → ⊥) (sym awaits.wide) none)
 
-  pub prepares : plans.Prepares (record { hold = hold; plan = plans.Plan.Reconstruct }) (record { hold = ready; plan = plans.Plan.Reconstruct })
-  prepares = (
-    Computes entries ∷ [],
-    (tt, tt),
-    (
-      (
-        comes,
-        (
-          unwritten_at (length places - 2 + 1) (omega (arith, below)),
-          carries (length places - 2 + 1),
-          inr (omega (arith, length-cells_of places blocks)),
-          (
-            unwritten_at (length places - 2) (omega (arith, below)),
-            carries (length places - 2),
-            inr (omega (arith, length-cells_of places blocks)),
-            (unwritten_at index (omega (arith, below)), carries index, inl (inl refl), tt),
-          ),
-        ),
-        complete,
-        none_beside,
-      ),
-      tt,
-    ),
-    ap (λ (cells : List Cell). record { hold = writing size index block cells; plan = plans.Plan.Reconstruct }) (sym new_cells),
-  )
+    pub modified_renews : Renews p size index block places blocks new (renewed (length places) index p_known q_known)
+    modified_renews = record {
+      below = awaits.below;
+      writes = modifies.writes;
+      goes_on = awaits.goes_on;
+      unwritten = modifies.unwritten;
+      settled = awaits.settled;
+      read_done = awaits.read_done;
+      enough = awaits.enough;
+      no_read = awaits.no_read;
+      owed = awaits.owed;
+      own = index_among (length places) index p_known q_known;
+      put = put_at;
+      complete = complete_at;
+      home = home_at;
+      kept = λ j inside none. kept_at j none;
+      carries = carried;
+    }
+
+    -- a buffer that is at home keeps its length
+    pub lengths_kept : AreHome size places blocks → AreHome size (ready_at places (renewed (length places) index p_known q_known)) new
+    lengths_kept lengths j h away =
+        let inside : j < length places = omega (arith, h, length-ready_at places (renewed (length places) index p_known q_known)) in
+        elim (is_among j (renewed (length places) index p_known q_known)) [
+          | inl among ↦ elim (among_cases (length places) index j p_known q_known among) [
+            | inl e ↦ ap length (ap (λ (k : ℕ). get_or new k []) (sym e) ∙ new_data) ∙ awaits.sized
+            | inr parity ↦ elim parity [
+              | inl e ↦
+                  ap length (ap (λ (k : ℕ). get_or new k []) (sym e.1) ∙ new_p e.0)
+                  ∙ length-block_sum size (get_or blocks m []) change (lengths m (omega (arith, awaits.below)) (p_home p_known q_known modifies e.0)) changed
+              | inr e ↦
+                  ap length (ap (λ (k : ℕ). get_or new k []) (sym e.1) ∙ new_q e.0)
+                  ∙ length-block_sum size (get_or blocks (m + 1) []) (scale (power generator index) change) (lengths (m + 1) (omega (arith, awaits.below)) (q_home p_known q_known modifies e.0)) (length-scale (power generator index) change ∙ changed)
+            ]
+          ]
+          | inr none ↦ ap length (kept_at j none) ∙ lengths j inside (ap (λ (place : Place). place.away) (sym (ready_beside places (renewed (length places) index p_known q_known) j none)) ∙ away)
+        ]
+      where
+        changed : length change ≡ size
+        changed = length-block_sum size (get_or blocks index []) block (lengths index (omega (arith, awaits.below)) modifies.own_home) awaits.sized
 
 -- ---- for the plan and task of any hold
 
 abbrev pub planned : Plan → Option Task → ℕ → List Cell → plans.Planned
 planned p t size cells = record { hold = record { size = size; kind = kind_of t; cells = cells; cut_short = false }; plan = plan_of p }
 
--- the new blocks were computed by the plan, and the writes come next
-pub record IsPrepared (p : Plan) (t : Option Task) (size index : ℕ) (places : List Place) (blocks new : List (List ℕ)) : Type 0 where
-  pub prepares : plans.Prepares (planned p t size (cells_of places blocks)) (planned p t size (cells_of (all_ready places index) new))
-  pub then_writes : coming (planned p t size (cells_of (all_ready places index) new)) ≡ plans.next_write (planned p t size (cells_of (all_ready places index) new)).hold
-  pub course : Each (IsInCourse p t (length (all_ready places index)) true) (all_ready places index)
-
--- what holds before the new blocks are computed
-pub record AwaitsNew (p : Plan) (t : Option Task) (size : ℕ) (places : List Place) (blocks : List (List ℕ)) : Type 0 where
+-- a hold whose reads were answered, and that owes new blocks
+pub record Owes (p : Plan) (t : Option Task) (size : ℕ) (places : List Place) (blocks : List (List ℕ)) : Type 0 where
   pub wide : length blocks ≡ length places
   pub some : 0 < length places
+  pub fits : IsTask (length places) size t
   pub settled : Each (λ position place. IsSettled place) places
   pub computed : Bool
   pub course : Each (IsInCourse p t (length places) computed) places
-  pub follows : plan_of p ≢ plans.Plan.Recover
+  pub goes_on : plan_of p ≢ plans.Plan.Recover
   pub read_done : plans.has_read_out (planned p t size (cells_of places blocks)).hold ≡ false
   pub enough : plans.is_enough (plan_of p) (planned p t size (cells_of places blocks)).hold ≡ true
   pub no_read : plans.next_read (plan_of p) (planned p t size (cells_of places blocks)).hold ≡ None
   pub owed : plans.each_below (λ position. not (plans.lacks_new (planned p t size (cells_of places blocks)).hold position)) (length (cells_of places blocks)) ≡ false
 
-by_reconstruct : (p : Plan) (size index : ℕ) (block : List ℕ) (places : List Place) (blocks : List (List ℕ)) → AwaitsNew p (Some (task.Write index block)) size places blocks →
-    (p ≡ plan.Reconstruct) × Each (IsInCourse plan.Reconstruct (Some (task.Write index block)) (length places) false) places
-by_reconstruct p size index block places blocks awaits = owed_course p size index block awaits.computed places blocks awaits.follows awaits.some awaits.course awaits.owed
+pub owes_of : (s : HoldState) → IsSound s → plan_of s.plan ≢ plans.Plan.Recover → not (plans.has_read_out (hold_of s) || not (plans.is_enough (plan_of s.plan) (hold_of s))) ≡ true → plans.next_read (plan_of s.plan) (hold_of s) ≡ None →
+    plans.each_below (λ position. not (plans.lacks_new (hold_of s) position)) (length (hold_of s).cells) ≡ false → Owes s.plan s.task s.len s.places.items s.blocks.items
+owes_of s sound goes_on read_all no_read owed =
+    let parts = read_parts (plans.has_read_out (hold_of s)) (plans.is_enough (plan_of s.plan) (hold_of s)) read_all in
+    record {
+      wide = sound.wide;
+      some = omega (arith, sound.four_or_more);
+      fits = sound.fits;
+      settled = sound.settled;
+      computed = sound.computed;
+      course = sound.course;
+      goes_on = goes_on;
+      read_done = parts.0;
+      enough = parts.1;
+      no_read = no_read;
+      owed = owed;
+    }
 
-home_before : (p : Plan) (size index : ℕ) (block : List ℕ) (places : List Place) (blocks : List (List ℕ)) → index + 2 < length places → AwaitsNew p (Some (task.Write index block)) size places blocks →
-    (j : ℕ) → j < length places → (get_or places j no_place).away ≡ false
-home_before p size index block places blocks below awaits =
-    let here = by_reconstruct p size index block places blocks awaits in
-    home_at size index block places blocks blocks awaits.wide below here.1 awaits.settled awaits.read_done
-    (subst (λ (q : Plan). plans.is_enough (plan_of q) (planned q (Some (task.Write index block)) size (cells_of places blocks)).hold ≡ true) here.0 awaits.enough)
+-- a write that owes new blocks has computed none
+pub awaits_new : (p : Plan) (t : Option Task) (size index : ℕ) (block : List ℕ) (places : List Place) (blocks : List (List ℕ)) → t ≡ Some (task.Write index block) → Owes p t size places blocks → AwaitsNew p size index block places blocks
+awaits_new p t size index block places blocks is owes = here (subst (λ (u : Option Task). Owes p u size places blocks) is owes)
+  where
+    here : Owes p (Some (task.Write index block)) size places blocks → AwaitsNew p size index block places blocks
+    here owes = record {
+      wide = owes.wide;
+      below = owes.fits.0;
+      sized = owes.fits.1;
+      settled = owes.settled;
+      course = owed_course p size index block owes.computed places blocks owes.goes_on owes.some owes.course owes.owed;
+      goes_on = owes.goes_on;
+      read_done = owes.read_done;
+      enough = owes.enough;
+      no_read = owes.no_read;
+      owed = owes.owed;
+    }
 
--- all buffers are at home when the new blocks are computed
-pub all_home : (p : Plan) (t : Option Task) (size index : ℕ) (block : List ℕ) (places : List Place) (blocks : List (List ℕ)) → t ≡ Some (task.Write index block) → index + 2 < length places → AwaitsNew p t size places blocks →
-    (j : ℕ) → j < length places → (get_or places j no_place).away ≡ false
-all_home p t size index block places blocks is below awaits = home_before p size index block places blocks below (subst (λ (u : Option Task). AwaitsNew p u size places blocks) is awaits)
+-- the new blocks were computed by the plan, and the writes come next
+pub record IsPrepared (p : Plan) (t : Option Task) (size : ℕ) (places : List Place) (blocks : List (List ℕ)) (later : List Place) (new : List (List ℕ)) : Type 0 where
+  pub prepares : plans.Prepares (planned p t size (cells_of places blocks)) (planned p t size (cells_of later new))
+  pub then_writes : coming (planned p t size (cells_of later new)) ≡ plans.next_write (planned p t size (cells_of later new)).hold
+  pub settled : Each (λ position place. IsSettled place) later
+  pub course : Each (IsInCourse p t (length later) true) later
 
-settled_before : (p : Plan) (size index : ℕ) (block : List ℕ) (places : List Place) (blocks : List (List ℕ)) → index + 2 < length places → AwaitsNew p (Some (task.Write index block)) size places blocks →
-    Each (λ position place. IsSettled place) (all_ready places index)
-settled_before p size index block places blocks below awaits =
-    let here = by_reconstruct p size index block places blocks awaits in
-    ready_settled size index block places blocks blocks awaits.wide below here.1 awaits.settled awaits.read_done
-    (subst (λ (q : Plan). plans.is_enough (plan_of q) (planned q (Some (task.Write index block)) size (cells_of places blocks)).hold ≡ true) here.0 awaits.enough)
-
-pub all_settled : (p : Plan) (t : Option Task) (size index : ℕ) (block : List ℕ) (places : List Place) (blocks : List (List ℕ)) → t ≡ Some (task.Write index block) → index + 2 < length places → AwaitsNew p t size places blocks →
-    Each (λ position place. IsSettled place) (all_ready places index)
-all_settled p t size index block places blocks is below awaits = settled_before p size index block places blocks below (subst (λ (u : Option Task). AwaitsNew p u size places blocks) is awaits)
-
-prepared_write : (p : Plan) (size index : ℕ) (block : List ℕ) (places : List Place) (blocks new : List (List ℕ)) → index + 2 < length places → AwaitsNew p (Some (task.Write index block)) size places blocks →
-    new ≡ row_of size (take (length blocks - 2) (set blocks index block)) → IsPrepared p (Some (task.Write index block)) size index places blocks new
-prepared_write p size index block places blocks new below awaits rows =
-    let here = by_reconstruct p size index block places blocks awaits in
-    let enough = subst (λ (q : Plan). plans.is_enough (plan_of q) (planned q (Some (task.Write index block)) size (cells_of places blocks)).hold ≡ true) here.0 awaits.enough in
-    let no_read = subst (λ (q : Plan). plans.next_read (plan_of q) (planned q (Some (task.Write index block)) size (cells_of places blocks)).hold ≡ None) here.0 awaits.no_read in
-    subst (λ (q : Plan). IsPrepared q (Some (task.Write index block)) size index places blocks new) (sym here.0)
+pub prepared : (p : Plan) (t : Option Task) (size index : ℕ) (block : List ℕ) (places : List Place) (blocks new : List (List ℕ)) (ks : List ℕ) (later : List Place) → t ≡ Some (task.Write index block) → later ≡ ready_at places ks →
+    Renews p size index block places blocks new ks → IsPrepared p t size places blocks later new
+prepared p t size index block places blocks new ks later is later_is renews =
+    subst (λ (u : Option Task). IsPrepared p u size places blocks later new) (sym is)
+    (subst (λ (xs : List Place). IsPrepared p (Some (task.Write index block)) size places blocks xs new) (sym later_is)
     (record {
-      prepares = prepares size index block places blocks new awaits.wide below here.1 awaits.settled awaits.read_done enough no_read awaits.owed rows;
-      then_writes = then_writes size index block places blocks new awaits.wide below here.1 awaits.settled awaits.read_done enough;
-      course = ready_course size index block places blocks new awaits.wide below here.1 awaits.settled awaits.read_done enough;
-    })
-
-pub prepared : (p : Plan) (t : Option Task) (size index : ℕ) (block : List ℕ) (places : List Place) (blocks new : List (List ℕ)) → t ≡ Some (task.Write index block) → index + 2 < length places → AwaitsNew p t size places blocks →
-    new ≡ row_of size (take (length blocks - 2) (set blocks index block)) → IsPrepared p t size index places blocks new
-prepared p t size index block places blocks new is below awaits rows =
-    subst (λ (u : Option Task). IsPrepared p u size index places blocks new) (sym is)
-    (prepared_write p size index block places blocks new below (subst (λ (u : Option Task). AwaitsNew p u size places blocks) is awaits) rows)
+      prepares = prepares p size index block places blocks new ks renews;
+      then_writes = then_writes p size index block places blocks new ks renews;
+      settled = ready_settled p size index block places blocks new ks renews;
+      course = ready_course p size index block places blocks new ks renews;
+    }))

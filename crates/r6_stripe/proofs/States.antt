@@ -59,7 +59,7 @@ ready_only write.Ready block put e = refl
 ready_only write.Sent block put e = absurd cc
 ready_only write.Confirmed block put e = absurd cc
 
-not_away : (place : Place) → IsSettled place → ((place.read ≡ read.Asked) × (place.write ≡ write.Unwritten) → ⊥) → (place.write ≡ write.Sent → ⊥) → place.away ≡ false
+pub not_away : (place : Place) → IsSettled place → ((place.read ≡ read.Asked) × (place.write ≡ write.Unwritten) → ⊥) → (place.write ≡ write.Sent → ⊥) → place.away ≡ false
 not_away place settled not_asked not_sent = by_away place.away settled.away
   where
     by_away : (b : Bool) → (b ≡ true → ((place.read ≡ read.Asked) × (place.write ≡ write.Unwritten)) ⊎ (place.write ≡ write.Sent)) → b ≡ false

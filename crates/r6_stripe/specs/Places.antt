@@ -1,5 +1,8 @@
 -- What the code's states of a position stand for.
 use Rattle.std.specs.Prelude.{ℕ, ◌+◌, ◌-◌, ◌&&◌, not, Bool, true, false, List, [], ◌∷◌, length, map, slice_index_or, slice_set}
+use Rattle.r6_field.specs.Field.{power, generator}
+use Rattle.r6_kernels.specs.Blocks.{block_sum, scale}
+use Rattle.r6_recover.specs.Rows.{block_at}
 use Rattle.r6_stripe.specs.Holds.{Standing, Reading, Writing, Cell}
 use Rattle.r6_stripe.specs.Plans.{is_in_sync, is_out, is_unread, is_asked, is_unwritten, is_ready, is_sent}
 use Rattle.r6_stripe.specs.declared.place.State.{State}
@@ -94,6 +97,26 @@ is_computed cell = not (is_unwritten cell.writing)
 abbrev pub with_ready : List Place → ℕ → List Place
 with_ready places position = slice_set places position (made_ready_place (slice_index_or places position no_place))
 
--- the places with new blocks at the index, P and Q
-abbrev pub all_ready : List Place → ℕ → List Place
-all_ready places index = with_ready (with_ready (with_ready places index) (length places - 2)) (length places - 2 + 1)
+-- the places with new blocks at these positions
+abbrev pub ready_at : List Place → List ℕ → List Place
+ready_at places [] = places
+ready_at places (position ∷ rest) = with_ready (ready_at places rest) position
+
+abbrev pub added_if : Bool → ℕ → List ℕ → List ℕ
+added_if true position rest = position ∷ rest
+added_if false position rest = rest
+
+-- of so many positions, those that a write of one block renews: its own, and P and Q each if it is renewed
+abbrev pub renewed : ℕ → ℕ → Bool → Bool → List ℕ
+renewed count index p q = added_if q (count - 2 + 1) (added_if p (count - 2) (index ∷ []))
+
+abbrev pub set_if : Bool → List (List ℕ) → ℕ → List ℕ → List (List ℕ)
+set_if true blocks position block = slice_set blocks position block
+set_if false blocks position block = blocks
+
+-- the blocks after the one of the index has changed: what changes is added to P, and g^index times that to Q, each if it is renewed
+abbrev pub modified : List (List ℕ) → ℕ → List ℕ → Bool → Bool → List (List ℕ)
+modified blocks index block p q =
+    let m = length blocks - 2 in
+    let change = block_sum (block_at blocks index) block in
+    slice_set (set_if q (set_if p blocks m (block_sum (block_at blocks m) change)) (m + 1) (block_sum (block_at blocks (m + 1)) (scale (power generator index) change))) index block

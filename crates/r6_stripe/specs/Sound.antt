@@ -3,6 +3,7 @@ use Rattle.std.specs.Prelude.{◌≡◌, ◌≢◌, ◌⊎◌, ℕ, ◌+◌, ◌
 use Rattle.r6_stripe.specs.Places.{no_place}
 use Rattle.r6_stripe.specs.declared.command.Task.{Task}
 use Rattle.r6_stripe.specs.declared.command.Task.TheVariants as task
+use Rattle.r6_stripe.specs.declared.place.State.TheVariants as state
 use Rattle.r6_stripe.specs.declared.place.ReadState.TheVariants as read
 use Rattle.r6_stripe.specs.declared.place.WriteState.TheVariants as write
 use Rattle.r6_stripe.specs.declared.place.Place.{Place}
@@ -25,16 +26,24 @@ pub record IsSettled (place : Place) : Type 0 where
 abbrev pub IsPut : ℕ → ℕ → ℕ → Type 0
 IsPut count index position = (position ≡ index) ⊎ (count ≤ position + 2)
 
+-- the place has its new block, or is out
+abbrev pub IsRenewed : Place → Type 0
+IsRenewed place = (place.write ≢ write.Unwritten) ⊎ (place.state ≡ state.Out)
+
 -- where a place stands in the course of the plan, before or after the new blocks were computed
 abbrev pub IsInCourse : Plan → Option Task → ℕ → Bool → ℕ → Place → Type 0
 IsInCourse plan.One (Some (task.Read index)) count computed position place = (place.write ≡ write.Unwritten) × (place.read ≢ read.Replaced)
 IsInCourse plan.Reconstruct (Some (task.Write index block)) count false position place =
     (place.write ≡ write.Unwritten) × (place.read ≢ read.Replaced) × (IsPut count index position → place.read ≢ read.Asked)
-IsInCourse plan.Reconstruct (Some (task.Write index block)) count true position place =
-    IsPut count index position → (place.write ≢ write.Unwritten) × (place.read ≢ read.Asked)
+IsInCourse plan.Modify (Some (task.Write index block)) count false position place = (place.write ≡ write.Unwritten) × (place.read ≢ read.Replaced)
+IsInCourse plan.Overwrite (Some (task.Write index block)) count false position place =
+    (place.write ≡ write.Unwritten) × (place.read ≡ read.Unread) × (count ≤ position + 2 → place.state ≡ state.Out)
+IsInCourse plan.Reconstruct (Some (task.Write index block)) count true position place = IsPut count index position → IsRenewed place
+IsInCourse plan.Modify (Some (task.Write index block)) count true position place = IsPut count index position → IsRenewed place
+IsInCourse plan.Overwrite (Some (task.Write index block)) count true position place = IsPut count index position → IsRenewed place
 IsInCourse plan.Recover t count computed position place = ⊤
 IsInCourse p None count computed position place = ⊤
--- no plan but to recover serves reads and writes
+-- no plan but to recover serves both reads and writes
 IsInCourse _ _ count computed position place = ⊥
 
 abbrev pub Each : (ℕ → Place → Type 0) → List Place → Type 0
@@ -59,10 +68,18 @@ pub record IsSound (state : HoldState) : Type 0 where
   pub computed : Bool
   pub course : Each (IsInCourse state.plan state.task (length state.places.items) computed) state.places.items
 
+-- a plan that serves a write
+abbrev pub IsWritePlan : Plan → Type 0
+IsWritePlan plan.One = ⊥
+IsWritePlan plan.Reconstruct = ⊤
+IsWritePlan plan.Modify = ⊤
+IsWritePlan plan.Overwrite = ⊤
+IsWritePlan plan.Recover = ⊤
+
 -- a plan that serves the task
 abbrev pub Suits : Plan → Option Task → Type 0
 Suits plan.Recover t = ⊤
 Suits p None = ⊤
 Suits plan.One (Some (task.Read index)) = ⊤
-Suits plan.Reconstruct (Some (task.Write index block)) = ⊤
+Suits p (Some (task.Write index block)) = IsWritePlan p
 Suits _ _ = ⊥

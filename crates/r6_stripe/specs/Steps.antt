@@ -5,7 +5,7 @@ use Rattle.r6_stripe.specs.Holds.Event.{Asks, Writes, Gives, Confirms, Loses}
 use Rattle.r6_stripe.specs.Holds.Reading.{Unread, Known}
 use Rattle.r6_stripe.specs.Holds.Writing.{Unwritten, Ready}
 use Rattle.r6_stripe.specs.Holds.Kind.{Idle, Read, Write, Rebuild, Check, Repair}
-use Rattle.r6_stripe.specs.Plans.{Plan, Planned, Next, Prepares, next, is_over, is_out, is_sent, planned_after, first_plan, is_readable, each_below, data_count}
+use Rattle.r6_stripe.specs.Plans.{Plan, Planned, Next, Prepares, next, is_over, is_out, is_sent, planned_after, first_plan, is_parity}
 use Rattle.r6_stripe.specs.declared.command.RowCommand.{RowCommand}
 use Rattle.r6_stripe.specs.declared.command.RowCommand.TheVariants as command
 
@@ -44,20 +44,11 @@ abbrev pub standing_if : Bool → Standing
 standing_if true = Standing.InSync
 standing_if false = Standing.Out
 
--- the plan with which a hold begins: of a write, to reconstruct wherever that is possible
-abbrev pub beginning : Hold → Kind → Plan
-beginning hold Idle = Plan.Recover
-beginning hold (Read index) = first_plan hold (Read index)
-beginning hold (Write batch) = if each_below (is_readable Plan.Reconstruct hold) (data_count hold) then Plan.Reconstruct else Plan.Recover
-beginning hold (Rebuild target) = Plan.Recover
-beginning hold Check = Plan.Recover
-beginning hold Repair = Plan.Recover
-
 -- the hold of a row as it begins, with blocks of a size, whose positions are in sync or not
 abbrev pub begun_held : ℕ → List Bool → Kind → Held
 begun_held size in_sync kind =
     let hold = begun (resting size (map standing_if in_sync)) kind in
-    record { planned = record { hold = hold; plan = beginning hold kind }; away = map (λ b. false) in_sync }
+    record { planned = record { hold = hold; plan = first_plan hold kind }; away = map (λ b. false) in_sync }
 
 -- ---- what calls do
 
@@ -100,6 +91,15 @@ is_recover Plan.Modify = false
 is_recover Plan.Overwrite = false
 is_recover Plan.Recover = true
 is_recover Plan.All = false
+
+-- whether the plan goes on without the position, if it is lost unread
+abbrev pub can_drop : Plan → Hold → ℕ → Bool
+can_drop Plan.One hold position = false
+can_drop Plan.Reconstruct hold position = false
+can_drop Plan.Modify hold position = is_parity hold position
+can_drop Plan.Overwrite hold position = false
+can_drop Plan.Recover hold position = false
+can_drop Plan.All hold position = false
 
 -- what the hold does next; nothing with the plan to recover, which no code follows yet
 abbrev pub coming : Planned → Option Next

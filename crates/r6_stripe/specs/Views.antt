@@ -21,6 +21,8 @@ kind_of (Some task) = kind_of_task task
 abbrev pub plan_of : Plan → plans.Plan
 plan_of plan.One = plans.Plan.One
 plan_of plan.Reconstruct = plans.Plan.Reconstruct
+plan_of plan.Modify = plans.Plan.Modify
+plan_of plan.Overwrite = plans.Plan.Overwrite
 plan_of plan.Recover = plans.Plan.Recover
 
 abbrev pub hold_of : HoldState → Hold

@@ -1,8 +1,8 @@
 //! The new blocks of a write.
 
-ghost use Rattle.std.specs.Prelude.{◌≡◌, ◌<◌, ◌+◌, ◌-◌, ◌||◌, not, true, false, None, ℕ, length, take, slice_set, All};
-ghost use Rattle.r6_recover.specs.Rows.{row_of};
-ghost use Rattle.r6_stripe.specs.Places.{with_ready, all_ready, away_of};
+ghost use Rattle.std.specs.Prelude.{◌≡◌, ◌<◌, ◌≤◌, ◌+◌, ◌-◌, ◌||◌, not, true, false, None, ℕ, length, take, slice_set, All, IsTrue};
+ghost use Rattle.r6_recover.specs.Rows.{row_of, block_at};
+ghost use Rattle.r6_stripe.specs.Places.{with_ready, ready_at, renewed, modified, away_of};
 ghost use Rattle.r6_stripe.specs.Plans as plans;
 ghost use Rattle.r6_stripe.specs.Sound.{IsSound};
 ghost use Rattle.r6_stripe.specs.Steps.{coming};
@@ -10,8 +10,10 @@ ghost use Rattle.r6_stripe.specs.Views.{hold_of, plan_of, planned_of};
 
 use crate::command::Task;
 use crate::place::Place;
+use crate::plan::Plan;
 use crate::state::HoldState;
-use r6_kernels::Buffer;
+use r6_field::{ConstMul, Gf};
+use r6_kernels::{Buffer, scale_add, xor_into};
 use r6_recover::write_parity;
 
 impl HoldState {
@@ -54,14 +56,22 @@ impl HoldState {
             return;
         };
         let index = *index;
-        rewrite(
-            &mut self.blocks,
-            index,
-            block,
-            &mut self.sum,
-            &mut self.weighted,
-        );
-        make_ready(&mut self.places, index);
+        if let Plan::Reconstruct = self.plan {
+            rewrite(
+                &mut self.blocks,
+                index,
+                block,
+                &mut self.sum,
+                &mut self.weighted,
+            );
+            make_ready(&mut self.places, index, true, true);
+            return;
+        }
+        let m = self.places.len() - 2;
+        let p = self.places[m].is_known();
+        let q = self.places[m + 1].is_known();
+        modify(&mut self.blocks, index, block, p, q, &mut self.sum);
+        make_ready(&mut self.places, index, p, q);
     }
 }
 
@@ -87,15 +97,50 @@ fn rewrite(
     write_parity(blocks.as_mut_slice(), sum, weighted);
 }
 
-/// The new blocks of the index, of P and of Q are there.
-fn make_ready(places: &mut Vec<Place>, index: usize)
+/// Writes a data block, and what it changes to P and Q, each if it is `known`. Without any the old block is of no account.
+fn modify(
+    blocks: &mut Vec<Buffer>,
+    index: usize,
+    new_block: &Buffer,
+    p_known: bool,
+    q_known: bool,
+    change: &mut Buffer,
+)
+    requires below { index + 2 < length blocks.old.items }
+    requires few { length blocks.old.items ≤ 32 }
+    requires size { length new_block.now ≡ length change.old }
+    requires data_length { length (block_at blocks.old.items index) ≡ length change.old }
+    requires p_length { IsTrue p_known → length (block_at blocks.old.items (length blocks.old.items - 2)) ≡ length change.old }
+    requires q_length { IsTrue q_known → length (block_at blocks.old.items (length blocks.old.items - 2 + 1)) ≡ length change.old }
+    ensures modified { blocks.new.items ≡ modified blocks.old.items index new_block.now p_known q_known }
+    ensures change_length { length change.new ≡ length change.old }
+{
+    let m = blocks.len() - 2;
+    change.copy_from(&blocks[index]);
+    xor_into(change, new_block);
+    if p_known {
+        xor_into(&mut blocks[m], change);
+    }
+    if q_known {
+        let factor = ConstMul::new(Gf::exp(index as u32));
+        scale_add(&mut blocks[m + 1], change, &factor);
+    }
+    blocks[index].copy_from(new_block);
+}
+
+/// The new blocks of the index, and of P and Q, each if it was computed, are there.
+fn make_ready(places: &mut Vec<Place>, index: usize, p_computed: bool, q_computed: bool)
     requires { index + 2 < length places.old.items }
-    ensures { places.new.items ≡ all_ready places.old.items index }
+    ensures { places.new.items ≡ ready_at places.old.items (renewed (length places.old.items) index p_computed q_computed) }
 {
     let m = places.len() - 2;
     mark(places, index);
-    mark(places, m);
-    mark(places, m + 1);
+    if p_computed {
+        mark(places, m);
+    }
+    if q_computed {
+        mark(places, m + 1);
+    }
 }
 
 fn mark(places: &mut Vec<Place>, position: usize)

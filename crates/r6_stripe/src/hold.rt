@@ -41,8 +41,9 @@ impl Model for Hold {
 impl Hold {
     /// Begins a hold of a row, of whose positions these are in sync; the others are out. All buffers of the frame are home.
     ///
-    /// A write reads the data that it doesn't change; a read reads its block. Where one of these is out, the hold could go
-    /// on only by recovery, which comes later: such a hold puts nothing out and doesn't end.
+    /// A read reads its block. A write reads the data that it doesn't change, or its own block and the parities in sync,
+    /// whichever are fewer, or nothing if no parity is in sync. Where neither is possible the hold could go on only by
+    /// recovery, which comes later: such a hold puts nothing out and doesn't end.
     pub fn begin(frame: Frame, task: Task, in_sync: &[bool]) -> Hold
         requires positions { length in_sync.now ≡ frame.count }
         requires task { IsTask frame.count frame.size (Some task) }

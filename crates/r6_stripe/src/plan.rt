@@ -1,11 +1,11 @@
 //! What a hold reads, which command comes next, and when it is over.
 
-ghost use Rattle.std.specs.Prelude.{◌≡◌, ◌≢◌, ◌⊎◌, ◌<◌, ◌≤◌, ◌||◌, ℕ, length, not, option_map, false, IsTrue, List};
-ghost use Rattle.r6_stripe.specs.Holds.{MayEnd};
+ghost use Rattle.std.specs.Prelude.{◌≡◌, ◌≢◌, ◌⊎◌, ◌+◌, ◌<◌, ◌≤◌, ◌||◌, ◌&&◌, ℕ, length, not, option_map, false, IsTrue, List, [], ◌∷◌};
+ghost use Rattle.r6_stripe.specs.Holds.{MayEnd, cell_at};
 ghost use Rattle.r6_stripe.specs.Holds.Kind.{Read, Write};
 ghost use Rattle.r6_stripe.specs.Plans as plans;
-ghost use Rattle.r6_stripe.specs.Sound.{IsSound, IsTask, Suits};
-ghost use Rattle.r6_stripe.specs.Steps.{beginning, has_outcome};
+ghost use Rattle.r6_stripe.specs.Sound.{IsSound, IsTask, IsWritePlan, Suits};
+ghost use Rattle.r6_stripe.specs.Steps.{can_drop, has_outcome, is_idle};
 ghost use Rattle.r6_stripe.specs.Views.{hold_of, plan_of, planned_of};
 
 use crate::command::Task;
@@ -18,6 +18,10 @@ pub(crate) enum Plan {
     One,
     /// The data that aren't written.
     Reconstruct,
+    /// The block that is written, and the parities in sync.
+    Modify,
+    /// None, where no parity is in sync.
+    Overwrite,
     /// As many positions in sync as there are data. No code follows this plan yet.
     Recover,
 }
@@ -59,6 +63,8 @@ impl HoldState {
         match self.plan {
             Plan::One => self.is_its_block(position),
             Plan::Reconstruct => !(self.is_parity(position) || self.puts_data(position)),
+            Plan::Modify => self.is_parity(position) || self.puts_data(position),
+            Plan::Overwrite => false,
             Plan::Recover => true,
         }
     }
@@ -129,6 +135,26 @@ impl HoldState {
         !self.wants(position) || self.places[position].is_known()
     }
 
+    /// Whether the plan goes on without the position, if it is lost unread: a modify without a parity.
+    fn can_drop(&self, position: usize) -> bool
+        requires { 2 ≤ length self.now.places.items }
+        ensures { result ≡ can_drop (plan_of self.now.plan) (hold_of self.now) position }
+    {
+        match self.plan {
+            Plan::Modify => self.is_parity(position),
+            Plan::One | Plan::Reconstruct | Plan::Overwrite | Plan::Recover => false,
+        }
+    }
+
+    /// Whether the plan goes on without the position, which is out.
+    fn is_dropped(&self, position: usize) -> bool
+        requires within { position < length self.now.places.items }
+        requires count { 2 ≤ length self.now.places.items }
+        ensures { result ≡ (can_drop (plan_of self.now.plan) (hold_of self.now) position && plans.is_out (cell_at (hold_of self.now).cells position).standing) }
+    {
+        self.can_drop(position) && !self.places[position].is_in_sync()
+    }
+
     /// Whether enough is known for the hold to go on.
     fn is_enough(&self) -> bool
         requires count { 2 ≤ length self.now.places.items }
@@ -136,7 +162,7 @@ impl HoldState {
         ensures { result ≡ plans.is_enough (plan_of self.now.plan) (hold_of self.now) }
     {
         for position in 0..self.places.len() {
-            if !self.is_served(position) {
+            if !self.is_served(position) && !self.is_dropped(position) {
                 return false;
             }
         }
@@ -243,7 +269,7 @@ impl HoldState {
         }
     }
 
-    /// The plan after the position is lost: without a block that it wants and doesn't know, it becomes recover.
+    /// The plan after the position is lost: without a block that it wants, doesn't know and can't drop, it becomes recover.
     pub(crate) fn plan_after_loss(&self, position: usize) -> Plan
         requires within { position < length self.now.places.items }
         requires count { 2 ≤ length self.now.places.items }
@@ -251,6 +277,9 @@ impl HoldState {
         ensures same { (result ≡ self.now.plan) ⊎ (result ≡ Plan.Recover) }
     {
         if self.is_served(position) {
+            return self.plan;
+        }
+        if self.can_drop(position) {
             self.plan
         } else {
             Plan::Recover
@@ -285,19 +314,36 @@ impl HoldState {
         true
     }
 
+    /// How many of P and Q are in sync.
+    fn parities_in_sync(&self) -> usize
+        requires { 2 ≤ length self.now.places.items }
+        ensures { result ≡ plans.parities_in_sync (hold_of self.now) }
+    {
+        let m = self.places.len() - 2;
+        let p = if self.places[m].is_in_sync() { 1 } else { 0 };
+        let q = if self.places[m + 1].is_in_sync() {
+            1
+        } else {
+            0
+        };
+        p + q
+    }
+
     /// The plan with which the hold begins.
     pub(crate) fn first_plan(&self) -> Plan
-        requires count { 2 ≤ length self.now.places.items }
+        requires count { 4 ≤ length self.now.places.items }
         requires fits { IsTask (length self.now.places.items) self.now.len self.now.task }
-        ensures plan { plan_of result ≡ beginning (hold_of self.now) (hold_of self.now).kind }
+        requires kind { is_idle (hold_of self.now).kind ≡ false }
+        ensures plan { plan_of result ≡ plans.first_plan (hold_of self.now) (hold_of self.now).kind }
         ensures suits { Suits result self.now.task }
+        ensures overwrites { result ≡ Plan.Overwrite → plans.parities_in_sync (hold_of self.now) ≡ 0 }
     {
         let Some(task) = &self.task else {
             return Plan::Recover;
         };
         match task {
             Task::Read(index) => self.plan_of_read(*index),
-            Task::Write(_, _) => self.plan_of_write(),
+            Task::Write(index, _) => self.plan_of_write(*index),
         }
     }
 
@@ -313,16 +359,30 @@ impl HoldState {
         }
     }
 
-    fn plan_of_write(&self) -> Plan
-        requires { 2 ≤ length self.now.places.items }
-        ensures plan { (batch : List (ℕ × List ℕ)) → plan_of result ≡ beginning (hold_of self.now) (Write batch) }
-        ensures either { (result ≡ Plan.Reconstruct) ⊎ (result ≡ Plan.Recover) }
+    /// The plan of a write with the fewest reads; of two with as many reconstruct, then modify.
+    fn plan_of_write(&self, index: usize) -> Plan
+        requires count { 4 ≤ length self.now.places.items }
+        requires below { index + 2 < length self.now.places.items }
+        requires kind { (block : List ℕ) × ((hold_of self.now).kind ≡ Write ((index, block) ∷ [])) }
+        ensures plan { plan_of result ≡ plans.first_plan (hold_of self.now) (hold_of self.now).kind }
+        ensures writes { IsWritePlan result }
+        ensures overwrites { result ≡ Plan.Overwrite → plans.parities_in_sync (hold_of self.now) ≡ 0 }
     {
-        if self.can_reconstruct() {
-            Plan::Reconstruct
-        } else {
-            Plan::Recover
+        let data = self.places.len() - 2;
+        let parities = self.parities_in_sync();
+        let is_in_sync = self.places[index].is_in_sync();
+        if is_in_sync && parities == 0 {
+            return Plan::Overwrite;
         }
+        // by modify; where that is impossible, by recovery
+        let reads = if is_in_sync { 1 + parities } else { data };
+        if self.can_reconstruct() && data - 1 <= reads {
+            return Plan::Reconstruct;
+        }
+        if is_in_sync && reads <= data {
+            return Plan::Modify;
+        }
+        Plan::Recover
     }
 
     /// Whether the hold is over, and may end.

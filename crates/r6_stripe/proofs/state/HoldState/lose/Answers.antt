@@ -35,8 +35,8 @@ returns-clause-sound c =
     let q : Plan = c.plan_after_loss-self.result in
     let P : ℕ → Place → Type 0 = IsInCourse s.plan s.task (length s.places.items) c.requires.sound.computed in
     let Q : ℕ → Place → Type 0 = IsInCourse q s.task (length s.places.items) c.requires.sound.computed in
-    let each : Each Q s.places.items = λ j below. lose_course s.plan q s.task (length s.places.items) c.requires.sound.computed j (get_or s.places.items j no_place) (get_or s.places.items j no_place).state c.plan_after_loss-self.ensures.same (c.requires.sound.course j below) in
-    let course : Q i new = lose_course s.plan q s.task (length s.places.items) c.requires.sound.computed i old state.Out c.plan_after_loss-self.ensures.same (there P s.places.items i old c.requires.place c.index_mut.ensures.value c.requires.sound.course) in
+    let each : Each Q s.places.items = λ j below. lose_course s.plan q s.task (length s.places.items) c.requires.sound.computed j (get_or s.places.items j no_place) (get_or s.places.items j no_place).state (λ e. e) c.plan_after_loss-self.ensures.same (c.requires.sound.course j below) in
+    let course : Q i new = lose_course s.plan q s.task (length s.places.items) c.requires.sound.computed i old state.Out (λ e. refl) c.plan_after_loss-self.ensures.same (there P s.places.items i old c.requires.place c.index_mut.ensures.value c.requires.sound.course) in
     record {
       four_or_more = omega (arith, c.requires.sound.four_or_more, count);
       at_most = omega (arith, c.requires.sound.at_most, count);
