@@ -1,0 +1,153 @@
+-- What the acceptance of a request does to the state.
+use Rattle.std.proofs.Common.{◌≡◌, ℕ, zero, suc, ◌+◌, ◌*◌, ◌<◌, ◌≤◌, Bool, true, false, List, [], ◌∷◌, ◌++◌, length, map, refl, sym, ap, subst, ◌∙◌, Option, Some, None, inl, inr, arith, append_assoc, length-append}
+use Rattle.std.specs.Prelude.{nat_eq, if◌then◌else◌}
+use Rattle.std.specs.List.{IsDistinct, AllByRecursion}
+use Rattle.std.specs.Map.{keys_of}
+use Rattle.std.proofs.Math.Nat.{lt_of_not-le, suc-mul, add-mul, mul_comm, mul-le-mul}
+use Rattle.std.proofs.lemmas.Bool.{ne_eqb, cases_eq}
+use Rattle.std.proofs.lemmas.List.{map-append, length-map}
+use Rattle.r6_kernels.specs.Blocks.{IsBlock}
+use Rattle.r6_layout.specs.Layout.{shard_of, row_of}
+use Rattle.r6_stripe.specs.Holds.{Cell}
+use Rattle.r6_stripe.specs.Plans.{count_where, is_unread}
+use Rattle.r6_world.specs.Tables.{put}
+use Rattle.r6_tables.specs.Table.{next_of}
+use Rattle.r6_world.specs.PlainArray.{block_of}
+use Rattle.r6_world.specs.ShardStates.{Request, Waiting}
+use Rattle.r6_world.specs.Changes.{Accept, after}
+use Rattle.r6_frames.specs.declared.op.Op.{Op}
+use Rattle.r6_frames.specs.declared.op.Request.{Request as Entered}
+use Rattle.r6_frames.specs.declared.frames.HeldRow.{HeldRow}
+use Rattle.r6_core.specs.declared.state.State.{State}
+use Rattle.r6_frames.specs.Frames.{op_of, buffer_of, hold_at, requests_from, held_requests, owed, owed_by, owed_in, is_unsent, IsRequestOf}
+use Rattle.r6_frames.specs.Sound as held
+use Rattle.r6_core.specs.States.{IsSound, IsCore, AreRequests, state_of, layout_in, requests_of, waiting_request, finished_request, released_request, bound, limit, most_unanswered, HasSubmitFault, HasNone, submit_faults}
+use Rattle.r6_core.proofs.Passed.{all-append}
+use Rattle.r6_frames.proofs.Lists.{Entries, table, came, none_of, distinct_with, all_with}
+
+-- ---- a number above all is new
+
+pub new_number : (n : ℕ) (es : Entries Request) → AllByRecursion (λ id. id < n) (keys_of es) → AllByRecursion (λ y. nat_eq n y ≡ false) (keys_of es)
+new_number n [] h = tt
+new_number n (e ∷ es) h = (ne_eqb n e.0 (λ same. let below = h.0 in omega arith), new_number n es h.1)
+
+all_below_more : (n : ℕ) (ks : List ℕ) → AllByRecursion (λ id. id < n) ks → AllByRecursion (λ id. id < n + 1) ks
+all_below_more n [] h = tt
+all_below_more n (k ∷ ks) h = (let below = h.0 in omega arith, all_below_more n ks h.1)
+
+-- ---- the requests when one more waits
+
+-- the requests that don't wait
+abbrev pub others : State → Entries Request
+others s = held_requests s.frames ++ (map finished_request s.finished.items ++ map released_request s.released.items)
+
+pub record IsAccepted (s : State) (r : Entered) (new : Entries Request) : Type 0 where
+  pub now : table new ≡ put (table (requests_of s)) r.id (Some (record { op = op_of r.op; stage = Waiting }))
+  pub distinct : IsDistinct nat_eq (keys_of new)
+  pub numbered : AllByRecursion (λ id. id < s.accepted + 1) (keys_of new)
+  pub counted : length new ≡ length (requests_of s) + 1
+
+pub accepted : (s : State) (r : Entered) → AreRequests s → r.id ≡ s.accepted → IsAccepted s r (map waiting_request (s.waiting.items ++ r ∷ []) ++ others s)
+accepted s r are is =
+    let w = map waiting_request s.waiting.items in
+    let new : map waiting_request (s.waiting.items ++ r ∷ []) ++ others s ≡ w ++ waiting_request r ∷ others s =
+    ap (λ es. es ++ others s) (map-append waiting_request s.waiting.items (r ∷ [])) ∙ (simp append_assoc) in
+    let none : table (w ++ others s) r.id ≡ None = ap (table (w ++ others s)) is ∙ none_of s.accepted (w ++ others s) (new_number s.accepted (w ++ others s) are.numbered) in
+    record {
+      now = ap table new ∙ came w r.id (waiting_request r).1 (others s) none;
+      distinct = subst (λ es. IsDistinct nat_eq (keys_of es)) (sym new) (distinct_with w r.id (waiting_request r).1 (others s) are.distinct none);
+      numbered = subst (λ es. AllByRecursion (λ id. id < s.accepted + 1) (keys_of es)) (sym new) (all_with (λ id. id < s.accepted + 1) w r.id (waiting_request r).1 (others s) (omega (arith, is)) (all_below_more s.accepted (keys_of (w ++ others s)) are.numbered));
+      counted = ap length new ∙ length-append w (waiting_request r ∷ others s) ∙ omega (arith, length-append w (others s));
+    }
+
+-- ---- a hold owes at most two commands a position
+
+count_where-le : (test : Cell → Bool) (cells : List Cell) → count_where test cells ≤ length cells
+count_where-le test [] = omega arith
+count_where-le test (cell ∷ cells) = by_test (test cell) (count_where-le test cells)
+  where
+    by_test : (b : Bool) → count_where test cells ≤ length cells → (if b then 1 else 0) + count_where test cells ≤ suc (length cells)
+    by_test true h = omega arith
+    by_test false h = omega arith
+
+owed_by-le : (slots : ℕ) (h : HeldRow) → length h.hold.planned.hold.cells ≡ slots → owed_by h ≤ 2 * slots
+owed_by-le slots h wide =
+    let cells = h.hold.planned.hold.cells in
+    let unread : Cell → Bool = λ cell. is_unread cell.reading in
+    omega (arith, count_where-le unread cells, count_where-le is_unsent cells, wide)
+
+owed_in-le : (slots start : ℕ) (held : List (Option HeldRow)) → ((frame : ℕ) (h : HeldRow) → hold_at held frame ≡ Some h → length h.hold.planned.hold.cells ≡ slots)
+    → owed_in held ≤ length (requests_from start held) * (2 * slots)
+owed_in-le slots start [] wide = omega arith
+owed_in-le slots start (None ∷ held) wide = owed_in-le slots (start + 1) held (λ frame h is. wide (suc frame) h is)
+owed_in-le slots start (Some h ∷ held) wide =
+    let rest = owed_in-le slots (start + 1) held (λ frame h is. wide (suc frame) h is) in
+    let own = owed_by-le slots h (wide zero h refl) in
+    omega (arith, suc-mul (length (requests_from (start + 1) held)) (2 * slots), rest, own)
+
+-- with so few requests that wait or are held, and one more that comes, so many commands may come at most
+room_for : (slots waiting held owes : ℕ) → slots ≤ 32 → owes ≤ held * (2 * slots) → held + waiting + 1 ≤ most_unanswered
+    → owes + 2 * slots * (waiting + 1) ≤ 2 * 32 * most_unanswered
+room_for slots waiting held owes few at_most_owes all =
+    let both : (held + (waiting + 1)) * (2 * slots) ≡ held * (2 * slots) + (waiting + 1) * (2 * slots) = add-mul held (waiting + 1) (2 * slots) in
+    let turned : 2 * slots * (waiting + 1) ≡ (waiting + 1) * (2 * slots) = mul_comm (2 * slots) (waiting + 1) in
+    let requests : held + (waiting + 1) ≤ 256 = omega arith in
+    let commands : 2 * slots ≤ 64 = omega arith in
+    let at_most : (held + (waiting + 1)) * (2 * slots) ≤ 256 * 64 = mul-le-mul requests commands in
+    omega (arith, both, turned, at_most, at_most_owes)
+
+-- ---- the state with one more request
+
+abbrev pub with_request : State → Entered → State
+with_request s r =
+    record s { accepted = s.accepted + 1; unanswered = s.unanswered + 1; waiting = record { items = s.waiting.items ++ r ∷ []; capacity = s.waiting.capacity } }
+
+-- a request with no fault is one of the shard's
+pub request_of : (s : State) (o : Op) → HasNone (HasSubmitFault s o) submit_faults → IsBlock (length (buffer_of o)) (buffer_of o) → (id : ℕ)
+    → IsRequestOf s.frames (record { id = id; op = o })
+request_of s o right sized id =
+    record {
+      there = lt_of_not-le right.0;
+      own = elim (cases_eq (shard_of s.frames.geometry (row_of s.frames.geometry (block_of (op_of o)))) s.frames.shard) [ inl e ↦ e | inr ne ↦ absurd (right.1.0 ne) ];
+      sized = elim (cases_eq (length (buffer_of o)) s.frames.geometry.block) [ inl e ↦ record { length_is = e; bytes = sized.bytes } | inr ne ↦ absurd (right.1.1.0 ne) ];
+    }
+
+pub accepted_core : (s : State) (o : Op) → IsCore s → HasNone (HasSubmitFault s o) submit_faults → IsBlock (length (buffer_of o)) (buffer_of o)
+    → IsCore (with_request s (record { id = s.accepted; op = o }))
+accepted_core s o core right sized =
+    let sound = core.sound in
+    let r : Entered = record { id = s.accepted; op = o } in
+    let more = accepted s r sound.requests refl in
+    let tokens : next_of s.frames.commands < limit = lt_of_not-le (λ le. right.1.1.1.0 (inl le)) in
+    let fresh : s.accepted < limit = lt_of_not-le (λ le. right.1.1.1.0 (inr le)) in
+    let few : s.unanswered < most_unanswered = lt_of_not-le right.1.1.1.1.0 in
+    let longer : length (s.waiting.items ++ r ∷ []) ≡ length s.waiting.items + 1 = length-append s.waiting.items (r ∷ []) in
+    let counted : length s.waiting.items + (length (held_requests s.frames) + length (map finished_request s.finished.items ++ map released_request s.released.items)) ≡ s.unanswered =
+    ap (λ n. n + (length (held_requests s.frames) + length (map finished_request s.finished.items ++ map released_request s.released.items))) (sym (length-map s.waiting.items waiting_request))
+    ∙ ap (λ n. length (map waiting_request s.waiting.items) + n) (sym (length-append (held_requests s.frames) (map finished_request s.finished.items ++ map released_request s.released.items)))
+    ∙ sym (length-append (map waiting_request s.waiting.items) (others s)) ∙ sound.requests.counted in
+    let owes = owed_in-le s.frames.geometry.slots 0 s.frames.held.items (λ frame h is. (sound.frames.frames.rows frame h is).wide) in
+    let room = room_for s.frames.geometry.slots (length s.waiting.items) (length (held_requests s.frames)) (owed s.frames) sound.frames.shape.slots_allowed.1 owes (omega (arith, counted, few)) in
+    let all : bound s + 0 ≡ bound s = omega arith in
+    record {
+      sound = record {
+        frames = sound.frames;
+        requests = record {
+          distinct = more.distinct;
+          numbered = more.numbered;
+          counted = more.counted ∙ ap (λ n. n + 1) sound.requests.counted;
+          few = omega (arith, few);
+          waiting = all-append (IsRequestOf s.frames) s.waiting.items (r ∷ []) sound.requests.waiting (request_of s o right sized s.accepted, tt);
+        };
+        room = record { waiting = sound.room.waiting; finished = sound.room.finished; released = sound.room.released };
+        tokens = subst (λ n. next_of s.frames.commands + owed s.frames + 2 * s.frames.geometry.slots * n ≤ limit + 2 * 32 * most_unanswered) (sym longer) (omega (arith, room, tokens));
+        accepted = omega (arith, fresh);
+      };
+      rested = core.rested;
+    }
+
+pub accepted_state : (s : State) (o : Op) → IsSound s
+    → state_of (with_request s (record { id = s.accepted; op = o })) ≡ after (layout_in s) (state_of s) (Accept (op_of o))
+accepted_state s o sound =
+    let more = accepted s (record { id = s.accepted; op = o }) sound.requests refl in
+    ap (λ (requests : ℕ → Option Request). record (state_of s) { accepted = s.accepted + 1; request = requests }) more.now

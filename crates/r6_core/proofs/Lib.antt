@@ -1,0 +1,17 @@
+pub mod Accepting
+pub mod AtRest
+pub mod Commands
+pub mod Delivering
+pub mod FirstReads
+pub mod Fresh
+pub mod Kept
+pub mod Known
+pub mod Passed
+pub mod Releasing
+pub mod Replies
+pub mod Scanned
+pub mod Starting
+pub mod Stepping
+pub mod Swapped
+pub mod Throughs
+pub mod Whole

@@ -1,0 +1,42 @@
+-- An entry goes from one part of a list to another.
+use Rattle.std.proofs.Common.{◌≡◌, ℕ, ◌+◌, List, [], ◌∷◌, ◌++◌, length, map, refl, sym, ap, subst, ◌∙◌, Option, Some, None, arith, length-append}
+use Rattle.std.specs.Prelude.{nat_eq}
+use Rattle.std.specs.List.{IsDistinct, AllByRecursion}
+use Rattle.std.specs.Map.{keys_of}
+use Rattle.r6_world.specs.Tables.{put}
+use Rattle.r6_frames.proofs.Lists.{Entries, table, moved, own, apart, all_parts, all_with}
+
+pub record Passed {X : Type 0} (old new : Entries X) (k : ℕ) (r r' : X) : Type 1 where
+  pub was : table old k ≡ Some r
+  pub now : table new ≡ put (table old) k (Some r')
+  pub distinct : IsDistinct nat_eq (keys_of new)
+  pub count : length new ≡ length old
+  pub keeps : (P : ℕ → Type 0) → AllByRecursion P (keys_of old) → AllByRecursion P (keys_of new)
+
+pub passed : {X : Type 0} (xs ys xs' ys' : Entries X) (k : ℕ) (r r' : X) (old new : Entries X)
+    → old ≡ xs ++ (k, r) ∷ ys → new ≡ xs' ++ (k, r') ∷ ys' → xs ++ ys ≡ xs' ++ ys'
+    → IsDistinct nat_eq (keys_of old) → Passed old new k r r'
+passed xs ys xs' ys' k r r' old new is becomes same distinct =
+    let h = subst (λ es. IsDistinct nat_eq (keys_of es)) is distinct in
+    let both = moved xs ys k r r' xs' ys' h same in
+    record {
+      was = ap (λ es. table es k) is ∙ own xs k r ys (apart xs k r ys h);
+      now = ap (λ es. table es) becomes ∙ both.0 ∙ ap (λ es. put (table es) k (Some r')) (sym is);
+      distinct = subst (λ es. IsDistinct nat_eq (keys_of es)) (sym becomes) both.1;
+      count =
+          let from = ap length is ∙ length-append xs ((k, r) ∷ ys) in
+          let to = ap length becomes ∙ length-append xs' ((k, r') ∷ ys') in
+          let less = sym (length-append xs ys) ∙ ap length same ∙ length-append xs' ys' in
+          omega (arith, from, to, less);
+      keeps = λ P all.
+          let parts = all_parts P xs k r ys (subst (λ es. AllByRecursion P (keys_of es)) is all) in
+          subst (λ es. AllByRecursion P (keys_of es)) (sym becomes) (all_with P xs' k r' ys' parts.0 (subst (λ es. AllByRecursion P (keys_of es)) same parts.1));
+    }
+
+pub map-append : {A B : Type 0} (f : A → B) (xs ys : List A) → map f (xs ++ ys) ≡ map f xs ++ map f ys
+map-append f [] ys = refl
+map-append f (x ∷ xs) ys = ap (λ zs. f x ∷ zs) (map-append f xs ys)
+
+pub all-append : {X : Type 0} (Fact : X → Type 0) (xs ys : List X) → AllByRecursion Fact xs → AllByRecursion Fact ys → AllByRecursion Fact (xs ++ ys)
+all-append Fact [] ys a b = b
+all-append Fact (x ∷ xs) ys a b = (a.0, all-append Fact xs ys a.1 b)

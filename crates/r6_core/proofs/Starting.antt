@@ -1,0 +1,325 @@
+-- The oldest request that waits starts in a free frame, or goes behind the others.
+use Rattle.std.proofs.Common.{◌≡◌, ◌≢◌, ℕ, ◌+◌, ◌*◌, ◌^◌, ◌<◌, ◌≤◌, Bool, true, false, cond, List, [], ◌∷◌, ◌++◌, length, map, drop, refl, sym, ap, subst, ◌∙◌, Option, Some, None, inl, inr, arith, append_assoc, length-append}
+use mathlib.Core.Path.{fun_ext}
+use Rattle.std.specs.Prelude.{nat_eq, ◌||◌, option_map, slice_get}
+use Rattle.std.specs.List.{IsDistinct, AllByRecursion}
+use Rattle.std.specs.Map.{keys_of}
+use Rattle.std.proofs.Math.Nat.{mul-suc}
+use Rattle.std.proofs.lemmas.Bool.{cases_eq, eqb-true}
+use Rattle.std.proofs.lemmas.List.{map-append}
+use Rattle.r6_layout.specs.Layout.{row_of}
+use Rattle.r6_layout.proofs.Places.{row_of-lt}
+use Rattle.r6_stripe.specs.Plans.{next}
+use Rattle.r6_tables.specs.Table.{next_of}
+use Rattle.r6_world.specs.Tables.{put}
+use Rattle.r6_world.specs.PlainArray as world
+use Rattle.r6_world.specs.PlainArray.{block_of}
+use Rattle.r6_world.specs.Layouts.{Layout}
+use Rattle.r6_world.specs.Geometries.{layout_of}
+use Rattle.r6_world.specs.Tasks.{Hold, planned}
+use Rattle.r6_world.specs.ShardStates.{Shard, Request, Stage, Waiting, Held, Command, IsFree, NotHeld, frames, begun}
+use Rattle.r6_world.specs.Changes.{Change, Start, Ask, Prepare, Send, after, MayStart, staged}
+use Rattle.r6_world.specs.Steps.{Leads, Through, Scans, IsRequest}
+use Rattle.r6_frames.specs.declared.op.Op.{Op}
+use Rattle.r6_frames.specs.declared.op.Op.TheVariants as op
+use Rattle.r6_frames.specs.declared.op.Request.{Request as Entered}
+use Rattle.r6_frames.specs.declared.command.Outstanding.{Outstanding}
+use Rattle.r6_frames.specs.declared.frames.Frames.{Frames}
+use Rattle.r6_core.specs.declared.state.State.{State}
+use Rattle.r6_frames.specs.Frames.{op_of, task_for, hold_of, hold_at, frame_of, held_requests, command_of, outstanding, shard_with, owed, begun_for, Begins, Drives, PutsOut, IsFreeFrame, IsHeldFrame, NotHeldBy, IsDriven, IsOver, ReadsFirst, IsRequestOf, KeepsOthers}
+use Rattle.r6_frames.specs.Sound as held
+use Rattle.r6_core.specs.States.{IsSound, IsCore, IsRestedFrame, CanStart, Advances, state_of, layout_in, requests_of, waiting_request, finished_request, released_request, table, bound, limit, most_unanswered}
+use Rattle.r6_frames.proofs.Lists.{Entries, same_put}
+use Rattle.r6_frames.proofs.Held.{put_own}
+use Rattle.r6_core.proofs.Kept.{requests_kept}
+use Rattle.r6_core.proofs.Passed.{Passed, passed, all-append}
+use Rattle.r6_core.proofs.Throughs.{through_of}
+use Rattle.r6_frames.proofs.Resting.{frame-held, live}
+use Rattle.r6_core.proofs.Accepting.{others}
+use Rattle.r6_core.proofs.FirstReads.{may_begin, reads_first}
+
+-- ---- what a start leaves of a shard
+
+pub popped : (rs : List Entered) (r : Entered) → Some r ≡ slice_get rs 0 → rs ≡ r ∷ drop 1 rs
+popped [] r e = absurd (cc)
+popped (x ∷ rs) r e = let same : x ≡ r = cc in ap (λ (y : Entered). y ∷ rs) same
+
+or_false : (b : Bool) → (b || false) ≡ b
+or_false true = refl
+or_false false = refl
+
+-- the request goes to its stage
+stage_put : (g : ℕ → Option Request) (id : ℕ) (op : world.Op) (from to : Stage) → g id ≡ Some (record { op = op; stage = from })
+    → put g id (Some (record { op = op; stage = to })) ≡ (λ q. cond (nat_eq q id) (staged (g q) to) (g q))
+stage_put g id op from to is =
+    fun_ext (λ q. elim (nat_eq q id) as (λ b. nat_eq q id ≡ b → cond b (Some (record { op = op; stage = to })) (g q) ≡ cond b (staged (g q) to) (g q)) [
+      | true ↦ λ e. sym (ap (λ o. staged o to) (ap g (eqb-true q id e) ∙ is))
+      | false ↦ λ e. refl
+    ] refl)
+
+start_after : (l : Layout) (s : Shard) (frame row id : ℕ) (o : Op)
+    → after l s (Start frame row (task_for id o)) ≡ record s { frame = put s.frame frame (Some (begun l s.slot row (task_for id o))); request = λ q. cond (nat_eq q id) (staged (s.request q) (Held frame)) (s.request q) }
+start_after l s frame row id (op.Read block buffer) = refl
+start_after l s frame row id (op.Write block buffer) =
+    let requests : (λ q. cond (nat_eq q id || false) (staged (s.request q) (Held frame)) (s.request q)) ≡ (λ q. cond (nat_eq q id) (staged (s.request q) (Held frame)) (s.request q)) =
+    fun_ext (λ q. ap (λ (b : Bool). cond b (staged (s.request q) (Held frame)) (s.request q)) (or_false (nat_eq q id))) in
+    ap (λ (request : ℕ → Option Request). record s { frame = put s.frame frame (Some (begun l s.slot row (task_for id (op.Write block buffer)))); request = request }) requests
+
+is_request : (id : ℕ) (o : Op) → IsRequest (task_for id o)
+is_request id (op.Read block buffer) = record {}
+is_request id (op.Write block buffer) = record {}
+
+may_start : (l : Layout) (s : Shard) (id : ℕ) (o : Op) → s.request id ≡ Some (record { op = op_of o; stage = Waiting }) → MayStart l s (l.row_of (block_of (op_of o))) (task_for id o)
+may_start l s id (op.Read block buffer) is = (is, refl)
+may_start l s id (op.Write block buffer) is = ((λ e. (cc)), (is, refl, refl, record {}))
+
+scans : (change : Change) → PutsOut change → Scans change
+scans (Ask frame h slot generation) p = record {}
+scans (Prepare frame h event) p = record {}
+scans (Send frame h slot generation block) p = record {}
+scans change p = absurd p
+
+-- ---- the frames of the code are those of the shard
+
+not_held : (accepted : ℕ) (request : ℕ → Option Request) (fs : Frames) (row : ℕ) → NotHeldBy fs row → NotHeld (shard_with accepted request fs) row
+not_held accepted request fs row free frame hold is at =
+    let there = frame-held fs frame hold is in
+    free frame there.0 there.1 (ap (λ (h : Hold). h.row) there.2 ∙ at)
+
+command-given : (handed token : ℕ) (o : Option Outstanding) (c : Command) → option_map (command_of handed token) o ≡ Some c → (x : Outstanding) × (o ≡ Some x) × (x.frame ≡ c.frame)
+command-given handed token None c e = absurd (cc)
+command-given handed token (Some x) c e = let same : command_of handed token x ≡ c = cc in (x, refl, ap (λ (c : Command). c.frame) same)
+
+is_free : (accepted : ℕ) (request : ℕ → Option Request) (fs : Frames) (frame : ℕ) → held.IsSound fs → IsFreeFrame fs frame → IsFree (layout_of fs.geometry) (shard_with accepted request fs) frame
+is_free accepted request fs frame sound free = (
+  free.0,
+  ap (option_map hold_of) free.1,
+  λ token c is at.
+      let there = command-given fs.handed token (outstanding fs token) c is in
+      let of = sound.commands.of_hold token there.0 there.1 in
+      let none : hold_at fs.held.items (there.0).frame ≡ None = ap (hold_at fs.held.items) (there.2 ∙ at) ∙ free.1 in
+      let both : Some of.holder ≡ None = sym of.held ∙ none in
+      absurd (cc),
+)
+
+-- ---- a row is held for the request
+
+module _ (old : Frames) (frame : ℕ) (request : Entered) (mid : Frames) (begins : Begins old frame request mid) where
+  begun_shard : shard_with 0 (λ id. None) mid ≡ record (shard_with 0 (λ id. None) old) { frame = put (frame_of old) frame (Some (begun_for old request)) }
+  begun_shard = begins.shard.2 0 (λ id. None)
+
+  begun_frame : frame_of mid frame ≡ Some (begun_for old request)
+  begun_frame = ap (λ (s : Shard). s.frame frame) begun_shard ∙ put_own (frame_of old) frame (Some (begun_for old request))
+
+  pub begun_held : IsHeldFrame mid frame
+  begun_held = let there = frame-held mid frame (begun_for old request) begun_frame in (there.0, there.1)
+
+  pub begun_tokens : next_of mid.commands ≡ next_of old.commands
+  begun_tokens = ap (λ (s : Shard). s.tokens) begun_shard
+
+  pub begun_reads : held.IsSound old → ReadsFirst mid frame
+  begun_reads sound h is =
+      let same : Some (hold_of h) ≡ Some (begun_for old request) = ap (option_map hold_of) (sym is) ∙ begun_frame in
+      let own : hold_of h ≡ begun_for old request = cc in
+      let reads = reads_first old.geometry (row_of old.geometry (block_of (op_of request.op))) request.id request.op sound.shape in
+      (reads.0, ap (λ (x : Hold). next (planned x)) own ∙ reads.1)
+
+  -- the tokens suffice for what may come
+  pub begun_numbers : (s : State) (rest : List Entered) → IsSound s → s.waiting.items ≡ request ∷ rest → old ≡ s.frames → owed mid ≡ owed old + 2 * old.geometry.slots
+      → next_of mid.commands + owed mid < 2 ^ 63
+  begun_numbers s rest sound items same owes =
+      let slots = s.frames.geometry.slots in
+      let all : 2 * slots * length s.waiting.items ≡ 2 * slots * length rest + 2 * slots = ap (λ rs. 2 * slots * length rs) items ∙ mul-suc (2 * slots) (length rest) in
+      let tokens = begun_tokens ∙ ap (λ fs. next_of fs.commands) same in
+      let more : owed mid ≡ owed s.frames + 2 * slots = owes ∙ ap (λ fs. owed fs + 2 * fs.geometry.slots) same in
+      few (next_of s.frames.commands) (next_of mid.commands) (owed s.frames) (owed mid) (2 * slots) (2 * slots * length rest) (2 * slots * length s.waiting.items) tokens more all sound.tokens
+    where
+      few : (n0 n1 o0 o1 each fewer all : ℕ) → n1 ≡ n0 → o1 ≡ o0 + each → all ≡ fewer + each → n0 + o0 + all ≤ limit + 2 * 32 * most_unanswered → n1 + o1 < 2 ^ 63
+      few n0 n1 o0 o1 each fewer all a b c d = omega arith
+
+-- ---- the start of the oldest request
+
+pub record IsStart (s : State) (request : Entered) (rest : List Entered) (frame : ℕ) (mid new : Frames) : Type 0 where
+  pub items : s.waiting.items ≡ request ∷ rest
+  pub can : CanStart s request frame
+  pub begins : Begins s.frames frame request mid
+  pub begun_others : KeepsOthers s.frames frame mid
+  pub begun_owed : owed mid ≡ owed s.frames + 2 * s.frames.geometry.slots
+  pub sound : held.IsSound new
+  pub drives : Drives mid new
+  pub driven : IsDriven new frame
+  pub held_still : IsHeldFrame new frame
+  pub others_kept : KeepsOthers mid frame new
+  pub requests : held_requests new ≡ held_requests mid
+  pub all_owed : next_of new.commands + owed new ≡ next_of mid.commands + owed mid
+  pub out : ReadsFirst mid frame → IsOver new frame → ⊥
+
+abbrev pub with_frames : State → List Entered → Frames → State
+with_frames s rest new = record s { waiting = record { items = rest; capacity = s.waiting.capacity }; frames = new }
+
+module _ (s : State) (request : Entered) (rest : List Entered) (frame : ℕ) (mid new : Frames) (is : IsStart s request rest frame mid new) where
+  geometry_same : new.geometry ≡ s.frames.geometry
+  geometry_same = is.drives.0 ∙ is.begins.shard.0
+
+  shard_same : new.shard ≡ s.frames.shard
+  shard_same = is.drives.1 ∙ is.begins.shard.1
+
+  pub started_same : (new.geometry ≡ s.frames.geometry) × (new.shard ≡ s.frames.shard)
+  started_same = (geometry_same, shard_same)
+
+  frames_same : (other : ℕ) → other ≢ frame → hold_at new.held.items other ≡ hold_at s.frames.held.items other
+  frames_same other ne = is.others_kept other ne ∙ is.begun_others other ne
+
+  -- the request goes from those that wait to those that rows are held for
+  requests_started : IsDistinct nat_eq (keys_of (requests_of s))
+      → Passed (requests_of s) (requests_of (with_frames s rest new)) request.id (record { op = op_of request.op; stage = Waiting }) (record { op = op_of request.op; stage = Held frame })
+  requests_started distinct =
+      let to = is.begins.requests in
+      let tail : Entries Request = map finished_request s.finished.items ++ map released_request s.released.items in
+      let waiting : Entries Request = map waiting_request rest in
+      passed [] (waiting ++ ((to.before ++ to.behind) ++ tail)) (waiting ++ to.before) (to.behind ++ tail) request.id _ _ _ _
+      (λ i. map waiting_request (is.items i) ++ (to.without i ++ tail))
+      (ap (λ (es : Entries Request). waiting ++ (es ++ tail)) (is.requests ∙ to.with) ∙ (simp append_assoc))
+      (simp append_assoc)
+      distinct
+
+  started_mid : (more : IsDistinct nat_eq (keys_of (requests_of s)))
+      → shard_with s.accepted (table (requests_of (with_frames s rest new))) mid
+      ≡ after (layout_in s) (state_of s) (Start frame (row_of s.frames.geometry (block_of (op_of request.op))) (task_for request.id request.op))
+  started_mid distinct =
+      let l = layout_in s in
+      let row = row_of s.frames.geometry (block_of (op_of request.op)) in
+      let requests = requests_started distinct in
+      let first : Option Hold = Some (begun_for s.frames request) in
+      is.begins.shard.2 s.accepted (table (requests_of (with_frames s rest new)))
+      ∙ ap (λ (request : ℕ → Option Request). record (shard_with s.accepted request s.frames) { frame = put (frame_of s.frames) frame first })
+      (requests.now ∙ stage_put (table (requests_of s)) request.id (op_of request.op) Waiting (Held frame) requests.was)
+      ∙ sym (start_after l (state_of s) frame row request.id request.op)
+
+  pub started_leads : IsSound s → Through (layout_in s) s.frames.shard Scans (state_of s) (state_of (with_frames s rest new))
+  started_leads sound =
+      let l = layout_in s in
+      let n = s.frames.shard in
+      let row = row_of s.frames.geometry (block_of (op_of request.op)) in
+      let distinct = sound.requests.distinct in
+      let own = (subst (λ rs. AllByRecursion (IsRequestOf s.frames) rs) is.items sound.requests.waiting).0 in
+      let begun_at = shard_with s.accepted (table (requests_of (with_frames s rest new))) mid in
+      let later : Through (layout_of mid.geometry) mid.shard PutsOut begun_at (state_of (with_frames s rest new)) = is.drives.2 s.accepted (table (requests_of (with_frames s rest new))) in
+      let here : Through l n PutsOut begun_at (state_of (with_frames s rest new)) =
+      subst (λ (n : ℕ). Through l n PutsOut begun_at (state_of (with_frames s rest new))) is.begins.shard.1
+      (subst (λ g. Through (layout_of g) mid.shard PutsOut begun_at (state_of (with_frames s rest new))) is.begins.shard.0 later) in
+      let driven = through_of l n PutsOut Scans scans begun_at (state_of (with_frames s rest new)) here in
+      let task = task_for request.id request.op in (
+        Start frame row task ∷ driven.0,
+        (
+          is_request request.id request.op,
+          (
+            is_free s.accepted (table (requests_of s)) s.frames frame sound.frames is.can.0,
+            not_held s.accepted (table (requests_of s)) s.frames row is.can.1,
+            (row_of-lt s.frames.geometry (block_of (op_of request.op)) sound.frames.shape own.there, own.own),
+            live s.accepted (table (requests_of s)) s.frames,
+            may_start l (state_of s) request.id request.op (requests_started distinct).was,
+            may_begin s.frames.geometry row request.id request.op sound.frames.shape own.sized,
+          ),
+          subst (λ (from : Shard). Leads l n Scans from driven.0 (state_of (with_frames s rest new))) (started_mid distinct) driven.1,
+        ),
+      )
+
+  -- how many commands may come stays the same
+  started_bound : bound (with_frames s rest new) ≡ bound s
+  started_bound =
+      let slots = s.frames.geometry.slots in
+      let fewer : 2 * slots * length s.waiting.items ≡ 2 * slots * length rest + 2 * slots = ap (λ rs. 2 * slots * length rs) is.items ∙ mul-suc (2 * slots) (length rest) in
+      let same : 2 * new.geometry.slots * length rest ≡ 2 * slots * length rest = ap (λ g. 2 * g.slots * length rest) geometry_same in
+      summed (next_of s.frames.commands) (next_of mid.commands) (next_of new.commands) (owed s.frames) (owed mid) (owed new) (2 * slots)
+      (2 * new.geometry.slots * length rest) (2 * slots * length rest) (2 * slots * length s.waiting.items)
+      (begun_tokens s.frames frame request mid is.begins) is.begun_owed is.all_owed same fewer
+    where
+      summed : (n0 n1 n2 o0 o1 o2 each few few' all : ℕ) → n1 ≡ n0 → o1 ≡ o0 + each → n2 + o2 ≡ n1 + o1 → few ≡ few' → all ≡ few' + each → n2 + o2 + few ≡ n0 + o0 + all
+      summed n0 n1 n2 o0 o1 o2 each few few' all a b c d e = omega arith
+
+  pub started_core : IsCore s → IsCore (with_frames s rest new)
+  started_core core =
+      let sound = core.sound in
+      let requests = requests_started sound.requests.distinct in
+      record {
+        sound = record {
+          frames = is.sound;
+          requests = record {
+            distinct = requests.distinct;
+            numbered = requests.keeps (λ id. id < s.accepted) sound.requests.numbered;
+            counted = requests.count ∙ sound.requests.counted;
+            few = sound.requests.few;
+            waiting = requests_kept s.frames new rest geometry_same shard_same (subst (λ rs. AllByRecursion (IsRequestOf s.frames) rs) is.items sound.requests.waiting).1;
+          };
+          room = record { waiting = sound.room.waiting; finished = sound.room.finished; released = sound.room.released };
+          tokens = subst (λ (n : ℕ). n ≤ limit + 2 * 32 * most_unanswered) (sym started_bound) sound.tokens;
+          accepted = sound.accepted;
+        };
+        rested = λ f. elim (cases_eq f frame) [
+          | inl e ↦ subst (IsRestedFrame (with_frames s rest new)) (sym e) (is.driven, is.out (begun_reads s.frames frame request mid is.begins sound.frames))
+          | inr ne ↦
+              let same = frames_same f ne in
+              ((λ h there. (core.rested f).0 h (sym same ∙ there)), (λ over. (core.rested f).1 (over.0, sym same ∙ over.1, over.2)))
+        ];
+      }
+
+  pub started_advances : IsSound s → Advances s (with_frames s rest new)
+  started_advances sound = (
+    request,
+    rest,
+    is.items,
+    inl refl,
+    λ other cannot free_row f free.
+        let apart : f ≢ frame = λ e. let both : Some is.held_still.0 ≡ None = sym is.held_still.1 ∙ ap (hold_at new.held.items) (sym e) ∙ free.1 in absurd (cc) in
+        cannot
+        (λ g h held_row row.
+        let other_frame : g ≢ frame = λ e. let both : Some h ≡ None = sym held_row ∙ ap (hold_at s.frames.held.items) e ∙ is.can.0.1 in absurd (cc) in
+        free_row g h (frames_same g other_frame ∙ held_row) (row ∙ ap (λ shape. row_of shape (block_of (op_of other.op))) (sym geometry_same)))
+        f (free.0, sym (frames_same f apart) ∙ free.1),
+  )
+
+-- ---- the oldest request goes behind the others
+
+abbrev pub with_waiting : State → List Entered → State
+with_waiting s items = record s { waiting = record { items = items; capacity = s.waiting.capacity } }
+
+module _ (s : State) (request : Entered) (rest : List Entered) (items : s.waiting.items ≡ request ∷ rest) where
+  requests_turned : IsDistinct nat_eq (keys_of (requests_of s))
+      → Passed (requests_of s) (requests_of (with_waiting s (rest ++ request ∷ []))) request.id (waiting_request request).1 (waiting_request request).1
+  requests_turned distinct =
+      let waiting : Entries Request = map waiting_request rest in
+      passed [] (waiting ++ others s) waiting (others s) request.id _ _ _ _
+      (ap (λ rs. map waiting_request rs ++ others s) items)
+      (ap (λ (es : Entries Request). es ++ others s) (map-append waiting_request rest (request ∷ [])) ∙ (simp append_assoc))
+      refl
+      distinct
+
+  pub turned_state : IsSound s → state_of (with_waiting s (rest ++ request ∷ [])) ≡ state_of s
+  turned_state sound =
+      let requests = requests_turned sound.requests.distinct in
+      let same = same_put (table (requests_of s)) (table (requests_of s)) request.id _ requests.was (λ q e. refl) in
+      ap (λ (request : ℕ → Option Request). shard_with s.accepted request s.frames) (requests.now ∙ sym same)
+
+  pub turned_core : IsCore s → IsCore (with_waiting s (rest ++ request ∷ []))
+  turned_core core =
+      let sound = core.sound in
+      let requests = requests_turned sound.requests.distinct in
+      let all = subst (λ rs. AllByRecursion (IsRequestOf s.frames) rs) items sound.requests.waiting in
+      let long : length (rest ++ request ∷ []) ≡ length s.waiting.items = length-append rest (request ∷ []) ∙ omega (arith, ap length items) in
+      record {
+        sound = record {
+          frames = sound.frames;
+          requests = record {
+            distinct = requests.distinct;
+            numbered = requests.keeps (λ id. id < s.accepted) sound.requests.numbered;
+            counted = requests.count ∙ sound.requests.counted;
+            few = sound.requests.few;
+            waiting = all-append (IsRequestOf s.frames) rest (request ∷ []) all.1 (all.0, tt);
+          };
+          room = record { waiting = sound.room.waiting; finished = sound.room.finished; released = sound.room.released };
+          tokens = subst (λ (n : ℕ). next_of s.frames.commands + owed s.frames + 2 * s.frames.geometry.slots * n ≤ limit + 2 * 32 * most_unanswered) (sym long) sound.tokens;
+          accepted = sound.accepted;
+        };
+        rested = core.rested;
+      }

@@ -1,0 +1,9 @@
+use Rattle.std.proofs.Common.{subst}
+use Rattle.r6_world.specs.Steps.{Submit}
+use Rattle.r6_frames.specs.Frames.{op_of}
+use Rattle.r6_core.specs.States.{Step}
+use Rattle.r6_core.proofs.calls.Core.submit.Goals as goal
+
+pub returns-clause-step : goal.returns-clause-step
+returns-clause-step c =
+    subst (λ old. Step old (Submit (op_of c.args.op) c.in_ok-submit.field-0) c.submit.new.self) c.self.view_is c.in_ok-submit.ensures.step

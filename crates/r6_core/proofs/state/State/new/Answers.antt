@@ -1,0 +1,7 @@
+use Rattle.std.proofs.Common.{refl}
+use Rattle.r6_core.proofs.Fresh.{fresh_core}
+use Rattle.r6_core.proofs.state.State.new.Goals as goal
+
+pub returns-clause-core : goal.returns-clause-core
+returns-clause-core c =
+    fresh_core _ refl refl c.in_ok-with_capacity.ensures c.in_ok-with_capacity-2.ensures c.in_ok-with_capacity-3.ensures c.in_ok-new.ensures.sound c.in_ok-new.ensures.start.0

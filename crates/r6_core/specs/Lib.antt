@@ -1,0 +1,4 @@
+pub mod Refusals
+pub mod States
+pub use Rattle.r6_frames.specs.Frames
+pub use Rattle.r6_frames.specs.Sound

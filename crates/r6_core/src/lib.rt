@@ -1,0 +1,19 @@
+//! The core of one shard: a passive state machine, driven by requests, completions and looks at the register.
+#![tactic(auto)]
+
+mod calls;
+mod laws;
+mod refusal;
+mod reply;
+mod scan;
+mod state;
+
+pub use calls::Core;
+pub use laws::array_law;
+pub use r6_frames::{Command, CommandKind, Op};
+pub use refusal::{CoreError, DeviceFault, FaultKind, Receipt, Refusal, Refused};
+pub use reply::{OpId, Reply};
+pub use state::State;
+
+#[cfg(test)]
+mod tests;

@@ -1,0 +1,172 @@
+-- A hold puts a command out: what it does by itself first, and the command, as changes of the shard.
+use Rattle.std.proofs.Common.{◌≡◌, ℕ, zero, suc, ◌+◌, ◌<◌, ◌≤◌, true, List, [], ◌∷◌, length, set, refl, sym, ap, subst, ◌∙◌, Option, Some, inl, arith}
+use Rattle.std.specs.Prelude.{option_map}
+use Rattle.r6_layout.specs.Layout.{position_at}
+use Rattle.r6_stripe.specs.Holds.{Event, MayAsk, MayWrite, after_event}
+use Rattle.r6_stripe.specs.Holds.Event.{Asks, Restores, Computes, Writes, Gives, Confirms, Loses}
+use Rattle.r6_stripe.specs.Plans.{Planned, Next, next, planned_after, planned_at, MayFollow, IsPlanned, IsSilent, AreSilent}
+use Rattle.r6_stripe.specs.Steps.{Held, PutsOut as PutsOutNext, coming, is_recover}
+use Rattle.r6_stripe.proofs.Steps.{step_by_rules, unless}
+use Rattle.r6_tables.specs.Table.{next_of, entries_of}
+use Rattle.r6_world.specs.Tables.{put, count_below}
+use Rattle.r6_world.specs.Layouts.{Layout}
+use Rattle.r6_world.specs.Geometries.{layout_of}
+use Rattle.r6_world.specs.Tasks.{Hold}
+use Rattle.r6_world.specs.ShardStates as shards
+use Rattle.r6_world.specs.ShardStates.{Shard, IsLive}
+use Rattle.r6_world.specs.Changes.{Change, Ask, Prepare, Send, IsWorkedOut, after}
+use Rattle.r6_world.specs.Steps.{Leads, Through}
+use Rattle.r6_frames.specs.declared.command.CommandKind.{CommandKind}
+use Rattle.r6_frames.specs.declared.command.CommandKind.TheVariants as command
+use Rattle.r6_frames.specs.declared.frames.HeldRow.{HeldRow}
+use Rattle.r6_frames.specs.declared.frames.Frames.{Frames}
+use Rattle.r6_frames.specs.Frames.{hold_at, hold_of, frame_of, row_command, all_synced, shard_with, PutsOut}
+use Rattle.r6_frames.proofs.Lists.{same_put}
+use Rattle.r6_frames.proofs.Held.{put_own, put_twice, frame_put, held_within}
+use Rattle.r6_frames.proofs.HeldRows.{prepared}
+use Rattle.r6_frames.proofs.CommandComes.{with_command, sent_off, new_command, command_came}
+
+-- ---- a shard with all slots in sync is live
+
+none_away : (n : ℕ) → count_below (λ d. shards.is_away (all_synced d)) n ≡ 0
+none_away zero = refl
+none_away (suc n) = let rest = none_away n in omega arith
+
+pub is_live : (accepted : ℕ) (request : ℕ → Option shards.Request) (fs : Frames) → IsLive (layout_of fs.geometry) (shard_with accepted request fs)
+is_live accepted request fs = (let none = none_away fs.geometry.slots in omega arith, refl)
+
+-- ---- what a hold does by itself
+
+worked_out : (event : Event) → IsSilent event → IsWorkedOut event
+worked_out (Restores i block) silent = record {}
+worked_out (Computes new) silent = record {}
+worked_out (Asks i) silent = absurd silent
+worked_out (Writes i block) silent = absurd silent
+worked_out (Gives i block) silent = absurd silent
+worked_out (Confirms i) silent = absurd silent
+worked_out (Loses i) silent = absurd silent
+
+hold_prepared : (h : HeldRow) (event : Event) → IsSilent event → record (hold_of h) { course = after_event h.hold.planned.hold event } ≡ hold_of (prepared h (planned_after h.hold.planned event))
+hold_prepared h (Restores i block) silent = refl
+hold_prepared h (Computes new) silent = refl
+hold_prepared h (Asks i) silent = absurd silent
+hold_prepared h (Writes i block) silent = absurd silent
+hold_prepared h (Gives i block) silent = absurd silent
+hold_prepared h (Confirms i) silent = absurd silent
+hold_prepared h (Loses i) silent = absurd silent
+
+pub prepare_leads : (l : Layout) (n : ℕ) (s new : Shard) (frame : ℕ) (h : HeldRow) (events : List Event) (rest : List Change)
+    → s.frame frame ≡ Some (hold_of h) → IsLive l s → AreSilent events → IsPlanned h.hold.planned events
+    → Leads l n PutsOut (record s { frame = put s.frame frame (Some (hold_of (prepared h (planned_at h.hold.planned events)))) }) rest new
+    → Through l n PutsOut s new
+prepare_leads l n s new frame h [] rest is live silent may leads =
+    let same : put s.frame frame (Some (hold_of h)) ≡ s.frame = sym (same_put s.frame s.frame frame (Some (hold_of h)) is (λ q e. refl)) in
+    (rest, subst (λ (f : ℕ → Option _). Leads l n PutsOut (record s { frame = f }) rest new) same leads)
+prepare_leads l n s new frame h (event ∷ events) rest is live silent may leads =
+    let h' = prepared h (planned_after h.hold.planned event) in
+    let first = record (hold_of h) { course = after_event h.hold.planned.hold event } in
+    let last = hold_of (prepared h (planned_at h.hold.planned (event ∷ events))) in
+    let s' = after l s (Prepare frame (hold_of h) event) in
+    let later = prepare_leads l n s' new frame h' events rest (put_own s.frame frame (Some first) ∙ ap (λ x. Some x) (hold_prepared h event silent.0)) live silent.1 may.1
+    (subst (λ (f : ℕ → Option _). Leads l n PutsOut (record s { frame = f }) rest new) (sym (put_twice s.frame frame (Some first) (Some last))) leads) in
+    (Prepare frame (hold_of h) event ∷ later.0, (record {}, (is, live, worked_out event silent.0, step_by_rules h.hold.planned event may.0, may.0), later.1))
+
+-- ---- the command
+
+abbrev pub put_event : ℕ → CommandKind → List ℕ → Event
+put_event position command.Read buffer = Asks position
+put_event position command.Write buffer = Writes position buffer
+
+abbrev pub put_change : ℕ → Hold → ℕ → CommandKind → List ℕ → Change
+put_change frame h slot command.Read buffer = Ask frame h slot 0
+put_change frame h slot command.Write buffer = Send frame h slot 0 buffer
+
+module _ (fs : Frames) (frame : ℕ) (h : HeldRow) (planned : Planned) (position slot : ℕ) (buffer : List ℕ) (accepted : ℕ) (request : ℕ → Option shards.Request)
+    (is : hold_at fs.held.items frame ≡ Some h) (inverse : position_at fs.geometry h.row slot ≡ position) (below : slot < fs.geometry.slots) (handed : fs.handed ≤ next_of fs.commands) where
+  abbrev l : Layout
+  l = layout_of fs.geometry
+
+  abbrev mid : Hold
+  mid = hold_of (prepared h planned)
+
+  -- the shard once the hold has prepared
+  abbrev ready : Shard
+  ready = let s = shard_with accepted request fs in record s { frame = put s.frame frame (Some mid) }
+
+  abbrev with_put : CommandKind → Frames
+  with_put kind = with_command fs frame h (planned_after planned (put_event position kind buffer)) position slot kind buffer
+
+  frame_then : (event : ℕ → Event) (new : HeldRow) → hold_of new ≡ record mid { course = after_event planned.hold (event position) }
+      → (λ x. option_map hold_of (hold_at (set fs.held.items frame (Some new)) x))
+      ≡ put (put (frame_of fs) frame (Some mid)) frame (Some (record mid { course = after_event planned.hold (event (position_at fs.geometry h.row slot)) }))
+  frame_then event new same =
+      frame_put fs.held.items frame (Some new) (held_within fs.held.items frame h is)
+      ∙ ap (λ x. put (frame_of fs) frame (Some x)) (same ∙ ap (λ p. record mid { course = after_event planned.hold (event p) }) (sym inverse))
+      ∙ sym (put_twice (frame_of fs) frame (Some mid) (Some (record mid { course = after_event planned.hold (event (position_at fs.geometry h.row slot)) })))
+
+  pub put_leads : (kind : CommandKind) → MayFollow planned (put_event position kind buffer) → Leads l fs.shard PutsOut ready (put_change frame mid slot kind buffer ∷ []) (shard_with accepted request (with_put kind))
+  put_leads command.Read follows =
+      let new = sent_off h (planned_after planned (Asks position)) position in
+      let frames_are = frame_then Asks new refl in
+      let commands_are = command_came (entries_of fs.commands) fs.handed (next_of fs.commands) (new_command frame slot h.row command.Read buffer) handed in
+      let s = shard_with accepted request fs in
+      let may : MayAsk planned.hold position = step_by_rules planned (Asks position) follows in (
+        record {},
+        (
+          put_own (frame_of fs) frame (Some mid),
+          below,
+          refl,
+          is_live accepted request fs,
+          subst (λ (p : ℕ). MayAsk planned.hold p) (sym inverse) may,
+          subst (λ (p : ℕ). MayFollow planned (Asks p)) (sym inverse) follows,
+        ),
+        λ i. record s { frame = frames_are i; command = commands_are i; tokens = next_of fs.commands + 1 },
+      )
+  put_leads command.Write follows =
+      let new = sent_off h (planned_after planned (Writes position buffer)) position in
+      let frames_are = frame_then (λ p. Writes p buffer) new refl in
+      let commands_are = command_came (entries_of fs.commands) fs.handed (next_of fs.commands) (new_command frame slot h.row command.Write buffer) handed in
+      let s = shard_with accepted request fs in
+      let may : MayWrite planned.hold position buffer = step_by_rules planned (Writes position buffer) follows in (
+        record {},
+        (
+          put_own (frame_of fs) frame (Some mid),
+          below,
+          inl refl,
+          is_live accepted request fs,
+          subst (λ (p : ℕ). MayWrite planned.hold p buffer) (sym inverse) may,
+          subst (λ (p : ℕ). MayFollow planned (Writes p buffer)) (sym inverse) follows,
+        ),
+        λ i. record s { frame = frames_are i; command = commands_are i; tokens = next_of fs.commands + 1 },
+      )
+
+-- ---- what the hold answered
+
+-- the hold prepares by these events, and puts a command out
+pub record HasPut (h : HeldRow) (position : ℕ) (kind : CommandKind) (buffer : List ℕ) (new : Held) : Type 0 where
+  pub events : List Event
+  pub silent : AreSilent events
+  pub may : IsPlanned h.hold.planned events
+  pub follows : MayFollow (planned_at h.hold.planned events) (put_event position kind buffer)
+  pub new_is : new ≡ record { planned = planned_after (planned_at h.hold.planned events) (put_event position kind buffer); away = set h.hold.away position true }
+  pub sized : length buffer ≡ h.hold.planned.hold.size
+
+next_if : (planned : Planned) (step : Next) → coming planned ≡ Some step → next planned ≡ Some step
+next_if planned step e = (unless (is_recover planned.plan) (next planned) step e).1
+
+pub has_put : (h : HeldRow) (position : ℕ) (kind : CommandKind) (buffer : List ℕ) (new : Held) → PutsOutNext h.hold (Some (row_command position kind buffer)) new → HasPut h position kind buffer new
+has_put h position command.Read buffer new puts =
+    record { events = []; silent = tt; may = tt; follows = next_if h.hold.planned (Next.ReadAt position) puts.0; new_is = puts.1; sized = puts.2 }
+has_put h position command.Write buffer new puts =
+    let ready = puts.0 in
+    let prepares = puts.1 in
+    let back : ready ≡ planned_at h.hold.planned prepares.0 = sym prepares.3 in
+    let follows : MayFollow ready (Writes position buffer) = (next_if ready (Next.WriteAt position) puts.2, puts.3) in
+    record {
+      events = prepares.0;
+      silent = prepares.1;
+      may = prepares.2;
+      follows = subst (λ (p : Planned). MayFollow p (Writes position buffer)) back follows;
+      new_is = puts.4 ∙ ap (λ (p : Planned). record { planned = planned_after p (Writes position buffer); away = set h.hold.away position true }) back;
+      sized = puts.5;
+    }
