@@ -1,5 +1,5 @@
 -- What taking a command does to the state.
-use Rattle.std.proofs.Common.{◌≡◌, ℕ, ◌+◌, ◌*◌, ◌<◌, ◌≤◌, List, ◌++◌, length, map, refl, sym, ap, subst, ◌∙◌, Option, Some, None, MatchOption, arith}
+use Rattle.std.proofs.Common.{◌≡◌, ℕ, ◌*◌, ◌<◌, ◌++◌, length, map, sym, ap, subst, ◌∙◌, Option, Some, None, MatchOption, arith}
 use Rattle.std.specs.Prelude.{nat_eq}
 use Rattle.std.specs.List.{IsDistinct, AllByRecursion}
 use Rattle.std.specs.Map.{keys_of}
@@ -13,7 +13,7 @@ use Rattle.r6_frames.specs.declared.frames.Frames.{Frames}
 use Rattle.r6_core.specs.declared.state.State.{State}
 use Rattle.r6_frames.specs.Frames.{world_command, held_requests, owed_in, shard_with, hold_at, Steps, KeepsHolds}
 use Rattle.r6_frames.specs.Sound as held
-use Rattle.r6_core.specs.States.{IsSound, IsCore, Step, layout_in, state_of, requests_of, waiting_request, finished_request, released_request}
+use Rattle.r6_core.specs.States.{IsCore, Step, layout_in, state_of, requests_of, waiting_request, finished_request, released_request}
 use Rattle.r6_frames.proofs.Lists.{table}
 use Rattle.r6_core.proofs.Kept.{requests_kept}
 use Rattle.r6_core.proofs.Delivering.{rested_kept}
@@ -57,7 +57,7 @@ taken_core s new core is =
 step_of : (s : State) (new : Frames) (event : steps.Event) → KeepsHolds s.frames new → Steps s.frames event new → Step s event (record s { frames = new })
 step_of s new event holds stepped =
     let same = same_requests s new holds in
-    subst (λ es. steps.Step (layout_in s) s.frames.shard (state_of s) event (shard_with s.accepted (table es) new)) (sym same) (stepped.2 s.accepted (table (requests_of s)))
+    ((stepped.0, stepped.1), subst (λ es. steps.Step (layout_in s) s.frames.shard (state_of s) event (shard_with s.accepted (table es) new)) (sym same) (stepped.2 s.accepted (table (requests_of s))))
 
 abbrev pub TakesCommand : Frames → Option Command → Frames → Type 0
 TakesCommand old result new = MatchOption result (Steps old No_command new) (λ c. (frame : ℕ) × Steps old (Take_command c.token (world_command frame c)) new)

@@ -1,10 +1,9 @@
 -- What the answer to a command does to the state: its hold goes on, and may end.
-use Rattle.std.proofs.Common.{◌≡◌, ◌≢◌, ℕ, Bool, true, false, cond, ◌+◌, ◌*◌, ◌<◌, ◌≤◌, List, [], ◌∷◌, ◌++◌, map, refl, sym, ap, subst, ◌∙◌, Option, Some, None, inl, inr, length, arith, append_assoc, append-nil, length-append}
-use mathlib.Core.Path.{fun_ext}
+use Rattle.std.proofs.Common.{◌≡◌, ◌≢◌, ℕ, Bool, cond, ◌+◌, ◌*◌, ◌<◌, ◌≤◌, List, [], ◌∷◌, ◌++◌, map, refl, sym, ap, subst, ◌∙◌, Option, Some, None, inl, inr, length, arith, append_assoc, length-append}
 use Rattle.std.specs.Prelude.{nat_eq, option_map}
 use Rattle.std.specs.List.{IsDistinct, AllByRecursion}
 use Rattle.std.specs.Map.{keys_of}
-use Rattle.std.proofs.lemmas.Bool.{eqb-true, eqb-false, ne_eqb, cases_eq, cases_lt, eq-eqb}
+use Rattle.std.proofs.lemmas.Bool.{ne_eqb, cases_eq, cases_lt, eq-eqb}
 use Rattle.std.proofs.lemmas.List.{length-map, map-append}
 use Rattle.circular_buffer.specs.Buffer.{Buffer}
 use Rattle.r6_layout.specs.Shape.{Shape}
@@ -12,7 +11,7 @@ use Rattle.r6_tables.specs.Table.{next_of}
 use Rattle.r6_world.specs.Tables.{put}
 use Rattle.r6_world.specs.PlainArray as world
 use Rattle.r6_world.specs.Geometries.{layout_of}
-use Rattle.r6_world.specs.Tasks.{Task, Hold, Outcome}
+use Rattle.r6_world.specs.Tasks.{Hold, Outcome}
 use Rattle.r6_world.specs.ShardStates as shards
 use Rattle.r6_world.specs.ShardStates.{Shard, Stage, Waiting, Held, Finished, Released}
 use Rattle.r6_world.specs.Changes.{Change, Ask, Prepare, Send, Finish, finished, outcome_reply, slots_after, counted, after, Allowed}
@@ -20,12 +19,11 @@ use Rattle.r6_world.specs.Steps.{GoesOn, Through, Takes, Good, Taken}
 use Rattle.r6_frames.specs.declared.op.Op.{Op}
 use Rattle.r6_frames.specs.declared.op.Op.TheVariants as op
 use Rattle.r6_frames.specs.declared.op.Request.{Request}
-use Rattle.r6_frames.specs.declared.frames.HeldRow.{HeldRow}
 use Rattle.r6_frames.specs.declared.frames.Frames.{Frames}
 use Rattle.r6_core.specs.declared.state.State.{State}
 use Rattle.r6_frames.specs.Frames.{op_of, outcome_of, task_for, entry_of, held_requests, hold_at, hold_of, owed, shard_with, PutsOut, Drives, Answers, Ends, IsWith, IsElsewhere, IsDriven, IsOver, IsAwaited, KeepsOthers, outstanding}
 use Rattle.r6_frames.specs.Sound as held
-use Rattle.r6_core.specs.States.{IsSound, IsCore, IsRested, answer_of, state_of, layout_in, requests_of, waiting_request, finished_request, released_request, most_unanswered}
+use Rattle.r6_core.specs.States.{IsSound, IsCore, answer_of, state_of, layout_in, requests_of, waiting_request, finished_request, released_request}
 use Rattle.r6_frames.proofs.Lists.{Entries, table, looked_up, same_put, other}
 use Rattle.r6_core.proofs.Passed.{Passed, passed, all-append}
 use Rattle.r6_core.proofs.Throughs.{through_both, through_one, through_none, through_of}

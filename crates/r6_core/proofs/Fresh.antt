@@ -1,23 +1,20 @@
 -- A state with no request, in which nothing was put out.
-use Rattle.std.proofs.Common.{◌≡◌, ℕ, zero, suc, ◌+◌, ◌*◌, ◌<◌, ◌≤◌, List, [], ◌∷◌, ◌++◌, length, map, refl, sym, ap, subst, ◌∙◌, Option, Some, None, arith}
+use Rattle.std.proofs.Common.{◌≡◌, ℕ, suc, ◌*◌, ◌<◌, List, [], ◌∷◌, ◌++◌, length, map, refl, sym, ap, subst, ◌∙◌, Option, Some, None, arith}
 use mathlib.Core.Path.{fun_ext}
 use Rattle.std.specs.Prelude.{nat_eq, option_map}
 use Rattle.std.specs.List.{IsDistinct, AllByRecursion}
 use Rattle.std.specs.Map.{keys_of}
 use Rattle.circular_buffer.specs.Buffer.{buffer}
 use Rattle.r6_layout.specs.Shape.{Shape}
-use Rattle.r6_tables.specs.Table.{next_of}
 use Rattle.r6_world.specs.Geometries.{layout_of}
 use Rattle.r6_world.specs.Registers.{Snapshot, status_of}
-use Rattle.r6_world.specs.ShardStates as shards
 use Rattle.r6_world.specs.Worlds.{shard_at_start, slot_at_start}
 use Rattle.r6_frames.specs.declared.op.Request.{Request}
 use Rattle.r6_frames.specs.declared.frames.HeldRow.{HeldRow}
-use Rattle.r6_frames.specs.declared.frames.Frames.{Frames}
 use Rattle.r6_core.specs.declared.state.State.{State}
-use Rattle.r6_frames.specs.Frames.{held_requests, hold_at, hold_of, frame_of, outstanding, command_of, owed, owed_in, all_synced, IsAtStart, IsRequestOf}
+use Rattle.r6_frames.specs.Frames.{hold_at, hold_of, frame_of, command_of, owed_in, all_synced, IsAtStart, IsRequestOf}
 use Rattle.r6_frames.specs.Sound as held
-use Rattle.r6_core.specs.States.{IsSound, IsCore, IsFresh, IsWhole, state_of, requests_of, waiting_request, finished_request, released_request, most_unanswered}
+use Rattle.r6_core.specs.States.{IsCore, IsFresh, IsWhole, state_of, requests_of, waiting_request, finished_request, released_request, most_unanswered}
 use Rattle.r6_frames.proofs.Lists.{table}
 
 distinct-none : IsDistinct nat_eq []

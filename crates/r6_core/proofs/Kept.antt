@@ -1,13 +1,9 @@
 -- What depends on the geometry and the shard alone.
-use Rattle.std.proofs.Common.{◌≡◌, ℕ, sym, ap, subst, ◌∙◌, List, [], ◌∷◌}
+use Rattle.std.proofs.Common.{◌≡◌, List, [], ◌∷◌}
 use Rattle.std.specs.List.{AllByRecursion}
-use Rattle.r6_kernels.specs.Blocks.{IsBlock}
-use Rattle.r6_layout.specs.Shape.{blocks}
-use Rattle.r6_layout.specs.Layout as layout
-use Rattle.r6_world.specs.PlainArray as world
 use Rattle.r6_frames.specs.declared.op.Request.{Request}
 use Rattle.r6_frames.specs.declared.frames.Frames.{Frames}
-use Rattle.r6_frames.specs.Frames.{op_of, buffer_of, IsRequestOf}
+use Rattle.r6_frames.specs.Frames.{IsRequestOf}
 
 pub request_kept : (old new : Frames) (request : Request) → new.geometry ≡ old.geometry → new.shard ≡ old.shard → IsRequestOf old request → IsRequestOf new request
 request_kept old new request geometry shard is =

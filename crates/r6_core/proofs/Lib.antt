@@ -9,6 +9,8 @@ pub mod Known
 pub mod Passed
 pub mod Releasing
 pub mod Replies
+pub mod RunWitness
+pub mod Runs
 pub mod Scanned
 pub mod Starting
 pub mod Stepping

@@ -1,9 +1,9 @@
 -- What releasing what is finished does to the state.
-use Rattle.std.proofs.Common.{◌≡◌, ℕ, Bool, true, false, cond, ◌+◌, ◌<◌, ◌≤◌, List, [], ◌∷◌, ◌++◌, map, refl, sym, ap, subst, ◌∙◌, Option, Some, None, length, arith, append_assoc, append-nil, length-append}
+use Rattle.std.proofs.Common.{◌≡◌, ℕ, true, false, cond, ◌+◌, ◌<◌, ◌≤◌, List, [], ◌∷◌, ◌++◌, map, refl, sym, ap, subst, ◌∙◌, Option, Some, None, length, arith, append_assoc, append-nil, length-append}
 use mathlib.Core.Path.{fun_ext}
 use Rattle.std.proofs.lemmas.List.{length-map, map-append}
 use Rattle.std.specs.Prelude.{nat_eq}
-use Rattle.std.specs.List.{IsDistinct, AllByRecursion}
+use Rattle.std.specs.List.{IsDistinct}
 use Rattle.std.specs.Map.{keys_of}
 use Rattle.circular_buffer.specs.Buffer.{Buffer}
 use Rattle.r6_world.specs.ShardStates as shards
@@ -12,8 +12,8 @@ use Rattle.r6_world.specs.Changes.{Release, released, released_stage, after}
 use Rattle.r6_frames.specs.declared.op.Request.{Request}
 use Rattle.r6_frames.specs.declared.frames.HeldRow.{HeldRow}
 use Rattle.r6_core.specs.declared.state.State.{State}
-use Rattle.r6_frames.specs.Frames.{op_of, held_requests, requests_from, held_request, shard_with}
-use Rattle.r6_core.specs.States.{IsSound, IsCore, answer_of, state_of, layout_in, requests_of, waiting_request, finished_request, released_request, most_unanswered}
+use Rattle.r6_frames.specs.Frames.{held_requests, requests_from, held_request, shard_with}
+use Rattle.r6_core.specs.States.{IsSound, IsCore, state_of, layout_in, requests_of, waiting_request, finished_request, released_request, ReleasesAll}
 use Rattle.r6_frames.proofs.Lists.{Entries, table}
 use Rattle.r6_core.proofs.Passed.{Passed, passed}
 use Rattle.r6_core.proofs.Swapped.{or_else, table-append, swapped, distinct_behind}
@@ -146,7 +146,14 @@ pub record IsReleasing (s new : State) (count : ℕ) : Type 0 where
   pub frames : new.frames ≡ s.frames
   pub accepted : new.accepted ≡ s.accepted
   pub waiting : new.waiting ≡ s.waiting
+  pub unanswered : new.unanswered ≡ s.unanswered
 
 pub empty_of_length : {X : Type 0} (xs : List X) → length xs ≡ 0 → xs ≡ []
 empty_of_length [] e = refl
 empty_of_length (x ∷ xs) e = absurd (omega arith)
+
+-- when all were released
+pub released_in_order : (s new : State) (count : ℕ) → IsReleasing s new count → length s.finished.items ≤ count → ReleasesAll s new
+released_in_order s new count is past =
+    let none : new.finished.items ≡ [] = empty_of_length new.finished.items (omega (arith, is.left)) in
+    (sym (append-nil new.released.items) ∙ ap (λ rs. new.released.items ++ rs) (sym none) ∙ is.order, none)

@@ -1,5 +1,5 @@
 -- What taking a reply does to the state.
-use Rattle.std.proofs.Common.{◌≡◌, ◌≢◌, ℕ, ◌+◌, ◌-◌, ◌<◌, ◌≤◌, List, [], ◌∷◌, ◌++◌, map, drop, refl, sym, ap, subst, ◌∙◌, Option, Some, None, length, arith, append_assoc, append-nil, length-append}
+use Rattle.std.proofs.Common.{◌≡◌, ◌≢◌, ℕ, ◌+◌, ◌-◌, ◌<◌, List, [], ◌∷◌, ◌++◌, map, drop, refl, sym, ap, subst, ◌∙◌, Option, Some, None, length, arith, append_assoc, append-nil, length-append}
 use Rattle.std.specs.Prelude.{nat_eq, slice_get}
 use Rattle.std.specs.List.{IsDistinct, AllByRecursion}
 use Rattle.std.specs.Map.{keys_of}
@@ -13,7 +13,7 @@ use Rattle.r6_frames.specs.declared.op.Request.{Request}
 use Rattle.r6_frames.specs.declared.frames.HeldRow.{HeldRow}
 use Rattle.r6_core.specs.declared.state.State.{State}
 use Rattle.r6_frames.specs.Frames.{op_of, held_requests, requests_from}
-use Rattle.r6_core.specs.States.{IsSound, IsCore, Step, answer_of, state_of, requests_of, waiting_request, finished_request, released_request, most_unanswered}
+use Rattle.r6_core.specs.States.{IsSound, IsCore, Step, answer_of, state_of, requests_of, waiting_request, finished_request, released_request}
 use Rattle.r6_frames.proofs.Lists.{Entries, table, gone, own, apart, all_parts, distinct_without, looked_up}
 use Rattle.r6_core.proofs.Passed.{all-append}
 
@@ -66,7 +66,13 @@ none_released s empty id op reply is =
 pub no_reply : (s : State) (rest : Buffer Request) → slice_get s.released.items 0 ≡ None → rest ≡ buffer (drop 1 s.released.items) s.released.capacity → Step s No_reply (record s { released = rest })
 no_reply s rest none popped =
     let empty = none_popped s.released.items none in
-    (none_released s empty.0, ap (λ b. state_of (record s { released = b })) (popped ∙ ap (λ items. buffer items s.released.capacity) empty.1))
+    ((refl, refl), (none_released s empty.0, ap (λ b. state_of (record s { released = b })) (popped ∙ ap (λ items. buffer items s.released.capacity) empty.1)))
+
+pub none_taken : (s : State) (rest : Buffer Request) → slice_get s.released.items 0 ≡ None → rest ≡ buffer (drop 1 s.released.items) s.released.capacity
+    → (s.released.items ≡ []) × (record s { released = rest } ≡ s)
+none_taken s rest none popped =
+    let empty = none_popped s.released.items none in
+    (empty.0, ap (λ (b : Buffer Request). record s { released = b }) (popped ∙ ap (λ items. buffer items s.released.capacity) empty.1))
 
 -- the requests when the reply that was released first is taken
 record IsTaken (s : State) (r : Request) (new : Entries shards.Request) : Type 1 where
@@ -104,7 +110,7 @@ pub reply_step : (s : State) (r : Request) (rest : Buffer Request) → IsSound s
     → Step s (Take_reply r.id (answer_of r.op)) (without_first s rest)
 reply_step s r rest sound is =
     let taken = is_taken s r rest sound.requests.distinct is in
-    (op_of r.op, taken.was, ap (λ requests. record (state_of s) { request = requests }) taken.now)
+    ((refl, refl), (op_of r.op, taken.was, ap (λ requests. record (state_of s) { request = requests }) taken.now))
 
 -- a reply is counted
 pub reply_counted : (s : State) (r : Request) (rest : Buffer Request) → IsSound s → s.released.items ≡ r ∷ rest.items → 0 < s.unanswered

@@ -5,7 +5,7 @@ use Rattle.r6_world.specs.Geometries.{layout_of}
 use Rattle.r6_world.specs.Steps.{Through, Scans}
 use Rattle.r6_frames.specs.declared.op.Request.{Request}
 use Rattle.r6_core.specs.declared.state.State.{State}
-use Rattle.r6_core.specs.States.{IsCore, NoneCanStart, CannotStart, Advances, SameFrames, state_of, layout_in}
+use Rattle.r6_core.specs.States.{IsCore, NoneCanStart, CannotStart, Advances, SameFrames, KeepsReplies, state_of, layout_in}
 use Rattle.r6_core.proofs.Passed.{all-append}
 use Rattle.r6_core.proofs.Throughs.{through_both, through_none}
 
@@ -14,6 +14,7 @@ pub record IsScanned (old new : State) (tests all : ℕ) : Type 0 where
   pub core : IsCore new
   pub leads : Through (layout_in old) old.frames.shard Scans (state_of old) (state_of new)
   pub same : SameFrames old new
+  pub replies : KeepsReplies old new
   pub untested : List Request
   pub tested : List Request
   pub items : new.waiting.items ≡ untested ++ tested
@@ -26,6 +27,7 @@ unscanned s all core count =
       core = core;
       leads = through_none (layout_in s) s.frames.shard Scans (state_of s) (state_of s) refl;
       same = (refl, refl);
+      replies = ((refl, refl), refl);
       untested = s.waiting.items;
       tested = [];
       items = sym (append-nil s.waiting.items);
@@ -43,12 +45,15 @@ some_waits old s tests all before below =
     omega (arith, before.count, ap length before.items, length-append before.untested before.tested)
 
 module _ (old s new : State) (tests all : ℕ) (before : IsScanned old s tests all) (core : IsCore new)
-    (leads : Through (layout_in s) s.frames.shard Scans (state_of s) (state_of new)) (same : SameFrames s new) where
+    (leads : Through (layout_in s) s.frames.shard Scans (state_of s) (state_of new)) (same : SameFrames s new) (replies : KeepsReplies s new) where
   both_lead : Through (layout_in old) old.frames.shard Scans (state_of old) (state_of new)
   both_lead =
       through_both (layout_in old) old.frames.shard Scans (state_of old) (state_of s) (state_of new) before.leads
       (subst (λ (n : ℕ). Through (layout_in old) n Scans (state_of s) (state_of new)) before.same.1
       (subst (λ g. Through (layout_of g) s.frames.shard Scans (state_of s) (state_of new)) before.same.0 leads))
+
+  both_kept : KeepsReplies old new
+  both_kept = ((replies.0.0 ∙ before.replies.0.0, replies.0.1 ∙ before.replies.0.1), replies.1 ∙ before.replies.1)
 
   next_tested : (request : Request) (rest untested : List Request) → s.waiting.items ≡ request ∷ rest → s.waiting.items ≡ untested ++ before.tested → length untested + tests ≡ all → tests < all
       → (us : List Request) × (rest ≡ us ++ before.tested) × (length us + (tests + 1) ≡ all)
@@ -65,6 +70,7 @@ module _ (old s new : State) (tests all : ℕ) (before : IsScanned old s tests a
           core = core;
           leads = both_lead;
           same = (same.0 ∙ before.same.0, same.1 ∙ before.same.1);
+          replies = both_kept;
           untested = next.0;
           tested = before.tested;
           items = gone ∙ next.1;
@@ -75,6 +81,7 @@ module _ (old s new : State) (tests all : ℕ) (before : IsScanned old s tests a
           core = core;
           leads = both_lead;
           same = (same.0 ∙ before.same.0, same.1 ∙ before.same.1);
+          replies = both_kept;
           untested = next.0;
           tested = before.tested ++ request ∷ [];
           items = turned.0 ∙ ap (λ rs. rs ++ request ∷ []) next.1 ∙ append_assoc next.0 before.tested (request ∷ []);

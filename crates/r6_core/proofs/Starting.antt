@@ -17,7 +17,7 @@ use Rattle.r6_world.specs.PlainArray.{block_of}
 use Rattle.r6_world.specs.Layouts.{Layout}
 use Rattle.r6_world.specs.Geometries.{layout_of}
 use Rattle.r6_world.specs.Tasks.{Hold, planned}
-use Rattle.r6_world.specs.ShardStates.{Shard, Request, Stage, Waiting, Held, Command, IsFree, NotHeld, frames, begun}
+use Rattle.r6_world.specs.ShardStates.{Shard, Request, Stage, Waiting, Held, Command, IsFree, NotHeld, begun}
 use Rattle.r6_world.specs.Changes.{Change, Start, Ask, Prepare, Send, after, MayStart, staged}
 use Rattle.r6_world.specs.Steps.{Leads, Through, Scans, IsRequest}
 use Rattle.r6_frames.specs.declared.op.Op.{Op}

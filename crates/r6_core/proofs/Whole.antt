@@ -1,11 +1,11 @@
 -- A register at the start with no slot lost is whole.
-use Rattle.std.proofs.Common.{◌≡◌, ℕ, List, map, refl, sym, ap, ◌∙◌, Option, Some, None, option_map, Bool, cond}
+use Rattle.std.proofs.Common.{◌≡◌, ℕ, refl, ap, ◌∙◌, Option, Some, None, option_map, cond}
 use Rattle.std.specs.Prelude.{slice_get, unwrap_or, ◌==◌}
 use Rattle.std.specs.List.{range_with_len}
 use Rattle.std.proofs.lemmas.Nat.Bits.{bit_at-zero}
 use Rattle.std.proofs.lemmas.Option.{slice_get-map}
 use Rattle.r6_health.specs.Registers.{starting, lost_if}
-use Rattle.r6_world.specs.Registers.{Status, InSync, Lost, status_of}
+use Rattle.r6_world.specs.Registers.{InSync, Lost}
 use Rattle.r6_core.specs.States.{IsWhole}
 
 not_lost : (slot : ℕ) → lost_if 0 slot ≡ InSync

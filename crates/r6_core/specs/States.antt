@@ -1,9 +1,8 @@
 -- What the state of the code stands for: a shard.
-use Rattle.std.specs.Prelude.{◌≡◌, ◌≢◌, ℕ, ◌+◌, ◌*◌, ◌^◌, ◌<◌, ◌≤◌, ◌⊎◌, nat_eq, false, List, [], ◌∷◌, ◌++◌, length, map, Option, Some, None, Result, Ok, Err}
-use Rattle.std.specs.List.{All, AllByRecursion, IsDistinct}
+use Rattle.std.specs.Prelude.{◌≡◌, ◌≢◌, ℕ, ◌+◌, ◌*◌, ◌^◌, ◌<◌, ◌≤◌, ◌⊎◌, nat_eq, false, List, [], ◌∷◌, ◌++◌, length, map, Option, Some, None}
+use Rattle.std.specs.List.{AllByRecursion, IsDistinct}
 use Rattle.std.specs.Map.{lookup, keys_of}
-use Rattle.r6_kernels.specs.Blocks.{IsBlock}
-use Rattle.r6_layout.specs.Shape.{Shape, blocks}
+use Rattle.r6_layout.specs.Shape.{blocks}
 use Rattle.r6_layout.specs.Layout as layout
 use Rattle.r6_tables.specs.Table.{next_of}
 use Rattle.r6_world.specs.PlainArray as world
@@ -20,8 +19,6 @@ use Rattle.r6_core.specs.declared.reply.Reply.{Reply}
 use Rattle.r6_core.specs.declared.reply.Reply.TheVariants as reply
 use Rattle.r6_core.specs.declared.refusal.Refusal.{Refusal}
 use Rattle.r6_core.specs.declared.refusal.Refusal.TheVariants.{NoSuchBlock, WrongShard, WrongLength, Busy, Exhausted, UnknownToken}
-use Rattle.r6_core.specs.declared.refusal.Receipt.{Receipt}
-use Rattle.r6_core.specs.declared.refusal.Receipt.TheVariants as receipt
 use Rattle.r6_core.specs.declared.state.State.{State}
 use Rattle.r6_frames.specs.Frames.{op_of, buffer_of, held_requests, shard_with, outstanding, owed, IsFreeFrame, NotHeldBy, IsRequestOf, IsAwaited, IsDriven, IsOver}
 use Rattle.r6_frames.specs.Frames as frames
@@ -67,9 +64,12 @@ state_of s = shard_with s.accepted (table (requests_of s)) s.frames
 abbrev pub layout_in : State → Layout
 layout_in s = layout_of s.frames.geometry
 
--- a step of this shard
+abbrev pub SameFrames : State → State → Type 0
+SameFrames old new = (new.frames.geometry ≡ old.frames.geometry) × (new.frames.shard ≡ old.frames.shard)
+
+-- a step of this shard, which stays the shard that it is
 abbrev pub Step : State → steps.Event → State → Type 0
-Step old event new = steps.Step (layout_in old) old.frames.shard (state_of old) event (state_of new)
+Step old event new = SameFrames old new × steps.Step (layout_in old) old.frames.shard (state_of old) event (state_of new)
 
 -- ---- what holds of a state between calls
 
@@ -182,14 +182,36 @@ BringsBack (Some request) (reply.Data buffer) = (block : ℕ) × (request.op ≡
 BringsBack (Some request) (reply.ArrayFailed buffer) = Unit {0}
 BringsBack None back = ⊥
 
+-- ---- in which order requests are answered
+
+-- no request is finished, and no reply released
+abbrev pub NoReplies : State → Type 0
+NoReplies s = (s.finished.items ≡ []) × (s.released.items ≡ [])
+
+abbrev pub SameReplies : State → State → Type 0
+SameReplies old new = (new.finished ≡ old.finished) × (new.released ≡ old.released)
+
+-- at most one more request is finished, behind those that were
+abbrev pub MayFinish : State → State → Type 0
+MayFinish old new =
+    (more : List Request) × (length more ≤ 1) × (new.finished.items ≡ old.finished.items ++ more) × (new.released ≡ old.released)
+
+-- all that were finished are released, in their order, behind those that were
+abbrev pub ReleasesAll : State → State → Type 0
+ReleasesAll old new = (new.released.items ≡ old.released.items ++ old.finished.items) × (new.finished.items ≡ [])
+
+-- the request that was released first leaves
+abbrev pub TakesFirst : State → Request → State → Type 0
+TakesFirst old request new = (old.released.items ≡ request ∷ new.released.items) × (new.finished ≡ old.finished)
+
+abbrev pub KeepsReplies : State → State → Type 0
+KeepsReplies old new = SameReplies old new × (new.unanswered ≡ old.unanswered)
+
 -- ---- what internal calls do
 
 -- nothing was accepted, and nothing put out
 abbrev pub IsFresh : State → Type 0
 IsFresh s = (s.accepted ≡ 0) × (requests_of s ≡ []) × frames.IsAtStart s.frames
-
-abbrev pub SameFrames : State → State → Type 0
-SameFrames old new = (new.frames.geometry ≡ old.frames.geometry) × (new.frames.shard ≡ old.frames.shard)
 
 -- the request can start in the frame
 abbrev pub CanStart : State → Request → ℕ → Type 0

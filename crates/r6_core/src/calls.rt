@@ -1,12 +1,13 @@
 //! The core as its callers see it.
 
-ghost use Rattle.std.specs.Prelude.{◌≡◌, ◌<◌, ◌≤◌, ℕ, MatchOption, MatchResult, IfOk, IfErr, IfSome, IsOk, Option, Some, None, Ok};
+ghost use Rattle.std.specs.Prelude.{◌≡◌, ◌+◌, [], ◌<◌, ◌≤◌, nat_lt, if◌then◌else◌, ℕ, MatchOption, MatchResult, IfOk, IfErr, IfSome, IsOk, Option, Some, None, Ok};
 ghost use Rattle.r6_layout.specs.Shape.{IsShape};
 ghost use Rattle.r6_world.specs.Geometries.{layout_of};
 ghost use Rattle.r6_world.specs.Worlds.{shard_at_start};
 ghost use Rattle.r6_world.specs.Steps.{Submit, Deliver, Look, Take_command, No_command, Take_reply, No_reply, Good, Taken};
-ghost use Rattle.r6_frames.specs.Frames.{op_of, world_command};
-ghost use Rattle.r6_core.specs.States.{IsWhole, Step, state_of, synced, reply_of, BringsBack, HasSubmitFault, HasDeliverFault, IsFirstFault, HasNone, submit_faults, deliver_faults};
+ghost use Rattle.r6_frames.specs.Frames.{op_of, world_command, IsCommandOf};
+ghost use Rattle.r6_frames.specs.declared.op.Request.{Request as Entered};
+ghost use Rattle.r6_core.specs.States.{IsWhole, Step, state_of, synced, reply_of, BringsBack, HasSubmitFault, HasDeliverFault, IsFirstFault, HasNone, submit_faults, deliver_faults, reply_to, NoReplies, SameReplies, MayFinish, ReleasesAll, TakesFirst};
 
 use crate::refusal::{CoreError, DeviceFault, Receipt, Refused};
 use crate::reply::{OpId, Reply};
@@ -46,8 +47,8 @@ impl Model for Core {
 impl Core {
     /// The core of a shard of the array. All room is made here.
     ///
-    /// `window`, 1 to 8, is how many rows of a rebuild may be under way at one time. The snapshot is of a register with no
-    /// slot lost, with which no device was attached.
+    /// `window`, 1 to 8, is how many rows of a rebuild may be under way at one time; nothing depends on it yet, since cores
+    /// don't rebuild so far. The snapshot is of a register with no slot lost, with which no device was attached.
     ///
     /// # Errors
     /// 1 `NoMemory`.
@@ -63,7 +64,9 @@ impl Core {
         requires window { (1 ≤ window) × (window ≤ 8) }
         requires whole { IsWhole snapshot.now }
         requires no_attach { snapshot.now.attaches ≡ 0 }
-        ensures { IfOk result (λ core. (core.frames.geometry ≡ geometry) × (core.frames.shard ≡ shard) × (state_of core ≡ shard_at_start (layout_of geometry) snapshot.now shard)) }
+        ensures start { IfOk result (λ core. (core.frames.geometry ≡ geometry) × (core.frames.shard ≡ shard) × (state_of core ≡ shard_at_start (layout_of geometry) snapshot.now shard)) }
+        ensures order { IfOk result NoReplies }
+        ensures unanswered { IfOk result (λ core. core.unanswered ≡ 0) }
     {
         match State::new(alloc, geometry, shard) {
             Ok(state) => Ok(Core { state }),
@@ -80,11 +83,14 @@ impl Core {
         ensures step { IfOk result (λ id. Step self.old (Submit (op_of op) id.0) self.new) }
         ensures accepted { IfOk result (λ _. HasNone (HasSubmitFault self.old op) submit_faults) }
         ensures refused { IfErr result (λ refused. (self.new ≡ self.old) × (refused.back ≡ op) × IsFirstFault (HasSubmitFault self.old op) submit_faults refused.refusal) }
+        ensures order { IfOk result (λ _. SameReplies self.old self.new) }
+        ensures unanswered { IfOk result (λ _. self.new.unanswered ≡ self.old.unanswered + 1) }
     {
         Ok(OpId(self.state.submit(op)?))
     }
 
-    /// Takes the completion of a command, with its buffer: a read's with the block.
+    /// Takes the completion of a command, with its buffer: a read's with the block. So far the completion has to be good:
+    /// no core goes on from a device's fault yet.
     ///
     /// # Errors
     /// In this order: 7 `UnknownToken`, 3 `WrongLength`, with the completion back. Nothing changes.
@@ -97,6 +103,8 @@ impl Core {
         ensures step { IfOk result (λ receipt. IfOk completion (λ buffer. (receipt ≡ Receipt.Taken) × Step self.old (Deliver token (Good buffer) Taken) self.new)) }
         ensures accepted { IfOk result (λ _. IfOk completion (λ buffer. HasNone (HasDeliverFault self.old token buffer) deliver_faults)) }
         ensures refused { IfErr result (λ refused. (self.new ≡ self.old) × (refused.back ≡ completion) × IfOk completion (λ buffer. IsFirstFault (HasDeliverFault self.old token buffer) deliver_faults refused.refusal)) }
+        ensures order { IfOk result (λ _. MayFinish self.old self.new) }
+        ensures unanswered { self.new.unanswered ≡ self.old.unanswered }
     {
         let Ok(buffer) = completion else {
             unreachable!()
@@ -110,10 +118,13 @@ impl Core {
         }
     }
 
-    /// Sees the register: all finished requests are released, in the order in which they finished.
+    /// Sees the register: all finished requests are released, in the order in which they finished. So far every slot has to
+    /// be in sync, and the array not failed: no core goes on from a loss yet.
     pub fn look(&mut self, snapshot: &Snapshot)
         requires whole { IsWhole snapshot.now }
         ensures step { Step self.old (Look snapshot.now) self.new }
+        ensures order { ReleasesAll self.old self.new }
+        ensures unanswered { self.new.unanswered ≡ self.old.unanswered }
     {
         self.state.look();
     }
@@ -121,6 +132,9 @@ impl Core {
     /// Takes the command that was put out first and not taken.
     pub fn take_command(&mut self) -> Option<Command>
         ensures step { MatchOption result (Step self.old No_command self.new) (λ c. (frame : ℕ) × Step self.old (Take_command c.token (world_command frame c)) self.new) }
+        ensures there { IfSome result (λ c. IsCommandOf self.old.frames c) }
+        ensures order { SameReplies self.old self.new }
+        ensures unanswered { self.new.unanswered ≡ self.old.unanswered }
     {
         self.state.take_command()
     }
@@ -129,6 +143,8 @@ impl Core {
     pub fn take_reply(&mut self) -> Option<(OpId, Reply)>
         ensures step { MatchOption result (Step self.old No_reply self.new) (λ r. Step self.old (Take_reply (r.0).0 (reply_of r.1)) self.new) }
         ensures buffer { IfSome result (λ r. BringsBack ((state_of self.old).request (r.0).0) r.1) }
+        ensures first { MatchOption result ((self.old.released.items ≡ []) × (self.new ≡ self.old)) (λ r. (request : Entered) × TakesFirst self.old request self.new × (request.id ≡ (r.0).0) × (r.1 ≡ reply_to request.op)) }
+        ensures unanswered { MatchOption result (self.new.unanswered ≡ self.old.unanswered) (λ _. self.new.unanswered + 1 ≡ self.old.unanswered) }
     {
         let Request { id, op } = self.state.take_reply()?;
         let reply = match op {
@@ -138,11 +154,13 @@ impl Core {
         Some((OpId(id), reply))
     }
 
-    /// The generation with which the shard has the slot in sync.
+    /// The generation with which the shard has the slot in sync; `None` for a number that no slot has.
     pub fn in_sync(&self, slot: usize) -> Option<u32>
-        requires { slot < self.now.frames.geometry.slots }
-        ensures { result ≡ synced ((state_of self.now).slot slot) }
+        ensures { result ≡ (if nat_lt slot self.now.frames.geometry.slots then synced ((state_of self.now).slot slot) else None) }
     {
+        if slot >= self.state.frames.geometry.slots() {
+            return None;
+        }
         Some(0)
     }
 }

@@ -3,12 +3,18 @@
 ghost use Rattle.r6_world.specs.Geometries.{LayoutLaw};
 ghost use Rattle.r6_world.specs.Laws.{ArrayLaw, QuietLaw, RebuiltLaw, ShardLaw};
 ghost use Rattle.r6_world.specs.Sequential.{SequentialLaw};
+ghost use Rattle.r6_core.specs.Runs.{RunsOfCores, ArrayOfCores, QuietOfCores, ThereAreRuns};
 
 /// The laws of an array whose shards are cores.
 ///
-/// The calls of a [`Core`](crate::Core) are the steps of the world's shard, by the contract of each call, and a core begins
-/// as the world's shard begins ([`Core::new`](crate::Core::new)). So every run of cores is a run of these laws, over
-/// `layout_of` of their geometry, which is a layout.
+/// A run of cores is a list of calls of [`Core`](crate::Core), each as its contract says, with devices that perform the
+/// commands that were taken, and calls at the register from outside; a good completion brings the block that its device
+/// gave, and a look sees the register as it is. `cores`: from cores as [`Core::new`](crate::Core::new) makes them, every
+/// such run is a run of the world, whose shards are the cores at each moment. So of every run of cores holds
+/// (`array_of_cores`): each request that is answered acted at one moment between its hand-over and its answer as on one
+/// plain array, each reply is that array's, and every idle row's slots hold that array's blocks, P and Q; and
+/// (`quiet_of_cores`): when a core has no command out and its last event, takings aside, was a look at the register as it
+/// is, each request that it accepted has its reply ready, or it was taken. `there_are`: there are such runs.
 pub fn array_law()
     ensures array { ArrayLaw }
     ensures quiet { QuietLaw }
@@ -16,6 +22,11 @@ pub fn array_law()
     ensures shard { ShardLaw }
     ensures rebuilt { RebuiltLaw }
     ensures layout { LayoutLaw }
+
+    ensures cores { RunsOfCores }
+    ensures array_of_cores { ArrayOfCores }
+    ensures quiet_of_cores { QuietOfCores }
+    ensures there_are { ThereAreRuns }
 {
     r6_world::array_law();
     r6_world::quiet_law();

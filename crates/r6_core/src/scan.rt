@@ -4,7 +4,7 @@ ghost use Rattle.std.specs.Prelude.{◌≡◌, ◌<◌, ℕ, length, MatchOption
 ghost use Rattle.r6_world.specs.Steps.{Through, Scans};
 ghost use Rattle.r6_frames.specs.Frames.{IsFreeFrame, IsRequestOf};
 ghost use Rattle.r6_frames.specs.Sound as held;
-ghost use Rattle.r6_core.specs.States.{IsSound, IsCore, NoneCanStart, CannotStart, CanStart, Advances, state_of, layout_in, SameFrames};
+ghost use Rattle.r6_core.specs.States.{IsSound, IsCore, NoneCanStart, CannotStart, CanStart, Advances, state_of, layout_in, SameFrames, KeepsReplies};
 
 use crate::state::State;
 use r6_frames::Request;
@@ -17,6 +17,7 @@ impl State {
         ensures leads { Through (layout_in self.old) self.old.frames.shard Scans (state_of self.old) (state_of self.new) }
         ensures rested { NoneCanStart self.new }
         ensures same { SameFrames self.old self.new }
+        ensures replies { KeepsReplies self.old self.new }
     {
         for _ in 0..self.waiting.len() {
             self.advance();
@@ -31,6 +32,7 @@ impl State {
         ensures leads { Through (layout_in self.old) self.old.frames.shard Scans (state_of self.old) (state_of self.new) }
         ensures advances { Advances self.old self.new }
         ensures same { SameFrames self.old self.new }
+        ensures replies { KeepsReplies self.old self.new }
     {
         let Some(request) = self.waiting.pop_front() else {
             unreachable!()

@@ -8,8 +8,8 @@ ghost use Rattle.r6_world.specs.Registers.{Snapshot};
 ghost use Rattle.r6_world.specs.ShardStates.{Released};
 ghost use Rattle.r6_world.specs.Steps.{Submit, Deliver, Look, Take_command, No_command, Take_reply, No_reply, Good, Taken, Through, Scans, GoesOn, Takes};
 ghost use Rattle.r6_world.specs.Changes.{Change, Accept, Release, after, Allowed};
-ghost use Rattle.r6_frames.specs.Frames.{op_of, buffer_of, world_command};
-ghost use Rattle.r6_core.specs.States.{IsSound, IsCore, IsRested, NoneCanStart, IsWhole, Step, state_of, layout_in, answer_of, HasSubmitFault, HasDeliverFault, IsFirstFault, HasNone, submit_faults, deliver_faults, IsFresh, SameFrames};
+ghost use Rattle.r6_frames.specs.Frames.{op_of, buffer_of, world_command, IsCommandOf};
+ghost use Rattle.r6_core.specs.States.{IsSound, IsCore, IsRested, NoneCanStart, IsWhole, Step, state_of, layout_in, answer_of, HasSubmitFault, HasDeliverFault, IsFirstFault, HasNone, submit_faults, deliver_faults, IsFresh, SameFrames, NoReplies, SameReplies, MayFinish, ReleasesAll, TakesFirst, KeepsReplies};
 
 use crate::refusal::{Receipt, Refusal, Refused};
 use circular_buffer::HeapCircularBuffer;
@@ -47,6 +47,8 @@ impl State {
         requires shard { shard < geometry.shards }
         ensures core { IfOk result IsCore }
         ensures fresh { IfOk result (λ s. IsFresh s × (s.frames.geometry ≡ geometry) × (s.frames.shard ≡ shard)) }
+        ensures order { IfOk result NoReplies }
+        ensures unanswered { IfOk result (λ s. s.unanswered ≡ 0) }
     {
         Ok(State {
             accepted: 0,
@@ -88,6 +90,8 @@ impl State {
         ensures step { IfOk result (λ id. Step self.old (Submit (op_of op) id) self.new) }
         ensures accepted { IfOk result (λ _. HasNone (HasSubmitFault self.old op) submit_faults) }
         ensures refused { IfErr result (λ refused. (self.new ≡ self.old) × (refused.back ≡ op) × IsFirstFault (HasSubmitFault self.old op) submit_faults refused.refusal) }
+        ensures order { IfOk result (λ _. SameReplies self.old self.new) }
+        ensures unanswered { IfOk result (λ _. self.new.unanswered ≡ self.old.unanswered + 1) }
     {
         if let Some(refusal) = self.refusal(&op) {
             return Err(Refused { refusal, back: op });
@@ -108,6 +112,9 @@ impl State {
         ensures accepted { state_of self.new ≡ after (layout_in self.old) (state_of self.old) (Accept (op_of op)) }
         ensures allowed { Allowed (layout_in self.old) self.old.frames.shard (state_of self.old) (Accept (op_of op)) }
         ensures same { self.new.frames ≡ self.old.frames }
+        ensures waiting { self.new.waiting.items ≡ self.old.waiting.items ++ (record { id = result; op = op }) ∷ [] }
+        ensures order { SameReplies self.old self.new }
+        ensures unanswered { self.new.unanswered ≡ self.old.unanswered + 1 }
     {
         let id = self.accepted;
         let Ok(()) = self.waiting.try_push_back(Request { id, op }) else {
@@ -139,6 +146,8 @@ impl State {
         ensures step { IfOk result (λ receipt. (receipt ≡ Receipt.Taken) × Step self.old (Deliver token (Good buffer) Taken) self.new) }
         ensures accepted { IfOk result (λ _. HasNone (HasDeliverFault self.old token buffer) deliver_faults) }
         ensures refused { IfErr result (λ refused. (self.new ≡ self.old) × (refused.back ≡ buffer) × IsFirstFault (HasDeliverFault self.old token buffer) deliver_faults refused.refusal) }
+        ensures order { IfOk result (λ _. MayFinish self.old self.new) }
+        ensures unanswered { self.new.unanswered ≡ self.old.unanswered }
     {
         if let Some(refusal) = self.fault(token, &buffer) {
             return Err(Refused {
@@ -158,6 +167,8 @@ impl State {
         ensures core { IsCore self.new }
         ensures takes { (change : Change) × Takes token (Good buffer) Taken change × Allowed (layout_in self.old) self.old.frames.shard (state_of self.old) change × Through (layout_in self.old) self.old.frames.shard GoesOn (after (layout_in self.old) (state_of self.old) change) (state_of self.new) }
         ensures same { SameFrames self.old self.new }
+        ensures order { MayFinish self.old self.new }
+        ensures unanswered { self.new.unanswered ≡ self.old.unanswered }
     {
         let frame = self.frames.answer(token, buffer);
         self.frames.drive(frame);
@@ -173,6 +184,8 @@ impl State {
         requires { IsCore self.old }
         ensures core { IsCore self.new }
         ensures step { (snapshot : Snapshot) → IsWhole snapshot → Step self.old (Look snapshot) self.new }
+        ensures order { ReleasesAll self.old self.new }
+        ensures unanswered { self.new.unanswered ≡ self.old.unanswered }
     {
         self.release();
         self.scan();
@@ -183,7 +196,8 @@ impl State {
         requires { IsCore self.old }
         ensures core { IsCore self.new }
         ensures released { state_of self.new ≡ after (layout_in self.old) (state_of self.old) Release }
-        ensures order { self.new.released.items ≡ self.old.released.items ++ self.old.finished.items }
+        ensures order { ReleasesAll self.old self.new }
+        ensures unanswered { self.new.unanswered ≡ self.old.unanswered }
         ensures same { self.new.frames ≡ self.old.frames }
     {
         for _ in 0..self.finished.len() {
@@ -199,6 +213,7 @@ impl State {
         ensures finished { self.new.finished.items ≡ drop 1 self.old.finished.items }
         ensures released { self.new.released.items ++ self.new.finished.items ≡ self.old.released.items ++ self.old.finished.items }
         ensures waiting { self.new.waiting ≡ self.old.waiting }
+        ensures unanswered { self.new.unanswered ≡ self.old.unanswered }
         ensures same { (self.new.frames ≡ self.old.frames) × (self.new.accepted ≡ self.old.accepted) }
     {
         let Some(request) = self.finished.pop_front() else {
@@ -214,6 +229,8 @@ impl State {
         requires { IsCore self.old }
         ensures core { IsCore self.new }
         ensures step { MatchOption result (Step self.old No_command self.new) (λ c. (frame : ℕ) × Step self.old (Take_command c.token (world_command frame c)) self.new) }
+        ensures there { IfSome result (λ c. IsCommandOf self.old.frames c) }
+        ensures replies { KeepsReplies self.old self.new }
     {
         self.frames.take_command()
     }
@@ -224,7 +241,8 @@ impl State {
         ensures core { IsCore self.new }
         ensures step { MatchOption result (Step self.old No_reply self.new) (λ r. Step self.old (Take_reply r.id (answer_of r.op)) self.new) }
         ensures request { IfSome result (λ r. (state_of self.old).request r.id ≡ Some (record { op = op_of r.op; stage = Released (answer_of r.op) })) }
-        ensures first { MatchOption result (self.old.released.items ≡ []) (λ r. self.old.released.items ≡ r ∷ self.new.released.items) }
+        ensures first { MatchOption result ((self.old.released.items ≡ []) × (self.new ≡ self.old)) (λ r. TakesFirst self.old r self.new) }
+        ensures unanswered { MatchOption result (self.new.unanswered ≡ self.old.unanswered) (λ _. self.new.unanswered + 1 ≡ self.old.unanswered) }
     {
         let request = self.released.pop_front()?;
         self.unanswered -= 1;

@@ -110,6 +110,24 @@ fn targets(core: &mut Core, alloc: Global, count: usize) -> Result<Vec<(usize, u
     Ok(targets)
 }
 
+/// The number of a write that is answered, and whether its buffer has the byte throughout.
+fn written(reply: Option<(OpId, Reply)>, byte: u8) -> Option<(OpId, bool)> {
+    let (id, reply) = reply?;
+    match reply {
+        Reply::Done(buffer) => Some((id, is_filled(&buffer, byte))),
+        _ => None,
+    }
+}
+
+/// The number of a read that is answered, and whether its block has the byte throughout.
+fn read(reply: Option<(OpId, Reply)>, byte: u8) -> Option<(OpId, bool)> {
+    let (id, reply) = reply?;
+    match reply {
+        Reply::Data(buffer) => Some((id, is_filled(&buffer, byte))),
+        _ => None,
+    }
+}
+
 fn number_of(refused: Option<Refusal>) -> u8 {
     match refused {
         Some(refusal) => refusal.number(),
@@ -229,13 +247,7 @@ fn a_write_and_a_read_of_it(rt: HostRuntime) -> Result<(), Fail> {
     // no reply before a look
     assert!(rt; core.take_reply().is_none());
     core.look(&snapshot);
-    match core.take_reply() {
-        Some((id, Reply::Done(buffer))) => {
-            assert_eq!(rt; id, OpId(0));
-            assert!(rt; is_filled(&buffer, 0x5a));
-        }
-        _ => assert!(rt; false, "no reply to the write"),
-    }
+    assert_eq!(rt; written(core.take_reply(), 0x5a), Some((OpId(0), true)));
     let id = core
         .submit(Op::Read(0, Buffer::new(rt.alloc(), 16)?))
         .ok()
@@ -243,13 +255,7 @@ fn a_write_and_a_read_of_it(rt: HostRuntime) -> Result<(), Fail> {
     assert_eq!(rt; id, OpId(1));
     assert_eq!(rt; drive(&mut core, &mut devices, 9), 1);
     core.look(&snapshot);
-    match core.take_reply() {
-        Some((id, Reply::Data(buffer))) => {
-            assert_eq!(rt; id, OpId(1));
-            assert!(rt; is_filled(&buffer, 0x5a));
-        }
-        _ => assert!(rt; false, "no reply to the read"),
-    }
+    assert_eq!(rt; read(core.take_reply(), 0x5a), Some((OpId(1), true)));
     assert!(rt; core.take_reply().is_none());
     Ok(())
 }
@@ -346,13 +352,7 @@ fn requests_to_one_row_wait_for_each_other(rt: HostRuntime) -> Result<(), Fail> 
     for id in [4u64, 0, 1, 2] {
         assert_eq!(rt; core.take_reply().map(|r| r.0), Some(OpId(id)));
     }
-    match core.take_reply() {
-        Some((id, Reply::Data(buffer))) => {
-            assert_eq!(rt; id, OpId(3));
-            assert!(rt; is_filled(&buffer, 0x33));
-        }
-        _ => assert!(rt; false, "no reply to the read"),
-    }
+    assert_eq!(rt; read(core.take_reply(), 0x33), Some((OpId(3), true)));
     Ok(())
 }
 

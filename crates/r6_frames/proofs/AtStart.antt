@@ -58,6 +58,7 @@ module _ (fs : Frames) (held : fs.held.items ≡ none_held 64) (commands : fs.co
         frames = record {
           count = ap length held ∙ length-replicate {A = Option HeldRow} 64 None;
           rows = λ frame h is. let none = no_hold frame in absurd (cc);
+          one_holder = λ frame other h i is is_other same. let none = no_hold frame in absurd (cc);
           spare = count ∙ sym (ap count_free held ∙ all_free 64);
           spare_room = room;
           spare_shape = shapes;

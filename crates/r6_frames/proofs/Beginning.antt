@@ -29,9 +29,9 @@ use Rattle.r6_frames.specs.declared.op.Request.{Request}
 use Rattle.r6_frames.specs.declared.frames.Job.{Job}
 use Rattle.r6_frames.specs.declared.frames.HeldRow.{HeldRow}
 use Rattle.r6_frames.specs.declared.frames.Frames.{Frames}
-use Rattle.r6_frames.specs.Frames.{op_of, buffer_of, job_for, row_task, task_for, task_by, op_by, hold_at, hold_of, held_request, requests_from, entry_of, begun_for, shard_with, owed_by, owed_in, is_unsent, IsFreeFrame, IsRequestOf, Begins}
-use Rattle.r6_frames.specs.Sound.{idle_row, is_put_out, count_home, home_in, count_free, IsJob, IsHeld, AreFrames, AreCommands, IsSound}
-use Rattle.r6_frames.proofs.Held.{hold_at_own, hold_at_other, frame_put, held_comes, owed_at, owed_set, home_at, home_set, free_at, free_set}
+use Rattle.r6_frames.specs.Frames.{op_of, buffer_of, job_for, row_task, task_for, task_by, op_by, hold_at, hold_of, held_request, requests_from, entry_of, begun_for, shard_with, owed_by, owed_in, is_unsent, IsFreeFrame, NotHeldBy, IsRequestOf, Begins}
+use Rattle.r6_frames.specs.Sound.{idle_row, is_put_out, count_home, home_in, count_free, IsJob, IsHeld, AreApart, AreFrames, AreCommands, IsSound}
+use Rattle.r6_frames.proofs.Held.{hold_at_own, hold_at_other, apart_put, frame_put, held_comes, owed_at, owed_set, home_at, home_set, free_at, free_set}
 
 -- ---- a row where all positions are in sync
 
@@ -235,7 +235,7 @@ pub synced : (fs : Frames) (count : ℕ) → IsSound fs → count ≡ fs.geometr
 synced fs count sound same = take-replicate count 32 true (let most = sound.shape.slots_allowed.1 in omega arith) ∙ ap (λ n. replicate n true) same
 
 module _ (fs : Frames) (frame : ℕ) (request : Request) (held : Vec (Option HeldRow) Global) (spare : Vec buffers.Shape Global)
-    (sound : IsSound fs) (free : IsFreeFrame fs frame) (right : IsRequestOf fs request)
+    (sound : IsSound fs) (free : IsFreeFrame fs frame) (right : IsRequestOf fs request) (unheld : NotHeldBy fs (layout.row_of fs.geometry (block_in request)))
     (held_is : held.items ≡ set fs.held.items frame (Some (begun_row fs.geometry request))) where
   here : frame < length fs.held.items
   here = inside fs frame sound free
@@ -266,6 +266,9 @@ module _ (fs : Frames) (frame : ℕ) (request : Request) (held : Vec (Option Hel
                   subst (IsHeld fs.geometry fs.shard) same (begun_is_held fs request sound.shape right)
               | inr ne ↦ was.rows f h (sym (other f ne) ∙ is)
             ];
+        one_holder =
+            subst AreApart (sym held_is)
+            (apart_put fs.held.items frame (begun_row fs.geometry request) here was.one_holder (λ f h is same. absurd (unheld f h is same)));
         spare = omega arith;
         spare_room = omega arith;
         spare_shape = shapes;

@@ -22,7 +22,7 @@ use Rattle.r6_frames.specs.Frames.{hold_at, outstanding, command_of, transfer_of
 use Rattle.r6_frames.specs.Sound.{AreCommands, IsOfHold, HasCommand, is_write, count_home, home_in}
 use Rattle.r6_frames.proofs.Lists.{same_put}
 use Rattle.r6_frames.proofs.Tables.{inserted-own, inserted-other, len-inserted}
-use Rattle.r6_frames.proofs.Held.{held_within, hold_at_own, hold_at_other, home_at, home_set}
+use Rattle.r6_frames.proofs.Held.{held_within, held_put, hold_at_own, hold_at_other, home_at, home_set}
 use Rattle.r6_frames.proofs.HeldRows.{prepared}
 
 -- the frames with another row held in the frame
@@ -36,11 +36,7 @@ one_held held frame other h x is e there = let both : Some x ≡ Some h = sym th
 -- what is held in a frame when another row is in this one
 pub held_then : (held : List (Option HeldRow)) (frame : ℕ) (h new : HeldRow) (other : ℕ) (x : HeldRow) → hold_at held frame ≡ Some h → hold_at (set held frame (Some new)) other ≡ Some x
     → ((other ≡ frame) × (new ≡ x)) ⊎ ((other ≢ frame) × (hold_at held other ≡ Some x))
-held_then held frame h new other x is there =
-    elim (cases_eq other frame) [
-      | inl e ↦ let own : Some new ≡ Some x = sym (hold_at_own held frame (Some new) (held_within held frame h is)) ∙ ap (hold_at (set held frame (Some new))) (sym e) ∙ there in inl (e, cc)
-      | inr ne ↦ inr (ne, sym (hold_at_other held frame (Some new) other ne) ∙ there)
-    ]
+held_then held frame h new other x is there = held_put held frame new other x (held_within held frame h is) there
 
 -- ---- a hold prepares: its commands stay
 

@@ -31,7 +31,7 @@ use Rattle.r6_frames.specs.Sound.{IsSound, IsHeld, AreFrames, AreCommands, IsOfH
 use Rattle.r6_frames.proofs.Lists.{same_put}
 use Rattle.r6_frames.proofs.Tables.{removed-own, removed-other, len-removed}
 use Rattle.r6_frames.proofs.Takings.{commands_of}
-use Rattle.r6_frames.proofs.Held.{hold_at_own, hold_at_other, held_within, frame_put, held_stays, owed_at, owed_set, home_at, home_set, free_at, free_set}
+use Rattle.r6_frames.proofs.Held.{apart_still, hold_at_own, hold_at_other, held_within, frame_put, held_stays, owed_at, owed_set, home_at, home_set, free_at, free_set}
 use Rattle.r6_frames.proofs.AnsweredRows.{Answered, answer_event, answer_at, answered_row, answered_held, answered_owes}
 
 -- ---- a command and its row
@@ -223,6 +223,7 @@ frames_left fs token c h block event are out a =
                 subst (IsHeld fs.geometry fs.shard) own whole
             | inr ne ↦ are.rows frame x (sym (hold_at_other fs.held.items c.frame (Some h') frame ne) ∙ is)
           ];
+      one_holder = apart_still fs.held.items c.frame h h' out.held refl are.one_holder;
       spare =
           let free = free_set fs.held.items c.frame (Some h') fits in
           let here = ap free_at out.held in

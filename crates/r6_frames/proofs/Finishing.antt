@@ -91,6 +91,7 @@ module _ (old : Frames) (frame : ℕ) (h : HeldRow) (sound : IsSound old) (is : 
         record {
           count = ap length items ∙ length-set old.held.items frame None ∙ are.count;
           rows = rows_after are;
+          one_holder = λ first second x y is_first is_second same. are.one_holder first second x y (was_held first x is_first) (was_held second y is_second) same;
           spare = ap length more ∙ length-append old.spare.items (spare ∷ []) ∙ omega (arith, are.spare, one_free);
           spare_room = subst (λ n. frames ≤ n) (sym capacity) are.spare_room;
           spare_shape = subst (All Whole) (sym more) (All-append Whole old.spare.items (spare ∷ []) are.spare_shape (All-cons Whole spare [] shape (All-nil Whole)));

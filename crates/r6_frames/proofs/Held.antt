@@ -1,13 +1,13 @@
 -- The list of held rows, when the entry of one frame changes.
-use Rattle.std.proofs.Common.{◌≡◌, ◌≢◌, ℕ, zero, suc, ◌+◌, ◌<◌, Bool, cond, List, [], ◌∷◌, length, set, refl, sym, ap, ◌∙◌, Option, Some, None, arith, get_or-set_same, get_or-set_other}
+use Rattle.std.proofs.Common.{◌≡◌, ◌≢◌, ◌⊎◌, ℕ, zero, suc, ◌+◌, ◌<◌, Bool, cond, List, [], ◌∷◌, length, set, refl, sym, ap, ◌∙◌, Option, Some, None, inl, inr, arith, get_or-set_same, get_or-set_other}
 use Rattle.std.specs.Prelude.{option_map}
 use Rattle.std.specs.List.{AllByRecursion}
-use Rattle.std.proofs.lemmas.Bool.{eqb-false, eq-eqb, ne_eqb}
+use Rattle.std.proofs.lemmas.Bool.{cases_eq, eqb-false, eq-eqb, ne_eqb}
 use Rattle.r6_world.specs.Tables.{put}
 use Rattle.r6_world.specs.ShardStates.{Held}
 use Rattle.r6_frames.specs.declared.frames.HeldRow.{HeldRow}
 use Rattle.r6_frames.specs.Frames.{hold_at, hold_of, held_request, requests_from, owed_by, owed_in, IsElsewhere, IsWith}
-use Rattle.r6_frames.specs.Sound.{count_home, home_in, count_free}
+use Rattle.r6_frames.specs.Sound.{AreApart, count_home, home_in, count_free}
 use Rattle.r6_frames.proofs.Lists.{same_put}
 
 -- ---- tables as functions
@@ -35,6 +35,35 @@ hold_at_own held f v lt = get_or-set_same held f v None lt
 
 pub hold_at_other : (held : List (Option HeldRow)) (f : ℕ) (v : Option HeldRow) (other : ℕ) → other ≢ f → hold_at (set held f v) other ≡ hold_at held other
 hold_at_other held f v other ne = get_or-set_other held f other v None ne
+
+-- what is held in a frame when this row is in the other
+pub held_put : (held : List (Option HeldRow)) (frame : ℕ) (new : HeldRow) (other : ℕ) (x : HeldRow) → frame < length held → hold_at (set held frame (Some new)) other ≡ Some x
+    → ((other ≡ frame) × (new ≡ x)) ⊎ ((other ≢ frame) × (hold_at held other ≡ Some x))
+held_put held frame new other x below there =
+    elim (cases_eq other frame) [
+      | inl e ↦ let own : Some new ≡ Some x = sym (hold_at_own held frame (Some new) below) ∙ ap (hold_at (set held frame (Some new))) (sym e) ∙ there in inl (e, cc)
+      | inr ne ↦ inr (ne, sym (hold_at_other held frame (Some new) other ne) ∙ there)
+    ]
+
+-- a row that no other frame has
+pub apart_put : (held : List (Option HeldRow)) (frame : ℕ) (new : HeldRow) → frame < length held → AreApart held
+    → ((other : ℕ) (x : HeldRow) → hold_at held other ≡ Some x → x.row ≡ new.row → other ≡ frame) → AreApart (set held frame (Some new))
+apart_put held frame new below apart alone first second x y is_first is_second same =
+    elim (held_put held frame new first x below is_first) [
+      | inl a ↦ elim (held_put held frame new second y below is_second) [
+        | inl b ↦ a.0 ∙ sym b.0
+        | inr b ↦ absurd (b.0 (alone second y b.1 (sym same ∙ ap (λ (h : HeldRow). h.row) (sym a.1))))
+      ]
+      | inr a ↦ elim (held_put held frame new second y below is_second) [
+        | inl b ↦ absurd (a.0 (alone first x a.1 (same ∙ ap (λ (h : HeldRow). h.row) (sym b.1))))
+        | inr b ↦ apart first second x y a.1 b.1 same
+      ]
+    ]
+
+-- a row of the frame goes on
+pub apart_still : (held : List (Option HeldRow)) (frame : ℕ) (h new : HeldRow) → hold_at held frame ≡ Some h → new.row ≡ h.row → AreApart held → AreApart (set held frame (Some new))
+apart_still held frame h new is same apart =
+    apart_put held frame new (held_within held frame h is) apart (λ other x there row. apart other frame x h there is (row ∙ same))
 
 pub frame_put : (held : List (Option HeldRow)) (f : ℕ) (v : Option HeldRow) → f < length held
     → (λ x. option_map hold_of (hold_at (set held f v) x)) ≡ put (λ x. option_map hold_of (hold_at held x)) f (option_map hold_of v)

@@ -70,7 +70,7 @@ module _ (fs : Frames) (frame : ℕ) (h : HeldRow) (new : Held) (is : hold_at fs
   pub none_sound : IsSound (with_row fs frame row)
   none_sound =
       subst (λ (r : HeldRow). IsSound (with_row fs frame r)) has.same
-      (sound_changed fs frame h ready fs.commands is sound p.held
+      (sound_changed fs frame h ready fs.commands is sound p.held refl
       (commands_prepared fs frame h (planned_at h.hold.planned has.events) sound.shape is (λ j below. (p.like j below).sent) sound.commands))
 
   pub none_drives : Drives fs (with_row fs frame row)

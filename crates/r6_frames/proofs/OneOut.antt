@@ -55,7 +55,7 @@ module _ (fs : Frames) (frame : ℕ) (h : HeldRow) (position slot : ℕ) (kind :
   pub some_sound : IsSound (changed fs frame last commands)
   some_sound =
       carry IsSound
-      (sound_changed fs frame h sent (pushed fs.commands (new_command frame slot h.row kind buffer)) is sound has.held
+      (sound_changed fs frame h sent (pushed fs.commands (new_command frame slot h.row kind buffer)) is sound has.held refl
       (commands_came fs frame h planned position slot kind buffer sound.shape has.puts sound.commands))
 
   pub some_drives : Drives fs (changed fs frame last commands)

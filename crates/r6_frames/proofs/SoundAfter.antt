@@ -20,7 +20,7 @@ use Rattle.r6_frames.specs.declared.frames.HeldRow.{HeldRow}
 use Rattle.r6_frames.specs.declared.frames.Frames.{Frames}
 use Rattle.r6_frames.specs.Frames.{hold_at, held_request, requests_from, kind_in, is_unsent, owed_by, owed_in, HasAway, IsOver}
 use Rattle.r6_frames.specs.Sound.{IsHeld, IsSound, AreFrames, AreCommands, is_put_out, is_write}
-use Rattle.r6_frames.proofs.Held.{held_within, held_stays, owed_at, owed_set, free_at, free_set}
+use Rattle.r6_frames.proofs.Held.{held_within, held_stays, apart_still, owed_at, owed_set, free_at, free_set}
 use Rattle.r6_frames.proofs.HeldRows.{Prepared, prepared, held_after, are_prepared, prepared_owes}
 use Rattle.r6_frames.proofs.CommandComes.{with_row, sent_off, held_then, PutsOutAt}
 use Rattle.r6_frames.proofs.PuttingOut.{put_event}
@@ -35,13 +35,14 @@ module _ (fs : Frames) (frame : ℕ) (h new : HeldRow) (commands : Numbered Outs
   inside : frame < length fs.held.items
   inside = held_within fs.held.items frame h is
 
-  pub frames_changed : IsHeld fs.geometry fs.shard new → AreFrames fs → AreFrames (changed fs frame new commands)
-  frames_changed held all = record {
+  pub frames_changed : IsHeld fs.geometry fs.shard new → new.row ≡ h.row → AreFrames fs → AreFrames (changed fs frame new commands)
+  frames_changed held same_row all = record {
     count = length-set fs.held.items frame (Some new) ∙ all.count;
     rows = λ other x there. elim (held_then fs.held.items frame h new other x is there) [
       | inl mine ↦ subst (λ (x : HeldRow). IsHeld fs.geometry fs.shard x) mine.1 held
       | inr old ↦ all.rows other x old.1
     ];
+    one_holder = apart_still fs.held.items frame h new is same_row all.one_holder;
     spare =
         let free = free_set fs.held.items frame (Some new) inside in
         let was : free_at (hold_at fs.held.items frame) ≡ 0 = ap free_at is in
@@ -51,8 +52,8 @@ module _ (fs : Frames) (frame : ℕ) (h new : HeldRow) (commands : Numbered Outs
     spare_shape = all.spare_shape;
   }
 
-  pub sound_changed : IsSound fs → IsHeld fs.geometry fs.shard new → AreCommands (changed fs frame new commands) → IsSound (changed fs frame new commands)
-  sound_changed sound held are = record { shape = sound.shape; shard = sound.shard; frames = frames_changed held sound.frames; commands = are }
+  pub sound_changed : IsSound fs → IsHeld fs.geometry fs.shard new → new.row ≡ h.row → AreCommands (changed fs frame new commands) → IsSound (changed fs frame new commands)
+  sound_changed sound held same_row are = record { shape = sound.shape; shard = sound.shard; frames = frames_changed held same_row sound.frames; commands = are }
 
   pub owed_changed : owed_in (set fs.held.items frame (Some new)) + owed_by h ≡ owed_in fs.held.items + owed_by new
   owed_changed =

@@ -9,11 +9,13 @@ use Rattle.std.proofs.lemmas.Bool.{eqb-false, lt-ltb, le-ltb, cases_eq, ne_eqb}
 use Rattle.std.proofs.lemmas.Bool.Decides.{nat_tests}
 use Rattle.r6_tables.specs.Table.{Numbered, entries_of, next_of, capacity_of}
 use Rattle.r6_world.specs.Tables.{put}
+use Rattle.r6_world.specs.Layouts.{IsRowOf}
+use Rattle.r6_world.specs.Geometries.{layout_of}
 use Rattle.r6_world.specs.ShardStates as shards
 use Rattle.r6_frames.specs.declared.command.CommandKind.TheVariants as command
 use Rattle.r6_frames.specs.declared.command.Outstanding.{Outstanding}
 use Rattle.r6_frames.specs.declared.frames.Frames.{Frames}
-use Rattle.r6_frames.specs.Frames.{hold_at, outstanding, command_of, transfer_of, given_transfer, world_command, shard_with, Steps}
+use Rattle.r6_frames.specs.Frames.{hold_at, outstanding, command_of, transfer_of, given_transfer, world_command, shard_with, Steps, IsCommandOf}
 use Rattle.r6_world.specs.Steps.{Take_command}
 use Rattle.r6_frames.specs.Sound.{IsSound, AreCommands, HasCommand, is_write}
 use Rattle.r6_layout.specs.Layout.{position_at}
@@ -172,11 +174,24 @@ taken_sound fs c sound below is =
       frames = record {
         count = sound.frames.count;
         rows = sound.frames.rows;
+        one_holder = sound.frames.one_holder;
         spare = sound.frames.spare;
         spare_room = sound.frames.spare_room;
         spare_shape = sound.frames.spare_shape;
       };
       commands = commands_taken fs c sound.commands below is;
+    }
+
+-- the command that is handed over
+pub taken_fits : (fs : Frames) (c : Outstanding) (block : List ℕ) → IsSound fs → outstanding fs fs.handed ≡ Some c → c.buffer ≡ Some block
+    → IsCommandOf fs (record { token = fs.handed; slot = c.slot; generation = 0; row = c.row; kind = c.kind; buffer = block })
+taken_fits fs c block sound is full =
+    let hold = sound.commands.of_hold fs.handed c is in
+    record {
+      block = sound.commands.sized fs.handed c block is full;
+      slot = hold.slot;
+      generation = refl;
+      row = subst (IsRowOf (layout_of fs.geometry) fs.shard) (sym hold.row) (sound.frames.rows c.frame hold.holder hold.held).own;
     }
 
 -- the step of the shard, whatever its requests are

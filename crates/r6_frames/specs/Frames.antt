@@ -1,5 +1,5 @@
 -- The held rows and their commands, as the state of a shard has them.
-use Rattle.std.specs.Prelude.{◌≡◌, ◌≢◌, ℕ, ◌+◌, ◌<◌, nat_lt, ◌||◌, Bool, true, false, List, [], ◌∷◌, ◌++◌, slice_index_or, Option, Some, None, option_map}
+use Rattle.std.specs.Prelude.{◌≡◌, ◌≢◌, ℕ, ◌+◌, ◌<◌, nat_lt, ◌||◌, Bool, true, false, List, [], ◌∷◌, ◌++◌, length, slice_index_or, Option, Some, None, option_map}
 use Rattle.std.specs.List.{AllByRecursion}
 use Rattle.std.specs.FinMap as map
 use Rattle.r6_kernels.specs.Blocks.{IsBlock}
@@ -18,7 +18,7 @@ use Rattle.r6_tables.specs.Table.{entries_of, next_of}
 use Rattle.r6_world.specs.Tables.{put}
 use Rattle.r6_world.specs.PlainArray as world
 use Rattle.r6_world.specs.PlainArray.{Block}
-use Rattle.r6_world.specs.Layouts.{Layout}
+use Rattle.r6_world.specs.Layouts.{Layout, IsRowOf}
 use Rattle.r6_world.specs.Geometries.{layout_of}
 use Rattle.r6_world.specs.Tasks.{Task, ReadFor, WriteFor, Hold, Outcome, Answered, Wrote}
 use Rattle.r6_world.specs.ShardStates as shards
@@ -258,6 +258,13 @@ given_transfer command.Write block = Store block
 abbrev pub world_command : ℕ → Command → shards.Command
 world_command frame c =
     record { frame = frame; slot = c.slot; generation = c.generation; row = c.row; transfer = given_transfer c.kind c.buffer; taken = false; abandoned = false }
+
+-- a command that the array can perform: one block, for the first device of a slot, in a row of the shard
+pub record IsCommandOf (fs : Frames) (c : Command) : Type 0 where
+  pub block : length c.buffer ≡ fs.geometry.block
+  pub slot : c.slot < fs.geometry.slots
+  pub generation : c.generation ≡ 0
+  pub row : IsRowOf (layout_of fs.geometry) fs.shard c.row
 
 -- a command was taken and isn't answered
 abbrev pub IsAwaited : Frames → ℕ → Type 0

@@ -58,6 +58,10 @@ pub record IsHeld (shape : Shape) (shard : ℕ) (h : HeldRow) : Type 0 where
   -- the buffers that are away left with the commands that are put out
   pub away : (position : ℕ) → position < shape.slots → is_away h.hold position ≡ is_put_out (cell_at h.hold.planned.hold.cells position)
 
+-- a row has one holder
+abbrev pub AreApart : List (Option HeldRow) → Type 0
+AreApart held = (frame other : ℕ) (h i : HeldRow) → hold_at held frame ≡ Some h → hold_at held other ≡ Some i → h.row ≡ i.row → frame ≡ other
+
 -- ---- commands
 
 abbrev pub is_write : CommandKind → Bool
@@ -108,6 +112,7 @@ pub record AreCommands (fs : Frames) : Type 0 where
 pub record AreFrames (fs : Frames) : Type 0 where
   pub count : length fs.held.items ≡ frames
   pub rows : (frame : ℕ) (h : HeldRow) → hold_at fs.held.items frame ≡ Some h → IsHeld fs.geometry fs.shard h
+  pub one_holder : AreApart fs.held.items
   -- as many spare frames as frames are free
   pub spare : length fs.spare.items ≡ count_free fs.held.items
   pub spare_room : frames ≤ vec_capacity fs.spare

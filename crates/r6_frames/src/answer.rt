@@ -1,13 +1,13 @@
 //! Commands are taken and answered, and holds end.
 
-ghost use Rattle.std.specs.Prelude.{◌≡◌, ◌<◌, ◌≤◌, ◌↔◌, ℕ, length, Option, MatchOption, IsTrue};
+ghost use Rattle.std.specs.Prelude.{◌≡◌, ◌<◌, ◌≤◌, ◌↔◌, ℕ, length, Option, MatchOption, IfSome, IsTrue};
 ghost use Rattle.r6_layout.specs.Shape.{Shape};
 ghost use Rattle.r6_stripe.specs.Holds.{MayEnd};
 ghost use Rattle.r6_stripe.specs.Plans as stripe;
 ghost use Rattle.r6_world.specs.Tasks.{end_of};
 ghost use Rattle.r6_world.specs.Steps.{No_command, Take_command};
 ghost use Rattle.r6_tables.specs.Table.{next_of};
-ghost use Rattle.r6_frames.specs.Frames.{op_of, op_by, outcome_of, kind_in, owed, held_requests, world_command, IsAwaited, IsHeldFrame, IsDriven, IsOver, KeepsOthers, KeepsHolds, Steps, Answers, Ends};
+ghost use Rattle.r6_frames.specs.Frames.{op_of, op_by, outcome_of, kind_in, owed, held_requests, world_command, IsCommandOf, IsAwaited, IsHeldFrame, IsDriven, IsOver, KeepsOthers, KeepsHolds, Steps, Answers, Ends};
 ghost use Rattle.r6_frames.specs.Sound.{IsSound, IsHeld};
 
 use crate::command::{Command, Outstanding};
@@ -22,6 +22,7 @@ impl Frames {
         requires { IsSound self.old }
         ensures sound { IsSound self.new }
         ensures step { MatchOption result (Steps self.old No_command self.new) (λ c. (frame : ℕ) × Steps self.old (Take_command c.token (world_command frame c)) self.new) }
+        ensures there { IfSome result (λ c. IsCommandOf self.old c) }
         ensures holds { KeepsHolds self.old self.new }
     {
         if self.handed == self.commands.next() {

@@ -113,11 +113,12 @@ impl Frames {
         false
     }
 
-    /// Holds the row of the request's block in a free frame. Its commands are put out by [`Frames::drive`].
+    /// Holds the row of the request's block, which isn't held, in a free frame. Its commands are put out by [`Frames::drive`].
     pub fn begin(&mut self, frame: usize, request: Request)
         requires sound { IsSound self.old }
         requires free { IsFreeFrame self.old frame }
         requires request { IsRequestOf self.old request }
+        requires unheld { NotHeldBy self.old (layout.row_of self.old.geometry (block_of (op_of request.op))) }
         ensures sound { IsSound self.new }
         ensures begins { Begins self.old frame request self.new }
         ensures others { KeepsOthers self.old frame self.new }

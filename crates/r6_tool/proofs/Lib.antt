@@ -1,3 +1,4 @@
 pub mod DocumentLemmas
 pub mod GrammarLemmas
+pub mod RegisterLemmas
 pub mod Walks

@@ -17,7 +17,7 @@ pub enum Invocation<'a> {
     Create { config: &'a str },
     /// Reads every row of the devices and counts the classes.
     Verify { config: &'a str },
-    /// Plays the events of a script against the core of an array in memory.
+    /// Plays the events of a script against the cores of an array in memory.
     Simulate { script: &'a str },
     /// Serves the requests of a script over the devices of a settings file.
     Run { config: &'a str, script: &'a str },
@@ -71,7 +71,9 @@ fn grammar<'a>(alloc: Global) -> Result<Command<'a>, AllocError>
         .subcommand(with_config(alloc, "geometry")?.about("Print the array's layout"))?
         .subcommand(with_config(alloc, "create")?.hide(true))?
         .subcommand(with_config(alloc, "verify")?.hide(true))?
-        .subcommand(with_script(alloc, "simulate")?.hide(true))?
+        .subcommand(with_script(alloc, "simulate")?.about(
+            "Play a script against an array in memory",
+        ))?
         .subcommand(with_both(alloc, "run")?.hide(true))
 }
 

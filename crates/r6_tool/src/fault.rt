@@ -1,7 +1,9 @@
 //! Why the program ends with a status other than good, and the line that says so.
 ghost use Rattle.std.specs.Prelude.{◌≡◌};
 
+use r6_dev::Fault as DeviceFault;
 use r6_layout::GeometryError;
+use r6_script::ScriptFault;
 use std::alloc::{AllocError, AllocFailed};
 use std::fmt;
 
@@ -75,6 +77,13 @@ impl From<AllocError> for SettingsFault {
     }
 }
 
+/// A file that a command reads.
+#[derive(Clone, Copy, Debug, PartialEq, Eq)]
+pub enum Input {
+    Settings,
+    Script,
+}
+
 /// Why the program ends before its command is done. `Display` writes the line for standard error.
 #[derive(Clone, Copy, Debug, PartialEq, Eq)]
 pub enum Fault {
@@ -82,10 +91,14 @@ pub enum Fault {
     NotText,
     /// The command is in the grammar and not in the program.
     NotBuilt(&'static str),
-    /// The settings file can't be read, or isn't UTF-8.
-    Unreadable,
+    /// The file can't be read, or isn't UTF-8.
+    Unreadable(Input),
     /// The settings are refused.
     Settings(SettingsFault),
+    /// The script is refused.
+    Script(ScriptFault),
+    /// The device of this slot did not do what it was told.
+    Device(usize, DeviceFault),
     /// Standard output refused a write.
     Output,
     /// An allocation failed.
@@ -95,16 +108,19 @@ pub enum Fault {
 impl Fault {
     ghost use Rattle.r6_tool.specs.Status.{status_of};
 
-    /// The status with which the program ends: 2 for a use that it does not have, 3 for settings, 4 for
-    /// output and 5 for memory.
+    /// The status with which the program ends: 2 for a use that it does not have, 3 for settings and scripts,
+    /// 4 for output and devices, and 5 for memory.
     pub fn status(&self) -> u8
         ensures { result ≡ status_of self.now }
     {
         match self {
             Fault::NotText | Fault::NotBuilt(_) => 2,
-            Fault::Unreadable => 3,
+            Fault::Unreadable(_) => 3,
             Fault::Settings(SettingsFault::Memory) => 5,
             Fault::Settings(_) => 3,
+            Fault::Script(ScriptFault::Memory) => 5,
+            Fault::Script(_) => 3,
+            Fault::Device(..) => 4,
             Fault::Output => 4,
             Fault::Memory => 5,
         }
@@ -128,8 +144,11 @@ impl fmt::Display for Fault {
         match self {
             Fault::NotText => write!(f, "raid6: the command line is not UTF-8"),
             Fault::NotBuilt(name) => write!(f, "raid6: {name} is not built yet"),
-            Fault::Unreadable => write!(f, "settings: unreadable"),
+            Fault::Unreadable(Input::Settings) => write!(f, "settings: unreadable"),
+            Fault::Unreadable(Input::Script) => write!(f, "script: unreadable"),
             Fault::Settings(fault) => write!(f, "{fault}"),
+            Fault::Script(fault) => write!(f, "{fault}"),
+            Fault::Device(slot, fault) => write!(f, "device {slot} fault {}", fault.number()),
             Fault::Output => write!(f, "output"),
             Fault::Memory => write!(f, "memory"),
         }
@@ -139,6 +158,18 @@ impl fmt::Display for Fault {
 impl From<SettingsFault> for Fault {
     fn from(fault: SettingsFault) -> Fault {
         Fault::Settings(fault)
+    }
+}
+
+impl From<ScriptFault> for Fault {
+    fn from(fault: ScriptFault) -> Fault {
+        Fault::Script(fault)
+    }
+}
+
+impl<T: Drop> From<AllocFailed<T>> for Fault {
+    fn from(_refused: AllocFailed<T>) -> Fault {
+        Fault::Memory
     }
 }
 

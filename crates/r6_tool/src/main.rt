@@ -6,7 +6,12 @@ mod document;
 mod execute;
 mod fault;
 mod geometry;
+mod lines;
+mod output;
 mod settings;
+mod simulate;
+#[cfg(test)]
+mod simulate_tests;
 #[cfg(test)]
 mod tests;
 

@@ -19,9 +19,15 @@ chunk row 3: p q d0 d1
 
 // A reader that hands out its text and then fails.
 #[derive(Drop)]
-struct Torn<'a> {
+pub struct Torn<'a> {
     text: &'a [u8],
     kind: ErrorKind,
+}
+
+impl<'a> Torn<'a> {
+    pub fn new(text: &'a [u8], kind: ErrorKind) -> Torn<'a> {
+        Torn { text, kind }
+    }
 }
 
 impl Read for Torn<'_> {
@@ -38,8 +44,14 @@ impl Read for Torn<'_> {
 
 // A writer that takes so many bytes and then refuses.
 #[derive(Drop)]
-struct Full {
+pub struct Full {
     room: usize,
+}
+
+impl Full {
+    pub fn new(room: usize) -> Full {
+        Full { room }
+    }
 }
 
 impl Write for Full {
@@ -59,10 +71,10 @@ impl Write for Full {
 
 // What a command wrote to its two outputs, and its status.
 #[derive(Drop)]
-struct Ended {
-    out: Vec<u8>,
-    err: Vec<u8>,
-    status: u8,
+pub struct Ended {
+    pub out: Vec<u8>,
+    pub err: Vec<u8>,
+    pub status: u8,
 }
 
 const GEOMETRY: Invocation<'static> = Invocation::Geometry {
@@ -367,10 +379,6 @@ fn commands_to_come_say_so(rt: HostRuntime) {
         (
             Invocation::Verify { config: path },
             "raid6: verify is not built yet\n",
-        ),
-        (
-            Invocation::Simulate { script: path },
-            "raid6: simulate is not built yet\n",
         ),
         (
             Invocation::Run {

@@ -23,11 +23,11 @@ returns c =
     let geometry_is : app_of c.about-2.result ≡ with_one_path (codes "geometry") = ap app_of_fields c.about-2.ensures ∙ c.in_ok-with_config.ensures.app in
     let create_is : app_of c.hide.result ≡ with_one_path (codes "create") = ap app_of_fields c.hide.ensures ∙ c.in_ok-with_config-2.ensures.app in
     let verify_is : app_of c.hide-2.result ≡ with_one_path (codes "verify") = ap app_of_fields c.hide-2.ensures ∙ c.in_ok-with_config-3.ensures.app in
-    let simulate_is : app_of c.hide-3.result ≡ with_one_path (codes "simulate") = ap app_of_fields c.hide-3.ensures ∙ c.in_ok-with_script.ensures.app in
-    let run_is : app_of c.hide-4.result ≡ with_two_paths (codes "run") = ap app_of_fields c.hide-4.ensures ∙ c.in_ok-with_both.ensures.app in
+    let simulate_is : app_of c.about-3.result ≡ with_one_path (codes "simulate") = ap app_of_fields c.about-3.ensures ∙ c.in_ok-with_script.ensures.app in
+    let run_is : app_of c.hide-3.result ≡ with_two_paths (codes "run") = ap app_of_fields c.hide-3.ensures ∙ c.in_ok-with_both.ensures.app in
     let top = λ (a : App). a.top in
     let one = c.in_ok-subcommand.ensures.shape (ap has_globals_of c.about-2.ensures ∙ c.in_ok-with_config.ensures.local) ∙ ap₂ with_subcommand program_is (ap top geometry_is) in
     let two = c.in_ok-subcommand-2.ensures.shape (ap has_globals_of c.hide.ensures ∙ c.in_ok-with_config-2.ensures.local) ∙ ap₂ with_subcommand one (ap top create_is) in
     let three = c.in_ok-subcommand-3.ensures.shape (ap has_globals_of c.hide-2.ensures ∙ c.in_ok-with_config-3.ensures.local) ∙ ap₂ with_subcommand two (ap top verify_is) in
-    let four = c.in_ok-subcommand-4.ensures.shape (ap has_globals_of c.hide-3.ensures ∙ c.in_ok-with_script.ensures.local) ∙ ap₂ with_subcommand three (ap top simulate_is) in
-    IfOk-weaker c.subcommand-5.result _ _ (λ made h. h.shape (ap has_globals_of c.hide-4.ensures ∙ c.in_ok-with_both.ensures.local) ∙ ap₂ with_subcommand four (ap top run_is)) c.subcommand-5.ensures
+    let four = c.in_ok-subcommand-4.ensures.shape (ap has_globals_of c.about-3.ensures ∙ c.in_ok-with_script.ensures.local) ∙ ap₂ with_subcommand three (ap top simulate_is) in
+    IfOk-weaker c.subcommand-5.result _ _ (λ made h. h.shape (ap has_globals_of c.hide-3.ensures ∙ c.in_ok-with_both.ensures.local) ∙ ap₂ with_subcommand four (ap top run_is)) c.subcommand-5.ensures

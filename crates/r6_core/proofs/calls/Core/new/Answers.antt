@@ -1,8 +1,8 @@
 use Rattle.r6_core.proofs.Fresh.{fresh_start}
 use Rattle.r6_core.proofs.calls.Core.new.Goals as goal
 
-pub returns-in-Ok : goal.returns-in-Ok
-returns-in-Ok c =
+pub returns-in-Ok-clause-start : goal.returns-in-Ok-clause-start
+returns-in-Ok-clause-start c =
     let fresh = c.in-Ok.ensures.fresh in (
       fresh.1,
       fresh.2,

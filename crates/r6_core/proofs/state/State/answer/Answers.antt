@@ -1,7 +1,7 @@
-use Rattle.std.proofs.Common.{◌≡◌, sym, ap, subst}
+use Rattle.std.proofs.Common.{sym, ap, subst}
 use Rattle.r6_core.specs.declared.state.State.{State}
-use Rattle.r6_core.specs.States.{IsCore, state_of}
-use Rattle.r6_core.proofs.Delivering.{AnswersThrough, awaited, is_answered, going_rests, ended_rests, answers_through, nothing_ends, one_ends, answered_sound, finished_room}
+use Rattle.r6_core.specs.States.{IsCore}
+use Rattle.r6_core.proofs.Delivering.{awaited, is_answered, going_rests, ended_rests, answers_through, nothing_ends, one_ends, answered_sound}
 use Rattle.r6_core.proofs.state.State.answer.Goals as goal
 
 pub answer-frame-requires-clause-awaited : goal.answer-frame-requires-clause-awaited

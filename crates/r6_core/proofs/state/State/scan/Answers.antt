@@ -11,7 +11,7 @@ advance-requires-clause-some c = some_waits c.args.self.now c.loop.self c.loop.c
 pub loop-preserved : goal.loop-preserved
 loop-preserved c =
     let moves = c.advance.ensures in
-    scanned_on c.args.self.now c.loop.self c.advance.new.self c.loop.counter c.len-end.result c.loop.invariant moves.core moves.leads moves.same moves.advances c.loop-test.true
+    scanned_on c.args.self.now c.loop.self c.advance.new.self c.loop.counter c.len-end.result c.loop.invariant moves.core moves.leads moves.same moves.replies moves.advances c.loop-test.true
 
 pub returns-clause-rested : goal.returns-clause-rested
 returns-clause-rested c = scanned_all c.args.self.now c.loop.self c.loop.counter c.len-end.result c.loop.invariant c.loop-test.false

@@ -1,4 +1,4 @@
-use Rattle.std.proofs.Common.{subst}
+use Rattle.std.proofs.Common.{ap, subst, ◌∙◌}
 use Rattle.r6_world.specs.ShardStates.{Shard}
 use Rattle.r6_world.specs.Geometries.{layout_of}
 use Rattle.r6_world.specs.Steps.{Through, Scans, AtRest}
@@ -12,11 +12,14 @@ returns-clause-step c =
     let mid = c.accept-id.new.self in
     let new = c.scan.new.self in
     let same = c.accept-id.ensures.same in (
-      c.accept-id.ensures.id,
-      c.accept-id.ensures.allowed,
-      subst (λ (from : Shard). Through (layout_in s) s.frames.shard Scans from (state_of new)) c.accept-id.ensures.accepted
-          (subst (λ fs. Through (layout_of fs.geometry) fs.shard Scans (state_of mid) (state_of new)) same c.scan.ensures.leads),
-      subst (λ fs. AtRest (layout_of fs.geometry) fs.shard (state_of new)) same
-          (subst (λ g. AtRest (layout_of g) mid.frames.shard (state_of new)) c.scan.ensures.same.0
-          (subst (λ n. AtRest (layout_in new) n (state_of new)) c.scan.ensures.same.1 (at_rest new c.scan.ensures.core c.scan.ensures.rested))),
+      (c.scan.ensures.same.0 ∙ ap (λ fs. fs.geometry) same, c.scan.ensures.same.1 ∙ ap (λ fs. fs.shard) same),
+      (
+        c.accept-id.ensures.id,
+        c.accept-id.ensures.allowed,
+        subst (λ (from : Shard). Through (layout_in s) s.frames.shard Scans from (state_of new)) c.accept-id.ensures.accepted
+            (subst (λ fs. Through (layout_of fs.geometry) fs.shard Scans (state_of mid) (state_of new)) same c.scan.ensures.leads),
+        subst (λ fs. AtRest (layout_of fs.geometry) fs.shard (state_of new)) same
+            (subst (λ g. AtRest (layout_of g) mid.frames.shard (state_of new)) c.scan.ensures.same.0
+            (subst (λ n. AtRest (layout_in new) n (state_of new)) c.scan.ensures.same.1 (at_rest new c.scan.ensures.core c.scan.ensures.rested))),
+      ),
     )

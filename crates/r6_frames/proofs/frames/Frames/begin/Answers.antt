@@ -53,15 +53,15 @@ held_is c = ap (λ row. set c.args.self.now.held.items c.args.frame (Some row)) 
 pub returns-clause-sound : goal.returns-clause-sound
 returns-clause-sound c =
     let popped = All-pop (IsShapeOf c.args.self.now) c.args.self.now.spare.items c.pop.new.self.items (Some c.in-Some-pop.spare) c.in-Some-pop.ensures.items c.requires.sound.frames.spare_shape in
-    begun_sound c.args.self.now c.args.frame c.args.request (held_after c) c.pop.new.self c.requires.sound c.requires.free c.requires.request (held_is c)
+    begun_sound c.args.self.now c.args.frame c.args.request (held_after c) c.pop.new.self c.requires.sound c.requires.free c.requires.request c.requires.unheld (held_is c)
     (ap length c.in-Some-pop.ensures.items ∙ length-append c.pop.new.self.items (c.in-Some-pop.spare ∷ [])) c.pop.ensures.capacity popped.0
 
 -- src/frames.rt:117:5
 pub returns-clause-begins : goal.returns-clause-begins
 returns-clause-begins c =
-    begins c.args.self.now c.args.frame c.args.request (held_after c) c.pop.new.self c.requires.sound c.requires.free c.requires.request (held_is c)
+    begins c.args.self.now c.args.frame c.args.request (held_after c) c.pop.new.self c.requires.sound c.requires.free c.requires.request c.requires.unheld (held_is c)
 
 -- src/frames.rt:117:5
 pub returns-clause-owed : goal.returns-clause-owed
 returns-clause-owed c =
-    begun_owes c.args.self.now c.args.frame c.args.request (held_after c) c.pop.new.self c.requires.sound c.requires.free c.requires.request (held_is c)
+    begun_owes c.args.self.now c.args.frame c.args.request (held_after c) c.pop.new.self c.requires.sound c.requires.free c.requires.request c.requires.unheld (held_is c)

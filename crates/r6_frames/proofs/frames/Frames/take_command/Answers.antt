@@ -3,7 +3,7 @@ use Rattle.std.specs.Prelude.{option_copied}
 use Rattle.r6_tables.specs.Table.{next_of}
 use Rattle.r6_frames.specs.Frames.{outstanding}
 use Rattle.r6_frames.specs.Sound.{IsSound}
-use Rattle.r6_frames.proofs.Takings.{taken_of, taken_sound, taken_step}
+use Rattle.r6_frames.proofs.Takings.{taken_of, taken_sound, taken_fits, taken_step}
 use Rattle.r6_frames.proofs.frames.Frames.take_command.Goals as goal
 
 pub returns-clause-sound : goal.returns-clause-sound
@@ -27,3 +27,11 @@ returns-clause-step c =
       taken_step fs old c.in-Ok-Some.buffer c.replace.new.self is full
           (c.in-Ok-Some.ensures.there ∙ ap (λ x. (taken_of fs x).commands) same),
     )
+
+pub returns-clause-there : goal.returns-clause-there
+returns-clause-there c =
+    let fs = c.args.self.now in
+    let old = c.in-Ok-Some.field-0 in
+    let is : outstanding fs fs.handed ≡ Some old = c.in-Ok-Some.ensures.entry in
+    let full : old.buffer ≡ Some c.in-Ok-Some.buffer = cc in
+    taken_fits fs old c.in-Ok-Some.buffer c.requires is full

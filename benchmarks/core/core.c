@@ -1,0 +1,218 @@
+/* The core of a shard: how many requests it serves in a second, beside their copies and parities alone; what a completion
+ * costs as more commands are out; and how much memory a core takes.
+ *
+ * This file is also the heap of the library. It hands out memory from one arena, counts the bytes that the library has, and
+ * never uses a block again within a run.
+ */
+#include <stdbool.h>
+#include <stdint.h>
+#include <stdio.h>
+#include <stdlib.h>
+#include <string.h>
+#include <time.h>
+
+enum { ARENA = 64 << 20, LINE = 64, TRIES = 9 };
+
+uint8_t r6_core_serve(bool writes, size_t width, uint64_t rounds);
+uint8_t r6_core_alone(bool writes, size_t width, uint64_t rounds);
+uint8_t r6_core_deliver(bool writes, uint64_t requests, uint64_t rounds);
+uint8_t r6_table_rounds(uint32_t capacity, uint32_t entries, uint64_t rounds);
+uint8_t r6_core_make(size_t slots, uint64_t chunk, size_t block, uint64_t rows);
+
+static _Alignas(LINE) unsigned char arena[ARENA];
+static size_t arena_used;
+static uint64_t blocks_handed_out;
+static size_t bytes_held, most_bytes_held;
+
+struct tried {
+    uint64_t ok;
+    void *block;
+};
+
+/* the size of a block stands in the line before it */
+static size_t *size_of(void *block) { return (size_t *)((unsigned char *)block - LINE); }
+
+struct tried rattle_alloc(size_t size, size_t align)
+{
+    struct tried none = {0, NULL};
+    (void)align; /* at most 16 */
+    size_t rounded = LINE + (size + LINE - 1) / LINE * LINE;
+    if (rounded > ARENA - arena_used)
+        return none;
+    struct tried made = {1, arena + arena_used + LINE};
+    arena_used += rounded;
+    *size_of(made.block) = size;
+    blocks_handed_out++;
+    bytes_held += size;
+    if (bytes_held > most_bytes_held)
+        most_bytes_held = bytes_held;
+    return made;
+}
+
+void rattle_dealloc(void *block) { bytes_held -= *size_of(block); }
+
+struct tried rattle_realloc(void *block, size_t kept, size_t size, size_t align)
+{
+    rattle_dealloc(block);
+    struct tried made = rattle_alloc(size, align);
+    if (made.ok)
+        memcpy(made.block, block, kept < size ? kept : size);
+    else
+        bytes_held += *size_of(block);
+    return made;
+}
+
+static void empty_arena(void)
+{
+    if (bytes_held != 0) {
+        fprintf(stderr, "the library kept %zu bytes\n", bytes_held);
+        exit(1);
+    }
+    arena_used = 0;
+    blocks_handed_out = 0;
+    most_bytes_held = 0;
+}
+
+static void check(uint8_t answer)
+{
+    if (answer != 0) {
+        fprintf(stderr, "want of memory, or a request without an answer\n");
+        exit(1);
+    }
+}
+
+static double seconds(void)
+{
+    struct timespec now;
+    clock_gettime(CLOCK_MONOTONIC, &now);
+    return (double)now.tv_sec + (double)now.tv_nsec * 1e-9;
+}
+
+/* what is measured */
+struct work {
+    enum { SERVE, ALONE, DELIVER, TABLE } kind;
+    bool writes;
+    uint32_t count; /* requests, or entries */
+    uint32_t capacity;
+    uint64_t rounds;
+};
+
+static void do_rounds(const struct work *work, uint64_t rounds)
+{
+    switch (work->kind) {
+    case SERVE:
+        check(r6_core_serve(work->writes, work->count, rounds));
+        break;
+    case ALONE:
+        check(r6_core_alone(work->writes, work->count, rounds));
+        break;
+    case DELIVER:
+        check(r6_core_deliver(work->writes, work->count, rounds));
+        break;
+    case TABLE:
+        check(r6_table_rounds(work->capacity, work->count, rounds));
+        break;
+    }
+}
+
+/* the time of so many rounds, with all that is made before the first */
+static double seconds_of(const struct work *work, uint64_t rounds)
+{
+    empty_arena();
+    double begun = seconds();
+    do_rounds(work, rounds);
+    return seconds() - begun;
+}
+
+/* how many blocks the heap hands out for so many rounds */
+static uint64_t blocks_of(const struct work *work, uint64_t rounds)
+{
+    empty_arena();
+    do_rounds(work, rounds);
+    return blocks_handed_out;
+}
+
+static int compare(const void *a, const void *b)
+{
+    double x = *(const double *)a, y = *(const double *)b;
+    return (x > y) - (x < y);
+}
+
+/* the median time of a round, without that of making the array */
+static double seconds_a_round(const struct work *work)
+{
+    /* the first rounds may take room for a queue, and later ones nothing */
+    if (blocks_of(work, 1000) != blocks_of(work, 3000)) {
+        fprintf(stderr, "a round took memory\n");
+        exit(1);
+    }
+    double times[TRIES];
+    for (int i = 0; i < TRIES; i++)
+        times[i] = (seconds_of(work, work->rounds) - seconds_of(work, 0)) / (double)work->rounds;
+    qsort(times, TRIES, sizeof times[0], compare);
+    return times[TRIES / 2];
+}
+
+static void print_requests(void)
+{
+    static const uint32_t widths[] = {1, 64};
+    printf("%-8s %6s %14s %14s %12s\n", "requests", "width", "core /s", "alone /s", "alone/core");
+    for (int writes = 1; writes >= 0; writes--) {
+        for (int i = 0; i < 2; i++) {
+            uint64_t rounds = (writes ? 100000 : 400000) / widths[i];
+            struct work served = {SERVE, writes, widths[i], 0, rounds};
+            struct work alone = {ALONE, writes, widths[i], 0, rounds};
+            double core_rate = widths[i] / seconds_a_round(&served);
+            double alone_rate = widths[i] / seconds_a_round(&alone);
+            printf("%-8s %6u %14.0f %14.0f %12.2f\n", writes ? "writes" : "reads", widths[i], core_rate, alone_rate,
+                   alone_rate / core_rate);
+        }
+    }
+}
+
+static void print_completions(void)
+{
+    static const uint32_t requests[] = {1, 64, 256};
+    printf("\n%-8s %8s %8s %8s %12s\n", "requests", "of them", "waiting", "commands", "completion");
+    for (int writes = 0; writes <= 1; writes++) {
+        for (int i = 0; i < 3; i++) {
+            uint32_t held = requests[i] < 64 ? requests[i] : 64;
+            struct work work = {DELIVER, writes, requests[i], 0, 400000};
+            printf("%-8s %8u %8u %8u %9.0f ns\n", writes ? "writes" : "reads", requests[i], requests[i] - held,
+                   writes ? 3 * held : held, seconds_a_round(&work) * 1e9);
+        }
+    }
+}
+
+static void print_tables(void)
+{
+    static const uint32_t room_and_entries[][2] = {
+        {384, 1}, {384, 64}, {384, 192}, {2048, 1}, {2048, 64}, {2048, 192}, {2048, 2000}};
+    printf("\n%-8s %8s %12s\n", "room", "entries", "round");
+    for (int i = 0; i < 7; i++) {
+        struct work work = {TABLE, false, room_and_entries[i][1], room_and_entries[i][0], 4000000};
+        printf("%-8u %8u %9.1f ns\n", work.capacity, work.count, seconds_a_round(&work) * 1e9);
+    }
+}
+
+static void print_memory(void)
+{
+    static const size_t slots[] = {4, 6, 32};
+    printf("\n%-8s %12s %12s\n", "slots", "bytes", "of buffers");
+    for (int i = 0; i < 3; i++) {
+        empty_arena();
+        check(r6_core_make(slots[i], 1, 4096, 64));
+        /* 64 frames, each of a buffer for each slot and two more */
+        printf("%-8zu %12zu %12zu\n", slots[i], most_bytes_held, 64 * (slots[i] + 2) * 4096);
+    }
+    empty_arena();
+}
+
+int main(void)
+{
+    print_requests();
+    print_completions();
+    print_tables();
+    print_memory();
+    return 0;
+}

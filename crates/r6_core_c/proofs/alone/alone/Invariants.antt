@@ -1,0 +1,18 @@
+use Rattle.std.proofs.Common.{◌≡◌, length}
+use Rattle.std.specs.List.{All}
+use Rattle.r6_core_c.specs.Alone.{IsSized}
+use Rattle.r6_core_c.proofs.alone.alone.Given as goal
+
+abbrev pub invariant-loop-row : goal.invariant-loop-row
+invariant-loop-row l =
+    record {
+      room : IsSized l.room;
+      buffers : All (λ block. length block ≡ 4096) l.buffers.items;
+    }
+
+abbrev pub invariant-loop : goal.invariant-loop
+invariant-loop l =
+    record {
+      room : IsSized l.room;
+      buffers : All (λ block. length block ≡ 4096) l.buffers.items;
+    }

@@ -1,0 +1,138 @@
+//! The array of the benchmark, its devices and its callers' buffers.
+
+ghost use Rattle.std.specs.Prelude.{◌≡◌, ◌<◌, ◌^◌, length, IfOk};
+ghost use Rattle.std.specs.List.{All};
+ghost use Rattle.r6_layout.specs.Shape.{IsShape};
+ghost use Rattle.r6_core.specs.States.{IsWhole};
+
+use r6_core::{Core, CoreError, Op, Reply};
+use r6_dev::{Fault, MemoryDevice};
+use r6_health::Snapshot;
+use r6_kernels::Buffer;
+use r6_layout::{Geometry, GeometryError};
+use std::alloc::{AllocError, AllocFailed, Global};
+use std::collections::VecDeque;
+
+/// P, Q and four blocks of data.
+pub(crate) const SLOTS: usize = 6;
+
+/// Requests are served in blocks of so many bytes.
+pub(crate) const BLOCK: usize = 4096;
+
+/// As many rows as a core holds at one time.
+pub(crate) const ROWS: u64 = 64;
+
+/// The blocks of data of a row. With chunks of one block, row `r` has those from `r * DATA` on.
+pub(crate) const DATA: usize = SLOTS - 2;
+
+/// Nothing was measured: there was no memory, there can't be such an array, or a request was not answered.
+#[derive(Drop)]
+pub(crate) struct Failed;
+
+impl From<AllocError> for Failed {
+    fn from(_error: AllocError) -> Failed {
+        Failed
+    }
+}
+
+impl<T: Drop> From<AllocFailed<T>> for Failed {
+    fn from(_error: AllocFailed<T>) -> Failed {
+        Failed
+    }
+}
+
+impl From<GeometryError> for Failed {
+    fn from(_error: GeometryError) -> Failed {
+        Failed
+    }
+}
+
+impl From<Fault> for Failed {
+    fn from(_error: Fault) -> Failed {
+        Failed
+    }
+}
+
+impl From<CoreError> for Failed {
+    fn from(_error: CoreError) -> Failed {
+        Failed
+    }
+}
+
+/// The snapshot of a register with every slot in sync.
+pub(crate) fn whole(geometry: &Geometry) -> Snapshot
+    requires { IsShape geometry.now }
+    ensures whole { IsWhole result }
+    ensures no_attach { result.attaches ≡ 0 }
+{
+    Snapshot::start(geometry, 0)
+}
+
+/// The core of an array in one shard.
+pub(crate) fn core_of(
+    alloc: Global,
+    geometry: &Geometry,
+    snapshot: &Snapshot,
+) -> Result<Core, Failed>
+    requires limits { IsShape geometry.now }
+    requires one { geometry.now.shards ≡ 1 }
+    requires whole { IsWhole snapshot.now }
+    requires no_attach { snapshot.now.attaches ≡ 0 }
+{
+    Ok(Core::new(alloc, *geometry, 0, 1, snapshot)?)
+}
+
+/// A device for each slot, of zeros.
+pub(crate) fn devices_of(alloc: Global, geometry: &Geometry) -> Result<Vec<MemoryDevice>, Failed> {
+    let mut devices = Vec::with_capacity(alloc, geometry.slots())?;
+    for _ in 0..geometry.slots() {
+        devices.push(MemoryDevice::new(alloc, 0..geometry.rows(), geometry.block())?)?;
+    }
+    Ok(devices)
+}
+
+// A block with one byte throughout.
+fn filled(alloc: Global, len: usize, byte: u8) -> Result<Buffer, AllocError>
+    ensures { IfOk result (λ block. length block ≡ len) }
+{
+    let bytes = vec![in alloc; byte; len]?;
+    let mut block = Buffer::new(alloc, len)?;
+    block.copy_from_slice(bytes.as_slice());
+    Ok(block)
+}
+
+/// A caller's buffer for each of so many rows, no two of the first 256 alike.
+pub(crate) fn buffers_of(
+    alloc: Global,
+    len: usize,
+    count: usize,
+) -> Result<VecDeque<Buffer>, Failed>
+    ensures { IfOk result (λ buffers. All (λ block. length block ≡ len) buffers.items) }
+{
+    let mut buffers = VecDeque::with_capacity(alloc, count)?;
+    for row in 0..count {
+        buffers.push_back(filled(alloc, len, (row % 256) as u8)?)?;
+    }
+    Ok(buffers)
+}
+
+/// The request for the first block of data of a row.
+pub(crate) fn request(row: u64, buffer: Buffer, writes: bool) -> Op
+    requires { row < 2 ^ 32 }
+{
+    let block = row * DATA as u64;
+    if writes {
+        Op::Write(block, buffer)
+    } else {
+        Op::Read(block, buffer)
+    }
+}
+
+/// The caller's buffer of a request that was done.
+pub(crate) fn buffer_of(reply: Reply) -> Result<Buffer, Failed> {
+    match reply {
+        Reply::Data(buffer) => Ok(buffer),
+        Reply::Done(buffer) => Ok(buffer),
+        Reply::ArrayFailed(_) => Err(Failed),
+    }
+}

@@ -1,0 +1,88 @@
+//! The core as a static library, for the benchmark in `benchmarks/core`.
+//!
+//! Each function answers 0, or 1 where it could not do its work: for want of memory, for an array that there can't be, or
+//! where a request was not answered.
+#![tactic(auto)]
+
+ghost use Rattle.std.specs.Prelude.{◌≤◌};
+
+mod alone;
+mod array;
+mod deliver;
+mod serve;
+mod table;
+
+use array::Failed;
+use r6_core::Core;
+use r6_layout::Geometry;
+use std::alloc::Global;
+
+/// Has `rounds` rounds of `width` requests, 1 to 64, served by the core of an array of six slots, from submit to reply.
+#[unsafe(no_mangle)]
+pub extern "C" fn r6_core_serve(alloc: Global, writes: bool, width: usize, rounds: u64) -> u8
+    ensures { result ≤ 1 }
+{
+    match serve::serve(alloc, writes, width, rounds) {
+        Ok(_) => 0,
+        Err(Failed) => 1,
+    }
+}
+
+/// Does the copies and the parities of the same requests, on the same devices, without a core.
+#[unsafe(no_mangle)]
+pub extern "C" fn r6_core_alone(alloc: Global, writes: bool, width: usize, rounds: u64) -> u8
+    ensures { result ≤ 1 }
+{
+    match alone::alone(alloc, writes, width, rounds) {
+        Ok(_) => 0,
+        Err(Failed) => 1,
+    }
+}
+
+/// Keeps `requests` requests, 1 to 256, in a core, and answers `rounds` of their commands, the oldest first.
+#[unsafe(no_mangle)]
+pub extern "C" fn r6_core_deliver(alloc: Global, writes: bool, requests: u64, rounds: u64) -> u8
+    ensures { result ≤ 1 }
+{
+    match deliver::deliver(alloc, writes, requests, rounds) {
+        Ok(()) => 0,
+        Err(Failed) => 1,
+    }
+}
+
+/// Removes the oldest entry of a table and pushes another, `rounds` times. The table has `entries` entries and room for
+/// `capacity`.
+#[unsafe(no_mangle)]
+pub extern "C" fn r6_table_rounds(alloc: Global, capacity: u32, entries: u32, rounds: u64) -> u8
+    ensures { result ≤ 1 }
+{
+    match table::rounds_of(alloc, capacity, entries, rounds) {
+        Ok(()) => 0,
+        Err(Failed) => 1,
+    }
+}
+
+/// Makes the core of an array in one shard, and lets go of it.
+#[unsafe(no_mangle)]
+pub extern "C" fn r6_core_make(
+    alloc: Global,
+    slots: usize,
+    chunk: u64,
+    block: usize,
+    rows: u64,
+) -> u8
+    ensures { result ≤ 1 }
+{
+    match make(alloc, slots, chunk, block, rows) {
+        Ok(_) => 0,
+        Err(Failed) => 1,
+    }
+}
+
+fn make(alloc: Global, slots: usize, chunk: u64, block: usize, rows: u64) -> Result<Core, Failed> {
+    let geometry = Geometry::new(slots, chunk, block, rows, 1)?;
+    array::core_of(alloc, &geometry, &array::whole(&geometry))
+}
+
+#[cfg(test)]
+mod tests;

@@ -1,0 +1,90 @@
+//! Requests are served by the core, over devices in memory.
+
+ghost use Rattle.r6_core.specs.States.{IsWhole};
+
+use crate::array::{
+    BLOCK, Failed, ROWS, SLOTS, buffer_of, buffers_of, core_of, devices_of, request, whole,
+};
+use r6_core::{Command, CommandKind, Core};
+use r6_dev::{BlockDevice, MemoryDevice};
+use r6_health::Snapshot;
+use r6_kernels::Buffer;
+use r6_layout::Geometry;
+use std::alloc::Global;
+use std::collections::VecDeque;
+
+/// Serves `rounds` rounds of `width` requests, and answers the devices as they are then.
+pub(crate) fn serve(
+    alloc: Global,
+    writes: bool,
+    width: usize,
+    rounds: u64,
+) -> Result<Vec<MemoryDevice>, Failed> {
+    let geometry = Geometry::new(SLOTS, 1, BLOCK, ROWS, 1)?;
+    let snapshot = whole(&geometry);
+    let mut core = core_of(alloc, &geometry, &snapshot)?;
+    let mut devices = devices_of(alloc, &geometry)?;
+    let mut buffers = buffers_of(alloc, BLOCK, width)?;
+    for _ in 0..rounds {
+        submit_all(&mut core, &mut buffers, writes);
+        drive(&mut core, &mut devices);
+        core.look(&snapshot);
+        take_replies(&mut core, &mut buffers)?;
+    }
+    if buffers.len() != width {
+        return Err(Failed);
+    }
+    Ok(devices)
+}
+
+// Submits a request with each buffer, to a row of its own.
+fn submit_all(core: &mut Core, buffers: &mut VecDeque<Buffer>, writes: bool) {
+    for row in 0..ROWS {
+        let Some(buffer) = buffers.pop_front() else {
+            return;
+        };
+        let _ = core.submit(request(row, buffer, writes));
+    }
+}
+
+// Takes every command, which its device performs and whose completion is delivered.
+fn drive(core: &mut Core, devices: &mut Vec<MemoryDevice>) {
+    for _ in 0..u64::MAX {
+        let Some(command) = core.take_command() else {
+            return;
+        };
+        if let Some((token, buffer)) = perform(command, devices) {
+            let _ = core.deliver(token, Ok(buffer));
+        }
+    }
+}
+
+// What the device answers to a command: its token, with the buffer. `None` if it can't perform it.
+fn perform(command: Command, devices: &mut Vec<MemoryDevice>) -> Option<(u64, Buffer)> {
+    let Command {
+        token,
+        slot,
+        generation: _,
+        row,
+        kind,
+        mut buffer,
+    } = command;
+    let device = devices.get_mut(slot)?;
+    let done = match kind {
+        CommandKind::Read => device.read(row, &mut buffer),
+        CommandKind::Write => device.write(row, &buffer),
+    };
+    done.ok()?;
+    Some((token, buffer))
+}
+
+// Takes every reply, and its caller's buffer back.
+fn take_replies(core: &mut Core, buffers: &mut VecDeque<Buffer>) -> Result<(), Failed> {
+    for _ in 0..ROWS {
+        let Some((_, reply)) = core.take_reply() else {
+            return Ok(());
+        };
+        buffers.push_back(buffer_of(reply)?)?;
+    }
+    Ok(())
+}
