@@ -2,10 +2,11 @@
 """random_scripts.py PROGRAM [SCRIPTS] [SEED]: plays random scripts and compares the replies with a plain array.
 
 PROGRAM is the built program `raid6`. Each script has 50 random events, written one after another: after each the script so
-far is played again, so that the next event can name a command that is outstanding. Then every outstanding command is done
-and every shard looks, until nothing is left. Checked for each script: the status is 0; no token and no number of a request
-is given twice; every accepted request is answered once; and each block that a read answers is one that the block of a plain
-array could have had at some moment between the line that accepted the read and the line that answered it.
+far is played again, so that the next event can name a command that is outstanding. Most requests are for three blocks, so
+that reads meet writes. Then every outstanding command is done and every shard looks, until nothing is left; and then every
+block is read. Checked for each script: the status is 0; no token and no number of a request is given twice; every accepted
+request is answered once; and each block that a read answers is one that the block of a plain array could have had at some
+moment between the line that accepted the read and the line that answered it.
 """
 
 import random
@@ -90,12 +91,13 @@ def allowed_bytes(writes, first, last):
     }
 
 
-def random_event(chance, model, blocks):
+def random_event(chance, model, blocks, favourites):
     kind = chance.random()
+    block = chance.choice(favourites) if chance.random() < 0.75 else chance.randrange(blocks)
     if kind < 0.15:
-        return f"read {chance.randrange(blocks)}"
+        return f"read {block}"
     if kind < 0.35:
-        return f"write {chance.randrange(blocks)} {chance.randrange(256):02x}"
+        return f"write {block} {chance.randrange(256):02x}"
     if kind < 0.45:
         return f"look {chance.randrange(model.shards)}"
     if kind < 0.5:
@@ -121,17 +123,24 @@ def check(program, chance):
         history.append(lines[-1])
         model.take(len(events) - 1, event, lines[-1])
 
+    def add_until_nothing_is_left():
+        while model.outstanding or any(request[4] is None for request in model.requests.values()):
+            if model.outstanding:
+                token = chance.choice(model.outstanding)
+                add(f"answer {token} ok" if token in model.performed else f"do {token}")
+            else:
+                for shard in range(shards):
+                    add(f"look {shard}")
+                assert all(request[4] is not None for request in model.requests.values()), events
+
     history = play(program, events)
+    favourites = chance.sample(range(blocks), 3)
     for _ in range(EVENTS):
-        add(random_event(chance, model, blocks))
-    while model.outstanding or any(request[4] is None for request in model.requests.values()):
-        if model.outstanding:
-            token = chance.choice(model.outstanding)
-            add(f"answer {token} ok" if token in model.performed else f"do {token}")
-        else:
-            for shard in range(shards):
-                add(f"look {shard}")
-            assert all(request[4] is not None for request in model.requests.values()), events
+        add(random_event(chance, model, blocks, favourites))
+    add_until_nothing_is_left()
+    for block in range(blocks):
+        add(f"read {block}")
+    add_until_nothing_is_left()
     model.check_reads()
     return len(events), len(model.requests)
 
