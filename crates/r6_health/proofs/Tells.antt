@@ -1,15 +1,16 @@
 -- What a pass learns from steps in a row.
-use Rattle.std.proofs.Common.{◌≡◌, ◌-◌, ℕ, List, [], ◌∷◌, ◌++◌, append_assoc, append-nil, ◌+◌, nat_le, not, Bool, true, false, if◌then◌else◌, Result, Ok, Err, refl, sym, ap, ◌∙◌, subst, ⊎_elim, arith}
+use Rattle.std.proofs.Common.{◌≡◌, ◌==◌, ◌-◌, ℕ, List, [], ◌∷◌, ◌++◌, append_assoc, append-nil, ◌+◌, nat_le, not, Bool, true, false, if◌then◌else◌, Result, Ok, Err, refl, sym, ap, ◌∙◌, subst, ⊎_elim, arith}
 use Rattle.r6_health.specs.declared.call.Call.{Call}
 use Rattle.r6_health.specs.declared.call.Answer.{Answer}
-use Rattle.r6_health.specs.declared.call.Call.TheVariants.{Attach}
-use Rattle.r6_health.specs.declared.call.Answer.TheVariants.{Generation}
+use Rattle.r6_health.specs.declared.call.Call.TheVariants.{Fail, DeclareLost, Attach, ReportRebuilt}
+use Rattle.r6_health.specs.declared.call.Answer.TheVariants.{Generation, More, Complete}
 use Rattle.r6_health.specs.declared.refusal.Refusal.{Refusal}
 use Rattle.r6_health.specs.declared.refusal.Refusal.TheVariants.{NoSuchSlot, AlreadyLost, Stale, NotLost, ArrayFailed, AlreadyReported, GenerationsSpent, Contended}
 use Rattle.r6_health.specs.declared.snapshot.Snapshot.{Snapshot}
-use Rattle.r6_health.specs.Slots.{is_lost}
-use Rattle.r6_health.specs.Registers.{state_at}
-use Rattle.r6_health.specs.Registers.{answer, after}
+use Rattle.r6_health.specs.declared.slots.SlotState.{SlotState}
+use Rattle.r6_health.specs.declared.slots.SlotState.TheVariants.{InSync, Lost, Rebuilding}
+use Rattle.r6_health.specs.Slots.{has_shard, with_shard, has_all, is_lost}
+use Rattle.r6_health.specs.Registers.{state_at, is_stale, report_answer, answer, after}
 use Rattle.r6_health.specs.declared.history.Entry.{Entry}
 use Rattle.r6_health.specs.declared.history.Made.{Made}
 use Rattle.r6_health.specs.declared.history.Stage.TheVariants.{Begun}
@@ -19,7 +20,7 @@ use Rattle.r6_health.specs.declared.pass.Pass.{Pass}
 use Rattle.r6_health.specs.Passes.{IsPassOf, view_of}
 use Rattle.r6_health.specs.Words.{snapshot_of, turn_of, last_call}
 use Rattle.r6_health.specs.Histories.{made, entry, answer_in, held, held_after, IsLegal, IsLegalAfter, StartsWith}
-use Rattle.r6_health.specs.Views.{IsGeneration, Grows, Looks, Extends, Refused, Answered, Attached, made_by, attached_by}
+use Rattle.r6_health.specs.Views.{IsGeneration, Grows, Looks, Extends, Misses, Refused, Answered, Attached, made_by, attached_by}
 use Rattle.r6_health.specs.Rule.{Calls}
 use Rattle.r6_health.proofs.Histories.{starts_with_itself, starts_with-trans}
 
@@ -85,9 +86,59 @@ pass_kept r p q own same grows = record { same_cell = same ∙ own.same_cell; be
 pub pass_kept_called : (r : Register) (p q : Pass) (call : Call) (reply : Answer) → IsPassOf r p → q.seat.table_id ≡ p.seat.table_id → Extends (view_of p) call reply (view_of q) → IsPassOf r q
 pass_kept_called r p q call reply own same made = record { same_cell = same ∙ own.same_cell; begun = made.begun; same_start = made.same_start ∙ own.same_start }
 
+-- what was missed since a later view was missed since an earlier one
+pub misses_after : (v u w : View) (call : Call) → Grows v u → Misses u call w → Misses v call w
+misses_after v u w call a b = record {
+  looks = looks-after v u w a b.looks;
+  point = b.point;
+  since = starts_with-trans b.point u.seen v.seen b.since a.seen;
+  before = b.before;
+  reply = b.reply;
+  taken = b.taken;
+}
+
+-- a try that was taken at its load and met another call at its exchange
+pub missed : (v u w : View) (call : Call) (reply : Answer) → Grows v u → Looks u w → answer_in u.start (held u.start u.seen) call ≡ Ok reply → Misses v call w
+missed v u w call reply a b taken = record {
+  looks = looks-after v u w a b;
+  point = u.seen;
+  since = a.seen;
+  before = b.grows.seen;
+  reply = reply;
+  taken = (λ i. answer_in (b.grows.same_start i) (held (b.grows.same_start i) u.seen) call) ∙ taken;
+}
+
+no_contention : {rest : Result Answer Refusal} (a : Bool) (p : Refusal) → (p ≡ Contended → ⊥) → (rest ≡ Err Contended → ⊥) → (if a then Err p else rest) ≡ Err Contended → ⊥
+no_contention true p other no_more e = other cc
+no_contention false p other no_more e = no_more e
+
+never_refused : (b : Bool) → (if b then Ok Complete else Ok More) ≡ Err Contended → ⊥
+never_refused true e = cc
+never_refused false e = cc
+
+no_contention_in_report : (state : SlotState) (shards shard generation : ℕ) → report_answer state shards shard generation ≡ Err Contended → ⊥
+no_contention_in_report InSync shards shard generation e = cc
+no_contention_in_report Lost shards shard generation e = cc
+no_contention_in_report (Rebuilding current reported) shards shard generation e =
+    no_contention (not (current == generation)) Stale (λ d. cc) (no_contention (has_shard reported shard) AlreadyReported (λ d. cc) (never_refused (has_all (with_shard reported shard) shards))) e
+
+-- a register of one thread never answers that other calls came between
+pub never_contended : (slots shards : ℕ) (now : Snapshot) (call : Call) → answer slots shards now call ≡ Err Contended → ⊥
+never_contended slots shards now (Fail slot) e =
+    no_contention (nat_le slots slot) NoSuchSlot (λ d. cc) (no_contention now.failed ArrayFailed (λ d. cc) (no_contention (is_lost (state_at now slot)) AlreadyLost (λ d. cc) (λ d. cc))) e
+never_contended slots shards now (DeclareLost slot generation) e =
+    no_contention (nat_le slots slot) NoSuchSlot (λ d. cc)
+    (no_contention now.failed ArrayFailed (λ d. cc) (no_contention (is_lost (state_at now slot)) AlreadyLost (λ d. cc) (no_contention (is_stale (state_at now slot) generation) Stale (λ d. cc) (λ d. cc)))) e
+never_contended slots shards now (Attach slot) e =
+    no_contention (nat_le slots slot) NoSuchSlot (λ d. cc)
+    (no_contention now.failed ArrayFailed (λ d. cc) (no_contention (not (is_lost (state_at now slot))) NotLost (λ d. cc) (no_contention (nat_le 1048575 now.attaches) GenerationsSpent (λ d. cc) (λ d. cc)))) e
+never_contended slots shards now (ReportRebuilt shard slot generation) e =
+    no_contention (nat_le slots slot) NoSuchSlot (λ d. cc)
+    (no_contention (nat_le shards shard) NoSuchSlot (λ d. cc) (no_contention now.failed ArrayFailed (λ d. cc) (no_contention_in_report (state_at now slot) shards shard generation))) e
+
 -- a refusal that was met at the last try
 pub refused : (v w : View) (call : Call) (refusal : Refusal) → Looks v w → answer_in w.start (held w.start w.seen) call ≡ Err refusal → Refused v call refusal w
-refused v w call Contended looks is = looks.grows
+refused v w call Contended looks is = absurd (never_contended w.start.slots w.start.shards (held w.start w.seen) call is)
 refused v w call NoSuchSlot looks is = (looks, is)
 refused v w call AlreadyLost looks is = (looks, is)
 refused v w call Stale looks is = (looks, is)
@@ -123,7 +174,7 @@ attach_answers v w slot reply made =
     )
 
 pub refused-grows : (v w : View) (call : Call) (refusal : Refusal) → Refused v call refusal w → Grows v w
-refused-grows v w call Contended told = told
+refused-grows v w call Contended told = told.looks.grows
 refused-grows v w call NoSuchSlot told = told.0.grows
 refused-grows v w call AlreadyLost told = told.0.grows
 refused-grows v w call Stale told = told.0.grows

@@ -11,7 +11,7 @@ use Rattle.r6_health.specs.declared.history.Stage.{Stage}
 use Rattle.r6_health.specs.declared.history.Stage.TheVariants.{New, Begun, Spent}
 use Rattle.r6_health.specs.declared.history.View.{View}
 use Rattle.r6_health.specs.Histories.{start, answer_in, held, IsLegal, calls_by, StartsWith}
-use Rattle.r6_health.specs.Views.{unbegun, first_of, Grows, Looks, Extends}
+use Rattle.r6_health.specs.Views.{unbegun, first_of, Looks, Extends, Misses}
 use Rattle.r6_health.specs.Words.{snapshot_of, turn_of, last_call, slots_of, shards_of}
 
 -- the history begins with what a pass has seen and heard, and the pass's own calls are all that the history has of it
@@ -42,7 +42,7 @@ Kept words views = (views ≡ unbegun ∷ []) ⊎ HasHistory words views
 -- what one try tells
 abbrev pub Tried : View → Call → Result (Option Answer) Refusal → View → Type 0
 Tried v call (Ok (Some reply)) w = Extends v call reply w
-Tried v call (Ok None) w = Grows v w
+Tried v call (Ok None) w = Misses v call w
 Tried v call (Err refusal) w = Looks v w × (answer_in w.start (held w.start w.seen) call ≡ Err refusal)
 
 -- what a step of the cell tells: nothing changed, and the history so far was seen, or a call was made

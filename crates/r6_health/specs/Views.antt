@@ -63,9 +63,18 @@ pub record Extends (v : View) (call : Call) (reply : Answer) (w : View) : Type 0
   pub heard : w.heard ≡ v.heard
   pub told : (front : List Entry) → Contains w.heard front → StartsWith w.seen front
 
+-- the pass made no call; the register would have taken this one at a point that the pass has seen since
+pub record Misses (v : View) (call : Call) (w : View) : Type 0 where
+  pub looks : Looks v w
+  pub point : List Entry
+  pub since : StartsWith point v.seen
+  pub before : StartsWith w.seen point
+  pub reply : Answer
+  pub taken : answer_in w.start (held w.start point) call ≡ Ok reply
+
 -- what a call that was made or refused tells; one that met other calls at each try changed nothing
 abbrev pub Refused : View → Call → Refusal → View → Type 0
-Refused v call Contended w = Grows v w
+Refused v call Contended w = Misses v call w
 Refused v call refusal w = Looks v w × (answer_in w.start (held w.start w.seen) call ≡ Err refusal)
 
 abbrev pub Answered : View → Call → Result Answer Refusal → View → Type 0

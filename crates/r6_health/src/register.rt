@@ -134,6 +134,7 @@ impl Register {
         }
     }
 
+    #[tactic(auto, using(crate::proofs::Tells::misses_after))]
     fn make<R: Wait>(&self, rt: &R, pass: &mut Pass, call: Call) -> Result<Answer, Refusal>
         requires { IsPassOf self.now pass.old }
         ensures pass { IsPassOf self.now pass.new }

@@ -5,7 +5,7 @@ use lib.Pointwise.{bytes_decides}
 use Rattle.r6_health.specs.Registers.{after}
 use Rattle.r6_health.specs.Histories.{answer_in}
 use Rattle.r6_health.proofs.Keeps.{looking, calling}
-use Rattle.r6_health.proofs.Tells.{looked, called, extends-after, grows-trans}
+use Rattle.r6_health.proofs.Tells.{looked, called, extends-after, missed}
 use Rattle.r6_health.proofs.register.Register.attempt.Goals as goal
 
 pub load_as-words-requires : goal.load_as-words-requires
@@ -52,4 +52,6 @@ pub returns-in-Err-clause-tried : goal.returns-in-Err-clause-tried
 returns-in-Err-clause-tried g c =
     let seen = looked (cell_view c.args.pass.now.seat) (cell_view c.load_as-words.new.pass) c.load_as-words.result c.load_as-words.ensures.rule in
     let again = looked (cell_view c.load_as-words.new.pass) (cell_view c.compare_exchange_as.new.pass) c.in-Err.field-0 c.in-Err.ensures.rule.1 in
-    grows-trans (cell_view c.args.pass.now.seat) (cell_view c.load_as-words.new.pass) (cell_view c.compare_exchange_as.new.pass) seen.0.grows again.0.grows
+    let start = seen.0.grows.same_start ∙ c.requires.same_start in
+    missed (cell_view c.args.pass.now.seat) (cell_view c.load_as-words.new.pass) (cell_view c.compare_exchange_as.new.pass) c.args.call c.in_ok-answer.answer seen.0.grows again.0
+    ((λ i. answer_in (start i) ((seen.1 ∙ sym c.unpack.ensures) i) c.args.call) ∙ c.in_ok-answer.ensures.0)
