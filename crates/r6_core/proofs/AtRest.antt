@@ -74,7 +74,7 @@ at_rest s core none =
       none_could_start = λ live id op is free_row frame free.
           let rest : Entries Request = requests_from 0 s.frames.held.items ++ (map finished_request s.finished.items ++ map released_request s.released.items) in
           let past = held_past 0 s.frames.held.items _ (finished_past s.finished.items _ (released_past s.released.items)) in
-          let there = waits_at (CannotStart s) s.waiting.items rest id op past none is in
+          let there = waits_at (CannotStart s.frames) s.waiting.items rest id op past none is in
           let row = ap (λ o. layout.row_of s.frames.geometry (world.block_of o)) there.2 in
           there.1 (not_held_by s _ (λ f h held at. free_row f h held (at ∙ sym row))) frame (free_frame s frame free);
       brought_in = λ live slot built. built;

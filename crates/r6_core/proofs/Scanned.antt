@@ -4,10 +4,33 @@ use Rattle.std.specs.List.{AllByRecursion}
 use Rattle.r6_world.specs.Geometries.{layout_of}
 use Rattle.r6_world.specs.Steps.{Through, Scans}
 use Rattle.r6_frames.specs.declared.op.Request.{Request}
+use Rattle.r6_frames.specs.declared.frames.Frames.{Frames}
 use Rattle.r6_core.specs.declared.state.State.{State}
-use Rattle.r6_core.specs.States.{IsCore, NoneCanStart, CannotStart, Advances, SameFrames, KeepsReplies, state_of, layout_in}
+use Rattle.r6_core.specs.States.{IsCore, NoneCanStart, CannotStart, Starts, InTurn, Advances, SameFrames, KeepsReplies, state_of, layout_in}
 use Rattle.r6_core.proofs.Passed.{all-append}
 use Rattle.r6_core.proofs.Throughs.{through_both, through_none}
+
+-- ---- turns
+
+-- after those who had their turn, the next one starts, or waits still
+pub in_turn_starts : (old : Frames) (done : List Request) (s : Frames) (waiting : List Request) (r : Request) (new : Frames)
+    → InTurn old done s waiting → Starts s r new → InTurn old (done ++ r ∷ []) new waiting
+in_turn_starts old [] s waiting r new before starts = inl (new, subst (λ (fs : Frames). Starts fs r new) before.0 starts, (refl, before.1))
+in_turn_starts old (d ∷ done) s waiting r new before starts = elim before [
+  | inl started ↦ inl (started.0, started.1, in_turn_starts started.0 done s waiting r new started.2 starts)
+  | inr waited ↦ inr (waited.0, waited.1, waited.2, in_turn_starts old done s waited.1 r new waited.3 starts)
+]
+
+pub in_turn_waits : (old : Frames) (done : List Request) (s : Frames) (waiting : List Request) (r : Request)
+    → InTurn old done s waiting → CannotStart s r → InTurn old (done ++ r ∷ []) s (waiting ++ r ∷ [])
+in_turn_waits old [] s waiting r before cannot =
+    inr (subst (λ (fs : Frames). CannotStart fs r) before.0 cannot, [], ap (λ rs. rs ++ r ∷ []) before.1, (before.0, refl))
+in_turn_waits old (d ∷ done) s waiting r before cannot = elim before [
+  | inl started ↦ inl (started.0, started.1, in_turn_waits started.0 done s waiting r started.2 cannot)
+  | inr waited ↦ inr (waited.0, waited.1 ++ r ∷ [], ap (λ rs. rs ++ r ∷ []) waited.2, in_turn_waits old done s waited.1 r waited.3 cannot)
+]
+
+-- ---- tests
 
 -- after so many tests of as many as there are to be: those that wait are not tested yet, or tested and can't start
 pub record IsScanned (old new : State) (tests all : ℕ) : Type 0 where
@@ -19,7 +42,10 @@ pub record IsScanned (old new : State) (tests all : ℕ) : Type 0 where
   pub tested : List Request
   pub items : new.waiting.items ≡ untested ++ tested
   pub count : length untested + tests ≡ all
-  pub cannot : AllByRecursion (CannotStart new) tested
+  pub cannot : AllByRecursion (CannotStart new.frames) tested
+  pub had_turn : List Request
+  pub split : old.waiting.items ≡ had_turn ++ untested
+  pub turns : InTurn old.frames had_turn new.frames tested
 
 pub unscanned : (s : State) (all : ℕ) → IsCore s → length s.waiting.items ≡ all → IsScanned s s 0 all
 unscanned s all core count =
@@ -33,10 +59,13 @@ unscanned s all core count =
       items = sym (append-nil s.waiting.items);
       count = omega (arith, count);
       cannot = tt;
+      had_turn = [];
+      split = refl;
+      turns = (refl, refl);
     }
 
 -- the same, for other states
-all_still : (s new : State) (rs : List Request) → ((other : Request) → CannotStart s other → CannotStart new other) → AllByRecursion (CannotStart s) rs → AllByRecursion (CannotStart new) rs
+all_still : (s new : Frames) (rs : List Request) → ((other : Request) → CannotStart s other → CannotStart new other) → AllByRecursion (CannotStart s) rs → AllByRecursion (CannotStart new) rs
 all_still s new [] still h = tt
 all_still s new (r ∷ rs) still h = (still r h.0, all_still s new rs still h.1)
 
@@ -56,26 +85,33 @@ module _ (old s new : State) (tests all : ℕ) (before : IsScanned old s tests a
   both_kept = ((replies.0.0 ∙ before.replies.0.0, replies.0.1 ∙ before.replies.0.1), replies.1 ∙ before.replies.1)
 
   next_tested : (request : Request) (rest untested : List Request) → s.waiting.items ≡ request ∷ rest → s.waiting.items ≡ untested ++ before.tested → length untested + tests ≡ all → tests < all
-      → (us : List Request) × (rest ≡ us ++ before.tested) × (length us + (tests + 1) ≡ all)
+      → (us : List Request) × (untested ≡ request ∷ us) × (rest ≡ us ++ before.tested) × (length us + (tests + 1) ≡ all)
   next_tested request rest [] is items count below = absurd (omega arith)
   next_tested request rest (u ∷ us) is items count below =
       let e : request ∷ rest ≡ u ∷ (us ++ before.tested) = sym is ∙ items in
-      (us, cc, omega arith)
+      (us, (let first : u ≡ request = cc in ap (λ r. r ∷ us) first), cc, omega arith)
+
+  had_turn_on : (request : Request) (us : List Request) → before.untested ≡ request ∷ us → old.waiting.items ≡ (before.had_turn ++ request ∷ []) ++ us
+  had_turn_on request us is =
+      before.split ∙ ap (λ rs. before.had_turn ++ rs) is ∙ sym (append_assoc before.had_turn (request ∷ []) us)
 
   pub scanned_on : Advances s new → tests < all → IsScanned old new (tests + 1) all
   scanned_on (request, rest, is, goes, still) below =
       let next = next_tested request rest before.untested is before.items before.count below in
       elim goes [
-        | inl gone ↦ record {
+        | inl started ↦ record {
           core = core;
           leads = both_lead;
           same = (same.0 ∙ before.same.0, same.1 ∙ before.same.1);
           replies = both_kept;
           untested = next.0;
           tested = before.tested;
-          items = gone ∙ next.1;
-          count = next.2;
-          cannot = all_still s new before.tested still before.cannot;
+          items = started.0 ∙ next.2;
+          count = next.3;
+          cannot = all_still s.frames new.frames before.tested still before.cannot;
+          had_turn = before.had_turn ++ request ∷ [];
+          split = had_turn_on request next.0 next.1;
+          turns = in_turn_starts old.frames before.had_turn s.frames before.tested request new.frames before.turns started.1;
         }
         | inr turned ↦ record {
           core = core;
@@ -84,9 +120,14 @@ module _ (old s new : State) (tests all : ℕ) (before : IsScanned old s tests a
           replies = both_kept;
           untested = next.0;
           tested = before.tested ++ request ∷ [];
-          items = turned.0 ∙ ap (λ rs. rs ++ request ∷ []) next.1 ∙ append_assoc next.0 before.tested (request ∷ []);
-          count = next.2;
-          cannot = all-append (CannotStart new) before.tested (request ∷ []) (all_still s new before.tested still before.cannot) (turned.1, tt);
+          items = turned.0 ∙ ap (λ rs. rs ++ request ∷ []) next.2 ∙ append_assoc next.0 before.tested (request ∷ []);
+          count = next.3;
+          cannot = all-append (CannotStart new.frames) before.tested (request ∷ []) (all_still s.frames new.frames before.tested still before.cannot) (still request turned.1, tt);
+          had_turn = before.had_turn ++ request ∷ [];
+          split = had_turn_on request next.0 next.1;
+          turns =
+              subst (λ (fs : Frames). InTurn old.frames (before.had_turn ++ request ∷ []) fs (before.tested ++ request ∷ [])) (sym turned.2)
+              (in_turn_waits old.frames before.had_turn s.frames before.tested request before.turns turned.1);
         }
       ]
 
@@ -97,4 +138,11 @@ none_left (r ∷ rs) e = absurd (omega arith)
 pub scanned_all : (old new : State) (tests all : ℕ) → IsScanned old new tests all → all ≤ tests → NoneCanStart new
 scanned_all old new tests all done past =
     let none = none_left done.untested (omega (arith, done.count)) in
-    subst (λ rs. AllByRecursion (CannotStart new) rs) (sym (done.items ∙ ap (λ us. us ++ done.tested) none)) done.cannot
+    subst (λ rs. AllByRecursion (CannotStart new.frames) rs) (sym (done.items ∙ ap (λ us. us ++ done.tested) none)) done.cannot
+
+pub scanned_in_turn : (old new : State) (tests all : ℕ) → IsScanned old new tests all → all ≤ tests → InTurn old.frames old.waiting.items new.frames new.waiting.items
+scanned_in_turn old new tests all done past =
+    let none = none_left done.untested (omega (arith, done.count)) in
+    let had : old.waiting.items ≡ done.had_turn = done.split ∙ ap (λ us. done.had_turn ++ us) none ∙ append-nil done.had_turn in
+    let left : new.waiting.items ≡ done.tested = done.items ∙ ap (λ us. us ++ done.tested) none in
+    subst (λ rs. InTurn old.frames rs new.frames new.waiting.items) (sym had) (subst (λ rs. InTurn old.frames done.had_turn new.frames rs) (sym left) done.turns)

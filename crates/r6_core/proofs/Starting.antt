@@ -26,7 +26,7 @@ use Rattle.r6_frames.specs.declared.op.Request.{Request as Entered}
 use Rattle.r6_frames.specs.declared.command.Outstanding.{Outstanding}
 use Rattle.r6_frames.specs.declared.frames.Frames.{Frames}
 use Rattle.r6_core.specs.declared.state.State.{State}
-use Rattle.r6_frames.specs.Frames.{op_of, task_for, hold_of, hold_at, frame_of, held_requests, command_of, outstanding, shard_with, owed, begun_for, Begins, Drives, PutsOut, IsFreeFrame, IsHeldFrame, NotHeldBy, IsDriven, IsOver, ReadsFirst, IsRequestOf, KeepsOthers}
+use Rattle.r6_frames.specs.Frames.{op_of, task_for, hold_of, hold_at, frame_of, held_requests, command_of, outstanding, shard_with, owed, begun_for, entry_of, IsWith, Begins, Drives, PutsOut, IsFreeFrame, IsHeldFrame, NotHeldBy, IsDriven, IsOver, ReadsFirst, IsRequestOf, KeepsOthers}
 use Rattle.r6_frames.specs.Sound as held
 use Rattle.r6_core.specs.States.{IsSound, IsCore, IsRestedFrame, CanStart, Advances, state_of, layout_in, requests_of, waiting_request, finished_request, released_request, table, bound, limit, most_unanswered}
 use Rattle.r6_frames.proofs.Lists.{Entries, same_put}
@@ -141,7 +141,7 @@ module _ (old : Frames) (frame : ℕ) (request : Entered) (mid : Frames) (begins
 
 pub record IsStart (s : State) (request : Entered) (rest : List Entered) (frame : ℕ) (mid new : Frames) : Type 0 where
   pub items : s.waiting.items ≡ request ∷ rest
-  pub can : CanStart s request frame
+  pub can : CanStart s.frames request frame
   pub begins : Begins s.frames frame request mid
   pub begun_others : KeepsOthers s.frames frame mid
   pub begun_owed : owed mid ≡ owed s.frames + 2 * s.frames.geometry.slots
@@ -269,7 +269,16 @@ module _ (s : State) (request : Entered) (rest : List Entered) (frame : ℕ) (mi
     request,
     rest,
     is.items,
-    inl refl,
+    inl (
+      refl,
+      record {
+        frame = frame;
+        can = is.can;
+        geometry = geometry_same;
+        requests = subst (λ (es : Entries Request). IsWith (held_requests s.frames) frame (entry_of frame request) es) (sym is.requests) is.begins.requests;
+        sound = is.sound;
+      },
+    ),
     λ other cannot free_row f free.
         let apart : f ≢ frame = λ e. let both : Some is.held_still.0 ≡ None = sym is.held_still.1 ∙ ap (hold_at new.held.items) (sym e) ∙ free.1 in absurd (cc) in
         cannot

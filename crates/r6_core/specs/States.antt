@@ -20,7 +20,8 @@ use Rattle.r6_core.specs.declared.reply.Reply.TheVariants as reply
 use Rattle.r6_core.specs.declared.refusal.Refusal.{Refusal}
 use Rattle.r6_core.specs.declared.refusal.Refusal.TheVariants.{NoSuchBlock, WrongShard, WrongLength, Busy, Exhausted, UnknownToken}
 use Rattle.r6_core.specs.declared.state.State.{State}
-use Rattle.r6_frames.specs.Frames.{op_of, buffer_of, held_requests, shard_with, outstanding, owed, IsFreeFrame, NotHeldBy, IsRequestOf, IsAwaited, IsDriven, IsOver}
+use Rattle.r6_frames.specs.declared.frames.Frames.{Frames}
+use Rattle.r6_frames.specs.Frames.{op_of, buffer_of, held_requests, entry_of, shard_with, outstanding, owed, IsFreeFrame, NotHeldBy, IsRequestOf, IsAwaited, IsDriven, IsOver, IsWith, KeepsOthers}
 use Rattle.r6_frames.specs.Frames as frames
 use Rattle.r6_frames.specs.Sound as held
 
@@ -109,12 +110,12 @@ pub record IsCore (s : State) : Type 0 where
   pub rested : IsRested s
 
 -- a waiting request can't start: its row is held, or no frame is free
-abbrev pub CannotStart : State → Request → Type 0
-CannotStart s request =
-    NotHeldBy s.frames (layout.row_of s.frames.geometry (world.block_of (op_of request.op))) → (frame : ℕ) → IsFreeFrame s.frames frame → ⊥
+abbrev pub CannotStart : Frames → Request → Type 0
+CannotStart fs request =
+    NotHeldBy fs (layout.row_of fs.geometry (world.block_of (op_of request.op))) → (frame : ℕ) → IsFreeFrame fs frame → ⊥
 
 abbrev pub NoneCanStart : State → Type 0
-NoneCanStart s = AllByRecursion (CannotStart s) s.waiting.items
+NoneCanStart s = AllByRecursion (CannotStart s.frames) s.waiting.items
 
 -- ---- refusals, in their order
 
@@ -207,20 +208,47 @@ TakesFirst old request new = (old.released.items ≡ request ∷ new.released.it
 abbrev pub KeepsReplies : State → State → Type 0
 KeepsReplies old new = SameReplies old new × (new.unanswered ≡ old.unanswered)
 
+-- ---- in which order requests start
+
+-- the request can start in the frame
+abbrev pub CanStart : Frames → Request → ℕ → Type 0
+CanStart fs request frame =
+    IsFreeFrame fs frame × NotHeldBy fs (layout.row_of fs.geometry (world.block_of (op_of request.op)))
+
+-- the request starts, and from then on its row is held
+pub record Starts (old : Frames) (request : Request) (new : Frames) : Type 0 where
+  pub frame : ℕ
+  pub can : CanStart old request frame
+  pub geometry : new.geometry ≡ old.geometry
+  pub requests : IsWith (held_requests old) frame (entry_of frame request) (held_requests new)
+  pub sound : held.IsSound new
+
+-- Each request has its turn, from the oldest to the newest: it starts if it can at its turn, and else it waits still
+abbrev pub InTurn : (old : Frames) → List Request → (new : Frames) → (waiting : List Request) → Type 0
+InTurn old [] new waiting = (new ≡ old) × (waiting ≡ [])
+InTurn old (request ∷ newer) new waiting =
+    ((mid : Frames) × Starts old request mid × InTurn mid newer new waiting)
+    ⊎ (CannotStart old request × (others : List Request) × (waiting ≡ request ∷ others) × InTurn old newer new others)
+
+-- from these frames on each of these requests has its turn, and those that wait still are what then waits
+abbrev pub HaveTurns : Frames → List Request → State → Type 0
+HaveTurns fs requests new = InTurn fs requests new.frames new.waiting.items
+
+-- those that waited have their turns behind the completion of a command, which may end the hold of its frame
+abbrev pub HaveTurnsBehind : State → State → Type 0
+HaveTurnsBehind old new =
+    (frame : ℕ) × (behind : Frames) × KeepsOthers old.frames frame behind × HaveTurns behind old.waiting.items new
+
 -- ---- what internal calls do
 
 -- nothing was accepted, and nothing put out
 abbrev pub IsFresh : State → Type 0
 IsFresh s = (s.accepted ≡ 0) × (requests_of s ≡ []) × frames.IsAtStart s.frames
 
--- the request can start in the frame
-abbrev pub CanStart : State → Request → ℕ → Type 0
-CanStart s request frame =
-    IsFreeFrame s.frames frame × NotHeldBy s.frames (layout.row_of s.frames.geometry (world.block_of (op_of request.op)))
-
 -- the oldest request that waited starts, or goes behind the others where it can't
 abbrev pub Advances : State → State → Type 0
 Advances old new =
     (request : Request) × (rest : List Request) × (old.waiting.items ≡ request ∷ rest)
-    × ((new.waiting.items ≡ rest) ⊎ ((new.waiting.items ≡ rest ++ request ∷ []) × CannotStart new request))
-    × ((other : Request) → CannotStart old other → CannotStart new other)
+    × (((new.waiting.items ≡ rest) × Starts old.frames request new.frames)
+    ⊎ ((new.waiting.items ≡ rest ++ request ∷ []) × CannotStart old.frames request × (new.frames ≡ old.frames)))
+    × ((other : Request) → CannotStart old.frames other → CannotStart new.frames other)

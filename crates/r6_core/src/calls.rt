@@ -1,13 +1,13 @@
 //! The core as its callers see it.
 
-ghost use Rattle.std.specs.Prelude.{◌≡◌, ◌+◌, [], ◌<◌, ◌≤◌, nat_lt, if◌then◌else◌, ℕ, MatchOption, MatchResult, IfOk, IfErr, IfSome, IsOk, Option, Some, None, Ok};
+ghost use Rattle.std.specs.Prelude.{◌≡◌, ◌+◌, [], ◌∷◌, ◌++◌, ◌<◌, ◌≤◌, nat_lt, if◌then◌else◌, ℕ, MatchOption, MatchResult, IfOk, IfErr, IfSome, IsOk, Option, Some, None, Ok};
 ghost use Rattle.r6_layout.specs.Shape.{IsShape};
 ghost use Rattle.r6_world.specs.Geometries.{layout_of};
 ghost use Rattle.r6_world.specs.Worlds.{shard_at_start};
 ghost use Rattle.r6_world.specs.Steps.{Submit, Deliver, Look, Take_command, No_command, Take_reply, No_reply, Good, Taken};
 ghost use Rattle.r6_frames.specs.Frames.{op_of, world_command, IsCommandOf};
 ghost use Rattle.r6_frames.specs.declared.op.Request.{Request as Entered};
-ghost use Rattle.r6_core.specs.States.{IsWhole, Step, state_of, synced, reply_of, BringsBack, HasSubmitFault, HasDeliverFault, IsFirstFault, HasNone, submit_faults, deliver_faults, reply_to, NoReplies, SameReplies, MayFinish, ReleasesAll, TakesFirst};
+ghost use Rattle.r6_core.specs.States.{IsWhole, Step, state_of, synced, reply_of, BringsBack, HasSubmitFault, HasDeliverFault, IsFirstFault, HasNone, submit_faults, deliver_faults, reply_to, NoReplies, SameReplies, MayFinish, ReleasesAll, TakesFirst, HaveTurns, HaveTurnsBehind};
 
 use crate::refusal::{CoreError, DeviceFault, Receipt, Refused};
 use crate::reply::{OpId, Reply};
@@ -85,6 +85,7 @@ impl Core {
         ensures refused { IfErr result (λ refused. (self.new ≡ self.old) × (refused.back ≡ op) × IsFirstFault (HasSubmitFault self.old op) submit_faults refused.refusal) }
         ensures order { IfOk result (λ _. SameReplies self.old self.new) }
         ensures unanswered { IfOk result (λ _. self.new.unanswered ≡ self.old.unanswered + 1) }
+        ensures turns { IfOk result (λ id. HaveTurns self.old.frames (self.old.waiting.items ++ (record { id = id.0; op = op }) ∷ []) self.new) }
     {
         Ok(OpId(self.state.submit(op)?))
     }
@@ -105,6 +106,7 @@ impl Core {
         ensures refused { IfErr result (λ refused. (self.new ≡ self.old) × (refused.back ≡ completion) × IfOk completion (λ buffer. IsFirstFault (HasDeliverFault self.old token buffer) deliver_faults refused.refusal)) }
         ensures order { IfOk result (λ _. MayFinish self.old self.new) }
         ensures unanswered { self.new.unanswered ≡ self.old.unanswered }
+        ensures turns { IfOk result (λ _. HaveTurnsBehind self.old self.new) }
     {
         let Ok(buffer) = completion else {
             unreachable!()
@@ -125,6 +127,7 @@ impl Core {
         ensures step { Step self.old (Look snapshot.now) self.new }
         ensures order { ReleasesAll self.old self.new }
         ensures unanswered { self.new.unanswered ≡ self.old.unanswered }
+        ensures turns { HaveTurns self.old.frames self.old.waiting.items self.new }
     {
         self.state.look();
     }
@@ -135,6 +138,7 @@ impl Core {
         ensures there { IfSome result (λ c. IsCommandOf self.old.frames c) }
         ensures order { SameReplies self.old self.new }
         ensures unanswered { self.new.unanswered ≡ self.old.unanswered }
+        ensures waiting { self.new.waiting ≡ self.old.waiting }
     {
         self.state.take_command()
     }
@@ -145,6 +149,7 @@ impl Core {
         ensures buffer { IfSome result (λ r. BringsBack ((state_of self.old).request (r.0).0) r.1) }
         ensures first { MatchOption result ((self.old.released.items ≡ []) × (self.new ≡ self.old)) (λ r. (request : Entered) × TakesFirst self.old request self.new × (request.id ≡ (r.0).0) × (r.1 ≡ reply_to request.op)) }
         ensures unanswered { MatchOption result (self.new.unanswered ≡ self.old.unanswered) (λ _. self.new.unanswered + 1 ≡ self.old.unanswered) }
+        ensures waiting { self.new.waiting ≡ self.old.waiting }
     {
         let Request { id, op } = self.state.take_reply()?;
         let reply = match op {

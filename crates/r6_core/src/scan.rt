@@ -4,7 +4,7 @@ ghost use Rattle.std.specs.Prelude.{◌≡◌, ◌<◌, ℕ, length, MatchOption
 ghost use Rattle.r6_world.specs.Steps.{Through, Scans};
 ghost use Rattle.r6_frames.specs.Frames.{IsFreeFrame, IsRequestOf};
 ghost use Rattle.r6_frames.specs.Sound as held;
-ghost use Rattle.r6_core.specs.States.{IsSound, IsCore, NoneCanStart, CannotStart, CanStart, Advances, state_of, layout_in, SameFrames, KeepsReplies};
+ghost use Rattle.r6_core.specs.States.{IsSound, IsCore, NoneCanStart, CannotStart, CanStart, Advances, HaveTurns, state_of, layout_in, SameFrames, KeepsReplies};
 
 use crate::state::State;
 use r6_frames::Request;
@@ -16,6 +16,7 @@ impl State {
         ensures core { IsCore self.new }
         ensures leads { Through (layout_in self.old) self.old.frames.shard Scans (state_of self.old) (state_of self.new) }
         ensures rested { NoneCanStart self.new }
+        ensures turns { HaveTurns self.old.frames self.old.waiting.items self.new }
         ensures same { SameFrames self.old self.new }
         ensures replies { KeepsReplies self.old self.new }
     {
@@ -54,7 +55,7 @@ impl State {
     fn frame_for(&self, request: &Request) -> Option<usize>
         requires sound { held.IsSound self.now.frames }
         requires request { IsRequestOf self.now.frames request.now }
-        ensures { MatchOption result (CannotStart self.now request.now) (CanStart self.now request.now) }
+        ensures { MatchOption result (CannotStart self.now.frames request.now) (CanStart self.now.frames request.now) }
     {
         let frame = self.frames.free_frame()?;
         let place = self.frames.geometry.place(request.op.block())?;

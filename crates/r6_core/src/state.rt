@@ -8,8 +8,8 @@ ghost use Rattle.r6_world.specs.Registers.{Snapshot};
 ghost use Rattle.r6_world.specs.ShardStates.{Released};
 ghost use Rattle.r6_world.specs.Steps.{Submit, Deliver, Look, Take_command, No_command, Take_reply, No_reply, Good, Taken, Through, Scans, GoesOn, Takes};
 ghost use Rattle.r6_world.specs.Changes.{Change, Accept, Release, after, Allowed};
-ghost use Rattle.r6_frames.specs.Frames.{op_of, buffer_of, world_command, IsCommandOf};
-ghost use Rattle.r6_core.specs.States.{IsSound, IsCore, IsRested, NoneCanStart, IsWhole, Step, state_of, layout_in, answer_of, HasSubmitFault, HasDeliverFault, IsFirstFault, HasNone, submit_faults, deliver_faults, IsFresh, SameFrames, NoReplies, SameReplies, MayFinish, ReleasesAll, TakesFirst, KeepsReplies};
+ghost use Rattle.r6_frames.specs.Frames.{op_of, buffer_of, world_command, IsCommandOf, KeepsOthers};
+ghost use Rattle.r6_core.specs.States.{IsSound, IsCore, IsRested, NoneCanStart, IsWhole, Step, state_of, layout_in, answer_of, HasSubmitFault, HasDeliverFault, IsFirstFault, HasNone, submit_faults, deliver_faults, IsFresh, SameFrames, NoReplies, SameReplies, MayFinish, ReleasesAll, TakesFirst, KeepsReplies, HaveTurns, HaveTurnsBehind};
 
 use crate::refusal::{Receipt, Refusal, Refused};
 use circular_buffer::HeapCircularBuffer;
@@ -92,6 +92,7 @@ impl State {
         ensures refused { IfErr result (λ refused. (self.new ≡ self.old) × (refused.back ≡ op) × IsFirstFault (HasSubmitFault self.old op) submit_faults refused.refusal) }
         ensures order { IfOk result (λ _. SameReplies self.old self.new) }
         ensures unanswered { IfOk result (λ _. self.new.unanswered ≡ self.old.unanswered + 1) }
+        ensures turns { IfOk result (λ id. HaveTurns self.old.frames (self.old.waiting.items ++ (record { id = id; op = op }) ∷ []) self.new) }
     {
         if let Some(refusal) = self.refusal(&op) {
             return Err(Refused { refusal, back: op });
@@ -148,6 +149,7 @@ impl State {
         ensures refused { IfErr result (λ refused. (self.new ≡ self.old) × (refused.back ≡ buffer) × IsFirstFault (HasDeliverFault self.old token buffer) deliver_faults refused.refusal) }
         ensures order { IfOk result (λ _. MayFinish self.old self.new) }
         ensures unanswered { self.new.unanswered ≡ self.old.unanswered }
+        ensures turns { IfOk result (λ _. HaveTurnsBehind self.old self.new) }
     {
         if let Some(refusal) = self.fault(token, &buffer) {
             return Err(Refused {
@@ -169,6 +171,8 @@ impl State {
         ensures same { SameFrames self.old self.new }
         ensures order { MayFinish self.old self.new }
         ensures unanswered { self.new.unanswered ≡ self.old.unanswered }
+        ensures others { (frame : ℕ) × KeepsOthers self.old.frames frame self.new.frames }
+        ensures waiting { self.new.waiting ≡ self.old.waiting }
     {
         let frame = self.frames.answer(token, buffer);
         self.frames.drive(frame);
@@ -186,6 +190,7 @@ impl State {
         ensures step { (snapshot : Snapshot) → IsWhole snapshot → Step self.old (Look snapshot) self.new }
         ensures order { ReleasesAll self.old self.new }
         ensures unanswered { self.new.unanswered ≡ self.old.unanswered }
+        ensures turns { HaveTurns self.old.frames self.old.waiting.items self.new }
     {
         self.release();
         self.scan();
@@ -199,6 +204,7 @@ impl State {
         ensures order { ReleasesAll self.old self.new }
         ensures unanswered { self.new.unanswered ≡ self.old.unanswered }
         ensures same { self.new.frames ≡ self.old.frames }
+        ensures waiting { self.new.waiting ≡ self.old.waiting }
     {
         for _ in 0..self.finished.len() {
             self.release_one();
@@ -231,6 +237,7 @@ impl State {
         ensures step { MatchOption result (Step self.old No_command self.new) (λ c. (frame : ℕ) × Step self.old (Take_command c.token (world_command frame c)) self.new) }
         ensures there { IfSome result (λ c. IsCommandOf self.old.frames c) }
         ensures replies { KeepsReplies self.old self.new }
+        ensures waiting { self.new.waiting ≡ self.old.waiting }
     {
         self.frames.take_command()
     }
@@ -243,6 +250,7 @@ impl State {
         ensures request { IfSome result (λ r. (state_of self.old).request r.id ≡ Some (record { op = op_of r.op; stage = Released (answer_of r.op) })) }
         ensures first { MatchOption result ((self.old.released.items ≡ []) × (self.new ≡ self.old)) (λ r. TakesFirst self.old r self.new) }
         ensures unanswered { MatchOption result (self.new.unanswered ≡ self.old.unanswered) (λ _. self.new.unanswered + 1 ≡ self.old.unanswered) }
+        ensures waiting { self.new.waiting ≡ self.old.waiting }
     {
         let request = self.released.pop_front()?;
         self.unanswered -= 1;

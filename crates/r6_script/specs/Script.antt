@@ -113,6 +113,11 @@ Explains lines Memory = Unit {0}
 abbrev pub said_of : Option Script → Said
 said_of script = option_map (λ s. (s.geometry, s.events.items)) script
 
+-- how a fault is printed
+abbrev pub fault_text : ScriptFault → Text
+fault_text (Line number) = codes "script: line " ++ decimal number
+fault_text Memory = codes "memory"
+
 -- a line after those that were read, and what they say then
 abbrev pub Adds : Said → Text → Said → Type 0
 Adds before line said = IsSaid said × (lines_saying said ≡ lines_saying before ++ line ∷ [])

@@ -3,6 +3,7 @@
 ghost use Rattle.std.specs.Prelude.{◌≡◌, ◌≢◌, ◌<◌, ◌++◌, ◌∷◌, ◌≤◌, ℕ, List, codes, decimal, IfErr, IfOk, MatchOption, Some};
 ghost use Rattle.std.specs.Char.{digit_value};
 ghost use Rattle.r6_layout.specs.Shape.{IsShape};
+ghost use Rattle.r6_script.specs.declared.script.Event.{Event as Entered};
 ghost use Rattle.r6_script.specs.Script.{Adds, CannotAdd, Explains, IsByte, IsEvent, IsNumber, IsSaid, Reads, ReadsDigit, Say, array_line, byte_word, command_word, is_passed_over, line_of, lines_of, said_of};
 
 use crate::script::{Call, Event, Script, ScriptFault};
@@ -157,6 +158,7 @@ fn followed(
     requires { IsSaid (said_of before) }
     ensures ok { IfOk result (λ script. Adds (said_of before) line.now (said_of (Some script))) }
     ensures err { IfErr result (λ fault. fault ≢ ScriptFault.Memory → (fault ≡ ScriptFault.Line number) × CannotAdd (said_of before) line.now) }
+    ensures memory { IfErr result (λ fault. fault ≡ ScriptFault.Memory → (event : Entered) × (line.now ≡ line_of event)) }
 {
     match before {
         None => match parse_array(line) {

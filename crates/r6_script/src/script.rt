@@ -67,6 +67,11 @@ impl<T: Drop> From<AllocFailed<T>> for ScriptFault {
 }
 
 impl fmt::Display for ScriptFault {
+    ghost use Rattle.std.specs.Prelude.{Some};
+    ghost use Rattle.r6_script.specs.Script.{fault_text};
+
+    ghost output = { λ fault. Some (fault_text fault) };
+
     fn fmt<W: fmt::Write>(&self, f: &mut fmt::Formatter<W>) -> fmt::Result {
         match self {
             ScriptFault::Line(number) => write!(f, "script: line {number}"),

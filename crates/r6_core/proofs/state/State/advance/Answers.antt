@@ -76,6 +76,6 @@ returns-in-Ok-clause-advances c = (
   c.in-Some.request,
   drop 1 c.args.self.now.waiting.items,
   popped c.args.self.now.waiting.items c.in-Some.request c.in-Some.ensures.value,
-  inr (ap (λ (b : Buffer Request). b.items) (turned c), c.in-None.ensures),
+  inr (ap (λ (b : Buffer Request). b.items) (turned c), c.in-None.ensures, refl),
   λ other cannot. cannot,
 )

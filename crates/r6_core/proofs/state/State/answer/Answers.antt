@@ -1,4 +1,4 @@
-use Rattle.std.proofs.Common.{sym, ap, subst}
+use Rattle.std.proofs.Common.{sym, ap, subst, ◌∙◌}
 use Rattle.r6_core.specs.declared.state.State.{State}
 use Rattle.r6_core.specs.States.{IsCore}
 use Rattle.r6_core.proofs.Delivering.{awaited, is_answered, going_rests, ended_rests, answers_through, nothing_ends, one_ends, answered_sound}
@@ -48,3 +48,15 @@ returns-in_default-clause-takes c =
     let none = c.in_default.ensures.ends in
     let new : State = record s { frames = c.finish.new.self } in
     answers_through s new c.args.token c.args.buffer c.answer-frame.new.self c.drive.new.self answer.answers drive.drives (nothing_ends s c.drive.new.self c.finish.new.self none.1 is.requests)
+
+pub returns-in-Ok-clause-others : goal.returns-in-Ok-clause-others
+returns-in-Ok-clause-others c = (
+  c.answer-frame.result,
+  λ other ne. c.in-Some.ensures.others other ne ∙ c.drive.ensures.others other ne ∙ c.answer-frame.ensures.others other ne,
+)
+
+pub returns-in_default-clause-others : goal.returns-in_default-clause-others
+returns-in_default-clause-others c = (
+  c.answer-frame.result,
+  λ other ne. c.in_default.ensures.others other ne ∙ c.drive.ensures.others other ne ∙ c.answer-frame.ensures.others other ne,
+)

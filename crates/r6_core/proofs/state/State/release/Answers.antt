@@ -11,3 +11,6 @@ returns-clause-released c =
 pub returns-clause-order : goal.returns-clause-order
 returns-clause-order c =
     released_in_order c.args.self.now c.loop.self c.loop.counter c.loop.invariant (omega (arith, c.len-end.ensures.len, c.loop-test.false))
+
+pub returns-clause-waiting : goal.returns-clause-waiting
+returns-clause-waiting c = c.loop.invariant.waiting

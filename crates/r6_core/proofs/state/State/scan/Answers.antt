@@ -1,5 +1,5 @@
 use Rattle.std.proofs.Common.{sym}
-use Rattle.r6_core.proofs.Scanned.{unscanned, some_waits, scanned_on, scanned_all}
+use Rattle.r6_core.proofs.Scanned.{unscanned, some_waits, scanned_on, scanned_all, scanned_in_turn}
 use Rattle.r6_core.proofs.state.State.scan.Goals as goal
 
 pub loop-init : goal.loop-init
@@ -15,3 +15,6 @@ loop-preserved c =
 
 pub returns-clause-rested : goal.returns-clause-rested
 returns-clause-rested c = scanned_all c.args.self.now c.loop.self c.loop.counter c.len-end.result c.loop.invariant c.loop-test.false
+
+pub returns-clause-turns : goal.returns-clause-turns
+returns-clause-turns c = scanned_in_turn c.args.self.now c.loop.self c.loop.counter c.len-end.result c.loop.invariant c.loop-test.false

@@ -2,7 +2,7 @@ use Rattle.std.proofs.Common.{ap, subst, ◌∙◌}
 use Rattle.r6_world.specs.ShardStates.{Shard}
 use Rattle.r6_world.specs.Geometries.{layout_of}
 use Rattle.r6_world.specs.Steps.{Through, Scans, AtRest}
-use Rattle.r6_core.specs.States.{state_of, layout_in}
+use Rattle.r6_core.specs.States.{HaveTurns, state_of, layout_in}
 use Rattle.r6_core.proofs.AtRest.{at_rest}
 use Rattle.r6_core.proofs.state.State.submit.Goals as goal
 
@@ -23,3 +23,10 @@ returns-clause-step c =
             (subst (λ n. AtRest (layout_in new) n (state_of new)) c.scan.ensures.same.1 (at_rest new c.scan.ensures.core c.scan.ensures.rested))),
       ),
     )
+
+pub returns-clause-turns : goal.returns-clause-turns
+returns-clause-turns c =
+    let mid = c.accept-id.new.self in
+    let new = c.scan.new.self in
+    subst (λ rs. HaveTurns c.args.self.now.frames rs new) c.accept-id.ensures.waiting
+    (subst (λ fs. HaveTurns fs mid.waiting.items new) c.accept-id.ensures.same c.scan.ensures.turns)
