@@ -5,7 +5,7 @@ use Rattle.r6_stripe.specs.Holds.{Event}
 use Rattle.r6_stripe.specs.Holds.Event.{Asks, Restores, Computes, Writes, Gives, Confirms, Loses}
 use Rattle.r6_stripe.specs.Plans.{Planned, next, planned_at, IsPlanned, AreSilent}
 use Rattle.r6_stripe.specs.Plans.Next.{ReadAt}
-use Rattle.r6_stripe.specs.Steps.{Held, PutsOut as PutsOutNext, coming, is_away}
+use Rattle.r6_stripe.specs.Steps.{Held, PutsOut as PutsOutNext, is_away}
 use Rattle.r6_world.specs.Geometries.{layout_of}
 use Rattle.r6_world.specs.Steps.{Through}
 use Rattle.r6_frames.specs.declared.frames.HeldRow.{HeldRow}
@@ -13,7 +13,6 @@ use Rattle.r6_frames.specs.declared.frames.Frames.{Frames}
 use Rattle.r6_frames.specs.Frames.{hold_at, hold_of, held_requests, owed, shard_with, PutsOut, Drives, HasAway, ReadsFirst, IsDriven}
 use Rattle.r6_frames.specs.Sound.{IsHeld, IsSound}
 use Rattle.r6_frames.proofs.SoundAfter.{sound_changed, owed_changed, requests_changed, request_same}
-use Rattle.r6_frames.proofs.UnderWay.{held_coming}
 use Rattle.r6_frames.proofs.Held.{held_within, hold_at_own, frame_put}
 use Rattle.r6_frames.proofs.HeldRows.{Prepared, prepared, are_prepared, prepared_owes}
 use Rattle.r6_frames.proofs.CommandComes.{with_row, commands_prepared}
@@ -25,7 +24,7 @@ pub record HasPrepared (h : HeldRow) (new : Held) : Type 0 where
   pub silent : AreSilent events
   pub may : IsPlanned h.hold.planned events
   pub same : prepared h (planned_at h.hold.planned events) ≡ record h { hold = new }
-  pub nothing : coming new.planned ≡ None
+  pub nothing : next new.planned ≡ None
 
 pub has_prepared : (h : HeldRow) (new : Held) → PutsOutNext h.hold None new → HasPrepared h new
 has_prepared h new puts =
@@ -86,7 +85,7 @@ module _ (fs : Frames) (frame : ℕ) (h : HeldRow) (new : Held) (is : hold_at fs
   )
 
   nothing_next : next new.planned ≡ None
-  nothing_next = sym (held_coming fs.geometry fs.shard row (subst (IsHeld fs.geometry fs.shard) has.same p.held)) ∙ has.nothing
+  nothing_next = has.nothing
 
   pub none_driven : IsDriven (with_row fs frame row) frame
   none_driven x there = let both : Some row ≡ Some x = sym none_held ∙ there in let same : row ≡ x = cc in subst (λ (r : HeldRow). next r.hold.planned ≡ None) same nothing_next

@@ -4,9 +4,9 @@ use Rattle.std.specs.Prelude.{option_map}
 use Rattle.r6_layout.specs.Layout.{position_at}
 use Rattle.r6_stripe.specs.Holds.{Event, MayAsk, MayWrite, after_event}
 use Rattle.r6_stripe.specs.Holds.Event.{Asks, Restores, Computes, Writes, Gives, Confirms, Loses}
-use Rattle.r6_stripe.specs.Plans.{Planned, Next, next, planned_after, planned_at, MayFollow, IsPlanned, IsSilent, AreSilent}
-use Rattle.r6_stripe.specs.Steps.{Held, PutsOut as PutsOutNext, coming, is_recover}
-use Rattle.r6_stripe.proofs.Steps.{step_by_rules, unless}
+use Rattle.r6_stripe.specs.Plans.{Planned, planned_after, planned_at, MayFollow, IsPlanned, IsSilent, AreSilent}
+use Rattle.r6_stripe.specs.Steps.{Held, PutsOut as PutsOutNext}
+use Rattle.r6_stripe.proofs.Steps.{step_by_rules}
 use Rattle.r6_tables.specs.Table.{next_of, entries_of}
 use Rattle.r6_world.specs.Tables.{put, count_below}
 use Rattle.r6_world.specs.Layouts.{Layout}
@@ -151,17 +151,14 @@ pub record HasPut (h : HeldRow) (position : ℕ) (kind : CommandKind) (buffer : 
   pub new_is : new ≡ record { planned = planned_after (planned_at h.hold.planned events) (put_event position kind buffer); away = set h.hold.away position true }
   pub sized : length buffer ≡ h.hold.planned.hold.size
 
-next_if : (planned : Planned) (step : Next) → coming planned ≡ Some step → next planned ≡ Some step
-next_if planned step e = (unless (is_recover planned.plan) (next planned) step e).1
-
 pub has_put : (h : HeldRow) (position : ℕ) (kind : CommandKind) (buffer : List ℕ) (new : Held) → PutsOutNext h.hold (Some (row_command position kind buffer)) new → HasPut h position kind buffer new
 has_put h position command.Read buffer new puts =
-    record { events = []; silent = tt; may = tt; follows = next_if h.hold.planned (Next.ReadAt position) puts.0; new_is = puts.1; sized = puts.2 }
+    record { events = []; silent = tt; may = tt; follows = puts.0; new_is = puts.1; sized = puts.2 }
 has_put h position command.Write buffer new puts =
     let ready = puts.0 in
     let prepares = puts.1 in
     let back : ready ≡ planned_at h.hold.planned prepares.0 = sym prepares.3 in
-    let follows : MayFollow ready (Writes position buffer) = (next_if ready (Next.WriteAt position) puts.2, puts.3) in
+    let follows : MayFollow ready (Writes position buffer) = (puts.2, puts.3) in
     record {
       events = prepares.0;
       silent = prepares.1;

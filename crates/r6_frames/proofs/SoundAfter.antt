@@ -9,7 +9,7 @@ use Rattle.r6_stripe.specs.Holds.Reading.{Unread, Asked, Known, Replaced}
 use Rattle.r6_stripe.specs.Holds.Writing.{Unwritten, Ready, Sent}
 use Rattle.r6_stripe.specs.Holds.Event.{Asks, Writes, Loses}
 use Rattle.r6_stripe.specs.Plans.{Planned, next, is_out, is_unread, is_asked, is_sent, is_over, is_none, gives_up, is_enough, has_read_out, has_write_out, count_where, planned_after, planned_at, MayFollow, IsPlanned, AreSilent}
-use Rattle.r6_stripe.specs.Steps.{is_away, is_idle, is_recover, has_outcome}
+use Rattle.r6_stripe.specs.Steps.{is_away, is_idle, has_outcome}
 use Rattle.r6_stripe.proofs.Bound.{within}
 use Rattle.r6_stripe.proofs.Steps.{step_by_rules, none_passes, not_false}
 use Rattle.r6_tables.specs.Table.{Numbered}
@@ -234,7 +234,7 @@ pub over_home : (shape : Shape) (shard : ℕ) (h : HeldRow) → IsHeld shape sha
 over_home shape shard h held over j below =
     let planned = h.hold.planned in
     let cell = cell_at planned.hold.cells j in
-    let whole = and_parts (not (is_idle planned.hold.kind) && not (is_recover planned.plan)) (is_over planned) over in
+    let whole = and_parts (not (is_idle planned.hold.kind)) (is_over planned) over in
     let three = and_parts (not (has_read_out planned.hold) && not (has_write_out planned.hold) && is_none (next planned)) (gives_up planned.hold || is_enough planned.plan planned.hold) whole.1 in
     let two = and_parts (not (has_read_out planned.hold) && not (has_write_out planned.hold)) (is_none (next planned)) three.0 in
     let one = and_parts (not (has_read_out planned.hold)) (not (has_write_out planned.hold)) two.0 in

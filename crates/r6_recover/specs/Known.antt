@@ -1,5 +1,6 @@
 -- Positions of a row that are known, and those that are missing.
-use Rattle.std.specs.Prelude.{◌≡◌, ◌≢◌, ℕ, ◌<◌, Bool, true, false, List, slice_index_or}
+use Rattle.std.specs.Prelude as prelude
+use Rattle.std.specs.Prelude.{◌≡◌, ◌≢◌, ℕ, ◌<◌, Bool, true, false, List, slice_index_or, Option, Some}
 use Rattle.r6_recover.specs.declared.known.Missing.{Missing}
 use Rattle.r6_recover.specs.declared.known.Missing.TheVariants.{None, One, Two, Many}
 
@@ -49,3 +50,16 @@ with_missing None n = One n
 with_missing (One x) n = Two x n
 with_missing (Two x y) n = Many
 with_missing Many n = Many
+
+-- the only one, or the lower of two; and the upper of two
+abbrev pub lower_of : Missing → Option ℕ
+lower_of None = prelude.None
+lower_of (One x) = Some x
+lower_of (Two x y) = Some x
+lower_of Many = prelude.None
+
+abbrev pub upper_of : Missing → Option ℕ
+upper_of None = prelude.None
+upper_of (One x) = prelude.None
+upper_of (Two x y) = Some y
+upper_of Many = prelude.None

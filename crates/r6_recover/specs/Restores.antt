@@ -1,8 +1,10 @@
 -- What restoring blocks leaves.
-use Rattle.std.specs.Prelude.{◌≡◌, ◌≢◌, ℕ, ◌-◌, ◌<◌, Bool, List, length}
+use Rattle.std.specs.Prelude.{◌≡◌, ◌≢◌, ℕ, ◌-◌, ◌<◌, Bool, List, length, ⊤}
 use Rattle.std.specs.List.{All}
 use Rattle.r6_recover.specs.Rows.{block_at, block_length, IsFullRow, AgreeBut}
 use Rattle.r6_recover.specs.Known.{IsKnown}
+use Rattle.r6_recover.specs.declared.known.Missing.{Missing}
+use Rattle.r6_recover.specs.declared.known.Missing.TheVariants.{None, One, Two, Many}
 
 -- all blocks of a row but those at x and y have len bytes
 abbrev pub AreLongBut : ℕ → ℕ → ℕ → List (List ℕ) → Type 0
@@ -11,6 +13,27 @@ AreLongBut len x y row = (position : ℕ) → position < length row → position
 -- a block is that at x of every full row with which the row agrees but at x and y
 abbrev pub IsRestored : ℕ → ℕ → ℕ → ℕ → List (List ℕ) → List ℕ → Type 0
 IsRestored m len x y row block = (full : List (List ℕ)) → IsFullRow m len full → AgreeBut x y row full → block ≡ block_at full x
+
+-- at most two positions of a row of so many are missing
+abbrev pub MayMiss : ℕ → Missing → Type 0
+MayMiss count None = ⊤
+MayMiss count (One x) = x < count
+MayMiss count (Two x y) = (x < y) × (y < count)
+MayMiss count Many = ⊥
+
+-- all blocks of a row have len bytes but those that are missing
+abbrev pub AreLongButMissing : ℕ → Missing → List (List ℕ) → Type 0
+AreLongButMissing len None row = All (λ block. length block ≡ len) row
+AreLongButMissing len (One x) row = AreLongBut len x x row
+AreLongButMissing len (Two x y) row = AreLongBut len x y row
+AreLongButMissing len Many row = ⊤
+
+-- of the missing positions the data are restored: the first block is that of the lower one, the second that of the other
+abbrev pub AreRestored : Missing → ℕ → ℕ → List (List ℕ) → List ℕ → List ℕ → Type 0
+AreRestored None m len row first second = ⊤
+AreRestored (One x) m len row first second = x < m → IsRestored m len x x row first
+AreRestored (Two x y) m len row first second = (x < m → IsRestored m len x y row first) × (y < m → IsRestored m len y x row second)
+AreRestored Many m len row first second = ⊤
 
 -- block x becomes that of every full row with which the row agrees but at x and y; the other blocks are kept
 pub record RestoresBlock (m len x y : ℕ) (old new : List (List ℕ)) : Type 0 where

@@ -1,7 +1,7 @@
 //! Sets of positions of a row.
 
 ghost use Rattle.std.specs.Prelude.{◌≡◌, ◌<◌, ◌≤◌, true, false, slice_index_or, slice_set, replicate};
-ghost use Rattle.r6_recover.specs.Known.{IsMissing, with_missing};
+ghost use Rattle.r6_recover.specs.Known.{IsMissing, with_missing, lower_of, upper_of};
 
 use std::marker::Model;
 
@@ -58,11 +58,13 @@ impl Known {
 pub struct TooManyLost;
 
 /// The positions of a row that aren't known.
-#[derive(Clone, Copy)]
-pub(crate) enum Missing {
+#[derive(Clone, Copy, Debug, PartialEq, Eq)]
+pub enum Missing {
     None,
     One(usize),
+    /// The lower one first.
     Two(usize, usize),
+    /// Three or more.
     Many,
 }
 
@@ -78,10 +80,34 @@ impl Missing {
             Missing::Many => Missing::Many,
         }
     }
+
+    /// The only position that is missing, or the lower of two.
+    pub fn lower(self) -> Option<usize>
+        ensures { result ≡ lower_of self }
+    {
+        match self {
+            Missing::One(position) => Some(position),
+            Missing::Two(position, _) => Some(position),
+            Missing::None => None,
+            Missing::Many => None,
+        }
+    }
+
+    /// The upper of two.
+    pub fn upper(self) -> Option<usize>
+        ensures { result ≡ upper_of self }
+    {
+        match self {
+            Missing::Two(_, position) => Some(position),
+            Missing::None => None,
+            Missing::One(_) => None,
+            Missing::Many => None,
+        }
+    }
 }
 
 /// Which of the first `count` positions aren't known.
-pub(crate) fn missing_among(known: Known, count: usize) -> Missing
+pub fn missing_among(known: Known, count: usize) -> Missing
     requires { count ≤ POSITIONS }
     ensures { IsMissing known count result }
 {

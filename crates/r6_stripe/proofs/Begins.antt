@@ -4,11 +4,12 @@ use Rattle.std.specs.Prelude.{Option, if◌then◌else◌}
 use Rattle.std.proofs.lemmas.Bool.{cases_eq}
 use Rattle.std.proofs.lemmas.List.{get_or-map, length-map}
 use Rattle.r6_stripe.specs.Holds.{Hold, Kind, Cell, Standing, cell_at, standing_cell, resting, begun}
-use Rattle.r6_stripe.specs.Places.{cells_of, cell_of, standing_of, away_of, no_place, fresh_place}
+use Rattle.r6_stripe.specs.Places.{cells_of, cell_of, standing_of, away_of, no_place, fresh_place, is_lent}
+use Rattle.r6_stripe.specs.Plans as plans
 use Rattle.r6_stripe.specs.Plans.{is_in_sync, parities_in_sync}
-use Rattle.r6_stripe.specs.Sound.{Each, IsInCourse, IsSettled, IsWritePlan, Suits}
+use Rattle.r6_stripe.specs.Sound.{Each, IsInCourse, IsSettled, IsTask, IsWritePlan, MayLend, Suits}
 use Rattle.r6_stripe.specs.Steps.{standing_if}
-use Rattle.r6_stripe.specs.Views.{kind_of_task}
+use Rattle.r6_stripe.specs.Views.{kind_of_task, plan_of}
 use Rattle.r6_stripe.specs.declared.command.Task.{Task}
 use Rattle.r6_stripe.specs.declared.command.Task.TheVariants as task
 use Rattle.r6_stripe.specs.declared.plan.Plan.{Plan}
@@ -42,31 +43,43 @@ fresh_each holds in_sync each k below =
 pub fresh_settled : (in_sync : List Bool) → Each (λ position place. IsSettled place) (map fresh_place in_sync)
 fresh_settled in_sync = fresh_each (λ position place. IsSettled place) in_sync (λ k below. record { away = λ e. absurd cc; one_block = λ e known. cc })
 
+pub fresh_lends : (t : Option Task) (in_sync : List Bool) → Each (λ position place. is_lent place ≡ true → MayLend t position) (map fresh_place in_sync)
+fresh_lends t in_sync = fresh_each (λ position place. is_lent place ≡ true → MayLend t position) in_sync (λ k below lent. absurd cc)
+
 -- a hold that overwrites begins without P and Q
 abbrev pub LacksParities : Plan → ℕ → List Bool → Type 0
 LacksParities p count in_sync = p ≡ plan.Overwrite → (k : ℕ) → k < length in_sync → count ≤ k + 2 → get_or in_sync k false ≡ false
 
-pub fresh_course : (p : Plan) (t : Option Task) (count : ℕ) (in_sync : List Bool) → Suits p t → LacksParities p count in_sync → Each (IsInCourse p t count false) (map fresh_place in_sync)
-fresh_course p t count in_sync suits lacks = fresh_each (IsInCourse p t count false) in_sync (λ k below. at p t suits k (get_or in_sync k false) (λ e past. lacks e k below past))
+-- a read that recovers begins without its own position
+abbrev pub LacksIts : Plan → Option Task → List Bool → Type 0
+LacksIts p t in_sync = p ≡ plan.Recover → (index : ℕ) → t ≡ Some (task.Read index) → get_or in_sync index false ≡ false
+
+pub fresh_course : (p : Plan) (t : Option Task) (count : ℕ) (in_sync : List Bool) → Suits p t → LacksParities p count in_sync → LacksIts p t in_sync → Each (IsInCourse p t count false) (map fresh_place in_sync)
+fresh_course p t count in_sync suits lacks its =
+    fresh_each (IsInCourse p t count false) in_sync
+    (λ k below. at p t suits k (get_or in_sync k false) (λ e past. lacks e k below past) (λ e index reads same. ap (λ (j : ℕ). get_or in_sync j false) same ∙ its e index reads))
   where
     out : (b : Bool) → b ≡ false → (fresh_place b).state ≡ state.Out
     out true e = absurd cc
     out false e = refl
 
-    at : (p : Plan) (t : Option Task) → Suits p t → (k : ℕ) (b : Bool) → (p ≡ plan.Overwrite → count ≤ k + 2 → b ≡ false) → IsInCourse p t count false k (fresh_place b)
-    at plan.One (Some (task.Read index)) suits k b none = (refl, λ e. cc)
-    at plan.One (Some (task.Write index block)) suits k b none = suits
-    at plan.One None suits k b none = tt
-    at plan.Reconstruct (Some (task.Read index)) suits k b none = suits
-    at plan.Reconstruct (Some (task.Write index block)) suits k b none = (refl, λ e. cc, λ put e. cc)
-    at plan.Reconstruct None suits k b none = tt
-    at plan.Modify (Some (task.Read index)) suits k b none = suits
-    at plan.Modify (Some (task.Write index block)) suits k b none = (refl, λ e. cc)
-    at plan.Modify None suits k b none = tt
-    at plan.Overwrite (Some (task.Read index)) suits k b none = suits
-    at plan.Overwrite (Some (task.Write index block)) suits k b none = (refl, refl, λ past. out b (none refl past))
-    at plan.Overwrite None suits k b none = tt
-    at plan.Recover t suits k b none = tt
+    at : (p : Plan) (t : Option Task) → Suits p t → (k : ℕ) (b : Bool) → (p ≡ plan.Overwrite → count ≤ k + 2 → b ≡ false) →
+        (p ≡ plan.Recover → (index : ℕ) → t ≡ Some (task.Read index) → k ≡ index → b ≡ false) → IsInCourse p t count false k (fresh_place b)
+    at plan.One (Some (task.Read index)) suits k b none its = (refl, λ e. cc)
+    at plan.One (Some (task.Write index block)) suits k b none its = suits
+    at plan.One None suits k b none its = tt
+    at plan.Reconstruct (Some (task.Read index)) suits k b none its = suits
+    at plan.Reconstruct (Some (task.Write index block)) suits k b none its = (refl, λ e. cc, λ put e. cc)
+    at plan.Reconstruct None suits k b none its = tt
+    at plan.Modify (Some (task.Read index)) suits k b none its = suits
+    at plan.Modify (Some (task.Write index block)) suits k b none its = (refl, λ e. cc)
+    at plan.Modify None suits k b none its = tt
+    at plan.Overwrite (Some (task.Read index)) suits k b none its = suits
+    at plan.Overwrite (Some (task.Write index block)) suits k b none its = (refl, refl, λ past. out b (none refl past))
+    at plan.Overwrite None suits k b none its = tt
+    at plan.Recover (Some (task.Read index)) suits k b none its = (refl, λ e. cc, λ same. out b (its refl index refl same))
+    at plan.Recover (Some (task.Write index block)) suits k b none its = (refl, λ e. cc)
+    at plan.Recover None suits k b none its = tt
 
 in_sync_of : (b : Bool) → is_in_sync (standing_of (fresh_place b).state) ≡ b
 in_sync_of true = refl
@@ -91,6 +104,24 @@ lacks_parities p size kind in_sync blocks two counts e k below past =
       | inl same ↦ sym (at k below) ∙ ap (λ (j : ℕ). is_in_sync (cell_at cells j).standing) same ∙ none.0
       | inr other ↦ sym (at k below) ∙ ap (λ (j : ℕ). is_in_sync (cell_at cells j).standing) (omega (arith, past, below, wide, other)) ∙ none.1
     ]
+
+-- what the plan of a read says of its position
+pub lacks_its : (p : Plan) (size : ℕ) (t : Task) (in_sync : List Bool) (blocks : List (List ℕ)) →
+    plan_of p ≡ plans.first_plan (record { size = size; kind = kind_of_task t; cells = cells_of (map fresh_place in_sync) blocks; cut_short = false }) (kind_of_task t) →
+    IsTask (length in_sync) size (Some t) → LacksIts p (Some t) in_sync
+lacks_its p size (task.Write index block) in_sync blocks first fits recover other reads = absurd cc
+lacks_its p size (task.Read index) in_sync blocks first fits recover other reads =
+    let cells = cells_of (map fresh_place in_sync) blocks in
+    let below : index < length in_sync = omega (arith, fits) in
+    let at : is_in_sync (cell_at cells index).standing ≡ get_or in_sync index false =
+    ap (λ (cell : Cell). is_in_sync cell.standing) (cell_at-cells_of (map fresh_place in_sync) blocks index no_place (omega (arith, below, length-map in_sync fresh_place)))
+    ∙ ap (λ (place : Place). is_in_sync (standing_of place.state)) (get_or-map fresh_place in_sync index false no_place below) ∙ in_sync_of (get_or in_sync index false) in
+    let same : index ≡ other = let e = reads in cc in
+    subst (λ (j : ℕ). get_or in_sync j false ≡ false) same (sym at ∙ not_one (is_in_sync (cell_at cells index).standing) (sym first ∙ ap plan_of recover))
+  where
+    not_one : (b : Bool) → (if b then plans.Plan.One else plans.Plan.Recover) ≡ plans.Plan.Recover → b ≡ false
+    not_one true e = absurd cc
+    not_one false e = refl
 
 pub suits_read : (p : Plan) (index : ℕ) → (p ≡ plan.One) ⊎ (p ≡ plan.Recover) → Suits p (Some (task.Read index))
 suits_read p index (inl e) = subst (λ (q : Plan). Suits q (Some (task.Read index))) (sym e) tt

@@ -1,16 +1,16 @@
 -- A write of one block whose new blocks are computed follows its plan, whichever plan of a write it is.
-use Rattle.std.proofs.Common.{◌≡◌, ◌≢◌, ◌⊎◌, inl, inr, Bool, true, false, ℕ, ◌+◌, ◌-◌, ◌<◌, List, [], ◌∷◌, length, get_or, refl, sym, ◌∙◌, ap, subst, arith, Some, None}
-use Rattle.std.specs.Prelude.{◌||◌, ◌&&◌, not, ◌==◌, if◌then◌else◌, option_map, Option, nat_le}
-use Rattle.std.proofs.lemmas.Bool.{cases_eq, cases_lt, eqb-true, leb-true, eq-eqb, le-leb}
-use Rattle.r6_stripe.specs.Holds.{Reading, Standing, Cell, Hold, cell_at, made_ready, replaced, is_known, Carries, IsIndexOf, IsToWrite, AreNew, with_new}
+use Rattle.std.proofs.Common.{◌≡◌, ◌≢◌, ◌⊎◌, inl, inr, Bool, true, false, ℕ, zero, suc, ◌+◌, ◌-◌, ◌<◌, List, [], ◌∷◌, length, get_or, refl, sym, ◌∙◌, ap, subst, arith, Some, None}
+use Rattle.std.specs.Prelude.{◌||◌, ◌&&◌, not, ◌==◌, if◌then◌else◌, option_map, nat_le}
+use Rattle.std.proofs.lemmas.Bool.{cases_eq, cases_lt, eqb-true, leb-true, eq-eqb, le-leb, and_right, false_from_ne_true, not-false, not-true, or_right}
+use Rattle.r6_stripe.specs.Holds.{Reading, Standing, Cell, Hold, cell_at, made_ready, replaced, is_known, Carries, IsToWrite, AreNew, with_new}
 use Rattle.r6_stripe.specs.Holds.Event.{Computes}
 use Rattle.r6_stripe.specs.Holds.Kind.{Write}
 use Rattle.r6_stripe.specs.Holds.Standing.{InSync, Target, Out}
 use Rattle.r6_stripe.specs.Holds.Writing.{Unwritten}
 use Rattle.r6_stripe.specs.Plans as plans
-use Rattle.r6_stripe.specs.Places.{standing_of, writing_of, cell_of, cells_of, no_place, made_ready_place, replaced_read, ready_at, is_read_out, is_writable, is_computed}
+use Rattle.r6_stripe.specs.Places.{standing_of, writing_of, cell_of, cells_of, no_place, replaced_read, ready_at, holds_block, is_lent, is_read_out, is_writable, is_computed}
 use Rattle.r6_stripe.specs.Sound.{Each, IsInCourse, IsPut, IsRenewed, IsSettled, IsWritePlan}
-use Rattle.r6_stripe.specs.Steps.{coming, can_drop}
+use Rattle.r6_stripe.specs.Steps.{can_drop}
 use Rattle.r6_stripe.specs.Views.{plan_of}
 use Rattle.r6_stripe.specs.declared.command.Task.TheVariants as task
 use Rattle.r6_stripe.specs.declared.plan.Plan.{Plan}
@@ -22,24 +22,12 @@ use Rattle.r6_stripe.specs.declared.place.WriteState.{WriteState}
 use Rattle.r6_stripe.specs.declared.place.State.TheVariants as state
 use Rattle.r6_stripe.specs.declared.place.ReadState.TheVariants as read
 use Rattle.r6_stripe.specs.declared.place.WriteState.TheVariants as write
-use Rattle.r6_stripe.proofs.Bound.{length-with_new}
+use Rattle.r6_stripe.proofs.Counts.{count_same_at}
 use Rattle.r6_stripe.proofs.Places.{length-cells_of, cell_at-cells_of, cell_past, at_place, any_default, any_false, any_true, any_each, writable-blind}
 use Rattle.r6_stripe.proofs.Planned.{is_done_with, enough_each}
 use Rattle.r6_stripe.proofs.Renewals.{IsAmong, is_among, entries_of, entry_among, among_entry, length-ready_at, ready_among, ready_beside, new_among, new_beside, renewed_cells}
-use Rattle.r6_stripe.proofs.Searches.{each_true, each_at}
-use Rattle.r6_stripe.proofs.Nexts.{next_is, follows}
-
-pub and_false : (b : Bool) → (b && false) ≡ false
-and_false true = refl
-and_false false = refl
-
-not_false : (b : Bool) → not b ≡ true → b ≡ false
-not_false true e = absurd cc
-not_false false e = refl
-
-pub or_true : (b : Bool) → (b || true) ≡ true
-or_true true = refl
-or_true false = refl
+use Rattle.r6_stripe.proofs.Searches.{each_true}
+use Rattle.r6_stripe.proofs.Nexts.{next_is}
 
 -- a position is put, or is a data block that isn't written
 pub put_or_read : (count index position : ℕ) → IsPut count index position ⊎ ((position ≢ index) × (position + 2 < count))
@@ -65,7 +53,7 @@ wanted size index block cells j other inside = by_tests (plans.is_parity (writin
 
 pub puts_put : (size index : ℕ) (block : List ℕ) (cells : List Cell) (j : ℕ) → IsPut (length cells) index j → plans.puts (writing size index block cells) (Write ((index, block) ∷ [])) j ≡ true
 puts_put size index block cells j (inl same) = ap (λ (b : Bool). (b || false) || plans.is_parity (writing size index block cells) j) (eq-eqb index j (sym same))
-puts_put size index block cells j (inr past) = ap (λ (b : Bool). ((index == j) || false) || b) (le-leb (length cells - 2) j (omega arith)) ∙ or_true ((index == j) || false)
+puts_put size index block cells j (inr past) = ap (λ (b : Bool). ((index == j) || false) || b) (le-leb (length cells - 2) j (omega arith)) ∙ or_right ((index == j) || false) true refl
 
 swapped : (a b x : Bool) → (b || a) ≡ x → (a || b) ≡ x
 swapped true true x e = e
@@ -75,7 +63,7 @@ swapped false false x e = e
 
 pub puts_unput : (size index : ℕ) (block : List ℕ) (cells : List Cell) (j : ℕ) → j ≢ index → j + 2 < length cells → plans.puts (writing size index block cells) (Write ((index, block) ∷ [])) j ≡ false
 puts_unput size index block cells j other inside =
-    swapped ((index == j) || false) (plans.is_parity (writing size index block cells) j) false (not_false _ (wanted size index block cells j other inside))
+    swapped ((index == j) || false) (plans.is_parity (writing size index block cells) j) false (not-true _ (wanted size index block cells j other inside))
 
 -- a plan to modify wants what the write puts
 pub modify_wants : (size index : ℕ) (block : List ℕ) (cells : List Cell) (j : ℕ) → IsPut (length cells) index j → plans.wants plans.Plan.Modify (writing size index block cells) j ≡ true
@@ -125,6 +113,15 @@ owed_or_out cell put unwritten owed = by_standing cell.standing refl
     by_standing Target e = inl (rw (e, unwritten, owed) refl)
     by_standing Out e = inr e
 
+-- where not all pass, one fails
+some_false : (test : ℕ → Bool) (count : ℕ) → plans.each_below test count ≡ false → (i : ℕ) × (test i ≡ false)
+some_false test zero e = absurd cc
+some_false test (suc count) e = by_test (test count) refl e (λ f. some_false test count f)
+  where
+    by_test : (b : Bool) → test count ≡ b → (b && plans.each_below test count) ≡ false → (plans.each_below test count ≡ false → (i : ℕ) × (test i ≡ false)) → (i : ℕ) × (test i ≡ false)
+    by_test true is f later = later f
+    by_test false is f later = (count, is)
+
 out_only : (s : State) → standing_of s ≡ Out → s ≡ state.Out
 out_only state.InSync e = absurd cc
 out_only state.Out e = refl
@@ -133,14 +130,13 @@ out_only state.Out e = refl
 pub record Renews (p : Plan) (size index : ℕ) (block : List ℕ) (places : List Place) (blocks new : List (List ℕ)) (ks : List ℕ) : Type 0 where
   pub below : index + 2 < length places
   pub writes : IsWritePlan p
-  pub goes_on : plan_of p ≢ plans.Plan.Recover
   pub unwritten : (j : ℕ) → j < length places → (get_or places j no_place).write ≡ write.Unwritten
   pub settled : Each (λ position place. IsSettled place) places
+  pub unlent : Each (λ position place. is_lent place ≡ false) places
   pub read_done : plans.has_read_out (writing size index block (cells_of places blocks)) ≡ false
   pub enough : plans.is_enough (plan_of p) (writing size index block (cells_of places blocks)) ≡ true
   pub no_read : plans.next_read (plan_of p) (writing size index block (cells_of places blocks)) ≡ None
   pub owed : plans.each_below (λ position. not (plans.lacks_new (writing size index block (cells_of places blocks)) position)) (length (cells_of places blocks)) ≡ false
-  pub own : IsAmong index ks
   pub put : (j : ℕ) → IsAmong j ks → (j < length places) × IsPut (length places) index j
   pub complete : (j : ℕ) → j < length places → IsPut (length places) index j → (get_or places j no_place).state ≡ state.InSync → IsAmong j ks
   pub home : (j : ℕ) → IsAmong j ks → (get_or places j no_place).away ≡ false
@@ -260,21 +256,34 @@ module _ (p : Plan) (size index : ℕ) (block : List ℕ) (places : List Place) 
       let drops = drops_same (plan_of p) size index block ready.cells hold.cells j (ready_wide ∙ sym wide) in
       (λ i. (not (wants i) || known i) || (drops i && out i))
 
+  enough_same : plans.is_enough (plan_of p) ready ≡ plans.is_enough (plan_of p) hold
+  enough_same = by_plan p done_same
+    where
+      goes_on : (q : Plan) → plan_of q ≢ plans.Plan.Recover → ((j : ℕ) → is_done_with (plan_of q) ready j ≡ is_done_with (plan_of q) hold j) → plans.is_enough (plan_of q) ready ≡ plans.is_enough (plan_of q) hold
+      goes_on q other same = enough_each q ready other ∙ (λ i. plans.each_below (λ j. same j i) ((ready_wide ∙ sym wide) i)) ∙ sym (enough_each q hold other)
+
+      by_plan : (q : Plan) → ((j : ℕ) → is_done_with (plan_of q) ready j ≡ is_done_with (plan_of q) hold j) → plans.is_enough (plan_of q) ready ≡ plans.is_enough (plan_of q) hold
+      by_plan plan.One same = goes_on plan.One (λ e. cc) same
+      by_plan plan.Reconstruct same = goes_on plan.Reconstruct (λ e. cc) same
+      by_plan plan.Modify same = goes_on plan.Modify (λ e. cc) same
+      by_plan plan.Overwrite same = goes_on plan.Overwrite (λ e. cc) same
+      by_plan plan.Recover same =
+          let count = count_same_at (λ cell. is_known cell.reading) hold.cells ready.cells (ready_wide ∙ sym wide) (same_test (λ cell. is_known cell.reading) (λ cell b. known_same cell.reading)) in
+          (λ i. nat_le ((ready_wide ∙ sym wide) i - 2) (count i))
+
   ready_enough : plans.is_enough (plan_of p) ready ≡ true
-  ready_enough =
-      enough_each p ready renews.goes_on
-      ∙ (λ i. plans.each_below (λ j. done_same j i) ((ready_wide ∙ sym wide) i))
-      ∙ sym (enough_each p hold renews.goes_on)
-      ∙ renews.enough
+  ready_enough = enough_same ∙ renews.enough
+
+  -- some position lacks its new block
+  one_among : (j : ℕ) × IsAmong j ks
+  one_among =
+      let found = some_false (λ position. not (plans.lacks_new hold position)) (length hold.cells) renews.owed in
+      (found.0, complete found.0 (not-false (plans.lacks_new hold found.0) found.1))
 
   ready_computed : plans.has_computed ready ≡ true
   ready_computed =
-      let inside : index < length places = (renews.put index renews.own).0 in
-      any_true is_computed ready.cells index (omega (arith, inside, ready_wide)) (ap is_computed (ready_cell_among index inside renews.own))
-
-  bool_false : (b : Bool) → (b ≡ true → ⊥) → b ≡ false
-  bool_false true h = absurd (h refl)
-  bool_false false h = refl
+      let inside : one_among.0 < length places = (renews.put one_among.0 one_among.1).0 in
+      any_true is_computed ready.cells one_among.0 (omega (arith, inside, ready_wide)) (ap is_computed (ready_cell_among one_among.0 inside one_among.1))
 
   none_lacks : plans.each_below (λ position. not (plans.lacks_new ready position)) (length ready.cells) ≡ true
   none_lacks =
@@ -285,16 +294,16 @@ module _ (p : Plan) (size index : ℕ) (block : List ℕ) (places : List Place) 
         | inr none ↦
             ap (λ (cell : Cell). not (is_writable cell && plans.puts ready ready.kind j)) (ready_cell_beside j none)
             ∙ ap (λ (n : ℕ). not (is_writable (cell_at hold.cells j) && (plans.names ((index, block) ∷ []) j || nat_le (n - 2) j))) (ready_wide ∙ sym wide)
-            ∙ ap not (bool_false (plans.lacks_new hold j) (λ e. none (complete j e)))
+            ∙ ap not (false_from_ne_true (plans.lacks_new hold j) (λ e. none (complete j e)))
       ])
     where
       ready_lacks : (out put : Bool) → not ((not out && false) && put) ≡ true
       ready_lacks true put = refl
       ready_lacks false put = refl
 
-  pub then_writes : coming (record { hold = ready; plan = plan_of p }) ≡ plans.next_write ready
+  pub then_writes : plans.next (record { hold = ready; plan = plan_of p }) ≡ plans.next_write ready
   then_writes =
-      next_is (record { hold = ready; plan = plan_of p }) (follows p renews.goes_on) refl
+      next_is (record { hold = ready; plan = plan_of p }) refl
       (ap (λ (b : Bool). if b then None else option_map plans.Next.ReadAt (plans.first_from (plans.is_next_read (plan_of p) ready) 0 (length ready.cells))) ready_computed)
       ready_read_done ready_enough refl none_lacks
 
@@ -313,6 +322,15 @@ module _ (p : Plan) (size index : ℕ) (block : List ℕ) (places : List Place) 
       not_known read.Asked e = cc
       not_known read.Known e = cc
       not_known read.Replaced e = cc
+
+  -- a new block stands in the position's own buffer
+  pub ready_unlent : Each (λ position place. is_lent place ≡ false) (ready_at places ks)
+  ready_unlent j h =
+      let inside : j < length places = omega (arith, h, length-ready_at places ks) in
+      elim (is_among j ks) [
+        | inl among ↦ subst (λ (place : Place). is_lent place ≡ false) (sym (ready_among places ks j inside among)) (ap (λ (b : Bool). b && holds_block (replaced_read (get_or places j no_place).read)) (renews.home j among))
+        | inr none ↦ subst (λ (place : Place). is_lent place ≡ false) (sym (ready_beside places ks j none)) (renews.unlent j inside)
+      ]
 
   ready_renewed : (j : ℕ) → j < length places → IsPut (length places) index j → IsRenewed (get_or (ready_at places ks) j no_place)
   ready_renewed j inside put =
@@ -339,7 +357,7 @@ module _ (p : Plan) (size index : ℕ) (block : List ℕ) (places : List Place) 
       by_plan plan.Reconstruct writes = here
       by_plan plan.Modify writes = here
       by_plan plan.Overwrite writes = here
-      by_plan plan.Recover writes = tt
+      by_plan plan.Recover writes = here
 
 -- ---- a write whose new blocks are owed hasn't computed any
 
@@ -367,22 +385,22 @@ renewed_owes_none size index block places blocks renewed =
           (at_place is_writable writable-blind places blocks j place inside (any_default places j no_place place inside) ∙ unwritable place (renewed j inside put))
       | inr unput ↦
           ap (λ (b : Bool). not (is_writable (cell_at (cells_of places blocks) j) && b)) (puts_unput size index block (cells_of places blocks) j unput.0 (omega (arith, unput.1, length-cells_of places blocks)))
-          ∙ ap not (and_false (is_writable (cell_at (cells_of places blocks) j)))
+          ∙ ap not (and_right (is_writable (cell_at (cells_of places blocks) j)) false refl)
     ])
 
-pub owed_course : (p : Plan) (size index : ℕ) (block : List ℕ) (computed : Bool) (places : List Place) (blocks : List (List ℕ)) → plan_of p ≢ plans.Plan.Recover → 0 < length places →
+pub owed_course : (p : Plan) (size index : ℕ) (block : List ℕ) (computed : Bool) (places : List Place) (blocks : List (List ℕ)) → 0 < length places →
     Each (IsInCourse p (Some (task.Write index block)) (length places) computed) places →
     plans.each_below (λ position. not (plans.lacks_new (writing size index block (cells_of places blocks)) position)) (length (cells_of places blocks)) ≡ false →
     Each (IsInCourse p (Some (task.Write index block)) (length places) false) places
-owed_course plan.One size index block computed places blocks goes_on some course owed = absurd (course 0 some)
-owed_course plan.Recover size index block computed places blocks goes_on some course owed = absurd (goes_on refl)
-owed_course p size index block false places blocks goes_on some course owed = course
-owed_course plan.Reconstruct size index block true places blocks goes_on some course owed = absurd (let e = sym owed ∙ renewed_owes_none size index block places blocks course in cc)
-owed_course plan.Modify size index block true places blocks goes_on some course owed = absurd (let e = sym owed ∙ renewed_owes_none size index block places blocks course in cc)
-owed_course plan.Overwrite size index block true places blocks goes_on some course owed = absurd (let e = sym owed ∙ renewed_owes_none size index block places blocks course in cc)
+owed_course plan.One size index block computed places blocks some course owed = absurd (course 0 some)
+owed_course p size index block false places blocks some course owed = course
+owed_course plan.Reconstruct size index block true places blocks some course owed = absurd (let e = sym owed ∙ renewed_owes_none size index block places blocks course in cc)
+owed_course plan.Modify size index block true places blocks some course owed = absurd (let e = sym owed ∙ renewed_owes_none size index block places blocks course in cc)
+owed_course plan.Overwrite size index block true places blocks some course owed = absurd (let e = sym owed ∙ renewed_owes_none size index block places blocks course in cc)
+owed_course plan.Recover size index block true places blocks some course owed = absurd (let e = sym owed ∙ renewed_owes_none size index block places blocks course in cc)
 
 -- a hold that writes nothing owes no new block
 pub none_owed : (hold : Hold) → ((position : ℕ) → plans.puts hold hold.kind position ≡ false) → plans.each_below (λ position. not (plans.lacks_new hold position)) (length hold.cells) ≡ true
 none_owed hold puts =
     each_true (λ position. not (plans.lacks_new hold position)) (length hold.cells)
-    (λ j h. ap (λ (b : Bool). not (is_writable (cell_at hold.cells j) && b)) (puts j) ∙ ap not (and_false (is_writable (cell_at hold.cells j))))
+    (λ j h. ap (λ (b : Bool). not (is_writable (cell_at hold.cells j) && b)) (puts j) ∙ ap not (and_right (is_writable (cell_at hold.cells j)) false refl))

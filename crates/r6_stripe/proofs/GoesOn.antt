@@ -14,31 +14,10 @@ use Rattle.r6_stripe.specs.Plans.Plan.{One, Reconstruct, Modify, Overwrite, Reco
 use Rattle.r6_stripe.specs.PlanLaws.{in_sync_count, GoesOnLaw}
 use Rattle.r6_stripe.proofs.Blocks.{all_known_at}
 use Rattle.r6_stripe.proofs.Bound.{within}
+use Rattle.r6_stripe.proofs.Counts.{count_grows}
 use Rattle.r6_stripe.proofs.Course.{Suits, OnCourse, Became, cell_after, standing_after, width_after, kind_after, on_course_after, begun_on_course, begun_unwritten, write_plan_has}
 use Rattle.r6_stripe.proofs.Over.{each_below_at, first_none, neither_next, unmapped, open_guard}
 use Rattle.r6_stripe.proofs.Steps.{none_passes, not_false, comes, read_parts, in_sync_is}
-
-count_mono : (test : Cell → Bool) (xs ys : List Cell) → length ys ≡ length xs → ((j : ℕ) → test (cell_at xs j) ≡ true → test (cell_at ys j) ≡ true) → count_where test xs ≤ count_where test ys
-count_mono test [] ys e h = omega arith
-count_mono test (x ∷ xs) [] e h = absurd (omega arith)
-count_mono test (x ∷ xs) (y ∷ ys) e h = by_test (test x) (test y) (h 0) (count_mono test xs ys (omega arith) (λ j. h (suc j)))
-  where
-    by_test : (a b : Bool) → (a ≡ true → b ≡ true) → count_where test xs ≤ count_where test ys → (if a then 1 else 0) + count_where test xs ≤ (if b then 1 else 0) + count_where test ys
-    by_test true true h rest = omega arith
-    by_test true false h rest = absurd (let f = h refl in cc)
-    by_test false true h rest = omega arith
-    by_test false false h rest = omega arith
-
--- one test counts at most what another does, which passes wherever it does
-count_weaker : (test weaker : Cell → Bool) (cells : List Cell) → ((j : ℕ) → test (cell_at cells j) ≡ true → weaker (cell_at cells j) ≡ true) → count_where test cells ≤ count_where weaker cells
-count_weaker test weaker [] h = omega arith
-count_weaker test weaker (cell ∷ cells) h = by_test (test cell) (weaker cell) (h 0) (count_weaker test weaker cells (λ j. h (suc j)))
-  where
-    by_test : (a b : Bool) → (a ≡ true → b ≡ true) → count_where test cells ≤ count_where weaker cells → (if a then 1 else 0) + count_where test cells ≤ (if b then 1 else 0) + count_where weaker cells
-    by_test true true h rest = omega arith
-    by_test true false h rest = absurd (let f = h refl in cc)
-    by_test false true h rest = omega arith
-    by_test false false h rest = omega arith
 
 all_known_from : (cells : List Cell) → ((j : ℕ) → j < length cells → is_known (cell_at cells j).reading ≡ true) → all_known cells ≡ true
 all_known_from [] h = refl
@@ -96,7 +75,7 @@ module _ (hold later : Hold) (kinds : hold.kind ≡ later.kind) (widths : length
   enough_still Overwrite h = refl
   enough_still Recover h =
       le-leb (length later.cells - 2) (known_count later.cells)
-      (omega (arith, leb-true (length hold.cells - 2) (known_count hold.cells) h, count_mono (λ cell. is_known cell.reading) hold.cells later.cells widths more_known))
+      (omega (arith, leb-true (length hold.cells - 2) (known_count hold.cells) h, count_grows (λ cell. is_known cell.reading) (λ cell. is_known cell.reading) hold.cells later.cells widths more_known))
   enough_still All h = all_known_from later.cells (λ j below. more_known j (all_known_at hold.cells j h (omega arith)))
 
 -- what each plan wants and doesn't know is in sync
@@ -395,13 +374,13 @@ module _ (planned : Planned) (on : OnCourse planned) (going : Going planned) (fe
       by_lack : (b : Bool) → lacks Recover held ≡ b → is_enough Recover held ≡ true
       by_lack true e =
           le-leb (data_count held) (known_count held.cells)
-          (omega (arith, few, count_weaker (λ cell. is_in_sync cell.standing) (λ cell. is_known cell.reading) held.cells (λ j s. known_there Recover is e j (in_sync_is (cell_at held.cells j).standing s) refl)))
+          (omega (arith, few, count_grows (λ cell. is_in_sync cell.standing) (λ cell. is_known cell.reading) held.cells held.cells refl (λ j s. known_there Recover is e j (in_sync_is (cell_at held.cells j).standing s) refl)))
       by_lack false e =
           le-leb (data_count held) (known_count held.cells)
           (omega (
             arith,
             ltb-false (coming_count held.cells) (data_count held) e,
-            count_weaker (λ cell. is_known cell.reading || (is_asked cell.reading && not (is_out cell.standing))) (λ cell. is_known cell.reading) held.cells none_asked,
+            count_grows (λ cell. is_known cell.reading || (is_asked cell.reading && not (is_out cell.standing))) (λ cell. is_known cell.reading) held.cells held.cells refl none_asked,
           ))
   enough_known All is suits was =
       all_known_from held.cells (λ j below. known_or All is refl j refl (was j (uncut held.kind suits goes_on, below)))

@@ -1,65 +1,34 @@
 -- What comes next, from its parts.
-use Rattle.std.proofs.Common.{◌≡◌, ◌≢◌, Bool, true, false, ℕ, ◌+◌, ◌<◌, List, length, refl, sym, ◌∙◌, ap, arith, Some, None}
+use Rattle.std.proofs.Common.{◌≡◌, ◌≢◌, Bool, true, false, ℕ, ◌+◌, ◌<◌, ◌≤◌, List, [], length, get_or, refl, sym, ◌∙◌, ap, subst, arith, Some, None}
 use Rattle.std.specs.Prelude.{◌||◌, ◌&&◌, not, if◌then◌else◌, Option, option_map}
 use Rattle.std.proofs.lemmas.Bool.{eq-eqb}
 use Rattle.r6_stripe.specs.Holds.{Hold, Kind, Reading, Writing, cell_at, is_known}
 use Rattle.r6_stripe.specs.Plans as plans
 use Rattle.r6_stripe.specs.Plans.{Next, or_else, is_none}
-use Rattle.r6_stripe.specs.Places.{cells_of}
+use Rattle.r6_stripe.specs.Places.{cells_of, standing_of, reading_of}
 use Rattle.r6_stripe.specs.Sound.{Each, IsInCourse, IsTask}
-use Rattle.r6_stripe.specs.Steps.{coming, is_recover, is_idle}
+use Rattle.r6_stripe.specs.Steps.{is_idle}
 use Rattle.r6_stripe.specs.Views.{kind_of, plan_of}
 use Rattle.r6_stripe.specs.declared.command.Task.{Task}
 use Rattle.r6_stripe.specs.declared.command.Task.TheVariants as task
 use Rattle.r6_stripe.specs.declared.plan.Plan.{Plan}
 use Rattle.r6_stripe.specs.declared.plan.Plan.TheVariants as plan
+use Rattle.r6_stripe.specs.declared.place.State.{State}
+use Rattle.r6_stripe.specs.declared.place.State.TheVariants as state
 use Rattle.r6_stripe.specs.declared.place.Place.{Place}
-use Rattle.r6_stripe.proofs.Places.{length-cells_of}
+use Rattle.r6_stripe.proofs.Places.{length-cells_of, at_place, out-blind, known-blind}
 use Rattle.r6_stripe.proofs.Searches.{each_at, first_found}
 
--- what comes next, as a function of its parts
-next_of : (up out enough : Bool) → (reads restores computes writes : Option Next) → Option Next
-next_of up out enough reads restores computes writes =
-    if up then None else or_else reads (if out || not enough then None else or_else restores (or_else computes writes))
-
-pub next_is : (planned : plans.Planned) → is_recover planned.plan ≡ false → plans.gives_up planned.hold ≡ false → plans.next_read planned.plan planned.hold ≡ None → plans.has_read_out planned.hold ≡ false →
+pub next_is : (planned : plans.Planned) → plans.gives_up planned.hold ≡ false → plans.next_read planned.plan planned.hold ≡ None → plans.has_read_out planned.hold ≡ false →
     plans.is_enough planned.plan planned.hold ≡ true → plans.next_restore planned.hold planned.hold.kind ≡ None →
-    plans.each_below (λ position. not (plans.lacks_new planned.hold position)) (length planned.hold.cells) ≡ true → coming planned ≡ plans.next_write planned.hold
-next_is planned follows up reads out enough restores computed = rw (follows, up, reads, out, enough, restores, computed) refl
+    plans.each_below (λ position. not (plans.lacks_new planned.hold position)) (length planned.hold.cells) ≡ true → plans.next planned ≡ plans.next_write planned.hold
+next_is planned up reads out enough restores computed = rw (up, reads, out, enough, restores, computed) refl
 
 -- whether a hold is over, as a function of its parts
 abbrev pub over_of : (up out put enough computed : Bool) → (reads restores writes : Option Next) → Bool
 over_of up out put enough computed reads restores writes =
     not out && not put && is_none (if up then None else or_else reads (if out || not enough then None else or_else restores (or_else (if computed then None else Some Next.ComputeNew) writes)))
     && (up || enough)
-
-pub over_unread : (out put enough computed : Bool) (reads restores writes : Option Next) → not (out || not enough) ≡ false → over_of false out put enough computed reads restores writes ≡ false
-over_unread true put enough computed reads restores writes e = refl
-over_unread false true enough computed reads restores writes e = refl
-over_unread false false true computed reads restores writes e = absurd cc
-over_unread false false false computed (Some x) restores writes e = refl
-over_unread false false false computed None restores writes e = refl
-
-pub over_put : (out enough computed : Bool) (reads restores writes : Option Next) → over_of false out true enough computed reads restores writes ≡ false
-over_put true enough computed reads restores writes = refl
-over_put false enough computed reads restores writes = refl
-
-pub over_reads : (out put enough computed : Bool) (x : Next) (restores writes : Option Next) → over_of false out put enough computed (Some x) restores writes ≡ false
-over_reads true put enough computed x restores writes = refl
-over_reads false true enough computed x restores writes = refl
-over_reads false false enough computed x restores writes = refl
-
-pub over_lacks : (out put enough : Bool) (writes : Option Next) → not (out || not enough) ≡ true → over_of false out put enough false None None writes ≡ false
-over_lacks true put enough writes e = refl
-over_lacks false true enough writes e = refl
-over_lacks false false true writes e = refl
-over_lacks false false false writes e = absurd cc
-
-pub over_writes : (out put enough : Bool) (x : Next) → not (out || not enough) ≡ true → over_of false out put enough true None None (Some x) ≡ false
-over_writes true put enough x e = refl
-over_writes false true enough x e = refl
-over_writes false false true x e = refl
-over_writes false false false x e = absurd cc
 
 pub over_done : (out enough : Bool) → not (out || not enough) ≡ true → over_of false out false enough true None None None ≡ true
 over_done true enough e = absurd cc
@@ -71,33 +40,47 @@ read_parts true enough e = absurd cc
 read_parts false true e = (refl, refl)
 read_parts false false e = absurd cc
 
--- nothing is to be restored once enough is known
-pub restore_none : (p : Plan) (t : Option Task) (size : ℕ) (computed : Bool) (places : List Place) (blocks : List (List ℕ)) → 4 < length places + 1 → IsTask (length places) size t → plan_of p ≢ plans.Plan.Recover →
-    Each (IsInCourse p t (length places) computed) places → plans.is_enough (plan_of p) (record { size = size; kind = kind_of t; cells = cells_of places blocks; cut_short = false }) ≡ true →
-    plans.next_restore (record { size = size; kind = kind_of t; cells = cells_of places blocks; cut_short = false }) (kind_of t) ≡ None
-restore_none p None size computed places blocks count fits plan course enough = refl
-restore_none p (Some (task.Write index block)) size computed places blocks count fits plan course enough = refl
-restore_none plan.Recover (Some (task.Read index)) size computed places blocks count fits plan course enough = absurd (plan refl)
-restore_none plan.Reconstruct (Some (task.Read index)) size computed places blocks count fits plan course enough = absurd (course 0 (omega arith))
-restore_none plan.Modify (Some (task.Read index)) size computed places blocks count fits plan course enough = absurd (course 0 (omega arith))
-restore_none plan.Overwrite (Some (task.Read index)) size computed places blocks count fits plan course enough = absurd (course 0 (omega arith))
-restore_none plan.One (Some (task.Read index)) size computed places blocks count fits plan course enough =
-    let hold : Hold = record { size = size; kind = Kind.Read index; cells = cells_of places blocks; cut_short = false } in
-    let served : plans.is_served plans.Plan.One hold index ≡ true = each_at (plans.is_served plans.Plan.One hold) (length hold.cells) enough index (omega (arith, fits, length-cells_of places blocks)) in
-    let known : is_known (cell_at hold.cells index).reading ≡ true = sym (ap (λ (b : Bool). not b || is_known (cell_at hold.cells index).reading) (eq-eqb index index refl)) ∙ served in
-    ap (λ (b : Bool). if plans.is_out (cell_at hold.cells index).standing && not b then Some (Next.RestoreAt index) else None) known
-    ∙ ap (λ (b : Bool). if b then Some (Next.RestoreAt index) else None) (and_false (plans.is_out (cell_at hold.cells index).standing))
+-- what is restored next, by the place of the block that a read wants
+pub restore_at : (t : Option Task) (size index : ℕ) (places : List Place) (blocks : List (List ℕ)) (place : Place) → t ≡ Some (task.Read index) → IsTask (length places) size t → place ≡ get_or places index place →
+    plans.next_restore (record { size = size; kind = kind_of t; cells = cells_of places blocks; cut_short = false }) (kind_of t)
+    ≡ (if plans.is_in_sync (standing_of place.state) || is_known (reading_of place.read []) then None else Some (Next.RestoreAt index))
+restore_at t size index places blocks place is fits at =
+    subst (λ (u : Option Task). IsTask (length places) size u → plans.next_restore (record { size = size; kind = kind_of u; cells = cells_of places blocks; cut_short = false }) (kind_of u)
+    ≡ (if plans.is_in_sync (standing_of place.state) || is_known (reading_of place.read []) then None else Some (Next.RestoreAt index))) (sym is) reads fits
   where
-    and_false : (b : Bool) → (b && false) ≡ false
-    and_false true = refl
-    and_false false = refl
+    by_parts : (s : State) (known : Bool) → (if plans.is_out (standing_of s) && not known then Some (Next.RestoreAt index) else None) ≡ (if plans.is_in_sync (standing_of s) || known then None else Some (Next.RestoreAt index))
+    by_parts state.InSync known = refl
+    by_parts state.Out true = refl
+    by_parts state.Out false = refl
 
-pub follows : (p : Plan) → plan_of p ≢ plans.Plan.Recover → is_recover (plan_of p) ≡ false
-follows plan.One h = refl
-follows plan.Reconstruct h = refl
-follows plan.Modify h = refl
-follows plan.Overwrite h = refl
-follows plan.Recover h = absurd (h refl)
+    reads : index + 2 < length places →
+        (if plans.is_out (cell_at (cells_of places blocks) index).standing && not (is_known (cell_at (cells_of places blocks) index).reading) then Some (Next.RestoreAt index) else None)
+        ≡ (if plans.is_in_sync (standing_of place.state) || is_known (reading_of place.read []) then None else Some (Next.RestoreAt index))
+    reads inside =
+        let below : index < length places = omega arith in
+        rw (at_place (λ cell. plans.is_out cell.standing) out-blind places blocks index place below at, at_place (λ cell. is_known cell.reading) known-blind places blocks index place below at)
+        (by_parts place.state (is_known (reading_of place.read [])))
+
+-- only a recovery restores: each other plan knows what it reads
+pub recover_restores : (p : Plan) (t : Option Task) (size index : ℕ) (computed : Bool) (places : List Place) (blocks : List (List ℕ)) → 4 ≤ length places → IsTask (length places) size t →
+    Each (IsInCourse p t (length places) computed) places → plans.is_enough (plan_of p) (record { size = size; kind = kind_of t; cells = cells_of places blocks; cut_short = false }) ≡ true →
+    plans.next_restore (record { size = size; kind = kind_of t; cells = cells_of places blocks; cut_short = false }) (kind_of t) ≡ Some (Next.RestoreAt index) → plan_of p ≡ plans.Plan.Recover
+recover_restores plan.Recover t size index computed places blocks count fits course enough next = refl
+recover_restores p None size index computed places blocks count fits course enough next = absurd cc
+recover_restores p (Some (task.Write other block)) size index computed places blocks count fits course enough next = absurd cc
+recover_restores plan.Reconstruct (Some (task.Read other)) size index computed places blocks count fits course enough next = absurd (course 0 (omega arith))
+recover_restores plan.Modify (Some (task.Read other)) size index computed places blocks count fits course enough next = absurd (course 0 (omega arith))
+recover_restores plan.Overwrite (Some (task.Read other)) size index computed places blocks count fits course enough next = absurd (course 0 (omega arith))
+recover_restores plan.One (Some (task.Read other)) size index computed places blocks count fits course enough next =
+    let hold : Hold = record { size = size; kind = Kind.Read other; cells = cells_of places blocks; cut_short = false } in
+    let served : plans.is_served plans.Plan.One hold other ≡ true = each_at (plans.is_served plans.Plan.One hold) (length hold.cells) enough other (omega (arith, fits, length-cells_of places blocks)) in
+    let known : is_known (cell_at hold.cells other).reading ≡ true = sym (ap (λ (b : Bool). not b || is_known (cell_at hold.cells other).reading) (eq-eqb other other refl)) ∙ served in
+    absurd (unrestored (plans.is_out (cell_at hold.cells other).standing) (is_known (cell_at hold.cells other).reading) known next)
+  where
+    unrestored : (out known : Bool) → known ≡ true → (if out && not known then Some (Next.RestoreAt other) else None) ≡ Some (Next.RestoreAt index) → ⊥
+    unrestored out false k e = cc
+    unrestored true true k e = cc
+    unrestored false true k e = cc
 
 some_is : (o : Option ℕ) (position : ℕ) (make : ℕ → Next) → ((a b : ℕ) → make a ≡ make b → a ≡ b) → option_map make (Some position) ≡ option_map make o → o ≡ Some position
 some_is None position make same e = absurd cc

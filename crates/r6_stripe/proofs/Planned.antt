@@ -1,5 +1,5 @@
 -- The plan's functions, for the plans that the code follows.
-use Rattle.std.proofs.Common.{◌≡◌, ◌≢◌, Bool, true, false, ℕ, ◌<◌, length, refl, sym}
+use Rattle.std.proofs.Common.{◌≡◌, ◌≢◌, Bool, true, false, ℕ, length, refl, sym}
 use Rattle.std.specs.Prelude.{◌&&◌, ◌||◌, if◌then◌else◌}
 use Rattle.r6_stripe.specs.Holds.{Hold, cell_at}
 use Rattle.r6_stripe.specs.Plans as plans
@@ -9,10 +9,6 @@ use Rattle.r6_stripe.specs.Views.{plan_of}
 use Rattle.r6_stripe.specs.declared.plan.Plan.{Plan}
 use Rattle.r6_stripe.specs.declared.plan.Plan.TheVariants as plan
 use Rattle.r6_stripe.proofs.Searches.{each_true}
-
-and_true : (b : Bool) → (b && true) ≡ b
-and_true true = refl
-and_true false = refl
 
 or_false : (b : Bool) → (b || false) ≡ b
 or_false true = refl
@@ -51,10 +47,34 @@ after_loss_is plan.Recover hold position = by_test (plans.is_served plans.Plan.R
     by_test true = refl
     by_test false = refl
 
-pub next_read_parts : (p : Plan) (hold : Hold) (position : ℕ) → plan_of p ≢ plans.Plan.Recover →
-    plans.is_next_read (plan_of p) hold position ≡ (is_readable (cell_at hold.cells position) && plans.wants (plan_of p) hold position)
-next_read_parts plan.One hold position h = and_true (is_readable (cell_at hold.cells position) && plans.wants plans.Plan.One hold position)
-next_read_parts plan.Reconstruct hold position h = and_true (is_readable (cell_at hold.cells position) && plans.wants plans.Plan.Reconstruct hold position)
-next_read_parts plan.Modify hold position h = and_true (is_readable (cell_at hold.cells position) && plans.wants plans.Plan.Modify hold position)
-next_read_parts plan.Overwrite hold position h = and_true (is_readable (cell_at hold.cells position) && plans.wants plans.Plan.Overwrite hold position)
-next_read_parts plan.Recover hold position h = absurd (h refl)
+-- while another read is wanted, the next is of a position that may be read and that the plan wants
+pub next_read_parts : (p : plans.Plan) (hold : Hold) (position : ℕ) → plans.lacks p hold ≡ true →
+    plans.is_next_read p hold position ≡ (is_readable (cell_at hold.cells position) && plans.wants p hold position)
+next_read_parts p hold position lacks =
+    parts (plans.is_in_sync (cell_at hold.cells position).standing) (plans.is_unread (cell_at hold.cells position).reading) (plans.wants p hold position) (plans.lacks p hold) lacks
+  where
+    parts : (a b d f : Bool) → f ≡ true → (a && b && d && f) ≡ ((a && b) && d)
+    parts a b d false e = absurd cc
+    parts true true true true e = refl
+    parts true true false true e = refl
+    parts true false d true e = refl
+    parts false b d true e = refl
+
+-- and none is, once no other is wanted
+pub no_next_read : (p : plans.Plan) (hold : Hold) (position : ℕ) → plans.lacks p hold ≡ false → plans.is_next_read p hold position ≡ false
+no_next_read p hold position lacks =
+    none (plans.is_in_sync (cell_at hold.cells position).standing) (plans.is_unread (cell_at hold.cells position).reading) (plans.wants p hold position) (plans.lacks p hold) lacks
+  where
+    none : (a b d f : Bool) → f ≡ false → (a && b && d && f) ≡ false
+    none a b d true e = absurd cc
+    none true true true false e = refl
+    none true true false false e = refl
+    none true false d false e = refl
+    none false b d false e = refl
+
+pub recover_only : (p : Plan) → plan_of p ≡ plans.Plan.Recover → p ≡ plan.Recover
+recover_only plan.One e = absurd cc
+recover_only plan.Reconstruct e = absurd cc
+recover_only plan.Modify e = absurd cc
+recover_only plan.Overwrite e = absurd cc
+recover_only plan.Recover e = refl

@@ -3,19 +3,16 @@ use Rattle.std.proofs.Common.{◌≡◌, ◌≢◌, ◌⊎◌, inl, inr, Bool, t
 use Rattle.std.specs.Prelude.{◌&&◌, ◌||◌, not, Option, All}
 use Rattle.std.proofs.lemmas.List.{get_or-set_same, get_or-set_other, length-set, length-take-le, get_or-take, ext_get_or, get_or_append_left}
 use Rattle.std.proofs.lemmas.List.Elements.{All-take}
-use Rattle.std.proofs.lemmas.Bool.{cases_eq, leb-true}
+use Rattle.std.proofs.lemmas.Bool.{and_right, cases_eq, leb-true}
 use Rattle.r6_field.specs.Field.{power, generator}
 use Rattle.r6_kernels.specs.Blocks.{IsBlock, p_of, q_of, block_sum, scale}
 use Rattle.r6_kernels.proofs.BlockLaws.{length-block_sum, length-scale}
 use Rattle.r6_recover.specs.Rows.{row_of, data_of, block_at}
 use Rattle.r6_recover.proofs.RowLaws.{block_at-row_of-p, block_at-row_of-q}
-use Rattle.r6_stripe.specs.Holds.{Reading, Cell, Hold, cell_at, is_known, IsBefore, Carries}
-use Rattle.r6_stripe.specs.Holds.Kind.{Write}
-use Rattle.r6_stripe.specs.Holds.Reading.{Known}
+use Rattle.r6_stripe.specs.Holds.{Cell, Hold, cell_at, is_known, IsBefore}
 use Rattle.r6_stripe.specs.Plans as plans
-use Rattle.r6_stripe.specs.Places.{standing_of, reading_of, cell_of, cells_of, no_place, ready_at, renewed, modified}
-use Rattle.r6_stripe.specs.Sound.{Each, AreHome, IsInCourse, IsPut, IsSettled, IsSound, IsTask, IsWritePlan}
-use Rattle.r6_stripe.specs.Steps.{coming}
+use Rattle.r6_stripe.specs.Places.{standing_of, reading_of, cells_of, no_place, ready_at, renewed, modified, is_lent}
+use Rattle.r6_stripe.specs.Sound.{Each, AreHome, HasBuffer, IsInCourse, IsPut, IsSettled, IsSound, IsTask, IsWritePlan, MayLend}
 use Rattle.r6_stripe.specs.Views.{plan_of, kind_of, hold_of}
 use Rattle.r6_stripe.specs.declared.command.Task.{Task}
 use Rattle.r6_stripe.specs.declared.command.Task.TheVariants as task
@@ -27,20 +24,27 @@ use Rattle.r6_stripe.specs.declared.place.ReadState.{ReadState}
 use Rattle.r6_stripe.specs.declared.place.ReadState.TheVariants as read
 use Rattle.r6_stripe.specs.declared.place.WriteState.TheVariants as write
 use Rattle.r6_stripe.specs.declared.state.HoldState.{HoldState}
-use Rattle.r6_stripe.proofs.Changes.{p_of-changed, q_of-changed}
-use Rattle.r6_stripe.proofs.Computed.{writing, wanted, modify_wants, put_or_read, Renews, prepares, then_writes, ready_settled, ready_course, owed_course}
-use Rattle.r6_stripe.proofs.Nexts.{read_parts}
-use Rattle.r6_stripe.proofs.Places.{length-cells_of, cell_at-cells_of, at_place, any_default, known-blind}
+use Rattle.r6_stripe.proofs.Changes.{p_of-changed, q_of-changed, data_written, written_stays}
+use Rattle.r6_stripe.proofs.Computed.{writing, wanted, modify_wants, put_or_read, Renews, prepares, then_writes, ready_settled, ready_unlent, ready_course, owed_course}
+use Rattle.r6_stripe.proofs.Nexts.{not_recover, read_parts}
+use Rattle.r6_stripe.proofs.Places.{length-cells_of, cell_at-cells_of, at_place, any_default, known-blind, known_reading, known_only}
 use Rattle.r6_stripe.proofs.Planned.{is_done_with, enough_each}
 use Rattle.r6_stripe.proofs.Renewals.{IsAmong, is_among, length-ready_at, ready_beside, index_among, p_among, q_among, among_cases, modified_data, modified_p, modified_q, modified_beside}
 use Rattle.r6_stripe.proofs.Searches.{each_at}
-use Rattle.r6_stripe.proofs.States.{known_home, not_away}
+use Rattle.r6_stripe.proofs.States.{known_home, lends_none, not_away}
 
-known_only : (r : ReadState) → is_known (reading_of r []) ≡ true → r ≢ read.Replaced → r ≡ read.Known
-known_only read.Unread e h = absurd cc
-known_only read.Asked e h = absurd cc
-known_only read.Known e h = refl
-known_only read.Replaced e h = absurd (h refl)
+-- a buffer that no read and no write took, and for which no other stands in, is at home
+settled_home : (place : Place) → IsSettled place → is_lent place ≡ false → place.read ≢ read.Asked → place.write ≡ write.Unwritten → place.away ≡ false
+settled_home place settled unlent not_asked unwritten = by_away place.away refl
+  where
+    by_away : (b : Bool) → place.away ≡ b → b ≡ false
+    by_away false is = refl
+    by_away true is =
+        elim (settled.away is) [
+          | inl asked ↦ absurd (not_asked asked.0)
+          | inr (inl sent) ↦ absurd (let f = sym unwritten ∙ sent in cc)
+          | inr (inr restored) ↦ absurd (let f = sym is ∙ known_home place restored.1 unlent in cc)
+        ]
 
 -- what holds before the new blocks are computed
 pub record AwaitsNew (p : Plan) (size index : ℕ) (block : List ℕ) (places : List Place) (blocks : List (List ℕ)) : Type 0 where
@@ -48,8 +52,8 @@ pub record AwaitsNew (p : Plan) (size index : ℕ) (block : List ℕ) (places : 
   pub below : index + 2 < length places
   pub sized : length block ≡ size
   pub settled : Each (λ position place. IsSettled place) places
+  pub unlent : Each (λ position place. is_lent place ≡ false) places
   pub course : Each (IsInCourse p (Some (task.Write index block)) (length places) false) places
-  pub goes_on : plan_of p ≢ plans.Plan.Recover
   pub read_done : plans.has_read_out (writing size index block (cells_of places blocks)) ≡ false
   pub enough : plans.is_enough (plan_of p) (writing size index block (cells_of places blocks)) ≡ true
   pub no_read : plans.next_read (plan_of p) (writing size index block (cells_of places blocks)) ≡ None
@@ -117,7 +121,7 @@ module _ (size index : ℕ) (block : List ℕ) (places : List Place) (blocks : L
       ∙ (λ i. block_sum (old_q i) (scale (power generator index) (block_sum (old_data known i) block)))
 
 -- the parities stand last
-two_last : (count j : ℕ) → 2 ≤ count → j < count → count ≤ j + 2 → (j ≡ count - 2) ⊎ (j ≡ count - 2 + 1)
+pub two_last : (count j : ℕ) → 2 ≤ count → j < count → count ≤ j + 2 → (j ≡ count - 2) ⊎ (j ≡ count - 2 + 1)
 two_last count j two inside past = elim (cases_eq j (count - 2)) [ inl same ↦ inl same | inr other ↦ inr (omega (arith, inside, past, other)) ]
 
 module _ (p : Plan) (size index : ℕ) (block : List ℕ) (places : List Place) (blocks : List (List ℕ)) (awaits : AwaitsNew p size index block places blocks) where
@@ -130,12 +134,12 @@ module _ (p : Plan) (size index : ℕ) (block : List ℕ) (places : List Place) 
   abbrev m : ℕ
   m = length places - 2
 
-  served : (j : ℕ) → j < length places → is_done_with (plan_of p) hold j ≡ true
-  served j inside =
-      each_at (is_done_with (plan_of p) hold) (length hold.cells) (sym (enough_each p hold awaits.goes_on) ∙ awaits.enough) j (omega (arith, inside, length-cells_of places blocks))
+  served : plan_of p ≢ plans.Plan.Recover → (j : ℕ) → j < length places → is_done_with (plan_of p) hold j ≡ true
+  served goes_on j inside =
+      each_at (is_done_with (plan_of p) hold) (length hold.cells) (sym (enough_each p hold goes_on) ∙ awaits.enough) j (omega (arith, inside, length-cells_of places blocks))
 
   known_at : (j : ℕ) → j < length places → is_known (cell_at hold.cells j).reading ≡ is_known (reading_of (place_at j).read [])
-  known_at j inside = at_place (λ cell. is_known cell.reading) known-blind places blocks j (place_at j) inside (any_default places j no_place (place_at j) inside)
+  known_at j inside = known_reading places blocks j inside
 
   out_at : (j : ℕ) → j < length places → plans.is_out (cell_at hold.cells j).standing ≡ plans.is_out (standing_of (place_at j).state)
   out_at j inside = ap (λ (cell : Cell). plans.is_out cell.standing) (cell_at-cells_of places blocks j no_place inside)
@@ -149,7 +153,7 @@ module _ (p : Plan) (size index : ℕ) (block : List ℕ) (places : List Place) 
     read_known : (j : ℕ) → j ≢ index → j + 2 < length places → (place_at j).read ≡ read.Known
     read_known j other inside =
         let h : j < length places = omega arith in
-        let done = subst (λ (q : Plan). is_done_with (plan_of q) hold j ≡ true) is (served j h) in
+        let done = subst (λ (q : Plan). is_done_with (plan_of q) hold j ≡ true) is (served (not_recover p (λ e. let f = sym is ∙ e in cc)) j h) in
         let w = wanted size index block hold.cells j other (omega (arith, inside, length-cells_of places blocks)) in
         known_only (place_at j).read (sym (known_at j h) ∙ by_parts (is_known (cell_at hold.cells j).reading) (plans.wants plans.Plan.Reconstruct hold j) w done) (course j h).1
       where
@@ -161,45 +165,24 @@ module _ (p : Plan) (size index : ℕ) (block : List ℕ) (places : List Place) 
     -- every buffer is at home
     pub all_home : (j : ℕ) → j < length places → (place_at j).away ≡ false
     all_home j h =
-        not_away (place_at j) (awaits.settled j h)
+        settled_home (place_at j) (awaits.settled j h) (awaits.unlent j h)
         (λ e. elim (put_or_read (length places) index j) [
-          | inl put ↦ (course j h).2 put e.0
-          | inr unput ↦ (let f = sym (read_known j unput.0 unput.1) ∙ e.0 in cc)
+          | inl put ↦ (course j h).2 put e
+          | inr unput ↦ (let f = sym (read_known j unput.0 unput.1) ∙ e in cc)
         ])
-        (λ e. let f = sym (course j h).0 ∙ e in cc)
+        (course j h).0
 
   module _ (is : p ≡ plan.Reconstruct) (new : List (List ℕ)) (rows : new ≡ row_of size (take (length blocks - 2) (set blocks index block))) where
-    data_count : length (take (length blocks - 2) (set blocks index block)) ≡ m
-    data_count = length-take-le (length blocks - 2) (set blocks index block) (omega (arith, length-set blocks index block)) ∙ omega (arith, awaits.wide)
-
     -- the data after the write, of any row that agrees with what was read
     same_data : (row : List (List ℕ)) → IsBefore hold row → take (length blocks - 2) (set blocks index block) ≡ set (data_of row) index block
     same_data row before =
         let count : length row ≡ length places = before.wide ∙ length-cells_of places blocks in
-        let width : length (data_of row) ≡ m = length-take-le (length row - 2) row (omega arith) ∙ omega (arith, count) in
-        ext_get_or [] (take (length blocks - 2) (set blocks index block)) (set (data_of row) index block)
-        (data_count ∙ sym (length-set (data_of row) index block ∙ width))
-        (λ j h.
-        let inside : j < length places - 2 = omega (arith, h, data_count) in
-        get_or-take (length blocks - 2) (set blocks index block) j [] (omega (arith, inside, awaits.wide))
-        ∙ elim (cases_eq j index) [
-          | inl e ↦ subst (λ (k : ℕ). get_or (set blocks index block) k [] ≡ get_or (set (data_of row) index block) k []) (sym e)
-              (get_or-set_same blocks index block [] (omega (arith, awaits.below, awaits.wide)) ∙ sym (get_or-set_same (data_of row) index block [] (omega (arith, awaits.below, width))))
-          | inr other ↦
-              get_or-set_other blocks index j block [] other
-              ∙ sym (was size index block places blocks awaits.wide awaits.below awaits.sized row before j (omega (arith, inside)) (read_known is j other (omega (arith, inside))))
-              ∙ sym (get_or-take (length row - 2) row j [] (omega (arith, inside, count)))
-              ∙ sym (get_or-set_other (data_of row) index j block [] other)
-        ])
+        data_written blocks row index block (awaits.wide ∙ sym count) (omega (arith, awaits.below, count))
+        (λ j inside other. sym (was size index block places blocks awaits.wide awaits.below awaits.sized row before j (omega (arith, inside, count)) (read_known is j other (omega (arith, inside, count)))))
 
     -- the data that are not written stay where they are
     stays : (j : ℕ) → j + 2 < length places → j ≢ index → get_or new j [] ≡ get_or blocks j []
-    stays j inside other =
-        let d : List (List ℕ) = take (length blocks - 2) (set blocks index block) in
-        ap (λ (r : List (List ℕ)). get_or r j []) rows
-        ∙ get_or_append_left d (p_of size d ∷ q_of size d ∷ []) [] j (omega (arith, inside, data_count))
-        ∙ get_or-take (length blocks - 2) (set blocks index block) j [] (omega (arith, inside, awaits.wide))
-        ∙ get_or-set_other blocks index j block [] other
+    stays j inside other = ap (λ (r : List (List ℕ)). get_or r j []) rows ∙ written_stays size blocks index block j (omega (arith, inside, awaits.wide)) other
 
     all_put : (j : ℕ) → j < length places → IsPut (length places) index j → IsAmong j (renewed (length places) index true true)
     all_put j inside (inl same) = inr (inr (inl (sym same)))
@@ -215,14 +198,13 @@ module _ (p : Plan) (size index : ℕ) (block : List ℕ) (places : List Place) 
     reconstructs = record {
       below = awaits.below;
       writes = subst IsWritePlan (sym is) tt;
-      goes_on = awaits.goes_on;
       unwritten = λ j h. (course is j h).0;
       settled = awaits.settled;
+      unlent = awaits.unlent;
       read_done = awaits.read_done;
       enough = awaits.enough;
       no_read = awaits.no_read;
       owed = awaits.owed;
-      own = index_among (length places) index true true;
       put = only_put;
       complete = λ j inside put in_sync. all_put j inside put;
       home = λ j among. all_home is j (only_put j among).0;
@@ -246,21 +228,17 @@ module _ (p : Plan) (size index : ℕ) (block : List ℕ) (places : List Place) 
     by_parts true false false w d e = absurd cc
     by_parts false known drops w d e = absurd cc
 
-    and_out : (b : Bool) → (b && false) ≡ false
-    and_out true = refl
-    and_out false = refl
-
     to_modify : p ≡ plan.Modify → IsModified p index places p_known q_known
     to_modify is =
         let course = subst (λ (q : Plan). Each (IsInCourse q (Some (task.Write index block)) (length places) false) places) is awaits.course in
         let wanted_at : (j : ℕ) → IsPut (length places) index j → plans.wants plans.Plan.Modify hold j ≡ true = λ j put.
         modify_wants size index block hold.cells j (subst (λ (n : ℕ). IsPut n index j) (sym (length-cells_of places blocks)) put) in
-        let done : (j : ℕ) → j < length places → is_done_with plans.Plan.Modify hold j ≡ true = λ j h. subst (λ (q : Plan). is_done_with (plan_of q) hold j ≡ true) is (served j h) in
+        let done : (j : ℕ) → j < length places → is_done_with plans.Plan.Modify hold j ≡ true = λ j h. subst (λ (q : Plan). is_done_with (plan_of q) hold j ≡ true) is (served (not_recover p (λ e. let f = sym is ∙ e in cc)) j h) in
         let read_at : (j : ℕ) → j < length places → is_known (reading_of (place_at j).read []) ≡ true → (place_at j).read ≡ read.Known = λ j h e. known_only (place_at j).read e (course j h).1 in
         let in_sync_known : (j : ℕ) → j < length places → IsPut (length places) index j → (place_at j).state ≡ state.InSync → is_known (reading_of (place_at j).read []) ≡ true = λ j h put in_sync.
         sym (known_at j h)
         ∙ by_parts (plans.wants plans.Plan.Modify hold j) (is_known (cell_at hold.cells j).reading) (plans.is_parity hold j && plans.is_out (cell_at hold.cells j).standing) (wanted_at j put)
-        (ap (λ (b : Bool). plans.is_parity hold j && b) (out_at j h ∙ ap (λ s. plans.is_out (standing_of s)) in_sync) ∙ and_out (plans.is_parity hold j)) (done j h) in
+        (ap (λ (b : Bool). plans.is_parity hold j && b) (out_at j h ∙ ap (λ s. plans.is_out (standing_of s)) in_sync) ∙ and_right (plans.is_parity hold j) false refl) (done j h) in
         let own : (place_at index).read ≡ read.Known =
         read_at index (omega (arith, awaits.below))
         (sym (known_at index (omega (arith, awaits.below)))
@@ -269,7 +247,7 @@ module _ (p : Plan) (size index : ℕ) (block : List ℕ) (places : List Place) 
         record {
           writes = subst IsWritePlan (sym is) tt;
           unwritten = λ j h. (course j h).0;
-          own_home = known_home (place_at index) (awaits.settled index (omega (arith, awaits.below))) own;
+          own_home = known_home (place_at index) own (awaits.unlent index (omega (arith, awaits.below)));
           own = λ e. own;
           p_read = λ e. read_at m (omega (arith, awaits.below)) (sym p_is ∙ e);
           q_read = λ e. read_at (m + 1) (omega (arith, awaits.below)) (sym q_is ∙ e);
@@ -288,7 +266,7 @@ module _ (p : Plan) (size index : ℕ) (block : List ℕ) (places : List Place) 
         record {
           writes = subst IsWritePlan (sym is) tt;
           unwritten = λ j h. (course j h).0;
-          own_home = not_away (place_at index) (awaits.settled index inside) (λ e. let f = sym (course index inside).1 ∙ e.0 in cc) (λ e. let f = sym (course index inside).0 ∙ e in cc);
+          own_home = not_away (place_at index) (awaits.settled index inside) (λ e. let f = sym (course index inside).1 ∙ e.0 in cc) (λ e. let f = sym (course index inside).0 ∙ e in cc) (λ e. let f = sym (course index inside).1 ∙ e.1 in cc);
           own = λ e. absurd (elim e [ inl on ↦ (let f = sym p_unknown ∙ on in cc) | inr on ↦ (let f = sym q_unknown ∙ on in cc) ]);
           p_read = λ on. absurd (let f = sym p_unknown ∙ on in cc);
           q_read = λ on. absurd (let f = sym q_unknown ∙ on in cc);
@@ -296,22 +274,22 @@ module _ (p : Plan) (size index : ℕ) (block : List ℕ) (places : List Place) 
           q_in_sync = λ e. absurd (let f = sym e ∙ (course (m + 1) q_inside).2 (omega arith) in cc);
         }
 
-    pub otherwise_modifies : (p ≡ plan.Reconstruct → ⊥) → IsModified p index places p_known q_known
-    otherwise_modifies other = by_plan p refl
+    pub otherwise_modifies : plan_of p ≢ plans.Plan.Recover → (p ≡ plan.Reconstruct → ⊥) → IsModified p index places p_known q_known
+    otherwise_modifies goes_on other = by_plan p refl
       where
         by_plan : (q : Plan) → p ≡ q → IsModified p index places p_known q_known
         by_plan plan.One e = absurd (subst (λ (q : Plan). Each (IsInCourse q (Some (task.Write index block)) (length places) false) places) e awaits.course 0 (omega (arith, awaits.below)))
         by_plan plan.Reconstruct e = absurd (other e)
         by_plan plan.Modify e = to_modify e
         by_plan plan.Overwrite e = to_overwrite e
-        by_plan plan.Recover e = absurd (awaits.goes_on (ap plan_of e))
+        by_plan plan.Recover e = absurd (goes_on (ap plan_of e))
 
   module _ (p_known q_known : Bool) (modifies : IsModified p index places p_known q_known) where
     pub p_home : p_known ≡ true → (place_at m).away ≡ false
-    p_home on = known_home (place_at m) (awaits.settled m (omega (arith, awaits.below))) (modifies.p_read on)
+    p_home on = known_home (place_at m) (modifies.p_read on) (awaits.unlent m (omega (arith, awaits.below)))
 
     pub q_home : q_known ≡ true → (place_at (m + 1)).away ≡ false
-    q_home on = known_home (place_at (m + 1)) (awaits.settled (m + 1) (omega (arith, awaits.below))) (modifies.q_read on)
+    q_home on = known_home (place_at (m + 1)) (modifies.q_read on) (awaits.unlent (m + 1) (omega (arith, awaits.below)))
 
   module _ (p_known q_known : Bool) (modifies : IsModified p index places p_known q_known) (new : List (List ℕ)) (blocks_are : new ≡ modified blocks index block p_known q_known) where
     below_blocks : index + 2 < length blocks
@@ -382,14 +360,13 @@ module _ (p : Plan) (size index : ℕ) (block : List ℕ) (places : List Place) 
     modified_renews = record {
       below = awaits.below;
       writes = modifies.writes;
-      goes_on = awaits.goes_on;
       unwritten = modifies.unwritten;
       settled = awaits.settled;
+      unlent = awaits.unlent;
       read_done = awaits.read_done;
       enough = awaits.enough;
       no_read = awaits.no_read;
       owed = awaits.owed;
-      own = index_among (length places) index p_known q_known;
       put = put_at;
       complete = complete_at;
       home = home_at;
@@ -407,17 +384,17 @@ module _ (p : Plan) (size index : ℕ) (block : List ℕ) (places : List Place) 
             | inr parity ↦ elim parity [
               | inl e ↦
                   ap length (ap (λ (k : ℕ). get_or new k []) (sym e.1) ∙ new_p e.0)
-                  ∙ length-block_sum size (get_or blocks m []) change (lengths m (omega (arith, awaits.below)) (p_home p_known q_known modifies e.0)) changed
+                  ∙ length-block_sum size (get_or blocks m []) change (lengths m (omega (arith, awaits.below)) (inl (p_home p_known q_known modifies e.0))) changed
               | inr e ↦
                   ap length (ap (λ (k : ℕ). get_or new k []) (sym e.1) ∙ new_q e.0)
-                  ∙ length-block_sum size (get_or blocks (m + 1) []) (scale (power generator index) change) (lengths (m + 1) (omega (arith, awaits.below)) (q_home p_known q_known modifies e.0)) (length-scale (power generator index) change ∙ changed)
+                  ∙ length-block_sum size (get_or blocks (m + 1) []) (scale (power generator index) change) (lengths (m + 1) (omega (arith, awaits.below)) (inl (q_home p_known q_known modifies e.0))) (length-scale (power generator index) change ∙ changed)
             ]
           ]
-          | inr none ↦ ap length (kept_at j none) ∙ lengths j inside (ap (λ (place : Place). place.away) (sym (ready_beside places (renewed (length places) index p_known q_known) j none)) ∙ away)
+          | inr none ↦ ap length (kept_at j none) ∙ lengths j inside (subst HasBuffer (ready_beside places (renewed (length places) index p_known q_known) j none) away)
         ]
       where
         changed : length change ≡ size
-        changed = length-block_sum size (get_or blocks index []) block (lengths index (omega (arith, awaits.below)) modifies.own_home) awaits.sized
+        changed = length-block_sum size (get_or blocks index []) block (lengths index (omega (arith, awaits.below)) (inl modifies.own_home)) awaits.sized
 
 -- ---- for the plan and task of any hold
 
@@ -430,17 +407,17 @@ pub record Owes (p : Plan) (t : Option Task) (size : ℕ) (places : List Place) 
   pub some : 0 < length places
   pub fits : IsTask (length places) size t
   pub settled : Each (λ position place. IsSettled place) places
+  pub lends : Each (λ position place. is_lent place ≡ true → MayLend t position) places
   pub computed : Bool
   pub course : Each (IsInCourse p t (length places) computed) places
-  pub goes_on : plan_of p ≢ plans.Plan.Recover
   pub read_done : plans.has_read_out (planned p t size (cells_of places blocks)).hold ≡ false
   pub enough : plans.is_enough (plan_of p) (planned p t size (cells_of places blocks)).hold ≡ true
   pub no_read : plans.next_read (plan_of p) (planned p t size (cells_of places blocks)).hold ≡ None
   pub owed : plans.each_below (λ position. not (plans.lacks_new (planned p t size (cells_of places blocks)).hold position)) (length (cells_of places blocks)) ≡ false
 
-pub owes_of : (s : HoldState) → IsSound s → plan_of s.plan ≢ plans.Plan.Recover → not (plans.has_read_out (hold_of s) || not (plans.is_enough (plan_of s.plan) (hold_of s))) ≡ true → plans.next_read (plan_of s.plan) (hold_of s) ≡ None →
+pub owes_of : (s : HoldState) → IsSound s → not (plans.has_read_out (hold_of s) || not (plans.is_enough (plan_of s.plan) (hold_of s))) ≡ true → plans.next_read (plan_of s.plan) (hold_of s) ≡ None →
     plans.each_below (λ position. not (plans.lacks_new (hold_of s) position)) (length (hold_of s).cells) ≡ false → Owes s.plan s.task s.len s.places.items s.blocks.items
-owes_of s sound goes_on read_all no_read owed =
+owes_of s sound read_all no_read owed =
     let parts = read_parts (plans.has_read_out (hold_of s)) (plans.is_enough (plan_of s.plan) (hold_of s)) read_all in
     record {
       wide = sound.wide;
@@ -449,7 +426,7 @@ owes_of s sound goes_on read_all no_read owed =
       settled = sound.settled;
       computed = sound.computed;
       course = sound.course;
-      goes_on = goes_on;
+      lends = sound.lends;
       read_done = parts.0;
       enough = parts.1;
       no_read = no_read;
@@ -466,8 +443,8 @@ awaits_new p t size index block places blocks is owes = here (subst (λ (u : Opt
       below = owes.fits.0;
       sized = owes.fits.1;
       settled = owes.settled;
-      course = owed_course p size index block owes.computed places blocks owes.goes_on owes.some owes.course owes.owed;
-      goes_on = owes.goes_on;
+      course = owed_course p size index block owes.computed places blocks owes.some owes.course owes.owed;
+      unlent = lends_none (Some (task.Write index block)) index block places refl owes.lends;
       read_done = owes.read_done;
       enough = owes.enough;
       no_read = owes.no_read;
@@ -477,8 +454,9 @@ awaits_new p t size index block places blocks is owes = here (subst (λ (u : Opt
 -- the new blocks were computed by the plan, and the writes come next
 pub record IsPrepared (p : Plan) (t : Option Task) (size : ℕ) (places : List Place) (blocks : List (List ℕ)) (later : List Place) (new : List (List ℕ)) : Type 0 where
   pub prepares : plans.Prepares (planned p t size (cells_of places blocks)) (planned p t size (cells_of later new))
-  pub then_writes : coming (planned p t size (cells_of later new)) ≡ plans.next_write (planned p t size (cells_of later new)).hold
+  pub then_writes : plans.next (planned p t size (cells_of later new)) ≡ plans.next_write (planned p t size (cells_of later new)).hold
   pub settled : Each (λ position place. IsSettled place) later
+  pub unlent : Each (λ position place. is_lent place ≡ false) later
   pub course : Each (IsInCourse p t (length later) true) later
 
 pub prepared : (p : Plan) (t : Option Task) (size index : ℕ) (block : List ℕ) (places : List Place) (blocks new : List (List ℕ)) (ks : List ℕ) (later : List Place) → t ≡ Some (task.Write index block) → later ≡ ready_at places ks →
@@ -490,5 +468,6 @@ prepared p t size index block places blocks new ks later is later_is renews =
       prepares = prepares p size index block places blocks new ks renews;
       then_writes = then_writes p size index block places blocks new ks renews;
       settled = ready_settled p size index block places blocks new ks renews;
+      unlent = ready_unlent p size index block places blocks new ks renews;
       course = ready_course p size index block places blocks new ks renews;
     }))

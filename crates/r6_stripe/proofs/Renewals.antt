@@ -1,12 +1,12 @@
 -- What stands at each position when some positions get new blocks.
-use Rattle.std.proofs.Common.{◌≡◌, ◌≢◌, ◌⊎◌, inl, inr, Bool, true, false, ℕ, zero, suc, ◌+◌, ◌-◌, ◌<◌, List, [], ◌∷◌, length, get_or, set, refl, sym, ◌∙◌, ap, subst, arith}
+use Rattle.std.proofs.Common.{◌≡◌, ◌≢◌, ◌⊎◌, inl, inr, Bool, true, false, ℕ, zero, suc, ◌+◌, ◌-◌, ◌<◌, List, [], ◌∷◌, length, get_or, refl, sym, ◌∙◌, ap, subst, arith}
 use Rattle.std.proofs.lemmas.List.{get_or-set_same, get_or-set_other, length-set, ext_get_or}
 use Rattle.std.proofs.lemmas.Bool.{cases_eq}
 use Rattle.r6_kernels.specs.Blocks.{block_sum, scale}
 use Rattle.r6_field.specs.Field.{power, generator}
 use Rattle.r6_stripe.specs.Holds.{Reading, Cell, cell_at, no_cell, made_ready, replaced, with_new, IsIndexOf}
 use Rattle.r6_stripe.specs.Holds.Writing.{Ready}
-use Rattle.r6_stripe.specs.Places.{reading_of, cell_of, cells_of, no_place, made_ready_place, replaced_read, with_ready, ready_at, added_if, renewed, set_if, modified, away_of}
+use Rattle.r6_stripe.specs.Places.{reading_of, cell_of, cells_of, no_place, made_ready_place, replaced_read, with_ready, ready_at, renewed, set_if, modified, away_of}
 use Rattle.r6_stripe.specs.declared.place.Place.{Place}
 use Rattle.r6_stripe.specs.declared.place.ReadState.{ReadState}
 use Rattle.r6_stripe.specs.declared.place.ReadState.TheVariants as read

@@ -6,6 +6,7 @@ pub mod Holds
 pub mod Places
 pub mod PlanLaws
 pub mod Plans
+pub mod Recovery
 pub mod Refusals
 pub mod RowWorld
 pub mod Seen

@@ -1,6 +1,6 @@
 -- What is true of the fields of every hold.
 use Rattle.std.specs.Prelude.{◌≡◌, ◌≢◌, ◌⊎◌, ℕ, ◌+◌, ◌<◌, ◌≤◌, ⊤, Bool, true, false, List, [], length, slice_index_or, Option, Some, None}
-use Rattle.r6_stripe.specs.Places.{no_place}
+use Rattle.r6_stripe.specs.Places.{no_place, is_lent}
 use Rattle.r6_stripe.specs.declared.command.Task.{Task}
 use Rattle.r6_stripe.specs.declared.command.Task.TheVariants as task
 use Rattle.r6_stripe.specs.declared.place.State.TheVariants as state
@@ -17,9 +17,13 @@ IsTask count size None = ⊤
 IsTask count size (Some (task.Read index)) = index + 2 < count
 IsTask count size (Some (task.Write index block)) = (index + 2 < count) × (length block ≡ size)
 
--- a buffer that is away left with the position's last command; and it holds one block at most
+-- the block of a position that is out was restored, and no new one was computed
+abbrev pub IsRestoredPlace : Place → Type 0
+IsRestoredPlace place = (place.state ≡ state.Out) × (place.read ≡ read.Known) × (place.write ≡ write.Unwritten)
+
+-- a buffer that is away left with the position's last command, and another may stand in for it; and it holds one block at most
 pub record IsSettled (place : Place) : Type 0 where
-  pub away : place.away ≡ true → ((place.read ≡ read.Asked) × (place.write ≡ write.Unwritten)) ⊎ (place.write ≡ write.Sent)
+  pub away : place.away ≡ true → ((place.read ≡ read.Asked) × (place.write ≡ write.Unwritten)) ⊎ (place.write ≡ write.Sent) ⊎ IsRestoredPlace place
   pub one_block : place.write ≢ write.Unwritten → place.read ≢ read.Known
 
 -- a position that a write of the index changes
@@ -41,7 +45,10 @@ IsInCourse plan.Overwrite (Some (task.Write index block)) count false position p
 IsInCourse plan.Reconstruct (Some (task.Write index block)) count true position place = IsPut count index position → IsRenewed place
 IsInCourse plan.Modify (Some (task.Write index block)) count true position place = IsPut count index position → IsRenewed place
 IsInCourse plan.Overwrite (Some (task.Write index block)) count true position place = IsPut count index position → IsRenewed place
-IsInCourse plan.Recover t count computed position place = ⊤
+IsInCourse plan.Recover (Some (task.Read index)) count computed position place =
+    (place.write ≡ write.Unwritten) × (place.read ≢ read.Replaced) × (position ≡ index → place.state ≡ state.Out)
+IsInCourse plan.Recover (Some (task.Write index block)) count false position place = (place.write ≡ write.Unwritten) × (place.read ≢ read.Replaced)
+IsInCourse plan.Recover (Some (task.Write index block)) count true position place = IsPut count index position → IsRenewed place
 IsInCourse p None count computed position place = ⊤
 -- no plan but to recover serves both reads and writes
 IsInCourse _ _ count computed position place = ⊥
@@ -49,22 +56,33 @@ IsInCourse _ _ count computed position place = ⊥
 abbrev pub Each : (ℕ → Place → Type 0) → List Place → Type 0
 Each holds places = (position : ℕ) → position < length places → holds position (slice_index_or places position no_place)
 
--- the buffer of each position has the length, unless it is away
+-- the buffer of the position is at home, or another stands in for it
+abbrev pub HasBuffer : Place → Type 0
+HasBuffer place = (place.away ≡ false) ⊎ (is_lent place ≡ true)
+
+-- each buffer that is there has the length
 abbrev pub AreHome : ℕ → List Place → List (List ℕ) → Type 0
 AreHome size places blocks =
-    (position : ℕ) → position < length places → (slice_index_or places position no_place).away ≡ false →
+    (position : ℕ) → position < length places → HasBuffer (slice_index_or places position no_place) →
     length (slice_index_or blocks position []) ≡ size
 
--- 4 to 32 positions, a buffer for each that is not away, and two more
+-- a buffer is lent to the block that a read wants, and to no other
+abbrev pub MayLend : Option Task → ℕ → Type 0
+MayLend None position = ⊤
+MayLend (Some (task.Read index)) position = position ≡ index
+MayLend (Some (task.Write index block)) position = ⊥
+
+-- 4 to 32 positions, a buffer for each that is not away, and two more, of which one may be lent
 pub record IsSound (state : HoldState) : Type 0 where
   pub four_or_more : 4 ≤ length state.places.items
   pub at_most : length state.places.items ≤ 32
   pub wide : length state.blocks.items ≡ length state.places.items
-  pub sum : length state.sum ≡ state.len
+  pub sum : Each (λ position place. is_lent place ≡ false) state.places.items → length state.sum ≡ state.len
   pub weighted : length state.weighted ≡ state.len
   pub fits : IsTask (length state.places.items) state.len state.task
   pub at_home : AreHome state.len state.places.items state.blocks.items
   pub settled : Each (λ position place. IsSettled place) state.places.items
+  pub lends : Each (λ position place. is_lent place ≡ true → MayLend state.task position) state.places.items
   pub computed : Bool
   pub course : Each (IsInCourse state.plan state.task (length state.places.items) computed) state.places.items
 

@@ -84,14 +84,6 @@ closed held =
 
 -- ---- what comes next
 
-abbrev pub is_recover : Plan → Bool
-is_recover Plan.One = false
-is_recover Plan.Reconstruct = false
-is_recover Plan.Modify = false
-is_recover Plan.Overwrite = false
-is_recover Plan.Recover = true
-is_recover Plan.All = false
-
 -- whether the plan goes on without the position, if it is lost unread
 abbrev pub can_drop : Plan → Hold → ℕ → Bool
 can_drop Plan.One hold position = false
@@ -101,17 +93,13 @@ can_drop Plan.Overwrite hold position = false
 can_drop Plan.Recover hold position = false
 can_drop Plan.All hold position = false
 
--- what the hold does next; nothing with the plan to recover, which no code follows yet
-abbrev pub coming : Planned → Option Next
-coming planned = if is_recover planned.plan then None else next planned
-
 -- what `next_command` answers and leaves: the command that comes next by the plan, and none only where the plan has none
 abbrev pub PutsOut : Held → Option RowCommand → Held → Type 0
-PutsOut old None new = Prepares old.planned new.planned × (coming new.planned ≡ None) × (new.away ≡ old.away)
+PutsOut old None new = Prepares old.planned new.planned × (next new.planned ≡ None) × (new.away ≡ old.away)
 PutsOut old (Some (command.Read position buffer)) new =
-    (coming old.planned ≡ Some (Next.ReadAt position)) × (new ≡ asked old position) × (length buffer ≡ old.planned.hold.size)
+    (next old.planned ≡ Some (Next.ReadAt position)) × (new ≡ asked old position) × (length buffer ≡ old.planned.hold.size)
 PutsOut old (Some (command.Write position buffer)) new =
-    (ready : Planned) × Prepares old.planned ready × (coming ready ≡ Some (Next.WriteAt position))
+    (ready : Planned) × Prepares old.planned ready × (next ready ≡ Some (Next.WriteAt position))
     × IsReady (cell_at ready.hold.cells position) buffer × (new ≡ sent (record old { planned = ready }) position buffer)
     × (length buffer ≡ old.planned.hold.size)
 
@@ -123,6 +111,6 @@ is_idle (Rebuild target) = false
 is_idle Check = false
 is_idle Repair = false
 
--- the hold is over and its task wasn't taken back; with the plan to recover it never is yet
+-- the hold is over and its task wasn't taken back
 abbrev pub has_outcome : Planned → Bool
-has_outcome planned = not (is_idle planned.hold.kind) && not (is_recover planned.plan) && is_over planned
+has_outcome planned = not (is_idle planned.hold.kind) && is_over planned

@@ -5,7 +5,6 @@ ghost use Rattle.r6_recover.specs.Rows.{row_of, block_at};
 ghost use Rattle.r6_stripe.specs.Places.{with_ready, ready_at, renewed, modified, away_of};
 ghost use Rattle.r6_stripe.specs.Plans as plans;
 ghost use Rattle.r6_stripe.specs.Sound.{IsSound};
-ghost use Rattle.r6_stripe.specs.Steps.{coming};
 ghost use Rattle.r6_stripe.specs.Views.{hold_of, plan_of, planned_of};
 
 use crate::command::Task;
@@ -17,23 +16,31 @@ use r6_kernels::{Buffer, scale_add, xor_into};
 use r6_recover::write_parity;
 
 impl HoldState {
-    /// Computes the new blocks, if one is owed that isn't there. All reads have been answered, and enough is known.
+    /// Restores the block that a read wants, or computes the new blocks of a write, if one is owed that isn't there. All reads
+    /// have been answered, and enough is known.
     pub(crate) fn prepare(&mut self)
         requires sound { IsSound self.old }
-        requires plan { plan_of self.old.plan ≡ plans.Plan.Recover → ⊥ }
         requires goes_on { plans.gives_up (hold_of self.old) ≡ false }
         requires read { not (plans.has_read_out (hold_of self.old) || not (plans.is_enough (plan_of self.old.plan) (hold_of self.old))) ≡ true }
         requires no_read { plans.next_read (plan_of self.old.plan) (hold_of self.old) ≡ None }
         ensures sound { IsSound self.new }
         ensures prepares { plans.Prepares (planned_of self.old) (planned_of self.new) }
-        ensures then_writes { coming (planned_of self.new) ≡ plans.next_write (hold_of self.new) }
+        ensures then_writes { plans.next (planned_of self.new) ≡ plans.next_write (hold_of self.new) }
         ensures away { away_of self.new.places.items ≡ away_of self.old.places.items }
         ensures same { (length self.new.places.items ≡ length self.old.places.items) × (self.new.len ≡ self.old.len) }
     {
+        if let Some(index) = self.next_restore() {
+            self.restore(index);
+            return;
+        }
         if self.is_computed() {
             return;
         }
-        self.compute();
+        if let Plan::Recover = self.plan {
+            self.recover();
+        } else {
+            self.compute();
+        }
     }
 
     /// Computes the new blocks: each takes the place of the one that was read.
@@ -45,7 +52,7 @@ impl HoldState {
         requires owed { plans.each_below (λ position. not (plans.lacks_new (hold_of self.old) position)) (length (hold_of self.old).cells) ≡ false }
         ensures sound { IsSound self.new }
         ensures prepares { plans.Prepares (planned_of self.old) (planned_of self.new) }
-        ensures then_writes { coming (planned_of self.new) ≡ plans.next_write (hold_of self.new) }
+        ensures then_writes { plans.next (planned_of self.new) ≡ plans.next_write (hold_of self.new) }
         ensures away { away_of self.new.places.items ≡ away_of self.old.places.items }
         ensures same { (length self.new.places.items ≡ length self.old.places.items) × (self.new.len ≡ self.old.len) }
     {
@@ -143,7 +150,7 @@ fn make_ready(places: &mut Vec<Place>, index: usize, p_computed: bool, q_compute
     }
 }
 
-fn mark(places: &mut Vec<Place>, position: usize)
+pub(crate) fn mark(places: &mut Vec<Place>, position: usize)
     requires { position < length places.old.items }
     ensures mark { places.new.items ≡ with_ready places.old.items position }
     ensures count { length places.new.items ≡ length places.old.items }

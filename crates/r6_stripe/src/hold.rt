@@ -42,8 +42,8 @@ impl Hold {
     /// Begins a hold of a row, of whose positions these are in sync; the others are out. All buffers of the frame are home.
     ///
     /// A read reads its block. A write reads the data that it doesn't change, or its own block and the parities in sync,
-    /// whichever are fewer, or nothing if no parity is in sync. Where neither is possible the hold could go on only by
-    /// recovery, which comes later: such a hold puts nothing out and doesn't end.
+    /// whichever are fewer, or nothing if no parity is in sync. Where this is impossible the hold recovers: it reads as many
+    /// positions in sync as there are data, and restores what it lacks from them.
     pub fn begin(frame: Frame, task: Task, in_sync: &[bool]) -> Hold
         requires positions { length in_sync.now ≡ frame.count }
         requires task { IsTask frame.count frame.size (Some task) }
@@ -74,7 +74,8 @@ impl Hold {
 
     /// The command that comes next, if one does: the reads in row order; when all have been answered, the writes in row order.
     ///
-    /// A hold that lost what its plan reads has none, and isn't over.
+    /// A hold that loses what its plan reads recovers, by further reads. With three positions out it may have none, and not be
+    /// over.
     pub fn next_command(&mut self) -> Option<RowCommand>
         ensures { PutsOut self.old result self.new }
     {

@@ -12,6 +12,7 @@ mod hold;
 mod laws;
 mod place;
 mod plan;
+mod recover;
 mod state;
 
 pub use command::{Outcome, RowCommand, Task};
@@ -19,5 +20,7 @@ pub use frame::Frame;
 pub use hold::Hold;
 pub use laws::{plan_examples, plan_law, refused_holds, row_law, seen_law};
 
+#[cfg(test)]
+mod recovery_tests;
 #[cfg(test)]
 mod tests;

@@ -3,6 +3,7 @@
 ghost use Rattle.std.specs.Prelude.{◌≡◌, ◌≢◌, ◌⊎◌, ◌+◌, ◌<◌, ◌≤◌, ◌||◌, ◌&&◌, ℕ, length, not, option_map, false, IsTrue, List, [], ◌∷◌};
 ghost use Rattle.r6_stripe.specs.Holds.{MayEnd, cell_at};
 ghost use Rattle.r6_stripe.specs.Holds.Kind.{Read, Write};
+ghost use Rattle.r6_stripe.specs.Places.{is_readable};
 ghost use Rattle.r6_stripe.specs.Plans as plans;
 ghost use Rattle.r6_stripe.specs.Sound.{IsSound, IsTask, IsWritePlan, Suits};
 ghost use Rattle.r6_stripe.specs.Steps.{can_drop, has_outcome, is_idle};
@@ -22,7 +23,7 @@ pub(crate) enum Plan {
     Modify,
     /// None, where no parity is in sync.
     Overwrite,
-    /// As many positions in sync as there are data. No code follows this plan yet.
+    /// As many positions in sync as there are data.
     Recover,
 }
 
@@ -155,8 +156,56 @@ impl HoldState {
         self.can_drop(position) && !self.places[position].is_in_sync()
     }
 
+    /// How many blocks are known.
+    fn known_count(&self) -> usize
+        ensures { result ≡ plans.known_count (hold_of self.now).cells }
+    {
+        let mut count = 0;
+        for position in 0..self.places.len() {
+            if self.places[position].is_known() {
+                count += 1;
+            }
+        }
+        count
+    }
+
+    /// How many blocks are known or being read.
+    fn coming_count(&self) -> usize
+        ensures { result ≡ plans.coming_count (hold_of self.now).cells }
+    {
+        let mut count = 0;
+        for position in 0..self.places.len() {
+            if self.places[position].is_coming() {
+                count += 1;
+            }
+        }
+        count
+    }
+
+    /// Whether another read is wanted now: a recovery has enough with as many blocks as there are data.
+    fn lacks(&self) -> bool
+        requires { 2 ≤ length self.now.places.items }
+        ensures { result ≡ plans.lacks (plan_of self.now.plan) (hold_of self.now) }
+    {
+        match self.plan {
+            Plan::Recover => self.coming_count() < self.places.len() - 2,
+            Plan::One | Plan::Reconstruct | Plan::Modify | Plan::Overwrite => true,
+        }
+    }
+
     /// Whether enough is known for the hold to go on.
     fn is_enough(&self) -> bool
+        requires { 2 ≤ length self.now.places.items }
+        ensures { result ≡ plans.is_enough (plan_of self.now.plan) (hold_of self.now) }
+    {
+        match self.plan {
+            Plan::Recover => self.places.len() - 2 <= self.known_count(),
+            Plan::One | Plan::Reconstruct | Plan::Modify | Plan::Overwrite => self.is_all_served(),
+        }
+    }
+
+    /// Whether all that the plan reads is known, or dropped.
+    fn is_all_served(&self) -> bool
         requires count { 2 ≤ length self.now.places.items }
         requires plan { plan_of self.now.plan ≢ plans.Plan.Recover }
         ensures { result ≡ plans.is_enough (plan_of self.now.plan) (hold_of self.now) }
@@ -169,21 +218,23 @@ impl HoldState {
         true
     }
 
+    /// Whether the plan reads the position, and its read may be put out.
     fn is_next_read(&self, position: usize) -> bool
         requires within { position < length self.now.places.items }
         requires count { 2 ≤ length self.now.places.items }
-        requires plan { plan_of self.now.plan ≢ plans.Plan.Recover }
-        ensures { result ≡ plans.is_next_read (plan_of self.now.plan) (hold_of self.now) position }
+        ensures { result ≡ (is_readable (cell_at (hold_of self.now).cells position) && plans.wants (plan_of self.now.plan) (hold_of self.now) position) }
     {
         self.places[position].is_readable() && self.wants(position)
     }
 
     /// The lowest position that is to be read, and whose read wasn't put out.
     fn first_unread(&self) -> Option<usize>
-        requires count { 2 ≤ length self.now.places.items }
-        requires plan { plan_of self.now.plan ≢ plans.Plan.Recover }
+        requires { 2 ≤ length self.now.places.items }
         ensures { result ≡ plans.first_from (plans.is_next_read (plan_of self.now.plan) (hold_of self.now)) 0 (length (hold_of self.now).cells) }
     {
+        if !self.lacks() {
+            return None;
+        }
         for position in 0..self.places.len() {
             if self.is_next_read(position) {
                 return Some(position);
@@ -194,14 +245,31 @@ impl HoldState {
 
     /// The position whose read is put out next.
     pub(crate) fn next_read(&self) -> Option<usize>
-        requires count { 2 ≤ length self.now.places.items }
-        requires plan { plan_of self.now.plan ≢ plans.Plan.Recover }
+        requires { 2 ≤ length self.now.places.items }
         ensures { option_map plans.Next.ReadAt result ≡ plans.next_read (plan_of self.now.plan) (hold_of self.now) }
     {
         if self.has_computed() {
             return None;
         }
         self.first_unread()
+    }
+
+    /// The position whose block is restored next: the one that a read wants, if it is out and isn't known.
+    pub(crate) fn next_restore(&self) -> Option<usize>
+        requires { IsTask (length self.now.places.items) self.now.len self.now.task }
+        ensures { option_map plans.Next.RestoreAt result ≡ plans.next_restore (hold_of self.now) (hold_of self.now).kind }
+    {
+        match self.task {
+            Some(Task::Read(index)) => {
+                let place = self.places[index];
+                if place.is_in_sync() || place.is_known() {
+                    None
+                } else {
+                    Some(index)
+                }
+            }
+            _ => None,
+        }
     }
 
     /// Whether the position is still to get its new block.
@@ -240,8 +308,7 @@ impl HoldState {
 
     /// Whether all reads have been answered, and enough is known.
     pub(crate) fn has_read(&self) -> bool
-        requires count { 2 ≤ length self.now.places.items }
-        requires plan { plan_of self.now.plan ≢ plans.Plan.Recover }
+        requires { 2 ≤ length self.now.places.items }
         ensures { result ≡ not (plans.has_read_out (hold_of self.now) || not (plans.is_enough (plan_of self.now.plan) (hold_of self.now))) }
     {
         !self.has_read_out() && self.is_enough()
@@ -250,7 +317,6 @@ impl HoldState {
     /// Whether nothing is put out, and nothing comes next.
     pub(crate) fn is_over(&self) -> bool
         requires sound { IsSound self.now }
-        requires plan { plan_of self.now.plan ≢ plans.Plan.Recover }
         requires kind { plans.gives_up (hold_of self.now) ≡ false }
         ensures { result ≡ plans.is_over (planned_of self.now) }
     {
@@ -258,6 +324,9 @@ impl HoldState {
             return false;
         }
         if let Some(_) = self.next_read() {
+            return false;
+        }
+        if let Some(_) = self.next_restore() {
             return false;
         }
         if !self.is_computed() {
@@ -392,9 +461,6 @@ impl HoldState {
         ensures ends { IsTrue result → MayEnd (hold_of self.now) (plans.outcome_of (hold_of self.now) (hold_of self.now).kind) }
     {
         if self.gives_up() {
-            return false;
-        }
-        if let Plan::Recover = self.plan {
             return false;
         }
         self.is_over()

@@ -29,7 +29,7 @@ pub(crate) struct HoldState {
     pub(crate) places: Vec<Place>,
     /// In row order. A block of no bytes stands where a buffer is away.
     pub(crate) blocks: Vec<Buffer>,
-    /// Room for two more blocks.
+    /// Room for two more blocks. The first may be lent: then it stands in for a buffer that is away, and a block of no bytes here.
     pub(crate) sum: Buffer,
     pub(crate) weighted: Buffer,
     pub(crate) alloc: Global,
@@ -78,8 +78,13 @@ impl HoldState {
         ensures held { held_of self.new ≡ answered (held_of self.old) position buffer }
         ensures sound { IsSound self.new }
     {
-        self.places[position] = self.places[position].answered();
-        self.blocks[position] = buffer;
+        let place = self.places[position];
+        self.places[position] = place.answered();
+        if place.is_lent() {
+            self.sum = buffer;
+        } else {
+            self.blocks[position] = buffer;
+        }
     }
 
     /// Loses the position.
@@ -100,9 +105,6 @@ impl HoldState {
         ensures sound { IsSound self.new }
     {
         if self.gives_up() {
-            return None;
-        }
-        if let Plan::Recover = self.plan {
             return None;
         }
         if let Some(position) = self.next_read() {

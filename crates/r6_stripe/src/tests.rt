@@ -8,7 +8,7 @@ use std::alloc::{AllocError, Global};
 use std::test::Fail;
 
 /// A block of 16 bytes with one byte throughout.
-fn filled(alloc: Global, byte: u8) -> Result<Buffer, AllocError>
+pub(crate) fn filled(alloc: Global, byte: u8) -> Result<Buffer, AllocError>
     ensures { IfOk result (λ block. length block ≡ 16) }
 {
     let mut block = Buffer::new(alloc, 16)?;
@@ -17,12 +17,12 @@ fn filled(alloc: Global, byte: u8) -> Result<Buffer, AllocError>
 }
 
 /// Whether every byte of a block is this one.
-fn is_filled(block: &Buffer, byte: u8) -> bool {
+pub(crate) fn is_filled(block: &Buffer, byte: u8) -> bool {
     block.as_slice().iter().all(|b| *b == byte)
 }
 
 /// The blocks of a row.
-fn row(alloc: Global, bytes: &[u8]) -> Result<Vec<Buffer>, AllocError> {
+pub(crate) fn row(alloc: Global, bytes: &[u8]) -> Result<Vec<Buffer>, AllocError> {
     let mut blocks = Vec::new(alloc);
     for byte in bytes {
         blocks.push(filled(alloc, *byte)?)?;
@@ -31,7 +31,7 @@ fn row(alloc: Global, bytes: &[u8]) -> Result<Vec<Buffer>, AllocError> {
 }
 
 /// The devices perform a command: the position, with the buffer that comes back.
-fn perform(command: RowCommand, devices: &mut Vec<Buffer>) -> (usize, Buffer) {
+pub(crate) fn perform(command: RowCommand, devices: &mut Vec<Buffer>) -> (usize, Buffer) {
     match command {
         RowCommand::Read(position, mut buffer) => {
             if position < devices.len() && buffer.len() == devices[position].len() {
@@ -64,21 +64,21 @@ fn is_write_of(task: &Task, index: usize, byte: u8) -> bool {
 }
 
 /// The buffer comes home.
-fn deliver(hold: &mut Hold, position: usize, buffer: Buffer) {
+pub(crate) fn deliver(hold: &mut Hold, position: usize, buffer: Buffer) {
     if hold.is_away(position) && buffer.len() == hold.block_len() {
         hold.done(position, buffer);
     }
 }
 
 /// A position is lost.
-fn lose(hold: &mut Hold, position: usize) {
+pub(crate) fn lose(hold: &mut Hold, position: usize) {
     if position < hold.positions() {
         hold.lost(position);
     }
 }
 
 /// Performs so many commands, each when it is put out.
-fn drive(hold: &mut Hold, devices: &mut Vec<Buffer>, count: usize) -> usize {
+pub(crate) fn drive(hold: &mut Hold, devices: &mut Vec<Buffer>, count: usize) -> usize {
     for performed in 0..count {
         match hold.next_command() {
             Some(command) => {
@@ -201,21 +201,6 @@ fn read_gives_its_block(rt: HostRuntime) -> Result<(), Fail> {
     Ok(())
 }
 
-#[test]
-fn a_lost_read_waits_for_recovery(rt: HostRuntime) -> Result<(), Fail> {
-    let mut devices = row(rt.alloc(), &[0x01, 0x80, 0x81, 0x1c])?;
-    let mut hold = read_hold(rt.alloc(), 0)?;
-    let command = hold.next_command().ok_or("no command")?;
-    lose(&mut hold, 0);
-    assert!(rt; hold.next_command().is_none());
-    assert_eq!(rt; hold.outcome(), None);
-    assert!(rt; !hold.is_home());
-    let (position, buffer) = perform(command, &mut devices);
-    deliver(&mut hold, position, buffer);
-    assert!(rt; hold.is_home());
-    Ok(())
-}
-
 /// x times an element, by the field's definition: a carry out of x^7 adds x^8 + x^4 + x^3 + x^2 + 1.
 fn doubled(element: u8) -> u8 {
     let shifted = u16::from(element) << 1;
@@ -239,7 +224,7 @@ fn parities_of(data_bytes: &[u8]) -> (u8, u8) {
 }
 
 /// The bytes of a row of these data.
-fn full_row(alloc: Global, data_bytes: &[u8]) -> Result<Vec<u8>, AllocError> {
+pub(crate) fn full_row(alloc: Global, data_bytes: &[u8]) -> Result<Vec<u8>, AllocError> {
     let (p, q) = parities_of(data_bytes);
     let mut bytes = Vec::new(alloc);
     for byte in data_bytes {
@@ -251,7 +236,7 @@ fn full_row(alloc: Global, data_bytes: &[u8]) -> Result<Vec<u8>, AllocError> {
 }
 
 /// Whether each block but those at the lost positions has its byte throughout.
-fn has_bytes(devices: &Vec<Buffer>, bytes: &[u8], lost: &[usize]) -> bool {
+pub(crate) fn has_bytes(devices: &Vec<Buffer>, bytes: &[u8], lost: &[usize]) -> bool {
     if devices.len() != bytes.len() {
         return false;
     }
@@ -274,7 +259,7 @@ fn write_second(alloc: Global, in_sync: &[bool]) -> Result<Hold, AllocError>
 }
 
 /// Performs the commands one by one, and answers the positions that were read, and the number of writes.
-fn positions_read(
+pub(crate) fn positions_read(
     alloc: Global,
     hold: &mut Hold,
     devices: &mut Vec<Buffer>,
@@ -295,7 +280,7 @@ fn positions_read(
     Ok((read, writes))
 }
 
-fn position_of(command: &RowCommand) -> usize {
+pub(crate) fn position_of(command: &RowCommand) -> usize {
     match command {
         RowCommand::Read(position, _) => *position,
         RowCommand::Write(position, _) => *position,
@@ -415,16 +400,5 @@ fn parities_take_a_block_whose_device_was_lost(rt: HostRuntime) -> Result<(), Fa
     assert_eq!(rt; drive(&mut hold, &mut devices, 9), 4);
     assert_eq!(rt; hold.outcome(), Some(Outcome::Done));
     assert!(rt; has_bytes(&devices, after.as_slice(), &[1]));
-    Ok(())
-}
-
-#[test]
-fn modify_waits_for_recovery_without_its_block(rt: HostRuntime) -> Result<(), Fail> {
-    let mut hold = write_second(rt.alloc(), &[true; 8])?;
-    let command = hold.next_command().ok_or("no command")?;
-    assert_eq!(rt; position_of(&command), 1);
-    lose(&mut hold, 1);
-    assert!(rt; hold.next_command().is_none());
-    assert_eq!(rt; hold.outcome(), None);
     Ok(())
 }

@@ -1,7 +1,7 @@
-use Rattle.std.proofs.Common.{◌≡◌, ℕ, false, List, length, map, sym, ◌∙◌, ap, subst, arith, Some}
+use Rattle.std.proofs.Common.{◌≡◌, ℕ, true, false, List, length, map, sym, ◌∙◌, ap, subst, arith, Some}
 use Rattle.r6_stripe.specs.Holds.{Hold, Cell}
-use Rattle.r6_stripe.specs.Places.{cells_of, away_of, fresh_place}
-use Rattle.r6_stripe.specs.Sound.{Each, IsInCourse, IsTask, IsSettled}
+use Rattle.r6_stripe.specs.Places.{cells_of, away_of, fresh_place, is_lent}
+use Rattle.r6_stripe.specs.Sound.{Each, IsInCourse, IsTask, IsSettled, MayLend}
 use Rattle.r6_stripe.specs.declared.place.Place.{Place}
 use Rattle.r6_stripe.specs.declared.plan.Plan.TheVariants as plan
 use Rattle.std.proofs.lemmas.List.{length-map}
@@ -9,8 +9,8 @@ use Rattle.r6_stripe.specs.Frames.{Shape}
 use Rattle.r6_stripe.specs.Holds.{Standing, resting, begun}
 use Rattle.r6_stripe.specs.Plans.{first_plan, parities_in_sync}
 use Rattle.r6_stripe.specs.Steps.{standing_if}
-use Rattle.r6_stripe.specs.Views.{kind_of_task}
-use Rattle.r6_stripe.proofs.Begins.{fresh_cells, fresh_away, begun_is, fresh_settled, fresh_course, LacksParities, lacks_parities}
+use Rattle.r6_stripe.specs.Views.{kind_of_task, plan_of}
+use Rattle.r6_stripe.proofs.Begins.{fresh_cells, fresh_away, begun_is, fresh_settled, fresh_course, fresh_lends, LacksParities, lacks_parities, LacksIts, lacks_its}
 use Rattle.r6_stripe.proofs.hold.Hold.begin.Goals as goal
 
 pub invariant_of-result : goal.invariant_of-result
@@ -28,17 +28,22 @@ invariant_of-result c =
     subst (λ (n : ℕ). LacksParities q n in_sync) (sym wide)
     (lacks_parities q frame.len (kind_of_task c.args.task) in_sync frame.blocks.items (omega (arith, c.frame.invariant.four_or_more, count, ap length e, wide))
     (subst (λ (xs : List Place). q ≡ plan.Overwrite → parities_in_sync (record { size = frame.len; kind = kind_of_task c.args.task; cells = cells_of xs frame.blocks.items; cut_short = false }) ≡ 0) e c.first_plan-state.ensures.overwrites)) in
+    let its : LacksIts q (Some c.args.task) in_sync =
+    lacks_its q frame.len c.args.task in_sync frame.blocks.items
+    (subst (λ (xs : List Place). plan_of q ≡ first_plan (record { size = frame.len; kind = kind_of_task c.args.task; cells = cells_of xs frame.blocks.items; cut_short = false }) (kind_of_task c.args.task)) e c.first_plan-state.ensures.plan)
+    (subst (λ (n : ℕ). IsTask n frame.len (Some c.args.task)) (sym c.requires.positions) (subst (λ (n : ℕ). IsTask c.args.frame.count n (Some c.args.task)) (sym size) c.requires.task)) in
     record {
       four_or_more = omega (arith, c.frame.invariant.four_or_more, count);
       at_most = omega (arith, c.frame.invariant.at_most, count);
       wide = c.frame.invariant.wide ∙ sym count;
-      sum = c.frame.invariant.sum;
+      sum = λ none. c.frame.invariant.sum;
       weighted = c.frame.invariant.weighted;
       fits = subst (λ (n : ℕ). IsTask n frame.len (Some c.args.task)) (sym (count ∙ given)) (subst (λ (n : ℕ). IsTask c.args.frame.count n (Some c.args.task)) (sym size) c.requires.task);
       at_home = λ j below home. c.frame.invariant.long j (omega (arith, below, count));
       settled = subst (λ (xs : List Place). Each (λ position place. IsSettled place) xs) (sym e) (fresh_settled in_sync);
+      lends = subst (λ (xs : List Place). Each (λ position place. is_lent place ≡ true → MayLend (Some c.args.task) position) xs) (sym e) (fresh_lends (Some c.args.task) in_sync);
       computed = false;
-      course = subst (λ (xs : List Place). Each (IsInCourse q (Some c.args.task) (length xs) false) xs) (sym e) (fresh_course q (Some c.args.task) (length (map fresh_place in_sync)) in_sync c.first_plan-state.ensures.suits lacks);
+      course = subst (λ (xs : List Place). Each (IsInCourse q (Some c.args.task) (length xs) false) xs) (sym e) (fresh_course q (Some c.args.task) (length (map fresh_place in_sync)) in_sync c.first_plan-state.ensures.suits lacks its);
     }
 
 pub returns : goal.returns

@@ -1,0 +1,180 @@
+//! What a hold computes from other blocks than its own: the block that a read wants, and the new blocks of a write.
+//!
+//! At most two positions aren't known then. Those whose reads were abandoned may be away; the two buffers apart stand in for
+//! them, for as long as they are needed.
+
+ghost use Rattle.std.specs.Prelude.{◌≡◌, ◌<◌, ◌≤◌, ◌+◌, ◌-◌, ◌||◌, ℕ, not, true, false, Some, None, length, slice_set, All, IfSome};
+ghost use Rattle.r6_recover.specs.Known.{IsMissing};
+ghost use Rattle.r6_recover.specs.Restores.{AreLongButMissing, MayMiss};
+ghost use Rattle.r6_recover.specs.Rows.{data_of, row_of};
+ghost use Rattle.r6_stripe.specs.Places.{away_of, known_of, put_at, ready_at, renewed_at_home, taken_at, kept_of, ready_if_home};
+ghost use Rattle.r6_stripe.specs.Plans as plans;
+ghost use Rattle.r6_stripe.specs.Recovery.{IsAmongMissing, IsBlockOfFull};
+ghost use Rattle.r6_stripe.specs.Sound.{IsSound};
+ghost use Rattle.r6_stripe.specs.Views.{hold_of, plan_of, planned_of};
+
+use crate::command::Task;
+use crate::compute::mark;
+use crate::place::{Place, ReadState};
+use crate::state::HoldState;
+use r6_kernels::Buffer;
+use r6_recover::{Known, Missing, missing_among, restore_missing_into, rewrite_parity};
+use std::mem;
+
+impl HoldState {
+    /// The positions whose blocks aren't known.
+    fn missing(&self) -> Missing
+        requires { length self.now.places.items ≤ 32 }
+        ensures { IsMissing (known_of self.now.places.items) (length self.now.places.items) result }
+    {
+        let mut known = Known::none();
+        for position in 0..self.places.len() {
+            if self.places[position].is_known() {
+                known.insert(position);
+            }
+        }
+        missing_among(known, self.places.len())
+    }
+
+    /// Restores the block that a read wants. If its buffer is away, the one of the sum is lent to it.
+    pub(crate) fn restore(&mut self, index: usize)
+        requires sound { IsSound self.old }
+        requires plan { plan_of self.old.plan ≡ plans.Plan.Recover }
+        requires read { not (plans.has_read_out (hold_of self.old) || not (plans.is_enough (plan_of self.old.plan) (hold_of self.old))) ≡ true }
+        requires no_read { plans.next_read (plan_of self.old.plan) (hold_of self.old) ≡ None }
+        requires restores { plans.next_restore (hold_of self.old) (hold_of self.old).kind ≡ Some (plans.Next.RestoreAt index) }
+        ensures sound { IsSound self.new }
+        ensures prepares { plans.Prepares (planned_of self.old) (planned_of self.new) }
+        ensures then_writes { plans.next (planned_of self.new) ≡ plans.next_write (hold_of self.new) }
+        ensures away { away_of self.new.places.items ≡ away_of self.old.places.items }
+        ensures same { (length self.new.places.items ≡ length self.old.places.items) × (self.new.len ≡ self.old.len) }
+    {
+        let missing = self.missing();
+        restore_one(
+            &self.blocks,
+            missing,
+            index,
+            &mut self.sum,
+            &mut self.weighted,
+        );
+        mem::swap(&mut self.blocks[index], &mut self.sum);
+        self.places[index].read = ReadState::Known;
+    }
+
+    /// Computes the new blocks of a write from the data that stood there before it, of which those that aren't known are
+    /// restored first, into the buffers apart. A position gets its new block if its buffer is at home.
+    pub(crate) fn recover(&mut self)
+        requires sound { IsSound self.old }
+        requires plan { plan_of self.old.plan ≡ plans.Plan.Recover }
+        requires read { not (plans.has_read_out (hold_of self.old) || not (plans.is_enough (plan_of self.old.plan) (hold_of self.old))) ≡ true }
+        requires no_read { plans.next_read (plan_of self.old.plan) (hold_of self.old) ≡ None }
+        requires owed { plans.each_below (λ position. not (plans.lacks_new (hold_of self.old) position)) (length (hold_of self.old).cells) ≡ false }
+        ensures sound { IsSound self.new }
+        ensures prepares { plans.Prepares (planned_of self.old) (planned_of self.new) }
+        ensures then_writes { plans.next (planned_of self.new) ≡ plans.next_write (hold_of self.new) }
+        ensures away { away_of self.new.places.items ≡ away_of self.old.places.items }
+        ensures same { (length self.new.places.items ≡ length self.old.places.items) × (self.new.len ≡ self.old.len) }
+    {
+        let missing = self.missing();
+        let Some(task) = &self.task else {
+            return;
+        };
+        let Task::Write(index, block) = task else {
+            return;
+        };
+        let index = *index;
+        let lower = missing.lower();
+        let upper = missing.upper();
+        let kept_lower = kept(&self.places, index, lower);
+        let kept_upper = kept(&self.places, index, upper);
+        restore_missing_into(&self.blocks, missing, &mut self.sum, &mut self.weighted);
+        exchange(&mut self.blocks, lower, &mut self.sum);
+        exchange(&mut self.blocks, upper, &mut self.weighted);
+        rewrite_row(&mut self.blocks, index, block);
+        exchange(&mut self.blocks, kept_lower, &mut self.sum);
+        exchange(&mut self.blocks, kept_upper, &mut self.weighted);
+        make_home_ready(&mut self.places, index);
+    }
+}
+
+/// The data block of the index, which is among the missing, into `sum`. What stands at missing positions is of no account.
+fn restore_one(
+    blocks: &[Buffer],
+    missing: Missing,
+    index: usize,
+    sum: &mut Buffer,
+    weighted: &mut Buffer,
+)
+    requires data { index + 2 < length blocks.now }
+    requires few { length blocks.now ≤ 32 }
+    requires missing { MayMiss (length blocks.now) missing }
+    requires among { IsAmongMissing missing index }
+    requires long { AreLongButMissing (length sum.old) missing blocks.now }
+    requires same { length weighted.old ≡ length sum.old }
+    ensures restored { IsBlockOfFull missing (length blocks.now - 2) (length sum.old) index blocks.now sum.new }
+    ensures sum_length { length sum.new ≡ length sum.old }
+    ensures weighted_length { length weighted.new ≡ length sum.old }
+{
+    restore_missing_into(blocks, missing, sum, weighted);
+    if missing.upper() == Some(index) {
+        mem::swap(sum, weighted);
+    }
+}
+
+/// The position, unless the write of the index gives it a new block.
+fn kept(places: &[Place], index: usize, position: Option<usize>) -> Option<usize>
+    requires within { IfSome position (λ i. i < length places.now) }
+    requires count { 2 ≤ length places.now }
+    ensures { result ≡ kept_of places.now index position }
+{
+    let position = position?;
+    let is_put = position == index || places.len() - 2 <= position;
+    if is_put && !places[position].away {
+        None
+    } else {
+        Some(position)
+    }
+}
+
+/// Exchanges the buffer of the position, if there is one, for the buffer apart.
+fn exchange(blocks: &mut Vec<Buffer>, position: Option<usize>, apart: &mut Buffer)
+    requires { IfSome position (λ i. i < length blocks.old.items) }
+    ensures blocks { blocks.new.items ≡ put_at position blocks.old.items apart.old }
+    ensures apart { apart.new ≡ taken_at position blocks.old.items apart.old }
+{
+    if let Some(position) = position {
+        mem::swap(&mut blocks[position], apart);
+    }
+}
+
+/// Writes a data block, and P and Q anew.
+fn rewrite_row(blocks: &mut Vec<Buffer>, index: usize, block: &Buffer)
+    requires below { index + 2 < length blocks.old.items }
+    requires long { All (λ b. length b ≡ length block.now) blocks.old.items }
+    ensures row { blocks.new.items ≡ row_of (length block.now) (data_of (slice_set blocks.old.items index block.now)) }
+    ensures long { All (λ b. length b ≡ length block.now) blocks.new.items }
+    ensures count { length blocks.new.items ≡ length blocks.old.items }
+{
+    blocks[index].copy_from(block);
+    rewrite_parity(blocks.as_mut_slice());
+}
+
+/// The new blocks of the index, of P and of Q are there, each if its buffer is at home.
+fn make_home_ready(places: &mut Vec<Place>, index: usize)
+    requires { index + 2 < length places.old.items }
+    ensures { places.new.items ≡ ready_at places.old.items (renewed_at_home places.old.items index) }
+{
+    let m = places.len() - 2;
+    mark_home(places, index);
+    mark_home(places, m);
+    mark_home(places, m + 1);
+}
+
+fn mark_home(places: &mut Vec<Place>, position: usize)
+    requires { position < length places.old.items }
+    ensures { places.new.items ≡ ready_if_home places.old.items position }
+{
+    if !places[position].away {
+        mark(places, position);
+    }
+}
