@@ -1,5 +1,1 @@
-pub mod CommandLine
-pub mod Grammar
-pub mod Keys
-pub mod Settings
 pub mod Status

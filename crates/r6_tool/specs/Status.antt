@@ -2,7 +2,7 @@
 use Rattle.std.specs.Prelude.{ℕ}
 use Rattle.r6_tool.specs.declared.fault.Fault.{Fault}
 use Rattle.r6_tool.specs.declared.fault.Fault.TheVariants.{NotText, NotBuilt, Unreadable, Settings, Script, Device, Output, Memory}
-use Rattle.r6_tool.specs.declared.fault.SettingsFault.TheVariants as settings
+use Rattle.r6_settings.specs.declared.fault.SettingsFault.TheVariants as settings
 use Rattle.r6_script.specs.declared.script.ScriptFault.TheVariants as script
 
 -- the status of a fault: use, settings and scripts, output and devices, memory

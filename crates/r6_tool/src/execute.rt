@@ -1,11 +1,11 @@
 //! Carries a command out.
-use crate::command::Invocation;
 use crate::fault::{Fault, Input};
 use crate::geometry::described;
 use crate::output::{finish, print};
-use crate::settings::{Config, settings};
-use crate::simulate::simulate;
+use r6_command::Invocation;
 use r6_script::{Script, parse_script};
+use r6_settings::{Config, settings};
+use r6_simulate::simulate;
 use std::alloc::Global;
 use std::io::{self, ErrorKind, Read, Write};
 

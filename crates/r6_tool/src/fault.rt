@@ -2,80 +2,11 @@
 ghost use Rattle.std.specs.Prelude.{◌≡◌};
 
 use r6_dev::Fault as DeviceFault;
-use r6_layout::GeometryError;
 use r6_script::ScriptFault;
+use r6_settings::SettingsFault;
+use r6_simulate::SimulationFault;
 use std::alloc::{AllocError, AllocFailed};
 use std::fmt;
-
-/// A key of the settings, in the order in which they are checked.
-#[derive(Clone, Copy, Debug, PartialEq, Eq)]
-pub enum Key {
-    Slots,
-    Chunk,
-    Block,
-    Rows,
-    Shards,
-    Window,
-    Workers,
-    Lost,
-    Devices,
-}
-
-impl Key {
-    ghost use Rattle.r6_tool.specs.Keys.{name_of};
-
-    /// The key as a settings file writes it.
-    pub fn name(self) -> &'static str
-        ensures { result.now ≡ name_of self }
-    {
-        match self {
-            Key::Slots => "slots",
-            Key::Chunk => "chunk",
-            Key::Block => "block",
-            Key::Rows => "rows",
-            Key::Shards => "shards",
-            Key::Window => "window",
-            Key::Workers => "workers",
-            Key::Lost => "lost",
-            Key::Devices => "devices",
-        }
-    }
-}
-
-/// What is wrong with the text of a settings file.
-#[derive(Clone, Copy, Debug, PartialEq, Eq)]
-pub enum SettingsFault {
-    /// The text is no TOML document.
-    NotToml,
-    /// The document has a key that settings do not have.
-    UnknownKey,
-    /// The key is missing, of a wrong type or out of its range.
-    Value(Key),
-    /// The five integers are no array's.
-    Geometry(GeometryError),
-    /// An allocation failed.
-    Memory,
-}
-
-impl<T: Drop> From<AllocFailed<T>> for SettingsFault {
-    ghost use Rattle.r6_tool.specs.declared.fault.SettingsFault.TheVariants.{Memory};
-
-    ghost from_gives = { λ _ fault. fault ≡ Memory };
-
-    fn from(_refused: AllocFailed<T>) -> SettingsFault {
-        SettingsFault::Memory
-    }
-}
-
-impl From<AllocError> for SettingsFault {
-    ghost use Rattle.r6_tool.specs.declared.fault.SettingsFault.TheVariants.{Memory};
-
-    ghost from_gives = { λ _ fault. fault ≡ Memory };
-
-    fn from(_refused: AllocError) -> SettingsFault {
-        SettingsFault::Memory
-    }
-}
 
 /// A file that a command reads.
 #[derive(Clone, Copy, Debug, PartialEq, Eq)]
@@ -127,18 +58,6 @@ impl Fault {
     }
 }
 
-impl fmt::Display for SettingsFault {
-    fn fmt<W: fmt::Write>(&self, f: &mut fmt::Formatter<W>) -> fmt::Result {
-        match self {
-            SettingsFault::NotToml => write!(f, "settings: toml"),
-            SettingsFault::UnknownKey => write!(f, "settings: key"),
-            SettingsFault::Value(key) => write!(f, "settings: {}", key.name()),
-            SettingsFault::Geometry(limit) => write!(f, "settings: geometry {}", limit.number()),
-            SettingsFault::Memory => write!(f, "memory"),
-        }
-    }
-}
-
 impl fmt::Display for Fault {
     fn fmt<W: fmt::Write>(&self, f: &mut fmt::Formatter<W>) -> fmt::Result {
         match self {
@@ -164,6 +83,16 @@ impl From<SettingsFault> for Fault {
 impl From<ScriptFault> for Fault {
     fn from(fault: ScriptFault) -> Fault {
         Fault::Script(fault)
+    }
+}
+
+impl From<SimulationFault> for Fault {
+    fn from(fault: SimulationFault) -> Fault {
+        match fault {
+            SimulationFault::Device(slot, fault) => Fault::Device(slot, fault),
+            SimulationFault::Output => Fault::Output,
+            SimulationFault::Memory => Fault::Memory,
+        }
     }
 }
 

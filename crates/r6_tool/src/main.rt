@@ -1,25 +1,24 @@
 //! The program `raid6`: the core of a RAID-6 array as Linux md keeps one, from the command line.
 #![tactic(auto)]
 
-mod command;
-mod document;
+ghost use Rattle.std.specs.Prelude.{◌≡◌, ◌≢◌, ◌⊎◌};
+ghost use Rattle.clap.specs.Values.{kind_of};
+ghost use Rattle.clap.specs.declared.error.kind.ErrorKind.TheVariants.{DisplayHelp, DisplayVersion};
+ghost use Rattle.r6_tool.specs.Status.{status_of};
+
 mod execute;
 mod fault;
 mod geometry;
-mod lines;
 mod output;
-mod settings;
-mod simulate;
 #[cfg(test)]
 mod simulate_tests;
 #[cfg(test)]
 mod tests;
 
 use clap::Error;
-use clap::error::ErrorKind as Refusal;
-use command::{Invocation, command};
 use execute::execute;
 use fault::Fault;
+use r6_command::{CommandFault, Invocation, command};
 use std::fs::{self, File};
 use std::io::{self, ErrorKind, Read};
 use std::process::ExitCode;
@@ -53,33 +52,31 @@ impl Read for Source {
     }
 }
 
-fn refused(rt: &HostRuntime, fault: Fault) -> u8 {
+fn refused(rt: &HostRuntime, fault: Fault) -> u8
+    ensures { result ≡ status_of fault }
+{
     let _ = eprintln!(rt; "{fault}");
     fault.status()
 }
 
 // Prints clap's words, help on standard output and all else on standard error.
-fn explained(rt: &HostRuntime, error: &Error) -> u8 {
-    if error.kind() == Refusal::OutOfMemory {
-        return refused(rt, Fault::Memory);
+fn explained(rt: &HostRuntime, error: &Error) -> u8
+    ensures shown { (kind_of error.now ≡ DisplayHelp) ⊎ (kind_of error.now ≡ DisplayVersion) → (result ≡ 0) ⊎ (result ≡ status_of Fault.Output) }
+    ensures wrong { kind_of error.now ≢ DisplayHelp → kind_of error.now ≢ DisplayVersion → result ≡ 2 }
+{
+    let printed = error.print(rt);
+    if error.use_stderr() {
+        return 2;
     }
-    match error.print(rt) {
-        Err(_) if !error.use_stderr() => refused(rt, Fault::Output),
-        _ if error.use_stderr() => 2,
-        _ => 0,
+    match printed {
+        Ok(()) => 0,
+        Err(_) => refused(rt, Fault::Output),
     }
 }
 
 fn perform(rt: &HostRuntime, invocation: &Invocation<'_>) -> u8 {
-    let (config, script) = match *invocation {
-        Invocation::Geometry { config } => (Some(config), None),
-        Invocation::Create { config } => (Some(config), None),
-        Invocation::Verify { config } => (Some(config), None),
-        Invocation::Simulate { script } => (None, Some(script)),
-        Invocation::Run { config, script } => (Some(config), Some(script)),
-    };
-    let mut settings = Source::open(rt, config);
-    let mut script = Source::open(rt, script);
+    let mut settings = Source::open(rt, invocation.config());
+    let mut script = Source::open(rt, invocation.script());
     let (mut out, mut err) = (rt.stdout(), rt.stderr());
     execute(
         rt.alloc(),
@@ -102,7 +99,8 @@ fn status(rt: &HostRuntime) -> u8 {
     };
     match command(rt.alloc(), words.as_slice()) {
         Ok(invocation) => perform(rt, &invocation),
-        Err(error) => explained(rt, &error),
+        Err(CommandFault::Refused(error)) => explained(rt, &error),
+        Err(CommandFault::Memory) => refused(rt, Fault::Memory),
     }
 }
 

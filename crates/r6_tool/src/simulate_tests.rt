@@ -1,6 +1,6 @@
-use crate::command::Invocation;
 use crate::execute::execute;
 use crate::tests::{Ended, Full, Torn};
+use r6_command::Invocation;
 use std::alloc::Global;
 use std::fmt::Write as _;
 use std::io::ErrorKind;

@@ -1,7 +1,5 @@
-use crate::command::{Invocation, command};
 use crate::execute::execute;
-use crate::fault::{Key, SettingsFault};
-use crate::settings::settings;
+use r6_command::Invocation;
 use std::alloc::Global;
 use std::io::{self, ErrorKind, Read, Write};
 use std::test::Fail;
@@ -42,7 +40,7 @@ impl Read for Torn<'_> {
     }
 }
 
-// A writer that takes so many bytes and then refuses.
+// A writer that takes so many bytes and then refuses, a flush too.
 #[derive(Drop)]
 pub struct Full {
     room: usize,
@@ -65,6 +63,9 @@ impl Write for Full {
     }
 
     fn flush(&mut self) -> io::Result<()> {
+        if self.room == 0 {
+            return Err(io::Error::from(ErrorKind::StorageFull));
+        }
         Ok(())
     }
 }
@@ -259,51 +260,6 @@ fn names_the_first_fault(rt: HostRuntime) {
 }
 
 #[test]
-fn reads_every_key(rt: HostRuntime) -> Result<(), Fail> {
-    let alloc = rt.alloc();
-    let text =
-        "slots = 4\nchunk = 1\nblock = 16\nrows = 4\nshards = 2\nwindow = 8\nworkers = 2\nlost = [3, 0]\ndevices = [\"a\", \"b\", \"c\", \"d\"]\n";
-    let Ok(config) = settings(alloc, text, true) else {
-        return Err(Fail::from("settings"));
-    };
-    assert_eq!(rt; config.geometry.shards(), 2);
-    assert_eq!(rt; (config.window, config.workers), (8, 2));
-    assert_eq!(rt; config.lost.as_slice(), [3, 0].as_slice());
-    assert_eq!(rt; config.devices.len(), 4);
-    assert_eq!(rt; config.devices[3].as_str(), "d");
-    let Ok(plain) = settings(alloc, FOUR_SLOTS, false) else {
-        return Err(Fail::from("settings"));
-    };
-    assert_eq!(rt; (plain.window, plain.workers), (1, 1));
-    assert!(rt; plain.lost.is_empty() && plain.devices.is_empty());
-    Ok(())
-}
-
-#[test]
-fn asks_for_devices_where_they_are_used(rt: HostRuntime) -> Result<(), Fail> {
-    let alloc = rt.alloc();
-    let lines = [
-        "",
-        "devices = 4\n",
-        "devices = [\"a\", \"b\", \"c\"]\n",
-        "devices = [\"a\", \"b\", \"c\", 4]\n",
-    ];
-    for line in lines {
-        let text = format!(in alloc; "{FOUR_SLOTS}{line}")?;
-        let refused = matches!(
-            &settings(alloc, text.as_str(), true),
-            Err(SettingsFault::Value(Key::Devices))
-        );
-        assert!(rt; refused, "at {line:?}");
-        assert!(rt;
-            settings(alloc, text.as_str(), false).is_ok(),
-            "at {line:?}"
-        );
-    }
-    Ok(())
-}
-
-#[test]
 fn a_file_that_fails_or_is_no_text_is_unreadable(rt: HostRuntime) {
     let alloc = rt.alloc();
     let kinds = [
@@ -337,7 +293,7 @@ fn a_file_that_fails_or_is_no_text_is_unreadable(rt: HostRuntime) {
 #[test]
 fn an_output_that_refuses_is_reported(rt: HostRuntime) {
     let alloc = rt.alloc();
-    for room in [0, 60, FOUR_SLOTS_LAYOUT.len() - 1] {
+    for room in [0, 60, FOUR_SLOTS_LAYOUT.len() - 1, FOUR_SLOTS_LAYOUT.len()] {
         let mut settings = FOUR_SLOTS.as_bytes();
         let mut script: &[u8] = b"";
         let (mut out, mut err) = (Full { room }, Vec::new(alloc));
@@ -393,64 +349,4 @@ fn commands_to_come_say_so(rt: HostRuntime) {
         assert_eq!(rt; run.err.as_slice(), line.as_bytes());
         assert_eq!(rt; run.status, 2);
     }
-}
-
-fn words(alloc: Global, line: &str) -> Result<Vec<String>, Fail> {
-    let mut words = Vec::new(alloc);
-    for word in line.split(' ') {
-        words.push(String::from_str(alloc, word)?)?;
-    }
-    Ok(words)
-}
-
-#[test]
-fn reads_the_words(rt: HostRuntime) -> Result<(), Fail> {
-    let alloc = rt.alloc();
-    let lines = [
-        ("raid6 geometry a.toml", "Geometry { config: \"a.toml\" }"),
-        ("raid6 geometry -- -a", "Geometry { config: \"-a\" }"),
-        ("raid6 geometry a --", "Geometry { config: \"a\" }"),
-        ("raid6 geometry -", "Geometry { config: \"-\" }"),
-        ("raid6 create a", "Create { config: \"a\" }"),
-        ("raid6 verify a", "Verify { config: \"a\" }"),
-        ("raid6 simulate a", "Simulate { script: \"a\" }"),
-        ("raid6 run a b", "Run { config: \"a\", script: \"b\" }"),
-        ("raid6 run a -- --", "Run { config: \"a\", script: \"--\" }"),
-    ];
-    for (line, asked) in lines {
-        let words = words(alloc, line)?;
-        match command(alloc, words.as_slice()) {
-            Ok(invocation) => {
-                let text = format!(in alloc; "{invocation:?}")?;
-                assert_eq!(rt; text.as_str(), asked);
-            }
-            Err(_) => return Err(Fail::from("refused")),
-        }
-    }
-    Ok(())
-}
-
-// What clap refuses ends with 2, and a call for help with 0.
-#[test]
-fn refuses_other_words(rt: HostRuntime) -> Result<(), Fail> {
-    let alloc = rt.alloc();
-    let lines = [
-        ("raid6", 2),
-        ("raid6 layout a", 2),
-        ("raid6 geometry", 2),
-        ("raid6 geometry a b", 2),
-        ("raid6 geometry -x a", 2),
-        ("raid6 run a", 2),
-        ("raid6 -- geometry a", 2),
-        ("raid6 --help", 0),
-        ("raid6 geometry --help", 0),
-    ];
-    for (line, status) in lines {
-        let words = words(alloc, line)?;
-        match command(alloc, words.as_slice()) {
-            Ok(_) => return Err(Fail::from("accepted")),
-            Err(error) => assert_eq!(rt; error.exit_code(), status, "at {line}"),
-        }
-    }
-    Ok(())
 }

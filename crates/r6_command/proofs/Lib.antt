@@ -1,0 +1,3 @@
+pub mod GrammarLemmas
+pub mod Walks
+pub mod Taken

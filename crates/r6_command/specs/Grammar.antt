@@ -1,0 +1,43 @@
+-- The grammar of the command line, as clap's contracts speak of one: its commands with their paths.
+use Rattle.std.specs.Prelude.{List, Option, Some, None, true, codes, if◌then◌else◌, option_map}
+use Rattle.std.specs.Str.{bytes_eq}
+use Rattle.clap.specs.Words.{App, Rule, Row, first_of, new_app, new_rule, with_rule, with_subcommand}
+use Rattle.r6_command.specs.CommandLine.{Asked, Text, geometry, create, verify, simulate, run}
+
+-- a path, which has to be there
+abbrev pub path_rule : (id : Text) → Rule
+path_rule id = record (new_rule id) { value_names = 1; required = true }
+
+abbrev pub with_one_path : (name : Text) → App
+with_one_path name = with_rule (new_app name) (path_rule (codes "first"))
+
+abbrev pub with_two_paths : (name : Text) → App
+with_two_paths name = with_rule (with_one_path name) (path_rule (codes "second"))
+
+-- a command has to be named, help is the answer to no word at all, and `help` is no command
+abbrev pub program : App
+program = record (new_app (codes "raid6")) { top = record (new_app (codes "raid6")).top { subcommand_required = true; arg_required_else_help = true; disable_help_subcommand = true } }
+
+abbrev pub grammar : App
+grammar = with_subcommand (with_subcommand (with_subcommand (with_subcommand (with_subcommand program
+    (with_one_path (codes "geometry")).top)
+    (with_one_path (codes "create")).top)
+    (with_one_path (codes "verify")).top)
+    (with_one_path (codes "simulate")).top)
+    (with_two_paths (codes "run")).top
+
+-- the command of this name, by the first and the second path that were found
+abbrev pub named : (name : Text) (first second : Option Text) → Option Asked
+named name None second = None
+named name (Some first) second =
+    if bytes_eq (codes "geometry") name then Some (geometry first)
+    else if bytes_eq (codes "create") name then Some (create first)
+    else if bytes_eq (codes "verify") name then Some (verify first)
+    else if bytes_eq (codes "simulate") name then Some (simulate first)
+    else if bytes_eq (codes "run") name then option_map (run first) second
+    else None
+
+-- what was found, as a command with its paths
+abbrev pub asked_in : Option (Text × List Row) → Option Asked
+asked_in None = None
+asked_in (Some found) = named found.0 (first_of (codes "first") found.1) (first_of (codes "second") found.1)

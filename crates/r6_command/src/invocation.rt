@@ -1,0 +1,157 @@
+//! The words of the command line.
+ghost use Rattle.std.specs.Prelude.{◌≡◌, ◌≢◌, None, Some, IfErr, IfOk, option_map, false};
+ghost use Rattle.clap.specs.Words.{app_of, rule_of, subcommand_rows_of};
+ghost use Rattle.clap.specs.declared.builder.command.Command.TheViews.{out-Command as fields_of};
+ghost use Rattle.r6_command.specs.CommandLine.{Asked, asked_of, asks_option, said, texts};
+ghost use Rattle.clap.specs.Values.{kind_of};
+ghost use Rattle.clap.specs.declared.error.kind.ErrorKind.TheVariants.{OutOfMemory};
+ghost use Rattle.r6_command.specs.Grammar.{asked_in, grammar, named, path_rule, with_one_path, with_two_paths};
+
+use crate::fault::CommandFault;
+use clap::{Arg, ArgMatches, Command, Error};
+use std::alloc::{AllocError, Global};
+
+/// What a command line asks for: a command, with the paths that it was given.
+#[derive(Clone, Copy, Debug)]
+pub enum Invocation<'a> {
+    /// Prints the layout of the array of a settings file.
+    Geometry { config: &'a str },
+    /// Makes the device files of a settings file.
+    Create { config: &'a str },
+    /// Reads every row of the devices and counts the classes.
+    Verify { config: &'a str },
+    /// Plays the events of a script against the cores of an array in memory.
+    Simulate { script: &'a str },
+    /// Serves the requests of a script over the devices of a settings file.
+    Run { config: &'a str, script: &'a str },
+}
+
+impl<'a> Invocation<'a> {
+    ghost use Rattle.r6_command.specs.CommandLine.{config_of, script_of};
+
+    /// The settings file that the command reads.
+    pub fn config(&self) -> Option<&'a str>
+        ensures { option_map (λ path. path.now) result ≡ config_of (asked_of self.now) }
+    {
+        match *self {
+            Invocation::Geometry { config } => Some(config),
+            Invocation::Create { config } => Some(config),
+            Invocation::Verify { config } => Some(config),
+            Invocation::Simulate { .. } => None,
+            Invocation::Run { config, .. } => Some(config),
+        }
+    }
+
+    /// The script that the command reads.
+    pub fn script(&self) -> Option<&'a str>
+        ensures { option_map (λ path. path.now) result ≡ script_of (asked_of self.now) }
+    {
+        match *self {
+            Invocation::Simulate { script } => Some(script),
+            Invocation::Run { script, .. } => Some(script),
+            _ => None,
+        }
+    }
+}
+
+// The ids of a command's paths: the first and, where it has one, the second.
+const FIRST: &str = "first";
+
+const SECOND: &str = "second";
+
+fn path<'a>(alloc: Global, id: &'a str, label: &'a str, help: &'a str) -> Arg<'a>
+    ensures rule { rule_of result ≡ path_rule id.entry.now }
+    ensures local { result.global ≡ false }
+{
+    Arg::new(alloc, id)
+        .value_name(label)
+        .help(help)
+        .required(true)
+}
+
+fn with_config<'a>(alloc: Global, name: &'a str) -> Result<Command<'a>, AllocError>
+    ensures app { IfOk result (λ made. app_of made ≡ with_one_path name.entry.now) }
+    ensures local { IfOk result (λ made. (fields_of made).has_globals ≡ false) }
+{
+    Command::new(alloc, name).arg(path(alloc, FIRST, "CONFIG", "The settings file, in TOML"))
+}
+
+fn with_script<'a>(alloc: Global, name: &'a str) -> Result<Command<'a>, AllocError>
+    ensures app { IfOk result (λ made. app_of made ≡ with_one_path name.entry.now) }
+    ensures local { IfOk result (λ made. (fields_of made).has_globals ≡ false) }
+{
+    Command::new(alloc, name).arg(path(alloc, FIRST, "SCRIPT", "The script"))
+}
+
+fn with_both<'a>(alloc: Global, name: &'a str) -> Result<Command<'a>, AllocError>
+    ensures app { IfOk result (λ made. app_of made ≡ with_two_paths name.entry.now) }
+    ensures local { IfOk result (λ made. (fields_of made).has_globals ≡ false) }
+{
+    with_config(alloc, name)?.arg(path(alloc, SECOND, "SCRIPT", "The script"))
+}
+
+// The commands that are not built yet are read, so that they are answered by name, and left out of help.
+fn grammar<'a>(alloc: Global) -> Result<Command<'a>, AllocError>
+    ensures { IfOk result (λ made. app_of made ≡ grammar) }
+{
+    Command::new(alloc, "raid6")
+        .about("A RAID-6 array over 4 to 32 slots, laid out as Linux md lays it out.")
+        .subcommand_required(true)
+        .arg_required_else_help(true)
+        .disable_help_subcommand(true)
+        .subcommand(with_config(alloc, "geometry")?.about("Print the array's layout"))?
+        .subcommand(with_config(alloc, "create")?.hide(true))?
+        .subcommand(with_config(alloc, "verify")?.hide(true))?
+        .subcommand(with_script(alloc, "simulate")?.about(
+            "Play a script against an array in memory",
+        ))?
+        .subcommand(with_both(alloc, "run")?.hide(true))
+}
+
+fn matched<'a>(alloc: Global, words: &'a [String]) -> Result<ArgMatches<'a>, Error>
+    ensures err { IfErr result (λ error. kind_of error ≢ OutOfMemory → asks_option (texts words.entry.now) ≡ false → said (texts words.entry.now) ≡ None) }
+    ensures ok { IfOk result (λ matches. (asked : Asked) × (asked_in (subcommand_rows_of matches) ≡ Some asked) × (said (texts words.entry.now) ≡ Some asked)) }
+{
+    grammar(alloc)?.try_get_matches_from(words)
+}
+
+fn named<'a>(name: &str, first: Option<&'a str>, second: Option<&'a str>) -> Option<Invocation<'a>>
+    ensures { option_map asked_of result ≡ named name.now (option_map (λ path. path.now) first.entry) (option_map (λ path. path.now) second.entry) }
+{
+    let first = first?;
+    match name {
+        "geometry" => Some(Invocation::Geometry { config: first }),
+        "create" => Some(Invocation::Create { config: first }),
+        "verify" => Some(Invocation::Verify { config: first }),
+        "simulate" => Some(Invocation::Simulate { script: first }),
+        "run" => {
+            let script = second?;
+            Some(Invocation::Run {
+                config: first,
+                script,
+            })
+        }
+        _ => None,
+    }
+}
+
+fn asked<'a>(matches: &ArgMatches<'a>) -> Option<Invocation<'a>>
+    ensures { option_map asked_of result ≡ asked_in (subcommand_rows_of matches.now) }
+{
+    match matches.subcommand() {
+        Some((name, paths)) => named(name, paths.get_str(FIRST), paths.get_str(SECOND)),
+        None => None,
+    }
+}
+
+/// Reads what a command line asks for. The first word is the program's own name.
+pub fn command<'a>(alloc: Global, words: &'a [String]) -> Result<Invocation<'a>, CommandFault>
+    ensures err { IfErr result (λ fault. fault ≢ CommandFault.Memory → asks_option (texts words.entry.now) ≡ false → said (texts words.entry.now) ≡ None) }
+    ensures ok { IfOk result (λ invocation. said (texts words.entry.now) ≡ Some (asked_of invocation)) }
+{
+    let matches = matched(alloc, words)?;
+    match asked(&matches) {
+        Some(invocation) => Ok(invocation),
+        None => unreachable!(),
+    }
+}

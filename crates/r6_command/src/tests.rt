@@ -1,0 +1,85 @@
+use crate::fault::CommandFault;
+use crate::invocation::command;
+use std::alloc::Global;
+use std::test::Fail;
+
+fn words(alloc: Global, line: &str) -> Result<Vec<String>, Fail> {
+    let mut words = Vec::new(alloc);
+    for word in line.split(' ') {
+        words.push(String::from_str(alloc, word)?)?;
+    }
+    Ok(words)
+}
+
+#[test]
+fn reads_the_words(rt: HostRuntime) -> Result<(), Fail> {
+    let alloc = rt.alloc();
+    let lines = [
+        ("raid6 geometry a.toml", "Geometry { config: \"a.toml\" }"),
+        ("raid6 geometry -- -a", "Geometry { config: \"-a\" }"),
+        ("raid6 geometry a --", "Geometry { config: \"a\" }"),
+        ("raid6 geometry -", "Geometry { config: \"-\" }"),
+        ("raid6 create a", "Create { config: \"a\" }"),
+        ("raid6 verify a", "Verify { config: \"a\" }"),
+        ("raid6 simulate a", "Simulate { script: \"a\" }"),
+        ("raid6 run a b", "Run { config: \"a\", script: \"b\" }"),
+        ("raid6 run a -- --", "Run { config: \"a\", script: \"--\" }"),
+    ];
+    for (line, asked) in lines {
+        let words = words(alloc, line)?;
+        match command(alloc, words.as_slice()) {
+            Ok(invocation) => {
+                let text = format!(in alloc; "{invocation:?}")?;
+                assert_eq!(rt; text.as_str(), asked);
+            }
+            Err(_) => return Err(Fail::from("refused")),
+        }
+    }
+    Ok(())
+}
+
+// What clap refuses ends with 2, and a call for help with 0.
+#[test]
+fn refuses_other_words(rt: HostRuntime) -> Result<(), Fail> {
+    let alloc = rt.alloc();
+    let lines = [
+        ("raid6", 2),
+        ("raid6 layout a", 2),
+        ("raid6 geometry", 2),
+        ("raid6 geometry a b", 2),
+        ("raid6 geometry -x a", 2),
+        ("raid6 run a", 2),
+        ("raid6 -- geometry a", 2),
+        ("raid6 --help", 0),
+        ("raid6 geometry --help", 0),
+    ];
+    for (line, status) in lines {
+        let words = words(alloc, line)?;
+        match command(alloc, words.as_slice()) {
+            Ok(_) => return Err(Fail::from("accepted")),
+            Err(CommandFault::Refused(error)) => {
+                assert_eq!(rt; error.exit_code(), status, "at {line}")
+            }
+            Err(CommandFault::Memory) => return Err(Fail::from("memory")),
+        }
+    }
+    Ok(())
+}
+
+// Help names the commands that are built, and no other.
+#[test]
+fn help_leaves_out_what_is_not_built(rt: HostRuntime) -> Result<(), Fail> {
+    let alloc = rt.alloc();
+    let words = words(alloc, "raid6 --help")?;
+    let Err(CommandFault::Refused(error)) = command(alloc, words.as_slice()) else {
+        return Err(Fail::from("no help"));
+    };
+    let help = format!(in alloc; "{error}")?;
+    for name in ["geometry", "simulate"] {
+        assert!(rt; help.as_str().contains(name), "at {name}");
+    }
+    for name in ["create", "verify", "run"] {
+        assert!(rt; !help.as_str().contains(name), "at {name}");
+    }
+    Ok(())
+}

@@ -1,0 +1,15 @@
+//! The settings of an array, as a TOML document gives them. What a document decides is `specs/Settings.antt`, and
+//! `settings` answers exactly that.
+#![tactic(auto)]
+
+pub mod config;
+mod document;
+pub mod fault;
+pub mod key;
+
+pub use config::{Config, settings};
+pub use fault::SettingsFault;
+pub use key::Key;
+
+#[cfg(test)]
+mod tests;

@@ -1,0 +1,10 @@
+//! What the command `simulate` of the program does: a script is played against the cores of an array in memory, and
+//! each event gets a line.
+#![tactic(auto)]
+
+pub mod fault;
+mod lines;
+pub mod simulation;
+
+pub use fault::SimulationFault;
+pub use simulation::simulate;

@@ -1,4 +1,0 @@
-pub mod DocumentLemmas
-pub mod GrammarLemmas
-pub mod RegisterLemmas
-pub mod Walks
