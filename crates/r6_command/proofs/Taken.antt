@@ -1,5 +1,5 @@
 -- Words that ask for no option and say a command are words in which clap finds no fault.
-use Rattle.std.proofs.Common.{◌≡◌, ◌≢◌, ◌⊎◌, inl, inr, Result, Ok, Err, IfErr, ◌==◌, ℕ, ◌||◌, Bool, true, false, cond, List, [], ◌∷◌, ◌++◌, Option, Some, None, codes, drop, fold, refl, ap, ap₂, subst, sym, ◌∙◌}
+use Rattle.std.proofs.Common.{◌≡◌, ◌≢◌, inl, inr, Result, Ok, Err, IfErr, ◌==◌, ℕ, ◌||◌, Bool, true, false, cond, List, [], ◌∷◌, ◌++◌, Option, Some, None, codes, drop, fold, refl, ap, ap₂, subst, sym, ◌∙◌}
 use Rattle.std.proofs.lemmas.Slice.Eq.{bytes_eq-Decides}
 use Rattle.std.specs.Option.{option_map_or}
 use Rattle.std.specs.Prelude.{option_and_then}
@@ -9,7 +9,7 @@ use Rattle.clap.specs.Lexer.{long_of, long_of_rest, short_of, short_of_rest, str
 use Rattle.clap.specs.Kinds.{FailsBy, HasKind, Kinds, or_else}
 use Rattle.clap.specs.declared.error.Error.{Error}
 use Rattle.clap.specs.declared.error.kind.ErrorKind.TheVariants.{OutOfMemory}
-use Rattle.clap.specs.Walk.{Held, Names, Outcome, Row, Step, Text, Walk, idle, value, after_step, long_or_other, nothing_held, short_or_plain, subcommand_met, walked}
+use Rattle.clap.specs.Walk.{Held, Names, Row, Step, Text, Walk, idle, value, after_step, long_or_other, nothing_held, short_or_plain, subcommand_met, walked}
 use Rattle.clap.specs.Simple.{Shape}
 use Rattle.clap.specs.Faults.{bundle_fault, defaults_fault, fault_of, flag_word_fault, level_fault, step_fault, turn_fault, walk_fault}
 use Rattle.r6_command.specs.CommandLine.{Asked, asks_option, command_with, geometry, create, verify, simulate, run, has_option, is_option, operands, said}

@@ -1,6 +1,6 @@
 //! Why a command line has no command to carry out.
 
-ghost use Rattle.std.specs.Prelude.{◌≡◌};
+ghost use Rattle.std.specs.Prelude.{◌≡◌, ◌≢◌};
 ghost use Rattle.clap.specs.Values.{kind_of};
 ghost use Rattle.clap.specs.declared.error.kind.ErrorKind.TheVariants.{OutOfMemory};
 ghost use Rattle.r6_command.specs.declared.fault.CommandFault.TheVariants as command;
@@ -18,7 +18,8 @@ pub enum CommandFault {
 }
 
 impl From<Error> for CommandFault {
-    ghost from_gives = { λ error fault. kind_of error ≡ OutOfMemory → fault ≡ command.Memory };
+    ghost from_gives = { λ error fault. (kind_of error ≡ OutOfMemory → fault ≡ command.Memory)
+        × (kind_of error ≢ OutOfMemory → fault ≡ command.Refused error) };
 
     fn from(error: Error) -> CommandFault {
         if error.kind() == ErrorKind::OutOfMemory {

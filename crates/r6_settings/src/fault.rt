@@ -43,6 +43,11 @@ impl From<AllocError> for SettingsFault {
 }
 
 impl fmt::Display for SettingsFault {
+    ghost use Rattle.std.specs.Prelude.{Some};
+    ghost use Rattle.r6_settings.specs.Faults.{fault_text};
+
+    ghost output = { λ fault. Some (fault_text fault) };
+
     fn fmt<W: fmt::Write>(&self, f: &mut fmt::Formatter<W>) -> fmt::Result {
         match self {
             SettingsFault::NotToml => write!(f, "settings: toml"),

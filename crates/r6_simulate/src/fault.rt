@@ -1,5 +1,7 @@
 //! Why a script isn't played to its end.
 
+ghost use Rattle.std.specs.Prelude.{◌≡◌};
+
 use r6_dev::Fault as DeviceFault;
 use std::alloc::{AllocError, AllocFailed};
 
@@ -15,12 +17,20 @@ pub enum SimulationFault {
 }
 
 impl<T: Drop> From<AllocFailed<T>> for SimulationFault {
+    ghost use Rattle.r6_simulate.specs.declared.fault.SimulationFault.TheVariants.{Memory};
+
+    ghost from_gives = { λ _ fault. fault ≡ Memory };
+
     fn from(_refused: AllocFailed<T>) -> SimulationFault {
         SimulationFault::Memory
     }
 }
 
 impl From<AllocError> for SimulationFault {
+    ghost use Rattle.r6_simulate.specs.declared.fault.SimulationFault.TheVariants.{Memory};
+
+    ghost from_gives = { λ _ fault. fault ≡ Memory };
+
     fn from(_refused: AllocError) -> SimulationFault {
         SimulationFault::Memory
     }

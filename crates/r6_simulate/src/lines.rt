@@ -1,5 +1,10 @@
 //! The lines that the command `simulate` prints.
 
+ghost use Rattle.std.specs.Prelude.{◌≡◌, ◌==◌, ◌++◌, OnOk, string_bytes};
+ghost use Rattle.std.specs.List.{list_all};
+ghost use Rattle.r6_script.specs.Script.{byte_word};
+ghost use Rattle.r6_simulate.specs.Lines.{block_text, command_text, only_byte, refusal_name, reply_text};
+
 use r6_core::{Command, CommandKind, OpId, Receipt, Refusal, Reply};
 use std::alloc::AllocError;
 use std::fmt::{self, Write};
@@ -25,7 +30,25 @@ pub enum Outcome {
     Refused(Refusal),
 }
 
+fn refusal_name(refusal: Refusal) -> &'static str
+    ensures { result.now ≡ refusal_name refusal }
+{
+    match refusal {
+        Refusal::NoSuchBlock => "NoSuchBlock",
+        Refusal::WrongShard => "WrongShard",
+        Refusal::WrongLength => "WrongLength",
+        Refusal::Busy => "Busy",
+        Refusal::Exhausted => "Exhausted",
+        Refusal::UnknownToken => "UnknownToken",
+    }
+}
+
 impl fmt::Display for Outcome {
+    ghost use Rattle.std.specs.Prelude.{Some};
+    ghost use Rattle.r6_simulate.specs.Lines.{outcome_text};
+
+    ghost output = { λ outcome. Some (outcome_text outcome) };
+
     fn fmt<W: fmt::Write>(&self, f: &mut fmt::Formatter<W>) -> fmt::Result {
         match self {
             Outcome::Accepted(shard, id) => write!(f, "op {shard}:{}", id.0),
@@ -36,18 +59,46 @@ impl fmt::Display for Outcome {
             Outcome::Received(Receipt::Taken) => write!(f, "taken"),
             Outcome::Received(Receipt::Late) => write!(f, "late"),
             Outcome::Looked => write!(f, "looked"),
-            Outcome::Refused(refusal) => write!(f, "refused {} {refusal:?}", refusal.number()),
+            Outcome::Refused(refusal) => {
+                write!(f, "refused {} {}", refusal.number(), refusal_name(*refusal))
+            }
         }
     }
 }
 
+fn write_byte(line: &mut String, byte: u8) -> Result<(), AllocError>
+    ensures { OnOk result (string_bytes line.new ≡ string_bytes line.old ++ byte_word byte) }
+{
+    write!(line, "{byte:02x}")
+}
+
+fn are_all(bytes: &[u8], byte: u8) -> bool
+    ensures { result ≡ list_all (λ other. other == byte) bytes.now }
+{
+    bytes.iter().all(|other| *other == byte)
+}
+
+// The byte that all bytes of a block are, if they are equal.
+fn only_byte(block: &[u8]) -> Option<u8>
+    ensures { result ≡ only_byte block.now }
+{
+    let (first, rest) = block.split_first()?;
+    if are_all(rest, *first) {
+        Some(*first)
+    } else {
+        None
+    }
+}
+
 // Writes the byte of a block, if all its bytes are equal, else all of them.
-fn write_block(line: &mut String, block: &[u8]) -> Result<(), AllocError> {
-    match block.first() {
-        Some(first) if block.iter().all(|byte| byte == first) => write!(line, "{first:02x}"),
-        _ => {
+fn write_block(line: &mut String, block: &[u8]) -> Result<(), AllocError>
+    ensures { OnOk result (string_bytes line.new ≡ string_bytes line.old ++ block_text block.now) }
+{
+    match only_byte(block) {
+        Some(byte) => write_byte(line, byte),
+        None => {
             for byte in block {
-                write!(line, "{byte:02x}")?;
+                write_byte(line, *byte)?;
             }
             Ok(())
         }
@@ -60,7 +111,9 @@ pub fn write_reply(
     shard: usize,
     id: OpId,
     reply: &Reply,
-) -> Result<(), AllocError> {
+) -> Result<(), AllocError>
+    ensures { OnOk result (string_bytes line.new ≡ string_bytes line.old ++ reply_text shard id.0 reply.now) }
+{
     write!(line, " | reply {shard}:{} ", id.0)?;
     match reply {
         Reply::Data(buffer) => {
@@ -73,7 +126,9 @@ pub fn write_reply(
 }
 
 /// Goes on with a line: a command that the shard puts out.
-pub fn write_command(line: &mut String, shard: usize, command: &Command) -> Result<(), AllocError> {
+pub fn write_command(line: &mut String, shard: usize, command: &Command) -> Result<(), AllocError>
+    ensures { OnOk result (string_bytes line.new ≡ string_bytes line.old ++ command_text shard command.now) }
+{
     let kind = match command.kind {
         CommandKind::Read => "read",
         CommandKind::Write => "write",

@@ -1,8 +1,10 @@
 //! What the command `simulate` does: the events of a script, played against the cores of an array in memory.
 
-ghost use Rattle.std.specs.Prelude.{◌≡◌, ◌<◌, length, IfSome};
+ghost use Rattle.std.specs.Prelude.{◌≡◌, ◌<◌, length, replicate, IfErr, IfOk, IfSome, OnOk};
+ghost use Rattle.std.specs.Io.KnownBytes.{Appends};
 ghost use Rattle.r6_core.specs.States.{IsWhole};
 ghost use Rattle.r6_layout.specs.Shape.{IsShape};
+ghost use Rattle.r6_simulate.specs.Shards.{shard_of_block, shard_of_event};
 
 use crate::fault::SimulationFault;
 use crate::lines::{Outcome, write_command, write_reply};
@@ -84,7 +86,9 @@ impl Simulation {
     }
 
     // A block of which every byte is this one.
-    fn block_of(&self, byte: u8) -> Result<Buffer, AllocError> {
+    fn block_of(&self, byte: u8) -> Result<Buffer, AllocError>
+        ensures { IfOk result (λ block. block ≡ replicate self.now.geometry.block byte) }
+    {
         let bytes = vec![in self.alloc; byte; self.geometry.block()]?;
         let mut block = Buffer::new(self.alloc, bytes.len())?;
         block.copy_from_slice(bytes.as_slice());
@@ -93,7 +97,8 @@ impl Simulation {
 
     // The shard of a block; a block that isn't there goes to shard 0, which refuses it.
     fn shard_of_block(&self, block: u64) -> usize
-        ensures { result < self.now.geometry.shards }
+        ensures value { result ≡ shard_of_block self.now.geometry block }
+        ensures within { result < self.now.geometry.shards }
     {
         match self.geometry.place(block) {
             Some(place) => place.shard,
@@ -103,7 +108,8 @@ impl Simulation {
 
     // The shard at which an event happens, if the array has it.
     fn shard_of(&self, event: &Event) -> Option<usize>
-        ensures { IfSome result (λ shard. shard < self.now.geometry.shards) }
+        ensures value { result ≡ shard_of_event self.now.geometry event.now }
+        ensures within { IfSome result (λ shard. shard < self.now.geometry.shards) }
     {
         match event {
             Event::Read(block) | Event::Write(block, _) => Some(self.shard_of_block(*block)),
@@ -260,7 +266,10 @@ impl Simulation {
     }
 }
 
-fn print<W: Write>(out: &mut W, text: &str) -> Result<(), SimulationFault> {
+fn print<W: Write>(out: &mut W, text: &str) -> Result<(), SimulationFault>
+    ensures written { OnOk result (Appends (W.contents out.old) (W.contents out.new) text.now) }
+    ensures refused { IfErr result (λ fault. fault ≡ SimulationFault.Output) }
+{
     out.write_all(text.as_bytes())
         .map_err(|_| SimulationFault::Output)
 }

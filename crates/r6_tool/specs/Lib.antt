@@ -1,1 +1,5 @@
+pub mod Commands
+pub mod Faults
+pub mod Layouts
+pub mod Source
 pub mod Status

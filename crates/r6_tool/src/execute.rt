@@ -1,4 +1,14 @@
 //! Carries a command out.
+
+ghost use Rattle.std.specs.Prelude.{◌≡◌, ◌≢◌, ◌⊎◌, ◌∷◌, ◌++◌, [], Ok, Err, IfErr, IfOk, IfSome, OnOk, false, string_bytes};
+ghost use Rattle.std.specs.Io.KnownBytes.{Appends};
+ghost use Rattle.r6_command.specs.CommandLine.{asked_of};
+ghost use Rattle.r6_script.specs.Script.{Say, lines_of, said_of};
+ghost use Rattle.r6_settings.specs.Settings.{settings_in, values_of};
+ghost use Rattle.r6_tool.specs.Commands.{EndsBy, IsDone, IsScriptFault, IsSettingsFault};
+ghost use Rattle.r6_tool.specs.Faults.{fault_text};
+ghost use Rattle.r6_tool.specs.Status.{status_of};
+
 use crate::fault::{Fault, Input};
 use crate::geometry::described;
 use crate::output::{finish, print};
@@ -9,7 +19,10 @@ use r6_simulate::simulate;
 use std::alloc::Global;
 use std::io::{self, ErrorKind, Read, Write};
 
-fn read_text<R: Read>(alloc: Global, reader: &mut R, input: Input) -> Result<String, Fault> {
+fn read_text<R: Read>(alloc: Global, reader: &mut R, input: Input) -> Result<String, Fault>
+    ensures ok { IfOk result (λ text. IfSome (R.remaining reader.old) (λ bytes. string_bytes text ≡ bytes)) }
+    ensures err { IfErr result (λ fault. (fault ≡ Fault.Memory) ⊎ (fault ≡ Fault.Unreadable input)) }
+{
     match io::read_to_string(alloc, reader) {
         Ok(text) => Ok(text),
         Err(error) if error.kind() == ErrorKind::OutOfMemory => Err(Fault::Memory),
@@ -17,16 +30,19 @@ fn read_text<R: Read>(alloc: Global, reader: &mut R, input: Input) -> Result<Str
     }
 }
 
-fn read_settings<R: Read>(
-    alloc: Global,
-    reader: &mut R,
-    with_devices: bool,
-) -> Result<Config, Fault> {
+// Reads the settings of a command that uses no devices.
+fn read_settings<R: Read>(alloc: Global, reader: &mut R) -> Result<Config, Fault>
+    ensures ok { IfOk result (λ config. IfSome (R.remaining reader.old) (λ text. settings_in false text ≡ Ok (values_of config))) }
+    ensures err { IfErr result (IsSettingsFault (R.remaining reader.old)) }
+{
     let text = read_text(alloc, reader, Input::Settings)?;
-    Ok(settings(alloc, text.as_str(), with_devices)?)
+    Ok(settings(alloc, text.as_str(), false)?)
 }
 
-fn read_script<R: Read>(alloc: Global, reader: &mut R) -> Result<Option<Script>, Fault> {
+fn read_script<R: Read>(alloc: Global, reader: &mut R) -> Result<Option<Script>, Fault>
+    ensures ok { IfOk result (λ script. IfSome (R.remaining reader.old) (λ text. Say (lines_of text) (said_of script))) }
+    ensures err { IfErr result (IsScriptFault (R.remaining reader.old)) }
+{
     let text = read_text(alloc, reader, Input::Script)?;
     Ok(parse_script(alloc, text.as_str())?)
 }
@@ -37,23 +53,37 @@ fn carry_out<S: Read, T: Read, W: Write>(
     settings: &mut S,
     script: &mut T,
     out: &mut W,
-) -> Result<(), Fault> {
+) -> Result<(), Fault>
+    ensures ok { OnOk result (IsDone (asked_of invocation.now) (S.remaining settings.old) (T.remaining script.old)
+        (W.contents out.old) (W.contents out.new)) }
+    ensures err { IfErr result (EndsBy (asked_of invocation.now) (S.remaining settings.old) (T.remaining script.old)
+        (W.contents out.old) (W.contents out.new)) }
+{
     match invocation {
         Invocation::Geometry { .. } => {
-            let config = read_settings(alloc, settings, false)?;
+            let config = read_settings(alloc, settings)?;
             let text = described(alloc, &config.geometry)?;
             print(out, text.as_str())?;
+            finish(out)
         }
-        Invocation::Simulate { .. } => {
-            if let Some(script) = read_script(alloc, script)? {
+        Invocation::Simulate { .. } => match read_script(alloc, script)? {
+            Some(script) => {
                 simulate(alloc, &script, out)?;
+                finish(out)
             }
-        }
-        Invocation::Create { .. } => return Err(Fault::NotBuilt("create")),
-        Invocation::Verify { .. } => return Err(Fault::NotBuilt("verify")),
-        Invocation::Run { .. } => return Err(Fault::NotBuilt("run")),
+            None => finish(out),
+        },
+        Invocation::Create { .. } => Err(Fault::NotBuilt("create")),
+        Invocation::Verify { .. } => Err(Fault::NotBuilt("verify")),
+        Invocation::Run { .. } => Err(Fault::NotBuilt("run")),
     }
-    finish(out)
+}
+
+// Writes the line of a fault.
+fn report<E: Write>(err: &mut E, fault: Fault) -> io::Result<()>
+    ensures { OnOk result (Appends (E.contents err.old) (E.contents err.new) (fault_text fault ++ 10 ∷ [])) }
+{
+    writeln!(err, "{fault}")
 }
 
 /// Carries a command out over its settings file and its script, each of which is read only where the
@@ -67,12 +97,18 @@ pub fn execute<S: Read, T: Read, W: Write, E: Write>(
     script: &mut T,
     out: &mut W,
     err: &mut E,
-) -> u8 {
+) -> u8
+    ensures done { result ≡ 0 → IsDone (asked_of invocation.now) (S.remaining settings.old) (T.remaining script.old)
+        (W.contents out.old) (W.contents out.new) }
+    ensures refused { result ≢ 0 → (fault : Fault) × (result ≡ status_of fault)
+        × EndsBy (asked_of invocation.now) (S.remaining settings.old) (T.remaining script.old)
+        (W.contents out.old) (W.contents out.new) fault }
+{
     match carry_out(alloc, invocation, settings, script, out) {
         Ok(()) => 0,
         Err(fault) => {
             // A line that standard error refuses is lost: the status still says what went wrong.
-            let _ = writeln!(err, "{fault}");
+            let _ = report(err, fault);
             fault.status()
         }
     }

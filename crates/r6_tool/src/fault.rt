@@ -59,6 +59,11 @@ impl Fault {
 }
 
 impl fmt::Display for Fault {
+    ghost use Rattle.std.specs.Prelude.{Some};
+    ghost use Rattle.r6_tool.specs.Faults.{fault_text};
+
+    ghost output = { λ fault. Some (fault_text fault) };
+
     fn fmt<W: fmt::Write>(&self, f: &mut fmt::Formatter<W>) -> fmt::Result {
         match self {
             Fault::NotText => write!(f, "raid6: the command line is not UTF-8"),
@@ -75,18 +80,30 @@ impl fmt::Display for Fault {
 }
 
 impl From<SettingsFault> for Fault {
+    ghost use Rattle.r6_tool.specs.declared.fault.Fault.TheVariants.{Settings};
+
+    ghost from_gives = { λ fault told. told ≡ Settings fault };
+
     fn from(fault: SettingsFault) -> Fault {
         Fault::Settings(fault)
     }
 }
 
 impl From<ScriptFault> for Fault {
+    ghost use Rattle.r6_tool.specs.declared.fault.Fault.TheVariants.{Script};
+
+    ghost from_gives = { λ fault told. told ≡ Script fault };
+
     fn from(fault: ScriptFault) -> Fault {
         Fault::Script(fault)
     }
 }
 
 impl From<SimulationFault> for Fault {
+    ghost use Rattle.r6_tool.specs.Faults.{fault_of};
+
+    ghost from_gives = { λ fault told. told ≡ fault_of fault };
+
     fn from(fault: SimulationFault) -> Fault {
         match fault {
             SimulationFault::Device(slot, fault) => Fault::Device(slot, fault),
@@ -97,12 +114,20 @@ impl From<SimulationFault> for Fault {
 }
 
 impl<T: Drop> From<AllocFailed<T>> for Fault {
+    ghost use Rattle.r6_tool.specs.declared.fault.Fault.TheVariants.{Memory};
+
+    ghost from_gives = { λ _ told. told ≡ Memory };
+
     fn from(_refused: AllocFailed<T>) -> Fault {
         Fault::Memory
     }
 }
 
 impl From<AllocError> for Fault {
+    ghost use Rattle.r6_tool.specs.declared.fault.Fault.TheVariants.{Memory};
+
+    ghost from_gives = { λ _ told. told ≡ Memory };
+
     fn from(_refused: AllocError) -> Fault {
         Fault::Memory
     }

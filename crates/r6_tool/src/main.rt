@@ -1,7 +1,7 @@
 //! The program `raid6`: the core of a RAID-6 array as Linux md keeps one, from the command line.
 #![tactic(auto)]
 
-ghost use Rattle.std.specs.Prelude.{◌≡◌, ◌≢◌, ◌⊎◌};
+ghost use Rattle.std.specs.Prelude.{◌≡◌, ◌≢◌, ◌⊎◌, None};
 ghost use Rattle.clap.specs.Values.{kind_of};
 ghost use Rattle.clap.specs.declared.error.kind.ErrorKind.TheVariants.{DisplayHelp, DisplayVersion};
 ghost use Rattle.r6_tool.specs.Status.{status_of};
@@ -32,7 +32,9 @@ enum Source {
 }
 
 impl Source {
-    fn open(rt: &HostRuntime, path: Option<&str>) -> Source {
+    fn open(rt: &HostRuntime, path: Option<&str>) -> Source
+        ensures { path.entry ≡ None → result ≡ Source.Refused ErrorKind.NotFound }
+    {
         match path {
             Some(path) => match fs::open(rt, path) {
                 Ok(file) => Source::Open(file),
@@ -44,7 +46,13 @@ impl Source {
 }
 
 impl Read for Source {
-    fn read(&mut self, buf: &mut [u8]) -> io::Result<usize> {
+    ghost use Rattle.std.specs.Io.{ReadsAtMost};
+    ghost use Rattle.r6_tool.specs.Source.{Reads};
+
+    fn read(&mut self, buf: &mut [u8]) -> io::Result<usize>
+        ensures bound { ReadsAtMost result buf.new }
+        ensures refused { Reads self.old self.new result }
+    {
         match self {
             Source::Open(file) => file.read(buf),
             Source::Refused(kind) => Err(io::Error::from(*kind)),

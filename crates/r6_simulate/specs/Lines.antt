@@ -1,0 +1,73 @@
+-- The lines that the command `simulate` prints. The words are this project's own.
+use Rattle.std.specs.Prelude.{ℕ, ◌==◌, List, [], ◌∷◌, ◌++◌, Option, Some, None, codes, decimal, if◌then◌else◌}
+use Rattle.std.specs.List.{flat_map, join_with_byte, list_all}
+use Rattle.std.specs.Option.{option_map_or}
+use Rattle.r6_core.specs.Refusals.{number_of}
+use Rattle.r6_core.specs.declared.refusal.Receipt.TheVariants.{Taken, Late}
+use Rattle.r6_core.specs.declared.refusal.Refusal.{Refusal}
+use Rattle.r6_core.specs.declared.refusal.Refusal.TheVariants.{NoSuchBlock, WrongShard, WrongLength, Busy, Exhausted, UnknownToken}
+use Rattle.r6_core.specs.declared.reply.Reply.{Reply}
+use Rattle.r6_core.specs.declared.reply.Reply.TheVariants as reply
+use Rattle.r6_core.specs.declared.Command.{Command}
+use Rattle.r6_core.specs.declared.CommandKind.{CommandKind}
+use Rattle.r6_core.specs.declared.CommandKind.TheVariants as kind
+use Rattle.r6_script.specs.Script.{byte_word, command_word}
+use Rattle.r6_simulate.specs.declared.lines.Outcome.{Outcome}
+use Rattle.r6_simulate.specs.declared.lines.Outcome.TheVariants.{Accepted, Performed, PerformedAlready, NoSuchCommand, NotPerformed, Received, Looked, Refused}
+
+abbrev pub Text : Type 0
+Text = List ℕ
+
+abbrev pub refusal_name : Refusal → Text
+refusal_name NoSuchBlock = codes "NoSuchBlock"
+refusal_name WrongShard = codes "WrongShard"
+refusal_name WrongLength = codes "WrongLength"
+refusal_name Busy = codes "Busy"
+refusal_name Exhausted = codes "Exhausted"
+refusal_name UnknownToken = codes "UnknownToken"
+
+-- what became of an event
+abbrev pub outcome_text : Outcome → Text
+outcome_text (Accepted shard id) = codes "op " ++ command_word shard id.0
+outcome_text Performed = codes "performed"
+outcome_text PerformedAlready = codes "performed already"
+outcome_text NoSuchCommand = codes "no such command"
+outcome_text NotPerformed = codes "not performed"
+outcome_text (Received Taken) = codes "taken"
+outcome_text (Received Late) = codes "late"
+outcome_text Looked = codes "looked"
+outcome_text (Refused refusal) = codes "refused " ++ decimal (number_of refusal) ++ 32 ∷ refusal_name refusal
+
+-- the byte that all bytes of a block are, if they are equal
+abbrev pub only_byte : List ℕ → Option ℕ
+only_byte [] = None
+only_byte (byte ∷ bytes) = if list_all (λ other. other == byte) bytes then Some byte else None
+
+-- a block: its byte, if all its bytes are equal, else all of them
+abbrev pub block_text : List ℕ → Text
+block_text block = option_map_or byte_word (only_byte block) (flat_map byte_word block)
+
+abbrev pub reply_words : Reply → List Text
+reply_words (reply.Data buffer) = codes "data" ∷ block_text buffer ∷ []
+reply_words (reply.Done buffer) = codes "done" ∷ []
+reply_words (reply.ArrayFailed buffer) = codes "failed" ∷ []
+
+-- a reply, behind what stands in its line
+abbrev pub reply_text : (shard id : ℕ) → Reply → Text
+reply_text shard id answer = codes " | " ++ join_with_byte 32 (codes "reply" ∷ command_word shard id ∷ reply_words answer)
+
+-- the block of a write goes with it
+abbrev pub block_words : CommandKind → List ℕ → List Text
+block_words kind.Read block = []
+block_words kind.Write block = block_text block ∷ []
+
+abbrev pub kind_word : CommandKind → Text
+kind_word kind.Read = codes "read"
+kind_word kind.Write = codes "write"
+
+-- a command, behind what stands in its line
+abbrev pub command_text : (shard : ℕ) → Command → Text
+command_text shard command = codes " | " ++ join_with_byte 32 (
+    command_word shard command.token ∷ kind_word command.kind ∷ codes "slot" ∷ decimal command.slot
+    ∷ codes "gen" ∷ decimal command.generation ∷ codes "row" ∷ decimal command.row
+    ∷ block_words command.kind command.buffer)

@@ -1,0 +1,11 @@
+use Rattle.std.proofs.Common.{◌≡◌, ◌++◌, string_bytes}
+use Rattle.r6_tool.specs.Layouts.{chunk_row_line, shard_line, texts_below}
+use Rattle.r6_tool.proofs.geometry.described.Given as goal
+
+abbrev pub invariant-loop-shard : goal.invariant-loop-shard
+invariant-loop-shard l =
+    string_bytes l.text ≡ string_bytes l.initial.text ++ texts_below (shard_line l.geometry) l.shard
+
+abbrev pub invariant-loop-chunk_row : goal.invariant-loop-chunk_row
+invariant-loop-chunk_row l =
+    string_bytes l.text ≡ string_bytes l.initial.text ++ texts_below (chunk_row_line l.geometry) l.chunk_row

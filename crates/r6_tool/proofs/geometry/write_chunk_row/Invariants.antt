@@ -1,0 +1,8 @@
+use Rattle.std.proofs.Common.{◌≡◌, ◌++◌, string_bytes}
+use Rattle.r6_layout.specs.Layout.{role_at}
+use Rattle.r6_tool.specs.Layouts.{role_text, texts_below}
+use Rattle.r6_tool.proofs.geometry.write_chunk_row.Given as goal
+
+abbrev pub invariant-loop-slot : goal.invariant-loop-slot
+invariant-loop-slot l =
+    string_bytes l.text ≡ string_bytes l.initial.text ++ texts_below (λ slot. role_text (role_at l.geometry l.row slot)) l.slot
