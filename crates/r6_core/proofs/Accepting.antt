@@ -18,6 +18,8 @@ use Rattle.r6_world.specs.Changes.{Accept, after}
 use Rattle.r6_frames.specs.declared.op.Op.{Op}
 use Rattle.r6_frames.specs.declared.op.Request.{Request as Entered}
 use Rattle.r6_frames.specs.declared.frames.HeldRow.{HeldRow}
+use Rattle.r6_frames.specs.declared.frames.FrameUse.{FrameUse}
+use Rattle.r6_frames.specs.declared.frames.FrameUse.TheVariants as uses
 use Rattle.r6_core.specs.declared.state.State.{State}
 use Rattle.r6_frames.specs.Frames.{op_of, buffer_of, hold_at, requests_from, held_requests, owed, owed_by, owed_in, is_unsent, IsRequestOf}
 use Rattle.r6_core.specs.States.{IsSound, IsCore, AreRequests, state_of, layout_in, requests_of, waiting_request, finished_request, released_request, bound, limit, most_unanswered, HasSubmitFault, HasNone, submit_faults}
@@ -38,7 +40,7 @@ all_below_more n (k ∷ ks) h = (let below = h.0 in omega arith, all_below_more 
 
 -- the requests that don't wait
 abbrev pub others : State → Entries Request
-others s = held_requests s.frames ++ (map finished_request s.finished.items ++ map released_request s.released.items)
+others s = held_requests s.frames ++ (map (finished_request s.frames.saw_failed) s.finished.items ++ map released_request s.released.items)
 
 pub record IsAccepted (s : State) (r : Entered) (new : Entries Request) : Type 0 where
   pub now : table new ≡ put (table (requests_of s)) r.id (Some (record { op = op_of r.op; stage = Waiting }))
@@ -75,11 +77,12 @@ owed_by-le slots h wide =
     let unread : Cell → Bool = λ cell. is_unread cell.reading in
     omega (arith, count_where-le unread cells, count_where-le is_unsent cells, wide)
 
-owed_in-le : (slots start : ℕ) (held : List (Option HeldRow)) → ((frame : ℕ) (h : HeldRow) → hold_at held frame ≡ Some h → length h.hold.planned.hold.cells ≡ slots)
+owed_in-le : (slots start : ℕ) (held : List FrameUse) → ((frame : ℕ) (h : HeldRow) → hold_at held frame ≡ Some h → length h.hold.planned.hold.cells ≡ slots)
     → owed_in held ≤ length (requests_from start held) * (2 * slots)
 owed_in-le slots start [] wide = omega arith
-owed_in-le slots start (None ∷ held) wide = owed_in-le slots (start + 1) held (λ frame h is. wide (suc frame) h is)
-owed_in-le slots start (Some h ∷ held) wide =
+owed_in-le slots start (uses.Free ∷ held) wide = owed_in-le slots (start + 1) held (λ frame h is. wide (suc frame) h is)
+owed_in-le slots start (uses.Returning r ∷ held) wide = owed_in-le slots (start + 1) held (λ frame h is. wide (suc frame) h is)
+owed_in-le slots start (uses.Held h ∷ held) wide =
     let rest = owed_in-le slots (start + 1) held (λ frame h is. wide (suc frame) h is) in
     let own = owed_by-le slots h (wide zero h refl) in
     omega (arith, suc-mul (length (requests_from (start + 1) held)) (2 * slots), rest, own)
@@ -117,13 +120,13 @@ accepted_core s o core right sized =
     let sound = core.sound in
     let r : Entered = record { id = s.accepted; op = o } in
     let more = accepted s r sound.requests refl in
-    let tokens : next_of s.frames.commands < limit = lt_of_not-le (λ le. right.1.1.1.0 (inl le)) in
-    let fresh : s.accepted < limit = lt_of_not-le (λ le. right.1.1.1.0 (inr le)) in
-    let few : s.unanswered < most_unanswered = lt_of_not-le right.1.1.1.1.0 in
+    let tokens : next_of s.frames.commands < limit = lt_of_not-le (λ le. right.1.1.1.1.0 (inl le)) in
+    let fresh : s.accepted < limit = lt_of_not-le (λ le. right.1.1.1.1.0 (inr le)) in
+    let few : s.unanswered < most_unanswered = lt_of_not-le right.1.1.1.1.1.0 in
     let longer : length (s.waiting.items ++ r ∷ []) ≡ length s.waiting.items + 1 = length-append s.waiting.items (r ∷ []) in
-    let counted : length s.waiting.items + (length (held_requests s.frames) + length (map finished_request s.finished.items ++ map released_request s.released.items)) ≡ s.unanswered =
-    ap (λ n. n + (length (held_requests s.frames) + length (map finished_request s.finished.items ++ map released_request s.released.items))) (sym (length-map s.waiting.items waiting_request))
-    ∙ ap (λ n. length (map waiting_request s.waiting.items) + n) (sym (length-append (held_requests s.frames) (map finished_request s.finished.items ++ map released_request s.released.items)))
+    let counted : length s.waiting.items + (length (held_requests s.frames) + length (map (finished_request s.frames.saw_failed) s.finished.items ++ map released_request s.released.items)) ≡ s.unanswered =
+    ap (λ n. n + (length (held_requests s.frames) + length (map (finished_request s.frames.saw_failed) s.finished.items ++ map released_request s.released.items))) (sym (length-map s.waiting.items waiting_request))
+    ∙ ap (λ n. length (map waiting_request s.waiting.items) + n) (sym (length-append (held_requests s.frames) (map (finished_request s.frames.saw_failed) s.finished.items ++ map released_request s.released.items)))
     ∙ sym (length-append (map waiting_request s.waiting.items) (others s)) ∙ sound.requests.counted in
     let owes = owed_in-le s.frames.geometry.slots 0 s.frames.held.items (λ frame h is. (sound.frames.frames.rows frame h is).wide) in
     let room = room_for s.frames.geometry.slots (length s.waiting.items) (length (held_requests s.frames)) (owed s.frames) sound.frames.shape.slots_allowed.1 owes (omega (arith, counted, few)) in
@@ -138,7 +141,13 @@ accepted_core s o core right sized =
           few = omega (arith, few);
           waiting = all-append (IsRequestOf s.frames) s.waiting.items (r ∷ []) sound.requests.waiting (request_of s o right sized s.accepted, tt);
         };
-        room = record { waiting = sound.room.waiting; finished = sound.room.finished; released = sound.room.released };
+        room = record {
+          waiting = sound.room.waiting;
+          finished = sound.room.finished;
+          released = sound.room.released;
+          calls = sound.room.calls;
+          few_calls = sound.room.few_calls;
+        };
         tokens = subst (λ n. next_of s.frames.commands + owed s.frames + 2 * s.frames.geometry.slots * n ≤ limit + 2 * 32 * most_unanswered) (sym longer) (omega (arith, room, tokens));
         accepted = omega (arith, fresh);
       };

@@ -1,18 +1,19 @@
 -- Between public calls, with no request left that could start, a shard is at rest.
-use Rattle.std.proofs.Common.{◌≡◌, ℕ, ◌+◌, true, false, cond, List, [], ◌∷◌, ◌++◌, map, refl, sym, ap, ◌∙◌, Option, Some, None}
+use Rattle.std.proofs.Common.{◌≡◌, ℕ, ◌+◌, Bool, true, false, cond, List, [], ◌∷◌, ◌++◌, map, sym, ap, ◌∙◌, Option, Some, None}
 use Rattle.std.specs.Prelude.{nat_eq, option_map}
 use Rattle.std.specs.List.{AllByRecursion}
 use Rattle.r6_layout.specs.Layout as layout
 use Rattle.r6_world.specs.PlainArray as world
-use Rattle.r6_world.specs.ShardStates.{Request, Stage, Waiting, Held, Finished, Released, IsFree, NotHeld}
+use Rattle.r6_world.specs.ShardStates.{Request, Stage, Waiting, Held, Finished, Released, NotHeld}
 use Rattle.r6_world.specs.Steps.{AtRest}
 use Rattle.r6_frames.specs.declared.op.Request.{Request as Entered}
-use Rattle.r6_frames.specs.declared.frames.HeldRow.{HeldRow}
+use Rattle.r6_frames.specs.declared.frames.FrameUse.{FrameUse}
+use Rattle.r6_frames.specs.declared.frames.FrameUse.TheVariants as uses
 use Rattle.r6_core.specs.declared.state.State.{State}
-use Rattle.r6_frames.specs.Frames.{op_of, hold_of, hold_at, requests_from, IsFreeFrame, NotHeldBy}
-use Rattle.r6_core.specs.States.{IsCore, NoneCanStart, CannotStart, state_of, layout_in, waiting_request, finished_request, released_request}
+use Rattle.r6_frames.specs.Frames.{op_of, hold_of, requests_from, NotHeldBy}
+use Rattle.r6_core.specs.States.{IsCore, NoneCanStart, CannotStart, state_of, rest_of, layout_in, waiting_request, finished_request, released_request}
 use Rattle.r6_frames.proofs.Lists.{Entries, table, looked_up}
-use Rattle.r6_frames.proofs.Resting.{goes_on, nothing_next}
+use Rattle.r6_frames.proofs.Resting.{goes_on, nothing_next, brought_in, free_frame_is}
 
 -- ---- who waits, stands among the waiting
 
@@ -25,14 +26,19 @@ IsPast (Released reply) = Unit {0}
 abbrev pub AllPast : Entries Request → Type 0
 AllPast es = AllByRecursion (λ e. IsPast e.1.stage) es
 
-held_past : (frame : ℕ) (held : List (Option HeldRow)) (rest : Entries Request) → AllPast rest → AllPast (requests_from frame held ++ rest)
+held_past : (frame : ℕ) (held : List FrameUse) (rest : Entries Request) → AllPast rest → AllPast (requests_from frame held ++ rest)
 held_past frame [] rest h = h
-held_past frame (None ∷ held) rest h = held_past (frame + 1) held rest h
-held_past frame (Some x ∷ held) rest h = (tt, held_past (frame + 1) held rest h)
+held_past frame (uses.Free ∷ held) rest h = held_past (frame + 1) held rest h
+held_past frame (uses.Held x ∷ held) rest h = (tt, held_past (frame + 1) held rest h)
+held_past frame (uses.Returning r ∷ held) rest h = held_past (frame + 1) held rest h
 
-finished_past : (rs : List Entered) (rest : Entries Request) → AllPast rest → AllPast (map finished_request rs ++ rest)
-finished_past [] rest h = h
-finished_past (r ∷ rs) rest h = (tt, finished_past rs rest h)
+ended_past : (saw_failed : Bool) (r : Entered) → IsPast (finished_request saw_failed r).1.stage
+ended_past true r = tt
+ended_past false r = tt
+
+finished_past : (saw_failed : Bool) (rs : List Entered) (rest : Entries Request) → AllPast rest → AllPast (map (finished_request saw_failed) rs ++ rest)
+finished_past saw_failed [] rest h = h
+finished_past saw_failed (r ∷ rs) rest h = (ended_past saw_failed r, finished_past saw_failed rs rest h)
 
 released_past : (rs : List Entered) → AllPast (map released_request rs)
 released_past [] = tt
@@ -54,28 +60,21 @@ waits_at P (r ∷ rs) rest id op past all is =
 
 -- ---- the frames of the code are those of the shard
 
-none_of_mapped : {A B : Type 0} (f : A → B) (o : Option A) → option_map f o ≡ None → o ≡ None
-none_of_mapped f None e = refl
-none_of_mapped f (Some a) e = absurd (cc)
-
 not_held_by : (s : State) (row : ℕ) → NotHeld (state_of s) row → NotHeldBy s.frames row
 not_held_by s row not_held frame h is at = not_held frame (hold_of h) (ap (option_map hold_of) is) at
-
-free_frame : (s : State) (frame : ℕ) → IsFree (layout_in s) (state_of s) frame → IsFreeFrame s.frames frame
-free_frame s frame free = (free.0, none_of_mapped hold_of (hold_at s.frames.held.items frame) free.1)
 
 -- ---- at rest
 
 pub at_rest : (s : State) → IsCore s → NoneCanStart s → AtRest (layout_in s) s.frames.shard (state_of s)
 at_rest s core none =
     record {
-      goes_on = λ live frame h is. goes_on s.accepted (state_of s).request s.frames core.sound.frames frame h (core.rested frame).0 (core.rested frame).1 is;
-      nothing_next = λ live frame h is. nothing_next s.frames frame h (core.rested frame).0 is;
+      goes_on = λ live frame h is. goes_on (rest_of s) s.frames core.sound.frames live frame h (core.rested live frame).0 (core.rested live frame).1 is;
+      nothing_next = λ live frame h is. nothing_next s.frames frame h (core.rested live frame).0 is;
       none_could_start = λ live id op is free_row frame free.
-          let rest : Entries Request = requests_from 0 s.frames.held.items ++ (map finished_request s.finished.items ++ map released_request s.released.items) in
-          let past = held_past 0 s.frames.held.items _ (finished_past s.finished.items _ (released_past s.released.items)) in
+          let rest : Entries Request = requests_from 0 s.frames.held.items ++ (map (finished_request s.frames.saw_failed) s.finished.items ++ map released_request s.released.items) in
+          let past = held_past 0 s.frames.held.items _ (finished_past s.frames.saw_failed s.finished.items _ (released_past s.released.items)) in
           let there = waits_at (CannotStart s.frames) s.waiting.items rest id op past none is in
           let row = ap (λ o. layout.row_of s.frames.geometry (world.block_of o)) there.2 in
-          there.1 (not_held_by s _ (λ f h held at. free_row f h held (at ∙ sym row))) frame (free_frame s frame free);
-      brought_in = λ live slot built. built;
+          there.1 live (not_held_by s _ (λ f h held at. free_row f h held (at ∙ sym row))) frame (free_frame_is (rest_of s) s.frames frame core.sound.frames live free);
+      brought_in = λ live slot built. brought_in (rest_of s) s.frames core.sound.frames slot built;
     }

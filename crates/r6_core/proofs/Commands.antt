@@ -1,22 +1,27 @@
 -- What taking a command does to the state.
-use Rattle.std.proofs.Common.{◌≡◌, ℕ, ◌*◌, ◌<◌, ◌++◌, length, map, sym, ap, subst, ◌∙◌, Option, Some, None, MatchOption, arith}
+use Rattle.std.proofs.Common.{◌≡◌, ℕ, ◌*◌, ◌<◌, ◌≤◌, List, [], ◌++◌, Bool, length, map, sym, ap, subst, ◌∙◌, Option, Some, None, MatchOption, arith}
 use Rattle.std.specs.Prelude.{nat_eq}
 use Rattle.std.specs.List.{IsDistinct, AllByRecursion}
 use Rattle.std.specs.Map.{keys_of}
 use Rattle.r6_layout.specs.Shape.{Shape}
 use Rattle.r6_tables.specs.Table.{next_of}
+use Rattle.r6_world.specs.ShardStates as shards
 use Rattle.r6_world.specs.ShardStates.{Shard}
 use Rattle.r6_world.specs.Steps as steps
 use Rattle.r6_world.specs.Steps.{Take_command, No_command}
 use Rattle.r6_frames.specs.declared.command.Command.{Command}
 use Rattle.r6_frames.specs.declared.frames.Frames.{Frames}
 use Rattle.r6_core.specs.declared.state.State.{State}
-use Rattle.r6_frames.specs.Frames.{world_command, held_requests, owed_in, shard_with, hold_at, Steps, KeepsHolds}
+use Rattle.r6_frames.specs.Frames.{world_command, held_requests, owed_in, Rest, shard_with, hold_at, Steps, KeepsHolds, AreLive, IsDriven, IsOver}
+use Rattle.r6_frames.specs.Slots.{count_out}
 use Rattle.r6_frames.specs.Sound as held
-use Rattle.r6_core.specs.States.{IsCore, Step, layout_in, state_of, requests_of, waiting_request, finished_request, released_request}
+use Rattle.r6_core.specs.States.{IsCore, Step, layout_in, state_of, rest_of, requests_of, waiting_request, finished_request, released_request}
 use Rattle.r6_frames.proofs.Lists.{table}
 use Rattle.r6_core.proofs.Kept.{requests_kept}
-use Rattle.r6_core.proofs.Delivering.{rested_kept}
+
+-- a frame that has what it had
+pub rested_kept : (old new : Frames) (frame : ℕ) → hold_at new.held.items frame ≡ hold_at old.held.items frame → IsDriven old frame × (IsOver old frame → ⊥) → IsDriven new frame × (IsOver new frame → ⊥)
+rested_kept old new frame same rested = (λ h is. rested.0 h (sym same ∙ is), λ over. rested.1 (over.0, sym same ∙ over.1, over.2))
 
 -- the frames with the holds of before
 pub record IsTaken (old new : Frames) : Type 0 where
@@ -25,15 +30,19 @@ pub record IsTaken (old new : Frames) : Type 0 where
   pub geometry : new.geometry ≡ old.geometry
   pub shard : new.shard ≡ old.shard
   pub tokens : next_of new.commands ≡ next_of old.commands
+  pub slots : new.slots ≡ old.slots
+  pub saw_failed : new.saw_failed ≡ old.saw_failed
 
-same_requests : (s : State) (new : Frames) → KeepsHolds s.frames new → requests_of (record s { frames = new }) ≡ requests_of s
-same_requests s new holds =
-    ap (λ es. map waiting_request s.waiting.items ++ (es ++ (map finished_request s.finished.items ++ map released_request s.released.items))) (ap (λ held. held_requests (record new { held = held })) holds)
+same_requests : (s : State) (new : Frames) → KeepsHolds s.frames new → new.saw_failed ≡ s.frames.saw_failed → requests_of (record s { frames = new }) ≡ requests_of s
+same_requests s new holds failed = λ i.
+    map waiting_request s.waiting.items
+    ++ (held_requests (record new { held = holds i }) ++ (map (finished_request (failed i)) s.finished.items ++ map released_request s.released.items))
 
 taken_core : (s : State) (new : Frames) → IsCore s → IsTaken s.frames new → IsCore (record s { frames = new })
 taken_core s new core is =
     let sound = core.sound in
-    let same = same_requests s new is.holds in
+    let same = same_requests s new is.holds is.saw_failed in
+    let out : count_out new.slots new.geometry.slots ≡ count_out s.frames.slots s.frames.geometry.slots = λ i. count_out (is.slots i) (is.geometry i).slots in
     record {
       sound = record {
         frames = is.sound;
@@ -44,35 +53,50 @@ taken_core s new core is =
           few = sound.requests.few;
           waiting = requests_kept s.frames new s.waiting.items is.geometry is.shard sound.requests.waiting;
         };
-        room = record { waiting = sound.room.waiting; finished = sound.room.finished; released = sound.room.released };
+        room = record {
+          waiting = sound.room.waiting;
+          finished = sound.room.finished;
+          released = sound.room.released;
+          calls = sound.room.calls;
+          few_calls = omega (arith, sound.room.few_calls, out);
+        };
         tokens =
             let slots = ap (λ (g : Shape). 2 * g.slots * length s.waiting.items) is.geometry in
             let owes = ap (λ held. owed_in held.items) is.holds in
             omega (arith, slots, owes, is.tokens, sound.tokens);
         accepted = sound.accepted;
       };
-      rested = λ frame. rested_kept s.frames new frame (ap (λ held. hold_at held.items frame) is.holds) (core.rested frame);
+      rested = λ live frame.
+          let before : AreLive s.frames = (subst (λ (shape : Shape). count_out s.frames.slots shape.slots ≤ 2) is.geometry (subst (λ slots. count_out slots new.geometry.slots ≤ 2) is.slots live.0), sym is.saw_failed ∙ live.1) in
+          rested_kept s.frames new frame (ap (λ held. hold_at held.items frame) is.holds) (core.rested before frame);
     }
 
-step_of : (s : State) (new : Frames) (event : steps.Event) → KeepsHolds s.frames new → Steps s.frames event new → Step s event (record s { frames = new })
-step_of s new event holds stepped =
-    let same = same_requests s new holds in
-    ((stepped.0, stepped.1), subst (λ es. steps.Step (layout_in s) s.frames.shard (state_of s) event (shard_with s.accepted (table es) new)) (sym same) (stepped.2 s.accepted (table (requests_of s))))
+step_of : (s : State) (new : Frames) (event : steps.Event) → KeepsHolds s.frames new → new.saw_failed ≡ s.frames.saw_failed → Steps s.frames event new → Step s event (record s { frames = new })
+step_of s new event holds failed stepped =
+    let same = same_requests s new holds failed in
+    let rest : List (ℕ × shards.Request) → Rest = λ es. record (rest_of s) { request = table es } in
+    ((stepped.0, stepped.1), subst (λ es. steps.Step (layout_in s) s.frames.shard (state_of s) event (shard_with (rest es) new)) (sym same) (stepped.2 (rest_of s)))
 
 abbrev pub TakesCommand : Frames → Option Command → Frames → Type 0
-TakesCommand old result new = MatchOption result (Steps old No_command new) (λ c. (frame : ℕ) × Steps old (Take_command c.token (world_command frame c)) new)
+TakesCommand old result new = MatchOption result (Steps old No_command new) (λ c. (frame : ℕ) × (abandoned : Bool) × Steps old (Take_command c.token (world_command frame abandoned c)) new)
 
-is_taken : (old new : Frames) (result : Option Command) → held.IsSound new → KeepsHolds old new → TakesCommand old result new → IsTaken old new
-is_taken old new None sound holds took =
-    record { sound = sound; holds = holds; geometry = took.0; shard = took.1; tokens = ap (λ (s : Shard). s.tokens) (took.2 0 (λ id. None)).1 }
-is_taken old new (Some c) sound holds took =
-    let stepped = took.1 in
-    record { sound = sound; holds = holds; geometry = stepped.0; shard = stepped.1; tokens = ap (λ (s : Shard). s.tokens) (stepped.2 0 (λ id. None)).1 }
+abbrev pub SameSlots : Frames → Frames → Type 0
+SameSlots old new = (new.slots ≡ old.slots) × (new.saw_failed ≡ old.saw_failed)
 
-pub taken_rests : (s : State) (new : Frames) (result : Option Command) → IsCore s → held.IsSound new → KeepsHolds s.frames new → TakesCommand s.frames result new → IsCore (record s { frames = new })
-taken_rests s new result core sound holds took = taken_core s new core (is_taken s.frames new result sound holds took)
+abbrev no_rest : Rest
+no_rest = record { accepted = 0; request = λ id. None; calls = []; untold = None }
 
-pub taken_step : (s : State) (new : Frames) (result : Option Command) → KeepsHolds s.frames new → TakesCommand s.frames result new
-    → MatchOption result (Step s No_command (record s { frames = new })) (λ c. (frame : ℕ) × Step s (Take_command c.token (world_command frame c)) (record s { frames = new }))
-taken_step s new None holds took = step_of s new No_command holds took
-taken_step s new (Some c) holds took = (took.0, step_of s new (Take_command c.token (world_command took.0 c)) holds took.1)
+is_taken : (old new : Frames) (result : Option Command) → held.IsSound new → KeepsHolds old new → SameSlots old new → TakesCommand old result new → IsTaken old new
+is_taken old new None sound holds same took =
+    record { sound = sound; holds = holds; geometry = took.0; shard = took.1; tokens = ap (λ (s : Shard). s.tokens) (took.2 no_rest).1; slots = same.0; saw_failed = same.1 }
+is_taken old new (Some c) sound holds same took =
+    let stepped = took.2 in
+    record { sound = sound; holds = holds; geometry = stepped.0; shard = stepped.1; tokens = ap (λ (s : Shard). s.tokens) (stepped.2 no_rest).1; slots = same.0; saw_failed = same.1 }
+
+pub taken_rests : (s : State) (new : Frames) (result : Option Command) → IsCore s → held.IsSound new → KeepsHolds s.frames new → SameSlots s.frames new → TakesCommand s.frames result new → IsCore (record s { frames = new })
+taken_rests s new result core sound holds same took = taken_core s new core (is_taken s.frames new result sound holds same took)
+
+pub taken_step : (s : State) (new : Frames) (result : Option Command) → KeepsHolds s.frames new → SameSlots s.frames new → TakesCommand s.frames result new
+    → MatchOption result (Step s No_command (record s { frames = new })) (λ c. (frame : ℕ) × (abandoned : Bool) × Step s (Take_command c.token (world_command frame abandoned c)) (record s { frames = new }))
+taken_step s new None holds same took = step_of s new No_command holds same.1 took
+taken_step s new (Some c) holds same took = (took.0, took.1, step_of s new (Take_command c.token (world_command took.0 took.1 c)) holds same.1 took.2)

@@ -1,5 +1,5 @@
 -- A run of the core of the smallest array, in which block 0 is read.
-use Rattle.std.proofs.Common.{◌≡◌, ℕ, zero, suc, ◌<◌, List, [], ◌∷◌, ◌++◌, Bool, cond, inl, inr, refl, sym, ap, subst, ◌∙◌, arith, Option, Some, None}
+use Rattle.std.proofs.Common.{◌≡◌, ℕ, zero, suc, List, [], ◌∷◌, Bool, false, cond, inl, inr, refl, sym, ap, subst, ◌∙◌, arith, Option, Some, None}
 use Rattle.std.specs.Prelude.{option_map}
 use Rattle.std.specs.Global.{Vec}
 use denote.RawPtr.{null_ptr}
@@ -21,11 +21,11 @@ use Rattle.r6_world.specs.ShardStates.{Held, Finished, Released, Command, Shard,
 use Rattle.r6_world.specs.Changes.{Learn, Finish, Release, Hand_reply, adopted, after}
 use Rattle.r6_world.specs.Steps as steps
 use Rattle.r6_world.specs.Steps.{Event, Submit, Deliver, Good, Taken, Look, Take_command, Take_reply}
-use Rattle.r6_world.specs.Worlds.{Devices, started, shard_at_start, slot_at_start}
+use Rattle.r6_world.specs.Worlds.{Devices, shard_at_start, slot_at_start}
 use Rattle.r6_world.specs.Witness.{smallest, small}
 use Rattle.r6_world.proofs.Tables.{not_both}
 use Rattle.r6_world.proofs.Reaches.{fetch, handed_out}
-use Rattle.r6_world.proofs.SmallShards.{no_request, no_hold, no_command, but_one, but_one-same, asked, held, on, state, none_built, entry_is, none_is, put-gone, one_waits_not, finished_not, released_not, free_rests, each, unread_not_asked, known_not_asked, unwritten_not_sent, n0<1, n1<4, n0≤2}
+use Rattle.r6_world.proofs.SmallShards.{no_hold, no_command, but_one, but_one-same, asked, held, on, state, none_built, entry_is, none_is, put-gone, one_waits_not, finished_not, released_not, free_rests, each, unread_not_asked, known_not_asked, unwritten_not_sent, n0<1, n1<4, n0≤2}
 use Rattle.r6_world.proofs.WitnessWrite.{fetched, s0}
 use Rattle.r6_world.proofs.WitnessError.{f1, submits}
 use Rattle.r6_frames.specs.declared.op.Op.TheVariants as op
@@ -34,6 +34,8 @@ use Rattle.r6_frames.specs.declared.command.CommandKind.TheVariants as command
 use Rattle.r6_frames.specs.declared.command.Outstanding.{Outstanding}
 use Rattle.r6_frames.specs.declared.frames.Job.TheVariants as job
 use Rattle.r6_frames.specs.declared.frames.HeldRow.{HeldRow}
+use Rattle.r6_frames.specs.declared.frames.FrameUse.{FrameUse}
+use Rattle.r6_frames.specs.declared.frames.FrameUse.TheVariants as uses
 use Rattle.r6_frames.specs.Frames.{command_of, hold_at, hold_of, frame_of}
 use Rattle.r6_frames.proofs.Tables.{inserted-at}
 use Rattle.r6_core.specs.declared.state.State.{State}
@@ -122,7 +124,7 @@ no_items = record { ptr = null_ptr; len = 0; cap = 0; alloc = record { memory = 
 abbrev one_item : {X : Type 0} → X → Vec X
 one_item x = record { ptr = null_ptr; len = 1; cap = 1; alloc = record { memory = record { seal = record {} } }; items = x ∷ []; ok = (refl, omega arith); small = omega arith }
 
-abbrev core_with : (accepted handed tokens : ℕ) → Vec (Option HeldRow) → (finished released : List Request) → FinMap nat_cmp Outstanding → State
+abbrev core_with : (accepted handed tokens : ℕ) → Vec FrameUse → (finished released : List Request) → FinMap nat_cmp Outstanding → State
 core_with accepted handed tokens held finished released commands =
     record {
       accepted = accepted;
@@ -130,34 +132,36 @@ core_with accepted handed tokens held finished released commands =
       waiting = buffer [] 256;
       finished = buffer finished 256;
       released = buffer released 256;
-      frames = record { geometry = smallest; shard = 0; held = held; spare = no_items; commands = (0, (tokens, commands)); handed = handed };
+      calls = buffer [] 32;
+      untold = None;
+      frames = record { geometry = smallest; shard = 0; slots = []; saw_failed = false; held = held; spare = no_items; commands = (0, (tokens, commands)); handed = handed };
     }
 
 abbrev held_row : HeldRow
 held_row = record { row = 0; id = 0; block = 0; job = job.Read []; hold = record { planned = record { hold = m1.course; plan = m1.plan }; away = [] } }
 
 abbrev put_out : Outstanding
-put_out = record { frame = 0; slot = 1; row = 0; kind = command.Read; buffer = None }
+put_out = record { frame = 0; slot = 1; generation = 0; row = 0; kind = command.Read; buffer = None }
 
 abbrev read_of : Block → Request
 read_of b = record { id = 0; op = op.Read 0 b }
 
 abbrev reading : (handed : ℕ) → State
-reading handed = core_with 1 handed 1 (one_item (Some held_row)) [] [] (map.insert map.empty 0 put_out)
+reading handed = core_with 1 handed 1 (one_item (uses.Held held_row)) [] [] (map.insert map.empty 0 put_out)
 
 abbrev c0 : State
-c0 = core_with 0 0 0 (one_item None) [] [] map.empty
+c0 = core_with 0 0 0 (one_item uses.Free) [] [] map.empty
 
 abbrev c3 : Block → State
-c3 b = core_with 1 1 1 (one_item None) (read_of b ∷ []) [] map.empty
+c3 b = core_with 1 1 1 (one_item uses.Free) (read_of b ∷ []) [] map.empty
 
 abbrev c4 : Block → State
-c4 b = core_with 1 1 1 (one_item None) [] (read_of b ∷ []) map.empty
+c4 b = core_with 1 1 1 (one_item uses.Free) [] (read_of b ∷ []) map.empty
 
 abbrev c5 : State
-c5 = core_with 1 1 1 (one_item None) [] [] map.empty
+c5 = core_with 1 1 1 (one_item uses.Free) [] [] map.empty
 
-no_hold_at : (hold : Option HeldRow) (frame : ℕ) → (frame ≡ 0 → ⊥) → hold_at (hold ∷ []) frame ≡ None
+no_hold_at : (hold : FrameUse) (frame : ℕ) → (frame ≡ 0 → ⊥) → hold_at (hold ∷ []) frame ≡ None
 no_hold_at hold zero ne = absurd (ne refl)
 no_hold_at hold (suc frame) ne = refl
 
@@ -165,22 +169,22 @@ none_held : (frame : ℕ) → frame_of c0.frames frame ≡ None
 none_held zero = refl
 none_held (suc frame) = refl
 
-none_out : (handed token : ℕ) → option_map (command_of handed token) (map.get {R = nat_cmp} map.empty token) ≡ None
-none_out handed token = ap (option_map (command_of handed token)) (map.get-empty nat_cmp token)
+none_out : (handed token : ℕ) → option_map (command_of [] handed token) (map.get {R = nat_cmp} map.empty token) ≡ None
+none_out handed token = ap (option_map (command_of [] handed token)) (map.get-empty nat_cmp token)
 
 -- the table of commands that holds the one
-out_at : (handed : ℕ) (own : Command) → command_of handed 0 put_out ≡ own → (token : ℕ) → (state_of (reading handed)).command token ≡ put no_command 0 (Some own) token
+out_at : (handed : ℕ) (own : Command) → command_of [] handed 0 put_out ≡ own → (token : ℕ) → (state_of (reading handed)).command token ≡ put no_command 0 (Some own) token
 out_at handed own is token =
     sym (entry_is (state_of (reading handed)).command 0 (Some own)
-    (ap (option_map (command_of handed 0)) (inserted-at map.empty 0 put_out 0) ∙ ap (λ (c : Command). Some c) is)
-    (λ at ne. ap (option_map (command_of handed at)) (inserted-at map.empty 0 put_out at ∙ ap (λ (b : Bool). cond b (Some put_out) (map.get {R = nat_cmp} map.empty at)) (ne_eqb at 0 ne) ∙ map.get-empty nat_cmp at))
+    (ap (option_map (command_of [] handed 0)) (inserted-at map.empty 0 put_out 0) ∙ ap (λ (c : Command). Some c) is)
+    (λ at ne. ap (option_map (command_of [] handed at)) (inserted-at map.empty 0 put_out at ∙ ap (λ (b : Bool). cond b (Some put_out) (map.get {R = nat_cmp} map.empty at)) (ne_eqb at 0 ne) ∙ map.get-empty nat_cmp at))
     token)
 
-reading_for : (handed : ℕ) (own : Command) → command_of handed 0 put_out ≡ own
+reading_for : (handed : ℕ) (own : Command) → command_of [] handed 0 put_out ≡ own
     → state_of (reading handed) ≡ state 1 (asked 0 (Read 0) (Held 0)) (held m1) 1 (put no_command 0 (Some own)) (but_one (Synced 0)) [] 0
 reading_for handed own is = λ i. record (state_of (reading handed)) {
   request = λ id. sym (entry_is (state_of (reading handed)).request 0 (Some (record { op = Read 0; stage = Held 0 })) refl (λ at ne. rw (ne_eqb at 0 ne) refl) id) i;
-  frame = λ f. sym (entry_is (state_of (reading handed)).frame 0 (Some m1) refl (λ at ne. ap (option_map hold_of) (no_hold_at (Some held_row) at ne)) f) i;
+  frame = λ f. sym (entry_is (state_of (reading handed)).frame 0 (Some m1) refl (λ at ne. ap (option_map hold_of) (no_hold_at (uses.Held held_row) at ne)) f) i;
   command = λ t. out_at handed own is t i;
   slot = λ d. but_one-same d i;
 }

@@ -1,7 +1,7 @@
 -- A run of cores is a run of the world whose shards they are.
-use Rattle.std.proofs.Common.{◌≡◌, ℕ, ◌<◌, ◌⊎◌, List, [], ◌∷◌, map, inl, inr, sym, ap, subst, ◌∙◌}
+use Rattle.std.proofs.Common.{◌≡◌, ℕ, ◌<◌, List, [], ◌∷◌, map, inl, inr, refl, sym, ap, subst, ◌∙◌}
 use Rattle.std.proofs.lemmas.Bool.{cases_eq}
-use Rattle.r6_layout.specs.Shape.{Shape, IsShape}
+use Rattle.r6_layout.specs.Shape.{Shape}
 use Rattle.r6_world.specs.Tables.{put}
 use Rattle.r6_world.specs.PlainArray.{Array}
 use Rattle.r6_world.specs.Layouts.{Layout}
@@ -9,14 +9,14 @@ use Rattle.r6_world.specs.Registers.{Snapshot}
 use Rattle.r6_world.specs.Geometries.{layout_of, LayoutLaw}
 use Rattle.r6_world.specs.ShardStates.{Shard}
 use Rattle.r6_world.specs.Steps as steps
-use Rattle.r6_world.specs.Steps.{Event}
+use Rattle.r6_world.specs.Steps.{Event, Take_call}
 use Rattle.r6_world.specs.Worlds as worlds
 use Rattle.r6_world.specs.Worlds.{World, Devices, Possible, Run, next, started}
 use Rattle.r6_world.specs.Laws.{IsOfOutside, OfEveryRun}
 use Rattle.r6_world.proofs.Tables.{put-same, put-other}
 use Rattle.r6_core.specs.declared.state.State.{State}
 use Rattle.r6_core.specs.States.{Step, state_of}
-use Rattle.r6_core.specs.Runs.{Happening, Call, Perform, Outside, Moment, in_world, moment_of, cores_after, MayHappen, CoresRun, AreMade, StayShards, RunsOfCores, OfEveryRunOfCores}
+use Rattle.r6_core.specs.Runs.{Happening, Call, Perform, Tell, Outside, Moment, in_world, moment_of, cores_after, MayHappen, CoresRun, AreMade, StayShards, RunsOfCores, OfEveryRunOfCores}
 
 -- the core is of this shard of the array, and is what the world has as the shard
 record Is (shape : Shape) (n : ℕ) (shard : Shard) (core : State) : Type 0 where
@@ -38,6 +38,11 @@ possible : (shape : Shape) (w : World) (cores : ℕ → State) → Are shape w c
     → Possible (layout_of shape) IsOfOutside w (in_world h)
 possible shape w cores are (Call n event new) may = (may.0, may.1, stepped shape n (w.shard n) (cores n) event new (are n may.0) may.2)
 possible shape w cores are (Perform n token c) may = may
+possible shape w cores are (Tell n call answer middle new) may =
+    let is = are n may.0 in
+    let taken = may.2 in
+    let mid : Is shape n (state_of middle) middle = record { geometry = taken.0.0 ∙ is.geometry; number = taken.0.1 ∙ is.number; same = refl } in
+    (may.0, may.1, stepped shape n (w.shard n) (cores n) (Take_call call) middle is taken, stepped shape n (state_of middle) middle (steps.Told call answer) new mid may.3)
 possible shape w cores are (Outside call) may = may
 
 -- whatever happens
@@ -68,6 +73,11 @@ still shape w cores are (Call k event new) noise may n below =
     let same = may.2.0 in
     are_put shape w.shard cores k new (same.0 ∙ is.geometry) (same.1 ∙ is.number) n (are n below)
 still shape w cores are (Perform k token c) noise may n below = are n below
+still shape w cores are (Tell k call answer middle new) noise may n below =
+    let is = are k may.0 in
+    let first = may.2.0 in
+    let second = may.3.0 in
+    are_put shape w.shard cores k new (second.0 ∙ first.0 ∙ is.geometry) (second.1 ∙ first.1 ∙ is.number) n (are n below)
 still shape w cores are (Outside call) noise may n below = are n below
 
 runs : (shape : Shape) (w : World) (cores : ℕ → State) → Are shape w cores → (moments : List Moment) → CoresRun (layout_of shape) w cores moments

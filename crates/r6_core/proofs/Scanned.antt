@@ -6,7 +6,8 @@ use Rattle.r6_world.specs.Steps.{Through, Scans}
 use Rattle.r6_frames.specs.declared.op.Request.{Request}
 use Rattle.r6_frames.specs.declared.frames.Frames.{Frames}
 use Rattle.r6_core.specs.declared.state.State.{State}
-use Rattle.r6_core.specs.States.{IsCore, NoneCanStart, CannotStart, Starts, InTurn, Advances, SameFrames, KeepsReplies, state_of, layout_in}
+use Rattle.r6_core.specs.States.{IsCore, NoneCanStart, CannotStart, Starts, InTurn, Advances, SameFrames, SameCalls, KeepsReplies, state_of, layout_in}
+use Rattle.r6_frames.specs.Frames.{AreLive}
 use Rattle.r6_core.proofs.Passed.{all-append}
 use Rattle.r6_core.proofs.Throughs.{through_both, through_none}
 
@@ -36,7 +37,9 @@ in_turn_waits old (d ∷ done) s waiting r before cannot = elim before [
 pub record IsScanned (old new : State) (tests all : ℕ) : Type 0 where
   pub core : IsCore new
   pub leads : Through (layout_in old) old.frames.shard Scans (state_of old) (state_of new)
+  pub live : AreLive new.frames
   pub same : SameFrames old new
+  pub calls : SameCalls old new
   pub replies : KeepsReplies old new
   pub untested : List Request
   pub tested : List Request
@@ -47,12 +50,14 @@ pub record IsScanned (old new : State) (tests all : ℕ) : Type 0 where
   pub split : old.waiting.items ≡ had_turn ++ untested
   pub turns : InTurn old.frames had_turn new.frames tested
 
-pub unscanned : (s : State) (all : ℕ) → IsCore s → length s.waiting.items ≡ all → IsScanned s s 0 all
-unscanned s all core count =
+pub unscanned : (s : State) (all : ℕ) → IsCore s → AreLive s.frames → length s.waiting.items ≡ all → IsScanned s s 0 all
+unscanned s all core live count =
     record {
       core = core;
       leads = through_none (layout_in s) s.frames.shard Scans (state_of s) (state_of s) refl;
+      live = live;
       same = (refl, refl);
+      calls = (refl, refl);
       replies = ((refl, refl), refl);
       untested = s.waiting.items;
       tested = [];
@@ -73,8 +78,8 @@ pub some_waits : (old s : State) (tests all : ℕ) → IsScanned old s tests all
 some_waits old s tests all before below =
     omega (arith, before.count, ap length before.items, length-append before.untested before.tested)
 
-module _ (old s new : State) (tests all : ℕ) (before : IsScanned old s tests all) (core : IsCore new)
-    (leads : Through (layout_in s) s.frames.shard Scans (state_of s) (state_of new)) (same : SameFrames s new) (replies : KeepsReplies s new) where
+module _ (old s new : State) (tests all : ℕ) (before : IsScanned old s tests all) (core : IsCore new) (live : AreLive new.frames)
+    (leads : Through (layout_in s) s.frames.shard Scans (state_of s) (state_of new)) (same : SameFrames s new) (calls : SameCalls s new) (replies : KeepsReplies s new) where
   both_lead : Through (layout_in old) old.frames.shard Scans (state_of old) (state_of new)
   both_lead =
       through_both (layout_in old) old.frames.shard Scans (state_of old) (state_of s) (state_of new) before.leads
@@ -102,7 +107,9 @@ module _ (old s new : State) (tests all : ℕ) (before : IsScanned old s tests a
         | inl started ↦ record {
           core = core;
           leads = both_lead;
+          live = live;
           same = (same.0 ∙ before.same.0, same.1 ∙ before.same.1);
+          calls = (calls.0 ∙ before.calls.0, calls.1 ∙ before.calls.1);
           replies = both_kept;
           untested = next.0;
           tested = before.tested;
@@ -116,7 +123,9 @@ module _ (old s new : State) (tests all : ℕ) (before : IsScanned old s tests a
         | inr turned ↦ record {
           core = core;
           leads = both_lead;
+          live = live;
           same = (same.0 ∙ before.same.0, same.1 ∙ before.same.1);
+          calls = (calls.0 ∙ before.calls.0, calls.1 ∙ before.calls.1);
           replies = both_kept;
           untested = next.0;
           tested = before.tested ++ request ∷ [];
@@ -130,6 +139,18 @@ module _ (old s new : State) (tests all : ℕ) (before : IsScanned old s tests a
               (in_turn_waits old.frames before.had_turn s.frames before.tested request before.turns turned.1);
         }
       ]
+
+-- ---- nothing goes on
+
+pub none_starts : (fs : Frames) (rs : List Request) → (AreLive fs → ⊥) → AllByRecursion (CannotStart fs) rs
+none_starts fs [] stopped = tt
+none_starts fs (r ∷ rs) stopped = ((λ live. absurd (stopped live)), none_starts fs rs stopped)
+
+pub all_wait : (fs : Frames) (rs : List Request) → (AreLive fs → ⊥) → InTurn fs rs fs rs
+all_wait fs [] stopped = (refl, refl)
+all_wait fs (r ∷ rs) stopped = inr ((λ live. absurd (stopped live)), rs, refl, all_wait fs rs stopped)
+
+-- ---- the end
 
 none_left : (rs : List Request) → length rs ≡ 0 → rs ≡ []
 none_left [] e = refl

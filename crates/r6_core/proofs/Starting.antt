@@ -1,7 +1,7 @@
 -- The oldest request that waits starts in a free frame, or goes behind the others.
 use Rattle.std.proofs.Common.{◌≡◌, ◌≢◌, ℕ, ◌+◌, ◌*◌, ◌^◌, ◌<◌, ◌≤◌, Bool, true, false, cond, List, [], ◌∷◌, ◌++◌, length, map, drop, refl, sym, ap, subst, ◌∙◌, Option, Some, None, inl, inr, arith, append_assoc, length-append}
 use mathlib.Core.Path.{fun_ext}
-use Rattle.std.specs.Prelude.{nat_eq, ◌||◌, option_map, slice_get}
+use Rattle.std.specs.Prelude.{nat_eq, ◌||◌, slice_get}
 use Rattle.std.specs.List.{IsDistinct, AllByRecursion}
 use Rattle.std.specs.Map.{keys_of}
 use Rattle.std.proofs.Math.Nat.{mul-suc}
@@ -9,34 +9,34 @@ use Rattle.std.proofs.lemmas.Bool.{cases_eq, eqb-true}
 use Rattle.std.proofs.lemmas.List.{map-append}
 use Rattle.r6_layout.specs.Layout.{row_of}
 use Rattle.r6_layout.proofs.Places.{row_of-lt}
-use Rattle.r6_stripe.specs.Plans.{next}
 use Rattle.r6_tables.specs.Table.{next_of}
 use Rattle.r6_world.specs.Tables.{put}
 use Rattle.r6_world.specs.PlainArray as world
 use Rattle.r6_world.specs.PlainArray.{block_of}
 use Rattle.r6_world.specs.Layouts.{Layout}
 use Rattle.r6_world.specs.Geometries.{layout_of}
-use Rattle.r6_world.specs.Tasks.{Hold, planned}
-use Rattle.r6_world.specs.ShardStates.{Shard, Request, Stage, Waiting, Held, Command, IsFree, NotHeld, begun}
+use Rattle.r6_world.specs.Tasks.{Hold}
+use Rattle.r6_world.specs.ShardStates.{Shard, Request, Stage, Waiting, Held, NotHeld, begun}
 use Rattle.r6_world.specs.Changes.{Change, Start, Ask, Prepare, Send, after, MayStart, staged}
 use Rattle.r6_world.specs.Steps.{Leads, Through, Scans, IsRequest}
 use Rattle.r6_frames.specs.declared.op.Op.{Op}
 use Rattle.r6_frames.specs.declared.op.Op.TheVariants as op
 use Rattle.r6_frames.specs.declared.op.Request.{Request as Entered}
-use Rattle.r6_frames.specs.declared.command.Outstanding.{Outstanding}
 use Rattle.r6_frames.specs.declared.frames.Frames.{Frames}
 use Rattle.r6_core.specs.declared.state.State.{State}
-use Rattle.r6_frames.specs.Frames.{op_of, task_for, hold_of, hold_at, frame_of, held_requests, command_of, outstanding, shard_with, owed, begun_for, entry_of, IsWith, Begins, Drives, PutsOut, IsFreeFrame, IsHeldFrame, NotHeldBy, IsDriven, IsOver, ReadsFirst, IsRequestOf, KeepsOthers}
+use Rattle.r6_frames.specs.Frames.{op_of, task_for, hold_at, use_at, row_in, frame_of, held_requests, Rest, shard_with, owed, begun_for, entry_of, IsWith, Begins, Drives, PutsOut, AreLive, IsFreeFrame, IsHeldFrame, NotHeldBy, IsDriven, IsOver, IsRequestOf, KeepsOthers}
+use Rattle.r6_frames.specs.Slots.{states_of, count_out}
 use Rattle.r6_frames.specs.Sound as held
-use Rattle.r6_core.specs.States.{IsSound, IsCore, IsRestedFrame, CanStart, Advances, state_of, layout_in, requests_of, waiting_request, finished_request, released_request, table, bound, limit, most_unanswered}
+use Rattle.r6_core.specs.States.{IsSound, IsCore, IsRestedFrame, CanStart, Advances, state_of, rest_of, count_untold, layout_in, requests_of, waiting_request, finished_request, released_request, table, bound, limit, most_unanswered}
 use Rattle.r6_frames.proofs.Lists.{Entries, same_put}
 use Rattle.r6_frames.proofs.Held.{put_own}
 use Rattle.r6_core.proofs.Kept.{requests_kept}
 use Rattle.r6_core.proofs.Passed.{Passed, passed, all-append}
 use Rattle.r6_core.proofs.Throughs.{through_of}
-use Rattle.r6_frames.proofs.Resting.{frame-held, live}
+use Rattle.r6_frames.proofs.Resting.{frame-held, free_is}
+use Rattle.r6_core.proofs.SlotsKept.{out_same, drives_keep}
 use Rattle.r6_core.proofs.Accepting.{others}
-use Rattle.r6_core.proofs.FirstReads.{may_begin, reads_first}
+use Rattle.r6_core.proofs.MayBegin.{may_begin}
 
 -- ---- what a start leaves of a shard
 
@@ -81,32 +81,23 @@ scans change p = absurd p
 
 -- ---- the frames of the code are those of the shard
 
-not_held : (accepted : ℕ) (request : ℕ → Option Request) (fs : Frames) (row : ℕ) → NotHeldBy fs row → NotHeld (shard_with accepted request fs) row
-not_held accepted request fs row free frame hold is at =
+not_held : (rest : Rest) (fs : Frames) (row : ℕ) → NotHeldBy fs row → NotHeld (shard_with rest fs) row
+not_held rest fs row free frame hold is at =
     let there = frame-held fs frame hold is in
     free frame there.0 there.1 (ap (λ (h : Hold). h.row) there.2 ∙ at)
 
-command-given : (handed token : ℕ) (o : Option Outstanding) (c : Command) → option_map (command_of handed token) o ≡ Some c → (x : Outstanding) × (o ≡ Some x) × (x.frame ≡ c.frame)
-command-given handed token None c e = absurd (cc)
-command-given handed token (Some x) c e = let same : command_of handed token x ≡ c = cc in (x, refl, ap (λ (c : Command). c.frame) same)
-
-is_free : (accepted : ℕ) (request : ℕ → Option Request) (fs : Frames) (frame : ℕ) → held.IsSound fs → IsFreeFrame fs frame → IsFree (layout_of fs.geometry) (shard_with accepted request fs) frame
-is_free accepted request fs frame sound free = (
-  free.0,
-  ap (option_map hold_of) free.1,
-  λ token c is at.
-      let there = command-given fs.handed token (outstanding fs token) c is in
-      let of = sound.commands.of_hold token there.0 there.1 in
-      let none : hold_at fs.held.items (there.0).frame ≡ None = ap (hold_at fs.held.items) (there.2 ∙ at) ∙ free.1 in
-      let both : Some of.holder ≡ None = sym of.held ∙ none in
-      absurd (cc),
-)
+-- a frame that is free or returning has no row
+no_row : (fs : Frames) (frame : ℕ) → IsFreeFrame fs frame → hold_at fs.held.items frame ≡ None
+no_row fs frame free = ap row_in free.1
 
 -- ---- a row is held for the request
 
+abbrev no_rest : Rest
+no_rest = record { accepted = 0; request = λ id. None; calls = []; untold = None }
+
 module _ (old : Frames) (frame : ℕ) (request : Entered) (mid : Frames) (begins : Begins old frame request mid) where
-  begun_shard : shard_with 0 (λ id. None) mid ≡ record (shard_with 0 (λ id. None) old) { frame = put (frame_of old) frame (Some (begun_for old request)) }
-  begun_shard = begins.shard.2 0 (λ id. None)
+  begun_shard : shard_with no_rest mid ≡ record (shard_with no_rest old) { frame = put (frame_of old) frame (Some (begun_for old request)) }
+  begun_shard = begins.shard.2 no_rest
 
   begun_frame : frame_of mid frame ≡ Some (begun_for old request)
   begun_frame = ap (λ (s : Shard). s.frame frame) begun_shard ∙ put_own (frame_of old) frame (Some (begun_for old request))
@@ -116,13 +107,6 @@ module _ (old : Frames) (frame : ℕ) (request : Entered) (mid : Frames) (begins
 
   pub begun_tokens : next_of mid.commands ≡ next_of old.commands
   begun_tokens = ap (λ (s : Shard). s.tokens) begun_shard
-
-  pub begun_reads : held.IsSound old → ReadsFirst mid frame
-  begun_reads sound h is =
-      let same : Some (hold_of h) ≡ Some (begun_for old request) = ap (option_map hold_of) (sym is) ∙ begun_frame in
-      let own : hold_of h ≡ begun_for old request = cc in
-      let reads = reads_first old.geometry (row_of old.geometry (block_of (op_of request.op))) request.id request.op sound.shape in
-      (reads.0, ap (λ (x : Hold). next (planned x)) own ∙ reads.1)
 
   -- the tokens suffice for what may come
   pub begun_numbers : (s : State) (rest : List Entered) → IsSound s → s.waiting.items ≡ request ∷ rest → old ≡ s.frames → owed mid ≡ owed old + 2 * old.geometry.slots
@@ -151,8 +135,9 @@ pub record IsStart (s : State) (request : Entered) (rest : List Entered) (frame 
   pub held_still : IsHeldFrame new frame
   pub others_kept : KeepsOthers mid frame new
   pub requests : held_requests new ≡ held_requests mid
-  pub all_owed : next_of new.commands + owed new ≡ next_of mid.commands + owed mid
-  pub out : ReadsFirst mid frame → IsOver new frame → ⊥
+  pub all_owed : next_of new.commands + owed new ≤ next_of mid.commands + owed mid
+  pub live : AreLive new
+  pub goes_out : IsOver new frame → ⊥
 
 abbrev pub with_frames : State → List Entered → Frames → State
 with_frames s rest new = record s { waiting = record { items = rest; capacity = s.waiting.capacity }; frames = new }
@@ -167,32 +152,37 @@ module _ (s : State) (request : Entered) (rest : List Entered) (frame : ℕ) (mi
   pub started_same : (new.geometry ≡ s.frames.geometry) × (new.shard ≡ s.frames.shard)
   started_same = (geometry_same, shard_same)
 
-  frames_same : (other : ℕ) → other ≢ frame → hold_at new.held.items other ≡ hold_at s.frames.held.items other
+  frames_same : (other : ℕ) → other ≢ frame → use_at new.held.items other ≡ use_at s.frames.held.items other
   frames_same other ne = is.others_kept other ne ∙ is.begun_others other ne
+
+  unfailed_same : new.saw_failed ≡ s.frames.saw_failed
+  unfailed_same = is.live.1 ∙ sym is.can.0.1
 
   -- the request goes from those that wait to those that rows are held for
   requests_started : IsDistinct nat_eq (keys_of (requests_of s))
       → Passed (requests_of s) (requests_of (with_frames s rest new)) request.id (record { op = op_of request.op; stage = Waiting }) (record { op = op_of request.op; stage = Held frame })
   requests_started distinct =
       let to = is.begins.requests in
-      let tail : Entries Request = map finished_request s.finished.items ++ map released_request s.released.items in
+      let tail : Entries Request = map (finished_request s.frames.saw_failed) s.finished.items ++ map released_request s.released.items in
       let waiting : Entries Request = map waiting_request rest in
+      let tail_same : requests_of (with_frames s rest new) ≡ waiting ++ (held_requests new ++ tail) =
+      ap (λ (b : Bool). waiting ++ (held_requests new ++ (map (finished_request b) s.finished.items ++ map released_request s.released.items))) unfailed_same in
       passed [] (waiting ++ ((to.before ++ to.behind) ++ tail)) (waiting ++ to.before) (to.behind ++ tail) request.id _ _ _ _
       (λ i. map waiting_request (is.items i) ++ (to.without i ++ tail))
-      (ap (λ (es : Entries Request). waiting ++ (es ++ tail)) (is.requests ∙ to.with) ∙ (simp append_assoc))
+      (tail_same ∙ ap (λ (es : Entries Request). waiting ++ (es ++ tail)) (is.requests ∙ to.with) ∙ (simp append_assoc))
       (simp append_assoc)
       distinct
 
   started_mid : (more : IsDistinct nat_eq (keys_of (requests_of s)))
-      → shard_with s.accepted (table (requests_of (with_frames s rest new))) mid
+      → shard_with (rest_of (with_frames s rest new)) mid
       ≡ after (layout_in s) (state_of s) (Start frame (row_of s.frames.geometry (block_of (op_of request.op))) (task_for request.id request.op))
   started_mid distinct =
       let l = layout_in s in
       let row = row_of s.frames.geometry (block_of (op_of request.op)) in
       let requests = requests_started distinct in
       let first : Option Hold = Some (begun_for s.frames request) in
-      is.begins.shard.2 s.accepted (table (requests_of (with_frames s rest new)))
-      ∙ ap (λ (request : ℕ → Option Request). record (shard_with s.accepted request s.frames) { frame = put (frame_of s.frames) frame first })
+      is.begins.shard.2 (rest_of (with_frames s rest new))
+      ∙ ap (λ (request : ℕ → Option Request). record (shard_with (record (rest_of s) { request = request }) s.frames) { frame = put (frame_of s.frames) frame first })
       (requests.now ∙ stage_put (table (requests_of s)) request.id (op_of request.op) Waiting (Held frame) requests.was)
       ∙ sym (start_after l (state_of s) frame row request.id request.op)
 
@@ -203,8 +193,8 @@ module _ (s : State) (request : Entered) (rest : List Entered) (frame : ℕ) (mi
       let row = row_of s.frames.geometry (block_of (op_of request.op)) in
       let distinct = sound.requests.distinct in
       let own = (subst (λ rs. AllByRecursion (IsRequestOf s.frames) rs) is.items sound.requests.waiting).0 in
-      let begun_at = shard_with s.accepted (table (requests_of (with_frames s rest new))) mid in
-      let later : Through (layout_of mid.geometry) mid.shard PutsOut begun_at (state_of (with_frames s rest new)) = is.drives.2 s.accepted (table (requests_of (with_frames s rest new))) in
+      let begun_at = shard_with (rest_of (with_frames s rest new)) mid in
+      let later : Through (layout_of mid.geometry) mid.shard PutsOut begun_at (state_of (with_frames s rest new)) = is.drives.2 (rest_of (with_frames s rest new)) in
       let here : Through l n PutsOut begun_at (state_of (with_frames s rest new)) =
       subst (λ (n : ℕ). Through l n PutsOut begun_at (state_of (with_frames s rest new))) is.begins.shard.1
       (subst (λ g. Through (layout_of g) mid.shard PutsOut begun_at (state_of (with_frames s rest new))) is.begins.shard.0 later) in
@@ -214,19 +204,19 @@ module _ (s : State) (request : Entered) (rest : List Entered) (frame : ℕ) (mi
         (
           is_request request.id request.op,
           (
-            is_free s.accepted (table (requests_of s)) s.frames frame sound.frames is.can.0,
-            not_held s.accepted (table (requests_of s)) s.frames row is.can.1,
+            free_is (rest_of s) s.frames frame sound.frames is.can.0 is.can.1,
+            not_held (rest_of s) s.frames row is.can.2,
             (row_of-lt s.frames.geometry (block_of (op_of request.op)) sound.frames.shape own.there, own.own),
-            live s.accepted (table (requests_of s)) s.frames,
+            is.can.0,
             may_start l (state_of s) request.id request.op (requests_started distinct).was,
-            may_begin s.frames.geometry row request.id request.op sound.frames.shape own.sized,
+            may_begin s.frames.geometry (states_of s.frames.slots) row request.id request.op sound.frames.shape own.sized,
           ),
           subst (λ (from : Shard). Leads l n Scans from driven.0 (state_of (with_frames s rest new))) (started_mid distinct) driven.1,
         ),
       )
 
-  -- how many commands may come stays the same
-  started_bound : bound (with_frames s rest new) ≡ bound s
+  -- no more commands may come than before
+  started_bound : bound (with_frames s rest new) ≤ bound s
   started_bound =
       let slots = s.frames.geometry.slots in
       let fewer : 2 * slots * length s.waiting.items ≡ 2 * slots * length rest + 2 * slots = ap (λ rs. 2 * slots * length rs) is.items ∙ mul-suc (2 * slots) (length rest) in
@@ -235,8 +225,14 @@ module _ (s : State) (request : Entered) (rest : List Entered) (frame : ℕ) (mi
       (2 * new.geometry.slots * length rest) (2 * slots * length rest) (2 * slots * length s.waiting.items)
       (begun_tokens s.frames frame request mid is.begins) is.begun_owed is.all_owed same fewer
     where
-      summed : (n0 n1 n2 o0 o1 o2 each few few' all : ℕ) → n1 ≡ n0 → o1 ≡ o0 + each → n2 + o2 ≡ n1 + o1 → few ≡ few' → all ≡ few' + each → n2 + o2 + few ≡ n0 + o0 + all
+      summed : (n0 n1 n2 o0 o1 o2 each few few' all : ℕ) → n1 ≡ n0 → o1 ≡ o0 + each → n2 + o2 ≤ n1 + o1 → few ≡ few' → all ≡ few' + each → n2 + o2 + few ≤ n0 + o0 + all
       summed n0 n1 n2 o0 o1 o2 each few few' all a b c d e = omega arith
+
+  -- as many slots are out as before
+  few_still : IsSound s → length s.calls.items + count_untold s.untold ≤ count_out new.slots new.geometry.slots
+  few_still sound =
+      let begun : states_of mid.slots ≡ states_of s.frames.slots = ap (λ (x : Shard). x.slot) (is.begins.shard.2 no_rest) in
+      omega (arith, out_same s.frames new (drives_keep no_rest mid new is.drives ∙ begun) geometry_same, sound.room.few_calls)
 
   pub started_core : IsCore s → IsCore (with_frames s rest new)
   started_core core =
@@ -252,15 +248,22 @@ module _ (s : State) (request : Entered) (rest : List Entered) (frame : ℕ) (mi
             few = sound.requests.few;
             waiting = requests_kept s.frames new rest geometry_same shard_same (subst (λ rs. AllByRecursion (IsRequestOf s.frames) rs) is.items sound.requests.waiting).1;
           };
-          room = record { waiting = sound.room.waiting; finished = sound.room.finished; released = sound.room.released };
-          tokens = subst (λ (n : ℕ). n ≤ limit + 2 * 32 * most_unanswered) (sym started_bound) sound.tokens;
+          room = record {
+            waiting = sound.room.waiting;
+            finished = sound.room.finished;
+            released = sound.room.released;
+            calls = sound.room.calls;
+            few_calls = few_still sound;
+          };
+          tokens = omega (arith, started_bound, sound.tokens);
           accepted = sound.accepted;
         };
-        rested = λ f. elim (cases_eq f frame) [
-          | inl e ↦ subst (IsRestedFrame (with_frames s rest new)) (sym e) (is.driven, is.out (begun_reads s.frames frame request mid is.begins sound.frames))
+        rested = λ live f. elim (cases_eq f frame) [
+          | inl e ↦ subst (IsRestedFrame (with_frames s rest new)) (sym e) (is.driven, is.goes_out)
           | inr ne ↦
-              let same = frames_same f ne in
-              ((λ h there. (core.rested f).0 h (sym same ∙ there)), (λ over. (core.rested f).1 (over.0, sym same ∙ over.1, over.2)))
+              let same = ap row_in (frames_same f ne) in
+              let rested = core.rested is.can.0 f in
+              ((λ h there. rested.0 h (sym same ∙ there)), (λ over. rested.1 (over.0, sym same ∙ over.1, over.2)))
         ];
       }
 
@@ -275,16 +278,17 @@ module _ (s : State) (request : Entered) (rest : List Entered) (frame : ℕ) (mi
         frame = frame;
         can = is.can;
         geometry = geometry_same;
+        live = is.live;
         requests = subst (λ (es : Entries Request). IsWith (held_requests s.frames) frame (entry_of frame request) es) (sym is.requests) is.begins.requests;
         sound = is.sound;
       },
     ),
-    λ other cannot free_row f free.
-        let apart : f ≢ frame = λ e. let both : Some is.held_still.0 ≡ None = sym is.held_still.1 ∙ ap (hold_at new.held.items) (sym e) ∙ free.1 in absurd (cc) in
-        cannot
+    λ other cannot live free_row f free.
+        let apart : f ≢ frame = λ e. let both : Some is.held_still.0 ≡ None = sym is.held_still.1 ∙ ap (hold_at new.held.items) (sym e) ∙ no_row new f free in absurd (cc) in
+        cannot is.can.0
         (λ g h held_row row.
-        let other_frame : g ≢ frame = λ e. let both : Some h ≡ None = sym held_row ∙ ap (hold_at s.frames.held.items) e ∙ is.can.0.1 in absurd (cc) in
-        free_row g h (frames_same g other_frame ∙ held_row) (row ∙ ap (λ shape. row_of shape (block_of (op_of other.op))) (sym geometry_same)))
+        let other_frame : g ≢ frame = λ e. let both : Some h ≡ None = sym held_row ∙ ap (hold_at s.frames.held.items) e ∙ no_row s.frames frame is.can.1 in absurd (cc) in
+        free_row g h (ap row_in (frames_same g other_frame) ∙ held_row) (row ∙ ap (λ shape. row_of shape (block_of (op_of other.op))) (sym geometry_same)))
         f (free.0, sym (frames_same f apart) ∙ free.1),
   )
 
@@ -308,7 +312,7 @@ module _ (s : State) (request : Entered) (rest : List Entered) (items : s.waitin
   turned_state sound =
       let requests = requests_turned sound.requests.distinct in
       let same = same_put (table (requests_of s)) (table (requests_of s)) request.id _ requests.was (λ q e. refl) in
-      ap (λ (request : ℕ → Option Request). shard_with s.accepted request s.frames) (requests.now ∙ sym same)
+      ap (λ (request : ℕ → Option Request). shard_with (record (rest_of s) { request = request }) s.frames) (requests.now ∙ sym same)
 
   pub turned_core : IsCore s → IsCore (with_waiting s (rest ++ request ∷ []))
   turned_core core =
@@ -326,7 +330,13 @@ module _ (s : State) (request : Entered) (rest : List Entered) (items : s.waitin
             few = sound.requests.few;
             waiting = all-append (IsRequestOf s.frames) rest (request ∷ []) all.1 (all.0, tt);
           };
-          room = record { waiting = sound.room.waiting; finished = sound.room.finished; released = sound.room.released };
+          room = record {
+            waiting = sound.room.waiting;
+            finished = sound.room.finished;
+            released = sound.room.released;
+            calls = sound.room.calls;
+            few_calls = sound.room.few_calls;
+          };
           tokens = subst (λ (n : ℕ). next_of s.frames.commands + owed s.frames + 2 * s.frames.geometry.slots * n ≤ limit + 2 * 32 * most_unanswered) (sym long) sound.tokens;
           accepted = sound.accepted;
         };

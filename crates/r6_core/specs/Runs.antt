@@ -5,11 +5,13 @@ use Rattle.r6_world.specs.Tables.{put}
 use Rattle.r6_world.specs.PlainArray.{Block, Array, Data}
 use Rattle.r6_world.specs.Layouts.{Layout}
 use Rattle.r6_world.specs.Geometries.{layout_of}
-use Rattle.r6_world.specs.Registers.{Snapshot, RegisterCall}
+use Rattle.r6_world.specs.Registers.{Snapshot, RegisterCall, Told}
+use Rattle.r6_world.specs.ShardStates as shards
 use Rattle.r6_world.specs.ShardStates.{Command}
-use Rattle.r6_world.specs.Steps.{Event, Take_reply}
+use Rattle.r6_world.specs.Steps as steps
+use Rattle.r6_world.specs.Steps.{Event, Take_call, Take_reply}
 use Rattle.r6_world.specs.Worlds as worlds
-use Rattle.r6_world.specs.Worlds.{World, Devices, MayCome, Possible, Run, next, started, shard_at_start}
+use Rattle.r6_world.specs.Worlds.{World, Devices, MayCome, Possible, Run, IsAnswer, as_made, next, started, shard_at_start}
 use Rattle.r6_world.specs.Claims.{IsLawfulStart, IsQuiet, AllAnswered}
 use Rattle.r6_world.specs.Laws.{ArrayHolds, Explained, AtEach, IsOfOutside, at_start}
 use Rattle.r6_world.specs.Witness.{smallest, small}
@@ -22,6 +24,8 @@ pub data Happening : Type 0 where
   Call : (shard : ℕ) → Event → State → Happening
   -- a device performs a command
   Perform : (shard token : ℕ) → Command → Happening
+  -- a shard's next call is taken from its core, made at the register, and the core is told the answer
+  Tell : (shard : ℕ) → shards.Call → Told → (middle new : State) → Happening
   -- a call at the register from outside
   Outside : RegisterCall → Happening
 
@@ -34,6 +38,7 @@ pub record Moment : Type 0 where
 abbrev pub in_world : Happening → worlds.Happening
 in_world (Call n event new) = worlds.Core n event (state_of new)
 in_world (Perform n token c) = worlds.Perform n token c
+in_world (Tell n call answer middle new) = worlds.Tell n call answer (state_of middle) (state_of new)
 in_world (Outside call) = worlds.Outside call
 
 abbrev pub moment_of : Moment → worlds.Moment
@@ -43,13 +48,16 @@ moment_of m = record { happening = in_world m.happening; noise = m.noise }
 abbrev pub cores_after : (ℕ → State) → Happening → ℕ → State
 cores_after cores (Call n event new) = put cores n new
 cores_after cores (Perform n token c) = cores
+cores_after cores (Tell n call answer middle new) = put cores n new
 cores_after cores (Outside call) = cores
 
--- What may happen next: a call that keeps its contract, with the world's completions and the register as it is; and what
--- the devices and the register's other callers may do
+-- What may happen next: a call that keeps its contract, with the world's completions and the register as it is and answers;
+-- and what the devices and the register's other callers may do
 abbrev pub MayHappen : Layout → World → (ℕ → State) → Happening → Type 0
 MayHappen l w cores (Call n event new) = (n < l.shards) × MayCome w n event × Step (cores n) event new
 MayHappen l w cores (Perform n token c) = Possible l IsOfOutside w (worlds.Perform n token c)
+MayHappen l w cores (Tell n call answer middle new) =
+    (n < l.shards) × IsAnswer l w.register (as_made n call) answer × Step (cores n) (Take_call call) middle × Step middle (steps.Told call answer) new
 MayHappen l w cores (Outside call) = Possible l IsOfOutside w (worlds.Outside call)
 
 abbrev pub CoresRun : Layout → World → (ℕ → State) → List Moment → Type 0

@@ -1,19 +1,20 @@
 //! The core as its callers see it.
 
-ghost use Rattle.std.specs.Prelude.{◌≡◌, ◌+◌, [], ◌∷◌, ◌++◌, ◌<◌, ◌≤◌, nat_lt, if◌then◌else◌, ℕ, MatchOption, MatchResult, IfOk, IfErr, IfSome, IsOk, Option, Some, None, Ok};
+ghost use Rattle.std.specs.Prelude.{◌≡◌, ◌≢◌, ◌+◌, [], ◌∷◌, ◌++◌, ◌<◌, ◌≤◌, nat_lt, if◌then◌else◌, ℕ, Bool, false, MatchOption, IfOk, IfErr, IfSome, Option, Some, None};
 ghost use Rattle.r6_layout.specs.Shape.{IsShape};
 ghost use Rattle.r6_world.specs.Geometries.{layout_of};
-ghost use Rattle.r6_world.specs.Worlds.{shard_at_start};
-ghost use Rattle.r6_world.specs.Steps.{Submit, Deliver, Look, Take_command, No_command, Take_reply, No_reply, Good, Taken};
+ghost use Rattle.r6_world.specs.Registers.{InSync, status_of};
+ghost use Rattle.r6_world.specs.Worlds.{shard_at_start, slot_at_start};
+ghost use Rattle.r6_world.specs.Steps.{Submit, Deliver, Look, Take_command, No_command, Take_call, No_call, Told, Take_reply, No_reply};
 ghost use Rattle.r6_frames.specs.Frames.{op_of, world_command, IsCommandOf};
-ghost use Rattle.r6_frames.specs.declared.op.Request.{Request as Entered};
-ghost use Rattle.r6_core.specs.States.{IsWhole, Step, state_of, synced, reply_of, BringsBack, HasSubmitFault, HasDeliverFault, IsFirstFault, HasNone, submit_faults, deliver_faults, reply_to, NoReplies, SameReplies, MayFinish, ReleasesAll, TakesFirst, HaveTurns, HaveTurnsBehind};
+ghost use Rattle.r6_core.specs.States.{Step, state_of, devices_state, synced, reply_of, call_of, completion_of, receipt_of, buffer_in, BringsBack, IsOfArray, AllTold, HasSubmitFault, HasDeliverFault, IsFirstFault, HasNone, submit_faults, deliver_faults, NoReplies, SameReplies, KeepsReplies, FinishesBy, LooksOn, TakesFirst, HasNoReply, HaveTurns, HaveTurnsBehind, HaveTurnsAfter};
 
-use crate::refusal::{CoreError, DeviceFault, Receipt, Refused};
+use crate::call::Call;
+use crate::refusal::{CoreError, DeviceFault, Receipt, Refusal, Refused};
 use crate::reply::{OpId, Reply};
 use crate::state::State;
-use r6_frames::{Command, Op, Request};
-use r6_health::Snapshot;
+use r6_frames::{Command, Device, MOST_SLOTS, Op};
+use r6_health::{Answer, Refusal as RegisterRefusal, SlotState, Snapshot};
 use r6_kernels::Buffer;
 use r6_layout::Geometry;
 use std::alloc::Global;
@@ -22,7 +23,8 @@ use std::marker::Model;
 /// The core of a shard.
 ///
 /// It is passive: its caller submits requests, takes commands and performs them on devices, delivers their completions,
-/// looks at the register and takes replies, in any order. No call but [`Core::new`] takes memory.
+/// takes calls and makes them at the register, looks at the register and takes replies, in any order. No call but
+/// [`Core::new`] takes memory.
 #[derive(Drop)]
 pub struct Core {
     state: State,
@@ -48,7 +50,8 @@ impl Core {
     /// The core of a shard of the array. All room is made here.
     ///
     /// `window`, 1 to 8, is how many rows of a rebuild may be under way at one time; nothing depends on it yet, since cores
-    /// don't rebuild so far. The snapshot is of a register with no slot lost, with which no device was attached.
+    /// don't rebuild so far. The snapshot is of the register of this array (what is no slot of the array is in sync there),
+    /// at which no device was attached, and that has not failed.
     ///
     /// # Errors
     /// 1 `NoMemory`.
@@ -62,13 +65,14 @@ impl Core {
         requires limits { IsShape geometry }
         requires shard { shard < geometry.shards }
         requires window { (1 ≤ window) × (window ≤ 8) }
-        requires whole { IsWhole snapshot.now }
+        requires array { (slot : ℕ) → geometry.slots ≤ slot → status_of snapshot.now slot ≡ InSync }
         requires no_attach { snapshot.now.attaches ≡ 0 }
+        requires unfailed { snapshot.now.failed ≡ false }
         ensures start { IfOk result (λ core. (core.frames.geometry ≡ geometry) × (core.frames.shard ≡ shard) × (state_of core ≡ shard_at_start (layout_of geometry) snapshot.now shard)) }
         ensures order { IfOk result NoReplies }
         ensures unanswered { IfOk result (λ core. core.unanswered ≡ 0) }
     {
-        match State::new(alloc, geometry, shard) {
+        match State::new(alloc, geometry, shard, devices_at(snapshot)) {
             Ok(state) => Ok(Core { state }),
             Err(_) => Err(CoreError::NoMemory),
         }
@@ -90,8 +94,9 @@ impl Core {
         Ok(OpId(self.state.submit(op)?))
     }
 
-    /// Takes the completion of a command, with its buffer: a read's with the block. So far the completion has to be good:
-    /// no core goes on from a device's fault yet.
+    /// Takes the completion of a command, with its buffer: a read's with the block. An error takes the slot of the command
+    /// out, and its loss is to be declared at the register. The completion of a command that was abandoned is late: it only
+    /// brings its buffer home.
     ///
     /// # Errors
     /// In this order: 7 `UnknownToken`, 3 `WrongLength`, with the completion back. Nothing changes.
@@ -100,72 +105,109 @@ impl Core {
         token: u64,
         completion: Result<Buffer, DeviceFault>,
     ) -> Result<Receipt, Refused<Result<Buffer, DeviceFault>>>
-        requires good { IsOk completion }
-        ensures step { IfOk result (λ receipt. IfOk completion (λ buffer. (receipt ≡ Receipt.Taken) × Step self.old (Deliver token (Good buffer) Taken) self.new)) }
-        ensures accepted { IfOk result (λ _. IfOk completion (λ buffer. HasNone (HasDeliverFault self.old token buffer) deliver_faults)) }
-        ensures refused { IfErr result (λ refused. (self.new ≡ self.old) × (refused.back ≡ completion) × IfOk completion (λ buffer. IsFirstFault (HasDeliverFault self.old token buffer) deliver_faults refused.refusal)) }
-        ensures order { IfOk result (λ _. MayFinish self.old self.new) }
+        ensures step { IfOk result (λ receipt. Step self.old (Deliver token (completion_of completion) (receipt_of receipt)) self.new) }
+        ensures accepted { IfOk result (λ _. HasNone (HasDeliverFault self.old token (buffer_in completion)) deliver_faults) }
+        ensures refused { IfErr result (λ refused. (self.new ≡ self.old) × (refused.back ≡ completion) × IsFirstFault (HasDeliverFault self.old token (buffer_in completion)) deliver_faults refused.refusal) }
+        ensures order { IfOk result (λ _. FinishesBy completion self.old self.new) }
         ensures unanswered { self.new.unanswered ≡ self.old.unanswered }
-        ensures turns { IfOk result (λ _. HaveTurnsBehind self.old self.new) }
+        ensures turns { IfOk result (λ _. HaveTurnsBehind completion self.old self.new) }
     {
-        let Ok(buffer) = completion else {
-            unreachable!()
-        };
-        match self.state.deliver(token, buffer) {
-            Ok(receipt) => Ok(receipt),
-            Err(Refused { refusal, back }) => Err(Refused {
-                refusal,
-                back: Ok(back),
-            }),
-        }
+        self.state.deliver(token, completion)
     }
 
-    /// Sees the register: all finished requests are released, in the order in which they finished. So far every slot has to
-    /// be in sync, and the array not failed: no core goes on from a loss yet.
-    pub fn look(&mut self, snapshot: &Snapshot)
-        requires whole { IsWhole snapshot.now }
-        ensures step { Step self.old (Look snapshot.now) self.new }
-        ensures order { ReleasesAll self.old self.new }
+    /// Sees the register: slots that it has lost, or with another device, go out. Then all finished requests are released, in
+    /// the order in which they finished, those too that the look finished. If the array has failed, every request that
+    /// isn't released is answered so, from the oldest to the newest, and nothing goes on any more.
+    ///
+    /// The snapshot is of the register of this array: what is no slot of the array is in sync there.
+    ///
+    /// # Errors
+    /// 8 `UntoldFirst`. Nothing changes.
+    pub fn look(&mut self, snapshot: &Snapshot) -> Result<(), Refusal>
+        requires { IsOfArray self.old snapshot.now }
+        ensures step { IfOk result (λ _. Step self.old (Look snapshot.now) self.new) }
+        ensures told { IfOk result (λ _. AllTold self.old) }
+        ensures refused { IfErr result (λ refusal. (refusal ≡ Refusal.UntoldFirst) × (AllTold self.old → ⊥) × (self.new ≡ self.old)) }
+        ensures order { IfOk result (λ _. LooksOn self.old snapshot.now self.new) }
         ensures unanswered { self.new.unanswered ≡ self.old.unanswered }
-        ensures turns { HaveTurns self.old.frames self.old.waiting.items self.new }
+        ensures turns { IfOk result (λ _. HaveTurnsAfter self.old snapshot.now self.new) }
     {
-        self.state.look();
+        self.state.look(snapshot)
     }
 
     /// Takes the command that was put out first and not taken.
     pub fn take_command(&mut self) -> Option<Command>
-        ensures step { MatchOption result (Step self.old No_command self.new) (λ c. (frame : ℕ) × Step self.old (Take_command c.token (world_command frame c)) self.new) }
+        ensures step { MatchOption result (Step self.old No_command self.new) (λ c. (frame : ℕ) × (abandoned : Bool) × Step self.old (Take_command c.token (world_command frame abandoned c)) self.new) }
         ensures there { IfSome result (λ c. IsCommandOf self.old.frames c) }
-        ensures order { SameReplies self.old self.new }
-        ensures unanswered { self.new.unanswered ≡ self.old.unanswered }
+        ensures replies { KeepsReplies self.old self.new }
         ensures waiting { self.new.waiting ≡ self.old.waiting }
     {
         self.state.take_command()
+    }
+
+    /// Takes the call that is to be made next at the register, if the answer of the one before was told.
+    pub fn take_call(&mut self) -> Option<Call>
+        ensures step { MatchOption result (Step self.old No_call self.new) (λ call. Step self.old (Take_call (call_of call)) self.new) }
+        ensures replies { KeepsReplies self.old self.new }
+        ensures waiting { self.new.waiting ≡ self.old.waiting }
+    {
+        self.state.take_call()
+    }
+
+    /// Hears the answer of the call that was taken last. A call that was answered `Contended` is to be made again, before the
+    /// others.
+    ///
+    /// # Errors
+    /// 11 `UnknownCall`. Nothing changes.
+    pub fn told(
+        &mut self,
+        call: Call,
+        answer: Result<Answer, RegisterRefusal>,
+    ) -> Result<(), Refusal>
+        ensures step { IfOk result (λ _. Step self.old (Told (call_of call) answer) self.new) }
+        ensures known { IfOk result (λ _. self.old.untold ≡ Some call) }
+        ensures refused { IfErr result (λ refusal. (refusal ≡ Refusal.UnknownCall) × (self.old.untold ≢ Some call) × (self.new ≡ self.old)) }
+        ensures replies { KeepsReplies self.old self.new }
+        ensures waiting { self.new.waiting ≡ self.old.waiting }
+    {
+        self.state.told(call, answer)
     }
 
     /// Takes the reply that was released first.
     pub fn take_reply(&mut self) -> Option<(OpId, Reply)>
         ensures step { MatchOption result (Step self.old No_reply self.new) (λ r. Step self.old (Take_reply (r.0).0 (reply_of r.1)) self.new) }
         ensures buffer { IfSome result (λ r. BringsBack ((state_of self.old).request (r.0).0) r.1) }
-        ensures first { MatchOption result ((self.old.released.items ≡ []) × (self.new ≡ self.old)) (λ r. (request : Entered) × TakesFirst self.old request self.new × (request.id ≡ (r.0).0) × (r.1 ≡ reply_to request.op)) }
+        ensures first { MatchOption result (HasNoReply self.old × (self.new ≡ self.old)) (λ r. TakesFirst self.old (r.0).0 r.1 self.new) }
         ensures unanswered { MatchOption result (self.new.unanswered ≡ self.old.unanswered) (λ _. self.new.unanswered + 1 ≡ self.old.unanswered) }
         ensures waiting { self.new.waiting ≡ self.old.waiting }
     {
-        let Request { id, op } = self.state.take_reply()?;
-        let reply = match op {
-            Op::Read(_, buffer) => Reply::Data(buffer),
-            Op::Write(_, buffer) => Reply::Done(buffer),
-        };
-        Some((OpId(id), reply))
+        self.state.take_reply()
     }
 
-    /// The generation with which the shard has the slot in sync; `None` for a number that no slot has.
+    /// The generation with which the shard has the slot in sync; `None` for any other slot, and for a number that no slot has.
     pub fn in_sync(&self, slot: usize) -> Option<u32>
         ensures { result ≡ (if nat_lt slot self.now.frames.geometry.slots then synced ((state_of self.now).slot slot) else None) }
     {
         if slot >= self.state.frames.geometry.slots() {
             return None;
         }
-        Some(0)
+        match self.state.frames.slots[slot].device {
+            Device::Synced(generation) => Some(generation),
+            _ => None,
+        }
     }
+}
+
+// What the slots have at the start: a rebuilding slot there is none.
+fn devices_at(snapshot: &Snapshot) -> [Device; MOST_SLOTS]
+    requires { (slot : ℕ) → 32 ≤ slot → status_of snapshot.now slot ≡ InSync }
+    ensures { (slot : ℕ) → devices_state result slot ≡ slot_at_start (status_of snapshot.now slot) }
+{
+    let mut devices = [Device::Missing; MOST_SLOTS];
+    for slot in 0..MOST_SLOTS {
+        if let SlotState::InSync = snapshot.slot(slot) {
+            devices[slot] = Device::Synced(0);
+        }
+    }
+    devices
 }

@@ -8,8 +8,8 @@ ghost use Rattle.r6_core.specs.Runs.{RunsOfCores, ArrayOfCores, QuietOfCores, Th
 /// The laws of an array whose shards are cores.
 ///
 /// A run of cores is a list of calls of [`Core`](crate::Core), each as its contract says, with devices that perform the
-/// commands that were taken, and calls at the register from outside; a good completion brings the block that its device
-/// gave, and a look sees the register as it is. `cores`: from cores as [`Core::new`](crate::Core::new) makes them, every
+/// commands that were taken, calls at the register that a core has to make, and calls there from outside; a good completion
+/// brings the block that its device gave, an error may come at any time, and a look sees the register as it is. `cores`: from cores as [`Core::new`](crate::Core::new) makes them, every
 /// such run is a run of the world, whose shards are the cores at each moment. So of every run of cores holds
 /// (`array_of_cores`): each request that is answered acted at one moment between its hand-over and its answer as on one
 /// plain array, each reply is that array's, and every idle row's slots hold that array's blocks, P and Q; and

@@ -1,13 +1,18 @@
 //! The core of one shard: a passive state machine, driven by requests, completions and looks at the register.
 #![tactic(auto)]
 
+mod call;
 mod calls;
+mod deliver;
 mod laws;
+mod look;
 mod refusal;
 mod reply;
 mod scan;
 mod state;
+mod tell;
 
+pub use call::Call;
 pub use calls::Core;
 pub use laws::array_law;
 pub use r6_frames::{Command, CommandKind, Op};
@@ -15,5 +20,7 @@ pub use refusal::{CoreError, DeviceFault, FaultKind, Receipt, Refusal, Refused};
 pub use reply::{OpId, Reply};
 pub use state::State;
 
+#[cfg(test)]
+mod loss_tests;
 #[cfg(test)]
 mod tests;

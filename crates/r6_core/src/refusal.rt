@@ -22,10 +22,16 @@ pub enum Refusal {
     WrongLength = 3,
     /// There are 256 accepted requests whose replies were not taken.
     Busy = 4,
+    /// A look has seen that the array failed.
+    ArrayFailed = 5,
     /// 2^60 commands were put out, or as many requests accepted.
     Exhausted = 6,
     /// No command with this token was taken that isn't answered.
     UnknownToken = 7,
+    /// A call is to be made at the register, or its answer isn't told.
+    UntoldFirst = 8,
+    /// The call isn't the one that was taken last and whose answer isn't told.
+    UnknownCall = 11,
 }
 
 impl Refusal {

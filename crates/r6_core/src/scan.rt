@@ -2,15 +2,15 @@
 
 ghost use Rattle.std.specs.Prelude.{◌≡◌, ◌<◌, ℕ, length, MatchOption};
 ghost use Rattle.r6_world.specs.Steps.{Through, Scans};
-ghost use Rattle.r6_frames.specs.Frames.{IsFreeFrame, IsRequestOf};
+ghost use Rattle.r6_frames.specs.Frames.{IsFreeFrame, IsRequestOf, AreLive};
 ghost use Rattle.r6_frames.specs.Sound as held;
-ghost use Rattle.r6_core.specs.States.{IsSound, IsCore, NoneCanStart, CannotStart, CanStart, Advances, HaveTurns, state_of, layout_in, SameFrames, KeepsReplies};
+ghost use Rattle.r6_core.specs.States.{IsSound, IsCore, NoneCanStart, CannotStart, CanStart, Advances, HaveTurns, state_of, layout_in, SameFrames, SameCalls, KeepsReplies};
 
 use crate::state::State;
 use r6_frames::Request;
 
 impl State {
-    /// Starts each waiting request that can start, from the oldest to the newest.
+    /// Starts each waiting request that can start, from the oldest to the newest. In a shard that has stopped none can.
     pub(crate) fn scan(&mut self)
         requires { IsCore self.old }
         ensures core { IsCore self.new }
@@ -18,8 +18,12 @@ impl State {
         ensures rested { NoneCanStart self.new }
         ensures turns { HaveTurns self.old.frames self.old.waiting.items self.new }
         ensures same { SameFrames self.old self.new }
+        ensures calls { SameCalls self.old self.new }
         ensures replies { KeepsReplies self.old self.new }
     {
+        if !self.frames.is_live() {
+            return;
+        }
         for _ in 0..self.waiting.len() {
             self.advance();
         }
@@ -28,11 +32,14 @@ impl State {
     // The oldest waiting request starts, if it can; else it goes behind the others.
     fn advance(&mut self)
         requires core { IsCore self.old }
+        requires live { AreLive self.old.frames }
         requires some { 0 < length self.old.waiting.items }
         ensures core { IsCore self.new }
+        ensures live { AreLive self.new.frames }
         ensures leads { Through (layout_in self.old) self.old.frames.shard Scans (state_of self.old) (state_of self.new) }
         ensures advances { Advances self.old self.new }
         ensures same { SameFrames self.old self.new }
+        ensures calls { SameCalls self.old self.new }
         ensures replies { KeepsReplies self.old self.new }
     {
         let Some(request) = self.waiting.pop_front() else {
@@ -54,6 +61,7 @@ impl State {
     // A free frame, if the row of the request's block isn't held.
     fn frame_for(&self, request: &Request) -> Option<usize>
         requires sound { held.IsSound self.now.frames }
+        requires live { AreLive self.now.frames }
         requires request { IsRequestOf self.now.frames request.now }
         ensures { MatchOption result (CannotStart self.now.frames request.now) (CanStart self.now.frames request.now) }
     {

@@ -1,8 +1,8 @@
 //! Cores driven over devices in memory.
 
-ghost use Rattle.std.specs.Prelude.{◌≡◌, ◌<◌, ◌≤◌, length, IfOk};
+ghost use Rattle.std.specs.Prelude.{◌≡◌, ◌<◌, ◌≤◌, ℕ, false, length, IfOk};
 ghost use Rattle.r6_layout.specs.Shape.{IsShape};
-ghost use Rattle.r6_core.specs.States.{IsWhole};
+ghost use Rattle.r6_world.specs.Registers.{InSync, status_of};
 
 use super::*;
 use r6_health::Snapshot;
@@ -12,7 +12,7 @@ use std::alloc::{AllocError, Global};
 use std::test::Fail;
 
 /// A block with one byte throughout.
-fn filled(alloc: Global, len: usize, byte: u8) -> Result<Buffer, AllocError>
+pub(crate) fn filled(alloc: Global, len: usize, byte: u8) -> Result<Buffer, AllocError>
     ensures { IfOk result (λ block. length block ≡ len) }
 {
     let bytes = vec![in alloc; byte; len]?;
@@ -21,29 +21,40 @@ fn filled(alloc: Global, len: usize, byte: u8) -> Result<Buffer, AllocError>
     Ok(block)
 }
 
-fn is_filled(block: &Buffer, byte: u8) -> bool {
+pub(crate) fn is_filled(block: &Buffer, byte: u8) -> bool {
     block.as_slice().iter().all(|b| *b == byte)
 }
 
 /// The snapshot of a register with every slot in sync.
-fn whole(geometry: &Geometry) -> Snapshot
+pub(crate) fn whole(geometry: &Geometry) -> Snapshot
     requires { IsShape geometry.now }
-    ensures whole { IsWhole result }
+    ensures in_sync { (slot : ℕ) → status_of result slot ≡ InSync }
     ensures no_attach { result.attaches ≡ 0 }
+    ensures unfailed { result.failed ≡ false }
 {
     Snapshot::start(geometry, 0)
 }
 
 /// The core of a shard of an array with all slots in sync.
-fn core_of(alloc: Global, geometry: &Geometry, shard: usize) -> Result<Core, CoreError>
+pub(crate) fn core_of(alloc: Global, geometry: &Geometry, shard: usize) -> Result<Core, CoreError>
     requires limits { IsShape geometry.now }
     requires shard { shard < geometry.now.shards }
 {
     Core::new(alloc, *geometry, shard, 1, &whole(geometry))
 }
 
+/// The core looks at the register: the number of the refusal, 0 for none. Each array has slots 0 to 3.
+pub(crate) fn look(core: &mut Core, snapshot: &Snapshot) -> u8
+    requires { (slot : ℕ) → 4 ≤ slot → status_of snapshot.now slot ≡ InSync }
+{
+    number_of(core.look(snapshot).err())
+}
+
 /// The blocks of the devices, by slot and row, of zeros.
-fn devices_of(alloc: Global, geometry: &Geometry) -> Result<Vec<Vec<Buffer>>, AllocError> {
+pub(crate) fn devices_of(
+    alloc: Global,
+    geometry: &Geometry,
+) -> Result<Vec<Vec<Buffer>>, AllocError> {
     let mut devices = Vec::new(alloc);
     for _ in 0..geometry.slots() {
         let mut device = Vec::new(alloc);
@@ -56,7 +67,7 @@ fn devices_of(alloc: Global, geometry: &Geometry) -> Result<Vec<Vec<Buffer>>, Al
 }
 
 /// The devices perform a command: its token, with the buffer that comes back.
-fn perform(command: Command, devices: &mut Vec<Vec<Buffer>>) -> (u64, Buffer) {
+pub(crate) fn perform(command: Command, devices: &mut Vec<Vec<Buffer>>) -> (u64, Buffer) {
     let Command {
         token,
         slot,
@@ -79,7 +90,7 @@ fn perform(command: Command, devices: &mut Vec<Vec<Buffer>>) -> (u64, Buffer) {
 }
 
 /// Takes a command, which the devices perform and whose completion is delivered. False where there is none.
-fn drive_one(core: &mut Core, devices: &mut Vec<Vec<Buffer>>) -> bool {
+pub(crate) fn drive_one(core: &mut Core, devices: &mut Vec<Vec<Buffer>>) -> bool {
     match core.take_command() {
         Some(command) => {
             let (token, buffer) = perform(command, devices);
@@ -90,7 +101,7 @@ fn drive_one(core: &mut Core, devices: &mut Vec<Vec<Buffer>>) -> bool {
 }
 
 /// Drives a core until it puts out no command; the number of those that it did.
-fn drive(core: &mut Core, devices: &mut Vec<Vec<Buffer>>, most: usize) -> usize {
+pub(crate) fn drive(core: &mut Core, devices: &mut Vec<Vec<Buffer>>, most: usize) -> usize {
     for count in 0..most {
         if !drive_one(core, devices) {
             return count;
@@ -100,7 +111,11 @@ fn drive(core: &mut Core, devices: &mut Vec<Vec<Buffer>>, most: usize) -> usize 
 }
 
 /// Takes so many commands, with the slot and the row of each.
-fn targets(core: &mut Core, alloc: Global, count: usize) -> Result<Vec<(usize, u64)>, AllocError> {
+pub(crate) fn targets(
+    core: &mut Core,
+    alloc: Global,
+    count: usize,
+) -> Result<Vec<(usize, u64)>, AllocError> {
     let mut targets = Vec::new(alloc);
     for _ in 0..count {
         if let Some(command) = core.take_command() {
@@ -111,7 +126,7 @@ fn targets(core: &mut Core, alloc: Global, count: usize) -> Result<Vec<(usize, u
 }
 
 /// The number of a write that is answered, and whether its buffer has the byte throughout.
-fn written(reply: Option<(OpId, Reply)>, byte: u8) -> Option<(OpId, bool)> {
+pub(crate) fn written(reply: Option<(OpId, Reply)>, byte: u8) -> Option<(OpId, bool)> {
     let (id, reply) = reply?;
     match reply {
         Reply::Done(buffer) => Some((id, is_filled(&buffer, byte))),
@@ -120,7 +135,7 @@ fn written(reply: Option<(OpId, Reply)>, byte: u8) -> Option<(OpId, bool)> {
 }
 
 /// The number of a read that is answered, and whether its block has the byte throughout.
-fn read(reply: Option<(OpId, Reply)>, byte: u8) -> Option<(OpId, bool)> {
+pub(crate) fn read(reply: Option<(OpId, Reply)>, byte: u8) -> Option<(OpId, bool)> {
     let (id, reply) = reply?;
     match reply {
         Reply::Data(buffer) => Some((id, is_filled(&buffer, byte))),
@@ -128,7 +143,7 @@ fn read(reply: Option<(OpId, Reply)>, byte: u8) -> Option<(OpId, bool)> {
     }
 }
 
-fn number_of(refused: Option<Refusal>) -> u8 {
+pub(crate) fn number_of(refused: Option<Refusal>) -> u8 {
     match refused {
         Some(refusal) => refusal.number(),
         None => 0,
@@ -136,7 +151,7 @@ fn number_of(refused: Option<Refusal>) -> u8 {
 }
 
 /// The number of the refusal of a request to read the block, 0 for none, and whether the buffer came back.
-fn try_read(core: &mut Core, block: u64, buffer: Buffer) -> (u8, bool) {
+pub(crate) fn try_read(core: &mut Core, block: u64, buffer: Buffer) -> (u8, bool) {
     let len = buffer.len();
     match core.submit(Op::Read(block, buffer)) {
         Ok(_) => (0, false),
@@ -191,7 +206,7 @@ fn the_257th_unanswered_request_is_refused(rt: HostRuntime) -> Result<(), Fail> 
         (1, true)
     );
     assert_eq!(rt; drive(&mut core, &mut devices, 1000), 256);
-    core.look(&snapshot);
+    assert_eq!(rt; look(&mut core, &snapshot), 0);
     assert_eq!(rt;
         try_read(&mut core, 0, Buffer::new(rt.alloc(), 16)?),
         (4, true)
@@ -246,7 +261,7 @@ fn a_write_and_a_read_of_it(rt: HostRuntime) -> Result<(), Fail> {
     assert_eq!(rt; drive(&mut core, &mut devices, 9), 3);
     // no reply before a look
     assert!(rt; core.take_reply().is_none());
-    core.look(&snapshot);
+    assert_eq!(rt; look(&mut core, &snapshot), 0);
     assert_eq!(rt; written(core.take_reply(), 0x5a), Some((OpId(0), true)));
     let id = core
         .submit(Op::Read(0, Buffer::new(rt.alloc(), 16)?))
@@ -254,7 +269,7 @@ fn a_write_and_a_read_of_it(rt: HostRuntime) -> Result<(), Fail> {
         .ok_or("refused")?;
     assert_eq!(rt; id, OpId(1));
     assert_eq!(rt; drive(&mut core, &mut devices, 9), 1);
-    core.look(&snapshot);
+    assert_eq!(rt; look(&mut core, &snapshot), 0);
     assert_eq!(rt; read(core.take_reply(), 0x5a), Some((OpId(1), true)));
     assert!(rt; core.take_reply().is_none());
     Ok(())
@@ -284,11 +299,11 @@ fn rows_go_on_side_by_side(rt: HostRuntime) -> Result<(), Fail> {
     assert_eq!(rt; drive(&mut core, &mut devices, 9), 3);
     let (token, buffer) = perform(first, &mut devices);
     assert!(rt; core.deliver(token, Ok(buffer)).is_ok());
-    core.look(&snapshot);
+    assert_eq!(rt; look(&mut core, &snapshot), 0);
     assert_eq!(rt; core.take_reply().map(|r| r.0), Some(OpId(1)));
     assert!(rt; core.take_reply().is_none());
     assert_eq!(rt; drive(&mut core, &mut devices, 9), 3);
-    core.look(&snapshot);
+    assert_eq!(rt; look(&mut core, &snapshot), 0);
     assert_eq!(rt; core.take_reply().map(|r| r.0), Some(OpId(0)));
     Ok(())
 }
@@ -348,7 +363,7 @@ fn requests_to_one_row_wait_for_each_other(rt: HostRuntime) -> Result<(), Fail> 
         assert!(rt; core.deliver(token, Ok(buffer)).is_ok());
     }
     drive(&mut core, &mut devices, 99);
-    core.look(&snapshot);
+    assert_eq!(rt; look(&mut core, &snapshot), 0);
     for id in [4u64, 0, 1, 2] {
         assert_eq!(rt; core.take_reply().map(|r| r.0), Some(OpId(id)));
     }

@@ -5,7 +5,7 @@ ghost use Rattle.std.specs.List.{All};
 ghost use Rattle.r6_layout.specs.Shape.{IsShape};
 ghost use Rattle.r6_core.specs.States.{IsWhole};
 
-use r6_core::{Core, CoreError, Op, Reply};
+use r6_core::{Core, CoreError, Op, Refusal, Reply};
 use r6_dev::{Fault, MemoryDevice};
 use r6_health::Snapshot;
 use r6_kernels::Buffer;
@@ -55,6 +55,12 @@ impl From<Fault> for Failed {
 
 impl From<CoreError> for Failed {
     fn from(_error: CoreError) -> Failed {
+        Failed
+    }
+}
+
+impl From<Refusal> for Failed {
+    fn from(_refusal: Refusal) -> Failed {
         Failed
     }
 }

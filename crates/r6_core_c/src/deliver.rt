@@ -31,7 +31,7 @@ pub(crate) fn deliver(
     take_commands(&mut core, &mut commands)?;
     for _ in 0..rounds {
         answer_one(&mut core, &mut commands)?;
-        core.look(&snapshot);
+        core.look(&snapshot)?;
         if let Some((id, reply)) = core.take_reply() {
             submit(
                 &mut core,

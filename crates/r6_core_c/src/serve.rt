@@ -28,7 +28,7 @@ pub(crate) fn serve(
     for _ in 0..rounds {
         submit_all(&mut core, &mut buffers, writes);
         drive(&mut core, &mut devices);
-        core.look(&snapshot);
+        core.look(&snapshot)?;
         take_replies(&mut core, &mut buffers)?;
     }
     if buffers.len() != width {

@@ -1,16 +1,16 @@
 -- A hold that begins in a free frame.
-use Rattle.std.proofs.Common.{◌≡◌, ◌≢◌, ℕ, zero, suc, ◌+◌, ◌*◌, ◌<◌, Bool, true, false, List, [], ◌∷◌, ◌++◌, length, map, replicate, set, take, slice_index_or, refl, sym, ap, subst, ◌∙◌, Option, Some, None, inl, inr, arith, add-one, vec_capacity, Vec, Global}
-use Rattle.std.specs.Prelude.{option_map}
+use Rattle.std.proofs.Common.{◌≡◌, ◌≢◌, ℕ, zero, suc, ◌+◌, ◌*◌, ◌<◌, ◌≤◌, Bool, false, List, [], ◌∷◌, ◌++◌, length, map, set, take, get_or, slice_index_or, refl, sym, ap, subst, ◌∙◌, Some, None, inl, inr, arith, add-one, vec_capacity, Vec, Global}
+use Rattle.std.specs.Prelude.{option_map, not}
 use Rattle.std.specs.List.{All}
 use Rattle.std.proofs.lemmas.Bool.{cases_eq}
 use Rattle.std.proofs.lemmas.List.Elements.{All-pop}
-use Rattle.std.proofs.lemmas.List.{take-replicate, length-replicate, length-set, get_or-replicate, replicate_more}
+use Rattle.std.proofs.lemmas.List.{length-set, length-map, map-append, take_more}
 use Rattle.r6_kernels.specs.Blocks.{IsBlock}
 use Rattle.r6_layout.specs.Shape.{Shape, IsShape, data_slots}
 use Rattle.r6_layout.specs.Layout as layout
 use Rattle.r6_stripe.specs.Frames as buffers
-use Rattle.r6_stripe.specs.Holds.{Cell, Kind, Standing, cell_at, no_cell, standing_cell, resting, MayBegin}
-use Rattle.r6_stripe.specs.Plans.{count_where, is_unread, planned_first}
+use Rattle.r6_stripe.specs.Holds.{Cell, Kind, Standing, Hold, Event, cell_at, standing_cell, resting, MayBegin}
+use Rattle.r6_stripe.specs.Plans.{AreSilent, IsPlanned, Planned, count_where, is_over, is_unread, planned_at, planned_first}
 use Rattle.r6_stripe.specs.Steps.{Held, standing_if, begun_held, is_away}
 use Rattle.r6_stripe.specs.Views.{kind_of_task}
 use Rattle.r6_stripe.specs.Sound.{IsTask}
@@ -22,32 +22,58 @@ use Rattle.r6_world.specs.Layouts.{first}
 use Rattle.r6_world.specs.Geometries.{layout_of}
 use Rattle.r6_world.specs.Tasks.{kind_of}
 use Rattle.r6_world.specs.ShardStates as shards
+use Rattle.r6_world.specs.ShardStates.{found, standing_of}
+use Rattle.r6_world.proofs.Cells.{found-long, found-at}
+use Rattle.r6_world.proofs.FullRows.{length-first, first-same}
 use Rattle.r6_world.proofs.Geometries.{layouts}
 use Rattle.r6_frames.specs.declared.op.Op.{Op}
 use Rattle.r6_frames.specs.declared.op.Op.TheVariants as op
 use Rattle.r6_frames.specs.declared.op.Request.{Request}
+use Rattle.r6_frames.specs.declared.slots.Device.{Device}
+use Rattle.r6_frames.specs.declared.slots.Device.TheVariants as device
 use Rattle.r6_frames.specs.declared.frames.Job.{Job}
 use Rattle.r6_frames.specs.declared.frames.HeldRow.{HeldRow}
+use Rattle.r6_frames.specs.declared.frames.FrameUse.{FrameUse}
+use Rattle.r6_frames.specs.declared.frames.FrameUse.TheVariants.{Free, Held as HeldIn, Returning}
 use Rattle.r6_frames.specs.declared.frames.Frames.{Frames}
-use Rattle.r6_frames.specs.Frames.{op_of, buffer_of, job_for, row_task, task_for, task_by, op_by, hold_at, hold_of, held_request, requests_from, entry_of, begun_for, shard_with, owed_by, owed_in, is_unsent, IsFreeFrame, NotHeldBy, IsRequestOf, Begins}
-use Rattle.r6_frames.specs.Sound.{idle_row, is_put_out, count_home, home_in, count_free, IsJob, IsHeld, AreApart, AreFrames, AreCommands, IsSound}
-use Rattle.r6_frames.proofs.Held.{hold_at_own, hold_at_other, apart_put, frame_put, held_comes, owed_at, owed_set, home_at, home_set, free_at, free_set}
+use Rattle.r6_frames.specs.Slots.{state_of, slot_in, states_of}
+use Rattle.r6_frames.specs.Frames.{op_of, buffer_of, job_for, row_task, task_for, task_by, op_by, use_at, row_in, hold_at, hold_of, held_request, requests_from, entry_of, begun_for, shard_with, owed_by, owed_in, is_unsent, is_synced_at, AreLive, IsFreeFrame, NotHeldBy, IsRequestOf, Begins, OwesCommands}
+use Rattle.r6_frames.specs.Sound.{is_put_out, is_away_from, count_home, home_in, count_free, IsJob, IsHeld, AreApart, AreFrames, AreCommands, IsSound}
+use Rattle.r6_frames.proofs.BegunOwes.{begun_owes_commands}
+use Rattle.r6_frames.proofs.Held.{use_at_own, use_at_other, apart_put, frame_put, held_comes, owed_at, owed_set, home_at, home_set, free_at, free_set}
 
--- ---- a row where all positions are in sync
+-- ---- the row as the hold finds it
 
-map_replicate : {A B : Type 0} (f : A → B) (n : ℕ) (x : A) → map f (replicate n x) ≡ replicate n (f x)
-map_replicate f zero x = refl
-map_replicate f (suc n) x = ap (λ xs. f x ∷ xs) (map_replicate f n x)
+map_first : {A B : Type 0} (h : A → B) (n : ℕ) (f : ℕ → A) → map h (first n f) ≡ first n (λ at. h (f at))
+map_first h zero f = refl
+map_first h (suc n) f = map-append h (first n f) (f n ∷ []) ∙ ap (λ rest. rest ++ h (f n) ∷ []) (map_first h n f)
 
-first_same : {A : Type 0} (n : ℕ) (x : A) → first n (λ at. x) ≡ replicate n x
-first_same zero x = refl
-first_same (suc n) x = ap (λ xs. xs ++ x ∷ []) (first_same n x) ∙ replicate_more n x ∙ ap (λ (k : ℕ). replicate k x) (add-one n)
+-- the first entries of a list, by what each is
+pub taken : {A : Type 0} (n : ℕ) (xs : List A) (f : ℕ → A) (none : A) → n ≤ length xs → ((at : ℕ) → at < n → get_or xs at none ≡ f at) → take n xs ≡ first n f
+taken zero xs f none long are = refl
+taken (suc n) xs f none long are =
+    ap (λ (k : ℕ). take k xs) (sym (add-one n)) ∙ take_more xs n none (omega arith)
+    ∙ ap (λ rest. rest ++ get_or xs n none ∷ []) (taken n xs f none (omega arith) (λ at below. are at (omega arith)))
+    ∙ ap (λ x. first n f ++ x ∷ []) (are n (omega arith))
 
-idle_is : (shape : Shape) → resting shape.block (map standing_if (replicate shape.slots true)) ≡ idle_row shape
-idle_is shape = ap (resting shape.block) (map_replicate standing_if shape.slots true ∙ sym (first_same shape.slots Standing.InSync))
+stands : (d : Device) (row : ℕ) → standing_if (not (shards.is_away (state_of d))) ≡ standing_of (state_of d) row
+stands (device.Synced generation) row = refl
+stands device.Missing row = refl
+stands (device.Building generation) row = refl
 
-abbrev pub fresh_cell : Cell
-fresh_cell = standing_cell Standing.InSync
+-- which positions of the row are in sync
+abbrev pub synced : Frames → ℕ → List Bool
+synced fs row = first fs.geometry.slots (is_synced_at fs row)
+
+abbrev pub found_in : Frames → ℕ → Hold
+found_in fs row = found (layout_of fs.geometry) (states_of fs.slots) row
+
+found_is : (fs : Frames) (row : ℕ) → resting fs.geometry.block (map standing_if (synced fs row)) ≡ found_in fs row
+found_is fs row =
+    ap (resting fs.geometry.block)
+    (map_first standing_if fs.geometry.slots (is_synced_at fs row)
+    ∙ first-same fs.geometry.slots (λ at. standing_if (is_synced_at fs row at)) (λ at. standing_of (states_of fs.slots (layout.slot_at fs.geometry row at)) row)
+    (λ at below. stands (slot_in fs.slots (layout.slot_at fs.geometry row at)).device row))
 
 -- ---- what a hold begins with
 
@@ -55,26 +81,26 @@ fresh_cell = standing_cell Standing.InSync
 pub begun_first : (size : ℕ) (in_sync : List Bool) (kind : Kind) → (begun_held size in_sync kind).planned ≡ planned_first (resting size (map standing_if in_sync)) kind
 begun_first size in_sync kind = refl
 
-cells_of : (task : RowTask) (size n : ℕ) → (begun_held size (replicate n true) (kind_of_task task)).planned.hold.cells ≡ replicate n fresh_cell
-cells_of (asks.Read index) size n = ap (map standing_cell) (map_replicate standing_if n true) ∙ map_replicate standing_cell n Standing.InSync
-cells_of (asks.Write index block) size n = ap (map standing_cell) (map_replicate standing_if n true) ∙ map_replicate standing_cell n Standing.InSync
+cells_of : (task : RowTask) (size : ℕ) (in_sync : List Bool) → (begun_held size in_sync (kind_of_task task)).planned.hold.cells ≡ (resting size (map standing_if in_sync)).cells
+cells_of (asks.Read index) size in_sync = refl
+cells_of (asks.Write index block) size in_sync = refl
 
-all_unread : (n : ℕ) → count_where (λ cell. is_unread cell.reading) (replicate n fresh_cell) ≡ n
-all_unread zero = refl
-all_unread (suc n) = omega (arith, all_unread n)
+all_unread : (standings : List Standing) → count_where (λ cell. is_unread cell.reading) (map standing_cell standings) ≡ length standings
+all_unread [] = refl
+all_unread (s ∷ standings) = omega (arith, all_unread standings)
 
-all_unsent : (n : ℕ) → count_where is_unsent (replicate n fresh_cell) ≡ n
-all_unsent zero = refl
-all_unsent (suc n) = omega (arith, all_unsent n)
+all_unsent : (standings : List Standing) → count_where is_unsent (map standing_cell standings) ≡ length standings
+all_unsent [] = refl
+all_unsent (s ∷ standings) = omega (arith, all_unsent standings)
 
-none_away : (n position : ℕ) → slice_index_or (replicate n false) position false ≡ false
-none_away zero position = refl
-none_away (suc n) zero = refl
-none_away (suc n) (suc position) = none_away n position
+none_away : (in_sync : List Bool) (position : ℕ) → slice_index_or (map (λ b. false) in_sync) position false ≡ false
+none_away [] position = refl
+none_away (b ∷ in_sync) zero = refl
+none_away (b ∷ in_sync) (suc position) = none_away in_sync position
 
-all_home : (n : ℕ) → count_home (replicate n false) ≡ n
-all_home zero = refl
-all_home (suc n) = omega (arith, all_home n)
+all_home : (in_sync : List Bool) → count_home (map (λ b. false) in_sync) ≡ length in_sync
+all_home [] = refl
+all_home (b ∷ in_sync) = omega (arith, all_home in_sync)
 
 -- ---- the row that is held for a request
 
@@ -84,27 +110,31 @@ block_in request = block_of (op_of request.op)
 abbrev pub task_in : Shape → Request → RowTask
 task_in shape request = row_task (layout.index_of shape (block_in request)) request.op
 
-abbrev pub begun_row : Shape → Request → HeldRow
-begun_row shape request =
+abbrev pub row_of : Frames → Request → ℕ
+row_of fs request = layout.row_of fs.geometry (block_in request)
+
+abbrev pub begun_row : Frames → Request → HeldRow
+begun_row fs request =
     record {
-      row = layout.row_of shape (block_in request);
+      row = row_of fs request;
       id = request.id;
       block = block_in request;
       job = job_for request.op;
-      hold = begun_held shape.block (replicate shape.slots true) (kind_of_task (task_in shape request));
+      hold = begun_held fs.geometry.block (synced fs (row_of fs request)) (kind_of_task (task_in fs.geometry request));
     }
 
 -- the row as the code makes it
 pub begun_as :
-    (shape : Shape) (request : Request) (block row index size : ℕ) (in_sync : List Bool) (job : Job) (task : RowTask) (hold : Held)
-    → block ≡ block_in request → row ≡ layout.row_of shape block → index ≡ layout.index_of shape block → size ≡ shape.block → in_sync ≡ replicate shape.slots true
+    (fs : Frames) (request : Request) (block row index size : ℕ) (in_sync : List Bool) (job : Job) (task : RowTask) (hold : Held)
+    → block ≡ block_in request → row ≡ layout.row_of fs.geometry block → index ≡ layout.index_of fs.geometry block → size ≡ fs.geometry.block → in_sync ≡ synced fs row
     → job ≡ job_for request.op → task ≡ row_task index request.op → hold ≡ begun_held size in_sync (kind_of_task task)
-    → record { row = row; id = request.id; block = block; job = job; hold = hold } ≡ begun_row shape request
-begun_as shape request block row index size in_sync job task hold block_is row_is index_is size_is sync_is job_is task_is hold_is =
-    let same_row = row_is ∙ ap (layout.row_of shape) block_is in
-    let same_task = task_is ∙ ap (λ (at : ℕ). row_task at request.op) (index_is ∙ ap (layout.index_of shape) block_is) in
-    let same_hold : hold ≡ begun_held shape.block (replicate shape.slots true) (kind_of_task (task_in shape request)) =
-    hold_is ∙ (λ i. begun_held (size_is i) (sync_is i) (kind_of_task (same_task i))) in
+    → record { row = row; id = request.id; block = block; job = job; hold = hold } ≡ begun_row fs request
+begun_as fs request block row index size in_sync job task hold block_is row_is index_is size_is sync_is job_is task_is hold_is =
+    let same_row = row_is ∙ ap (layout.row_of fs.geometry) block_is in
+    let same_task = task_is ∙ ap (λ (at : ℕ). row_task at request.op) (index_is ∙ ap (layout.index_of fs.geometry) block_is) in
+    let same_sync = sync_is ∙ ap (synced fs) same_row in
+    let same_hold : hold ≡ begun_held fs.geometry.block (synced fs (row_of fs request)) (kind_of_task (task_in fs.geometry request)) =
+    hold_is ∙ (λ i. begun_held (size_is i) (same_sync i) (kind_of_task (same_task i))) in
     λ i. record { row = same_row i; id = request.id; block = block_is i; job = job_is i; hold = same_hold i }
 
 -- the hold has the task of the request
@@ -124,15 +154,10 @@ job_is : (shape : Shape) (o : Op) → IsBlock shape.block (buffer_of o) → IsJo
 job_is shape (op.Read block buffer) sized = (refl, sized)
 job_is shape (op.Write block buffer) sized = (buffer, refl, sized)
 
-idle_wide : (shape : Shape) → length (idle_row shape).cells ≡ shape.slots
-idle_wide shape =
-    ap (λ standings. length (map standing_cell standings)) (first_same shape.slots Standing.InSync)
-    ∙ ap length (map_replicate standing_cell shape.slots Standing.InSync) ∙ length-replicate shape.slots fresh_cell
-
-may_begin : (shape : Shape) (index : ℕ) (o : Op) → index < data_slots shape → IsBlock shape.block (buffer_of o) → MayBegin (idle_row shape) (kind_of_task (row_task index o))
-may_begin shape index (op.Read block buffer) below sized = let wide = idle_wide shape in omega arith
-may_begin shape index (op.Write block buffer) below sized =
-    let wide = idle_wide shape in (λ none. (cc), (omega arith, sized, λ none. none, tt))
+may_begin : (fs : Frames) (row index : ℕ) (o : Op) → index < data_slots fs.geometry → IsBlock fs.geometry.block (buffer_of o) → MayBegin (found_in fs row) (kind_of_task (row_task index o))
+may_begin fs row index (op.Read block buffer) below sized = let wide = found-long (layout_of fs.geometry) (states_of fs.slots) row in omega arith
+may_begin fs row index (op.Write block buffer) below sized =
+    let wide = found-long (layout_of fs.geometry) (states_of fs.slots) row in (λ none. (cc), (omega arith, sized, λ none. none, tt))
 
 fits : (shape : Shape) (index : ℕ) (o : Op) → index < data_slots shape → IsBlock shape.block (buffer_of o) → IsTask shape.slots shape.block (Some (row_task index o))
 fits shape index (op.Read block buffer) below sized = omega arith
@@ -148,45 +173,53 @@ fits_as fs request index count size task shape right index_is count_is size_is t
     let whole = fits fs.geometry (layout.index_of fs.geometry (block_in request)) request.op below right.sized in
     subst (λ (p : ℕ × ℕ × RowTask). IsTask p.0 p.1 (Some p.2)) (sym (λ i. (count_is i, size_is i, same i))) whole
 
-planned_is : (shape : Shape) (request : Request) → (begun_row shape request).hold.planned ≡ planned_first (idle_row shape) (kind_of_task (task_in shape request))
-planned_is shape request =
-    begun_first shape.block (replicate shape.slots true) (kind_of_task (task_in shape request))
-    ∙ ap (λ idle. planned_first idle (kind_of_task (task_in shape request))) (idle_is shape)
+planned_is : (fs : Frames) (request : Request) → (begun_row fs request).hold.planned ≡ planned_first (found_in fs (row_of fs request)) (kind_of_task (task_in fs.geometry request))
+planned_is fs request =
+    begun_first fs.geometry.block (synced fs (row_of fs request)) (kind_of_task (task_in fs.geometry request))
+    ∙ ap (λ idle. planned_first idle (kind_of_task (task_in fs.geometry request))) (found_is fs (row_of fs request))
 
 -- it is the hold that the rules begin
-hold_is : (fs : Frames) (request : Request) → hold_of (begun_row fs.geometry request) ≡ begun_for fs request
+hold_is : (fs : Frames) (request : Request) → hold_of (begun_row fs request) ≡ begun_for fs request
 hold_is fs request =
-    let row = layout.row_of fs.geometry (block_in request) in
-    let first_is = planned_is fs.geometry request ∙ ap (planned_first (idle_row fs.geometry)) (sym (kind_is fs.geometry row request.id request.op)) in
+    let row = row_of fs request in
+    let first_is = planned_is fs request ∙ ap (planned_first (found_in fs row)) (sym (kind_is fs.geometry row request.id request.op)) in
     let task = task_is (layout.index_of fs.geometry (block_in request)) request.id request.op in
     λ i. record { row = row; task = task i; course = (first_is i).hold; plan = (first_is i).plan; class = None }
 
-entry_is : (shape : Shape) (frame : ℕ) (request : Request) → held_request frame (begun_row shape request) ≡ entry_of frame request
-entry_is shape frame request =
-    let same = op_is (layout.index_of shape (block_in request)) request.op in
+entry_is : (fs : Frames) (frame : ℕ) (request : Request) → held_request frame (begun_row fs request) ≡ entry_of frame request
+entry_is fs frame request =
+    let same = op_is (layout.index_of fs.geometry (block_in request)) request.op in
     λ i. (request.id, record { op = same i; stage = shards.Held frame })
 
-cells_in : (shape : Shape) (request : Request) → (begun_row shape request).hold.planned.hold.cells ≡ replicate shape.slots fresh_cell
-cells_in shape request = cells_of (task_in shape request) shape.block shape.slots
+cells_in : (fs : Frames) (request : Request) → (begun_row fs request).hold.planned.hold.cells ≡ (found_in fs (row_of fs request)).cells
+cells_in fs request =
+    cells_of (task_in fs.geometry request) fs.geometry.block (synced fs (row_of fs request)) ∙ ap (λ (hold : Hold). hold.cells) (found_is fs (row_of fs request))
 
-away_in : (shape : Shape) (request : Request) → (begun_row shape request).hold.away ≡ replicate shape.slots false
-away_in shape request = map_replicate (λ b. false) shape.slots true
+cell_in : (fs : Frames) (request : Request) (position : ℕ) → position < fs.geometry.slots
+    → cell_at (begun_row fs request).hold.planned.hold.cells position
+    ≡ standing_cell (standing_of (states_of fs.slots (layout.slot_at fs.geometry (row_of fs request) position)) (row_of fs request))
+cell_in fs request position below =
+    ap (λ cells. cell_at cells position) (cells_in fs request) ∙ found-at (layout_of fs.geometry) (states_of fs.slots) (row_of fs request) position below
 
-cell_in : (shape : Shape) (request : Request) (position : ℕ) → position < shape.slots → cell_at (begun_row shape request).hold.planned.hold.cells position ≡ fresh_cell
-cell_in shape request position below =
-    ap (λ cells. cell_at cells position) (cells_in shape request) ∙ get_or-replicate shape.slots position fresh_cell no_cell below
+at_home : (fs : Frames) (request : Request) (position : ℕ) → is_away (begun_row fs request).hold position ≡ false
+at_home fs request position = none_away (synced fs (row_of fs request)) position
 
-at_home : (shape : Shape) (request : Request) (position : ℕ) → is_away (begun_row shape request).hold position ≡ false
-at_home shape request position = ap (λ away. slice_index_or away position false) (away_in shape request) ∙ none_away shape.slots position
+wide_in : (fs : Frames) (request : Request) → length (synced fs (row_of fs request)) ≡ fs.geometry.slots
+wide_in fs request = length-first fs.geometry.slots (is_synced_at fs (row_of fs request))
 
-all_owed : (shape : Shape) (request : Request) → owed_by (begun_row shape request) ≡ 2 * shape.slots
-all_owed shape request =
-    let cells = cells_in shape request in
-    let reads = ap (count_where (λ cell. is_unread cell.reading)) cells ∙ all_unread shape.slots in
-    let writes = ap (count_where is_unsent) cells ∙ all_unsent shape.slots in
+home_in_row : (fs : Frames) (request : Request) → count_home (begun_row fs request).hold.away ≡ fs.geometry.slots
+home_in_row fs request = all_home (synced fs (row_of fs request)) ∙ wide_in fs request
+
+all_owed : (fs : Frames) (request : Request) → owed_by (begun_row fs request) ≡ 2 * fs.geometry.slots
+all_owed fs request =
+    let standings = map standing_if (synced fs (row_of fs request)) in
+    let cells = cells_of (task_in fs.geometry request) fs.geometry.block (synced fs (row_of fs request)) in
+    let wide = length-map (synced fs (row_of fs request)) standing_if ∙ wide_in fs request in
+    let reads = ap (count_where (λ cell. is_unread cell.reading)) cells ∙ all_unread standings in
+    let writes = ap (count_where is_unsent) cells ∙ all_unsent standings in
     omega arith
 
-begun_is_held : (fs : Frames) (request : Request) → IsShape fs.geometry → IsRequestOf fs request → IsHeld fs.geometry fs.shard (begun_row fs.geometry request)
+begun_is_held : (fs : Frames) (request : Request) → IsShape fs.geometry → IsRequestOf fs request → IsHeld fs.geometry fs.shard fs.slots (begun_row fs request)
 begun_is_held fs request shape right =
     let placed = (layouts fs.geometry shape).placed (block_in request) right.there in
     record {
@@ -195,29 +228,33 @@ begun_is_held fs request shape right =
       own = (placed.0, right.own);
       job = job_is fs.geometry request.op right.sized;
       under_way = record {
+        slots = states_of fs.slots;
+        row = row_of fs request;
         kind = kind_of_task (task_in fs.geometry request);
         events = [];
-        may_begin = may_begin fs.geometry (layout.index_of fs.geometry (block_in request)) request.op placed.1 right.sized;
+        may_begin = may_begin fs (row_of fs request) (layout.index_of fs.geometry (block_in request)) request.op placed.1 right.sized;
         may = tt;
-        here = sym (planned_is fs.geometry request);
+        here = sym (planned_is fs request);
       };
       size = refl;
-      wide = ap length (cells_in fs.geometry request) ∙ length-replicate fs.geometry.slots fresh_cell;
-      wide_away = ap length (away_in fs.geometry request) ∙ length-replicate fs.geometry.slots false;
-      in_sync = λ position below. ap (λ cell. cell.standing) (cell_in fs.geometry request position below);
-      away = λ position below. at_home fs.geometry request position ∙ sym (ap is_put_out (cell_in fs.geometry request position below));
+      wide = ap length (cells_in fs request) ∙ found-long (layout_of fs.geometry) (states_of fs.slots) (row_of fs request);
+      wide_away = length-map (synced fs (row_of fs request)) (λ b. false) ∙ wide_in fs request;
+      standing = λ position below. ap (λ (cell : Cell). cell.standing) (cell_in fs request position below);
+      away = λ position below in_sync. at_home fs request position ∙ sym (ap is_put_out (cell_in fs request position below));
     }
 
 -- ---- the frames with this row
 
 -- a free frame counts
-pub free_some : (held : List (Option HeldRow)) (f : ℕ) → f < length held → hold_at held f ≡ None → 0 < count_free held
-free_some [] f below none = absurd (omega arith)
-free_some (None ∷ held) f below none = omega arith
-free_some (Some h ∷ held) zero below none = absurd (cc)
-free_some (Some h ∷ held) (suc f) below none = free_some held f (omega arith) none
+pub free_some : (held : List FrameUse) (f : ℕ) → f < length held → use_at held f ≡ Free → 0 < count_free held
+free_some [] f below free = absurd (omega arith)
+free_some (Free ∷ held) f below free = omega arith
+free_some (HeldIn h ∷ held) zero below free = absurd (cc)
+free_some (HeldIn h ∷ held) (suc f) below free = free_some held f (omega arith) free
+free_some (Returning r ∷ held) zero below free = absurd (cc)
+free_some (Returning r ∷ held) (suc f) below free = free_some held f (omega arith) free
 
-abbrev pub with_held : Frames → Vec (Option HeldRow) Global → Vec buffers.Shape Global → Frames
+abbrev pub with_held : Frames → Vec FrameUse Global → Vec buffers.Shape Global → Frames
 with_held fs held spare = record fs { held = held; spare = spare }
 
 pub inside : (fs : Frames) (frame : ℕ) → IsSound fs → IsFreeFrame fs frame → frame < length fs.held.items
@@ -230,45 +267,47 @@ IsShapeOf fs free_frame = free_frame ≡ record { count = fs.geometry.slots; siz
 pub shape_is : (fs : Frames) (last : buffers.Shape) (rest : List buffers.Shape) → IsSound fs → fs.spare.items ≡ rest ++ last ∷ [] → IsShapeOf fs last
 shape_is fs last rest sound items = (All-pop (IsShapeOf fs) fs.spare.items rest (Some last) items sound.frames.spare_shape).1
 
--- as many positions in sync as there are slots
-pub synced : (fs : Frames) (count : ℕ) → IsSound fs → count ≡ fs.geometry.slots → take count (replicate 32 true) ≡ replicate fs.geometry.slots true
-synced fs count sound same = take-replicate count 32 true (let most = sound.shape.slots_allowed.1 in omega arith) ∙ ap (λ n. replicate n true) same
-
-module _ (fs : Frames) (frame : ℕ) (request : Request) (held : Vec (Option HeldRow) Global) (spare : Vec buffers.Shape Global)
-    (sound : IsSound fs) (free : IsFreeFrame fs frame) (right : IsRequestOf fs request) (unheld : NotHeldBy fs (layout.row_of fs.geometry (block_in request)))
-    (held_is : held.items ≡ set fs.held.items frame (Some (begun_row fs.geometry request))) where
+module _ (fs : Frames) (frame : ℕ) (request : Request) (held : Vec FrameUse Global) (spare : Vec buffers.Shape Global)
+    (sound : IsSound fs) (free : IsFreeFrame fs frame) (right : IsRequestOf fs request) (unheld : NotHeldBy fs (row_of fs request))
+    (held_is : held.items ≡ set fs.held.items frame (HeldIn (begun_row fs request))) where
   here : frame < length fs.held.items
   here = inside fs frame sound free
 
-  own : hold_at held.items frame ≡ Some (begun_row fs.geometry request)
-  own = ap (λ items. hold_at items frame) held_is ∙ hold_at_own fs.held.items frame (Some (begun_row fs.geometry request)) here
+  own : use_at held.items frame ≡ HeldIn (begun_row fs request)
+  own = ap (λ items. use_at items frame) held_is ∙ use_at_own fs.held.items frame (HeldIn (begun_row fs request)) here
 
-  other : (f : ℕ) → f ≢ frame → hold_at held.items f ≡ hold_at fs.held.items f
-  other f ne = ap (λ items. hold_at items f) held_is ∙ hold_at_other fs.held.items frame (Some (begun_row fs.geometry request)) f ne
+  other : (f : ℕ) → f ≢ frame → use_at held.items f ≡ use_at fs.held.items f
+  other f ne = ap (λ items. use_at items f) held_is ∙ use_at_other fs.held.items frame (HeldIn (begun_row fs request)) f ne
+
+  -- what is held in the frame now is the row
+  row_here : (f : ℕ) (h : HeldRow) → f ≡ frame → hold_at held.items f ≡ Some h → begun_row fs request ≡ h
+  row_here f h e is = let both : Some h ≡ Some (begun_row fs request) = sym is ∙ ap (hold_at held.items) e ∙ ap row_in own in cc
 
   frames_sound : length fs.spare.items ≡ length spare.items + 1 → vec_capacity spare ≡ vec_capacity fs.spare
       → All (IsShapeOf fs) spare.items
       → AreFrames (with_held fs held spare)
   frames_sound one_less same_room shapes =
       let was = sound.frames in
-      let free_frames = free_set fs.held.items frame (Some (begun_row fs.geometry request)) here in
-      let free_here : free_at (hold_at fs.held.items frame) ≡ 1 = ap free_at free.1 in
+      let free_frames = free_set fs.held.items frame (HeldIn (begun_row fs request)) here in
+      let free_here : free_at (use_at fs.held.items frame) ≡ 1 = ap free_at free.1 in
       let free_now = ap count_free held_is in
       let all = was.spare in
       let room = was.spare_room in
       record {
-        count = ap length held_is ∙ length-set fs.held.items frame (Some (begun_row fs.geometry request)) ∙ was.count;
+        count = ap length held_is ∙ length-set fs.held.items frame (HeldIn (begun_row fs request)) ∙ was.count;
         rows = λ f h is.
             elim (cases_eq f frame) [
-              | inl e ↦
-                  let both : Some h ≡ Some (begun_row fs.geometry request) = sym is ∙ ap (hold_at held.items) e ∙ own in
-                  let same : begun_row fs.geometry request ≡ h = cc in
-                  subst (IsHeld fs.geometry fs.shard) same (begun_is_held fs request sound.shape right)
-              | inr ne ↦ was.rows f h (sym (other f ne) ∙ is)
+              | inl e ↦ subst (IsHeld fs.geometry fs.shard fs.slots) (row_here f h e is) (begun_is_held fs request sound.shape right)
+              | inr ne ↦ was.rows f h (ap row_in (sym (other f ne)) ∙ is)
+            ];
+        returning = λ f r is.
+            elim (cases_eq f frame) [
+              | inl e ↦ let both : Returning r ≡ HeldIn (begun_row fs request) = sym is ∙ ap (use_at held.items) e ∙ own in absurd (cc)
+              | inr ne ↦ was.returning f r (sym (other f ne) ∙ is)
             ];
         one_holder =
             subst AreApart (sym held_is)
-            (apart_put fs.held.items frame (begun_row fs.geometry request) here was.one_holder (λ f h is same. absurd (unheld f h is same)));
+            (apart_put fs.held.items frame (begun_row fs request) here was.one_holder (λ f h is same. absurd (unheld f h is same)));
         spare = omega arith;
         spare_room = omega arith;
         spare_shape = shapes;
@@ -277,30 +316,37 @@ module _ (fs : Frames) (frame : ℕ) (request : Request) (held : Vec (Option Hel
   commands_sound : AreCommands (with_held fs held spare)
   commands_sound =
       let was = sound.commands in
-      let homes = home_set fs.geometry.slots fs.held.items frame (Some (begun_row fs.geometry request)) here in
-      let home_here : home_at fs.geometry.slots (hold_at fs.held.items frame) ≡ fs.geometry.slots = ap (home_at fs.geometry.slots) free.1 in
-      let home_all : count_home (begun_row fs.geometry request).hold.away ≡ fs.geometry.slots = ap count_home (away_in fs.geometry request) ∙ all_home fs.geometry.slots in
+      let homes = home_set fs.geometry.slots fs.held.items frame (HeldIn (begun_row fs request)) here in
+      let home_here : home_at fs.geometry.slots (use_at fs.held.items frame) ≡ fs.geometry.slots = ap (home_at fs.geometry.slots) free.1 in
+      let home_all = home_in_row fs request in
       let home_now = ap (home_in fs.geometry.slots) held_is in
       let room = was.room in
       record {
         handed = was.handed;
+        since = was.since;
         given = was.given;
         untaken = was.untaken;
         sized = was.sized;
-        of_hold = λ token c is.
-            let old = was.of_hold token c is in
-            let apart : c.frame ≢ frame = λ e. let none = ap (hold_at fs.held.items) e ∙ free.1 in let some = old.held in absurd (cc) in
-            record { holder = old.holder; held = other c.frame apart ∙ old.held; row = old.row; slot = old.slot; away = old.away; kind = old.kind };
+        lawful = was.lawful;
         alone = was.alone;
-        there = λ f position h is below away.
+        of_frame = λ live token c is.
+            let old = was.of_frame live token c is in
+            let apart : c.frame ≢ frame =
+            λ e. let home = ap (λ what. is_away_from what (layout.position_at fs.geometry c.row c.slot)) (ap (use_at fs.held.items) e ∙ free.1) in let away = old.away in absurd (cc) in
+            let same = other c.frame apart in
+            record {
+              away = ap (λ what. is_away_from what (layout.position_at fs.geometry c.row c.slot)) same ∙ old.away;
+              held = λ h at. let of = old.held h (ap row_in (sym same) ∙ at) in record { row = of.row; abandoned = of.abandoned; kind = of.kind };
+              ended = λ none. old.ended (ap row_in (sym same) ∙ none);
+            };
+        there = λ live f position below away.
             elim (cases_eq f frame) [
               | inl e ↦
-                  let both : Some h ≡ Some (begun_row fs.geometry request) = sym is ∙ ap (hold_at held.items) e ∙ own in
-                  let same : h ≡ begun_row fs.geometry request = cc in
-                  let home = ap (λ (row : HeldRow). is_away row.hold position) same ∙ at_home fs.geometry request position in
+                  let home = ap (λ what. is_away_from what position) (ap (use_at held.items) e ∙ own) ∙ at_home fs request position in
                   absurd (cc)
-              | inr ne ↦ was.there f position h (sym (other f ne) ∙ is) below away
+              | inr ne ↦ was.there live f position below (ap (λ what. is_away_from what position) (sym (other f ne)) ∙ away)
             ];
+        stopped = was.stopped;
         room = omega arith;
       }
 
@@ -312,9 +358,9 @@ module _ (fs : Frames) (frame : ℕ) (request : Request) (held : Vec (Option Hel
 
   pub begins : Begins fs frame request (with_held fs held spare)
   begins =
-      let came = held_comes 0 fs.held.items frame frame (begun_row fs.geometry request) here free.1 (omega arith) in
-      let entry = entry_is fs.geometry frame request in
-      let frames_are = ap (λ items. λ x. option_map hold_of (hold_at items x)) held_is ∙ frame_put fs.held.items frame (Some (begun_row fs.geometry request)) here
+      let came = held_comes 0 fs.held.items frame frame (begun_row fs request) here (ap row_in free.1) (omega arith) in
+      let entry = entry_is fs frame request in
+      let frames_are = ap (λ items. λ x. option_map hold_of (hold_at items x)) held_is ∙ frame_put fs.held.items frame (HeldIn (begun_row fs request)) here
       ∙ ap (λ hold. put (λ x. option_map hold_of (hold_at fs.held.items x)) frame (Some hold)) (hold_is fs request) in
       record {
         requests = record {
@@ -324,13 +370,22 @@ module _ (fs : Frames) (frame : ℕ) (request : Request) (held : Vec (Option Hel
           with = ap (requests_from 0) held_is ∙ came.with ∙ ap (λ e. came.before ++ e ∷ came.behind) entry;
           elsewhere = came.elsewhere;
         };
-        shard = (refl, refl, λ accepted requests. λ i. record (shard_with accepted requests fs) { frame = frames_are i });
+        shard = (refl, refl, λ rest. λ i. record (shard_with rest fs) { frame = frames_are i });
       }
 
-  pub begun_owes : owed_in held.items ≡ owed_in fs.held.items + 2 * fs.geometry.slots
-  begun_owes =
-      let sums = owed_set fs.held.items frame (Some (begun_row fs.geometry request)) here in
-      let owed_here : owed_at (hold_at fs.held.items frame) ≡ 0 = ap owed_at free.1 in
+  pub begun_owed : owed_in held.items ≡ owed_in fs.held.items + 2 * fs.geometry.slots
+  begun_owed =
+      let sums = owed_set fs.held.items frame (HeldIn (begun_row fs request)) here in
+      let owed_here : owed_at (use_at fs.held.items frame) ≡ 0 = ap owed_at free.1 in
       let now = ap owed_in held_is in
-      let new = all_owed fs.geometry request in
+      let new = all_owed fs request in
       omega arith
+
+  pub begun_commands : AreLive fs → OwesCommands (with_held fs held spare) frame
+  begun_commands live h is =
+      let placed = (layouts fs.geometry sound.shape).placed (block_in request) right.there in
+      let kind = kind_of_task (task_in fs.geometry request) in
+      let owes = begun_owes_commands fs.geometry fs.slots (row_of fs request) kind sound.shape placed.0 live.0
+      (may_begin fs (row_of fs request) (layout.index_of fs.geometry (block_in request)) request.op placed.1 right.sized) in
+      subst (λ (planned : Planned). (events : List Event) → AreSilent events → IsPlanned planned events → is_over (planned_at planned events) ≡ false)
+      (sym (planned_is fs request) ∙ ap (λ (row : HeldRow). row.hold.planned) (row_here frame h refl is)) owes

@@ -1,87 +1,123 @@
 -- The commands, when a held row goes on and when a command comes.
-use Rattle.std.proofs.Common.{◌≡◌, ◌≢◌, ◌⊎◌, ℕ, zero, suc, ◌+◌, ◌<◌, ◌≤◌, Bool, true, false, List, [], ◌∷◌, length, set, refl, sym, ap, subst, ◌∙◌, Option, Some, None, inl, inr, arith, get_or-set_same, get_or-set_other}
+use Rattle.std.proofs.Common.{◌≡◌, ◌≢◌, ◌⊎◌, ℕ, zero, suc, ◌+◌, ◌<◌, ◌≤◌, Bool, true, false, List, [], ◌∷◌, length, set, refl, sym, ap, subst, ◌∙◌, Some, None, inl, inr, arith, get_or-set_same, get_or-set_other}
 use Rattle.std.specs.Prelude.{slice_index_or, option_map}
 use Rattle.std.specs.Ordering.{nat_cmp}
 use Rattle.std.specs.FinMap as map
 use Rattle.std.specs.FinMap.{FinMap}
 use Rattle.std.specs.Vec.{with_item}
 use Rattle.std.proofs.lemmas.Bool.{cases_eq, ne_eqb, le-ltb}
-use Rattle.r6_layout.specs.Shape.{IsShape}
 use Rattle.r6_layout.specs.Layout.{position_at, slot_at}
-use Rattle.r6_layout.proofs.Roles.{position_at-lt}
 use Rattle.r6_stripe.specs.Holds.{cell_at}
-use Rattle.r6_stripe.specs.Plans.{Planned, is_sent}
+use Rattle.r6_stripe.specs.Plans.{Planned, is_sent, is_out}
 use Rattle.r6_stripe.specs.Steps.{is_away}
 use Rattle.r6_tables.specs.Table.{Numbered, capacity_of, next_of, entries_of}
 use Rattle.r6_world.specs.Tables.{put}
+use Rattle.r6_world.specs.Layouts.{IsRowOf}
+use Rattle.r6_world.specs.Geometries.{layout_of}
+use Rattle.r6_frames.specs.declared.slots.Slot.{Slot}
 use Rattle.r6_frames.specs.declared.command.CommandKind.{CommandKind}
 use Rattle.r6_frames.specs.declared.command.Outstanding.{Outstanding}
 use Rattle.r6_frames.specs.declared.frames.HeldRow.{HeldRow}
+use Rattle.r6_frames.specs.declared.frames.FrameUse.{FrameUse}
+use Rattle.r6_frames.specs.declared.frames.FrameUse.TheVariants.{Held as HeldIn}
 use Rattle.r6_frames.specs.declared.frames.Frames.{Frames}
-use Rattle.r6_frames.specs.Frames.{hold_at, outstanding, command_of, transfer_of}
-use Rattle.r6_frames.specs.Sound.{AreCommands, IsOfHold, HasCommand, is_write, count_home, home_in}
+use Rattle.r6_frames.specs.Slots.{slot_in, is_abandoned}
+use Rattle.r6_frames.specs.Frames.{use_at, hold_at, outstanding, command_of, transfer_of, AreLive}
+use Rattle.r6_frames.specs.Sound.{AreCommands, IsOfHold, IsOfFrame, HasCommand, is_away_from, place_of, is_write, count_home, home_in}
 use Rattle.r6_frames.proofs.Lists.{same_put}
 use Rattle.r6_frames.proofs.Tables.{inserted-own, inserted-other, len-inserted}
-use Rattle.r6_frames.proofs.Held.{held_within, held_put, hold_at_own, hold_at_other, home_at, home_set}
-use Rattle.r6_frames.proofs.HeldRows.{prepared}
+use Rattle.r6_frames.proofs.Held.{held_within, held_put, use_held, use_at_own, use_at_other, hold_at_own, hold_at_other, home_at, home_set}
+use Rattle.r6_frames.proofs.HeldRows.{Prepared, prepared}
 
 -- the frames with another row held in the frame
 abbrev pub with_row : Frames → ℕ → HeldRow → Frames
-with_row fs frame h = record fs { held = with_item fs.held frame (Some h) }
-
--- what is held in the frame
-one_held : (held : List (Option HeldRow)) (frame other : ℕ) (h x : HeldRow) → hold_at held frame ≡ Some h → other ≡ frame → hold_at held other ≡ Some x → x ≡ h
-one_held held frame other h x is e there = let both : Some x ≡ Some h = sym there ∙ ap (hold_at held) e ∙ is in cc
+with_row fs frame h = record fs { held = with_item fs.held frame (HeldIn h) }
 
 -- what is held in a frame when another row is in this one
-pub held_then : (held : List (Option HeldRow)) (frame : ℕ) (h new : HeldRow) (other : ℕ) (x : HeldRow) → hold_at held frame ≡ Some h → hold_at (set held frame (Some new)) other ≡ Some x
+pub held_then : (held : List FrameUse) (frame : ℕ) (h new : HeldRow) (other : ℕ) (x : HeldRow) → hold_at held frame ≡ Some h → hold_at (set held frame (HeldIn new)) other ≡ Some x
     → ((other ≡ frame) × (new ≡ x)) ⊎ ((other ≢ frame) × (hold_at held other ≡ Some x))
 held_then held frame h new other x is there = held_put held frame new other x (held_within held frame h is) there
 
+-- ---- the commands of a frame whose row goes on
+
+-- the command of the frame's row is one of the row as it is now
+pub record StaysOf (fs : Frames) (c : Outstanding) (h new : HeldRow) : Type 0 where
+  pub row : new.row ≡ h.row
+  pub away : is_away h.hold (place_of fs c) ≡ true → is_away new.hold (place_of fs c) ≡ true
+  pub standing : (cell_at new.hold.planned.hold.cells (place_of fs c)).standing ≡ (cell_at h.hold.planned.hold.cells (place_of fs c)).standing
+  pub sent : is_sent (cell_at new.hold.planned.hold.cells (place_of fs c)).writing ≡ is_sent (cell_at h.hold.planned.hold.cells (place_of fs c)).writing
+
+pub of_frame_stays : (fs : Frames) (frame : ℕ) (h new : HeldRow) (token : ℕ) (c : Outstanding) → hold_at fs.held.items frame ≡ Some h → (c.frame ≡ frame → StaysOf fs c h new)
+    → IsOfFrame fs token c → IsOfFrame (with_row fs frame new) token c
+of_frame_stays fs frame h new token c is stays o =
+    elim (cases_eq c.frame frame) [
+      | inl e ↦
+          let s = stays e in
+          let was : hold_at fs.held.items c.frame ≡ Some h = ap (hold_at fs.held.items) e ∙ is in
+          let now : hold_at (set fs.held.items frame (HeldIn new)) c.frame ≡ Some new = ap (hold_at (set fs.held.items frame (HeldIn new))) e ∙ hold_at_own fs.held.items frame (HeldIn new) inside in
+          let of_h = o.held h was in
+          let own : IsOfHold (with_row fs frame new) token c new = record {
+            row = of_h.row ∙ sym s.row;
+            abandoned = of_h.abandoned ∙ ap is_out (sym s.standing);
+            kind = λ kept. of_h.kind kept ∙ sym s.sent;
+          } in
+          record {
+            away = ap (λ (u : FrameUse). is_away_from u (place_of fs c)) (use_held (set fs.held.items frame (HeldIn new)) c.frame new now)
+                ∙ s.away (sym (ap (λ (u : FrameUse). is_away_from u (place_of fs c)) (use_held fs.held.items c.frame h was)) ∙ o.away);
+            held = λ x there. let both : Some new ≡ Some x = sym now ∙ there in let same : new ≡ x = cc in subst (IsOfHold (with_row fs frame new) token c) same own;
+            ended = λ none. absurd (let both : Some new ≡ None = sym now ∙ none in cc);
+          }
+      | inr ne ↦
+          let same = use_at_other fs.held.items frame (HeldIn new) c.frame ne in
+          let held_same = hold_at_other fs.held.items frame (HeldIn new) c.frame ne in
+          record {
+            away = ap (λ (u : FrameUse). is_away_from u (place_of fs c)) same ∙ o.away;
+            held = λ x there. let of_x = o.held x (sym held_same ∙ there) in record { row = of_x.row; abandoned = of_x.abandoned; kind = of_x.kind };
+            ended = λ none. o.ended (sym held_same ∙ none);
+          }
+    ]
+  where
+    inside : frame < length fs.held.items
+    inside = held_within fs.held.items frame h is
+
 -- ---- a hold prepares: its commands stay
 
-module _ (fs : Frames) (frame : ℕ) (h : HeldRow) (planned : Planned) (shape : IsShape fs.geometry) (is : hold_at fs.held.items frame ≡ Some h)
-    (sent : (j : ℕ) → j < fs.geometry.slots → is_sent (cell_at planned.hold.cells j).writing ≡ is_sent (cell_at h.hold.planned.hold.cells j).writing) where
+module _ (fs : Frames) (frame : ℕ) (h : HeldRow) (planned : Planned) (live : AreLive fs) (is : hold_at fs.held.items frame ≡ Some h)
+    (p : Prepared fs.geometry fs.shard fs.slots h (prepared h planned)) where
   abbrev prepared_frames : Frames
   prepared_frames = with_row fs frame (prepared h planned)
 
-  of_prepared : (c : Outstanding) → IsOfHold fs c → IsOfHold prepared_frames c
-  of_prepared c o =
-      let at = position_at fs.geometry c.row c.slot in
-      let some : 0 < fs.geometry.slots = let four = shape.slots_allowed.0 in omega arith in
-      let below : at < fs.geometry.slots = position_at-lt fs.geometry c.row c.slot some in
-      elim (cases_eq c.frame frame) [
+  inside : frame < length fs.held.items
+  inside = held_within fs.held.items frame h is
+
+  away_same : (f position : ℕ) → is_away_from (use_at (set fs.held.items frame (HeldIn (prepared h planned))) f) position ≡ is_away_from (use_at fs.held.items f) position
+  away_same f position =
+      elim (cases_eq f frame) [
         | inl e ↦
-            let same : o.holder ≡ h = one_held fs.held.items frame c.frame h o.holder is e o.held in
-            record {
-              holder = prepared h planned;
-              held = ap (hold_at (set fs.held.items frame (Some (prepared h planned)))) e ∙ hold_at_own fs.held.items frame (Some (prepared h planned)) (held_within fs.held.items frame h is);
-              row = o.row ∙ ap (λ (x : HeldRow). x.row) same;
-              slot = o.slot;
-              away = subst (λ (x : HeldRow). is_away x.hold at ≡ true) same o.away;
-              kind = subst (λ (x : HeldRow). is_write c.kind ≡ is_sent (cell_at x.hold.planned.hold.cells at).writing) same o.kind ∙ sym (sent at below);
-            }
-        | inr ne ↦ record { holder = o.holder; held = hold_at_other fs.held.items frame (Some (prepared h planned)) c.frame ne ∙ o.held; row = o.row; slot = o.slot; away = o.away; kind = o.kind }
+            ap (λ (k : ℕ). is_away_from (use_at (set fs.held.items frame (HeldIn (prepared h planned))) k) position) e
+            ∙ ap (λ (u : FrameUse). is_away_from u position) (use_at_own fs.held.items frame (HeldIn (prepared h planned)) inside)
+            ∙ sym (ap (λ (k : ℕ). is_away_from (use_at fs.held.items k) position) e ∙ ap (λ (u : FrameUse). is_away_from u position) (use_held fs.held.items frame h is))
+        | inr ne ↦ ap (λ (u : FrameUse). is_away_from u position) (use_at_other fs.held.items frame (HeldIn (prepared h planned)) f ne)
       ]
 
   pub commands_prepared : AreCommands fs → AreCommands prepared_frames
   commands_prepared all = record {
     handed = all.handed;
     given = all.given;
+    since = all.since;
     untaken = all.untaken;
     sized = all.sized;
-    of_hold = λ token c out. of_prepared c (all.of_hold token c out);
+    lawful = all.lawful;
     alone = all.alone;
-    there = λ f position x held below away.
-        elim (held_then fs.held.items frame h (prepared h planned) f x is held) [
-          | inl own ↦
-              subst (λ (x : HeldRow). is_away x.hold position ≡ true → HasCommand fs f (slot_at fs.geometry x.row position)) own.1
-              (λ away. subst (λ (k : ℕ). HasCommand fs k (slot_at fs.geometry h.row position)) (sym own.0) (all.there frame position h is below away)) away
-          | inr other ↦ all.there f position x other.1 below away
-        ];
+    of_frame = λ live token c out.
+        of_frame_stays fs frame h (prepared h planned) token c is
+        (λ e. record { row = refl; away = λ away. away; standing = (p.like (place_of fs c)).standing; sent = (p.like (place_of fs c)).sent })
+        (all.of_frame live token c out);
+    there = λ live f position below away. all.there live f position below (sym (away_same f position) ∙ away);
+    stopped = λ not_live. absurd (not_live live);
     room =
-        let home = home_set fs.geometry.slots fs.held.items frame (Some (prepared h planned)) (held_within fs.held.items frame h is) in
-        let was : home_at fs.geometry.slots (hold_at fs.held.items frame) ≡ count_home h.hold.away = ap (home_at fs.geometry.slots) is in
+        let home = home_set fs.geometry.slots fs.held.items frame (HeldIn (prepared h planned)) inside in
+        let was : home_at fs.geometry.slots (use_at fs.held.items frame) ≡ count_home h.hold.away = ap (home_at fs.geometry.slots) (use_held fs.held.items frame h is) in
         let room = all.room in
         omega arith;
   }
@@ -95,25 +131,28 @@ pushed table c = (capacity_of table, (next_of table + 1, map.insert (entries_of 
 abbrev pub sent_off : HeldRow → Planned → ℕ → HeldRow
 sent_off h planned position = record h { hold = record { planned = planned; away = set h.hold.away position true } }
 
-abbrev pub new_command : ℕ → ℕ → ℕ → CommandKind → List ℕ → Outstanding
-new_command frame slot row kind buffer = record { frame = frame; slot = slot; row = row; kind = kind; buffer = Some buffer }
+abbrev pub new_command : ℕ → ℕ → ℕ → ℕ → CommandKind → List ℕ → Outstanding
+new_command frame slot generation row kind buffer = record { frame = frame; slot = slot; generation = generation; row = row; kind = kind; buffer = Some buffer }
 
 -- the frames with the command of the frame's hold put out
-abbrev pub with_command : Frames → ℕ → HeldRow → Planned → (position slot : ℕ) → CommandKind → List ℕ → Frames
-with_command fs frame h planned position slot kind buffer =
-    record (with_row fs frame (sent_off h planned position)) { commands = pushed fs.commands (new_command frame slot h.row kind buffer) }
+abbrev pub with_command : Frames → ℕ → HeldRow → Planned → (position slot generation : ℕ) → CommandKind → List ℕ → Frames
+with_command fs frame h planned position slot generation kind buffer =
+    record (with_row fs frame (sent_off h planned position)) { commands = pushed fs.commands (new_command frame slot generation h.row kind buffer) }
 
 -- a command of this kind is put out at the position, whose buffer was home
 pub record PutsOutAt (fs : Frames) (frame : ℕ) (h : HeldRow) (planned : Planned) (position slot : ℕ) (kind : CommandKind) (buffer : List ℕ) : Type 0 where
   pub held : hold_at fs.held.items frame ≡ Some h
+  pub own : IsRowOf (layout_of fs.geometry) fs.shard h.row
   pub wide : length h.hold.away ≡ fs.geometry.slots
   pub below : position < fs.geometry.slots
   pub slot_below : slot < fs.geometry.slots
   pub slot_is : slot ≡ slot_at fs.geometry h.row position
   pub inverse : position_at fs.geometry h.row slot ≡ position
   pub home : is_away h.hold position ≡ false
+  pub not_out : is_out (cell_at planned.hold.cells position).standing ≡ false
   pub sent : is_write kind ≡ is_sent (cell_at planned.hold.cells position).writing
-  pub others : (j : ℕ) → j < fs.geometry.slots → j ≢ position → is_sent (cell_at planned.hold.cells j).writing ≡ is_sent (cell_at h.hold.planned.hold.cells j).writing
+  pub standing : (j : ℕ) → (cell_at planned.hold.cells j).standing ≡ (cell_at h.hold.planned.hold.cells j).standing
+  pub others : (j : ℕ) → j ≢ position → is_sent (cell_at planned.hold.cells j).writing ≡ is_sent (cell_at h.hold.planned.hold.cells j).writing
   pub sized : length buffer ≡ fs.geometry.block
 
 pub count_home-set : (away : List Bool) (j : ℕ) → j < length away → slice_index_or away j false ≡ false → count_home (set away j true) + 1 ≡ count_home away
@@ -131,18 +170,19 @@ no_number m k h =
     ] refl
 
 -- the commands as the shard has them
-pub command_came : (m : FinMap nat_cmp Outstanding) (handed next : ℕ) (c : Outstanding) → handed ≤ next
-    → (λ token. option_map (command_of handed token) (map.get (map.insert m next c) token))
-    ≡ put (λ token. option_map (command_of handed token) (map.get m token)) next
-    (Some (record { frame = c.frame; slot = c.slot; generation = 0; row = c.row; transfer = transfer_of c.kind c.buffer; taken = false; abandoned = false }))
-command_came m handed next c below =
-    same_put (λ token. option_map (command_of handed token) (map.get m token)) (λ token. option_map (command_of handed token) (map.get (map.insert m next c) token)) next
-    (Some (record { frame = c.frame; slot = c.slot; generation = 0; row = c.row; transfer = transfer_of c.kind c.buffer; taken = false; abandoned = false }))
-    (ap (option_map (command_of handed next)) (inserted-own m next c) ∙ ap (λ (b : Bool). Some (record (command_of handed next c) { taken = b })) (le-ltb next handed below))
-    (λ q e. ap (option_map (command_of handed q)) (inserted-other m next c q e))
+pub command_came : (slots : List Slot) (m : FinMap nat_cmp Outstanding) (handed next : ℕ) (c : Outstanding) → handed ≤ next → is_abandoned slots next c ≡ false
+    → (λ token. option_map (command_of slots handed token) (map.get (map.insert m next c) token))
+    ≡ put (λ token. option_map (command_of slots handed token) (map.get m token)) next
+    (Some (record { frame = c.frame; slot = c.slot; generation = c.generation; row = c.row; transfer = transfer_of c.kind c.buffer; taken = false; abandoned = false }))
+command_came slots m handed next c below kept =
+    let untaken = le-ltb next handed below in
+    same_put (λ token. option_map (command_of slots handed token) (map.get m token)) (λ token. option_map (command_of slots handed token) (map.get (map.insert m next c) token)) next
+    (Some (record { frame = c.frame; slot = c.slot; generation = c.generation; row = c.row; transfer = transfer_of c.kind c.buffer; taken = false; abandoned = false }))
+    (ap (option_map (command_of slots handed next)) (inserted-own m next c) ∙ (λ i. Some (record (command_of slots handed next c) { taken = untaken i; abandoned = kept i })))
+    (λ q e. ap (option_map (command_of slots handed q)) (inserted-other m next c q e))
 
-module _ (fs : Frames) (frame : ℕ) (h : HeldRow) (planned : Planned) (position slot : ℕ) (kind : CommandKind) (buffer : List ℕ)
-    (shape : IsShape fs.geometry) (can : PutsOutAt fs frame h planned position slot kind buffer) (all : AreCommands fs) where
+module _ (fs : Frames) (frame : ℕ) (h : HeldRow) (planned : Planned) (position slot generation : ℕ) (kind : CommandKind) (buffer : List ℕ)
+    (live : AreLive fs) (can : PutsOutAt fs frame h planned position slot kind buffer) (all : AreCommands fs) where
   abbrev m : FinMap nat_cmp Outstanding
   m = entries_of fs.commands
 
@@ -153,16 +193,29 @@ module _ (fs : Frames) (frame : ℕ) (h : HeldRow) (planned : Planned) (position
   new = sent_off h planned position
 
   abbrev c : Outstanding
-  c = new_command frame slot h.row kind buffer
+  c = new_command frame slot generation h.row kind buffer
 
   abbrev later : Frames
-  later = with_command fs frame h planned position slot kind buffer
+  later = with_command fs frame h planned position slot generation kind buffer
 
-  own_row : hold_at (set fs.held.items frame (Some new)) frame ≡ Some new
-  own_row = hold_at_own fs.held.items frame (Some new) (held_within fs.held.items frame h can.held)
+  within : frame < length fs.held.items
+  within = held_within fs.held.items frame h can.held
+
+  within_away : position < length h.hold.away
+  within_away = subst (λ (n : ℕ). position < n) (sym can.wide) can.below
+
+  own_use : use_at (set fs.held.items frame (HeldIn new)) frame ≡ HeldIn new
+  own_use = use_at_own fs.held.items frame (HeldIn new) within
+
+  own_row : hold_at (set fs.held.items frame (HeldIn new)) frame ≡ Some new
+  own_row = hold_at_own fs.held.items frame (HeldIn new) within
 
   own : outstanding later next ≡ Some c
   own = inserted-own m next c
+
+  -- it isn't abandoned: those that are were put out before it
+  not_abandoned : is_abandoned fs.slots next c ≡ false
+  not_abandoned = le-ltb next (slot_in fs.slots slot).since (all.since slot)
 
   other_token : (token : ℕ) → token ≢ next → outstanding later token ≡ outstanding fs token
   other_token token ne = inserted-other m next c token (ne_eqb token next ne)
@@ -174,85 +227,81 @@ module _ (fs : Frames) (frame : ℕ) (h : HeldRow) (planned : Planned) (position
         | inr ne ↦ inr (sym (other_token token ne) ∙ out)
       ]
 
-  -- the command's position among those of the old commands of the frame
-  home_still : (d : Outstanding) → IsOfHold fs d → d.frame ≡ frame → position_at fs.geometry d.row d.slot ≢ position
-  home_still d o e at =
-      let same : o.holder ≡ h = one_held fs.held.items frame d.frame h o.holder can.held e o.held in
-      let away : is_away h.hold position ≡ true = ap (is_away h.hold) (sym at) ∙ subst (λ (x : HeldRow). is_away x.hold (position_at fs.geometry d.row d.slot) ≡ true) same o.away in
+  -- no old command of the frame is at the command's position
+  home_still : (token : ℕ) (d : Outstanding) → outstanding fs token ≡ Some d → d.frame ≡ frame → place_of fs d ≢ position
+  home_still token d out e at =
+      let here : use_at fs.held.items d.frame ≡ HeldIn h = ap (use_at fs.held.items) e ∙ use_held fs.held.items frame h can.held in
+      let away : is_away h.hold position ≡ true =
+      ap (is_away h.hold) (sym at) ∙ sym (ap (λ (u : FrameUse). is_away_from u (place_of fs d)) here) ∙ (all.of_frame live token d out).away in
       let home = can.home in
       absurd (cc)
 
-  not_there : (d : Outstanding) → IsOfHold fs d → d.frame ≡ frame → d.slot ≢ slot
-  not_there d o e at =
-      let same : o.holder ≡ h = one_held fs.held.items frame d.frame h o.holder can.held e o.held in
-      let row : d.row ≡ h.row = o.row ∙ ap (λ (x : HeldRow). x.row) same in
-      home_still d o e (ap (λ (r : ℕ). position_at fs.geometry r d.slot) row ∙ ap (position_at fs.geometry h.row) at ∙ can.inverse)
+  stays : (token : ℕ) (d : Outstanding) → outstanding fs token ≡ Some d → d.frame ≡ frame → StaysOf fs d h new
+  stays token d out e =
+      let apart = home_still token d out e in
+      record {
+        row = refl;
+        away = λ away. get_or-set_other h.hold.away position (place_of fs d) true false apart ∙ away;
+        standing = can.standing (place_of fs d);
+        sent = can.others (place_of fs d) apart;
+      }
 
-  of_hold_then : (d : Outstanding) → IsOfHold fs d → IsOfHold later d
-  of_hold_then d o =
-      let at = position_at fs.geometry d.row d.slot in
-      let some : 0 < fs.geometry.slots = let four = shape.slots_allowed.0 in omega arith in
-      let below : at < fs.geometry.slots = position_at-lt fs.geometry d.row d.slot some in
-      elim (cases_eq d.frame frame) [
-        | inl e ↦
-            let same : o.holder ≡ h = one_held fs.held.items frame d.frame h o.holder can.held e o.held in
-            let apart = home_still d o e in
-            record {
-              holder = new;
-              held = ap (hold_at (set fs.held.items frame (Some new))) e ∙ own_row;
-              row = o.row ∙ ap (λ (x : HeldRow). x.row) same;
-              slot = o.slot;
-              away = get_or-set_other h.hold.away position at true false apart ∙ subst (λ (x : HeldRow). is_away x.hold at ≡ true) same o.away;
-              kind = subst (λ (x : HeldRow). is_write d.kind ≡ is_sent (cell_at x.hold.planned.hold.cells at).writing) same o.kind ∙ sym (can.others at below apart);
-            }
-        | inr ne ↦ record { holder = o.holder; held = hold_at_other fs.held.items frame (Some new) d.frame ne ∙ o.held; row = o.row; slot = o.slot; away = o.away; kind = o.kind }
-      ]
+  of_frame_then : (token : ℕ) (d : Outstanding) → outstanding fs token ≡ Some d → IsOfFrame later token d
+  of_frame_then token d out =
+      let o = of_frame_stays fs frame h new token d can.held (stays token d out) (all.of_frame live token d out) in
+      record { away = o.away; held = λ x there. let of_x = o.held x there in record { row = of_x.row; abandoned = of_x.abandoned; kind = of_x.kind }; ended = o.ended }
 
   away_now : is_away new.hold position ≡ true
-  away_now = get_or-set_same h.hold.away position true false (subst (λ (n : ℕ). position < n) (sym can.wide) can.below)
+  away_now = get_or-set_same h.hold.away position true false within_away
 
-  of_hold_new : IsOfHold later c
+  of_hold_new : IsOfHold later next c new
   of_hold_new = record {
-    holder = new;
-    held = own_row;
     row = refl;
-    slot = can.slot_below;
-    away = ap (is_away new.hold) can.inverse ∙ away_now;
-    kind = can.sent ∙ ap (λ (k : ℕ). is_sent (cell_at planned.hold.cells k).writing) (sym can.inverse);
+    abandoned = not_abandoned ∙ sym (ap (λ (k : ℕ). is_out (cell_at planned.hold.cells k).standing) can.inverse ∙ can.not_out);
+    kind = λ _. can.sent ∙ ap (λ (k : ℕ). is_sent (cell_at planned.hold.cells k).writing) (sym can.inverse);
   }
 
-  alone_then : (token other : ℕ) (a b : Outstanding) → outstanding later token ≡ Some a → outstanding later other ≡ Some b → a.frame ≡ b.frame → a.slot ≡ b.slot → token ≡ other
-  alone_then token other a b out_a out_b same_frame same_slot =
+  of_frame_new : IsOfFrame later next c
+  of_frame_new = record {
+    away = ap (λ (u : FrameUse). is_away_from u (place_of later c)) own_use ∙ ap (is_away new.hold) can.inverse ∙ away_now;
+    held = λ x there. let both : Some new ≡ Some x = sym own_row ∙ there in let same : new ≡ x = cc in subst (IsOfHold later next c) same of_hold_new;
+    ended = λ none. absurd (let both : Some new ≡ None = sym own_row ∙ none in cc);
+  }
+
+  alone_then : (token other : ℕ) (a b : Outstanding) → outstanding later token ≡ Some a → outstanding later other ≡ Some b → a.frame ≡ b.frame → place_of later a ≡ place_of later b → token ≡ other
+  alone_then token other a b out_a out_b same_frame same_place =
       elim (which token a out_a) [
         | inl mine ↦ elim (which other b out_b) [
           | inl yours ↦ mine.0 ∙ sym yours.0
-          | inr old ↦ absurd (not_there b (all.of_hold other b old) (sym same_frame ∙ ap (λ (x : Outstanding). x.frame) (sym mine.1)) (sym same_slot ∙ ap (λ (x : Outstanding). x.slot) (sym mine.1)))
+          | inr old ↦ absurd (home_still other b old (sym same_frame ∙ sym (ap (λ (x : Outstanding). x.frame) mine.1)) (sym same_place ∙ sym (ap (place_of fs) mine.1) ∙ can.inverse))
         ]
         | inr was ↦ elim (which other b out_b) [
-          | inl yours ↦ absurd (not_there a (all.of_hold token a was) (same_frame ∙ ap (λ (x : Outstanding). x.frame) (sym yours.1)) (same_slot ∙ ap (λ (x : Outstanding). x.slot) (sym yours.1)))
-          | inr old ↦ all.alone token other a b was old same_frame same_slot
+          | inl yours ↦ absurd (home_still token a was (same_frame ∙ sym (ap (λ (x : Outstanding). x.frame) yours.1)) (same_place ∙ sym (ap (place_of fs) yours.1) ∙ can.inverse))
+          | inr old ↦ all.alone token other a b was old same_frame same_place
         ]
       ]
 
-  kept : (f s : ℕ) → HasCommand fs f s → HasCommand later f s
-  kept f s has =
+  kept : (f at : ℕ) → HasCommand fs f at → HasCommand later f at
+  kept f at has =
       let below = all.given has.0 has.1 has.2 in
       (has.0, has.1, other_token has.0 (λ e. absurd (omega arith)) ∙ has.2, has.3, has.4)
 
-  there_new : (at : ℕ) → at < fs.geometry.slots → is_away new.hold at ≡ true → HasCommand later frame (slot_at fs.geometry h.row at)
+  there_new : (at : ℕ) → at < fs.geometry.slots → is_away new.hold at ≡ true → HasCommand later frame at
   there_new at below away =
       elim (cases_eq at position) [
-        | inl e ↦ (next, c, own, refl, can.slot_is ∙ ap (slot_at fs.geometry h.row) (sym e))
-        | inr ne ↦ kept frame (slot_at fs.geometry h.row at) (all.there frame at h can.held below (sym (get_or-set_other h.hold.away position at true false ne) ∙ away))
+        | inl e ↦ (next, c, own, refl, can.inverse ∙ sym e)
+        | inr ne ↦
+            let was : is_away h.hold at ≡ true = sym (get_or-set_other h.hold.away position at true false ne) ∙ away in
+            kept frame at (all.there live frame at below (ap (λ (u : FrameUse). is_away_from u at) (use_held fs.held.items frame h can.held) ∙ was))
       ]
 
-  there_then : (f at : ℕ) (x : HeldRow) → hold_at (set fs.held.items frame (Some new)) f ≡ Some x → at < fs.geometry.slots → is_away x.hold at ≡ true → HasCommand later f (slot_at fs.geometry x.row at)
-  there_then f at x held below away =
-      elim (held_then fs.held.items frame h new f x can.held held) [
-        | inl mine ↦
-            subst (λ (x : HeldRow). is_away x.hold at ≡ true → HasCommand later f (slot_at fs.geometry x.row at)) mine.1
-            (λ away. subst (λ (k : ℕ). HasCommand later k (slot_at fs.geometry h.row at)) (sym mine.0) (there_new at below away)) away
-        | inr other ↦ kept f (slot_at fs.geometry x.row at) (all.there f at x other.1 below away)
+  there_then : (f at : ℕ) → at < fs.geometry.slots → is_away_from (use_at (set fs.held.items frame (HeldIn new)) f) at ≡ true → HasCommand later f at
+  there_then f at below away =
+      elim (cases_eq f frame) [
+        | inl e ↦
+            let here : use_at (set fs.held.items frame (HeldIn new)) f ≡ HeldIn new = ap (use_at (set fs.held.items frame (HeldIn new))) e ∙ own_use in
+            subst (λ (k : ℕ). HasCommand later k at) (sym e) (there_new at below (sym (ap (λ (u : FrameUse). is_away_from u at) here) ∙ away))
+        | inr ne ↦ kept f at (all.there live f at below (sym (ap (λ (u : FrameUse). is_away_from u at) (use_at_other fs.held.items frame (HeldIn new) f ne)) ∙ away))
       ]
 
   untaken_then : (token : ℕ) → fs.handed ≤ token → token < next + 1 → (d : Outstanding) × (outstanding later token ≡ Some d) × (d.buffer ≢ None)
@@ -269,20 +318,30 @@ module _ (fs : Frames) (frame : ℕ) (h : HeldRow) (planned : Planned) (position
         | inr old ↦ all.sized token d block old has
       ]
 
+  lawful_then : (token : ℕ) (d : Outstanding) → outstanding later token ≡ Some d → (d.slot < fs.geometry.slots) × IsRowOf (layout_of fs.geometry) fs.shard d.row
+  lawful_then token d out =
+      elim (which token d out) [
+        | inl mine ↦ subst (λ (x : Outstanding). (x.slot < fs.geometry.slots) × IsRowOf (layout_of fs.geometry) fs.shard x.row) mine.1 (can.slot_below, can.own)
+        | inr old ↦ all.lawful token d old
+      ]
+
+  was_home : home_at fs.geometry.slots (use_at fs.held.items frame) ≡ count_home h.hold.away
+  was_home = ap (home_at fs.geometry.slots) (use_held fs.held.items frame h can.held)
+
   -- there was room for it
   pub room_for : map.len m < capacity_of fs.commands
   room_for =
-      let home = count_home-set h.hold.away position (subst (λ (n : ℕ). position < n) (sym can.wide) can.below) can.home in
-      let sum = home_set fs.geometry.slots fs.held.items frame (Some new) (held_within fs.held.items frame h can.held) in
-      let was : home_at fs.geometry.slots (hold_at fs.held.items frame) ≡ count_home h.hold.away = ap (home_at fs.geometry.slots) can.held in
+      let home = count_home-set h.hold.away position within_away can.home in
+      let sum = home_set fs.geometry.slots fs.held.items frame (HeldIn new) within in
+      let was = was_home in
       let room = all.room in
       omega arith
 
-  room_then : map.len (map.insert m next c) + home_in fs.geometry.slots (set fs.held.items frame (Some new)) ≤ capacity_of fs.commands
+  room_then : map.len (map.insert m next c) + home_in fs.geometry.slots (set fs.held.items frame (HeldIn new)) ≤ capacity_of fs.commands
   room_then =
-      let home = count_home-set h.hold.away position (subst (λ (n : ℕ). position < n) (sym can.wide) can.below) can.home in
-      let sum = home_set fs.geometry.slots fs.held.items frame (Some new) (held_within fs.held.items frame h can.held) in
-      let was : home_at fs.geometry.slots (hold_at fs.held.items frame) ≡ count_home h.hold.away = ap (home_at fs.geometry.slots) can.held in
+      let home = count_home-set h.hold.away position within_away can.home in
+      let sum = home_set fs.geometry.slots fs.held.items frame (HeldIn new) within in
+      let was = was_home in
       let more = len-inserted m next c (no_number m next (λ d out. let below = all.given next d out in absurd (omega arith))) in
       let room = all.room in
       omega arith
@@ -294,13 +353,16 @@ module _ (fs : Frames) (frame : ℕ) (h : HeldRow) (planned : Planned) (position
       | inl mine ↦ let e = mine.0 in omega arith
       | inr old ↦ let below = all.given token d old in omega arith
     ];
+    since = λ s. let below = all.since s in omega arith;
     untaken = untaken_then;
     sized = sized_then;
-    of_hold = λ token d out. elim (which token d out) [
-      | inl mine ↦ subst (λ (x : Outstanding). IsOfHold later x) mine.1 of_hold_new
-      | inr old ↦ of_hold_then d (all.of_hold token d old)
-    ];
+    lawful = lawful_then;
     alone = alone_then;
-    there = there_then;
+    of_frame = λ live token d out. elim (which token d out) [
+      | inl mine ↦ subst (λ (k : ℕ). IsOfFrame later k d) (sym mine.0) (subst (λ (x : Outstanding). IsOfFrame later next x) mine.1 of_frame_new)
+      | inr old ↦ of_frame_then token d old
+    ];
+    there = λ live. there_then;
+    stopped = λ not_live. absurd (not_live live);
     room = room_then;
   }

@@ -1,6 +1,7 @@
 -- A hold puts a command out: what it does by itself first, and the command, as changes of the shard.
-use Rattle.std.proofs.Common.{◌≡◌, ℕ, zero, suc, ◌+◌, ◌<◌, ◌≤◌, true, List, [], ◌∷◌, length, set, refl, sym, ap, subst, ◌∙◌, Option, Some, inl, arith}
-use Rattle.std.specs.Prelude.{option_map}
+use Rattle.std.proofs.Common.{◌≡◌, ℕ, ◌+◌, ◌<◌, ◌≤◌, true, false, List, [], ◌∷◌, length, set, refl, sym, ap, subst, ◌∙◌, Option, Some, inl}
+use Rattle.std.specs.Prelude.{option_map, nat_lt}
+use Rattle.std.proofs.lemmas.Bool.{le-ltb}
 use Rattle.r6_layout.specs.Layout.{position_at}
 use Rattle.r6_stripe.specs.Holds.{Event, MayAsk, MayWrite, after_event}
 use Rattle.r6_stripe.specs.Holds.Event.{Asks, Restores, Computes, Writes, Gives, Confirms, Loses}
@@ -8,32 +9,26 @@ use Rattle.r6_stripe.specs.Plans.{Planned, planned_after, planned_at, MayFollow,
 use Rattle.r6_stripe.specs.Steps.{Held, PutsOut as PutsOutNext}
 use Rattle.r6_stripe.proofs.Steps.{step_by_rules}
 use Rattle.r6_tables.specs.Table.{next_of, entries_of}
-use Rattle.r6_world.specs.Tables.{put, count_below}
+use Rattle.r6_world.specs.Tables.{put}
 use Rattle.r6_world.specs.Layouts.{Layout}
 use Rattle.r6_world.specs.Geometries.{layout_of}
 use Rattle.r6_world.specs.Tasks.{Hold}
-use Rattle.r6_world.specs.ShardStates as shards
-use Rattle.r6_world.specs.ShardStates.{Shard, IsLive}
+use Rattle.r6_world.specs.ShardStates.{Shard, InSyncFor, IsLive}
 use Rattle.r6_world.specs.Changes.{Change, Ask, Prepare, Send, IsWorkedOut, after}
 use Rattle.r6_world.specs.Steps.{Leads, Through}
 use Rattle.r6_frames.specs.declared.command.CommandKind.{CommandKind}
 use Rattle.r6_frames.specs.declared.command.CommandKind.TheVariants as command
 use Rattle.r6_frames.specs.declared.frames.HeldRow.{HeldRow}
+use Rattle.r6_frames.specs.declared.frames.FrameUse.TheVariants.{Held as HeldIn}
 use Rattle.r6_frames.specs.declared.frames.Frames.{Frames}
-use Rattle.r6_frames.specs.Frames.{hold_at, hold_of, frame_of, row_command, all_synced, shard_with, PutsOut}
+use Rattle.r6_frames.specs.declared.slots.Device.{Device}
+use Rattle.r6_frames.specs.declared.slots.Device.TheVariants as device
+use Rattle.r6_frames.specs.Slots.{state_of, slot_in, states_of}
+use Rattle.r6_frames.specs.Frames.{hold_at, hold_of, frame_of, row_command, Rest, shard_with, AreLive, PutsOut}
 use Rattle.r6_frames.proofs.Lists.{same_put}
 use Rattle.r6_frames.proofs.Held.{put_own, put_twice, frame_put, held_within}
 use Rattle.r6_frames.proofs.HeldRows.{prepared}
 use Rattle.r6_frames.proofs.CommandComes.{with_command, sent_off, new_command, command_came}
-
--- ---- a shard with all slots in sync is live
-
-none_away : (n : ℕ) → count_below (λ d. shards.is_away (all_synced d)) n ≡ 0
-none_away zero = refl
-none_away (suc n) = let rest = none_away n in omega arith
-
-pub is_live : (accepted : ℕ) (request : ℕ → Option shards.Request) (fs : Frames) → IsLive (layout_of fs.geometry) (shard_with accepted request fs)
-is_live accepted request fs = (let none = none_away fs.geometry.slots in omega arith, refl)
 
 -- ---- what a hold does by itself
 
@@ -77,12 +72,13 @@ abbrev pub put_event : ℕ → CommandKind → List ℕ → Event
 put_event position command.Read buffer = Asks position
 put_event position command.Write buffer = Writes position buffer
 
-abbrev pub put_change : ℕ → Hold → ℕ → CommandKind → List ℕ → Change
-put_change frame h slot command.Read buffer = Ask frame h slot 0
-put_change frame h slot command.Write buffer = Send frame h slot 0 buffer
+abbrev pub put_change : ℕ → Hold → (slot generation : ℕ) → CommandKind → List ℕ → Change
+put_change frame h slot generation command.Read buffer = Ask frame h slot generation
+put_change frame h slot generation command.Write buffer = Send frame h slot generation buffer
 
-module _ (fs : Frames) (frame : ℕ) (h : HeldRow) (planned : Planned) (position slot : ℕ) (buffer : List ℕ) (accepted : ℕ) (request : ℕ → Option shards.Request)
-    (is : hold_at fs.held.items frame ≡ Some h) (inverse : position_at fs.geometry h.row slot ≡ position) (below : slot < fs.geometry.slots) (handed : fs.handed ≤ next_of fs.commands) where
+module _ (fs : Frames) (frame : ℕ) (h : HeldRow) (planned : Planned) (position slot generation : ℕ) (buffer : List ℕ) (rest : Rest)
+    (is : hold_at fs.held.items frame ≡ Some h) (inverse : position_at fs.geometry h.row slot ≡ position) (below : slot < fs.geometry.slots) (live : AreLive fs)
+    (synced : (slot_in fs.slots slot).device ≡ device.Synced generation) (handed : fs.handed ≤ next_of fs.commands) (since : (slot_in fs.slots slot).since ≤ next_of fs.commands) where
   abbrev l : Layout
   l = layout_of fs.geometry
 
@@ -91,32 +87,39 @@ module _ (fs : Frames) (frame : ℕ) (h : HeldRow) (planned : Planned) (position
 
   -- the shard once the hold has prepared
   abbrev ready : Shard
-  ready = let s = shard_with accepted request fs in record s { frame = put s.frame frame (Some mid) }
+  ready = let s = shard_with rest fs in record s { frame = put s.frame frame (Some mid) }
 
   abbrev with_put : CommandKind → Frames
-  with_put kind = with_command fs frame h (planned_after planned (put_event position kind buffer)) position slot kind buffer
+  with_put kind = with_command fs frame h (planned_after planned (put_event position kind buffer)) position slot generation kind buffer
+
+  -- its device is in sync
+  synced_for : InSyncFor (states_of fs.slots slot) h.row generation
+  synced_for = subst (λ (d : Device). InSyncFor (state_of d) h.row generation) (sym synced) refl
+
+  not_abandoned : nat_lt (next_of fs.commands) (slot_in fs.slots slot).since ≡ false
+  not_abandoned = le-ltb (next_of fs.commands) (slot_in fs.slots slot).since since
 
   frame_then : (event : ℕ → Event) (new : HeldRow) → hold_of new ≡ record mid { course = after_event planned.hold (event position) }
-      → (λ x. option_map hold_of (hold_at (set fs.held.items frame (Some new)) x))
+      → (λ x. option_map hold_of (hold_at (set fs.held.items frame (HeldIn new)) x))
       ≡ put (put (frame_of fs) frame (Some mid)) frame (Some (record mid { course = after_event planned.hold (event (position_at fs.geometry h.row slot)) }))
   frame_then event new same =
-      frame_put fs.held.items frame (Some new) (held_within fs.held.items frame h is)
+      frame_put fs.held.items frame (HeldIn new) (held_within fs.held.items frame h is)
       ∙ ap (λ x. put (frame_of fs) frame (Some x)) (same ∙ ap (λ p. record mid { course = after_event planned.hold (event p) }) (sym inverse))
       ∙ sym (put_twice (frame_of fs) frame (Some mid) (Some (record mid { course = after_event planned.hold (event (position_at fs.geometry h.row slot)) })))
 
-  pub put_leads : (kind : CommandKind) → MayFollow planned (put_event position kind buffer) → Leads l fs.shard PutsOut ready (put_change frame mid slot kind buffer ∷ []) (shard_with accepted request (with_put kind))
+  pub put_leads : (kind : CommandKind) → MayFollow planned (put_event position kind buffer) → Leads l fs.shard PutsOut ready (put_change frame mid slot generation kind buffer ∷ []) (shard_with rest (with_put kind))
   put_leads command.Read follows =
       let new = sent_off h (planned_after planned (Asks position)) position in
       let frames_are = frame_then Asks new refl in
-      let commands_are = command_came (entries_of fs.commands) fs.handed (next_of fs.commands) (new_command frame slot h.row command.Read buffer) handed in
-      let s = shard_with accepted request fs in
+      let commands_are = command_came fs.slots (entries_of fs.commands) fs.handed (next_of fs.commands) (new_command frame slot generation h.row command.Read buffer) handed not_abandoned in
+      let s = shard_with rest fs in
       let may : MayAsk planned.hold position = step_by_rules planned (Asks position) follows in (
         record {},
         (
           put_own (frame_of fs) frame (Some mid),
           below,
-          refl,
-          is_live accepted request fs,
+          synced_for,
+          live,
           subst (λ (p : ℕ). MayAsk planned.hold p) (sym inverse) may,
           subst (λ (p : ℕ). MayFollow planned (Asks p)) (sym inverse) follows,
         ),
@@ -125,15 +128,15 @@ module _ (fs : Frames) (frame : ℕ) (h : HeldRow) (planned : Planned) (position
   put_leads command.Write follows =
       let new = sent_off h (planned_after planned (Writes position buffer)) position in
       let frames_are = frame_then (λ p. Writes p buffer) new refl in
-      let commands_are = command_came (entries_of fs.commands) fs.handed (next_of fs.commands) (new_command frame slot h.row command.Write buffer) handed in
-      let s = shard_with accepted request fs in
+      let commands_are = command_came fs.slots (entries_of fs.commands) fs.handed (next_of fs.commands) (new_command frame slot generation h.row command.Write buffer) handed not_abandoned in
+      let s = shard_with rest fs in
       let may : MayWrite planned.hold position buffer = step_by_rules planned (Writes position buffer) follows in (
         record {},
         (
           put_own (frame_of fs) frame (Some mid),
           below,
-          inl refl,
-          is_live accepted request fs,
+          inl synced_for,
+          live,
           subst (λ (p : ℕ). MayWrite planned.hold p buffer) (sym inverse) may,
           subst (λ (p : ℕ). MayFollow planned (Writes p buffer)) (sym inverse) follows,
         ),

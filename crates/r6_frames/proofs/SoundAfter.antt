@@ -1,27 +1,30 @@
 -- The frames stay sound when a hold prepares and when it puts a command out.
-use Rattle.std.proofs.Common.{◌≡◌, ◌≢◌, ℕ, zero, suc, ◌+◌, ◌<◌, Bool, true, false, List, [], ◌∷◌, length, set, refl, sym, ap, subst, ◌∙◌, Some, inl, inr, arith, get_or-set_same, get_or-set_other, length-set}
+use Rattle.std.proofs.Common.{◌≡◌, ◌≢◌, ℕ, zero, suc, ◌+◌, ◌<◌, ◌≤◌, Bool, true, false, List, [], ◌∷◌, length, set, refl, sym, ap, subst, ◌∙◌, Some, inl, inr, arith, get_or-set_same, get_or-set_other, length-set}
 use Rattle.std.specs.Prelude.{◌||◌, ◌&&◌, not, if◌then◌else◌, slice_index_or}
-use Rattle.std.proofs.lemmas.Bool.{cases_eq, and_parts}
-use Rattle.r6_layout.specs.Shape.{Shape}
+use Rattle.std.proofs.lemmas.Bool.{cases_eq, and_parts, or_cases}
 use Rattle.r6_layout.specs.Layout.{position_at, slot_at}
 use Rattle.r6_stripe.specs.Holds.{Hold, Standing, Cell, Reading, Kind, Event, cell_at, no_cell, after_event}
+use Rattle.r6_stripe.specs.Holds.Standing.{InSync, Out}
 use Rattle.r6_stripe.specs.Holds.Reading.{Unread, Asked, Known, Replaced}
 use Rattle.r6_stripe.specs.Holds.Writing.{Unwritten, Ready, Sent}
 use Rattle.r6_stripe.specs.Holds.Event.{Asks, Writes, Loses}
 use Rattle.r6_stripe.specs.Plans.{Planned, next, is_out, is_unread, is_asked, is_sent, is_over, is_none, gives_up, is_enough, has_read_out, has_write_out, count_where, planned_after, planned_at, MayFollow, IsPlanned, AreSilent}
-use Rattle.r6_stripe.specs.Steps.{is_away, is_idle, has_outcome}
+use Rattle.r6_stripe.specs.Steps.{is_idle, has_outcome}
 use Rattle.r6_stripe.proofs.Bound.{within}
-use Rattle.r6_stripe.proofs.Steps.{step_by_rules, none_passes, not_false}
+use Rattle.r6_stripe.proofs.Places.{any_true}
+use Rattle.r6_stripe.proofs.Steps.{step_by_rules, not_false}
 use Rattle.r6_tables.specs.Table.{Numbered}
 use Rattle.r6_frames.specs.declared.command.CommandKind.{CommandKind}
 use Rattle.r6_frames.specs.declared.command.CommandKind.TheVariants as command
 use Rattle.r6_frames.specs.declared.command.Outstanding.{Outstanding}
 use Rattle.r6_frames.specs.declared.frames.HeldRow.{HeldRow}
+use Rattle.r6_frames.specs.declared.frames.FrameUse.TheVariants.{Held as HeldIn, Returning}
 use Rattle.r6_frames.specs.declared.frames.Frames.{Frames}
-use Rattle.r6_frames.specs.Frames.{hold_at, held_request, requests_from, kind_in, is_unsent, owed_by, owed_in, HasAway, IsOver}
+use Rattle.r6_frames.specs.Frames.{use_at, hold_at, held_request, requests_from, kind_in, is_unsent, owed_by, owed_in, HasOut, IsOver}
 use Rattle.r6_frames.specs.Sound.{IsHeld, IsSound, AreFrames, AreCommands, is_put_out, is_write}
-use Rattle.r6_frames.proofs.Held.{held_within, held_stays, apart_still, owed_at, owed_set, free_at, free_set}
-use Rattle.r6_frames.proofs.HeldRows.{Prepared, prepared, held_after, are_prepared, prepared_owes}
+use Rattle.r6_frames.proofs.UnderWay.{held_standing}
+use Rattle.r6_frames.proofs.Held.{held_within, held_stays, use_held, use_at_own, use_at_other, apart_still, owed_at, owed_set, free_at, free_set}
+use Rattle.r6_frames.proofs.HeldRows.{Prepared, prepared, held_after, standing_stays, in_sync_not_out, are_prepared, prepared_owes}
 use Rattle.r6_frames.proofs.CommandComes.{with_row, sent_off, held_then, PutsOutAt}
 use Rattle.r6_frames.proofs.PuttingOut.{put_event}
 
@@ -35,33 +38,38 @@ module _ (fs : Frames) (frame : ℕ) (h new : HeldRow) (commands : Numbered Outs
   inside : frame < length fs.held.items
   inside = held_within fs.held.items frame h is
 
-  pub frames_changed : IsHeld fs.geometry fs.shard new → new.row ≡ h.row → AreFrames fs → AreFrames (changed fs frame new commands)
+  pub frames_changed : IsHeld fs.geometry fs.shard fs.slots new → new.row ≡ h.row → AreFrames fs → AreFrames (changed fs frame new commands)
   frames_changed held same_row all = record {
-    count = length-set fs.held.items frame (Some new) ∙ all.count;
+    count = length-set fs.held.items frame (HeldIn new) ∙ all.count;
     rows = λ other x there. elim (held_then fs.held.items frame h new other x is there) [
-      | inl mine ↦ subst (λ (x : HeldRow). IsHeld fs.geometry fs.shard x) mine.1 held
+      | inl mine ↦ subst (λ (x : HeldRow). IsHeld fs.geometry fs.shard fs.slots x) mine.1 held
       | inr old ↦ all.rows other x old.1
+    ];
+    returning = λ other r there. elim (cases_eq other frame) [
+      | inl e ↦
+          absurd (let both : HeldIn new ≡ Returning r = sym (ap (use_at (set fs.held.items frame (HeldIn new))) e ∙ use_at_own fs.held.items frame (HeldIn new) inside) ∙ there in cc)
+      | inr ne ↦ all.returning other r (sym (use_at_other fs.held.items frame (HeldIn new) other ne) ∙ there)
     ];
     one_holder = apart_still fs.held.items frame h new is same_row all.one_holder;
     spare =
-        let free = free_set fs.held.items frame (Some new) inside in
-        let was : free_at (hold_at fs.held.items frame) ≡ 0 = ap free_at is in
+        let free = free_set fs.held.items frame (HeldIn new) inside in
+        let was : free_at (use_at fs.held.items frame) ≡ 0 = ap free_at (use_held fs.held.items frame h is) in
         let spare = all.spare in
         omega arith;
     spare_room = all.spare_room;
     spare_shape = all.spare_shape;
   }
 
-  pub sound_changed : IsSound fs → IsHeld fs.geometry fs.shard new → new.row ≡ h.row → AreCommands (changed fs frame new commands) → IsSound (changed fs frame new commands)
+  pub sound_changed : IsSound fs → IsHeld fs.geometry fs.shard fs.slots new → new.row ≡ h.row → AreCommands (changed fs frame new commands) → IsSound (changed fs frame new commands)
   sound_changed sound held same_row are = record { shape = sound.shape; shard = sound.shard; frames = frames_changed held same_row sound.frames; commands = are }
 
-  pub owed_changed : owed_in (set fs.held.items frame (Some new)) + owed_by h ≡ owed_in fs.held.items + owed_by new
+  pub owed_changed : owed_in (set fs.held.items frame (HeldIn new)) + owed_by h ≡ owed_in fs.held.items + owed_by new
   owed_changed =
-      let sum = owed_set fs.held.items frame (Some new) inside in
-      let was : owed_at (hold_at fs.held.items frame) ≡ owed_by h = ap owed_at is in
+      let sum = owed_set fs.held.items frame (HeldIn new) inside in
+      let was : owed_at (use_at fs.held.items frame) ≡ owed_by h = ap owed_at (use_held fs.held.items frame h is) in
       omega arith
 
-  pub requests_changed : held_request frame new ≡ held_request frame h → requests_from 0 (set fs.held.items frame (Some new)) ≡ requests_from 0 fs.held.items
+  pub requests_changed : held_request frame new ≡ held_request frame h → requests_from 0 (set fs.held.items frame (HeldIn new)) ≡ requests_from 0 fs.held.items
   requests_changed same = held_stays 0 fs.held.items frame frame h new is (omega arith) same
 
 pub request_same : (frame : ℕ) (h : HeldRow) (planned : Planned) (away : List Bool) → planned.hold.kind ≡ kind_in h
@@ -106,6 +114,7 @@ count_set test (c ∷ cells) (suc j) cell below = let rest = count_set test cell
 -- what the command's event makes of the cells
 record IsPutAt (hold : Hold) (kind : CommandKind) (position : ℕ) (buffer : List ℕ) : Type 0 where
   pub below : position < length hold.cells
+  pub not_out : (cell_at hold.cells position).standing ≢ Out
   pub cells : (after_event hold (put_event position kind buffer)).cells ≡ set hold.cells position (put_cell kind (cell_at hold.cells position))
   pub put : IsPut kind (cell_at hold.cells position) (put_cell kind (cell_at hold.cells position))
   pub no_loss : (j : ℕ) → put_event position kind buffer ≢ Loses j
@@ -117,7 +126,8 @@ unfolded command.Read planned position buffer may =
     let rules = step_by_rules planned (Asks position) may in
     let cell = cell_at planned.hold.cells position in
     record {
-      below = within planned.hold.cells position (λ out. absurd (let in_sync = rules.in_sync in cc));
+      below = within planned.hold.cells position (in_sync_not_out cell.standing rules.in_sync);
+      not_out = in_sync_not_out cell.standing rules.in_sync;
       cells = refl;
       put = read_put cell rules.unread (rules.before_writes position);
       no_loss = λ j e. (cc);
@@ -128,24 +138,40 @@ unfolded command.Write planned position buffer may =
     let cell = cell_at planned.hold.cells position in
     record {
       below = within planned.hold.cells position rules.not_out;
+      not_out = rules.not_out;
       cells = refl;
       put = write_put cell buffer rules.not_asked rules.ready;
       no_loss = λ j e. (cc);
       same_kind = refl;
     }
 
+-- a hold with a command put out at a position that isn't out
+or_second : (a b : Bool) → b ≡ true → (a || b) ≡ true
+or_second true b e = refl
+or_second false b e = e
+
+some_out : (hold : Hold) (j : ℕ) → j < length hold.cells → (cell_at hold.cells j).standing ≡ InSync → is_put_out (cell_at hold.cells j) ≡ true → (has_read_out hold || has_write_out hold) ≡ true
+some_out hold j below in_sync out =
+    let cell = cell_at hold.cells j in
+    elim (or_cases (is_asked cell.reading) (is_sent cell.writing) out) [
+      | inl asked ↦
+          let reads : has_read_out hold ≡ true = any_true (λ c. not (is_out c.standing) && is_asked c.reading) hold.cells j below (λ i. not (is_out (in_sync i)) && asked i) in
+          ap (λ (b : Bool). b || has_write_out hold) reads
+      | inr sent ↦ or_second (has_read_out hold) (has_write_out hold) (any_true (λ c. not (is_out c.standing) && is_sent c.writing) hold.cells j below (λ i. not (is_out (in_sync i)) && sent i))
+    ]
+
 -- ---- a row puts a command out
 
 -- what a row is once its hold has put a command out at the position
 pub record HasPutOut (fs : Frames) (frame : ℕ) (h new : HeldRow) (planned : Planned) (position slot : ℕ) (kind : CommandKind) (buffer : List ℕ) : Type 0 where
-  pub held : IsHeld fs.geometry fs.shard new
+  pub held : IsHeld fs.geometry fs.shard fs.slots new
   pub request : held_request frame new ≡ held_request frame h
-  pub away : is_away new.hold position ≡ true
+  pub out : (has_read_out new.hold.planned.hold || has_write_out new.hold.planned.hold) ≡ true
   pub puts : PutsOutAt fs frame h planned position slot kind buffer
-  pub fewer : owed_by new + 1 ≡ owed_by h
+  pub fewer : owed_by new + 1 ≤ owed_by h
 
 module _ (fs : Frames) (frame : ℕ) (h : HeldRow) (events : List Event) (position slot : ℕ) (kind : CommandKind) (buffer : List ℕ)
-    (is : hold_at fs.held.items frame ≡ Some h) (held : IsHeld fs.geometry fs.shard h) (silent : AreSilent events) (may : IsPlanned h.hold.planned events)
+    (is : hold_at fs.held.items frame ≡ Some h) (held : IsHeld fs.geometry fs.shard fs.slots h) (silent : AreSilent events) (may : IsPlanned h.hold.planned events)
     (follows : MayFollow (planned_at h.hold.planned events) (put_event position kind buffer)) where
   abbrev before : Planned
   before = planned_at h.hold.planned events
@@ -156,8 +182,8 @@ module _ (fs : Frames) (frame : ℕ) (h : HeldRow) (events : List Event) (positi
   abbrev new : HeldRow
   new = sent_off h planned position
 
-  p : Prepared fs.geometry fs.shard h (prepared h before)
-  p = are_prepared fs.geometry fs.shard h events held silent may
+  p : Prepared fs.geometry fs.shard fs.slots h (prepared h before)
+  p = are_prepared fs.geometry fs.shard fs.slots h events held silent may
 
   u : IsPutAt before.hold kind position buffer
   u = unfolded kind before position buffer follows
@@ -168,23 +194,35 @@ module _ (fs : Frames) (frame : ℕ) (h : HeldRow) (events : List Event) (positi
   below_away : position < length h.hold.away
   below_away = subst (λ (n : ℕ). position < n) (sym held.wide_away) put_below
 
+  in_sync : (cell_at before.hold.cells position).standing ≡ InSync
+  in_sync = elim (held_standing fs.geometry fs.shard fs.slots (prepared h before) p.held position put_below) [ inl e ↦ e | inr out ↦ absurd (u.not_out out) ]
+
+  -- the position was in sync from the first
+  pub put_in_sync : (cell_at h.hold.planned.hold.cells position).standing ≡ InSync
+  put_in_sync = sym (p.like position).standing ∙ in_sync
+
+  standing_is : (j : ℕ) → (cell_at planned.hold.cells j).standing ≡ (cell_at before.hold.cells j).standing
+  standing_is j = standing_stays before.hold (put_event position kind buffer) j (u.no_loss j)
+
   here : cell_at planned.hold.cells position ≡ put_cell kind (cell_at before.hold.cells position)
   here = ap (λ (cells : List Cell). cell_at cells position) u.cells ∙ get_or-set_same before.hold.cells position (put_cell kind (cell_at before.hold.cells position)) no_cell u.below
 
   elsewhere : (j : ℕ) → j ≢ position → cell_at planned.hold.cells j ≡ cell_at before.hold.cells j
   elsewhere j ne = ap (λ (cells : List Cell). cell_at cells j) u.cells ∙ get_or-set_other before.hold.cells position j (put_cell kind (cell_at before.hold.cells position)) no_cell ne
 
-  away_now : slice_index_or (set h.hold.away position true) position false ≡ true
-  away_now = get_or-set_same h.hold.away position true false below_away
+  out_here : is_put_out (cell_at planned.hold.cells position) ≡ true
+  out_here = ap is_put_out here ∙ u.put.is_out
 
-  away_are : (j : ℕ) → j < fs.geometry.slots → slice_index_or (set h.hold.away position true) j false ≡ is_put_out (cell_at planned.hold.cells j)
-  away_are j below =
+  away_are : (j : ℕ) → j < fs.geometry.slots → (cell_at before.hold.cells j).standing ≡ InSync → slice_index_or (set h.hold.away position true) j false ≡ is_put_out (cell_at planned.hold.cells j)
+  away_are j below in_sync =
       elim (cases_eq j position) [
-        | inl e ↦ subst (λ (k : ℕ). slice_index_or (set h.hold.away position true) k false ≡ is_put_out (cell_at planned.hold.cells k)) (sym e) (away_now ∙ sym (ap is_put_out here ∙ u.put.is_out))
-        | inr ne ↦ get_or-set_other h.hold.away position j true false ne ∙ p.held.away j below ∙ sym (ap is_put_out (elsewhere j ne))
+        | inl e ↦
+            subst (λ (k : ℕ). slice_index_or (set h.hold.away position true) k false ≡ is_put_out (cell_at planned.hold.cells k)) (sym e)
+            (get_or-set_same h.hold.away position true false below_away ∙ sym out_here)
+        | inr ne ↦ get_or-set_other h.hold.away position j true false ne ∙ p.held.away j below in_sync ∙ sym (ap is_put_out (elsewhere j ne))
       ]
 
-  fewer : owed_by new + 1 ≡ owed_by h
+  fewer : owed_by new + 1 ≤ owed_by h
   fewer =
       let cell = cell_at before.hold.cells position in
       let later = put_cell kind cell in
@@ -193,66 +231,54 @@ module _ (fs : Frames) (frame : ℕ) (h : HeldRow) (events : List Event) (positi
       let writes : count_where is_unsent planned.hold.cells + (if is_unsent cell then 1 else 0) ≡ count_where is_unsent before.hold.cells + (if is_unsent later then 1 else 0) =
       ap (λ (cells : List Cell). count_where is_unsent cells + (if is_unsent cell then 1 else 0)) u.cells ∙ count_set is_unsent before.hold.cells position later u.below in
       let less = u.put.fewer in
-      let same = prepared_owes fs.geometry fs.shard h (prepared h before) held p in
-      add_up (count_where (λ c. is_unread c.reading) planned.hold.cells) (count_where is_unsent planned.hold.cells) (if is_unread cell.reading then 1 else 0) (if is_unsent cell then 1 else 0)
-      (count_where (λ c. is_unread c.reading) before.hold.cells) (count_where is_unsent before.hold.cells) (if is_unread later.reading then 1 else 0) (if is_unsent later then 1 else 0) reads writes less
-      ∙ same
+      let sum = add_up (count_where (λ c. is_unread c.reading) planned.hold.cells) (count_where is_unsent planned.hold.cells) (if is_unread cell.reading then 1 else 0) (if is_unsent cell then 1 else 0)
+      (count_where (λ c. is_unread c.reading) before.hold.cells) (count_where is_unsent before.hold.cells) (if is_unread later.reading then 1 else 0) (if is_unsent later then 1 else 0) reads writes less in
+      subst (λ (n : ℕ). n ≤ owed_by h) (sym sum) (prepared_owes fs.geometry fs.shard fs.slots h (prepared h before) held p)
     where
       add_up : (r w x y r' w' x' y' : ℕ) → r + x ≡ r' + x' → w + y ≡ w' + y' → x' + y' + 1 ≡ x + y → r + w + 1 ≡ r' + w'
       add_up r w x y r' w' x' y' a b c = omega arith
 
   pub row_put_out : slot < fs.geometry.slots → slot ≡ slot_at fs.geometry h.row position → position_at fs.geometry h.row slot ≡ position → length buffer ≡ h.hold.planned.hold.size
       → HasPutOut fs frame h new planned position slot kind buffer
-  row_put_out slot_below slot_is inverse sized = record {
-    held = held_after fs.geometry fs.shard (prepared h before) (put_event position kind buffer) (set h.hold.away position true) p.held follows u.no_loss
-        (length-set h.hold.away position true ∙ held.wide_away) away_are;
-    request = request_same frame h planned (set h.hold.away position true) (u.same_kind ∙ p.kind);
-    away = away_now;
-    puts = record {
-      held = is;
-      wide = held.wide_away;
-      below = put_below;
-      slot_below = slot_below;
-      slot_is = slot_is;
-      inverse = inverse;
-      home = p.held.away position put_below ∙ u.put.was_home;
-      sent = u.put.sent ∙ ap (λ (c : Cell). is_sent c.writing) (sym here);
-      others = λ j below ne. ap (λ (c : Cell). is_sent c.writing) (elsewhere j ne) ∙ (p.like j below).sent;
-      sized = sized ∙ held.size;
-    };
-    fewer = fewer;
-  }
+  row_put_out slot_below slot_is inverse sized =
+      let held_now = held_after fs.geometry fs.shard fs.slots (prepared h before) (put_event position kind buffer) (set h.hold.away position true) p.held follows u.no_loss
+      (length-set h.hold.away position true ∙ held.wide_away) away_are in
+      record {
+        held = held_now;
+        request = request_same frame h planned (set h.hold.away position true) (u.same_kind ∙ p.kind);
+        out = some_out planned.hold position (subst (λ (n : ℕ). position < n) (sym held_now.wide) put_below) (standing_is position ∙ in_sync) out_here;
+        puts = record {
+          held = is;
+          own = held.own;
+          wide = held.wide_away;
+          below = put_below;
+          slot_below = slot_below;
+          slot_is = slot_is;
+          inverse = inverse;
+          home = p.held.away position put_below in_sync ∙ u.put.was_home;
+          not_out = ap is_out (standing_is position ∙ in_sync);
+          sent = u.put.sent ∙ ap (λ (c : Cell). is_sent c.writing) (sym here);
+          standing = λ j. standing_is j ∙ (p.like j).standing;
+          others = λ j ne. ap (λ (c : Cell). is_sent c.writing) (elsewhere j ne) ∙ (p.like j).sent;
+          sized = sized ∙ held.size;
+        };
+        fewer = fewer;
+      }
 
--- ---- a hold with a buffer away isn't over
+-- ---- a hold with a command out isn't over
 
-pub away_within : (away : List Bool) (j : ℕ) → slice_index_or away j false ≡ true → j < length away
-away_within [] j e = absurd (cc)
-away_within (b ∷ away) zero e = omega arith
-away_within (b ∷ away) (suc j) e = let rest = away_within away j e in omega arith
-
-pub over_home : (shape : Shape) (shard : ℕ) (h : HeldRow) → IsHeld shape shard h → has_outcome h.hold.planned ≡ true → (j : ℕ) → j < shape.slots → is_away h.hold j ≡ false
-over_home shape shard h held over j below =
-    let planned = h.hold.planned in
-    let cell = cell_at planned.hold.cells j in
-    let whole = and_parts (not (is_idle planned.hold.kind)) (is_over planned) over in
+pub over_not : (fs : Frames) (frame : ℕ) → HasOut fs frame → IsOver fs frame → ⊥
+over_not fs frame has over =
+    let both : Some has.0 ≡ Some over.0 = sym has.1 ∙ over.1 in
+    let same : over.0 ≡ has.0 = cc in
+    let planned = has.0.hold.planned in
+    let ends : has_outcome planned ≡ true = subst (λ (x : HeldRow). has_outcome x.hold.planned ≡ true) same over.2 in
+    let whole = and_parts (not (is_idle planned.hold.kind)) (is_over planned) ends in
     let three = and_parts (not (has_read_out planned.hold) && not (has_write_out planned.hold) && is_none (next planned)) (gives_up planned.hold || is_enough planned.plan planned.hold) whole.1 in
     let two = and_parts (not (has_read_out planned.hold) && not (has_write_out planned.hold)) (is_none (next planned)) three.0 in
     let one = and_parts (not (has_read_out planned.hold)) (not (has_write_out planned.hold)) two.0 in
-    let in_sync = held.in_sync j below in
-    let asked : is_asked cell.reading ≡ false =
-    ap (λ (s : Standing). not (is_out s) && is_asked cell.reading) (sym in_sync)
-    ∙ none_passes (λ c. not (is_out c.standing) && is_asked c.reading) planned.hold.cells j refl (not_false (has_read_out planned.hold) one.0) in
-    let sent : is_sent cell.writing ≡ false =
-    ap (λ (s : Standing). not (is_out s) && is_sent cell.writing) (sym in_sync)
-    ∙ none_passes (λ c. not (is_out c.standing) && is_sent c.writing) planned.hold.cells j refl (not_false (has_write_out planned.hold) one.1) in
-    held.away j below ∙ (λ i. asked i || sent i)
-
-pub over_not : (fs : Frames) (frame : ℕ) → IsSound fs → HasAway fs frame → IsOver fs frame → ⊥
-over_not fs frame sound has over =
-    let both : Some has.0 ≡ Some over.0 = sym has.1 ∙ over.1 in
-    let same : over.0 ≡ has.0 = cc in
-    let held = sound.frames.rows frame has.0 has.1 in
-    let ends : has_outcome has.0.hold.planned ≡ true = subst (λ (x : HeldRow). has_outcome x.hold.planned ≡ true) same over.2 in
-    let home = over_home fs.geometry fs.shard has.0 held ends has.2 (subst (λ (n : ℕ). has.2 < n) held.wide_away (away_within has.0.hold.away has.2 has.3)) in
-    let away = has.3 in
+    let no_read = not_false (has_read_out planned.hold) one.0 in
+    let no_write = not_false (has_write_out planned.hold) one.1 in
+    let none : (has_read_out planned.hold || has_write_out planned.hold) ≡ false = λ i. no_read i || no_write i in
+    let out = has.2 in
     absurd (cc)

@@ -5,7 +5,7 @@ use Rattle.std.specs.Option.{option_map_or}
 use Rattle.r6_core.specs.Refusals.{number_of}
 use Rattle.r6_core.specs.declared.refusal.Receipt.TheVariants.{Taken, Late}
 use Rattle.r6_core.specs.declared.refusal.Refusal.{Refusal}
-use Rattle.r6_core.specs.declared.refusal.Refusal.TheVariants.{NoSuchBlock, WrongShard, WrongLength, Busy, Exhausted, UnknownToken}
+use Rattle.r6_core.specs.declared.refusal.Refusal.TheVariants.{NoSuchBlock, WrongShard, WrongLength, Busy, ArrayFailed, Exhausted, UnknownToken, UntoldFirst, UnknownCall}
 use Rattle.r6_core.specs.declared.reply.Reply.{Reply}
 use Rattle.r6_core.specs.declared.reply.Reply.TheVariants as reply
 use Rattle.r6_core.specs.declared.Command.{Command}
@@ -23,8 +23,11 @@ refusal_name NoSuchBlock = codes "NoSuchBlock"
 refusal_name WrongShard = codes "WrongShard"
 refusal_name WrongLength = codes "WrongLength"
 refusal_name Busy = codes "Busy"
+refusal_name ArrayFailed = codes "ArrayFailed"
 refusal_name Exhausted = codes "Exhausted"
 refusal_name UnknownToken = codes "UnknownToken"
+refusal_name UntoldFirst = codes "UntoldFirst"
+refusal_name UnknownCall = codes "UnknownCall"
 
 -- what became of an event
 abbrev pub outcome_text : Outcome → Text

@@ -26,7 +26,7 @@ pub enum Outcome {
     Received(Receipt),
     /// The shard looked at the register.
     Looked,
-    /// The shard refused a request or a completion.
+    /// The shard refused a request, a completion or a look.
     Refused(Refusal),
 }
 
@@ -38,8 +38,11 @@ fn refusal_name(refusal: Refusal) -> &'static str
         Refusal::WrongShard => "WrongShard",
         Refusal::WrongLength => "WrongLength",
         Refusal::Busy => "Busy",
+        Refusal::ArrayFailed => "ArrayFailed",
         Refusal::Exhausted => "Exhausted",
         Refusal::UnknownToken => "UnknownToken",
+        Refusal::UntoldFirst => "UntoldFirst",
+        Refusal::UnknownCall => "UnknownCall",
     }
 }
 

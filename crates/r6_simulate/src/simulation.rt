@@ -196,8 +196,10 @@ impl Simulation {
             },
             Call::Look => {
                 let snapshot = register(&self.geometry);
-                self.shards[shard].core.look(&snapshot);
-                Ok(Outcome::Looked)
+                match self.shards[shard].core.look(&snapshot) {
+                    Ok(()) => Ok(Outcome::Looked),
+                    Err(refusal) => Ok(Outcome::Refused(refusal)),
+                }
             }
         }
     }

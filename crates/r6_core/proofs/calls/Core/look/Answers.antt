@@ -1,10 +1,16 @@
-use Rattle.std.proofs.Common.{subst}
+use Rattle.std.proofs.Common.{IfOk, subst}
 use Rattle.r6_world.specs.Steps.{Look}
-use Rattle.r6_core.specs.States.{Step, HaveTurns}
+use Rattle.r6_core.specs.States.{Step, LooksOn, HaveTurnsAfter}
 use Rattle.r6_core.proofs.calls.Core.look.Goals as goal
 
 pub returns-clause-step : goal.returns-clause-step
-returns-clause-step c = subst (λ old. Step old (Look c.args.snapshot.now) c.look.new.self) c.self.view_is (c.look.ensures.step c.args.snapshot.now c.requires.whole)
+returns-clause-step c =
+    subst (λ old. IfOk c.look.result (λ _. Step old (Look c.args.snapshot.now) c.look.new.self)) c.self.view_is c.look.ensures.step
+
+pub returns-clause-order : goal.returns-clause-order
+returns-clause-order c =
+    subst (λ old. IfOk c.look.result (λ _. LooksOn old c.args.snapshot.now c.look.new.self)) c.self.view_is c.look.ensures.order
 
 pub returns-clause-turns : goal.returns-clause-turns
-returns-clause-turns c = subst (λ old. HaveTurns old.frames old.waiting.items c.look.new.self) c.self.view_is c.look.ensures.turns
+returns-clause-turns c =
+    subst (λ old. IfOk c.look.result (λ _. HaveTurnsAfter old c.args.snapshot.now c.look.new.self)) c.self.view_is c.look.ensures.turns

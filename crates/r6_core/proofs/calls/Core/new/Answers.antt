@@ -1,10 +1,16 @@
-use Rattle.r6_core.proofs.Fresh.{fresh_start}
+use Rattle.std.proofs.Common.{ap, ◌∙◌, arith}
+use Rattle.r6_frames.specs.Slots.{states_of}
+use Rattle.r6_core.proofs.Fresh.{fresh_start, states_before}
 use Rattle.r6_core.proofs.calls.Core.new.Goals as goal
+
+pub devices_at-requires : goal.devices_at-requires
+devices_at-requires c slot past = c.requires.array slot (omega (arith, past, c.requires.limits.slots_allowed.1))
 
 pub returns-in-Ok-clause-start : goal.returns-in-Ok-clause-start
 returns-in-Ok-clause-start c =
     let fresh = c.in-Ok.ensures.fresh in (
       fresh.1,
       fresh.2,
-      fresh_start c.in-Ok.state c.args.geometry c.args.shard c.args.snapshot.now fresh.0 fresh.1 fresh.2 c.requires.whole,
+      fresh_start c.in-Ok.state c.args.geometry c.args.shard c.args.snapshot.now fresh.0 fresh.1 fresh.2
+          (λ slot. ap (λ slots. states_of slots slot) fresh.3 ∙ states_before c.devices_at.result slot ∙ c.devices_at.ensures slot),
     )

@@ -32,7 +32,8 @@ start c =
       others_kept = c.drive.ensures.others;
       requests = c.drive.ensures.requests;
       all_owed = c.drive.ensures.owed;
-      out = c.drive.ensures.out;
+      live = c.drive.ensures.live;
+      goes_out = c.drive.ensures.out c.begin.ensures.owes;
     }
 
 pub returns-in-Some-frame_for-clause-core : goal.returns-in-Some-frame_for-clause-core

@@ -7,12 +7,13 @@ pub returns-then-is_held : goal.returns-then-is_held
 returns-then-is_held c =
     let frames = c.args.self.now.frames in
     let row = c.in_ok-place.ensures.row ∙ ap (row_of frames.geometry) c.block.ensures in
-    λ free frame is_free. c.if-is_held.ensures.0 refl (subst (λ (r : ℕ). NotHeldBy frames r) (sym row) free)
+    λ live free frame is_free. c.if-is_held.ensures.0 refl (subst (λ (r : ℕ). NotHeldBy frames r) (sym row) free)
 
 pub returns : goal.returns
 returns c =
     let frames = c.args.self.now.frames in
     let row = c.in_ok-place.ensures.row ∙ ap (row_of frames.geometry) c.block.ensures in (
+      c.requires.live,
       c.in_ok-frame.ensures,
       λ frame h is at. let held : false ≡ true = c.if-is_held.ensures.1 (λ free. free frame h is (at ∙ sym row)) in absurd (cc),
     )

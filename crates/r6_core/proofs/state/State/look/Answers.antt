@@ -1,19 +1,122 @@
-use Rattle.std.proofs.Common.{ap, subst}
-use Rattle.r6_core.specs.States.{HaveTurns}
-use Rattle.r6_core.proofs.AtRest.{at_rest}
-use Rattle.r6_core.proofs.Stepping.{looked}
+use Rattle.std.proofs.Common.{◌≡◌, Bool, true, false, Option, Some, None, is_some, length, refl, sym, ap, subst, ◌∙◌}
+use Rattle.std.specs.Prelude.{nat_eq}
+use Rattle.std.proofs.lemmas.Bool.{eqb-true}
+use Rattle.r6_world.specs.Registers.{Snapshot}
+use Rattle.r6_core.specs.States.{Agrees, AllTold, layout_in, state_of}
+use Rattle.r6_core.proofs.Releasing.{empty_of_length}
+use Rattle.r6_core.specs.declared.state.State.{State}
+use Rattle.r6_core.proofs.Looking.{HasSettled, settled_some, settled_none, failed_by-takes_over, failed_by-goes_on, looked, looked_failed, looked_stopped, looked_releases, looked_turns, stopped_turns}
 use Rattle.r6_core.proofs.state.State.look.Goals as goal
+use Rattle.r6_core.proofs.state.State.look.Goals.{then-went_out, else-went_out}
+
+told_of : (s : State) → nat_eq (length s.calls.items) 0 ≡ true → is_some s.untold ≡ false → AllTold s
+told_of s empty none = (empty_of_length s.calls.items (eqb-true (length s.calls.items) 0 empty), none_of s.untold none)
+  where
+    none_of : {X : Type 0} (o : Option X) → is_some o ≡ false → o ≡ None
+    none_of None e = refl
+    none_of (Some x) e = let no : true ≡ false = e in absurd (cc)
+
+no_both : (b : Bool) → b ≡ true → b ≡ false → ⊥
+no_both b is not = let e : true ≡ false = sym is ∙ not in absurd (cc)
+
+-- a look that finds no slot other leaves the frames
+frames_stay : (s mid : State) (seen : Snapshot) (went_out : Bool) → (went_out ≡ true → Agrees s seen → ⊥) → (went_out ≡ false → (mid ≡ s) × Agrees s seen) → Agrees s seen → mid.frames ≡ s.frames
+frames_stay s mid seen true some none agrees = absurd (some refl agrees)
+frames_stay s mid seen false some none agrees = ap (λ (x : State). x.frames) (none refl).0
+
+pub returns-then-failed-clause-step : goal.returns-then-failed-clause-step
+returns-then-failed-clause-step c =
+    let s = c.args.self.now in
+    let adopt = c.adopt-went_out.ensures in
+    let mid = c.adopt-went_out.new.self in
+    let fails = c.see_failure.ensures in
+    looked_failed c.args.self.now mid c.see_failure.new.self c.args.snapshot.now
+    (record { told = told_of s (sym c.is_empty.ensures ∙ c.if-not-is_empty.false) (sym c.is_some.ensures ∙ c.if-is_some.false); takes = adopt.takes; slots = adopt.slots; same = adopt.same; order = adopt.order; waiting = adopt.waiting })
+    (sym c.failed.ensures ∙ c.if-failed.true) fails.same fails.fails
+
+pub returns-then-self-clause-step : goal.returns-then-self-clause-step
+returns-then-self-clause-step c =
+    let s = c.args.self.now in
+    let adopt = c.adopt-went_out.ensures in
+    let mid = c.adopt-went_out.new.self in
+    looked_stopped c.args.self.now mid c.args.snapshot.now
+    (record { told = told_of s (sym c.is_empty.ensures ∙ c.if-not-is_empty.false) (sym c.is_some.ensures ∙ c.if-is_some.false); takes = adopt.takes; slots = adopt.slots; same = adopt.same; order = adopt.order; waiting = adopt.waiting })
+    (sym c.failed.ensures ∙ c.if-failed.false) c.if-self.true
+
+pub returns-then-self-clause-order : goal.returns-then-self-clause-order
+returns-then-self-clause-order c =
+    let adopt = c.adopt-went_out.ensures in
+    let unfailed = sym c.failed.ensures ∙ c.if-failed.false in
+    let s = c.args.self.now in
+    let mid = c.adopt-went_out.new.self in
+    let kept : mid.frames.saw_failed ≡ s.frames.saw_failed = failed_by-takes_over c.args.snapshot.now (layout_in s) s.frames.shard (state_of s) (state_of mid) adopt.takes in
+    (λ failed. absurd (no_both _ failed unfailed), λ e was. absurd (no_both _ (sym kept ∙ c.if-self.true) was), λ e was. adopt.order)
+
+pub release-requires-clause-unfailed : goal.release-requires-clause-unfailed
+release-requires-clause-unfailed c =
+    elim c.if-went_out.branch [
+      | then-went_out w ↦
+          let mid = c.adopt-went_out.new.self in
+          let kept : w.settle.new.self.frames.saw_failed ≡ mid.frames.saw_failed = failed_by-goes_on (layout_in mid) mid.frames.shard (state_of mid) (state_of w.settle.new.self) w.settle.ensures.leads in
+          ap (λ (x : State). x.frames.saw_failed) w.self-is ∙ kept ∙ c.if-self.false
+      | else-went_out w ↦ ap (λ (x : State). x.frames.saw_failed) w.self-is ∙ c.if-self.false
+    ]
 
 pub returns-clause-step : goal.returns-clause-step
 returns-clause-step c =
+    let adopt = c.adopt-went_out.ensures in
+    let s = c.args.self.now in
+    let mid = c.adopt-went_out.new.self in
+    let seen = c.args.snapshot.now in
     let release = c.release.ensures in
     let scan = c.scan.ensures in
-    λ seen whole. looked c.args.self.now c.release.new.self c.scan.new.self seen whole release.released release.same
-    (record { leads = scan.leads; same = scan.same; rest = at_rest c.scan.new.self scan.core scan.rested })
+    let done : HasSettled s mid c.if-went_out.self seen = elim c.if-went_out.branch [
+      | then-went_out w ↦
+          let settle = w.settle.ensures in
+          subst (λ (x : State). HasSettled s mid x seen) (sym w.self-is)
+          (settled_some s mid w.settle.new.self seen (adopt.some w.if-went_out.true) settle.core settle.leads settle.same settle.order settle.unanswered settle.waiting)
+      | else-went_out w ↦ subst (λ (x : State). HasSettled s mid x seen) (sym w.self-is) (settled_none s mid seen (adopt.none w.if-went_out.false).0 c.requires.core)
+    ] in
+    looked s mid c.if-went_out.self c.release.new.self c.scan.new.self seen
+    (record { told = told_of s (sym c.is_empty.ensures ∙ c.if-not-is_empty.false) (sym c.is_some.ensures ∙ c.if-is_some.false); takes = adopt.takes; slots = adopt.slots; same = adopt.same; order = adopt.order; waiting = adopt.waiting })
+    (sym c.failed.ensures ∙ c.if-failed.false) done
+    (record { is = release.released; frames = release.same.0; leads = scan.leads; same = scan.same; core = scan.core; rested = scan.rested })
+
+pub returns-clause-order : goal.returns-clause-order
+returns-clause-order c =
+    let adopt = c.adopt-went_out.ensures in
+    let s = c.args.self.now in
+    let mid = c.adopt-went_out.new.self in
+    let seen = c.args.snapshot.now in
+    let unfailed = sym c.failed.ensures ∙ c.if-failed.false in
+    let kept : mid.frames.saw_failed ≡ s.frames.saw_failed = failed_by-takes_over seen (layout_in s) s.frames.shard (state_of s) (state_of mid) adopt.takes in
+    let done : HasSettled s mid c.if-went_out.self seen = elim c.if-went_out.branch [
+      | then-went_out w ↦
+          let settle = w.settle.ensures in
+          subst (λ (x : State). HasSettled s mid x seen) (sym w.self-is)
+          (settled_some s mid w.settle.new.self seen (adopt.some w.if-went_out.true) settle.core settle.leads settle.same settle.order settle.unanswered settle.waiting)
+      | else-went_out w ↦ subst (λ (x : State). HasSettled s mid x seen) (sym w.self-is) (settled_none s mid seen (adopt.none w.if-went_out.false).0 c.requires.core)
+    ] in
+    (λ failed. absurd (no_both _ failed unfailed), λ e was. looked_releases s mid c.if-went_out.self c.release.new.self c.scan.new.self seen adopt.order done c.release.ensures.order c.scan.ensures.replies.0, λ e was. absurd (no_both _ was (sym kept ∙ c.if-self.false)))
+
+pub returns-then-self-clause-turns : goal.returns-then-self-clause-turns
+returns-then-self-clause-turns c =
+    let adopt = c.adopt-went_out.ensures in
+    let s = c.args.self.now in
+    let mid = c.adopt-went_out.new.self in
+    stopped_turns s mid c.args.snapshot.now adopt.waiting c.if-self.true (frames_stay s mid c.args.snapshot.now c.adopt-went_out.result adopt.some adopt.none)
 
 pub returns-clause-turns : goal.returns-clause-turns
 returns-clause-turns c =
-    let mid = c.release.new.self in
-    let new = c.scan.new.self in
-    subst (λ rs. HaveTurns c.args.self.now.frames rs new) (ap (λ b. b.items) c.release.ensures.waiting)
-    (subst (λ fs. HaveTurns fs mid.waiting.items new) c.release.ensures.same c.scan.ensures.turns)
+    let adopt = c.adopt-went_out.ensures in
+    let s = c.args.self.now in
+    let mid = c.adopt-went_out.new.self in
+    let seen = c.args.snapshot.now in
+    let done : HasSettled s mid c.if-went_out.self seen = elim c.if-went_out.branch [
+      | then-went_out w ↦
+          let settle = w.settle.ensures in
+          subst (λ (x : State). HasSettled s mid x seen) (sym w.self-is)
+          (settled_some s mid w.settle.new.self seen (adopt.some w.if-went_out.true) settle.core settle.leads settle.same settle.order settle.unanswered settle.waiting)
+      | else-went_out w ↦ subst (λ (x : State). HasSettled s mid x seen) (sym w.self-is) (settled_none s mid seen (adopt.none w.if-went_out.false).0 c.requires.core)
+    ] in
+    looked_turns s mid c.if-went_out.self c.release.new.self c.scan.new.self seen adopt.waiting done c.release.ensures.same.0 c.release.ensures.waiting c.scan.ensures.turns

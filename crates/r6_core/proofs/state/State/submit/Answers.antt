@@ -11,7 +11,7 @@ returns-clause-step c =
     let s = c.args.self.now in
     let mid = c.accept-id.new.self in
     let new = c.scan.new.self in
-    let same = c.accept-id.ensures.same in (
+    let same = c.accept-id.ensures.same.0 in (
       (c.scan.ensures.same.0 ∙ ap (λ fs. fs.geometry) same, c.scan.ensures.same.1 ∙ ap (λ fs. fs.shard) same),
       (
         c.accept-id.ensures.id,
@@ -29,4 +29,4 @@ returns-clause-turns c =
     let mid = c.accept-id.new.self in
     let new = c.scan.new.self in
     subst (λ rs. HaveTurns c.args.self.now.frames rs new) c.accept-id.ensures.waiting
-    (subst (λ fs. HaveTurns fs mid.waiting.items new) c.accept-id.ensures.same c.scan.ensures.turns)
+    (subst (λ fs. HaveTurns fs mid.waiting.items new) c.accept-id.ensures.same.0 c.scan.ensures.turns)

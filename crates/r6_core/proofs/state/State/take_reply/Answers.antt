@@ -1,29 +1,29 @@
-use Rattle.std.proofs.Common.{◌∷◌, sym, ap, ◌∙◌}
-use Rattle.r6_core.proofs.Known.{at_none}
-use Rattle.r6_core.proofs.Replies.{some_popped, no_reply, reply_core, reply_step, reply_request}
+use Rattle.std.proofs.Common.{◌≡◌, ◌∷◌, ℕ, sym, ap, subst, ◌∙◌}
+use Rattle.circular_buffer.specs.Buffer.{Buffer}
+use Rattle.r6_world.specs.ShardStates.{Released}
+use Rattle.r6_core.specs.States.{BringsBack, answer_of, reply_of, requests_of, table}
+use Rattle.r6_core.specs.declared.reply.Reply.{Reply}
+use Rattle.r6_core.proofs.Replies.{some_popped, reply_core, reply_step, reply_request, reply_as, brings_answer}
 use Rattle.r6_core.proofs.state.State.take_reply.Goals as goal
 
-pub returns-in_err-request-clause-step : goal.returns-in_err-request-clause-step
-returns-in_err-request-clause-step c =
-    at_none _ _ _ c.from_residual.ensures (no_reply c.args.self.now c.pop_front.new.self (sym c.pop_front.ensures.value ∙ c.in_err-request.was) c.pop_front.ensures.items)
+is_first : (c : goal.After-answered) → c.args.self.now.released.items ≡ c.in-Some.request ∷ c.pop_front.new.self.items
+is_first c =
+    some_popped c.args.self.now.released.items c.in-Some.request (sym c.pop_front.ensures.value ∙ c.in-Some.is)
+    ∙ ap (λ (b : Buffer _). c.in-Some.request ∷ b.items) (sym c.pop_front.ensures.items)
 
 pub returns-clause-core : goal.returns-clause-core
 returns-clause-core c =
-    let s = c.args.self.now in
-    let first = some_popped s.released.items c.in_ok-request.request (sym c.pop_front.ensures.value ∙ c.in_ok-request.was) in
-    let is = first ∙ ap (λ b. c.in_ok-request.request ∷ b.items) (sym c.pop_front.ensures.items) in
-    reply_core s c.in_ok-request.request c.pop_front.new.self c.requires is (ap (λ b. b.capacity) c.pop_front.ensures.items)
+    reply_core c.args.self.now c.in-Some.request c.pop_front.new.self c.requires (is_first c) (ap (λ (b : Buffer _). b.capacity) c.pop_front.ensures.items)
 
 pub returns-clause-step : goal.returns-clause-step
 returns-clause-step c =
-    let s = c.args.self.now in
-    let first = some_popped s.released.items c.in_ok-request.request (sym c.pop_front.ensures.value ∙ c.in_ok-request.was) in
-    let is = first ∙ ap (λ b. c.in_ok-request.request ∷ b.items) (sym c.pop_front.ensures.items) in
-    reply_step s c.in_ok-request.request c.pop_front.new.self c.requires.sound is
+    let step = reply_step c.args.self.now c.in-Some.request c.pop_front.new.self c.requires.sound (is_first c) in
+    rw (c.answered.ensures.0, ap reply_of c.answered.ensures.1 ∙ reply_as c.in-Some.request.op) step
 
-pub returns-clause-request : goal.returns-clause-request
-returns-clause-request c =
-    let s = c.args.self.now in
-    let first = some_popped s.released.items c.in_ok-request.request (sym c.pop_front.ensures.value ∙ c.in_ok-request.was) in
-    let is = first ∙ ap (λ b. c.in_ok-request.request ∷ b.items) (sym c.pop_front.ensures.items) in
-    reply_request s c.in_ok-request.request c.pop_front.new.self c.requires.sound is
+pub returns-clause-buffer : goal.returns-clause-buffer
+returns-clause-buffer c =
+    let s_table = table (requests_of c.args.self.now) in
+    let was = reply_request c.args.self.now c.in-Some.request c.pop_front.new.self c.requires.sound (is_first c) in
+    let brings = brings_answer (s_table c.in-Some.request.id) c.in-Some.request.op (Released (answer_of c.in-Some.request.op)) was in
+    subst (λ (id : ℕ). BringsBack (s_table id) c.answered.result.1) (sym c.answered.ensures.0)
+    (subst (λ (reply : Reply). BringsBack (s_table c.in-Some.request.id) reply) (sym c.answered.ensures.1) brings)

@@ -1,0 +1,211 @@
+-- A look takes over what the register has of each slot.
+use Rattle.std.proofs.Common.{◌≡◌, ◌≢◌, ℕ, Bool, true, false, cond, ◌+◌, ◌*◌, ◌<◌, ◌≤◌, [], ◌++◌, map, refl, sym, ap, subst, ◌∙◌, inl, inr, length, arith}
+use Rattle.std.specs.Prelude.{nat_eq}
+use Rattle.std.specs.List.{IsDistinct, AllByRecursion}
+use Rattle.std.specs.Map.{keys_of}
+use Rattle.std.proofs.lemmas.Bool.{cases_lt, ne_eqb, eq-eqb}
+use Rattle.r6_layout.specs.Shape.{Shape}
+use Rattle.r6_tables.specs.Table.{next_of}
+use Rattle.r6_world.specs.Tables.{put}
+use Rattle.r6_world.specs.Geometries.{layout_of}
+use Rattle.r6_world.specs.Registers.{Snapshot, InSync, status_of}
+use Rattle.r6_world.specs.ShardStates.{Shard, SlotState}
+use Rattle.r6_world.specs.Changes.{Change, Adopt, adopted, differs, taken_out, after}
+use Rattle.r6_world.specs.Steps.{TakesOver, Through}
+use Rattle.r6_frames.specs.declared.frames.Frames.{Frames}
+use Rattle.r6_frames.specs.declared.slots.Device.{Device}
+use Rattle.r6_frames.specs.Slots as slots
+use Rattle.r6_frames.specs.Slots.{states_of, slot_in}
+use Rattle.r6_frames.specs.Frames.{held_requests, owed, shard_with, TakesOut}
+use Rattle.r6_frames.specs.Sound as held
+use Rattle.r6_frames.proofs.Lists.{table}
+use Rattle.r6_core.specs.declared.state.State.{State}
+use Rattle.r6_core.specs.States.{IsSound, state_of, rest_of, layout_in, requests_of, waiting_request, finished_request, released_request, bound, limit, most_unanswered, count_untold, IsOfArray, AllTold, Agrees, SameFrames, SameCalls, SameReplies}
+use Rattle.r6_core.proofs.Throughs.{through_both, through_one}
+use Rattle.r6_core.proofs.Kept.{requests_kept}
+
+-- a look changes no slot that agrees with it, and what is no slot of the array agrees
+pub adopted-in_sync : (state : SlotState) → adopted state InSync ≡ state
+adopted-in_sync (SlotState.Synced generation) = refl
+adopted-in_sync SlotState.Missing = refl
+adopted-in_sync (SlotState.Building generation built) = refl
+
+pub differs-in_sync : (state : SlotState) → differs state InSync ≡ false
+differs-in_sync (SlotState.Synced generation) = refl
+differs-in_sync SlotState.Missing = refl
+differs-in_sync (SlotState.Building generation built) = refl
+
+-- the first slots are as the look has them, the others as they were
+pub record IsAdopting (s new : State) (seen : Snapshot) (count : ℕ) (went_out : Bool) : Type 0 where
+  pub sound : IsSound new
+  pub takes : Through (layout_in s) s.frames.shard (TakesOver seen) (state_of s) (state_of new)
+  pub gone : (slot : ℕ) → slot < count → states_of new.frames.slots slot ≡ adopted (states_of s.frames.slots slot) (status_of seen slot)
+  pub left : (slot : ℕ) → count ≤ slot → states_of new.frames.slots slot ≡ states_of s.frames.slots slot
+  pub none : went_out ≡ false → (new ≡ s) × ((slot : ℕ) → slot < count → differs (states_of s.frames.slots slot) (status_of seen slot) ≡ false)
+  pub some : went_out ≡ true → (slot : ℕ) × (differs (states_of s.frames.slots slot) (status_of seen slot) ≡ true)
+  pub same : SameFrames s new
+  pub calls : SameCalls s new
+  pub order : SameReplies s new
+  pub unanswered : new.unanswered ≡ s.unanswered
+  pub waiting : new.waiting ≡ s.waiting
+
+pub adopting_none : (s : State) (seen : Snapshot) → IsSound s → IsAdopting s s seen 0 false
+adopting_none s seen sound =
+    record {
+      sound = sound;
+      takes = ([], refl);
+      gone = λ slot lt. absurd (omega arith);
+      left = λ slot le. refl;
+      none = λ e. (refl, λ slot lt. absurd (omega arith));
+      some = λ e. absurd (cc);
+      same = (refl, refl);
+      calls = (refl, refl);
+      order = (refl, refl);
+      unanswered = refl;
+      waiting = refl;
+    }
+
+-- the slots when one is taken out
+states-taken : (s : State) (slot : ℕ) (device : Device) (fs : Frames) → TakesOut s.frames slot device fs → states_of fs.slots ≡ put (states_of s.frames.slots) slot (slots.state_of device)
+states-taken s slot device fs takes = ap (λ (x : Shard). x.slot) (takes.2 (rest_of s))
+
+put-here : {A : Type 0} (f : ℕ → A) (k : ℕ) (v : A) → put f k v k ≡ v
+put-here f k v = ap (λ b. cond b v (f k)) (eq-eqb k k refl)
+
+put-there : {A : Type 0} (f : ℕ → A) (k q : ℕ) (v : A) → q ≢ k → put f k v q ≡ f q
+put-there f k q v ne = ap (λ b. cond b v (f q)) (ne_eqb q k ne)
+
+abbrev with_frames : State → Frames → State
+with_frames s fs = record s { frames = fs }
+
+module _ (s : State) (slot : ℕ) (device : Device) (fs : Frames) (takes : TakesOut s.frames slot device fs) (requests : held_requests fs ≡ held_requests s.frames) where
+  requests-taken : requests_of (with_frames s fs) ≡ requests_of s
+  requests-taken =
+      let failed : fs.saw_failed ≡ s.frames.saw_failed = ap (λ (x : Shard). x.saw_failed) (takes.2 (rest_of s)) in
+      λ i. map waiting_request s.waiting.items ++ (requests i ++ (map (finished_request (failed i)) s.finished.items ++ map released_request s.released.items))
+
+  state-taken : state_of (with_frames s fs) ≡ taken_out (layout_in s) (state_of s) slot (slots.state_of device)
+  state-taken = (λ i. shard_with (record (rest_of s) { request = table (requests-taken i) }) fs) ∙ takes.2 (rest_of s)
+
+-- a slot went out, while no call is to be made
+sound_taken : (s : State) (slot : ℕ) (device : Device) (fs : Frames) → IsSound s → AllTold s → TakesOut s.frames slot device fs → held.IsSound fs
+    → next_of fs.commands ≡ next_of s.frames.commands → owed fs ≡ owed s.frames → held_requests fs ≡ held_requests s.frames → IsSound (with_frames s fs)
+sound_taken s slot device fs sound told takes is next owes requests =
+    let same = requests-taken s slot device fs takes requests in
+    let no_calls = ap length told.0 in
+    let no_untold = ap count_untold told.1 in
+    let bounds : bound (with_frames s fs) ≡ bound s = λ i. next i + owes i + 2 * (takes.0 i).slots * length s.waiting.items in
+    record {
+      frames = is;
+      requests = record {
+        distinct = subst (λ es. IsDistinct nat_eq (keys_of es)) (sym same) sound.requests.distinct;
+        numbered = subst (λ es. AllByRecursion (λ id. id < s.accepted) (keys_of es)) (sym same) sound.requests.numbered;
+        counted = ap length same ∙ sound.requests.counted;
+        few = sound.requests.few;
+        waiting = requests_kept s.frames fs s.waiting.items takes.0 takes.1 sound.requests.waiting;
+      };
+      room = record {
+        waiting = sound.room.waiting;
+        finished = sound.room.finished;
+        released = sound.room.released;
+        calls = sound.room.calls;
+        few_calls = omega (arith, no_calls, no_untold);
+      };
+      tokens = subst (λ n. n ≤ limit + 2 * 32 * most_unanswered) (sym bounds) sound.tokens;
+      accepted = sound.accepted;
+    }
+
+through_in : (g g' : Shape) (n n' : ℕ) (Kind : Change → Type 0) (old new : Shard) → g' ≡ g → n' ≡ n → Through (layout_of g') n' Kind old new → Through (layout_of g) n Kind old new
+through_in g g' n n' Kind old new same_shape same_shard t =
+    subst (λ m. Through (layout_of g) m Kind old new) same_shard (subst (λ x. Through (layout_of x) n' Kind old new) same_shape t)
+
+-- one more slot was looked at, and went out
+pub adopting_out : (s mid : State) (seen : Snapshot) (slot : ℕ) (went_out : Bool) (device : Device) (fs : Frames) → AllTold s → IsAdopting s mid seen slot went_out
+    → slot < mid.frames.geometry.slots → differs (states_of mid.frames.slots slot) (status_of seen slot) ≡ true
+    → slots.state_of device ≡ adopted (states_of mid.frames.slots slot) (status_of seen slot)
+    → TakesOut mid.frames slot device fs → held.IsSound fs → next_of fs.commands ≡ next_of mid.frames.commands → owed fs ≡ owed mid.frames → held_requests fs ≡ held_requests mid.frames
+    → IsAdopting s (with_frames mid fs) seen (slot + 1) true
+adopting_out s mid seen slot went_out device fs told is lt other becomes takes sound next owes requests =
+    let status = status_of seen slot in
+    let here = is.left slot (omega arith) in
+    let states = states-taken mid slot device fs takes in
+    let still : AllTold mid = (ap (λ b. b.items) is.calls.0 ∙ told.0, is.calls.1 ∙ told.1) in
+    let becomes_after : state_of (with_frames mid fs) ≡ after (layout_in mid) (state_of mid) (Adopt slot status) =
+    state-taken mid slot device fs takes requests ∙ ap (taken_out (layout_in mid) (state_of mid) slot) becomes in
+    let one = through_one (layout_in mid) mid.frames.shard (TakesOver seen) (state_of mid) (state_of (with_frames mid fs)) (Adopt slot status) refl (lt, other) becomes_after in
+    let moved = through_in s.frames.geometry mid.frames.geometry s.frames.shard mid.frames.shard (TakesOver seen) (state_of mid) (state_of (with_frames mid fs)) is.same.0 is.same.1 one in
+    record {
+      sound = sound_taken mid slot device fs is.sound still takes sound next owes requests;
+      takes = through_both (layout_in s) s.frames.shard (TakesOver seen) (state_of s) (state_of mid) (state_of (with_frames mid fs)) is.takes moved;
+      gone = λ q below. elim (cases_lt q slot) [
+        | inl lower ↦ ap (λ f. f q) states ∙ put-there (states_of mid.frames.slots) slot q (slots.state_of device) (λ e. absurd (omega arith)) ∙ is.gone q lower
+        | inr higher ↦
+            let same : slot ≡ q = omega arith in
+            let at : states_of fs.slots slot ≡ adopted (states_of s.frames.slots slot) status =
+            ap (λ f. f slot) states ∙ put-here (states_of mid.frames.slots) slot (slots.state_of device) ∙ becomes ∙ ap (λ state. adopted state status) here in
+            subst (λ k. states_of fs.slots k ≡ adopted (states_of s.frames.slots k) (status_of seen k)) same at
+      ];
+      left = λ q above. ap (λ f. f q) states ∙ put-there (states_of mid.frames.slots) slot q (slots.state_of device) (λ e. absurd (omega arith)) ∙ is.left q (omega arith);
+      none = λ e. absurd (cc);
+      some = λ e. (slot, sym (ap (λ state. differs state status) here) ∙ other);
+      same = (takes.0 ∙ is.same.0, takes.1 ∙ is.same.1);
+      calls = is.calls;
+      order = is.order;
+      unanswered = is.unanswered;
+      waiting = is.waiting;
+    }
+
+-- one more slot was looked at, and stays
+pub adopting_stay : (s mid : State) (seen : Snapshot) (slot : ℕ) (went_out : Bool) → IsAdopting s mid seen slot went_out
+    → differs (states_of mid.frames.slots slot) (status_of seen slot) ≡ false
+    → adopted (states_of mid.frames.slots slot) (status_of seen slot) ≡ states_of mid.frames.slots slot
+    → IsAdopting s mid seen (slot + 1) went_out
+adopting_stay s mid seen slot went_out is agrees stays =
+    let status = status_of seen slot in
+    let here = is.left slot (omega arith) in
+    record {
+      sound = is.sound;
+      takes = is.takes;
+      gone = λ q below. elim (cases_lt q slot) [
+        | inl lower ↦ is.gone q lower
+        | inr higher ↦
+            let same : slot ≡ q = omega arith in
+            subst (λ k. states_of mid.frames.slots k ≡ adopted (states_of s.frames.slots k) (status_of seen k)) same (sym stays ∙ ap (λ state. adopted state status) here)
+      ];
+      left = λ q above. is.left q (omega arith);
+      none = λ e. let was = is.none e in (
+        was.0,
+        λ q below. elim (cases_lt q slot) [
+          | inl lower ↦ was.1 q lower
+          | inr higher ↦
+              let same : slot ≡ q = omega arith in
+              subst (λ k. differs (states_of s.frames.slots k) (status_of seen k) ≡ false) same (sym (ap (λ state. differs state status) here) ∙ agrees)
+        ],
+      );
+      some = is.some;
+      same = is.same;
+      calls = is.calls;
+      order = is.order;
+      unanswered = is.unanswered;
+      waiting = is.waiting;
+    }
+
+-- when all were looked at
+module _ (s new : State) (seen : Snapshot) (count : ℕ) (went_out : Bool) (is : IsAdopting s new seen count went_out) (past : s.frames.geometry.slots ≤ count) (array : IsOfArray s seen) where
+  pub adopted_all : (slot : ℕ) → states_of new.frames.slots slot ≡ adopted (states_of s.frames.slots slot) (status_of seen slot)
+  adopted_all slot = elim (cases_lt slot count) [
+    | inl lower ↦ is.gone slot lower
+    | inr higher ↦ is.left slot higher ∙ sym (ap (adopted (states_of s.frames.slots slot)) (array slot (omega arith)) ∙ adopted-in_sync (states_of s.frames.slots slot))
+  ]
+
+  pub adopted_none : went_out ≡ false → (new ≡ s) × Agrees s seen
+  adopted_none none = (
+    (is.none none).0,
+    λ slot. elim (cases_lt slot count) [
+      | inl lower ↦ (is.none none).1 slot lower
+      | inr higher ↦ ap (differs (states_of s.frames.slots slot)) (array slot (omega arith)) ∙ differs-in_sync (states_of s.frames.slots slot)
+    ],
+  )
+
+pub adopted_some : (s new : State) (seen : Snapshot) (count : ℕ) (went_out : Bool) → IsAdopting s new seen count went_out → went_out ≡ true → Agrees s seen → ⊥
+adopted_some s new seen count went_out is some agrees = let there = is.some some in let same = agrees there.0 in let other = there.1 in absurd (cc)

@@ -1,0 +1,96 @@
+-- A command is answered: its hold goes on, and may end.
+use Rattle.std.proofs.Common.{◌≡◌, ℕ, ◌+◌, ◌≤◌, List, refl, sym, ap, subst, ◌∙◌, Some, None, inl, inr, arith}
+use Rattle.std.proofs.lemmas.Bool.{cases_eq, cases_lt}
+use Rattle.r6_tables.specs.Table.{next_of}
+use Rattle.r6_world.specs.ShardStates.{Shard}
+use Rattle.r6_world.specs.Changes.{Change, after, Allowed}
+use Rattle.r6_world.specs.Steps.{Completion, Receipt, GoesOn, Through, Takes, Good, Taken}
+use Rattle.r6_frames.specs.declared.frames.Frames.{Frames}
+use Rattle.r6_frames.specs.Frames.{row_in, hold_at, held_requests, owed, outstanding, AreLive, Answers, Drives, IsAwaited, IsDriven, IsOver, KeepsOthers}
+use Rattle.r6_frames.specs.Sound as held
+use Rattle.r6_core.specs.declared.state.State.{State}
+use Rattle.r6_core.specs.States.{IsSound, IsCore, IsRestedFrame, state_of, rest_of, layout_in}
+use Rattle.r6_core.proofs.Throughs.{through_both}
+use Rattle.r6_core.proofs.Going.{Goes, SlotsStay, goes_still, answers_still, gone_state, gone_sound, through_in}
+use Rattle.r6_core.proofs.SlotsKept.{out_same}
+use Rattle.r6_core.proofs.Settling.{driven_goes, driven_leads}
+
+-- the completion of a command, with what holds do behind it
+abbrev pub TakesThrough : State → (token : ℕ) → Completion → Receipt → State → Type 0
+TakesThrough s token completion receipt new =
+    (change : Change) × Takes token completion receipt change × Allowed (layout_in s) s.frames.shard (state_of s) change
+    × Through (layout_in s) s.frames.shard GoesOn (after (layout_in s) (state_of s) change) (state_of new)
+
+-- whether a command is awaited can be told
+pub awaited : (fs : Frames) (token : ℕ) → ((IsAwaited fs token → ⊥) → ⊥) → IsAwaited fs token
+awaited fs token there =
+    elim (outstanding fs token) as (λ o. outstanding fs token ≡ o → IsAwaited fs token) [
+      | None ↦ λ e. absurd (there (λ is. let some = is.1 in absurd (cc)))
+      | Some c ↦ λ e. elim (cases_lt token fs.handed) [
+        | inl lt ↦ (c, e, lt)
+        | inr ge ↦ absurd (there (λ is. let lt = is.2 in omega arith))
+      ]
+    ] refl
+
+-- and whether two numbers are equal
+pub equal_unless : (a b : ℕ) → ((a ≡ b → ⊥) → ⊥) → a ≡ b
+equal_unless a b there = elim (cases_eq a b) [ inl e ↦ e | inr ne ↦ absurd (there ne) ]
+
+-- a frame that has what it had
+pub rested_kept : (old new : Frames) (frame : ℕ) → hold_at new.held.items frame ≡ hold_at old.held.items frame → IsDriven old frame × (IsOver old frame → ⊥) → IsDriven new frame × (IsOver new frame → ⊥)
+rested_kept old new frame same rested = (λ h is. rested.0 h (sym same ∙ is), λ over. rested.1 (over.0, sym same ∙ over.1, over.2))
+
+pub live_still : (old new : Frames) → new.geometry ≡ old.geometry → SlotsStay old new → AreLive new → AreLive old
+live_still old new geometry slots live =
+    let out = out_same old new slots.0 geometry in
+    (omega (arith, out, live.0), sym slots.1 ∙ live.1)
+
+pub answered_goes : (s : State) (fs : Frames) (token : ℕ) (block : List ℕ) → IsSound s → held.IsSound fs → Answers s.frames token block fs → held_requests fs ≡ held_requests s.frames
+    → (owed fs ≡ owed s.frames) × (next_of fs.commands ≡ next_of s.frames.commands) → Goes s fs s.calls
+answered_goes s fs token block sound frames answers requests tokens =
+    goes_still s fs sound frames answers.0 answers.1 (answers_still s.frames fs token block answers) requests (let a = tokens.0 in let b = tokens.1 in omega (arith, a, b))
+
+-- the command is answered, and its hold puts out what comes next
+module _ (s : State) (token : ℕ) (block : List ℕ) (middle driven : Frames) (core : IsCore s) (sound : held.IsSound middle) (live : AreLive middle) (answers : Answers s.frames token block middle)
+    (requests : held_requests middle ≡ held_requests s.frames) (tokens : (owed middle ≡ owed s.frames) × (next_of middle.commands ≡ next_of s.frames.commands))
+    (driven_sound : held.IsSound driven) (driven_live : AreLive driven) (drives : Drives middle driven) (driven_requests : held_requests driven ≡ held_requests middle)
+    (driven_tokens : next_of driven.commands + owed driven ≤ next_of middle.commands + owed middle) where
+  abbrev answered_state : State
+  answered_state = record s { frames = middle }
+
+  abbrev driven_state : State
+  driven_state = record s { frames = driven }
+
+  first_goes : Goes s middle s.calls
+  first_goes = answered_goes s middle token block core.sound sound answers requests tokens
+
+  answered_sound : IsSound answered_state
+  answered_sound = gone_sound s middle s.calls core.sound first_goes
+
+  second_goes : Goes answered_state driven s.calls
+  second_goes = driven_goes answered_state driven answered_sound live driven_sound driven_live drives driven_requests driven_tokens
+
+  pub driven_on : IsSound driven_state
+  driven_on = gone_sound answered_state driven s.calls answered_sound second_goes
+
+  pub answered_takes : (new : State) → Through (layout_in driven_state) driven.shard GoesOn (state_of driven_state) (state_of new) → TakesThrough s token (Good block) Taken new
+  answered_takes new ends =
+      let took = answers.2 (rest_of s) in
+      let first = through_in s.frames.geometry middle.geometry s.frames.shard middle.shard GoesOn (state_of answered_state) (state_of driven_state) answers.0 answers.1
+      (driven_leads answered_state driven second_goes drives) in
+      let second = through_in s.frames.geometry driven.geometry s.frames.shard driven.shard GoesOn (state_of driven_state) (state_of new) (drives.0 ∙ answers.0) (drives.1 ∙ answers.1) ends in
+      let both = through_both (layout_in s) s.frames.shard GoesOn (state_of answered_state) (state_of driven_state) (state_of new) first second in
+      (took.0, took.1, took.2, subst (λ (x : Shard). Through (layout_in s) s.frames.shard GoesOn x (state_of new)) (gone_state s middle s.calls first_goes ∙ took.3) both)
+
+  pub answered_core : (new : State) (frame : ℕ) → KeepsOthers s.frames frame middle → KeepsOthers middle frame driven → KeepsOthers driven frame new.frames
+      → IsSound new → IsRestedFrame new frame → IsCore new
+  answered_core new frame kept still others new_sound rests =
+      record {
+        sound = new_sound;
+        rested = λ _ at. elim (cases_eq at frame) [
+          | inl e ↦ subst (IsRestedFrame new) (sym e) rests
+          | inr ne ↦
+              rested_kept s.frames new.frames at (ap row_in (others at ne ∙ still at ne ∙ kept at ne))
+              (core.rested (live_still s.frames middle answers.0 (answers_still s.frames middle token block answers) live) at)
+        ];
+      }

@@ -1,0 +1,114 @@
+-- A completion is taken, or comes late; with what starts behind it, it is one step of the shard.
+use Rattle.std.proofs.Common.{◌≡◌, ℕ, true, List, [], refl, sym, ap, subst, ◌∙◌, Option, Some, None, Result, Ok, Err, IfOk, arith, append-nil}
+use Rattle.std.specs.Prelude.{option_map}
+use Rattle.circular_buffer.specs.Buffer.{Buffer}
+use Rattle.r6_layout.specs.Shape.{Shape}
+use Rattle.r6_stripe.specs.Plans.{Planned, next}
+use Rattle.r6_stripe.specs.Steps.{has_outcome}
+use Rattle.r6_tables.specs.Table.{next_of}
+use Rattle.r6_world.specs.Geometries.{layout_of}
+use Rattle.r6_world.specs.ShardStates as shards
+use Rattle.r6_world.specs.ShardStates.{Shard}
+use Rattle.r6_world.specs.Changes.{Come_home, after}
+use Rattle.r6_world.specs.Steps.{AtRest, Completion, Deliver, GoesOn, Late, Scans, Takes, Through}
+use Rattle.r6_world.specs.Steps as steps
+use Rattle.r6_frames.specs.declared.op.Request.{Request}
+use Rattle.r6_frames.specs.declared.frames.Frames.{Frames}
+use Rattle.r6_frames.specs.declared.frames.HeldRow.{HeldRow}
+use Rattle.r6_frames.specs.Frames.{hold_at, held_requests, owed, plan_in, ComesHome, IsDriven, IsOver, KeepsHeld, KeepsOthers}
+use Rattle.r6_frames.specs.Sound as held
+use Rattle.r6_core.specs.declared.refusal.DeviceFault.{DeviceFault}
+use Rattle.r6_core.specs.declared.state.State.{State}
+use Rattle.r6_core.specs.States.{IsCore, FinishesBy, HaveTurns, HaveTurnsBehind, SameFrames, SameReplies, Step, completion_of, state_of, rest_of, layout_in}
+use Rattle.r6_core.proofs.Throughs.{through_none}
+use Rattle.r6_core.proofs.Going.{no_rest, Goes, SlotsStay, goes_still, gone_state, gone_sound, through_in}
+use Rattle.r6_core.proofs.Answering.{TakesThrough, live_still}
+
+-- ---- a completion that comes late
+
+-- a row that is held still was held, with the same plan
+planned_before : (old new : Option HeldRow) (h : HeldRow) → option_map plan_in new ≡ option_map plan_in old → new ≡ Some h
+    → (x : HeldRow) × (old ≡ Some x) × (h.hold.planned ≡ x.hold.planned)
+planned_before None new h same is = absurd (let none : Some (plan_in h) ≡ None = ap (option_map plan_in) (sym is) ∙ same in cc)
+planned_before (Some x) new h same is =
+    let plans : Some (plan_in h) ≡ Some (plan_in x) = ap (option_map plan_in) (sym is) ∙ same in
+    let one : plan_in h ≡ plan_in x = cc in
+    (x, refl, ap (λ (plan : (ℕ × ℕ) × Planned). plan.1) one)
+
+rested_still : (old new : Frames) (frame : ℕ) → KeepsHeld old new → IsDriven old frame × (IsOver old frame → ⊥) → IsDriven new frame × (IsOver new frame → ⊥)
+rested_still old new frame keeps rested = (
+  λ h is. let before = planned_before (hold_at old.held.items frame) (hold_at new.held.items frame) h (keeps frame) is in ap next before.2 ∙ rested.0 before.0 before.1,
+  λ over.
+      let before = planned_before (hold_at old.held.items frame) (hold_at new.held.items frame) over.0 (keeps frame) over.1 in
+      rested.1 (before.0, before.1, ap has_outcome (sym before.2) ∙ over.2),
+)
+
+comes_still : (old new : Frames) (token : ℕ) → ComesHome old token new → SlotsStay old new
+comes_still old new token comes = let is = (comes.2 no_rest).3 in (ap (λ (x : Shard). x.slot) is, ap (λ (x : Shard). x.saw_failed) is)
+
+module _ (s : State) (token : ℕ) (fs : Frames) (core : IsCore s) (sound : held.IsSound fs) (comes : ComesHome s.frames token fs)
+    (tokens : (owed fs ≡ owed s.frames) × (next_of fs.commands ≡ next_of s.frames.commands)) (requests : held_requests fs ≡ held_requests s.frames) where
+  late_goes : Goes s fs s.calls
+  late_goes =
+      goes_still s fs core.sound sound comes.0 comes.1 (comes_still s.frames fs token comes) requests (let a = tokens.0 in let b = tokens.1 in omega (arith, a, b))
+
+  pub late_core : KeepsHeld s.frames fs → IsCore (record s { frames = fs })
+  late_core keeps =
+      record {
+        sound = gone_sound s fs s.calls core.sound late_goes;
+        rested = λ live frame. rested_still s.frames fs frame keeps (core.rested (live_still s.frames fs comes.0 (comes_still s.frames fs token comes) live) frame);
+      }
+
+  pub late_takes : (completion : Result (List ℕ) DeviceFault) → TakesThrough s token (completion_of completion) Late (record s { frames = fs })
+  late_takes completion =
+      let home = comes.2 (rest_of s) in
+      let change = Come_home token home.0 in (
+        change,
+        takes home.0 home.1 completion,
+        home.2,
+        through_none (layout_in s) s.frames.shard GoesOn (after (layout_in s) (state_of s) change) (state_of (record s { frames = fs })) (gone_state s fs s.calls late_goes ∙ home.3),
+      )
+    where
+      takes : (c : shards.Command) → c.taken ≡ true → (completion : Result (List ℕ) DeviceFault) → Takes token (completion_of completion) Late (Come_home token c)
+      takes c taken (Ok buffer) = (refl, taken)
+      takes c taken (Err fault) = (refl, taken)
+
+-- nothing is finished
+pub finishes_none : (completion : Result (List ℕ) DeviceFault) (s : State) (fs : Frames) → FinishesBy completion s (record s { frames = fs })
+finishes_none (Ok buffer) s fs = ([], omega arith, sym (append-nil s.finished.items), refl)
+finishes_none (Err fault) s fs = ([], tt, sym (append-nil s.finished.items), refl)
+
+pub if_ok_all : (completion : Result (List ℕ) DeviceFault) (P : Type 0) → P → IfOk completion (λ _. P)
+if_ok_all (Ok buffer) P p = p
+if_ok_all (Err fault) P p = tt
+
+-- ---- the whole call
+
+pub delivered : (s mid new : State) (token : ℕ) (completion : Completion) (receipt : steps.Receipt) → TakesThrough s token completion receipt mid → SameFrames s mid
+    → Through (layout_in mid) mid.frames.shard Scans (state_of mid) (state_of new) → SameFrames mid new → AtRest (layout_in new) new.frames.shard (state_of new)
+    → Step s (Deliver token completion receipt) new
+delivered s mid new token completion receipt took same leads still rest =
+    let geometry = still.0 ∙ same.0 in
+    let shard = still.1 ∙ same.1 in
+    let rests = subst (λ (g : Shape). AtRest (layout_of g) s.frames.shard (state_of new)) geometry (subst (λ (n : ℕ). AtRest (layout_in new) n (state_of new)) shard rest) in (
+      (geometry, shard),
+      (
+        took.0,
+        took.1,
+        took.2,
+        state_of mid,
+        took.3,
+        through_in s.frames.geometry mid.frames.geometry s.frames.shard mid.frames.shard Scans (state_of mid) (state_of new) same.0 same.1 leads,
+        rests,
+      ),
+    )
+
+pub finishes_on : (completion : Result (List ℕ) DeviceFault) (s mid new : State) → FinishesBy completion s mid → SameReplies mid new → FinishesBy completion s new
+finishes_on (Ok buffer) s mid new order same = (order.0, order.1, ap (λ (b : Buffer Request). b.items) same.0 ∙ order.2, same.1 ∙ order.3)
+finishes_on (Err fault) s mid new order same = (order.0, order.1, ap (λ (b : Buffer Request). b.items) same.0 ∙ order.2, same.1 ∙ order.3)
+
+pub turns_behind : (completion : Result (List ℕ) DeviceFault) (s mid new : State) → IfOk completion (λ _. (frame : ℕ) × KeepsOthers s.frames frame mid.frames) → mid.waiting ≡ s.waiting
+    → HaveTurns mid.frames mid.waiting.items new → HaveTurnsBehind completion s new
+turns_behind (Ok buffer) s mid new others waiting turns =
+    (others.0, mid.frames, others.1, subst (λ (b : Buffer Request). HaveTurns mid.frames b.items new) waiting turns)
+turns_behind (Err fault) s mid new others waiting turns = (mid.frames, subst (λ (b : Buffer Request). HaveTurns mid.frames b.items new) waiting turns)

@@ -1,0 +1,140 @@
+-- The frames go on, for the same requests.
+use Rattle.std.proofs.Common.{◌≡◌, ℕ, Bool, ◌+◌, ◌*◌, ◌<◌, ◌≤◌, List, [], ◌++◌, map, length, refl, ap, sym, subst, ◌∙◌, None, arith}
+use Rattle.std.specs.Prelude.{nat_eq}
+use Rattle.std.specs.List.{IsDistinct, AllByRecursion}
+use Rattle.std.specs.Map.{keys_of}
+use Rattle.circular_buffer.specs.Buffer.{Buffer}
+use Rattle.r6_layout.specs.Shape.{Shape}
+use Rattle.r6_tables.specs.Table.{next_of}
+use Rattle.r6_world.specs.Layouts.{Layout}
+use Rattle.r6_world.specs.Geometries.{layout_of}
+use Rattle.r6_world.specs.ShardStates.{Shard}
+use Rattle.r6_world.specs.Changes.{Change, Ask, Prepare, Send, Learn, Confirm, after}
+use Rattle.r6_world.specs.Steps.{GoesOn, Through, Takes, Good, Taken}
+use Rattle.r6_frames.specs.declared.frames.Frames.{Frames}
+use Rattle.r6_frames.specs.Slots.{states_of, count_out}
+use Rattle.r6_frames.specs.Frames.{Rest, AreLive, Between, PutsOut, Drives, Answers, held_requests, owed, shard_with}
+use Rattle.r6_frames.specs.Sound as held
+use Rattle.r6_core.specs.declared.call.Call.{Call}
+use Rattle.r6_core.specs.declared.state.State.{State}
+use Rattle.r6_core.specs.States.{IsSound, count_untold, state_of, layout_in, rest_of, requests_of, call_of, waiting_request, finished_request, released_request, table}
+use Rattle.r6_core.proofs.Kept.{requests_kept}
+use Rattle.r6_core.proofs.SlotsKept.{drives_keep, out_same}
+
+-- ---- lists of changes of another shape
+
+pub through_in : (g g' : Shape) (n n' : ℕ) (Kind : Change → Type 0) (old new : Shard) → g' ≡ g → n' ≡ n → Through (layout_of g') n' Kind old new → Through (layout_of g) n Kind old new
+through_in g g' n n' Kind old new same_shape same_shard t =
+    subst (λ m. Through (layout_of g) m Kind old new) same_shard (subst (λ x. Through (layout_of x) n' Kind old new) same_shape t)
+
+pub puts_out_on : (change : Change) → PutsOut change → GoesOn change
+puts_out_on (Ask frame h slot generation) is = record {}
+puts_out_on (Prepare frame h event) is = record {}
+puts_out_on (Send frame h slot generation block) is = record {}
+puts_out_on change is = absurd is
+
+-- ---- the slots stay as they are
+
+abbrev pub KeepsSlots : Shard → Shard → Type 0
+KeepsSlots old new = (new.slot ≡ old.slot) × (new.saw_failed ≡ old.saw_failed)
+
+pub answer_kept : (l : Layout) (s : Shard) (token : ℕ) (block : List ℕ) (change : Change) → Takes token (Good block) Taken change → KeepsSlots s (after l s change)
+answer_kept l s token block (Learn t c h learned) is = (refl, refl)
+answer_kept l s token block (Confirm t c h) is = (refl, refl)
+answer_kept l s token block change is = absurd is
+
+-- ---- the state when its frames go on
+
+-- the frames go on for the same requests, and more calls may be to be made
+pub record Goes (s : State) (fs : Frames) (calls : Buffer Call) : Type 0 where
+  pub sound : held.IsSound fs
+  pub geometry : fs.geometry ≡ s.frames.geometry
+  pub shard : fs.shard ≡ s.frames.shard
+  pub seen : fs.saw_failed ≡ s.frames.saw_failed
+  pub requests : held_requests fs ≡ held_requests s.frames
+  pub tokens : next_of fs.commands + owed fs ≤ next_of s.frames.commands + owed s.frames
+  pub room : calls.capacity ≡ s.calls.capacity
+  pub few : length calls.items + count_untold s.untold ≤ count_out fs.slots s.frames.geometry.slots
+
+abbrev pub gone_on : State → Frames → Buffer Call → State
+gone_on s fs calls = record s { frames = fs; calls = calls }
+
+pub gone_requests : (s : State) (fs : Frames) (calls : Buffer Call) → Goes s fs calls → requests_of (gone_on s fs calls) ≡ requests_of s
+gone_requests s fs calls goes =
+    let w = map waiting_request s.waiting.items in
+    let d = map released_request s.released.items in
+    ap (λ es. w ++ (es ++ (map (finished_request fs.saw_failed) s.finished.items ++ d))) goes.requests
+    ∙ ap (λ (b : Bool). w ++ (held_requests s.frames ++ (map (finished_request b) s.finished.items ++ d))) goes.seen
+
+-- what the shard has beside its frames, with these calls
+abbrev pub rest_with : State → Buffer Call → Rest
+rest_with s calls = record (rest_of s) { calls = map call_of calls.items }
+
+pub gone_state : (s : State) (fs : Frames) (calls : Buffer Call) → Goes s fs calls → state_of (gone_on s fs calls) ≡ shard_with (rest_with s calls) fs
+gone_state s fs calls goes = ap (λ es. shard_with (record (rest_with s calls) { request = table es }) fs) (gone_requests s fs calls goes)
+
+-- what is between the frames is between the states
+pub between_states : (Leads : Layout → ℕ → Shard → Shard → Type 0) (s : State) (fs : Frames) → Goes s fs s.calls → Between Leads s.frames fs
+    → Leads (layout_in s) s.frames.shard (state_of s) (state_of (gone_on s fs s.calls))
+between_states Leads s fs goes between =
+    subst (λ (x : Shard). Leads (layout_in s) s.frames.shard (state_of s) x) (sym (gone_state s fs s.calls goes)) (between.2 (rest_of s))
+
+pub gone_sound : (s : State) (fs : Frames) (calls : Buffer Call) → IsSound s → Goes s fs calls → IsSound (gone_on s fs calls)
+gone_sound s fs calls sound goes =
+    let same = gone_requests s fs calls goes in
+    record {
+      frames = goes.sound;
+      requests = record {
+        distinct = subst (λ es. IsDistinct nat_eq (keys_of es)) (sym same) sound.requests.distinct;
+        numbered = subst (λ es. AllByRecursion (λ id. id < s.accepted) (keys_of es)) (sym same) sound.requests.numbered;
+        counted = ap length same ∙ sound.requests.counted;
+        few = sound.requests.few;
+        waiting = requests_kept s.frames fs s.waiting.items goes.geometry goes.shard sound.requests.waiting;
+      };
+      room = record {
+        waiting = sound.room.waiting;
+        finished = sound.room.finished;
+        released = sound.room.released;
+        calls = goes.room ∙ sound.room.calls;
+        few_calls = subst (λ (g : Shape). length calls.items + count_untold s.untold ≤ count_out fs.slots g.slots) (sym goes.geometry) goes.few;
+      };
+      tokens = let slots = ap (λ (g : Shape). 2 * g.slots * length s.waiting.items) goes.geometry in omega (arith, slots, goes.tokens, sound.tokens);
+      accepted = sound.accepted;
+    }
+
+-- ---- frames whose slots stay as they are
+
+-- a shard with nothing beside its frames
+abbrev pub no_rest : Rest
+no_rest = record { accepted = 0; request = λ id. None; calls = []; untold = None }
+
+abbrev pub SlotsStay : Frames → Frames → Type 0
+SlotsStay old new = (states_of new.slots ≡ states_of old.slots) × (new.saw_failed ≡ old.saw_failed)
+
+pub goes_still : (s : State) (fs : Frames) → IsSound s → held.IsSound fs → fs.geometry ≡ s.frames.geometry → fs.shard ≡ s.frames.shard → SlotsStay s.frames fs
+    → held_requests fs ≡ held_requests s.frames → next_of fs.commands + owed fs ≤ next_of s.frames.commands + owed s.frames → Goes s fs s.calls
+goes_still s fs sound frames geometry shard slots requests tokens =
+    record {
+      sound = frames;
+      geometry = geometry;
+      shard = shard;
+      seen = slots.1;
+      requests = requests;
+      tokens = tokens;
+      room = refl;
+      few =
+          let out = out_same s.frames fs slots.0 geometry in
+          let wide = ap (λ (g : Shape). count_out fs.slots g.slots) geometry in
+          omega (arith, out, wide, sound.room.few_calls);
+    }
+
+pub drives_still : (old new : Frames) → AreLive old → AreLive new → Drives old new → SlotsStay old new
+drives_still old new live still drives = (drives_keep no_rest old new drives, still.1 ∙ sym live.1)
+
+pub answers_still : (old new : Frames) (token : ℕ) (block : List ℕ) → Answers old token block new → SlotsStay old new
+answers_still old new token block answers =
+    let took = answers.2 no_rest in
+    let s = shard_with no_rest old in
+    let l = layout_of old.geometry in
+    let kept = answer_kept l s token block took.0 took.1 in
+    (ap (λ (x : Shard). x.slot) took.3 ∙ kept.0, ap (λ (x : Shard). x.saw_failed) took.3 ∙ kept.1)

@@ -1,0 +1,196 @@
+-- A look at the register is one step of the shard.
+use Rattle.std.proofs.Common.{◌≡◌, ℕ, true, false, List, [], ◌∷◌, ◌++◌, map, refl, sym, ap, subst, ◌∙◌, inr, append-nil}
+use Rattle.std.specs.Prelude.{option_map}
+use Rattle.r6_layout.specs.Shape.{Shape}
+use Rattle.r6_world.specs.Layouts.{Layout}
+use Rattle.r6_world.specs.Geometries.{layout_of}
+use Rattle.r6_world.specs.Registers.{Snapshot, status_of}
+use Rattle.r6_world.specs.ShardStates.{Shard}
+use Rattle.r6_world.specs.Changes.{Change, Ask, Prepare, Classify, Send, Finish, Bring_in, Adopt, Release, See_failed, adopted, after}
+use Rattle.r6_world.specs.Steps.{AtRest, Leads, Through, GoesOn, Scans, TakesOver, Looks, Look}
+use Rattle.r6_frames.specs.declared.op.Request.{Request}
+use Rattle.r6_frames.specs.declared.frames.Frames.{Frames}
+use Rattle.r6_frames.specs.Frames.{AreLive}
+use Rattle.r6_frames.specs.Slots.{states_of}
+use Rattle.r6_core.specs.declared.state.State.{State}
+use Rattle.r6_core.specs.States.{IsCore, Step, SameFrames, SameReplies, AllTold, Agrees, Finishes, IsRising, ReleasesAll, InTurn, HaveTurns, HaveTurnsAfter, NoneCanStart, layout_in, state_of, call_of}
+use Rattle.r6_core.proofs.AtRest.{at_rest}
+use Rattle.r6_core.proofs.Releasing.{released_nothing}
+use Rattle.r6_core.proofs.Throughs.{through_none}
+
+rest_in : (g g' : Shape) (n n' : ℕ) (s : Shard) → g' ≡ g → n' ≡ n → AtRest (layout_of g') n' s → AtRest (layout_of g) n s
+rest_in g g' n n' s same_shape same_shard rest = subst (λ m. AtRest (layout_of g) m s) same_shard (subst (λ x. AtRest (layout_of x) n' s) same_shape rest)
+
+through_in : (g g' : Shape) (n n' : ℕ) (Kind : Change → Type 0) (old new : Shard) → g' ≡ g → n' ≡ n → Through (layout_of g') n' Kind old new → Through (layout_of g) n Kind old new
+through_in g g' n n' Kind old new same_shape same_shard t =
+    subst (λ m. Through (layout_of g) m Kind old new) same_shard (subst (λ x. Through (layout_of x) n' Kind old new) same_shape t)
+
+-- ---- whether the failure was seen
+
+failed_after-goes_on : (l : Layout) (s : Shard) (change : Change) → GoesOn change → (after l s change).saw_failed ≡ s.saw_failed
+failed_after-goes_on l s (Ask f h slot generation) is = refl
+failed_after-goes_on l s (Prepare f h event) is = refl
+failed_after-goes_on l s (Classify f h class) is = refl
+failed_after-goes_on l s (Send f h slot generation block) is = refl
+failed_after-goes_on l s (Finish f h outcome) is = refl
+failed_after-goes_on l s (Bring_in slot generation) is = refl
+failed_after-goes_on l s change is = absurd is
+
+failed_after-takes_over : (seen : Snapshot) (l : Layout) (s : Shard) (change : Change) → TakesOver seen change → (after l s change).saw_failed ≡ s.saw_failed
+failed_after-takes_over seen l s (Adopt slot status) is = refl
+failed_after-takes_over seen l s change is = absurd is
+
+failed_led : (Kind : Change → Type 0) → ((l : Layout) (s : Shard) (change : Change) → Kind change → (after l s change).saw_failed ≡ s.saw_failed)
+    → (l : Layout) (n : ℕ) (old new : Shard) (changes : List Change) → Leads l n Kind old changes new → new.saw_failed ≡ old.saw_failed
+failed_led Kind keeps l n old new [] leads = ap (λ (s : Shard). s.saw_failed) leads
+failed_led Kind keeps l n old new (change ∷ changes) leads = failed_led Kind keeps l n (after l old change) new changes leads.2 ∙ keeps l old change leads.0
+
+pub failed_by-takes_over : (seen : Snapshot) (l : Layout) (n : ℕ) (old new : Shard) → Through l n (TakesOver seen) old new → new.saw_failed ≡ old.saw_failed
+failed_by-takes_over seen l n old new through = failed_led (TakesOver seen) (failed_after-takes_over seen) l n old new through.0 through.1
+
+pub failed_by-goes_on : (l : Layout) (n : ℕ) (old new : Shard) → Through l n GoesOn old new → new.saw_failed ≡ old.saw_failed
+failed_by-goes_on l n old new through = failed_led GoesOn failed_after-goes_on l n old new through.0 through.1
+
+-- a shard that has seen the failure is at rest
+rest_failed : (l : Layout) (n : ℕ) (s : Shard) → s.saw_failed ≡ true → AtRest l n s
+rest_failed l n s failed =
+    record {
+      goes_on = λ live. let not = live.1 in absurd (cc);
+      nothing_next = λ live. let not = live.1 in absurd (cc);
+      none_could_start = λ live. let not = live.1 in absurd (cc);
+      brought_in = λ live. let not = live.1 in absurd (cc);
+    }
+
+-- ---- the slots as the look has them
+
+pub record TookOver (s mid : State) (seen : Snapshot) : Type 0 where
+  pub told : AllTold s
+  pub takes : Through (layout_in s) s.frames.shard (TakesOver seen) (state_of s) (state_of mid)
+  pub slots : (slot : ℕ) → states_of mid.frames.slots slot ≡ adopted (states_of s.frames.slots slot) (status_of seen slot)
+  pub same : SameFrames s mid
+  pub order : SameReplies s mid
+  pub waiting : mid.waiting ≡ s.waiting
+
+step_from : (s mid new : State) (seen : Snapshot) → TookOver s mid seen → SameFrames s new → Looks (layout_in s) s.frames.shard seen.failed (state_of mid) (state_of new)
+    → AtRest (layout_in s) s.frames.shard (state_of new) → Step s (Look seen) new
+step_from s mid new seen took same looks rest =
+    (same, (ap (map call_of) took.told.0, ap (option_map call_of) took.told.1, state_of mid, took.takes, took.slots, looks, rest))
+
+-- the array has failed
+pub looked_failed : (s mid new : State) (seen : Snapshot) → TookOver s mid seen → seen.failed ≡ true → SameFrames mid new → state_of new ≡ after (layout_in mid) (state_of mid) See_failed
+    → Step s (Look seen) new
+looked_failed s mid new seen took failed same fails =
+    step_from s mid new seen took (same.0 ∙ took.same.0, same.1 ∙ took.same.1)
+    (subst (λ b. Looks (layout_in s) s.frames.shard b (state_of mid) (state_of new)) (sym failed) fails)
+    (rest_failed (layout_in s) s.frames.shard (state_of new) (ap (λ (x : Shard). x.saw_failed) fails))
+
+-- it has failed before
+pub looked_stopped : (s mid : State) (seen : Snapshot) → TookOver s mid seen → seen.failed ≡ false → mid.frames.saw_failed ≡ true → Step s (Look seen) mid
+looked_stopped s mid seen took unfailed failed =
+    let looks : Looks (layout_in s) s.frames.shard false (state_of mid) (state_of mid) =
+    (state_of mid, ([], refl), through_none (layout_in s) s.frames.shard Scans (after (layout_in s) (state_of mid) Release) (state_of mid) (released_nothing mid failed)) in
+    step_from s mid mid seen took took.same
+    (subst (λ b. Looks (layout_in s) s.frames.shard b (state_of mid) (state_of mid)) (sym unfailed) looks)
+    (rest_failed (layout_in s) s.frames.shard (state_of mid) failed)
+
+-- ---- holds went on, if a slot went out
+
+pub record HasSettled (s mid new : State) (seen : Snapshot) : Type 0 where
+  pub core : IsCore new
+  pub leads : Through (layout_in mid) mid.frames.shard GoesOn (state_of mid) (state_of new)
+  pub same : SameFrames mid new
+  pub more : List Request
+  pub rising : IsRising more
+  pub none : Agrees s seen → more ≡ []
+  pub finished : new.finished.items ≡ mid.finished.items ++ more
+  pub released : new.released ≡ mid.released
+  pub unanswered : new.unanswered ≡ mid.unanswered
+  pub waiting : new.waiting ≡ mid.waiting
+  pub frames : Agrees s seen → new.frames ≡ s.frames
+
+pub settled_some : (s mid new : State) (seen : Snapshot) → (Agrees s seen → ⊥) → IsCore new → Through (layout_in mid) mid.frames.shard GoesOn (state_of mid) (state_of new) → SameFrames mid new
+    → Finishes mid new → new.unanswered ≡ mid.unanswered → new.waiting ≡ mid.waiting → HasSettled s mid new seen
+settled_some s mid new seen other core leads same finishes unanswered waiting =
+    record {
+      core = core;
+      leads = leads;
+      same = same;
+      more = finishes.0;
+      rising = finishes.1;
+      none = λ agrees. absurd (other agrees);
+      finished = finishes.2;
+      released = finishes.3;
+      unanswered = unanswered;
+      waiting = waiting;
+      frames = λ agrees. absurd (other agrees);
+    }
+
+pub settled_none : (s mid : State) (seen : Snapshot) → mid ≡ s → IsCore s → HasSettled s mid mid seen
+settled_none s mid seen same core =
+    record {
+      core = subst IsCore (sym same) core;
+      leads = ([], refl);
+      same = (refl, refl);
+      more = [];
+      rising = tt;
+      none = λ agrees. refl;
+      finished = sym (append-nil mid.finished.items);
+      released = refl;
+      unanswered = refl;
+      waiting = refl;
+      frames = λ agrees. ap (λ (x : State). x.frames) same;
+    }
+
+-- what is finished was released, and what can start has started
+pub record HasReleased (mid settled released new : State) : Type 0 where
+  pub is : state_of released ≡ after (layout_in settled) (state_of settled) Release
+  pub frames : released.frames ≡ settled.frames
+  pub leads : Through (layout_in released) released.frames.shard Scans (state_of released) (state_of new)
+  pub same : SameFrames released new
+  pub core : IsCore new
+  pub rested : NoneCanStart new
+
+pub looked : (s mid settled released new : State) (seen : Snapshot) → TookOver s mid seen → seen.failed ≡ false → HasSettled s mid settled seen → HasReleased mid settled released new
+    → Step s (Look seen) new
+looked s mid settled released new seen took unfailed done has =
+    let shape = ap (λ (fs : Frames). fs.geometry) has.frames ∙ done.same.0 ∙ took.same.0 in
+    let shard = ap (λ (fs : Frames). fs.shard) has.frames ∙ done.same.1 ∙ took.same.1 in
+    let goes = through_in s.frames.geometry mid.frames.geometry s.frames.shard mid.frames.shard GoesOn (state_of mid) (state_of settled) took.same.0 took.same.1 done.leads in
+    let leads = through_in s.frames.geometry released.frames.geometry s.frames.shard released.frames.shard Scans (state_of released) (state_of new) shape shard has.leads in
+    let looks : Looks (layout_in s) s.frames.shard false (state_of mid) (state_of new) =
+    (state_of settled, goes, subst (λ x. Through (layout_in s) s.frames.shard Scans x (state_of new)) has.is leads) in
+    step_from s mid new seen took (has.same.0 ∙ shape, has.same.1 ∙ shard)
+    (subst (λ b. Looks (layout_in s) s.frames.shard b (state_of mid) (state_of new)) (sym unfailed) looks)
+    (rest_in s.frames.geometry new.frames.geometry s.frames.shard new.frames.shard (state_of new) (has.same.0 ∙ shape) (has.same.1 ∙ shard) (at_rest new has.core has.rested))
+
+pub looked_releases : (s mid settled released new : State) (seen : Snapshot) → SameReplies s mid → HasSettled s mid settled seen
+    → (released.released.items ≡ settled.released.items ++ settled.finished.items) × (released.finished.items ≡ []) → SameReplies released new → ReleasesAll s seen new
+looked_releases s mid settled released new seen same done order kept = (
+  done.more,
+  done.rising,
+  done.none,
+  ap (λ b. b.items) kept.1
+      ∙ order.0
+      ∙ (λ i. ((done.released ∙ same.1) i).items ++ (done.finished ∙ ap (λ b. b.items ++ done.more) same.0) i),
+  ap (λ b. b.items) kept.0 ∙ order.1,
+)
+
+pub looked_turns : (s mid settled released new : State) (seen : Snapshot) → mid.waiting ≡ s.waiting → HasSettled s mid settled seen → released.frames ≡ settled.frames → released.waiting ≡ settled.waiting
+    → HaveTurns released.frames released.waiting.items new → HaveTurnsAfter s seen new
+looked_turns s mid settled released new seen same done frames waiting turns = λ unfailed. (
+  settled.frames,
+  done.frames,
+  subst (λ rs. HaveTurns settled.frames rs new) (ap (λ b. b.items) (waiting ∙ done.waiting ∙ same)) (subst (λ fs. HaveTurns fs released.waiting.items new) frames turns),
+)
+
+-- in a shard that has stopped none starts
+none_turn : (fs : Frames) → (AreLive fs → ⊥) → (requests : List Request) → InTurn fs requests fs requests
+none_turn fs stopped [] = (refl, refl)
+none_turn fs stopped (request ∷ requests) = inr (λ live. absurd (stopped live), requests, refl, none_turn fs stopped requests)
+
+pub stopped_turns : (s mid : State) (seen : Snapshot) → mid.waiting ≡ s.waiting → mid.frames.saw_failed ≡ true → (Agrees s seen → mid.frames ≡ s.frames) → HaveTurnsAfter s seen mid
+stopped_turns s mid seen waiting failed frames = λ unfailed. (
+  mid.frames,
+  frames,
+  subst (λ rs. HaveTurns mid.frames rs mid) (ap (λ b. b.items) waiting) (none_turn mid.frames (λ live. let not = live.1 in absurd (cc)) mid.waiting.items),
+)

@@ -1,0 +1,147 @@
+-- A device is lost: its slot goes out, and the loss is to be declared.
+use Rattle.std.proofs.Common.{◌≡◌, ◌≢◌, ℕ, zero, suc, ◌+◌, ◌<◌, ◌≤◌, ◌⊎◌, Bool, true, false, cond, [], ◌∷◌, ◌++◌, map, length, refl, sym, ap, subst, ◌∙◌, Some, inl, inr, arith, length-append}
+use Rattle.std.proofs.lemmas.Bool.{cases_eq, cases_lt, false≢true}
+use Rattle.std.proofs.lemmas.List.{map-append}
+use Rattle.circular_buffer.specs.Buffer.{Buffer, buffer}
+use Rattle.r6_layout.specs.Layout as layout
+use Rattle.r6_tables.specs.Table.{next_of}
+use Rattle.r6_stripe.specs.Plans.{is_out}
+use Rattle.r6_world.specs.Tables.{put, count_below}
+use Rattle.r6_world.specs.Geometries.{layout_of}
+use Rattle.r6_world.specs.ShardStates as shards
+use Rattle.r6_world.specs.ShardStates.{Shard, SlotState, Missing, is_away, standing_of}
+use Rattle.r6_world.specs.Changes.{Lose, after}
+use Rattle.r6_world.specs.Steps.{GoesOn, Through, Error, Taken}
+use Rattle.r6_world.proofs.Geometries.{layouts}
+use Rattle.r6_world.proofs.Tables.{count-le, put-same, put-other}
+use Rattle.r6_frames.specs.declared.command.Outstanding.{Outstanding}
+use Rattle.r6_frames.specs.declared.frames.HeldRow.{HeldRow}
+use Rattle.r6_frames.specs.declared.frames.FrameUse.{FrameUse}
+use Rattle.r6_frames.specs.declared.frames.FrameUse.TheVariants as uses
+use Rattle.r6_frames.specs.declared.frames.Frames.{Frames}
+use Rattle.r6_frames.specs.declared.slots.Device.{Device}
+use Rattle.r6_frames.specs.declared.slots.Device.TheVariants as device
+use Rattle.r6_frames.specs.Slots.{state_of as state_of_device, slot_in, states_of, count_out, is_abandoned}
+use Rattle.r6_frames.specs.Frames.{use_at, row_in, hold_at, outstanding, held_requests, owed, shard_with, AreLive, Loses}
+use Rattle.r6_frames.specs.Sound as held
+use Rattle.r6_frames.specs.Sound.{is_away_from, place_of}
+use Rattle.r6_frames.proofs.Resting.{command-there}
+use Rattle.r6_core.specs.declared.call.Call.{Call}
+use Rattle.r6_core.specs.declared.call.Call.TheVariants as call
+use Rattle.r6_core.specs.declared.state.State.{State}
+use Rattle.r6_core.specs.States.{IsSound, call_of, state_of, rest_of, layout_in}
+use Rattle.r6_core.proofs.Going.{no_rest, Goes, gone_on, gone_state, through_in}
+use Rattle.r6_core.proofs.Answering.{TakesThrough}
+
+-- ---- counts
+
+-- one more passes
+count-more : (n k : ℕ) (p q : ℕ → Bool) → k < n → p k ≡ false → q k ≡ true → ((d : ℕ) → d ≢ k → q d ≡ p d) → count_below p n + 1 ≤ count_below q n
+count-more zero k p q below was is others = absurd (omega arith)
+count-more (suc n) k p q below was is others =
+    elim (cases_eq n k) [
+      | inl last ↦
+          let none : cond {A = ℕ} (p n) 1 0 ≡ 0 = ap (λ (j : ℕ). cond {A = ℕ} (p j) 1 0) last ∙ ap (λ (b : Bool). cond {A = ℕ} b 1 0) was in
+          let one : cond {A = ℕ} (q n) 1 0 ≡ 1 = ap (λ (j : ℕ). cond {A = ℕ} (q j) 1 0) last ∙ ap (λ (b : Bool). cond {A = ℕ} b 1 0) is in
+          let rest = count-le n p q (λ d lt passes. others d (λ e. absurd (omega arith)) ∙ passes) in
+          omega arith
+      | inr other ↦
+          let same : cond {A = ℕ} (q n) 1 0 ≡ cond {A = ℕ} (p n) 1 0 = ap (λ (b : Bool). cond {A = ℕ} b 1 0) (others n other) in
+          let rest = count-more n k p q (omega arith) was is others in
+          omega arith
+    ]
+
+-- ---- the device of a command that is wanted is in sync
+
+pub live_or_not : (fs : Frames) → AreLive fs ⊎ (AreLive fs → ⊥)
+live_or_not fs =
+    elim (cases_lt 2 (count_out fs.slots fs.geometry.slots)) [
+      | inl many ↦ inr (λ live. let few = live.0 in absurd (omega arith))
+      | inr few ↦ by_seen few fs.saw_failed refl
+    ]
+  where
+    by_seen : count_out fs.slots fs.geometry.slots ≤ 2 → (b : Bool) → fs.saw_failed ≡ b → AreLive fs ⊎ (AreLive fs → ⊥)
+    by_seen few false is = inl (few, is)
+    by_seen few true is = inr (λ live. false≢true (sym live.1 ∙ is))
+
+-- a device that isn't out for a row is in sync
+home_in_sync : (d : Device) (row : ℕ) → is_out (standing_of (state_of_device d) row) ≡ false → is_away (state_of_device d) ≡ false
+home_in_sync (device.Synced generation) row home = refl
+home_in_sync device.Missing row home = absurd (cc)
+home_in_sync (device.Building generation) row home = absurd (cc)
+
+pub wanted_in_sync : (fs : Frames) (token : ℕ) (c : Outstanding) → held.IsSound fs → outstanding fs token ≡ Some c → is_abandoned fs.slots token c ≡ false → is_away (states_of fs.slots c.slot) ≡ false
+wanted_in_sync fs token c sound is wanted =
+    elim (live_or_not fs) [
+      | inl live ↦ by_use live (use_at fs.held.items c.frame) refl
+      | inr stopped ↦ absurd (false≢true (sym wanted ∙ sound.commands.stopped stopped token c is))
+    ]
+  where
+    of_row : AreLive fs → (h : HeldRow) → hold_at fs.held.items c.frame ≡ Some h → is_away (states_of fs.slots c.slot) ≡ false
+    of_row live h there =
+        let of = (sound.commands.of_frame live token c is).held h there in
+        let row = sound.frames.rows c.frame h there in
+        let inside = sound.commands.lawful token c is in
+        let place = (layouts fs.geometry sound.shape).there c.row c.slot inside.1.0 inside.0 in
+        let stands = row.standing (place_of fs c) place.0 in
+        let slot : layout.slot_at fs.geometry h.row (place_of fs c) ≡ c.slot = ap (λ (r : ℕ). layout.slot_at fs.geometry r (place_of fs c)) (sym of.row) ∙ place.1 in
+        let home : is_out (standing_of (states_of fs.slots c.slot) h.row) ≡ false =
+        ap (λ (k : ℕ). is_out (standing_of (states_of fs.slots k) h.row)) (sym slot) ∙ ap is_out (sym stands) ∙ sym of.abandoned ∙ wanted in
+        home_in_sync (slot_in fs.slots c.slot).device h.row home
+
+    by_use : AreLive fs → (u : FrameUse) → use_at fs.held.items c.frame ≡ u → is_away (states_of fs.slots c.slot) ≡ false
+    by_use live uses.Free u =
+        absurd (false≢true (sym (ap (λ (u : FrameUse). is_away_from u (place_of fs c)) u) ∙ (sound.commands.of_frame live token c is).away))
+    by_use live (uses.Held h) u = of_row live h (ap row_in u)
+    by_use live (uses.Returning r) u = absurd (false≢true (sym wanted ∙ (sound.commands.of_frame live token c is).ended (ap row_in u)))
+
+-- ---- the loss
+
+-- one more slot is out
+lost_out : (old new : Frames) (token slot generation : ℕ) → held.IsSound old → Loses old token slot generation new
+    → count_out old.slots old.geometry.slots + 1 ≤ count_out new.slots old.geometry.slots
+lost_out old new token slot generation sound loses =
+    let lost = loses.2 no_rest in
+    let c = lost.0 in
+    let there = command-there no_rest old token c lost.4.0 in
+    let x = there.0 in
+    let here : x.slot ≡ c.slot = ap (λ (c : shards.Command). c.slot) there.2 in
+    let inside = (sound.commands.lawful token x there.1).0 in
+    let wanted : is_abandoned old.slots token x ≡ false = ap (λ (c : shards.Command). c.abandoned) there.2 ∙ lost.4.1 in
+    let in_sync : is_away (states_of old.slots c.slot) ≡ false = ap (λ (k : ℕ). is_away (states_of old.slots k)) (sym here) ∙ wanted_in_sync old token x sound there.1 wanted in
+    let slots : states_of new.slots ≡ put (states_of old.slots) c.slot Missing = ap (λ (x : Shard). x.slot) lost.5 in
+    let more = count-more old.geometry.slots c.slot (λ d. is_away (states_of old.slots d)) (λ d. is_away (put (states_of old.slots) c.slot Missing d)) (omega (arith, here, inside)) in_sync
+    (ap is_away (put-same (states_of old.slots) c.slot Missing c.slot refl)) (λ d ne. ap is_away (put-other (states_of old.slots) c.slot Missing d ne)) in
+    let same : count_out new.slots old.geometry.slots ≡ count_below (λ d. is_away (put (states_of old.slots) c.slot Missing d)) old.geometry.slots =
+    ap (λ (states : ℕ → SlotState). count_below (λ d. is_away (states d)) old.geometry.slots) slots in
+    omega (arith, more, same)
+
+pub lost_goes : (s : State) (fs : Frames) (calls : Buffer Call) (token slot generation : ℕ) → IsSound s → held.IsSound fs → Loses s.frames token slot generation fs
+    → (owed fs ≡ owed s.frames) × (next_of fs.commands ≡ next_of s.frames.commands) → held_requests fs ≡ held_requests s.frames
+    → calls ≡ buffer (s.calls.items ++ call.DeclareLost slot generation ∷ []) s.calls.capacity → Goes s fs calls
+lost_goes s fs calls token slot generation sound frames loses tokens requests pushed =
+    record {
+      sound = frames;
+      geometry = loses.0;
+      shard = loses.1;
+      seen = ap (λ (x : Shard). x.saw_failed) (loses.2 no_rest).5;
+      requests = requests;
+      tokens = let a = tokens.0 in let b = tokens.1 in omega (arith, a, b);
+      room = ap (λ (b : Buffer Call). b.capacity) pushed;
+      few =
+          let more = lost_out s.frames fs token slot generation sound.frames loses in
+          let one = ap (λ (b : Buffer Call). length b.items) pushed ∙ length-append s.calls.items (call.DeclareLost slot generation ∷ []) in
+          omega (arith, more, one, sound.room.few_calls);
+    }
+
+-- the loss, with what holds do behind it
+pub lost_takes : (s : State) (fs : Frames) (calls : Buffer Call) (token slot generation : ℕ) (new : State) → Goes s fs calls → Loses s.frames token slot generation fs
+    → calls ≡ buffer (s.calls.items ++ call.DeclareLost slot generation ∷ []) s.calls.capacity
+    → Through (layout_of fs.geometry) fs.shard GoesOn (state_of (gone_on s fs calls)) (state_of new) → TakesThrough s token Error Taken new
+lost_takes s fs calls token slot generation new goes loses pushed leads =
+    let lost = loses.2 (rest_of s) in
+    let more = ap (λ (b : Buffer Call). map call_of b.items) pushed ∙ map-append call_of s.calls.items (call.DeclareLost slot generation ∷ []) in
+    let is : state_of (gone_on s fs calls) ≡ after (layout_in s) (state_of s) (Lose token lost.0) =
+    gone_state s fs calls goes ∙ ap (λ cs. shard_with (record (rest_of s) { calls = cs }) fs) more ∙ lost.5 in
+    let behind = through_in s.frames.geometry fs.geometry s.frames.shard fs.shard GoesOn (state_of (gone_on s fs calls)) (state_of new) loses.0 loses.1 leads in
+    (Lose token lost.0, (refl, lost.3), lost.4, subst (λ (x : Shard). Through (layout_in s) s.frames.shard GoesOn x (state_of new)) is behind)

@@ -1,0 +1,172 @@
+//! Completions of commands, and losses that they tell of.
+
+ghost use Rattle.std.specs.Prelude.{◌≡◌, ℕ, length, MatchOption, IfOk, IfErr};
+ghost use Rattle.r6_world.specs.Steps.{Deliver, Good, Error, Taken, Through, GoesOn, Takes};
+ghost use Rattle.r6_world.specs.Changes.{Change, after, Allowed};
+ghost use Rattle.r6_frames.specs.Frames.{AreLive, IsAwaited, IsAbandoned, IsHeldFrame, IsDriven, KeepsOthers};
+ghost use Rattle.r6_core.specs.States.{IsSound, IsCore, IsRestedFrame, Step, state_of, layout_in, completion_of, receipt_of, buffer_in, HasDeliverFault, IsFirstFault, HasNone, deliver_faults, SameFrames, SameCalls, MayFinish, Finishes, FinishesBy, FinishesHeld, HaveTurnsBehind};
+
+use crate::call::Call;
+use crate::refusal::{DeviceFault, Receipt, Refusal, Refused};
+use crate::state::State;
+use r6_kernels::Buffer;
+
+impl State {
+    // Why a completion is refused, if it is.
+    fn fault(&self, token: u64, completion: &Result<Buffer, DeviceFault>) -> Option<Refusal>
+        requires { IsSound self.now }
+        ensures { MatchOption result (HasNone (HasDeliverFault self.now token (buffer_in completion.now)) deliver_faults) (IsFirstFault (HasDeliverFault self.now token (buffer_in completion.now)) deliver_faults) }
+    {
+        if !self.frames.awaits(token) {
+            return Some(Refusal::UnknownToken);
+        }
+        let len = match completion {
+            Ok(buffer) => buffer.len(),
+            Err(fault) => fault.buffer.len(),
+        };
+        if len != self.frames.geometry.block() {
+            return Some(Refusal::WrongLength);
+        }
+        None
+    }
+
+    /// Takes the completion of a command, lets holds go on, and starts what can start.
+    pub(crate) fn deliver(
+        &mut self,
+        token: u64,
+        completion: Result<Buffer, DeviceFault>,
+    ) -> Result<Receipt, Refused<Result<Buffer, DeviceFault>>>
+        requires { IsCore self.old }
+        ensures core { IsCore self.new }
+        ensures step { IfOk result (λ receipt. Step self.old (Deliver token (completion_of completion) (receipt_of receipt)) self.new) }
+        ensures accepted { IfOk result (λ _. HasNone (HasDeliverFault self.old token (buffer_in completion)) deliver_faults) }
+        ensures refused { IfErr result (λ refused. (self.new ≡ self.old) × (refused.back ≡ completion) × IsFirstFault (HasDeliverFault self.old token (buffer_in completion)) deliver_faults refused.refusal) }
+        ensures order { IfOk result (λ _. FinishesBy completion self.old self.new) }
+        ensures unanswered { self.new.unanswered ≡ self.old.unanswered }
+        ensures turns { IfOk result (λ _. HaveTurnsBehind completion self.old self.new) }
+    {
+        if let Some(refusal) = self.fault(token, &completion) {
+            return Err(Refused {
+                refusal,
+                back: completion,
+            });
+        }
+        let receipt = self.take(token, completion);
+        self.scan();
+        Ok(receipt)
+    }
+
+    // The completion of a command that was taken: late, or with what it does to its hold or to all.
+    fn take(&mut self, token: u64, completion: Result<Buffer, DeviceFault>) -> Receipt
+        requires core { IsCore self.old }
+        requires right { HasNone (HasDeliverFault self.old token (buffer_in completion)) deliver_faults }
+        ensures core { IsCore self.new }
+        ensures takes { (change : Change) × Takes token (completion_of completion) (receipt_of result) change × Allowed (layout_in self.old) self.old.frames.shard (state_of self.old) change × Through (layout_in self.old) self.old.frames.shard GoesOn (after (layout_in self.old) (state_of self.old) change) (state_of self.new) }
+        ensures same { SameFrames self.old self.new }
+        ensures order { FinishesBy completion self.old self.new }
+        ensures unanswered { self.new.unanswered ≡ self.old.unanswered }
+        ensures others { IfOk completion (λ _. (frame : ℕ) × KeepsOthers self.old.frames frame self.new.frames) }
+        ensures waiting { self.new.waiting ≡ self.old.waiting }
+    {
+        if self.frames.is_abandoned(token) {
+            let buffer = match completion {
+                Ok(buffer) => buffer,
+                Err(DeviceFault { kind: _, buffer }) => buffer,
+            };
+            self.frames.come_home(token, buffer);
+            return Receipt::Late;
+        }
+        match completion {
+            Ok(buffer) => self.answer(token, buffer),
+            Err(DeviceFault { kind: _, buffer }) => self.lose(token, buffer),
+        }
+        Receipt::Taken
+    }
+
+    // The command is answered; its hold goes on, and ends if it is over.
+    fn answer(&mut self, token: u64, buffer: Buffer)
+        requires core { IsCore self.old }
+        requires awaited { IsAwaited self.old.frames token }
+        requires wanted { IsAbandoned self.old.frames token → ⊥ }
+        requires size { length buffer ≡ self.old.frames.geometry.block }
+        ensures core { IsCore self.new }
+        ensures takes { (change : Change) × Takes token (Good buffer) Taken change × Allowed (layout_in self.old) self.old.frames.shard (state_of self.old) change × Through (layout_in self.old) self.old.frames.shard GoesOn (after (layout_in self.old) (state_of self.old) change) (state_of self.new) }
+        ensures same { SameFrames self.old self.new }
+        ensures order { MayFinish self.old self.new }
+        ensures unanswered { self.new.unanswered ≡ self.old.unanswered }
+        ensures others { (frame : ℕ) × KeepsOthers self.old.frames frame self.new.frames }
+        ensures waiting { self.new.waiting ≡ self.old.waiting }
+    {
+        let frame = self.frames.answer(token, buffer);
+        self.frames.drive(frame);
+        self.finish(frame);
+    }
+
+    // The device of the command has failed: its slot is out, the loss is to be declared, and holds go on without it.
+    fn lose(&mut self, token: u64, buffer: Buffer)
+        requires core { IsCore self.old }
+        requires awaited { IsAwaited self.old.frames token }
+        requires wanted { IsAbandoned self.old.frames token → ⊥ }
+        requires size { length buffer ≡ self.old.frames.geometry.block }
+        ensures core { IsCore self.new }
+        ensures takes { (change : Change) × Takes token Error Taken change × Allowed (layout_in self.old) self.old.frames.shard (state_of self.old) change × Through (layout_in self.old) self.old.frames.shard GoesOn (after (layout_in self.old) (state_of self.old) change) (state_of self.new) }
+        ensures same { SameFrames self.old self.new }
+        ensures order { Finishes self.old self.new }
+        ensures unanswered { self.new.unanswered ≡ self.old.unanswered }
+        ensures waiting { self.new.waiting ≡ self.old.waiting }
+    {
+        let (slot, generation) = self.frames.lose(token, buffer);
+        let Ok(()) = self
+            .calls
+            .try_push_back(Call::DeclareLost(slot, generation))
+        else {
+            unreachable!()
+        };
+        self.settle();
+    }
+
+    /// Holds go on after a loss. Those that are over end, from the one with the oldest request on.
+    pub(crate) fn settle(&mut self)
+        requires { IsSound self.old }
+        ensures core { IsCore self.new }
+        ensures leads { Through (layout_in self.old) self.old.frames.shard GoesOn (state_of self.old) (state_of self.new) }
+        ensures same { SameFrames self.old self.new }
+        ensures calls { SameCalls self.old self.new }
+        ensures order { Finishes self.old self.new }
+        ensures unanswered { self.new.unanswered ≡ self.old.unanswered }
+        ensures waiting { self.new.waiting ≡ self.old.waiting }
+    {
+        if !self.frames.is_live() {
+            return;
+        }
+        self.frames.drive_all();
+        while let Some(frame) = self.frames.first_over() {
+            self.finish(frame);
+        }
+    }
+
+    // The frame's hold ends, if it is over, and its request is finished.
+    fn finish(&mut self, frame: usize)
+        requires sound { IsSound self.old }
+        requires live { AreLive self.old.frames }
+        requires held { IsHeldFrame self.old.frames frame }
+        requires driven { IsDriven self.old.frames frame }
+        ensures sound { IsSound self.new }
+        ensures live { AreLive self.new.frames }
+        ensures leads { Through (layout_in self.old) self.old.frames.shard GoesOn (state_of self.old) (state_of self.new) }
+        ensures rests { IsRestedFrame self.new frame }
+        ensures others { KeepsOthers self.old.frames frame self.new.frames }
+        ensures same { SameFrames self.old self.new }
+        ensures calls { SameCalls self.old self.new }
+        ensures order { MayFinish self.old self.new }
+        ensures ends { FinishesHeld self.old frame self.new }
+        ensures unanswered { self.new.unanswered ≡ self.old.unanswered }
+        ensures waiting { self.new.waiting ≡ self.old.waiting }
+    {
+        if let Some(request) = self.frames.finish(frame) {
+            let Ok(()) = self.finished.try_push_back(request) else {
+                unreachable!()
+            };
+        }
+    }
+}

@@ -1,0 +1,194 @@
+//! Looks at the register.
+
+ghost use Rattle.std.specs.Prelude.{◌≡◌, ◌++◌, ◌<◌, [], ℕ, length, drop, true, false, is_some, None, IfOk, IfErr, IfSome};
+ghost use Rattle.circular_buffer.specs.Buffer.{buffer};
+ghost use Rattle.r6_world.specs.Registers.{status_of};
+ghost use Rattle.r6_world.specs.ShardStates.{is_away};
+ghost use Rattle.r6_world.specs.Steps.{Look, Through, TakesOver};
+ghost use Rattle.r6_world.specs.Changes.{Release, See_failed, after, adopted, differs};
+ghost use Rattle.r6_frames.specs.Frames.{AreLive};
+ghost use Rattle.r6_frames.specs.Slots as slots;
+ghost use Rattle.r6_frames.specs.Slots.{states_of};
+ghost use Rattle.r6_core.specs.States.{IsSound, IsCore, Step, state_of, layout_in, inserted, Gathers, IsOfArray, AllTold, Agrees, SameFrames, SameCalls, SameReplies, LooksOn, FailsAll, HaveTurnsAfter};
+
+use crate::refusal::Refusal;
+use crate::state::State;
+use circular_buffer::HeapCircularBuffer;
+use r6_frames::{Device, Request};
+use r6_health::{SlotState, Snapshot};
+use std::mem;
+
+impl State {
+    /// Takes over what the register has of each slot. Then all finished requests are released, those too that a loss has
+    /// finished, and what can start starts; or, if the array has failed, every request that isn't answered is answered so.
+    pub(crate) fn look(&mut self, snapshot: &Snapshot) -> Result<(), Refusal>
+        requires core { IsCore self.old }
+        requires array { IsOfArray self.old snapshot.now }
+        ensures core { IsCore self.new }
+        ensures step { IfOk result (λ _. Step self.old (Look snapshot.now) self.new) }
+        ensures told { IfOk result (λ _. AllTold self.old) }
+        ensures refused { IfErr result (λ refusal. (refusal ≡ Refusal.UntoldFirst) × (AllTold self.old → ⊥) × (self.new ≡ self.old)) }
+        ensures order { IfOk result (λ _. LooksOn self.old snapshot.now self.new) }
+        ensures unanswered { self.new.unanswered ≡ self.old.unanswered }
+        ensures turns { IfOk result (λ _. HaveTurnsAfter self.old snapshot.now self.new) }
+    {
+        if !self.calls.is_empty() || self.untold.is_some() {
+            return Err(Refusal::UntoldFirst);
+        }
+        let went_out = self.adopt(snapshot);
+        if snapshot.failed() {
+            self.see_failure();
+            return Ok(());
+        }
+        if self.frames.saw_failed {
+            return Ok(());
+        }
+        if went_out {
+            self.settle();
+        }
+        self.release();
+        self.scan();
+        Ok(())
+    }
+
+    // Takes over what the register has of each slot: whether one went out.
+    fn adopt(&mut self, snapshot: &Snapshot) -> bool
+        requires sound { IsSound self.old }
+        requires array { IsOfArray self.old snapshot.now }
+        requires told { AllTold self.old }
+        ensures sound { IsSound self.new }
+        ensures takes { Through (layout_in self.old) self.old.frames.shard (TakesOver snapshot.now) (state_of self.old) (state_of self.new) }
+        ensures slots { (slot : ℕ) → states_of self.new.frames.slots slot ≡ adopted (states_of self.old.frames.slots slot) (status_of snapshot.now slot) }
+        ensures none { result ≡ false → (self.new ≡ self.old) × Agrees self.old snapshot.now }
+        ensures some { result ≡ true → Agrees self.old snapshot.now → ⊥ }
+        ensures same { SameFrames self.old self.new }
+        ensures calls { SameCalls self.old self.new }
+        ensures order { SameReplies self.old self.new }
+        ensures unanswered { self.new.unanswered ≡ self.old.unanswered }
+        ensures waiting { self.new.waiting ≡ self.old.waiting }
+    {
+        let mut went_out = false;
+        for slot in 0..self.frames.geometry.slots() {
+            if let Some(device) = renewed(self.frames.slots[slot].device, snapshot.slot(slot)) {
+                self.frames.take_out(slot, device);
+                went_out = true;
+            }
+        }
+        went_out
+    }
+
+    // The array has failed: every request that isn't released is answered so, from the oldest to the newest.
+    fn see_failure(&mut self)
+        requires { IsSound self.old }
+        ensures core { IsCore self.new }
+        ensures fails { state_of self.new ≡ after (layout_in self.old) (state_of self.old) See_failed }
+        ensures same { SameFrames self.old self.new }
+        ensures calls { SameCalls self.old self.new }
+        ensures order { FailsAll self.old self.new }
+        ensures unanswered { self.new.unanswered ≡ self.old.unanswered }
+    {
+        self.frames.see_failure();
+        self.gather();
+        while let Some(request) = self.waiting.pop_front() {
+            insert(&mut self.finished, request);
+        }
+    }
+
+    // All requests that aren't released wait.
+    fn gather(&mut self)
+        requires sound { IsSound self.old }
+        requires stopped { AreLive self.old.frames → ⊥ }
+        ensures gathers { Gathers self.old self.new }
+    {
+        while let Some(request) = self.finished.pop_front() {
+            let Ok(()) = self.waiting.try_push_back(request) else {
+                unreachable!()
+            };
+        }
+        for frame in 0..self.frames.held.len() {
+            if let Some(request) = self.frames.give_up(frame) {
+                let Ok(()) = self.waiting.try_push_back(request) else {
+                    unreachable!()
+                };
+            }
+        }
+    }
+
+    // Releases all finished requests, in the order in which they finished.
+    fn release(&mut self)
+        requires core { IsCore self.old }
+        requires unfailed { self.old.frames.saw_failed ≡ false }
+        ensures core { IsCore self.new }
+        ensures released { state_of self.new ≡ after (layout_in self.old) (state_of self.old) Release }
+        ensures order { (self.new.released.items ≡ self.old.released.items ++ self.old.finished.items) × (self.new.finished.items ≡ []) }
+        ensures unanswered { self.new.unanswered ≡ self.old.unanswered }
+        ensures same { (self.new.frames ≡ self.old.frames) × SameCalls self.old self.new }
+        ensures waiting { self.new.waiting ≡ self.old.waiting }
+    {
+        for _ in 0..self.finished.len() {
+            self.release_one();
+        }
+    }
+
+    // Releases the request that finished first.
+    fn release_one(&mut self)
+        requires core { IsCore self.old }
+        requires unfailed { self.old.frames.saw_failed ≡ false }
+        requires some { 0 < length self.old.finished.items }
+        ensures core { IsCore self.new }
+        ensures finished { self.new.finished.items ≡ drop 1 self.old.finished.items }
+        ensures released { self.new.released.items ++ self.new.finished.items ≡ self.old.released.items ++ self.old.finished.items }
+        ensures waiting { self.new.waiting ≡ self.old.waiting }
+        ensures unanswered { self.new.unanswered ≡ self.old.unanswered }
+        ensures same { (self.new.frames ≡ self.old.frames) × (self.new.accepted ≡ self.old.accepted) × SameCalls self.old self.new }
+    {
+        let Some(request) = self.finished.pop_front() else {
+            unreachable!()
+        };
+        let Ok(()) = self.released.try_push_back(request) else {
+            unreachable!()
+        };
+    }
+}
+
+// What a slot has in place of its device, where the register has something else of it.
+fn renewed(device: Device, status: SlotState) -> Option<Device>
+    ensures differs { is_some result ≡ differs (slots.state_of device) status }
+    ensures device { IfSome result (λ new. (slots.state_of new ≡ adopted (slots.state_of device) status) × (is_away (slots.state_of new) ≡ true)) }
+    ensures same { result ≡ None → adopted (slots.state_of device) status ≡ slots.state_of device }
+{
+    match (device, status) {
+        (_, SlotState::InSync) => None,
+        (Device::Missing, SlotState::Lost) => None,
+        (_, SlotState::Lost) => Some(Device::Missing),
+        (Device::Synced(current), SlotState::Rebuilding(generation, _)) if current == generation =>
+            None,
+        (Device::Building(current), SlotState::Rebuilding(generation, _))
+            if current == generation => None,
+        (_, SlotState::Rebuilding(generation, _)) => Some(Device::Building(generation)),
+    }
+}
+
+// Puts the request where its number belongs, in a queue that rises.
+fn insert(queue: &mut HeapCircularBuffer<Request>, request: Request)
+    requires room { length queue.old.items < queue.old.capacity }
+    ensures { queue.new ≡ buffer (inserted request queue.old.items) queue.old.capacity }
+{
+    let mut request = request;
+    for _ in 0..queue.len() {
+        let Some(first) = queue.pop_front() else {
+            unreachable!()
+        };
+        let lower = if first.id < request.id {
+            first
+        } else {
+            mem::replace(&mut request, first)
+        };
+        let Ok(()) = queue.try_push_back(lower) else {
+            unreachable!()
+        };
+    }
+    let Ok(()) = queue.try_push_back(request) else {
+        unreachable!()
+    };
+}

@@ -1,0 +1,56 @@
+//! Calls at the register are taken, and their answers told.
+
+ghost use Rattle.std.specs.Prelude.{◌≡◌, ◌≢◌, IfOk, IfErr, MatchOption, Some};
+ghost use Rattle.r6_world.specs.Steps.{Take_call, No_call, Told};
+ghost use Rattle.r6_core.specs.States.{IsCore, Step, call_of, KeepsReplies};
+
+use crate::call::Call;
+use crate::refusal::Refusal;
+use crate::state::State;
+use r6_health::{Answer, Refusal as RegisterRefusal};
+
+impl State {
+    /// Takes the call that is to be made next at the register, if the answer of the one before was told.
+    pub(crate) fn take_call(&mut self) -> Option<Call>
+        requires { IsCore self.old }
+        ensures core { IsCore self.new }
+        ensures step { MatchOption result (Step self.old No_call self.new) (λ call. Step self.old (Take_call (call_of call)) self.new) }
+        ensures replies { KeepsReplies self.old self.new }
+        ensures waiting { self.new.waiting ≡ self.old.waiting }
+        ensures frames { self.new.frames ≡ self.old.frames }
+    {
+        if self.untold.is_some() {
+            return None;
+        }
+        let call = self.calls.pop_front()?;
+        self.untold = Some(call);
+        Some(call)
+    }
+
+    /// Hears the answer of the call that was taken. One that came between others' calls is to be made again, before the others.
+    pub(crate) fn told(
+        &mut self,
+        call: Call,
+        answer: Result<Answer, RegisterRefusal>,
+    ) -> Result<(), Refusal>
+        requires { IsCore self.old }
+        ensures core { IsCore self.new }
+        ensures step { IfOk result (λ _. Step self.old (Told (call_of call) answer) self.new) }
+        ensures refused { IfErr result (λ refusal. (refusal ≡ Refusal.UnknownCall) × (self.old.untold ≢ Some call) × (self.new ≡ self.old)) }
+        ensures known { IfOk result (λ _. self.old.untold ≡ Some call) }
+        ensures replies { KeepsReplies self.old self.new }
+        ensures waiting { self.new.waiting ≡ self.old.waiting }
+        ensures frames { self.new.frames ≡ self.old.frames }
+    {
+        if self.untold != Some(call) {
+            return Err(Refusal::UnknownCall);
+        }
+        self.untold = None;
+        if answer == Err(RegisterRefusal::Contended) {
+            let Ok(()) = self.calls.try_push_front(call) else {
+                unreachable!()
+            };
+        }
+        Ok(())
+    }
+}

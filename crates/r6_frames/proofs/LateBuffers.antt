@@ -1,0 +1,321 @@
+-- What the buffer of an abandoned command does when it comes home.
+use Rattle.std.proofs.Common.{◌≡◌, ◌≢◌, ℕ, ◌+◌, ◌<◌, Bool, true, false, [], ◌∷◌, ◌++◌, length, set, refl, sym, ap, subst, ◌∙◌, Some, arith, get_or-set_same, get_or-set_other, length-append}
+use Rattle.std.specs.Prelude.{option_map, slice_index_or, if◌then◌else◌, vec_capacity}
+use mathlib.Core.Path.{fun_ext}
+use Rattle.std.specs.FinMap as map
+use Rattle.std.specs.List.{All, list_any}
+use Rattle.std.specs.Global.{Vec}
+use Rattle.std.specs.Vec.{with_item}
+use Rattle.std.proofs.lemmas.Bool.{lt-ltb}
+use Rattle.std.proofs.lemmas.List.{length-set, set-set}
+use Rattle.std.proofs.lemmas.List.Elements.{All-append, All-cons, All-nil}
+use Rattle.r6_stripe.specs.Frames as buffers
+use Rattle.r6_stripe.specs.Holds.{Event, Kind, cell_at}
+use Rattle.r6_stripe.specs.Holds.Standing.{Out}
+use Rattle.r6_stripe.specs.Holds.Event.{Gives, Confirms}
+use Rattle.r6_stripe.specs.Plans.{Planned, is_out, is_sent, planned_after}
+use Rattle.r6_stripe.specs.Steps.{Held as StripeHold, is_away, answered, with_answer}
+use Rattle.r6_stripe.proofs.Course.{kind_after, size_after, width_after}
+use Rattle.r6_stripe.proofs.Steps.{out_is}
+use Rattle.r6_tables.specs.Table.{Numbered, entries_of, next_of, capacity_of}
+use Rattle.r6_world.specs.PlainArray.{Block}
+use Rattle.r6_frames.specs.declared.command.Outstanding.{Outstanding}
+use Rattle.r6_frames.specs.declared.frames.HeldRow.{HeldRow}
+use Rattle.r6_frames.specs.declared.frames.FrameUse.{FrameUse}
+use Rattle.r6_frames.specs.declared.frames.FrameUse.TheVariants.{Free, Held as HeldIn, Returning}
+use Rattle.r6_frames.specs.declared.frames.Frames.{Frames}
+use Rattle.r6_frames.specs.Slots.{is_abandoned}
+use Rattle.r6_frames.specs.Frames.{use_at, row_in, hold_at, hold_of, plan_in, held_requests, outstanding, command_of, owed, shard_with, AreLive, ComesHome, IsAwaited, IsAbandoned, KeepsHeld, KeepsOthers, HasReturned}
+use Rattle.r6_frames.specs.Sound.{IsSound, IsHeld, IsReturning, is_away_from, place_of}
+use Rattle.r6_frames.proofs.Held.{use_at_own, use_within, use_held, free_at, home_at, owed_at, free_set}
+use Rattle.r6_frames.proofs.Ending.{none-away-at, some-away, count_home-all}
+use Rattle.r6_frames.proofs.Finishing.{count_free-le}
+use Rattle.r6_frames.proofs.AnsweredRows.{late_row, late_held, late_is}
+use Rattle.r6_frames.proofs.BuffersHome.{GoesOn, IsHome, home_back, left_of, commands_gone, commands_left, request_at, other_same, each_same, sound_left, owed_left, requests_left}
+use Rattle.r6_frames.proofs.Completions.{place_within}
+
+-- what the call leaves
+pub record CameHome (fs : Frames) (token : ℕ) (new : Frames) : Type 0 where
+  pub sound : IsSound new
+  pub comes : ComesHome fs token new
+  pub holds : KeepsHeld fs new
+  pub others : (frame : ℕ) × KeepsOthers fs frame new
+  pub owed : owed new ≡ owed fs
+  pub next : next_of new.commands ≡ next_of fs.commands
+  pub requests : held_requests new ≡ held_requests fs
+
+abandoned_one : (fs : Frames) (token : ℕ) (c : Outstanding) → IsAbandoned fs token → outstanding fs token ≡ Some c → is_abandoned fs.slots token c ≡ true
+abandoned_one fs token c abandoned there =
+    let same : abandoned.0 ≡ c = let both = sym abandoned.1 ∙ there in cc in
+    sym (ap (is_abandoned fs.slots token) same) ∙ abandoned.2
+
+-- ---- the change of the shard
+
+comes_home : (fs : Frames) (token : ℕ) (c : Outstanding) (held : Vec FrameUse) (spare : Vec buffers.Shape) → IsAwaited fs token → IsAbandoned fs token → outstanding fs token ≡ Some c
+    → ((frame : ℕ) → option_map hold_of (hold_at held.items frame) ≡ option_map hold_of (hold_at fs.held.items frame)) → ComesHome fs token (left_of fs token held spare)
+comes_home fs token c held spare awaited abandoned there same = (
+  refl,
+  refl,
+  λ rest. (
+    command_of fs.slots fs.handed token c,
+    lt-ltb token fs.handed awaited.2,
+    (ap (option_map (command_of fs.slots fs.handed token)) there, abandoned_one fs token c abandoned there),
+    λ i. record (shard_with rest fs) { frame = fun_ext same i; command = commands_gone fs.slots (entries_of fs.commands) fs.handed token i },
+  ),
+)
+
+-- ---- holds don't go on
+
+pub stopped_home : (fs : Frames) (token : ℕ) (c : Outstanding) (commands : Numbered Outstanding) → IsSound fs → IsAwaited fs token → IsAbandoned fs token → outstanding fs token ≡ Some c
+    → (AreLive fs → ⊥) → commands ≡ (capacity_of fs.commands, (next_of fs.commands, map.remove (entries_of fs.commands) token))
+    → CameHome fs token (record fs { commands = commands })
+stopped_home fs token c commands sound awaited abandoned there stopped rest =
+    subst (λ (t : Numbered Outstanding). CameHome fs token (record fs { commands = t })) (sym rest) (record {
+      sound = record {
+        shape = sound.shape;
+        shard = sound.shard;
+        frames = record {
+          count = sound.frames.count;
+          rows = sound.frames.rows;
+          returning = sound.frames.returning;
+          one_holder = sound.frames.one_holder;
+          spare = sound.frames.spare;
+          spare_room = sound.frames.spare_room;
+          spare_shape = sound.frames.spare_shape;
+        };
+        commands = commands_left fs token c there fs.held fs.spare sound.commands awaited.2 (λ live. absurd (stopped live)) (λ live. absurd (stopped live)) (omega arith);
+      };
+      comes = comes_home fs token c fs.held fs.spare awaited abandoned there (λ frame. refl);
+      holds = λ frame. refl;
+      others = (0, λ other ne. refl);
+      owed = refl;
+      next = refl;
+      requests = refl;
+    })
+
+-- ---- holds go on
+
+-- the command was taken and abandoned, and left with a buffer of its frame
+pub record IsLate (fs : Frames) (token : ℕ) (c : Outstanding) : Type 0 where
+  pub awaited : IsAwaited fs token
+  pub abandoned : IsAbandoned fs token
+  pub there : outstanding fs token ≡ Some c
+  pub below : c.frame < length fs.held.items
+  pub inside : place_of fs c < fs.geometry.slots
+  pub away : is_away_from (use_at fs.held.items c.frame) (place_of fs c) ≡ true
+  pub out : (h : HeldRow) → hold_at fs.held.items c.frame ≡ Some h → (cell_at h.hold.planned.hold.cells (place_of fs c)).standing ≡ Out
+
+pub is_late : (fs : Frames) (token : ℕ) (c : Outstanding) → IsSound fs → AreLive fs → IsAwaited fs token → IsAbandoned fs token → outstanding fs token ≡ Some c → IsLate fs token c
+is_late fs token c sound live awaited abandoned there =
+    let of = sound.commands.of_frame live token c there in
+    record {
+      awaited = awaited;
+      abandoned = abandoned;
+      there = there;
+      below = use_within fs.held.items c.frame (λ free. let home = sym (ap (λ v. is_away_from v (place_of fs c)) free) ∙ of.away in absurd (cc));
+      inside = place_within fs c sound;
+      away = of.away;
+      out = λ h held.
+          let cell = cell_at h.hold.planned.hold.cells (place_of fs c) in
+          out_is cell.standing (sym (of.held h held).abandoned ∙ abandoned_one fs token c abandoned there);
+    }
+
+-- the use of a frame whose row, if it has one, is as it was, its buffers aside
+record IsSameRow (old new : FrameUse) : Type 0 where
+  hold : option_map hold_of (row_in new) ≡ option_map hold_of (row_in old)
+  plan : option_map plan_in (row_in new) ≡ option_map plan_in (row_in old)
+  owed : owed_at new ≡ owed_at old
+  requests : (frame : ℕ) → request_at frame new ≡ request_at frame old
+
+module _ (fs : Frames) (token : ℕ) (c : Outstanding) (sound : IsSound fs) (late : IsLate fs token c) where
+  came_home : (held : Vec FrameUse) (spare : Vec buffers.Shape) (old new : FrameUse) → use_at fs.held.items c.frame ≡ old → held.items ≡ set fs.held.items c.frame new → IsHome fs c new → IsSameRow old new
+      → length spare.items + free_at old ≡ length fs.spare.items + free_at new → vec_capacity spare ≡ vec_capacity fs.spare
+      → All (λ (f : buffers.Shape). f ≡ record { count = fs.geometry.slots; size = fs.geometry.block }) spare.items
+      → CameHome fs token (left_of fs token held spare)
+  came_home held spare old new was items home same more capacity shapes = record {
+    sound = sound_left fs token c late.there held spare new items home sound late.awaited.2 (ap (λ v. length spare.items + free_at v) was ∙ more) capacity shapes;
+    comes = comes_home fs token c held spare late.awaited late.abandoned late.there
+        (each_same fs token c late.there held spare new items home (λ v. option_map hold_of (row_in v)) (same.hold ∙ sym (ap (λ v. option_map hold_of (row_in v)) was)));
+    holds = each_same fs token c late.there held spare new items home (λ v. option_map plan_in (row_in v)) (same.plan ∙ sym (ap (λ v. option_map plan_in (row_in v)) was));
+    others = (c.frame, other_same fs token c late.there held spare new items home);
+    owed = owed_left fs token c late.there held spare new items home (same.owed ∙ sym (ap owed_at was));
+    next = refl;
+    requests = requests_left fs token c late.there held spare new items home (same.requests c.frame ∙ sym (ap (request_at c.frame) was));
+  }
+
+  -- ---- to a held row
+
+  module _ (h : HeldRow) (is : hold_at fs.held.items c.frame ≡ Some h) where
+    whole : IsHeld fs.geometry fs.shard fs.slots h
+    whole = sound.frames.rows c.frame h is
+
+    held_was : use_at fs.held.items c.frame ≡ HeldIn h
+    held_was = use_held fs.held.items c.frame h is
+
+    away_from_row : is_away h.hold (place_of fs c) ≡ true
+    away_from_row = sym (ap (λ v. is_away_from v (place_of fs c)) held_was) ∙ late.away
+
+    late_home : IsHome fs c (HeldIn (late_row h (place_of fs c)))
+    late_home = record {
+      below = late.below;
+      home = get_or-set_same h.hold.away (place_of fs c) false false (omega (arith, whole.wide_away, late.inside));
+      others = λ j other. get_or-set_other h.hold.away (place_of fs c) j false false other ∙ sym (ap (λ v. is_away_from v j) held_was);
+      more = let back = home_back h.hold.away (place_of fs c) away_from_row in let here = ap (home_at fs.geometry.slots) held_was in omega (arith, back, here);
+      row = λ x there.
+          let same : late_row h (place_of fs c) ≡ x = cc in
+          subst (GoesOn fs c) same (record {
+            was = h;
+            is = is;
+            whole = late_held fs.geometry fs.shard fs.slots h (place_of fs c) whole (late.out h is);
+            row = refl;
+            cells = λ j other. refl;
+          });
+      ended = λ none. absurd (cc);
+      returning = λ r there. absurd (cc);
+    }
+
+    pub held_home : (block : Block) (position : ℕ) (hold : StripeHold) (commands : Numbered Outstanding) → position ≡ place_of fs c → hold ≡ answered h.hold position block
+        → commands ≡ (capacity_of fs.commands, (next_of fs.commands, map.remove (entries_of fs.commands) token))
+        → CameHome fs token (record fs { held = with_item fs.held c.frame (HeldIn (record h { hold = hold })); commands = commands })
+    held_home block position hold commands at done rest =
+        let goes : hold ≡ (late_row h (place_of fs c)).hold =
+        done ∙ ap (λ p. answered h.hold p block) at ∙ (λ i. record { planned = late_is h.hold.planned (place_of fs c) block (late.out h is) i; away = set h.hold.away (place_of fs c) false }) in
+        let same : record fs { held = with_item fs.held c.frame (HeldIn (record h { hold = hold })); commands = commands } ≡ left_of fs token (with_item fs.held c.frame (HeldIn (late_row h (place_of fs c)))) fs.spare =
+        λ i. record fs { held = with_item fs.held c.frame (HeldIn (record h { hold = goes i })); commands = rest i } in
+        subst (CameHome fs token) (sym same)
+        (came_home (with_item fs.held c.frame (HeldIn (late_row h (place_of fs c)))) fs.spare (HeldIn h) (HeldIn (late_row h (place_of fs c))) held_was refl late_home
+        (record { hold = refl; plan = refl; owed = refl; requests = λ frame. refl }) refl refl sound.frames.spare_shape)
+
+    pub row_size : h.hold.planned.hold.size ≡ fs.geometry.block
+    row_size = whole.size
+
+    pub row_away : (position : ℕ) → position ≡ place_of fs c → is_away h.hold position ≡ true
+    row_away position at = ap (is_away h.hold) at ∙ away_from_row
+
+  -- ---- to a frame whose hold has ended
+
+  module _ (r : StripeHold) (was : use_at fs.held.items c.frame ≡ Returning r) where
+    returns : IsReturning fs.geometry r
+    returns = sound.frames.returning c.frame r was
+
+    away_from_frame : is_away r (place_of fs c) ≡ true
+    away_from_frame = sym (ap (λ v. is_away_from v (place_of fs c)) was) ∙ late.away
+
+    pub returning_size : r.planned.hold.size ≡ fs.geometry.block
+    returning_size = returns.size
+
+    pub returning_away : (position : ℕ) → position ≡ place_of fs c → is_away r position ≡ true
+    returning_away position at = ap (is_away r) at ∙ away_from_frame
+
+    -- whatever the hold hears, it is ended and as wide
+    heard_has : (P : Planned → Type 0) (block : Block) → P r.planned → ((event : Event) → P (planned_after r.planned event)) → P (with_answer r.planned (place_of fs c) block)
+    heard_has P block before later = by_tests (is_out (cell_at r.planned.hold.cells (place_of fs c)).standing) (is_sent (cell_at r.planned.hold.cells (place_of fs c)).writing)
+      where
+        by_tests : (out sent : Bool) → P (if out then r.planned else (if sent then planned_after r.planned (Confirms (place_of fs c)) else planned_after r.planned (Gives (place_of fs c) block)))
+        by_tests true sent = before
+        by_tests false true = later (Confirms (place_of fs c))
+        by_tests false false = later (Gives (place_of fs c) block)
+
+    module _ (block : Block) (position : ℕ) (hold : StripeHold) (commands : Numbered Outstanding) (at : position ≡ place_of fs c) (done : hold ≡ answered r position block)
+        (rest : commands ≡ (capacity_of fs.commands, (next_of fs.commands, map.remove (entries_of fs.commands) token)))
+      where
+        goes : hold ≡ answered r (place_of fs c) block
+        goes = done ∙ ap (λ p. answered r p block) at
+
+        away_is : hold.away ≡ set r.away (place_of fs c) false
+        away_is = ap (λ (x : StripeHold). x.away) goes
+
+        wide_away : length hold.away ≡ fs.geometry.slots
+        wide_away = ap length away_is ∙ length-set r.away (place_of fs c) false ∙ returns.wide_away
+
+        ended : hold.planned.hold.kind ≡ Kind.Idle
+        ended = ap (λ (x : StripeHold). x.planned.hold.kind) goes
+            ∙ heard_has (λ p. p.hold.kind ≡ Kind.Idle) block returns.ended (λ event. kind_after r.planned.hold event ∙ returns.ended)
+
+        size : hold.planned.hold.size ≡ fs.geometry.block
+        size = ap (λ (x : StripeHold). x.planned.hold.size) goes
+            ∙ heard_has (λ p. p.hold.size ≡ fs.geometry.block) block returns.size (λ event. size_after r.planned.hold event ∙ returns.size)
+
+        wide : length hold.planned.hold.cells ≡ fs.geometry.slots
+        wide = ap (λ (x : StripeHold). length x.planned.hold.cells) goes
+            ∙ heard_has (λ p. length p.hold.cells ≡ fs.geometry.slots) block returns.wide (λ event. width_after r.planned.hold event ∙ returns.wide)
+
+        now_home : is_away hold (place_of fs c) ≡ false
+        now_home = ap (λ away. slice_index_or away (place_of fs c) false) away_is ∙ get_or-set_same r.away (place_of fs c) false false (omega (arith, returns.wide_away, late.inside))
+
+        others_same : (j : ℕ) → j ≢ place_of fs c → is_away hold j ≡ is_away_from (use_at fs.held.items c.frame) j
+        others_same j other =
+            ap (λ away. slice_index_or away j false) away_is ∙ get_or-set_other r.away (place_of fs c) j false false other ∙ sym (ap (λ v. is_away_from v j) was)
+
+        one_more : home_at fs.geometry.slots (Returning hold) ≡ home_at fs.geometry.slots (use_at fs.held.items c.frame) + 1
+        one_more =
+            ap (λ away. home_at fs.geometry.slots (Returning (record hold { away = away }))) away_is ∙ home_back r.away (place_of fs c) away_from_frame
+            ∙ sym (ap (λ v. home_at fs.geometry.slots v + 1) was)
+
+        -- buffers are away still
+        pub returning_home : list_any (λ away. away) hold.away ≡ true
+            → CameHome fs token (record fs { held = with_item fs.held c.frame (Returning hold); commands = commands })
+        returning_home away =
+            let home : IsHome fs c (Returning hold) = record {
+              below = late.below;
+              home = now_home;
+              others = others_same;
+              more = let e = one_more in omega arith;
+              row = λ x there. absurd (cc);
+              ended = λ none. ap row_in was;
+              returning = λ x there.
+                  let same : hold ≡ x = cc in
+                  let some = some-away hold.away away in
+                  subst (IsReturning fs.geometry) same (record {
+                    ended = ended;
+                    size = size;
+                    wide = wide;
+                    wide_away = wide_away;
+                    some_away = (some.0, omega (arith, some.1, wide_away), some.2);
+                  });
+            } in
+            subst (λ (t : Numbered Outstanding). CameHome fs token (record fs { held = with_item fs.held c.frame (Returning hold); commands = t })) (sym rest)
+            (came_home (with_item fs.held c.frame (Returning hold)) fs.spare (Returning r) (Returning hold) was refl home
+            (record { hold = refl; plan = refl; owed = refl; requests = λ frame. refl }) refl refl sound.frames.spare_shape)
+
+        -- the last one is home, and the frame is free
+        module _ (home : list_any (λ away. away) hold.away ≡ false) where
+          -- the frames as the hold has heard of its last buffer
+          abbrev pub last_home : Frames
+          last_home = record fs { held = with_item fs.held c.frame (Returning hold); commands = commands }
+
+          last_there : use_at last_home.held.items c.frame ≡ Returning hold
+          last_there = use_at_own fs.held.items c.frame (Returning hold) late.below
+
+          pub has_returned : HasReturned last_home c.frame
+          has_returned = (hold, last_there, ended, home)
+
+          pub has_room : length fs.spare.items < vec_capacity fs.spare
+          has_room =
+              let one = free_set fs.held.items c.frame Free late.below in
+              let none = ap free_at was in
+              let few = count_free-le (set fs.held.items c.frame Free) in
+              omega (arith, one, none, few, length-set fs.held.items c.frame Free, sound.frames.spare, sound.frames.spare_room, sound.frames.count)
+
+          pub freed_home : (new : Frames) → new.held.items ≡ set last_home.held.items c.frame Free
+              → ((x : StripeHold) → use_at last_home.held.items c.frame ≡ Returning x → new.spare.items ≡ fs.spare.items ++ (record { count = length x.planned.hold.cells; size = x.planned.hold.size }) ∷ [])
+              → vec_capacity new.spare ≡ vec_capacity fs.spare → new ≡ record last_home { held = new.held; spare = new.spare } → CameHome fs token new
+          freed_home new items more capacity same =
+              let is_home : IsHome fs c Free = record {
+                below = late.below;
+                home = refl;
+                others = λ j other. sym (none-away-at hold.away home j) ∙ others_same j other;
+                more = let e = one_more in let all = count_home-all hold.away home in let n = wide_away in omega arith;
+                row = λ x there. absurd (cc);
+                ended = λ none. ap row_in was;
+                returning = λ x there. absurd (cc);
+              } in
+              let spare_is = more hold last_there in
+              let mine : buffers.Shape = record { count = length hold.planned.hold.cells; size = hold.planned.hold.size } in
+              let own : mine ≡ record { count = fs.geometry.slots; size = fs.geometry.block } = λ i. record { count = wide i; size = size i } in
+              let Fits : buffers.Shape → Type 0 = λ f. f ≡ record { count = fs.geometry.slots; size = fs.geometry.block } in
+              let shapes = subst (All Fits) (sym spare_is) (All-append Fits fs.spare.items (mine ∷ []) sound.frames.spare_shape (All-cons Fits mine [] own (All-nil Fits))) in
+              subst (CameHome fs token) (sym (same ∙ (λ i. record last_home { held = new.held; spare = new.spare; commands = rest i })))
+              (came_home new.held new.spare (Returning r) Free was (items ∙ set-set fs.held.items c.frame (Returning hold) Free) is_home
+              (record { hold = refl; plan = refl; owed = refl; requests = λ frame. refl })
+              (omega (arith, ap length spare_is, length-append fs.spare.items (mine ∷ []))) capacity shapes)
