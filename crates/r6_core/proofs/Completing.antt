@@ -108,7 +108,7 @@ finishes_on (Ok buffer) s mid new order same = (order.0, order.1, ap (λ (b : Bu
 finishes_on (Err fault) s mid new order same = (order.0, order.1, ap (λ (b : Buffer Request). b.items) same.0 ∙ order.2, same.1 ∙ order.3)
 
 pub turns_behind : (completion : Result (List ℕ) DeviceFault) (s mid new : State) → IfOk completion (λ _. (frame : ℕ) × KeepsOthers s.frames frame mid.frames) → mid.waiting ≡ s.waiting
-    → HaveTurns mid.frames mid.waiting.items new → HaveTurnsBehind completion s new
-turns_behind (Ok buffer) s mid new others waiting turns =
-    (others.0, mid.frames, others.1, subst (λ (b : Buffer Request). HaveTurns mid.frames b.items new) waiting turns)
-turns_behind (Err fault) s mid new others waiting turns = (mid.frames, subst (λ (b : Buffer Request). HaveTurns mid.frames b.items new) waiting turns)
+    → held.IsSound mid.frames → HaveTurns mid.frames mid.waiting.items new → HaveTurnsBehind completion s new
+turns_behind (Ok buffer) s mid new others waiting sound turns =
+    (others.0, mid.frames, others.1, sound, subst (λ (b : Buffer Request). HaveTurns mid.frames b.items new) waiting turns)
+turns_behind (Err fault) s mid new others waiting sound turns = (mid.frames, sound, subst (λ (b : Buffer Request). HaveTurns mid.frames b.items new) waiting turns)

@@ -10,6 +10,7 @@ use Rattle.r6_world.specs.Changes.{Change, Ask, Prepare, Classify, Send, Finish,
 use Rattle.r6_world.specs.Steps.{AtRest, Leads, Through, GoesOn, Scans, TakesOver, Looks, Look}
 use Rattle.r6_frames.specs.declared.op.Request.{Request}
 use Rattle.r6_frames.specs.declared.frames.Frames.{Frames}
+use Rattle.r6_frames.specs.Sound as held
 use Rattle.r6_frames.specs.Frames.{AreLive}
 use Rattle.r6_frames.specs.Slots.{states_of}
 use Rattle.r6_core.specs.declared.state.State.{State}
@@ -176,10 +177,11 @@ looked_releases s mid settled released new seen same done order kept = (
 )
 
 pub looked_turns : (s mid settled released new : State) (seen : Snapshot) → mid.waiting ≡ s.waiting → HasSettled s mid settled seen → released.frames ≡ settled.frames → released.waiting ≡ settled.waiting
-    → HaveTurns released.frames released.waiting.items new → HaveTurnsAfter s seen new
-looked_turns s mid settled released new seen same done frames waiting turns = λ unfailed. (
+    → held.IsSound released.frames → HaveTurns released.frames released.waiting.items new → HaveTurnsAfter s seen new
+looked_turns s mid settled released new seen same done frames waiting sound turns = λ unfailed. (
   settled.frames,
   done.frames,
+  subst (λ (fs : Frames). held.IsSound fs) frames sound,
   subst (λ rs. HaveTurns settled.frames rs new) (ap (λ b. b.items) (waiting ∙ done.waiting ∙ same)) (subst (λ fs. HaveTurns fs released.waiting.items new) frames turns),
 )
 
@@ -188,9 +190,10 @@ none_turn : (fs : Frames) → (AreLive fs → ⊥) → (requests : List Request)
 none_turn fs stopped [] = (refl, refl)
 none_turn fs stopped (request ∷ requests) = inr (λ live. absurd (stopped live), requests, refl, none_turn fs stopped requests)
 
-pub stopped_turns : (s mid : State) (seen : Snapshot) → mid.waiting ≡ s.waiting → mid.frames.saw_failed ≡ true → (Agrees s seen → mid.frames ≡ s.frames) → HaveTurnsAfter s seen mid
-stopped_turns s mid seen waiting failed frames = λ unfailed. (
+pub stopped_turns : (s mid : State) (seen : Snapshot) → mid.waiting ≡ s.waiting → mid.frames.saw_failed ≡ true → (Agrees s seen → mid.frames ≡ s.frames) → held.IsSound mid.frames → HaveTurnsAfter s seen mid
+stopped_turns s mid seen waiting failed frames sound = λ unfailed. (
   mid.frames,
   frames,
+  sound,
   subst (λ rs. HaveTurns mid.frames rs mid) (ap (λ b. b.items) waiting) (none_turn mid.frames (λ live. let not = live.1 in absurd (cc)) mid.waiting.items),
 )

@@ -345,13 +345,13 @@ HaveTurns fs requests new = InTurn fs requests new.frames new.waiting.items
 -- those that waited have their turns behind the completion of a command: a good one changes one frame
 abbrev pub HaveTurnsBehind : Result (List ℕ) DeviceFault → State → State → Type 0
 HaveTurnsBehind (Ok buffer) old new =
-    (frame : ℕ) × (behind : Frames) × KeepsOthers old.frames frame behind × HaveTurns behind old.waiting.items new
-HaveTurnsBehind (Err fault) old new = (behind : Frames) × HaveTurns behind old.waiting.items new
+    (frame : ℕ) × (behind : Frames) × KeepsOthers old.frames frame behind × held.IsSound behind × HaveTurns behind old.waiting.items new
+HaveTurnsBehind (Err fault) old new = (behind : Frames) × held.IsSound behind × HaveTurns behind old.waiting.items new
 
 -- and behind a look at an array that hasn't failed: with the frames as they were if it found no slot other
 abbrev pub HaveTurnsAfter : State → Snapshot → State → Type 0
 HaveTurnsAfter old snapshot new =
-    snapshot.failed ≡ false → (behind : Frames) × (Agrees old snapshot → behind ≡ old.frames) × HaveTurns behind old.waiting.items new
+    snapshot.failed ≡ false → (behind : Frames) × (Agrees old snapshot → behind ≡ old.frames) × held.IsSound behind × HaveTurns behind old.waiting.items new
 
 -- ---- what internal calls do
 

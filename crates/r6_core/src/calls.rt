@@ -81,8 +81,8 @@ impl Core {
     /// Takes a request, and starts what can start.
     ///
     /// # Errors
-    /// In this order: 1 `NoSuchBlock`, 2 `WrongShard`, 3 `WrongLength`, 6 `Exhausted`, 4 `Busy`, with the request back.
-    /// Nothing changes.
+    /// In this order: 1 `NoSuchBlock`, 2 `WrongShard`, 3 `WrongLength`, 5 `ArrayFailed`, 6 `Exhausted`, 4 `Busy`, with the
+    /// request back. Nothing changes.
     pub fn submit(&mut self, op: Op) -> Result<OpId, Refused<Op>>
         ensures step { IfOk result (λ id. Step self.old (Submit (op_of op) id.0) self.new) }
         ensures accepted { IfOk result (λ _. HasNone (HasSubmitFault self.old op) submit_faults) }
@@ -195,6 +195,16 @@ impl Core {
             Device::Synced(generation) => Some(generation),
             _ => None,
         }
+    }
+}
+
+#[cfg(test)]
+impl Core {
+    // How many slots the array has.
+    pub(crate) fn slots(&self) -> usize
+        ensures { (result ≡ self.now.frames.geometry.slots) × (4 ≤ result) }
+    {
+        self.state.frames.geometry.slots()
     }
 }
 

@@ -43,10 +43,12 @@ pub(crate) fn core_of(alloc: Global, geometry: &Geometry, shard: usize) -> Resul
     Core::new(alloc, *geometry, shard, 1, &whole(geometry))
 }
 
-/// The core looks at the register: the number of the refusal, 0 for none. Each array has slots 0 to 3.
+/// The core looks at the register: the number of the refusal, 0 for none.
 pub(crate) fn look(core: &mut Core, snapshot: &Snapshot) -> u8
     requires { (slot : ℕ) → 4 ≤ slot → status_of snapshot.now slot ≡ InSync }
 {
+    // every array has slots 0 to 3
+    let _ = core.slots();
     number_of(core.look(snapshot).err())
 }
 

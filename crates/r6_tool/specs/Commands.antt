@@ -1,13 +1,13 @@
 -- How a command ends, over the text of its settings file and that of its script where these are known. The
 -- commands are this project's own.
-use Rattle.std.specs.Prelude.{◌≡◌, ◌≢◌, ◌⊎◌, ℕ, false, List, codes, Option, Some, None, Ok, Err, IfSome}
+use Rattle.std.specs.Prelude.{◌≡◌, ◌≢◌, ◌⊎◌, ℕ, false, List, codes, Option, None, Ok, Err, IfSome}
 use Rattle.std.specs.Io.KnownBytes.{Appends, Keeps}
 use Rattle.r6_command.specs.CommandLine.{Asked, geometry, create, verify, simulate, run}
 use Rattle.r6_script.specs.Script.{Explains, Said, Say, lines_of}
 use Rattle.r6_settings.specs.declared.fault.SettingsFault.TheVariants as settings
 use Rattle.r6_settings.specs.Settings.{Values, settings_in}
 use Rattle.r6_tool.specs.declared.fault.Fault.{Fault}
-use Rattle.r6_tool.specs.declared.fault.Fault.TheVariants.{NotText, NotBuilt, Unreadable, Settings, Script, Device, Output, Memory}
+use Rattle.r6_tool.specs.declared.fault.Fault.TheVariants.{NotBuilt, Unreadable, Settings, Script, Device, Output, Memory}
 use Rattle.r6_tool.specs.declared.fault.Input.TheVariants as input
 use Rattle.r6_tool.specs.Layouts.{layout_text}
 

@@ -15,4 +15,4 @@ returns-clause-order c = finishes_on c.args.completion c.args.self.now c.take-re
 
 pub returns-clause-turns : goal.returns-clause-turns
 returns-clause-turns c =
-    turns_behind c.args.completion c.args.self.now c.take-receipt.new.self c.scan.new.self c.take-receipt.ensures.others c.take-receipt.ensures.waiting c.scan.ensures.turns
+    turns_behind c.args.completion c.args.self.now c.take-receipt.new.self c.scan.new.self c.take-receipt.ensures.others c.take-receipt.ensures.waiting c.take-receipt.ensures.core.sound.frames c.scan.ensures.turns

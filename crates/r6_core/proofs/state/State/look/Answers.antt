@@ -104,7 +104,7 @@ returns-then-self-clause-turns c =
     let adopt = c.adopt-went_out.ensures in
     let s = c.args.self.now in
     let mid = c.adopt-went_out.new.self in
-    stopped_turns s mid c.args.snapshot.now adopt.waiting c.if-self.true (frames_stay s mid c.args.snapshot.now c.adopt-went_out.result adopt.some adopt.none)
+    stopped_turns s mid c.args.snapshot.now adopt.waiting c.if-self.true (frames_stay s mid c.args.snapshot.now c.adopt-went_out.result adopt.some adopt.none) adopt.sound.frames
 
 pub returns-clause-turns : goal.returns-clause-turns
 returns-clause-turns c =
@@ -119,4 +119,4 @@ returns-clause-turns c =
           (settled_some s mid w.settle.new.self seen (adopt.some w.if-went_out.true) settle.core settle.leads settle.same settle.order settle.unanswered settle.waiting)
       | else-went_out w ↦ subst (λ (x : State). HasSettled s mid x seen) (sym w.self-is) (settled_none s mid seen (adopt.none w.if-went_out.false).0 c.requires.core)
     ] in
-    looked_turns s mid c.if-went_out.self c.release.new.self c.scan.new.self seen adopt.waiting done c.release.ensures.same.0 c.release.ensures.waiting c.scan.ensures.turns
+    looked_turns s mid c.if-went_out.self c.release.new.self c.scan.new.self seen adopt.waiting done c.release.ensures.same.0 c.release.ensures.waiting c.release.ensures.core.sound.frames c.scan.ensures.turns
