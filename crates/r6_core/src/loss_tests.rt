@@ -477,36 +477,6 @@ fn what_one_loss_finishes_is_answered_by_number(rt: HostRuntime) -> Result<(), F
 }
 
 #[test]
-fn a_core_begins_with_two_slots_lost(rt: HostRuntime) -> Result<(), Fail> {
-    let geometry = Geometry::new(4, 1, 16, 4, 1)?;
-    // slots 1 and 2, which have the data of row 0
-    let snapshot = Snapshot::start(&geometry, 6);
-    let mut core = Core::new(rt.alloc(), geometry, 0, 1, &snapshot)?;
-    let mut devices = devices_of(rt.alloc(), &geometry)?;
-    for (slot, generation) in [(0usize, Some(0u32)), (1, None), (2, None), (3, Some(0))] {
-        assert_eq!(rt; core.in_sync(slot), generation);
-    }
-    let _ = core
-        .submit(Op::Write(0, filled(rt.alloc(), 16, 0x5a)?))
-        .ok()
-        .ok_or("refused")?;
-    // P and Q are read, and written
-    assert_eq!(rt; drive(&mut core, &mut devices, 9), 4);
-    for block in [0u64, 1] {
-        assert_eq!(rt;
-            try_read(&mut core, block, Buffer::new(rt.alloc(), 16)?),
-            (0, false)
-        );
-    }
-    assert_eq!(rt; drive(&mut core, &mut devices, 9), 4);
-    assert_eq!(rt; look(&mut core, &snapshot), 0);
-    assert_eq!(rt; written(core.take_reply(), 0x5a), Some((OpId(0), true)));
-    assert_eq!(rt; read(core.take_reply(), 0x5a), Some((OpId(1), true)));
-    assert_eq!(rt; read(core.take_reply(), 0), Some((OpId(2), true)));
-    Ok(())
-}
-
-#[test]
 fn frames_are_free_when_late_buffers_are_home(rt: HostRuntime) -> Result<(), Fail> {
     let geometry = Geometry::new(4, 1, 16, 132, 1)?;
     let mut core = core_of(rt.alloc(), &geometry, 0)?;
