@@ -75,7 +75,7 @@ pub record TookOver (s mid : State) (seen : Snapshot) : Type 0 where
 step_from : (s mid new : State) (seen : Snapshot) → TookOver s mid seen → SameFrames s new → Looks (layout_in s) s.frames.shard seen.failed (state_of mid) (state_of new)
     → AtRest (layout_in s) s.frames.shard (state_of new) → Step s (Look seen) new
 step_from s mid new seen took same looks rest =
-    (same, (ap (map call_of) took.told.0, ap (option_map call_of) took.told.1, state_of mid, took.takes, took.slots, looks, rest))
+    (same, (ap (map call_of) took.told.0, ap (option_map call_of) took.told.1, state_of mid, took.takes, (λ slot below. took.slots slot), looks, rest))
 
 -- the array has failed
 pub looked_failed : (s mid new : State) (seen : Snapshot) → TookOver s mid seen → seen.failed ≡ true → SameFrames mid new → state_of new ≡ after (layout_in mid) (state_of mid) See_failed

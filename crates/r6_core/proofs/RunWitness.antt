@@ -108,7 +108,7 @@ looks b r whole = (
   refl,
   g3 b,
   ([], refl),
-  (λ slot. sym (ap (adopted ((g3 b).slot slot)) (whole.in_sync slot))),
+  (λ slot below. sym (ap (adopted ((g3 b).slot slot)) (whole.in_sync slot))),
   subst (λ (failed : Bool). steps.Looks small 0 failed (g3 b) (g4 b)) (sym whole.not_failed) (g3 b, ([], refl), ([], answered b)),
   free_rests (g4 b) (λ f. refl) (one_waits_not 0 (Read 0) (Released (Data b)) (released_not (Data b))) (none_built (Synced 0) (λ x. x)),
 )

@@ -4,20 +4,21 @@ use Rattle.std.proofs.lemmas.Bool.{cases_eq, cases_Bool, false≢true, true≢fa
 use Rattle.r6_stripe.specs.Holds.{Event, MayEnd, after_event}
 use Rattle.r6_stripe.specs.Holds.Event.{Asks, Writes}
 use Rattle.r6_stripe.proofs.Seen as Laws
-use Rattle.r6_world.specs.Tables.{put, put_in}
+use Rattle.r6_world.specs.Tables.{put}
 use Rattle.r6_world.specs.PlainArray.{Block, Array, Op, Read, Write, Data, Done, Plain, served}
 use Rattle.r6_world.specs.Layouts.{Layout, IsLayout, IsRowOf}
 use Rattle.r6_world.specs.Tasks.{Write as RowWrite, Task, ReadFor, WriteFor, Rebuild, Check, Repair, Hold, is_written, serves, serves_one, kind_of, end_of, Outcome, Answered, Wrote, Rebuilt, GivenUp, Classed, Skipped}
-use Rattle.r6_world.specs.ShardStates.{Shard, IsLive, SlotState, Synced, Building, standing_of, Request, Held}
-use Rattle.r6_world.specs.Changes.{IsTarget, AllBuilt, Change, Ask, Prepare, Classify, Send, Finish, Bring_in, Allowed, slots_after, after, outcome_reply}
-use Rattle.r6_world.specs.Steps.{GoesOn, Leads}
+use Rattle.r6_world.specs.ShardStates.{Shard, IsLive, SlotState, Synced, Building, standing_of, Request, Stage, Waiting, Held, Finished, Released}
+use Rattle.r6_world.specs.Changes.{IsTarget, AllBuilt, Change, Start, Ask, Prepare, Classify, Send, Finish, Bring_in, Allowed, slots_after, after, outcome_reply, finished, finished_stage, released, released_stage}
+use Rattle.r6_world.specs.Steps.{Scans, GoesOn, Leads}
 use Rattle.r6_world.specs.Worlds.{World}
-use Rattle.r6_world.specs.Laws.{Acts, is_among}
+use Rattle.r6_world.specs.ActingPoints.{is_among, is_served}
 use Rattle.r6_world.proofs.Tables.{put-same, put-other, put-cases, Some-inj, not_both}
+use Rattle.r6_world.proofs.Points.{Acts, Among, put_in-same, put_in-other, put_in-apart}
 use Rattle.r6_world.proofs.FullRows.{SameRow, written, written-other, IsBatch, row-at}
 use Rattle.r6_world.proofs.Rows.{Devices, Rows, Unheld, block_seen}
 use Rattle.r6_world.proofs.RowHolds.{finishes, realikes}
-use Rattle.r6_world.proofs.Requests.{Serves, HeldBatch, ends, request_at, same_stage, finished-held}
+use Rattle.r6_world.proofs.Requests.{Serves, HeldBatch, ends, request_at, same_stage, finished-held, finished-own, start-waits, held_now-other}
 use Rattle.r6_world.proofs.Shards.{Sound, asks, prepares, classifies, sends}
 use Rattle.r6_world.proofs.Flights.{Sight, restored}
 use Rattle.r6_world.proofs.Endings.{SlotsEnd, slots-end, same-after, written-after}
@@ -31,15 +32,6 @@ acted n (w ∷ writes) plain = acted n writes (served plain n w.id (Write w.bloc
 acted-array : (n : ℕ) (writes : List RowWrite) (plain : Plain) → (acted n writes plain).array ≡ written writes plain.array
 acted-array n [] plain = refl
 acted-array n (w ∷ writes) plain = acted-array n writes (served plain n w.id (Write w.block w.new_data))
-
-put_in-same : {A : Type 0} (f : ℕ → ℕ → A) (n id : ℕ) (value : A) (at : ℕ) → at ≡ id → put_in f n id value n at ≡ value
-put_in-same f n id value at e = ap (λ (x : ℕ → _). x at) (put-same f n (put (f n) id value) n refl) ∙ put-same (f n) id value at e
-
-put_in-other : {A : Type 0} (f : ℕ → ℕ → A) (n id : ℕ) (value : A) (at : ℕ) → (at ≡ id → ⊥) → put_in f n id value n at ≡ f n at
-put_in-other f n id value at ne = ap (λ (x : ℕ → _). x at) (put-same f n (put (f n) id value) n refl) ∙ put-other (f n) id value at ne
-
-pub put_in-apart : {A : Type 0} (f : ℕ → ℕ → A) (n id : ℕ) (value : A) (m : ℕ) → (m ≡ n → ⊥) → put_in f n id value m ≡ f m
-put_in-apart f n id value m ne = put-other f n (put (f n) id value) m ne
 
 acted-other : (n : ℕ) (writes : List RowWrite) (plain : Plain) (id : ℕ) → serves_one writes id ≡ false → (acted n writes plain).answers n id ≡ plain.answers n id
 acted-other n [] plain id e = refl
@@ -126,7 +118,7 @@ acts-writes l w n request f row was (x ∷ writes) b plain none blocks fresh res
     let own : serves_one (x ∷ writes) x.id ≡ true = or_left _ _ (eq-eqb x.id x.id refl) in (
       request_at (Write x.block x.new_data) (Held f),
       was x.id _ b.0,
-      record {},
+      refl,
       none x.id own,
       fresh x.block (or_left _ _ (eq-eqb x.block x.block refl)),
       acts-writes l w n request f row was writes b.3 (served plain n x.id (Write x.block x.new_data))
@@ -138,6 +130,83 @@ acts-writes l w n request f row was (x ∷ writes) b plain none blocks fresh res
           rest last a,
     )
 
+-- a request that has its reply keeps it while holds go on and requests start
+abbrev pub HasReply : Option Request → Type 0
+HasReply o = (op : Op) × (stage : Stage) × (o ≡ Some (request_at op stage)) × (is_served stage ≡ true)
+
+ended-reply : (f : ℕ) (outcome : Outcome) (op : Op) (stage : Stage) → is_served stage ≡ true → finished_stage f outcome op stage ≡ stage
+ended-reply f outcome op Waiting e = absurd (false≢true e)
+ended-reply f outcome op (Held g) e = absurd (false≢true e)
+ended-reply f outcome op (Finished reply) e = refl
+ended-reply f outcome op (Released reply) e = refl
+
+released-reply : (stage : Stage) → is_served stage ≡ true → is_served (released_stage stage) ≡ true
+released-reply Waiting e = e
+released-reply (Held g) e = e
+released-reply (Finished reply) e = e
+released-reply (Released reply) e = e
+
+pub releases-reply : (o : Option Request) → HasReply o → HasReply (released o)
+releases-reply o x = (x.0, released_stage x.1, ap released x.2, released-reply x.1 x.3)
+
+waits-not-served : is_served Waiting ≡ true → ⊥
+waits-not-served e = false≢true e
+
+-- what a hold's end gives its requests
+served-outcome : (outcome : Outcome) (op : Op) → is_served (Finished (outcome_reply outcome op)) ≡ true
+served-outcome (Answered b) (Read block) = refl
+served-outcome (Answered b) (Write block new_data) = refl
+served-outcome Wrote op = refl
+served-outcome Rebuilt op = refl
+served-outcome GivenUp op = refl
+served-outcome (Classed class) op = refl
+served-outcome Skipped op = refl
+
+ends-served : (f : ℕ) (outcome : Outcome) (request : ℕ → Option Request) (id : ℕ) (op : Op) → request id ≡ Some (request_at op (Held f)) → HasReply (finished f outcome (request id))
+ends-served f outcome request id op e =
+    (op, Finished (outcome_reply outcome op), ap (finished f outcome) e ∙ ap (λ y. Some (request_at op y)) (finished-own f f outcome op refl), served-outcome outcome op)
+
+module _ (l : Layout) (n : ℕ) where
+  reply-goes : (s : Shard) (change : Change) (id : ℕ) → GoesOn change → HasReply (s.request id) → HasReply ((after l s change).request id)
+  reply-goes s (Ask f h slot g) id k x = x
+  reply-goes s (Prepare f h event) id k x = x
+  reply-goes s (Classify f h class) id k x = x
+  reply-goes s (Send f h slot g b) id k x = x
+  reply-goes s (Finish f h outcome) id k x = (x.0, x.1, ap (finished f outcome) x.2 ∙ ap (λ y. Some (request_at x.0 y)) (ended-reply f outcome x.0 x.1 x.3), x.3)
+  reply-goes s (Bring_in slot g) id k x = x
+  reply-goes s change id k x = absurd k
+
+  pub replies-go : (changes : List Change) (s new : Shard) (id : ℕ) → Leads l n GoesOn s changes new → HasReply (s.request id) → HasReply (new.request id)
+  replies-go [] s new id e x = subst (λ (y : Shard). HasReply (y.request id)) (sym e) x
+  replies-go (change ∷ changes) s new id e x = replies-go changes (after l s change) new id e.2 (reply-goes s change id e.0 x)
+
+  reply-scans : (s : Shard) (change : Change) (id : ℕ) → Scans change → Allowed l n s change → HasReply (s.request id) → HasReply ((after l s change).request id)
+  reply-scans s (Start f row task) id k a x =
+      elim (cases_Bool (serves task id)) [
+        | inl mine ↦
+            let waits = start-waits l s row id task a.4 mine in
+            absurd (waits-not-served (ap is_served (sym (same_stage _ _ _ _ (sym x.2 ∙ waits.1)).1) ∙ x.3))
+        | inr other ↦ (x.0, x.1, held_now-other s.request task f id other ∙ x.2, x.3)
+      ]
+  reply-scans s (Ask f h slot g) id k a x = x
+  reply-scans s (Prepare f h event) id k a x = x
+  reply-scans s (Send f h slot g b) id k a x = x
+  reply-scans s change id k a x = absurd k
+
+  pub replies-scan : (changes : List Change) (s new : Shard) (id : ℕ) → Leads l n Scans s changes new → HasReply (s.request id) → HasReply (new.request id)
+  replies-scan [] s new id e x = subst (λ (y : Shard). HasReply (y.request id)) (sym e) x
+  replies-scan (change ∷ changes) s new id e x = replies-scan changes (after l s change) new id e.2 (reply-scans s change id e.0 e.1 x)
+
+-- who is named for a batch
+numbers-in : (n : ℕ) (writes : List RowWrite) (rest : List (ℕ × ℕ)) (m i : ℕ) → Among m i (numbers n writes rest) → Among m i rest ⊎ ((m ≡ n) × (serves_one writes i ≡ true))
+numbers-in n [] rest m i e = inl e
+numbers-in n (v ∷ writes) rest m i (inl e) = inr (e.0, or_left _ _ (eq-eqb i v.id e.1))
+numbers-in n (v ∷ writes) rest m i (inr e) =
+    elim (numbers-in n writes rest m i e) [
+      | inl later ↦ inl later
+      | inr p ↦ inr (p.0, or_right _ _ p.1)
+    ]
+
 module _ (l : Layout) (is : IsLayout l) (w : World) (n : ℕ) (device : Devices) (gave : Sight) where
   -- what the rest of a step does, from this state of the shard and of the plain array
   pub record Acted (new : Shard) (blocks : List ℕ) (plain : Plain) : Type 0 where
@@ -147,6 +216,7 @@ module _ (l : Layout) (is : IsLayout l) (w : World) (n : ℕ) (device : Devices)
     pub sound : Sound l n device gave new plain'.array (plain'.answers n)
     pub elsewhere : (row : ℕ) → (IsRowOf l n row → ⊥) → SameRow l plain.array plain'.array row
     pub others : (m : ℕ) → (m ≡ n → ⊥) → plain'.answers m ≡ plain.answers m
+    pub answered : (m id : ℕ) → Among m id acting → (m ≡ n) × HasReply (new.request id)
 
   -- what is kept while holds go on
   pub record Going (s : Shard) (blocks : List ℕ) (plain : Plain) : Type 0 where
@@ -184,7 +254,8 @@ module _ (l : Layout) (is : IsLayout l) (w : World) (n : ℕ) (device : Devices)
     pub blocks' : List ℕ
     pub plain' : Plain
     pub going : Going s' blocks' plain'
-    pub joins : (rest : List (ℕ × ℕ)) (last : Plain) → Acts w blocks' rest plain' last → (acting : List (ℕ × ℕ)) × Acts w blocks acting plain last
+    pub joins : (rest : List (ℕ × ℕ)) (last : Plain) → Acts w blocks' rest plain' last
+        → (acting : List (ℕ × ℕ)) × Acts w blocks acting plain last × ((m id : ℕ) → Among m id acting → Among m id rest ⊎ ((m ≡ n) × HasReply (s'.request id)))
     pub elsewhere : (row : ℕ) → (IsRowOf l n row → ⊥) → SameRow l plain.array plain'.array row
     pub others : (m : ℕ) → (m ≡ n → ⊥) → plain'.answers m ≡ plain.answers m
 
@@ -238,11 +309,16 @@ module _ (l : Layout) (is : IsLayout l) (w : World) (n : ℕ) (device : Devices)
             | inr before ↦ ended-unheld s f (l.row_of blk) (x.let_go blk before)
           ];
         };
-        joins = λ rest last acts. ((n, id) ∷ rest, (request_at (Read block) (Held f), x.was id f (Read block) sv.0, record {}, none, held-fresh s blocks plain x f h a.0 block sv.1, acts));
+        joins = λ rest last acts. ((n, id) ∷ rest, (request_at (Read block) (Held f), x.was id f (Read block) sv.0, refl, none, held-fresh s blocks plain x f h a.0 block sv.1, acts), named f (Answered b) s.request id (Read block) rest sv.0);
         elsewhere = λ row ne blk e. refl;
         others = λ m ne. put_in-apart plain.answers n id (Some (Data (plain.array block))) m ne;
       }
     where
+      named : (f : ℕ) (outcome : Outcome) (request : ℕ → Option Request) (id : ℕ) (op : Op) (rest : List (ℕ × ℕ)) → request id ≡ Some (request_at op (Held f))
+          → (m i : ℕ) → Among m i ((n, id) ∷ rest) → Among m i rest ⊎ ((m ≡ n) × HasReply (finished f outcome (request i)))
+      named f outcome request id op rest there m i (inl e) = inr (e.0, ends-served f outcome request i op (ap request e.1 ∙ there))
+      named f outcome request id op rest there m i (inr e) = inl e
+
       read_is_no_write : (writes : List RowWrite) → ReadFor id block ≡ WriteFor writes → ⊥
       read_is_no_write writes e = cc
 
@@ -290,6 +366,10 @@ module _ (l : Layout) (is : IsLayout l) (w : World) (n : ℕ) (device : Devices)
               blocks
               (λ blk e. held-fresh s blocks plain x f h a.0 blk (batch-row l s.request f h.row writes sv blk e))
               rest last acts,
+          λ m i e. elim (numbers-in n writes rest m i e) [
+            | inl later ↦ inl later
+            | inr p ↦ inr (p.0, let q = batch-block l s.request f h.row writes sv i p.1 in ends-served f Wrote s.request i _ q.1)
+          ],
         );
         elsewhere = λ row ne. other-rows row (λ same. ne (subst (IsRowOf l n) (sym same) held.in_shard));
         others = λ m ne. acted-apart n writes plain m ne;
@@ -316,7 +396,7 @@ module _ (l : Layout) (is : IsLayout l) (w : World) (n : ℕ) (device : Devices)
           was = λ i g op e. x.was i g op (finished-held f g outcome (s.request i) op e);
           let_go = λ blk e. ended-unheld s f (l.row_of blk) (x.let_go blk e);
         };
-        joins = λ rest last acts. (rest, acts);
+        joins = λ rest last acts. (rest, acts, λ m i e. inl e);
         elsewhere = λ row ne blk e. refl;
         others = λ m ne. refl;
       }
@@ -404,6 +484,7 @@ module _ (l : Layout) (is : IsLayout l) (w : World) (n : ℕ) (device : Devices)
         sound = subst (λ y. Sound l n device gave y plain.array (plain.answers n)) (sym e) x.sound;
         elsewhere = λ row ne blk at. refl;
         others = λ m ne. refl;
+        answered = λ m id among. absurd among;
       }
   goes s (Ask f h slot g ∷ changes) new blocks plain x e =
       goes (after l s (Ask f h slot g)) changes new blocks plain
@@ -448,6 +529,10 @@ module _ (l : Layout) (is : IsLayout l) (w : World) (n : ℕ) (device : Devices)
         sound = r.sound;
         elsewhere = λ row ne blk at. en.elsewhere row ne blk at ∙ r.elsewhere row ne blk at;
         others = λ m ne. r.others m ne ∙ en.others m ne;
+        answered = λ m id among. elim (j.2 m id among) [
+          | inl later ↦ r.answered m id later
+          | inr p ↦ (p.0, replies-go l n changes (after l s (Finish f h outcome)) new id e.2 p.1)
+        ];
       }
   goes s (Bring_in slot g ∷ changes) new blocks plain x e =
       goes (after l s (Bring_in slot g)) changes new blocks plain

@@ -1,6 +1,6 @@
 -- The headline, for every list of steps.
-use Rattle.std.proofs.Common.{◌≡◌, ◌≢◌, ℕ, ◌<◌, ◌⊎◌, List, [], ◌∷◌, Bool, true, false, cond, if◌then◌else◌, zero, suc, inl, inr, refl, sym, ap, ◌∙◌, subst, arith, Option, Some, None, Err}
-use Rattle.std.proofs.lemmas.Bool.{cases_eq, false≢true, true≢false, le-ltb}
+use Rattle.std.proofs.Common.{◌≡◌, ◌≢◌, ℕ, ◌<◌, ◌⊎◌, List, [], ◌∷◌, Bool, true, false, not, ◌&&◌, cond, if◌then◌else◌, zero, suc, inl, inr, refl, sym, ap, ◌∙◌, subst, arith, Option, Some, None, Err}
+use Rattle.std.proofs.lemmas.Bool.{cases_eq, false≢true, true≢false, le-ltb, and_parts}
 use Rattle.r6_stripe.specs.Holds.{Cell, Standing, cell_at, standing_cell}
 use Rattle.r6_stripe.proofs.Seen as RowLaws
 use Rattle.r6_world.specs.Tables.{put, put_in, count_below}
@@ -8,12 +8,13 @@ use Rattle.r6_world.specs.PlainArray.{Block, Array, Op, Reply, ArrayFailed, Plai
 use Rattle.r6_world.specs.Layouts.{Layout, IsLayout, IsRowOf, content, full_row}
 use Rattle.r6_world.specs.Registers.{Snapshot, RegisterCall, Told as Answer, Contended, answer_to, register_after}
 use Rattle.r6_world.specs.Tasks.{Task, WriteFor, Hold}
-use Rattle.r6_world.specs.ShardStates.{Shard, SlotState, Missing, InSyncFor, IsLive, is_away, Transfer, Fetch, Store, Storing, Call, Command, Request, Released, found, standing_of, frames}
+use Rattle.r6_world.specs.ShardStates.{Shard, SlotState, Missing, InSyncFor, IsLive, is_away, Transfer, Fetch, Store, Storing, handed, Call, Command, Request, Released, found, standing_of, frames}
 use Rattle.r6_world.specs.Changes.{Change, Start, Learn, Confirm, Come_home, Lose, Adopt, See_failed, Accept, Release, Skip_turn, Hand_command, Hear, Hand_reply, Allowed, after, taken_out, told_hold, abandoned_to, adopted, put_back}
 use Rattle.r6_world.specs.Steps.{Scans, GoesOn, TakesOver, Takes, Looks, Leads, Through, Completion, Good, Error, Receipt, Taken, Late, Event, Submit, Deliver, Look, Turn_started, Turn_skipped, Take_command, No_command, Take_call, No_call, Told, Take_reply, No_reply, Step}
-use Rattle.r6_world.specs.Worlds.{World, Devices, Happening, Core, Perform, Tell, Outside, Moment, Possible, Run, next, performed_on, given, broken_by, break, as_made, flown}
+use Rattle.r6_world.specs.Worlds.{World, Devices, Happening, Core, Perform, Tell, Outside, Moment, Possible, Run, next, performed_on, given, broken_by, break, as_made, flown, Brings, IsBrought}
 use Rattle.r6_world.specs.Claims.{IsIdle, IsUnwritten, IsWrite, RowsHold, AnswersFail}
-use Rattle.r6_world.specs.Laws.{Acts, Explained, ShardHolds}
+use Rattle.r6_world.specs.ActingPoints.{MayAct, acting, plain_after, acts_between, is_going, is_served}
+use Rattle.r6_world.specs.Laws.{Explained, ShardHolds}
 use Rattle.r6_world.proofs.Tables.{put-same, put-other, put-cases, Some-inj, not_both, same_entry, at-entry}
 use Rattle.r6_world.proofs.FullRows.{SameRow}
 use Rattle.r6_world.proofs.Cells.{found-at}
@@ -24,7 +25,8 @@ use Rattle.r6_world.proofs.RowPerformings.{performs, stored-other}
 use Rattle.r6_world.proofs.RowLosses.{loses}
 use Rattle.r6_world.proofs.Requests.{Requests, accepts, releases, hands_reply, hears, fails, request_at}
 use Rattle.r6_world.proofs.Shards.{Sound, begins-hold, learns, confirms, comes, scans}
-use Rattle.r6_world.proofs.Acting.{Acted, goes}
+use Rattle.r6_world.proofs.Points.{Acts, Among, ActsAt, point, stays, is_in, by_number}
+use Rattle.r6_world.proofs.Acting.{Acted, HasReply, goes, releases-reply, replies-scan}
 use Rattle.r6_world.proofs.Endings.{same-after}
 use Rattle.r6_world.proofs.Changes.{step-kept, through-goes, through-scans}
 use Rattle.r6_world.proofs.Failing.{OnlyOld, old-kept, fails-all}
@@ -33,7 +35,7 @@ use Rattle.r6_world.proofs.Parts.{Parting, Parted, Sane, live-was, sync-adopted,
 use Rattle.r6_world.proofs.RegisterCalls.{IsRegister, register-kept}
 use Rattle.r6_world.proofs.Renewals.{Renewed, renewed-call, renewed-parted, own-parted}
 use Rattle.r6_world.proofs.Besides.{IsIn}
-use Rattle.r6_world.proofs.Flights.{Sight, restored, with_block, SameCommand, Flies, restored-was, restored-is, rows-alike, abandoned-restored, flies-abandoned, flies-failed, untaken-restored, taken-restored, flies-taken}
+use Rattle.r6_world.proofs.Flights.{Sight, restored, with_block, SameCommand, Flies, restored-was, restored-is, rows-alike, was-fetch, abandoned-restored, flies-abandoned, flies-failed, untaken-restored, taken-restored, flies-taken}
 
 -- what is outside a shard's core
 abbrev pub sight : World → ℕ → Sight
@@ -109,7 +111,7 @@ module _ (l : Layout) (is : IsLayout l) (Judged : ℕ → Type 0) (Comes : Regis
   no_act : (w : World) (n : ℕ) (new : Shard) (plain : Plain) → Sound l n w.device (sight w n) new plain.array (plain.answers n)
       → Acted l is w n w.device (sight w n) new [] plain
   no_act w n new plain x =
-      record { acting = []; plain' = plain; acts = refl; sound = x; elsewhere = λ row ne blk at. refl; others = λ m ne. refl }
+      record { acting = []; plain' = plain; acts = refl; sound = x; elsewhere = λ row ne blk at. refl; others = λ m ne. refl; answered = λ m id among. absurd among }
 
   then_scans : (w : World) (n : ℕ) (mid new : Shard) (plain : Plain) → Acted l is w n w.device (sight w n) mid [] plain → Through l n Scans mid new
       → Acted l is w n w.device (sight w n) new [] plain
@@ -121,6 +123,7 @@ module _ (l : Layout) (is : IsLayout l) (Judged : ℕ → Type 0) (Comes : Regis
         sound = scans l is n w.device (sight w n) x.plain'.array (x.plain'.answers n) mid x.sound t.0 new t.1;
         elsewhere = x.elsewhere;
         others = x.others;
+        answered = λ m id among. let p = x.answered m id among in (p.0, replies-scan l n t.0 mid new id t.1 p.1);
       }
 
   released-acted : (w : World) (n : ℕ) (mid : Shard) (plain : Plain) → Acted l is w n w.device (sight w n) mid [] plain
@@ -133,6 +136,7 @@ module _ (l : Layout) (is : IsLayout l) (Judged : ℕ → Type 0) (Comes : Regis
         sound = record { flies = x.sound.flies; rows = x.sound.rows; requests = releases l mid.saw_failed mid.request mid.frame (x.plain'.answers n) mid.accepted x.sound.requests };
         elsewhere = x.elsewhere;
         others = x.others;
+        answered = λ m id among. let p = x.answered m id among in (p.0, releases-reply (mid.request id) p.1);
       }
 
   went_on : (w : World) (n : ℕ) (s : Shard) (plain : Plain) → Sound l n w.device (sight w n) s plain.array (plain.answers n)
@@ -141,7 +145,7 @@ module _ (l : Layout) (is : IsLayout l) (Judged : ℕ → Type 0) (Comes : Regis
   went_on w n s plain x same mid t =
       let g = goes l is w n w.device (sight w n) s t.0 mid [] plain
       (record { sound = x; was = λ id f op e. ap (λ (y : ℕ → Option Request). y id) (sym same) ∙ e; let_go = λ blk e. absurd (false≢true e) }) t.1 in
-      record { acting = g.acting; plain' = g.plain'; acts = g.acts; sound = g.sound; elsewhere = g.elsewhere; others = g.others }
+      record { acting = g.acting; plain' = g.plain'; acts = g.acts; sound = g.sound; elsewhere = g.elsewhere; others = g.others; answered = g.answered }
 
   -- the world at a moment
   pub record Kept (w : World) (plain : Plain) : Type 0 where
@@ -168,13 +172,34 @@ module _ (l : Layout) (is : IsLayout l) (Judged : ℕ → Type 0) (Comes : Regis
       let fr = r.framed t k c'.there on in
       ((r.held c.frame fr.0 fr.1).commands t k c'.there on refl).in_range
 
-  delivered : (w : World) (plain : Plain) → Kept w plain → (n : ℕ) → Judged n → (token : ℕ) (completion : Completion) (receipt : Receipt) → ((b : Block) → completion ≡ Good b → w.performed n token ≡ Some b)
+  some-of : {A : Type 0} (o : Option A) → o ≢ None → (a : A) × (o ≡ Some a)
+  some-of None ne = absurd (ne refl)
+  some-of (Some a) ne = (a, refl)
+
+  -- a read's block is that which its performing gave; some block was given to a write
+  brought-read : (flying : Option Command) (gave : Option Block) (b : Block) (c : Command) → ((f : Command) → flying ≡ Some f → handed f.transfer ≡ c.transfer) → c.transfer ≡ Fetch → IsBrought flying gave b → gave ≡ Some b
+  brought-read None gave b c same fetch brings = brings
+  brought-read (Some f) gave b c same fetch brings = subst (λ y. Brings y gave b) (was-fetch f.transfer c.transfer (inr (same f refl)) fetch) brings
+
+  some-brought : (x : Transfer) (gave : Option Block) (b : Block) → Brings x gave b → (given : Block) × (gave ≡ Some given)
+  some-brought Fetch gave b e = (b, e)
+  some-brought (Store new_data) gave b e = some-of gave e
+  some-brought Storing gave b e = some-of gave e
+
+  brought-write : (flying : Option Command) (gave : Option Block) (b : Block) → IsBrought flying gave b → (given : Block) × (gave ≡ Some given)
+  brought-write None gave b brings = (b, brings)
+  brought-write (Some f) gave b brings = some-brought f.transfer gave b brings
+
+  delivered : (w : World) (plain : Plain) → Kept w plain → (n : ℕ) → Judged n → (token : ℕ) (completion : Completion) (receipt : Receipt) → ((b : Block) → completion ≡ Good b → IsBrought (w.flight n token) (w.performed n token) b)
       → (change : Change) → Takes token completion receipt change → Allowed l n (w.shard n) change
       → Sound l n w.device (sight w n) (after l (w.shard n) change) plain.array (plain.answers n) × ((after l (w.shard n) change).request ≡ (w.shard n).request)
   delivered w plain x n j token (Good b) Taken gave (Learn t c h b') k a =
-      (learns l is n w.device (sight w n) plain.array (plain.answers n) (w.shard n) (x.sounds n j) t c h b' (ap (w.performed n) k.0 ∙ gave b refl ∙ ap Some (sym k.1)) a, refl)
+      let was : w.performed n token ≡ Some b =
+      brought-read (w.flight n token) (w.performed n token) b c (λ f e. ((x.sounds n j).flies.same t f c (ap (w.flight n) k.0 ∙ e) a.0).transfer) a.3 (gave b refl) in
+      (learns l is n w.device (sight w n) plain.array (plain.answers n) (w.shard n) (x.sounds n j) t c h b' (ap (w.performed n) k.0 ∙ was ∙ ap Some (sym k.1)) a, refl)
   delivered w plain x n j token (Good b) Taken gave (Confirm t c h) k a =
-      (confirms l is n w.device (sight w n) plain.array (plain.answers n) (w.shard n) (x.sounds n j) t c h b (ap (w.performed n) k.0 ∙ gave b refl) a, refl)
+      let given = brought-write (w.flight n token) (w.performed n token) b (gave b refl) in
+      (confirms l is n w.device (sight w n) plain.array (plain.answers n) (w.shard n) (x.sounds n j) t c h given.0 (ap (w.performed n) k.0 ∙ given.1) a, refl)
   delivered w plain x n j token (Good b) Late gave (Come_home t c) k a =
       (comes l is n w.device (sight w n) plain.array (plain.answers n) (w.shard n) (x.sounds n j) t c, refl)
   delivered w plain x n j token Error Late gave (Come_home t c) k a =
@@ -199,6 +224,7 @@ module _ (l : Layout) (is : IsLayout l) (Judged : ℕ → Type 0) (Comes : Regis
         sound = record { rows = λ live. absurd (true≢false live.1); requests = fails l mid.saw_failed mid.request mid.frame (plain.answers n) mid.accepted x; flies = flies-failed mid.command (w.flight n) mid.tokens fl };
         elsewhere = λ row ne blk at. refl;
         others = λ m ne. refl;
+        answered = λ m id among. absurd among;
       }
 
   kept-as : (w : World) (n : ℕ) (s new : Shard) (plain : Plain) → new ≡ s → Sound l n w.device (sight w n) s plain.array (plain.answers n) → Acted l is w n w.device (sight w n) new [] plain
@@ -275,7 +301,7 @@ module _ (l : Layout) (is : IsLayout l) (Judged : ℕ → Type 0) (Comes : Regis
       )
   event-acts w plain x n j (Deliver token (Good b) receipt) new p =
       let st = p.2 in
-      let d = delivered w plain x n j token (Good b) receipt (λ b' e. p.1 ∙ ap Some (good-inj e)) st.0 st.1 st.2 in (
+      let d = delivered w plain x n j token (Good b) receipt (λ b' e. subst (IsBrought (w.flight n token) (w.performed n token)) (good-inj e) p.1) st.0 st.1 st.2 in (
         then_scans w n st.3 new plain (went_on w n (after l (w.shard n) st.0) plain d.0 d.1 st.3 st.4) st.5,
         scanned w n (w.broken n) st.3 new st.5 (went w n (w.broken n) (after l (w.shard n) st.0) st.3 st.4 (answered-parting w plain x n j token (Good b) receipt st.0 st.1 st.2)),
       )
@@ -326,6 +352,7 @@ module _ (l : Layout) (is : IsLayout l) (Judged : ℕ → Type 0) (Comes : Regis
           };
           elsewhere = λ row ne blk at. refl;
           others = λ m ne. refl;
+          answered = λ m id among. absurd among;
         }),
         same-parting w n (w.broken n) (after l s (Hand_command token c)) new st.1 (parting-kept l n w.register (w.broken n) s (Hand_command token c) (record {}) st.0 (x.partings n j)),
       )
@@ -411,10 +438,6 @@ module _ (l : Layout) (is : IsLayout l) (Judged : ℕ → Type 0) (Comes : Regis
         register = x.register;
         partings = partings';
       }
-
-  some-of : {A : Type 0} (o : Option A) → o ≢ None → (a : A) × (o ≡ Some a)
-  some-of None ne = absurd (ne refl)
-  some-of (Some a) ne = (a, refl)
 
   -- a device performs the command as it was taken
   performs-same : (device : Devices) (flying c : Command) → flying.slot ≡ c.slot → flying.generation ≡ c.generation → flying.row ≡ c.row → (x : Transfer)
@@ -679,18 +702,88 @@ module _ (l : Layout) (is : IsLayout l) (Judged : ℕ → Type 0) (Comes : Regis
   answers-fail w plain x (Perform n token c) noise p m failed id op reply e none = absurd (none reply e)
   answers-fail w plain x (Outside call) noise p m failed id op reply e none = absurd (none reply e)
 
+  -- those who act are named by how their requests stand before and after
+  same-acts : (o : Option Request) → acts_between o o ≡ true → ⊥
+  same-acts None e = false≢true e
+  same-acts (Some r) e = at r.stage e
+    where
+      at : (stage : Rattle.r6_world.specs.ShardStates.Stage) → (is_going stage && is_served stage) ≡ true → ⊥
+      at Rattle.r6_world.specs.ShardStates.Waiting e = false≢true e
+      at (Rattle.r6_world.specs.ShardStates.Held f) e = false≢true e
+      at (Rattle.r6_world.specs.ShardStates.Finished reply) e = false≢true e
+      at (Released reply) e = false≢true e
+
+  stands-none : (frame : ℕ → Option Hold) (answer : Option Reply) (id : ℕ) (stage : Rattle.r6_world.specs.ShardStates.Stage) → is_going stage ≡ true → Rattle.r6_world.proofs.Requests.Stands frame answer id stage → answer ≡ None
+  stands-none frame answer id Rattle.r6_world.specs.ShardStates.Waiting e x = x
+  stands-none frame answer id (Rattle.r6_world.specs.ShardStates.Held f) e x = x.0
+  stands-none frame answer id (Rattle.r6_world.specs.ShardStates.Finished reply) e x = absurd (false≢true e)
+  stands-none frame answer id (Released reply) e x = absurd (false≢true e)
+
+  no-failure : (reply : Reply) → not (Rattle.r6_world.specs.ActingPoints.is_failure reply) ≡ true → reply ≡ ArrayFailed → ⊥
+  no-failure reply e failed = false≢true (sym (ap (λ y. not (Rattle.r6_world.specs.ActingPoints.is_failure y)) failed) ∙ e)
+
+  stands-some : (frame : ℕ → Option Hold) (answer : Option Reply) (id : ℕ) (stage : Rattle.r6_world.specs.ShardStates.Stage) → is_served stage ≡ true → Rattle.r6_world.proofs.Requests.Stands frame answer id stage → answer ≡ None → ⊥
+  stands-some frame answer id Rattle.r6_world.specs.ShardStates.Waiting e x none = false≢true e
+  stands-some frame answer id (Rattle.r6_world.specs.ShardStates.Held f) e x none = false≢true e
+  stands-some frame answer id (Rattle.r6_world.specs.ShardStates.Finished reply) e x none = not_both answer reply none (x (no-failure reply e))
+  stands-some frame answer id (Released reply) e x none = not_both answer reply none (x (no-failure reply e))
+
+  acts-here : (w w' : World) (plain plain' : Plain) → Kept w plain → Kept w' plain' → (k : ℕ) → Judged k → (list : List (ℕ × ℕ)) → Acts w [] list plain plain' → (id : ℕ)
+      → (before after : Option Request) → (w.shard k).request id ≡ before → (w'.shard k).request id ≡ after → acts_between before after ≡ true → Among k id list
+  acts-here w w' plain plain' x x' k j list a id None after e e' acts = absurd (false≢true acts)
+  acts-here w w' plain plain' x x' k j list a id (Some r) None e e' acts = absurd (false≢true acts)
+  acts-here w w' plain plain' x x' k j list a id (Some r) (Some r') e e' acts =
+      elim (is_in k id list) [
+        | inl among ↦ among
+        | inr none ↦
+            let p = and_parts (is_going r.stage) (is_served r'.stage) acts in
+            let before = stands-none (w.shard k).frame (plain.answers k id) id r.stage p.0 ((x.sounds k j).requests.stands id r.op r.stage e) in
+            absurd (stands-some (w'.shard k).frame (plain'.answers k id) id r'.stage p.1 ((x'.sounds k j).requests.stands id r'.op r'.stage e') (stays w [] list plain plain' a k id none ∙ before))
+      ]
+
+  named-step : (w w' : World) (plain plain' : Plain) → Kept w plain → Kept w' plain' → (k : ℕ) → Judged k → k < l.shards → ((m : ℕ) → (m ≡ k → ⊥) → w'.shard m ≡ w.shard m)
+      → (list : List (ℕ × ℕ)) → Acts w [] list plain plain' → ((m id : ℕ) → Among m id list → (m ≡ k) × HasReply ((w'.shard k).request id))
+      → MayAct w [] (acting l w w') plain × Kept w' (plain_after w (acting l w w') plain)
+  named-step w w' plain plain' x x' k j below same list a answered =
+      let p = by_number l w w' list plain plain' a
+      (λ m id among.
+      let q = answered m id among in
+      let r = point w [] list plain plain' a m id among in (
+        subst (λ y. y < l.shards) (sym q.0) below,
+        (x.sounds m (subst Judged (sym q.0) j)).requests.numbered id r.request.op r.request.stage r.there,
+        ap (λ y. acts_between y ((w'.shard m).request id)) r.there
+            ∙ ap (λ y. acts_between (Some r.request) ((w'.shard y).request id)) q.0
+            ∙ ap (acts_between (Some r.request)) q.1.2 ∙ ap (λ y. y && is_served q.1.1) r.going ∙ q.1.3,
+      ))
+      (λ m id small acts. elim (cases_eq m k) [
+        | inl here ↦ subst (λ y. Among y id list) (sym here)
+            (acts-here w w' plain plain' x x' k j list a id ((w.shard k).request id) ((w'.shard k).request id) refl refl (subst (λ y. ActsAt w w' y id) here acts))
+        | inr ne ↦ absurd (same-acts ((w.shard m).request id) (ap (λ (y : Shard). acts_between ((w.shard m).request id) (y.request id)) (sym (same m ne)) ∙ acts))
+      ]) in
+      (p.0, subst (Kept w') (sym p.1) x')
+
+  quiet-step : (w w' : World) (plain : Plain) → Kept w' plain → w'.shard ≡ w.shard → MayAct w [] (acting l w w') plain × Kept w' (plain_after w (acting l w w') plain)
+  quiet-step w w' plain x' same =
+      let p = by_number l w w' [] plain plain refl (λ m id among. absurd among)
+      (λ m id small acts. absurd (same-acts ((w.shard m).request id) (ap (λ (y : ℕ → Shard). acts_between ((w.shard m).request id) ((y m).request id)) (sym same) ∙ acts))) in
+      (p.0, subst (Kept w') (sym p.1) x')
+
   one_step : (h : Happening) (noise : Devices) (w : World) (plain : Plain) → Kept w plain → IsIn Judged h → Possible l Comes w h
-      → (acting : List (ℕ × ℕ)) × (plain' : Plain) × Acts w [] acting plain plain' × Kept (next l w (record { happening = h; noise = noise })) plain'
+      → let new = next l w (record { happening = h; noise = noise }) in MayAct w [] (acting l w new) plain × Kept new (plain_after w (acting l w new) plain)
   one_step (Core n event new) noise w plain x j p =
       let a = event-acts w plain x n j event new p in
-      (a.0.acting, a.0.plain', a.0.acts, after-event w plain x n j event new noise p a)
-  one_step (Perform n token c) noise w plain x j p = ([], plain, refl, after-performing w plain x n j token c noise p)
-  one_step (Tell n call answer middle new) noise w plain x j p = ([], plain, refl, after-telling w plain x n j call answer middle new noise p)
-  one_step (Outside call) noise w plain x j p = ([], plain, refl, after-outside w plain x call noise)
+      named-step w (next l w (record { happening = Core n event new; noise = noise })) plain a.0.plain' x (after-event w plain x n j event new noise p a) n j p.0 (put-other w.shard n new)
+      a.0.acting a.0.acts (λ m id among. let q = a.0.answered m id among in (q.0, subst (λ (y : Shard). HasReply (y.request id)) (sym (put-same w.shard n new n refl)) q.1))
+  one_step (Perform n token c) noise w plain x j p = quiet-step w (next l w (record { happening = Perform n token c; noise = noise })) plain (after-performing w plain x n j token c noise p) refl
+  one_step (Tell n call answer middle new) noise w plain x j p =
+      named-step w (next l w (record { happening = Tell n call answer middle new; noise = noise })) plain plain x (after-telling w plain x n j call answer middle new noise p) n j p.0 (put-other w.shard n new)
+      [] refl (λ m id among. absurd among)
+  one_step (Outside call) noise w plain x j p = quiet-step w (next l w (record { happening = Outside call; noise = noise })) plain (after-outside w plain x call noise) refl
 
   pub explained : (moments : List Moment) (w : World) (plain : Plain) → Kept w plain → AreIn Judged moments → Run l Comes w moments
       → Explained l (λ old new plain'. (n : ℕ) → Judged n → ShardHolds l n old new plain') w plain moments
   explained [] w plain x all run = record {}
   explained (m ∷ moments) w plain x all run =
       let s = one_step m.happening m.noise w plain x all.0 run.0 in
-      (s.0, s.1, s.2, (λ n j. holds-at w (next l w m) s.1 s.3 n j (answers-fail w plain x m.happening m.noise run.0 n)), explained moments (next l w m) s.1 s.3 all.1 run.1)
+      let plain' = plain_after w (acting l w (next l w m)) plain in
+      (s.0, (λ n j. holds-at w (next l w m) plain' s.1 n j (answers-fail w plain x m.happening m.noise run.0 n)), explained moments (next l w m) plain' s.1 all.1 run.1)

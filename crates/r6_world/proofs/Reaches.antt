@@ -5,11 +5,12 @@ use Rattle.r6_world.specs.Tables.{put, put_in}
 use Rattle.r6_world.specs.PlainArray.{Block}
 use Rattle.r6_world.specs.Layouts.{Layout}
 use Rattle.r6_world.specs.Registers.{Snapshot, RegisterCall, Fail, DeclareLost, Attach, ReportRebuilt, Told as Answer, answer_to, register_after}
-use Rattle.r6_world.specs.ShardStates.{Shard, away, Command, Fetch, Store, Call}
+use Rattle.r6_world.specs.ShardStates.{Shard, away, Command, Transfer, Fetch, Store, Storing, Call}
 use Rattle.r6_world.specs.Changes.{Hand_command, after}
 use Rattle.r6_world.specs.Steps.{Event, Good, Error, Taken, Deliver, Take_command, Take_call, Told, Step}
-use Rattle.r6_world.specs.Worlds.{World, Devices, Happening, Core, Perform, Tell, Outside, Moment, MayCome, Possible, Run, happened, decayed, next, settles, break, completed_by, settled_by, as_made}
-use Rattle.r6_world.specs.Laws.{IsOfOutside, IsByOthers, is_among, IsOfShard, AreOfShard}
+use Rattle.r6_world.specs.Worlds.{World, Devices, Happening, Core, Perform, Tell, Outside, Moment, MayCome, Possible, Run, happened, decayed, next, settles, break, completed_by, settled_by, as_made, Brings, IsBrought}
+use Rattle.r6_world.specs.ActingPoints.{is_among}
+use Rattle.r6_world.specs.Laws.{IsOfOutside, IsByOthers, IsOfShard, AreOfShard}
 use Rattle.r6_world.specs.Claims.{IsQuiet}
 use Rattle.r6_world.specs.Sequential.{IsInTurn, OneAtATime, FewOut}
 use Rattle.r6_world.specs.Witness.{small, after_all, RunsInTurn}
@@ -106,6 +107,16 @@ few_of w v at = (subst (λ s. away small s ≤ 2) (sym at.shard_is) at.few_out, 
 pub quiet : (w : World) (v : View) → Stands w v → ((t : ℕ) → v.shard.command t ≡ None) → v.shard.calls ≡ [] → v.shard.untold ≡ None → v.settled ≡ true → IsQuiet w 0
 quiet w v at home none told settled =
     ((λ t. ap (λ s. s.command t) at.shard_is ∙ home t), ap (λ s. s.calls) at.shard_is ∙ none, ap (λ s. s.untold) at.shard_is ∙ told, at.settled_is ∙ settled)
+
+-- the block that the performing gave may be brought
+brings : (x : Transfer) (gave : Option Block) (b : Block) → gave ≡ Some b → Brings x gave b
+brings Fetch gave b e = e
+brings (Store new_data) gave b e = λ none. not_both gave b none e
+brings Storing gave b e = λ none. not_both gave b none e
+
+pub brought : (flying : Option Command) (gave : Option Block) (b : Block) → gave ≡ Some b → IsBrought flying gave b
+brought None gave b e = e
+brought (Some c) gave b e = brings c.transfer gave b e
 
 -- one happening; what is broken would show what stands there
 abbrev later_by : World → Happening → World
@@ -264,7 +275,7 @@ reads w v at t slot generation new there unused few step =
     (λ later. Stands later (record v { shard = new; used = t ∷ v.used; settled = false }))
     (fetched w1 (record v { shard = handed_out v.shard t (fetch slot generation) }) at1.0 t slot generation at1.1 (still_out v.shard t (fetch slot generation)) unused)
     (λ w2 at2. core w2 (record v { shard = handed_out v.shard t (fetch slot generation); used = t ∷ v.used }) at2.0 (Deliver t (Good (v.device slot generation)) Taken) new
-    few (record {}) at2.1 step))
+    few (record {}) (brought (w2.flight 0 t) (w2.performed 0 t) _ at2.1) step))
 
 pub writes :
     (w : World) (v : View) → Stands w v → (t slot generation : ℕ) (b : Block) (new : Shard)
@@ -281,7 +292,7 @@ writes w v at t slot generation b new there unused few step =
     (λ later. Stands later (record v { shard = new; device = put_in v.device slot generation b; used = t ∷ v.used; settled = false }))
     (stored w1 (record v { shard = handed_out v.shard t (store slot generation b) }) at1.0 t slot generation b at1.1 (still_out v.shard t (store slot generation b)) unused)
     (λ w2 at2. core w2 (record v { shard = handed_out v.shard t (store slot generation b); device = put_in v.device slot generation b; used = t ∷ v.used }) at2.0 (Deliver t (Good b) Taken) new
-    few (record {}) at2.1 step))
+    few (record {}) (brought (w2.flight 0 t) (w2.performed 0 t) _ at2.1) step))
 
 -- a command is answered by an error
 pub errs :

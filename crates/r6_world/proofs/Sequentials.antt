@@ -4,7 +4,8 @@ use Rattle.std.proofs.Common.{◌≡◌, ℕ, ◌+◌, ◌<◌, ◌≤◌, ◌�
 use Rattle.std.proofs.lemmas.Bool.{cases_eq, false≢true}
 use Rattle.r6_world.specs.Changes.{Accept, after}
 use Rattle.r6_world.specs.Claims.{IsOpen, IsReleased, IsQuiet, IsUnwritten, AllAnswered}
-use Rattle.r6_world.specs.Laws.{ArrayLaw, QuietLaw, IsOfOutside, Acts, Explained, AtEach, ShardHolds, ArrayHolds, at_start}
+use Rattle.r6_world.specs.ActingPoints.{acting, served_as, plain_after, MayAct}
+use Rattle.r6_world.specs.Laws.{ArrayLaw, QuietLaw, IsOfOutside, Explained, AtEach, ShardHolds, ArrayHolds, at_start}
 use Rattle.r6_world.specs.Layouts.{Layout, IsLayout, content}
 use Rattle.r6_world.specs.PlainArray.{Op, Reply, ArrayFailed, Plain, served, reply_of, block_of}
 use Rattle.r6_world.specs.Registers.{Snapshot, Told as Answer}
@@ -100,18 +101,18 @@ of_first w x n id request at =
       | inr other ↦ absurd (not_both ((w.shard n).request id) request (x.alone n other id) at)
     ]
 
-none-acts : (w : World) → Calm w → (blocks : List ℕ) (acting : List (ℕ × ℕ)) (plain plain' : Plain) → HaveActed plain (w.shard 0).accepted
-    → Acts w blocks acting plain plain' → plain' ≡ plain
-none-acts w x blocks [] plain plain' all a = a
-none-acts w x blocks (who ∷ acting) plain plain' all a =
+none-acts : (w : World) → Calm w → (blocks : List ℕ) (acting : List (ℕ × ℕ)) (plain : Plain) → HaveActed plain (w.shard 0).accepted
+    → MayAct w blocks acting plain → plain_after w acting plain ≡ plain
+none-acts w x blocks [] plain all a = refl
+none-acts w x blocks (who ∷ acting) plain all a =
     let here = of_first w x who.0 who.1 a.0 a.1 in
     let at : (w.shard 0).request who.1 ≡ Some (request_at a.0.op a.0.stage) = subst (λ n. (w.shard n).request who.1 ≡ Some a.0) here a.1 in
     absurd (all who.1 ((x.unfailed 0).numbered who.1 a.0.op a.0.stage at) (subst (λ n. plain.answers n who.1 ≡ None) here a.3))
 
-behind-acts : (w : World) → Calm w → (acting : List (ℕ × ℕ)) (plain plain' ordered : Plain) → ((id : ℕ) → (w.shard 0).accepted ≤ id → plain.answers 0 id ≡ None)
-    → Behind (w.shard 0).accepted (w.shard 0).request plain ordered → Acts w [] acting plain plain' → IsOrdered (w.shard 0) plain' ordered
-behind-acts w x [] plain plain' ordered unused b a = subst (λ p. IsOrdered (w.shard 0) p ordered) (sym a) (record { unused = unused; acted = inr b })
-behind-acts w x (who ∷ acting) plain plain' ordered unused b a =
+behind-acts : (w : World) → Calm w → (acting : List (ℕ × ℕ)) (plain ordered : Plain) → ((id : ℕ) → (w.shard 0).accepted ≤ id → plain.answers 0 id ≡ None)
+    → Behind (w.shard 0).accepted (w.shard 0).request plain ordered → MayAct w [] acting plain → IsOrdered (w.shard 0) (plain_after w acting plain) ordered
+behind-acts w x [] plain ordered unused b a = record { unused = unused; acted = inr b }
+behind-acts w x (who ∷ acting) plain ordered unused b a =
     let here = of_first w x who.0 who.1 a.0 a.1 in
     let at : (w.shard 0).request who.1 ≡ Some (request_at a.0.op a.0.stage) = subst (λ n. (w.shard n).request who.1 ≡ Some a.0) here a.1 in
     let last = b.last in
@@ -128,18 +129,20 @@ behind-acts w x (who ∷ acting) plain plain' ordered unused b a =
       | inl same ↦ not_both (ordered.answers 0 id) _ none (own-answer plain ordered b.id b.op b.acts id same)
       | inr other ↦ b.earlier id (omega arith) (sym (other-answer plain ordered b.id b.op b.acts id other) ∙ none)
     ]) in
-    let rest : plain' ≡ ordered = none-acts w x _ acting ordered plain' all (subst (λ p. Acts w (block_of a.0.op ∷ []) acting p plain') catches_up a.5) in
+    let rest : plain_after w (who ∷ acting) plain ≡ ordered =
+    ap (plain_after w acting) (ap (served_as plain who.0 who.1) a.1 ∙ catches_up)
+    ∙ none-acts w x _ acting ordered all (subst (λ p. MayAct w (block_of a.0.op ∷ []) acting p) catches_up a.5) in
     subst (λ p. IsOrdered (w.shard 0) p ordered) (sym rest) (record {
       unused = λ id above. other-answer plain ordered b.id b.op b.acts id (λ same. absurd (omega arith)) ∙ unused id above;
       acted = inl (refl, all);
     })
 
-acts-ordered : (w : World) → Calm w → (acting : List (ℕ × ℕ)) (plain plain' ordered : Plain) → IsOrdered (w.shard 0) plain ordered → Acts w [] acting plain plain'
-    → IsOrdered (w.shard 0) plain' ordered
-acts-ordered w x acting plain plain' ordered o a =
+acts-ordered : (w : World) → Calm w → (acting : List (ℕ × ℕ)) (plain ordered : Plain) → IsOrdered (w.shard 0) plain ordered → MayAct w [] acting plain
+    → IsOrdered (w.shard 0) (plain_after w acting plain) ordered
+acts-ordered w x acting plain ordered o a =
     elim o.acted [
-      | inl level ↦ subst (λ p. IsOrdered (w.shard 0) p ordered) (sym (none-acts w x [] acting plain plain' level.1 a)) o
-      | inr b ↦ behind-acts w x acting plain plain' ordered o.unused b a
+      | inl level ↦ subst (λ p. IsOrdered (w.shard 0) p ordered) (sym (none-acts w x [] acting plain level.1 a)) o
+      | inr b ↦ behind-acts w x acting plain ordered o.unused b a
     ]
 
 -- a request that has not acted is not answered
@@ -277,11 +280,12 @@ along : (l : Layout) → IsLayout l → l.shards ≡ 1 → (moments : List Momen
 along l is one [] old w plain ordered run turns few quiet explained x holds o = is_plain l is one old w plain ordered x few.0 holds o
 along l is one (m ∷ moments) old w plain ordered run turns few quiet explained x holds o =
     let calm : Calm (next l w m) = calm-next l one w m.happening m.noise run.0 few.1 x in
-    let held : ShardHolds l 0 w (next l w m) explained.1 = explained.3.shards 0 (some l one) in
-    let acted = acts-ordered w x explained.0 plain explained.1 ordered o explained.2 in (
+    let plain' = plain_after w (acting l w (next l w m)) plain in
+    let held : ShardHolds l 0 w (next l w m) plain' = explained.1.shards 0 (some l one) in
+    let acted = acts-ordered w x (acting l w (next l w m)) plain ordered o explained.0 in (
       is_plain l is one old w plain ordered x few.0 holds o,
-      along l is one moments w (next l w m) explained.1 (run_by ordered m.happening) run.1 turns.1 few.2 quiet.1 explained.4 calm held
-          (order-kept l one w explained.1 ordered quiet.0 acted m.happening run.0 turns.0 (calm.unfailed 0) held.replies),
+      along l is one moments w (next l w m) plain' (run_by ordered m.happening) run.1 turns.1 few.2 quiet.1 explained.2 calm held
+          (order-kept l one w plain' ordered quiet.0 acted m.happening run.0 turns.0 (calm.unfailed 0) held.replies),
     )
 
 pub sequential : ArrayLaw → QuietLaw → SequentialLaw

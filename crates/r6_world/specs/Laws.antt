@@ -1,36 +1,20 @@
 -- The laws of an array: what every run keeps.
-use Rattle.std.specs.Prelude.{◌≡◌, ◌≢◌, ℕ, ◌<◌, List, [], ◌∷◌, Bool, false, ◌==◌, ◌||◌, Some, None}
+use Rattle.std.specs.Prelude.{◌≡◌, ◌≢◌, ℕ, ◌<◌, List, [], ◌∷◌, None}
 use Rattle.r6_world.specs.Registers.{Snapshot, RegisterCall, Fail, DeclareLost, Attach, ReportRebuilt}
-use Rattle.r6_world.specs.PlainArray.{Array, Plain, served, block_of}
+use Rattle.r6_world.specs.PlainArray.{Array, Plain}
 use Rattle.r6_world.specs.Layouts.{Layout, IsLayout}
-use Rattle.r6_world.specs.ShardStates.{Request}
 use Rattle.r6_world.specs.Worlds.{World, Devices, Happening, Core, Perform, Tell, Outside, Moment, Run, next, started}
-use Rattle.r6_world.specs.Claims.{IsLawfulStart, IsIdle, IsUnwritten, RowsHold, RebuiltEverywhere, RepliesArePlain, AnswersFail, IsOpen, IsQuiet, AllAnswered}
+use Rattle.r6_world.specs.Claims.{IsLawfulStart, IsIdle, IsUnwritten, RowsHold, RebuiltEverywhere, RepliesArePlain, AnswersFail, IsQuiet, AllAnswered}
+use Rattle.r6_world.specs.ActingPoints.{acting, plain_after, MayAct}
 
--- Acting points (Herlihy and Wing, "Linearizability"). Which requests act at a step, by shard and number, and the plain
--- array before and after. Each was accepted before the step and is answered no earlier than by it, acts for the first
--- time, and they are for distinct blocks
-abbrev pub is_among : ℕ → List ℕ → Bool
-is_among block [] = false
-is_among block (other ∷ blocks) = (block == other) || is_among block blocks
-
-abbrev pub Acts : World → List ℕ → List (ℕ × ℕ) → Plain → Plain → Type 0
-Acts w blocks [] plain plain' = plain' ≡ plain
-Acts w blocks (who ∷ acting) plain plain' =
-    (request : Request)
-    × ((w.shard who.0).request who.1 ≡ Some request) × IsOpen request.stage × (plain.answers who.0 who.1 ≡ None)
-    × (is_among (block_of request.op) blocks ≡ false)
-    × Acts w (block_of request.op ∷ blocks) acting (served plain who.0 who.1 request.op) plain'
-
--- a run is explained by the requests that act at each of its steps, so that at each step something is claimed of the
--- world before, the world after and the plain array after
+-- A run is explained by the requests that act at each of its steps, where at each step they may act, and something is
+-- claimed of the world before, of the world after and of the plain array after
 abbrev pub Explained : Layout → (World → World → Plain → Type 0) → World → Plain → List Moment → Type 0
 Explained l Claimed w plain [] = record {}
 Explained l Claimed w plain (m ∷ moments) =
-    (acting : List (ℕ × ℕ)) × (plain' : Plain)
-    × Acts w [] acting plain plain'
-    × Claimed w (next l w m) plain'
-    × Explained l Claimed (next l w m) plain' moments
+    let new = next l w m in
+    let plain' = plain_after w (acting l w new) plain in
+    MayAct w [] (acting l w new) plain × Claimed w new plain' × Explained l Claimed new plain' moments
 
 abbrev pub AtEach : Layout → (World → Type 0) → World → List Moment → Type 0
 AtEach l Claimed w [] = Claimed w

@@ -71,10 +71,22 @@ pub data Happening : Type 0 where
   -- a call at the register that no shard makes
   Outside : RegisterCall → Happening
 
--- which events of a core may come: a good completion only as the device performed it, a look at the register as it is
+-- what a good completion brings of a command that its device performed: of a read the block that the performing gave, of a
+-- write any block, since nothing is made of it
+abbrev pub Brings : Transfer → (gave : Option Block) → Block → Type 0
+Brings Fetch gave b = gave ≡ Some b
+Brings (Store new_data) gave b = gave ≢ None
+Brings Storing gave b = gave ≢ None
+
+abbrev pub IsBrought : Option Command → (gave : Option Block) → Block → Type 0
+IsBrought None gave b = gave ≡ Some b
+IsBrought (Some c) gave b = Brings c.transfer gave b
+
+-- which events of a core may come: a good completion only of a command that its device performed, a look at the register
+-- as it is
 abbrev pub MayCome : World → ℕ → Event → Type 0
 MayCome w n (Submit op id) = record {}
-MayCome w n (Deliver token (Good b) receipt) = w.performed n token ≡ Some b
+MayCome w n (Deliver token (Good b) receipt) = IsBrought (w.flight n token) (w.performed n token) b
 MayCome w n (Deliver token Error receipt) = record {}
 MayCome w n (Look seen) = seen ≡ w.register
 MayCome w n (Turn_started task) = record {}
