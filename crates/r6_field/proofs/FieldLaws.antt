@@ -3,31 +3,42 @@ use Rattle.std.proofs.Common.{◌≡◌, ◌≢◌, ℕ, suc, zero, ◌+◌, ◌
 use Rattle.std.proofs.lemmas.Bool.{and_parts, cases_lt}
 use Rattle.std.proofs.lemmas.Nat.Bits.{bit_at-pow_other}
 use Rattle.std.proofs.Math.Pow.{pow-lt}
-use Rattle.std.proofs.Math.Nat.{pow-suc}
+use Rattle.std.proofs.Math.Nat.{pow-suc, mul-suc, mul-zero}
 use Rattle.std.specs.Int.Bits.{xor_zero_l}
 use Rattle.std.proofs.lemmas.Bool.Decides.{Decides-eqb, Decides-ltb}
 use Rattle.r6_field.specs.declared.tables.TheConstants.{EXP, LOG}
 use Rattle.r6_field.specs.Field.{product_below, reduced, product, power, generator, inverse}
-use Rattle.r6_field.proofs.Xor.{IsLinear, IsLinear-zero, same_from_terms}
+use Rattle.r6_field.proofs.Xor.{IsLinear, IsLinear-zero, same_from_terms, lt_from_terms}
 use Rattle.r6_field.proofs.Exhaustive.{each_below, each_below-at, each_equal, each_equal_2}
 use Rattle.r6_field.proofs.Distributive.{product-xor_left, product-xor_right}
-use Rattle.r6_field.proofs.Computed.{all_below, all_commute, terms_associate, all_unit, all_inverse, all_powers_in_table, all_exponents_in_table, all_powers_apart, order_of_generator}
+use Rattle.r6_field.proofs.Computed.{terms_below, terms_commute, terms_associate, all_unit, all_steps_in_table, all_exponents_in_table, all_powers_apart, order_of_generator}
 
 -- ---- a commutative ring
-
-pub product-lt : (a b : ℕ) → a < 256 → b < 256 → product a b < 256
-product-lt a b ha hb =
-    (Decides-ltb (product a b) 256).0
-    (each_below-at 256 (λ b. ltb (product a b) 256) (each_below-at 256 (λ a. each_below 256 (λ b. ltb (product a b) 256)) all_below a ha) b hb)
-
-pub product_comm : (a b : ℕ) → a < 256 → b < 256 → product a b ≡ product b a
-product_comm a b ha hb = each_equal_2 256 256 product (λ a b. product b a) all_commute a b ha hb
 
 pub product-linear_left : (c : ℕ) → IsLinear (λ a. product a c)
 product-linear_left c = record { xor = λ a b. product-xor_left a b c }
 
 pub product-linear_right : (c : ℕ) → IsLinear (product c)
 product-linear_right c = record { xor = product-xor_right c }
+
+pub product-lt : (a b : ℕ) → a < 256 → b < 256 → product a b < 256
+product-lt a b ha hb =
+    lt_from_terms (λ a. product a b) (product-linear_left b) 8 8
+    (λ i hi. lt_from_terms (product (2 ^ i)) (product-linear_right (2 ^ i)) 8 8 (terms-lt i hi) b hb)
+    a ha
+  where
+    terms-lt : (i : ℕ) → i < 8 → (j : ℕ) → j < 8 → product (2 ^ i) (2 ^ j) < 256
+    terms-lt i hi j hj =
+        (Decides-ltb (product (2 ^ i) (2 ^ j)) 256).0
+        (each_below-at 8 (λ j. ltb (product (2 ^ i) (2 ^ j)) 256) (each_below-at 8 (λ i. each_below 8 (λ j. ltb (product (2 ^ i) (2 ^ j)) 256)) terms_below i hi) j hj)
+
+pub product_comm : (a b : ℕ) → a < 256 → b < 256 → product a b ≡ product b a
+product_comm a b ha hb =
+    same_from_terms (λ a. product a b) (product b) (product-linear_left b) (product-linear_right b) 8
+    (λ i hi. same_from_terms (product (2 ^ i)) (λ b. product b (2 ^ i)) (product-linear_right (2 ^ i)) (product-linear_left (2 ^ i)) 8
+    (λ j hj. each_equal_2 8 8 (λ i j. product (2 ^ i) (2 ^ j)) (λ i j. product (2 ^ j) (2 ^ i)) terms_commute i j hi hj)
+    b hb)
+    a ha
 
 pub zero-product : (a : ℕ) → product 0 a ≡ 0
 zero-product a = IsLinear-zero (λ b. product b a) (product-linear_left a)
@@ -121,57 +132,42 @@ power-add a (suc m) n ha =
     ∙ ap (product a) (power-add a m n ha)
     ∙ sym (product_assoc a (power a m) (power a n) ha (power-lt a m ha) (power-lt a n ha))
 
--- ---- inverses
+-- ---- the powers of the generator
+
+pub power_of_generator-at_table : (k : ℕ) → k < 255 → get_or EXP k 0 ≡ power generator k
+unfolding power
+power_of_generator-at_table zero hk = refl
+power_of_generator-at_table (suc k) hk =
+    each_equal 254 (λ k. get_or EXP (suc k) 0) (λ k. product generator (get_or EXP k 0)) all_steps_in_table k (omega arith)
+    ∙ ap (product generator) (power_of_generator-at_table k (omega arith))
 
 eqb-zero_false : (a : ℕ) → a ≢ 0 → eqb a 0 ≡ false
 eqb-zero_false a ne = grind arith
 
-pub product-inverse : (a : ℕ) → a < 256 → a ≢ 0 → product a (inverse a) ≡ 1
-product-inverse a ha ne =
-    let test : (eqb a 0 || eqb (product a (inverse a)) 1) ≡ true = each_below-at 256 (λ a. eqb a 0 || eqb (product a (inverse a)) 1) all_inverse a ha in
-    (Decides-eqb (product a (inverse a)) 1).0 (subst (λ (b : Bool). (b || eqb (product a (inverse a)) 1) ≡ true) (eqb-zero_false a ne) test)
-
-pub inverse-lt : (a : ℕ) → a < 256 → inverse a < 256
-inverse-lt a ha = power-lt a 254 ha
-
-pub inverse_product-product : (a b : ℕ) → a < 256 → b < 256 → a ≢ 0 → product (inverse a) (product a b) ≡ b
-inverse_product-product a b ha hb ne =
-    sym (product_assoc (inverse a) a b (inverse-lt a ha) ha hb)
-    ∙ ap (λ (x : ℕ). product x b) (product_comm (inverse a) a (inverse-lt a ha) ha ∙ product-inverse a ha ne)
-    ∙ one-product b hb
-
--- a factor that is not 0 cancels
-pub product_cancel_left : (a b c : ℕ) → a < 256 → b < 256 → c < 256 → a ≢ 0 → product a b ≡ product a c → b ≡ c
-product_cancel_left a b c ha hb hc ne e =
-    sym (inverse_product-product a b ha hb ne) ∙ ap (product (inverse a)) e ∙ inverse_product-product a c ha hc ne
-
--- a product of elements other than 0 is not 0
-pub product-nonzero : (a b : ℕ) → a < 256 → b < 256 → a ≢ 0 → b ≢ 0 → product a b ≢ 0
-product-nonzero a b ha hb na nb e = nb (product_cancel_left a b 0 ha hb (omega arith) na (e ∙ sym (product-zero a)))
-
--- ---- the powers of the generator
-
-pub power_of_generator-at_table : (k : ℕ) → k < 255 → get_or EXP k 0 ≡ power generator k
-power_of_generator-at_table k hk = each_equal 255 (λ k. get_or EXP k 0) (power generator) all_powers_in_table k hk
-
 pub exponent_in_table : (a : ℕ) → a < 256 → a ≢ 0 → (get_or LOG a 0 < 255) × (power generator (get_or LOG a 0) ≡ a)
 exponent_in_table a ha ne =
-    let test : (eqb a 0 || (ltb (get_or LOG a 0) 255 && eqb (power generator (get_or LOG a 0)) a)) ≡ true =
-    each_below-at 256 (λ a. eqb a 0 || (ltb (get_or LOG a 0) 255 && eqb (power generator (get_or LOG a 0)) a)) all_exponents_in_table a ha in
-    let parts : (ltb (get_or LOG a 0) 255 ≡ true) × (eqb (power generator (get_or LOG a 0)) a ≡ true) =
-    and_parts (ltb (get_or LOG a 0) 255) (eqb (power generator (get_or LOG a 0)) a)
-    (subst (λ (b : Bool). (b || (ltb (get_or LOG a 0) 255 && eqb (power generator (get_or LOG a 0)) a)) ≡ true) (eqb-zero_false a ne) test) in
-    ((Decides-ltb (get_or LOG a 0) 255).0 parts.0, (Decides-eqb (power generator (get_or LOG a 0)) a).0 parts.1)
+    let k : ℕ = get_or LOG a 0 in
+    let test : (eqb a 0 || (ltb k 255 && eqb (get_or EXP k 0) a)) ≡ true =
+    each_below-at 256 (λ a. eqb a 0 || (ltb (get_or LOG a 0) 255 && eqb (get_or EXP (get_or LOG a 0) 0) a)) all_exponents_in_table a ha in
+    let parts : (ltb k 255 ≡ true) × (eqb (get_or EXP k 0) a ≡ true) =
+    and_parts (ltb k 255) (eqb (get_or EXP k 0) a)
+    (subst (λ (b : Bool). (b || (ltb k 255 && eqb (get_or EXP k 0) a)) ≡ true) (eqb-zero_false a ne) test) in
+    let below : k < 255 = (Decides-ltb k 255).0 parts.0 in
+    (below, sym (power_of_generator-at_table k below) ∙ (Decides-eqb (get_or EXP k 0) a).0 parts.1)
 
 -- every element but 0 is a power of the generator
 pub exponent_of : (a : ℕ) → a < 256 → a ≢ 0 → (k : ℕ) × (k < 255) × (power generator k ≡ a)
 exponent_of a ha ne = let found : (get_or LOG a 0 < 255) × (power generator (get_or LOG a 0) ≡ a) = exponent_in_table a ha ne in (get_or LOG a 0, found.0, found.1)
 
+-- the table gives its exponent back
+exponent_at_power : (k : ℕ) → k < 255 → get_or LOG (power generator k) 0 ≡ k
+exponent_at_power k hk =
+    ap (λ (x : ℕ). get_or LOG x 0) (sym (power_of_generator-at_table k hk))
+    ∙ each_equal 255 (λ k. get_or LOG (get_or EXP k 0) 0) (λ k. k) all_powers_apart k hk
+
 -- of one exponent below 255
 pub same_exponent : (i j : ℕ) → i < 255 → j < 255 → power generator i ≡ power generator j → i ≡ j
-same_exponent i j hi hj e =
-    let at : (k : ℕ) → k < 255 → get_or LOG (power generator k) 0 ≡ k = each_equal 255 (λ k. get_or LOG (power generator k) 0) (λ k. k) all_powers_apart in
-    sym (at i hi) ∙ ap (λ (x : ℕ). get_or LOG x 0) e ∙ at j hj
+same_exponent i j hi hj e = sym (exponent_at_power i hi) ∙ ap (λ (x : ℕ). get_or LOG x 0) e ∙ exponent_at_power j hj
 
 pub power_of_generator-lt : (k : ℕ) → power generator k < 256
 power_of_generator-lt k = power-lt generator k (omega arith)
@@ -209,6 +205,42 @@ pub product-opposite_powers : (k : ℕ) → k < 255 → product (power generator
 product-opposite_powers k hk =
     let whole : k + (255 - k) ≡ 255 = omega arith in
     sym (power-add generator k (255 - k) (omega arith)) ∙ ap (power generator) whole ∙ order_of_generator
+
+-- ---- inverses
+
+power-times : (k n : ℕ) → power (power generator k) n ≡ power generator (k * n)
+unfolding power
+power-times k zero = ap (power generator) (sym (mul-zero k))
+power-times k (suc n) =
+    let split : k * suc n ≡ k + k * n = omega (arith, mul-suc k n) in
+    ap (product (power generator k)) (power-times k n)
+    ∙ sym (power-add generator k (k * n) (omega arith)) ∙ ap (power generator) (sym split)
+
+-- a power of the generator, 255 times, is that many whole turns
+pub product-inverse : (a : ℕ) → a < 256 → a ≢ 0 → product a (inverse a) ≡ 1
+product-inverse a ha ne =
+    let found : (k : ℕ) × (k < 255) × (power generator k ≡ a) = exponent_of a ha ne in
+    let turns : found.0 * 255 ≡ 255 * found.0 = omega arith in
+    sym (power-suc a 254) ∙ ap (λ (x : ℕ). power x 255) (sym found.2)
+    ∙ power-times found.0 255 ∙ ap (power generator) turns ∙ power-turns found.0
+
+pub inverse-lt : (a : ℕ) → a < 256 → inverse a < 256
+inverse-lt a ha = power-lt a 254 ha
+
+pub inverse_product-product : (a b : ℕ) → a < 256 → b < 256 → a ≢ 0 → product (inverse a) (product a b) ≡ b
+inverse_product-product a b ha hb ne =
+    sym (product_assoc (inverse a) a b (inverse-lt a ha) ha hb)
+    ∙ ap (λ (x : ℕ). product x b) (product_comm (inverse a) a (inverse-lt a ha) ha ∙ product-inverse a ha ne)
+    ∙ one-product b hb
+
+-- a factor that is not 0 cancels
+pub product_cancel_left : (a b c : ℕ) → a < 256 → b < 256 → c < 256 → a ≢ 0 → product a b ≡ product a c → b ≡ c
+product_cancel_left a b c ha hb hc ne e =
+    sym (inverse_product-product a b ha hb ne) ∙ ap (product (inverse a)) e ∙ inverse_product-product a c ha hc ne
+
+-- a product of elements other than 0 is not 0
+pub product-nonzero : (a b : ℕ) → a < 256 → b < 256 → a ≢ 0 → b ≢ 0 → product a b ≢ 0
+product-nonzero a b ha hb na nb e = nb (product_cancel_left a b 0 ha hb (omega arith) na (e ∙ sym (product-zero a)))
 
 -- a times an inverse of d, times d, is a
 pub product-quotient : (d a i : ℕ) → d < 256 → a < 256 → i < 256 → product d i ≡ 1 → product d (product a i) ≡ a
