@@ -5,7 +5,7 @@ use Rattle.r6_world.specs.Layouts.{Layout}
 use Rattle.r6_world.specs.Worlds.{World, Happening, Core, Perform, Tell, Outside, Moment, Run, next, started}
 use Rattle.r6_world.specs.Claims.{RebuiltEverywhere}
 use Rattle.r6_world.specs.ActingPoints.{acting, plain_after}
-use Rattle.r6_world.specs.Laws.{Explained, AtEach, ShardHolds, ArrayHolds, IsOfOutside, IsOfShard, AreOfShard, IsByOthers, at_start, ArrayLaw, RebuiltLaw, ShardLaw}
+use Rattle.r6_world.specs.Laws.{Explained, AtEach, ShardHolds, ArrayHolds, IsOfOutside, IsOfShard, AreOfShard, IsByAnyone, at_start, ArrayLaw, RebuiltLaw, ShardLaw}
 use Rattle.r6_world.proofs.Everywhere.{possible-in}
 use Rattle.r6_world.proofs.Besides.{IsIn}
 use Rattle.r6_world.proofs.Headline.{AreIn, holds-at, explained}
@@ -57,8 +57,8 @@ of-one l n (m ∷ moments) w plain x = (x.0, x.1 n refl, of-one l n moments (nex
 
 pub shard_law : ShardLaw
 shard_law l is n below r device array start moments all run =
-    let x = kept-start l is (λ m. m ≡ n) (IsByOthers n) r device array start in
+    let x = kept-start l is (λ m. m ≡ n) IsByAnyone r device array start in
     let w = started l r device in (
-      holds-at l is (λ m. m ≡ n) (IsByOthers n) w w (at_start array) x n refl (λ failed id op reply e none. absurd (none reply e)),
-      of-one l n moments w (at_start array) (explained l is (λ m. m ≡ n) (IsByOthers n) moments w (at_start array) x (one-in l n moments all) run),
+      holds-at l is (λ m. m ≡ n) IsByAnyone w w (at_start array) x n refl (λ failed id op reply e none. absurd (none reply e)),
+      of-one l n moments w (at_start array) (explained l is (λ m. m ≡ n) IsByAnyone moments w (at_start array) x (one-in l n moments all) run),
     )

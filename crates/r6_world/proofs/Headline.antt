@@ -31,7 +31,7 @@ use Rattle.r6_world.proofs.Endings.{same-after}
 use Rattle.r6_world.proofs.Changes.{step-kept, through-goes, through-scans}
 use Rattle.r6_world.proofs.Failing.{OnlyOld, old-kept, fails-all}
 use Rattle.r6_world.proofs.InShard.{InShard, rows-kept}
-use Rattle.r6_world.proofs.Parts.{Parting, Parted, Sane, live-was, sync-adopted, away-adopted, parting-kept, adopts-parted, adopts-new, failed-parted, sees-parted, loses-parted, late-parted}
+use Rattle.r6_world.proofs.Parts.{Parting, Parted, Sane, live-was, sync-adopted, away-adopted, starts-parted, parting-kept, adopts-parted, adopts-new, failed-parted, sees-parted, loses-parted, late-parted}
 use Rattle.r6_world.proofs.RegisterCalls.{IsRegister, register-kept}
 use Rattle.r6_world.proofs.Renewals.{Renewed, renewed-call, renewed-parted, own-parted}
 use Rattle.r6_world.proofs.Besides.{IsIn}
@@ -320,7 +320,7 @@ module _ (l : Layout) (is : IsLayout l) (Judged : ℕ → Type 0) (Comes : Regis
       let st = p.2 in
       let begun-hold = after l s (Start st.1 st.2 task) in (
         then_scans w n begun-hold new plain (no_act w n begun-hold plain (begins-hold l is n w.device (sight w n) plain.array (plain.answers n) s (x.sounds n j) st.1 st.2 task st.3)) st.4,
-        scanned w n (w.broken n) begun-hold new st.4 (parting-kept l n w.register (w.broken n) s (Start st.1 st.2 task) (record {}) st.3 (x.partings n j)),
+        scanned w n (w.broken n) begun-hold new st.4 (starts-parted l n w.register (w.broken n) s st.1 st.2 task st.3 (x.partings n j)),
       )
   event-acts w plain x n j (Turn_skipped task row) new p =
       let s = w.shard n in
@@ -768,7 +768,7 @@ module _ (l : Layout) (is : IsLayout l) (Judged : ℕ → Type 0) (Comes : Regis
       (λ m id small acts. absurd (same-acts ((w.shard m).request id) (ap (λ (y : ℕ → Shard). acts_between ((w.shard m).request id) ((y m).request id)) (sym same) ∙ acts))) in
       (p.0, subst (Kept w') (sym p.1) x')
 
-  one_step : (h : Happening) (noise : Devices) (w : World) (plain : Plain) → Kept w plain → IsIn Judged h → Possible l Comes w h
+  pub one_step : (h : Happening) (noise : Devices) (w : World) (plain : Plain) → Kept w plain → IsIn Judged h → Possible l Comes w h
       → let new = next l w (record { happening = h; noise = noise }) in MayAct w [] (acting l w new) plain × Kept new (plain_after w (acting l w new) plain)
   one_step (Core n event new) noise w plain x j p =
       let a = event-acts w plain x n j event new p in

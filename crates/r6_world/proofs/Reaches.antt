@@ -4,13 +4,13 @@ use Rattle.std.proofs.lemmas.Bool.{cases_eq, or_parts, eqb-false, eq-eqb, ne_eqb
 use Rattle.r6_world.specs.Tables.{put, put_in}
 use Rattle.r6_world.specs.PlainArray.{Block}
 use Rattle.r6_world.specs.Layouts.{Layout}
-use Rattle.r6_world.specs.Registers.{Snapshot, RegisterCall, Fail, DeclareLost, Attach, ReportRebuilt, Told as Answer, answer_to, register_after}
+use Rattle.r6_world.specs.Registers.{Snapshot, RegisterCall, Told as Answer, answer_to, register_after}
 use Rattle.r6_world.specs.ShardStates.{Shard, away, Command, Transfer, Fetch, Store, Storing, Call}
 use Rattle.r6_world.specs.Changes.{Hand_command, after}
 use Rattle.r6_world.specs.Steps.{Event, Good, Error, Taken, Deliver, Take_command, Take_call, Told, Step}
 use Rattle.r6_world.specs.Worlds.{World, Devices, Happening, Core, Perform, Tell, Outside, Moment, MayCome, Possible, Run, happened, decayed, next, settles, break, completed_by, settled_by, as_made, Brings, IsBrought}
 use Rattle.r6_world.specs.ActingPoints.{is_among}
-use Rattle.r6_world.specs.Laws.{IsOfOutside, IsByOthers, IsOfShard, AreOfShard}
+use Rattle.r6_world.specs.Laws.{IsOfOutside, IsByAnyone, IsOfShard, AreOfShard}
 use Rattle.r6_world.specs.Claims.{IsQuiet}
 use Rattle.r6_world.specs.Sequential.{IsInTurn, OneAtATime, FewOut}
 use Rattle.r6_world.specs.Witness.{small, after_all, RunsInTurn}
@@ -35,23 +35,20 @@ shard-append n [] b r s = s
 shard-append n (m ∷ a) b r s = (r.0, shard-append n a b r.1 s)
 
 -- what comes from outside comes from others
-also_by_others : (l : Layout) (w : World) (happening : Happening) → Possible l IsOfOutside w happening → Possible l (IsByOthers 0) w happening
-also_by_others l w (Core n event new) possible = possible
-also_by_others l w (Perform n token c) possible = possible
-also_by_others l w (Tell n call answer middle new) possible = possible
-also_by_others l w (Outside (Fail slot)) possible = record {}
-also_by_others l w (Outside (Attach slot)) possible = record {}
-also_by_others l w (Outside (DeclareLost slot generation)) possible = absurd possible
-also_by_others l w (Outside (ReportRebuilt shard slot generation)) possible = absurd possible
+also_by_anyone : (l : Layout) (w : World) (happening : Happening) → Possible l IsOfOutside w happening → Possible l IsByAnyone w happening
+also_by_anyone l w (Core n event new) possible = possible
+also_by_anyone l w (Perform n token c) possible = possible
+also_by_anyone l w (Tell n call answer middle new) possible = possible
+also_by_anyone l w (Outside call) possible = record {}
 
-by_others : (l : Layout) (w : World) (moments : List Moment) → Run l IsOfOutside w moments → Run l (IsByOthers 0) w moments
-by_others l w [] r = r
-by_others l w (m ∷ moments) r = (also_by_others l w m.happening r.0, by_others l (next l w m) moments r.1)
+by_anyone : (l : Layout) (w : World) (moments : List Moment) → Run l IsOfOutside w moments → Run l IsByAnyone w moments
+by_anyone l w [] r = r
+by_anyone l w (m ∷ moments) r = (also_by_anyone l w m.happening r.0, by_anyone l (next l w m) moments r.1)
 
 pub goes-append : (l : Layout) (w : World) (a b : List Moment) → RunsInTurn l w a → RunsInTurn l (after_all l w a) b → RunsInTurn l w (a ++ b)
 goes-append l w a b r s = record {
   run = run-append l w a b r.run s.run;
-  beside_others = by_others l w (a ++ b) (run-append l w a b r.run s.run);
+  beside_anyone = by_anyone l w (a ++ b) (run-append l w a b r.run s.run);
   in_turn = turn-append l w a b r.in_turn s.in_turn;
   few_out = few-append l w a b r.few_out s.few_out;
   of_shard = shard-append 0 a b r.of_shard s.of_shard;
@@ -129,7 +126,7 @@ one w v v' at happening possible in_turn of at' Claimed claim =
       record { happening = happening; noise = (happened small w happening).device } ∷ [],
       record {
         run = (possible, record {});
-        beside_others = (also_by_others small w happening possible, record {});
+        beside_anyone = (also_by_anyone small w happening possible, record {});
         of_shard = (of, record {});
         in_turn = (in_turn, record {});
         few_out = (few.0, few.1, few_of (later_by w happening) v' at');

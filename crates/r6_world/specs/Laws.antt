@@ -1,5 +1,5 @@
 -- The laws of an array: what every run keeps.
-use Rattle.std.specs.Prelude.{◌≡◌, ◌≢◌, ℕ, ◌<◌, List, [], ◌∷◌, None}
+use Rattle.std.specs.Prelude.{◌≡◌, ℕ, ◌<◌, List, [], ◌∷◌, None}
 use Rattle.r6_world.specs.Registers.{Snapshot, RegisterCall, Fail, DeclareLost, Attach, ReportRebuilt}
 use Rattle.r6_world.specs.PlainArray.{Array, Plain}
 use Rattle.r6_world.specs.Layouts.{Layout, IsLayout}
@@ -77,17 +77,14 @@ abbrev pub AreOfShard : ℕ → List Moment → Type 0
 AreOfShard n [] = record {}
 AreOfShard n (m ∷ moments) = IsOfShard n m.happening × AreOfShard n moments
 
--- any call at the register, but a report in the shard's name
-abbrev pub IsByOthers : ℕ → RegisterCall → Type 0
-IsByOthers n (Fail slot) = record {}
-IsByOthers n (DeclareLost slot generation) = record {}
-IsByOthers n (Attach slot) = record {}
-IsByOthers n (ReportRebuilt shard slot generation) = shard ≢ n
+-- any call at the register, whoever makes it and in whatever name
+abbrev pub IsByAnyone : RegisterCall → Type 0
+IsByAnyone call = record {}
 
 -- The headline's clauses on answers and on idle rows for one shard, beside a register that any calls change between its
--- own, reports in its name excepted
+-- own
 abbrev pub ShardLaw : Type 0
 ShardLaw =
     (l : Layout) → IsLayout l → (n : ℕ) → n < l.shards → (r : Snapshot) (device : Devices) (array : Array) → IsLawfulStart l r device array
-    → (moments : List Moment) → AreOfShard n moments → Run l (IsByOthers n) (started l r device) moments
+    → (moments : List Moment) → AreOfShard n moments → Run l IsByAnyone (started l r device) moments
     → ShardHolds l n (started l r device) (started l r device) (at_start array) × Explained l (ShardHolds l n) (started l r device) (at_start array) moments
