@@ -20,7 +20,10 @@ use Rattle.r6_frames.specs.Frames.{held_requests, owed, shard_with, TakesOut}
 use Rattle.r6_frames.specs.Sound as held
 use Rattle.r6_frames.proofs.Lists.{table}
 use Rattle.r6_core.specs.declared.state.State.{State}
-use Rattle.r6_core.specs.States.{IsSound, state_of, rest_of, layout_in, requests_of, waiting_request, finished_request, released_request, bound, limit, most_unanswered, count_untold, IsOfArray, AllTold, Agrees, SameFrames, SameCalls, SameReplies}
+use Rattle.r6_core.specs.Shards.{state_of, rest_of, layout_in, requests_of, waiting_request, finished_request, released_request, IsOfArray, SameFrames}
+use Rattle.r6_core.specs.Refusals.{limit, most_unanswered, AllTold}
+use Rattle.r6_core.specs.Order.{Agrees, SameReplies}
+use Rattle.r6_core.specs.Inside.{IsSound, bound, count_untold, SameCalls}
 use Rattle.r6_core.proofs.Throughs.{through_both, through_one}
 use Rattle.r6_core.proofs.Kept.{requests_kept}
 

@@ -7,7 +7,7 @@ use Rattle.r6_world.specs.Tables.{count_below}
 use Rattle.r6_world.specs.ShardStates.{is_away}
 use Rattle.r6_frames.specs.Slots.{states_of, count_out}
 use Rattle.r6_core.specs.declared.state.State.{State}
-use Rattle.r6_core.specs.States.{IsSound, count_untold}
+use Rattle.r6_core.specs.Inside.{IsSound, count_untold}
 
 count_below-le : (test : ℕ → Bool) (n : ℕ) → count_below test n ≤ n
 count_below-le test zero = omega arith

@@ -15,7 +15,8 @@ use Rattle.r6_core.specs.declared.state.State.{State}
 use Rattle.r6_frames.specs.Frames.{world_command, held_requests, owed_in, Rest, shard_with, hold_at, Steps, KeepsHolds, AreLive, IsDriven, IsOver}
 use Rattle.r6_frames.specs.Slots.{count_out}
 use Rattle.r6_frames.specs.Sound as held
-use Rattle.r6_core.specs.States.{IsCore, Step, layout_in, state_of, rest_of, requests_of, waiting_request, finished_request, released_request}
+use Rattle.r6_core.specs.Shards.{Step, layout_in, state_of, rest_of, requests_of, waiting_request, finished_request, released_request}
+use Rattle.r6_core.specs.Inside.{IsCore}
 use Rattle.r6_frames.proofs.Lists.{table}
 use Rattle.r6_core.proofs.Kept.{requests_kept}
 

@@ -19,7 +19,9 @@ use Rattle.r6_frames.specs.Frames.{hold_at, held_requests, owed, plan_in, ComesH
 use Rattle.r6_frames.specs.Sound as held
 use Rattle.r6_core.specs.declared.refusal.DeviceFault.{DeviceFault}
 use Rattle.r6_core.specs.declared.state.State.{State}
-use Rattle.r6_core.specs.States.{IsCore, FinishesBy, HaveTurns, HaveTurnsBehind, SameFrames, SameReplies, Step, completion_of, state_of, rest_of, layout_in}
+use Rattle.r6_core.specs.Shards.{SameFrames, Step, completion_of, state_of, rest_of, layout_in}
+use Rattle.r6_core.specs.Order.{FinishesBy, HaveTurns, HaveTurnsBehind, SameReplies}
+use Rattle.r6_core.specs.Inside.{IsCore}
 use Rattle.r6_core.proofs.Throughs.{through_none}
 use Rattle.r6_core.proofs.Going.{no_rest, Goes, SlotsStay, goes_still, gone_state, gone_sound, through_in}
 use Rattle.r6_core.proofs.Answering.{TakesThrough, live_still}

@@ -24,7 +24,8 @@ use Rattle.r6_frames.specs.declared.frames.Frames.{Frames}
 use Rattle.r6_core.specs.declared.state.State.{State}
 use Rattle.r6_frames.specs.Frames.{op_of, outcome_of, task_for, task_by, kind_in, entry_of, held_requests, hold_at, hold_of, owed, AreLive, Ends, IsElsewhere, IsDriven, IsOver}
 use Rattle.r6_frames.specs.Sound as held
-use Rattle.r6_core.specs.States.{IsSound, answer_of, state_of, rest_of, layout_in, requests_of, waiting_request, finished_request, released_request}
+use Rattle.r6_core.specs.Shards.{answer_of, state_of, rest_of, layout_in, requests_of, waiting_request, finished_request, released_request}
+use Rattle.r6_core.specs.Inside.{IsSound}
 use Rattle.r6_frames.proofs.Lists.{Entries, table, looked_up, same_put, other}
 use Rattle.r6_core.proofs.Passed.{Passed, passed, all-append}
 use Rattle.r6_core.proofs.Throughs.{through_one}

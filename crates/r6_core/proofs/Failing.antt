@@ -8,7 +8,8 @@ use Rattle.std.proofs.lemmas.List.Sorted.{IsPermutation-refl, IsPermutation-tran
 use Rattle.std.proofs.lemmas.Map.Keys.{IsDistinct-head, IsDistinct-tail, IsDistinct-cons}
 use Rattle.r6_frames.specs.declared.op.Request.{Request}
 use Rattle.r6_core.specs.declared.state.State.{State}
-use Rattle.r6_core.specs.States.{IsRising, SameCalls, inserted}
+use Rattle.r6_core.specs.Order.{IsRising}
+use Rattle.r6_core.specs.Inside.{SameCalls, inserted}
 use Rattle.r6_core.proofs.Gathering.{entry_in}
 
 -- ---- the numbers of a list, in any order

@@ -18,7 +18,9 @@ use Rattle.r6_world.specs.ShardStates.{Synced}
 use Rattle.r6_core.specs.declared.state.State.{State}
 use Rattle.r6_frames.specs.Frames.{use_at, row_in, hold_of, frame_of, command_of, owed_in, IsAtStart, IsRequestOf}
 use Rattle.r6_frames.specs.Sound as held
-use Rattle.r6_core.specs.States.{IsCore, IsFresh, count_untold, call_of, devices_state, state_of, requests_of, waiting_request, finished_request, released_request, most_unanswered}
+use Rattle.r6_core.specs.Shards.{call_of, devices_state, state_of, requests_of, waiting_request, finished_request, released_request}
+use Rattle.r6_core.specs.Refusals.{most_unanswered}
+use Rattle.r6_core.specs.Inside.{IsCore, IsFresh, count_untold}
 use Rattle.r6_frames.proofs.Lists.{table}
 
 distinct-none : IsDistinct nat_eq []

@@ -18,7 +18,8 @@ use Rattle.r6_frames.specs.declared.frames.FrameUse.TheVariants as uses
 use Rattle.r6_frames.specs.Frames.{op_of, entry_of, held_requests, hold_at, hold_of, use_at, row_in, owed, shard_with, AreLive, Between, GivesUp, IsWith, KeepsOthers}
 use Rattle.r6_frames.specs.Sound as held
 use Rattle.r6_core.specs.declared.state.State.{State}
-use Rattle.r6_core.specs.States.{IsSound, Gathers, SameCalls, held_op, unreleased, waiting_request, finished_request, released_request}
+use Rattle.r6_core.specs.Shards.{waiting_request, finished_request, released_request}
+use Rattle.r6_core.specs.Inside.{IsSound, Gathers, SameCalls, held_op, unreleased}
 
 abbrev pub entry_in : Request → ℕ × world.Op
 entry_in r = (r.id, op_of r.op)

@@ -17,7 +17,8 @@ use Rattle.r6_frames.specs.Frames.{Rest, AreLive, Between, PutsOut, Drives, Answ
 use Rattle.r6_frames.specs.Sound as held
 use Rattle.r6_core.specs.declared.call.Call.{Call}
 use Rattle.r6_core.specs.declared.state.State.{State}
-use Rattle.r6_core.specs.States.{IsSound, count_untold, state_of, layout_in, rest_of, requests_of, call_of, waiting_request, finished_request, released_request, table}
+use Rattle.r6_core.specs.Shards.{state_of, layout_in, rest_of, requests_of, call_of, waiting_request, finished_request, released_request, table}
+use Rattle.r6_core.specs.Inside.{IsSound, count_untold}
 use Rattle.r6_core.proofs.Kept.{requests_kept}
 use Rattle.r6_core.proofs.SlotsKept.{drives_keep, out_same}
 

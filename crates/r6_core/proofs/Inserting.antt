@@ -3,7 +3,7 @@ use Rattle.std.proofs.Common.{◌≡◌, ℕ, Bool, cond, ◌+◌, ◌<◌, ◌�
 use Rattle.std.specs.Prelude.{slice_get}
 use Rattle.std.proofs.lemmas.Bool.{lt-ltb, le-ltb}
 use Rattle.r6_frames.specs.declared.op.Request.{Request}
-use Rattle.r6_core.specs.States.{inserted}
+use Rattle.r6_core.specs.Inside.{inserted}
 
 -- the first of a buffer goes
 pub first_of : {X : Type 0} (items : List X) (x : X) → slice_get items 0 ≡ Some x → items ≡ x ∷ drop 1 items

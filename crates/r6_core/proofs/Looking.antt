@@ -14,7 +14,10 @@ use Rattle.r6_frames.specs.Sound as held
 use Rattle.r6_frames.specs.Frames.{AreLive}
 use Rattle.r6_frames.specs.Slots.{states_of}
 use Rattle.r6_core.specs.declared.state.State.{State}
-use Rattle.r6_core.specs.States.{IsCore, Step, SameFrames, SameReplies, AllTold, Agrees, Finishes, IsRising, ReleasesAll, InTurn, HaveTurns, HaveTurnsAfter, NoneCanStart, layout_in, state_of, call_of}
+use Rattle.r6_core.specs.Shards.{Step, SameFrames, layout_in, state_of, call_of}
+use Rattle.r6_core.specs.Refusals.{AllTold}
+use Rattle.r6_core.specs.Order.{SameReplies, Agrees, Finishes, IsRising, ReleasesAll, InTurn, HaveTurns, HaveTurnsAfter}
+use Rattle.r6_core.specs.Inside.{IsCore, NoneCanStart}
 use Rattle.r6_core.proofs.AtRest.{at_rest}
 use Rattle.r6_core.proofs.Releasing.{released_nothing}
 use Rattle.r6_core.proofs.Throughs.{through_none}

@@ -29,7 +29,8 @@ use Rattle.r6_frames.proofs.Resting.{command-there}
 use Rattle.r6_core.specs.declared.call.Call.{Call}
 use Rattle.r6_core.specs.declared.call.Call.TheVariants as call
 use Rattle.r6_core.specs.declared.state.State.{State}
-use Rattle.r6_core.specs.States.{IsSound, call_of, state_of, rest_of, layout_in}
+use Rattle.r6_core.specs.Shards.{call_of, state_of, rest_of, layout_in}
+use Rattle.r6_core.specs.Inside.{IsSound}
 use Rattle.r6_core.proofs.Going.{no_rest, Goes, gone_on, gone_state, through_in}
 use Rattle.r6_core.proofs.Answering.{TakesThrough}
 

@@ -14,7 +14,8 @@ use Rattle.r6_frames.specs.declared.frames.FrameUse.{FrameUse}
 use Rattle.r6_frames.specs.declared.frames.FrameUse.TheVariants as uses
 use Rattle.r6_core.specs.declared.state.State.{State}
 use Rattle.r6_frames.specs.Frames.{held_requests, requests_from, held_request, shard_with}
-use Rattle.r6_core.specs.States.{IsSound, IsCore, state_of, layout_in, call_of, requests_of, waiting_request, finished_request, released_request, SameCalls}
+use Rattle.r6_core.specs.Shards.{state_of, layout_in, call_of, requests_of, waiting_request, finished_request, released_request}
+use Rattle.r6_core.specs.Inside.{IsSound, IsCore, SameCalls}
 use Rattle.r6_frames.proofs.Lists.{Entries, table}
 use Rattle.r6_core.proofs.Passed.{Passed, passed}
 use Rattle.r6_core.proofs.Swapped.{or_else, table-append, swapped, distinct_behind}

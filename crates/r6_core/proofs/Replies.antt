@@ -17,7 +17,9 @@ use Rattle.r6_frames.specs.declared.op.Op.{Op as Entered}
 use Rattle.r6_frames.specs.declared.op.Op.TheVariants as op
 use Rattle.r6_core.specs.declared.reply.Reply.TheVariants as back
 use Rattle.r6_frames.specs.Frames.{op_of, buffer_of, held_requests, requests_from}
-use Rattle.r6_core.specs.States.{IsSound, IsCore, Step, HasNoReply, BringsBack, reply_of, reply_to, answer_of, state_of, requests_of, waiting_request, finished_request, released_request}
+use Rattle.r6_core.specs.Shards.{Step, reply_of, answer_of, state_of, requests_of, waiting_request, finished_request, released_request}
+use Rattle.r6_core.specs.Order.{HasNoReply, BringsBack, reply_to}
+use Rattle.r6_core.specs.Inside.{IsSound, IsCore}
 use Rattle.r6_frames.proofs.Lists.{Entries, table, gone, own, apart, all_parts, distinct_without, looked_up}
 use Rattle.r6_core.proofs.Passed.{all-append}
 

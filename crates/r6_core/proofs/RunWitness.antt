@@ -39,7 +39,7 @@ use Rattle.r6_frames.specs.declared.frames.FrameUse.TheVariants as uses
 use Rattle.r6_frames.specs.Frames.{command_of, hold_at, hold_of, frame_of}
 use Rattle.r6_frames.proofs.Tables.{inserted-at}
 use Rattle.r6_core.specs.declared.state.State.{State}
-use Rattle.r6_core.specs.States.{IsWhole, Step, SameFrames, state_of}
+use Rattle.r6_core.specs.Shards.{IsWhole, Step, SameFrames, state_of}
 use Rattle.r6_core.specs.Runs.{Happening, Call, Perform, Moment, AreMade, IsMade, ReadsBlock, ThereAreRuns}
 
 -- ---- the steps of the shard

@@ -15,7 +15,7 @@ use Rattle.r6_world.specs.Worlds.{World, Devices, Possible, Run, next, started}
 use Rattle.r6_world.specs.Laws.{IsOfOutside, OfEveryRun}
 use Rattle.r6_world.proofs.Tables.{put-same, put-other}
 use Rattle.r6_core.specs.declared.state.State.{State}
-use Rattle.r6_core.specs.States.{Step, state_of}
+use Rattle.r6_core.specs.Shards.{Step, state_of}
 use Rattle.r6_core.specs.Runs.{Happening, Call, Perform, Tell, Outside, Moment, in_world, moment_of, cores_after, MayHappen, CoresRun, AreMade, StayShards, RunsOfCores, OfEveryRunOfCores}
 
 -- the core is of this shard of the array, and is what the world has as the shard

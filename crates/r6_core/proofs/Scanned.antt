@@ -6,7 +6,9 @@ use Rattle.r6_world.specs.Steps.{Through, Scans}
 use Rattle.r6_frames.specs.declared.op.Request.{Request}
 use Rattle.r6_frames.specs.declared.frames.Frames.{Frames}
 use Rattle.r6_core.specs.declared.state.State.{State}
-use Rattle.r6_core.specs.States.{IsCore, NoneCanStart, CannotStart, Starts, InTurn, Advances, SameFrames, SameCalls, KeepsReplies, state_of, layout_in}
+use Rattle.r6_core.specs.Shards.{SameFrames, state_of, layout_in}
+use Rattle.r6_core.specs.Order.{CannotStart, Starts, InTurn, KeepsReplies}
+use Rattle.r6_core.specs.Inside.{IsCore, NoneCanStart, Advances, SameCalls}
 use Rattle.r6_frames.specs.Frames.{AreLive}
 use Rattle.r6_core.proofs.Passed.{all-append}
 use Rattle.r6_core.proofs.Throughs.{through_both, through_none}

@@ -28,7 +28,10 @@ use Rattle.r6_frames.specs.Frames.{held_request, held_requests, requests_from, h
 use Rattle.r6_frames.specs.Sound as held
 use Rattle.r6_frames.proofs.Lists.{Entries, table}
 use Rattle.r6_core.specs.declared.state.State.{State}
-use Rattle.r6_core.specs.States.{IsSound, IsCore, Gathers, IsRising, inserted, state_of, rest_of, layout_in, requests_of, waiting_request, finished_request, released_request, held_op, unreleased, call_of, count_untold, limit, most_unanswered}
+use Rattle.r6_core.specs.Shards.{state_of, rest_of, layout_in, requests_of, waiting_request, finished_request, released_request, call_of}
+use Rattle.r6_core.specs.Refusals.{limit, most_unanswered}
+use Rattle.r6_core.specs.Order.{IsRising}
+use Rattle.r6_core.specs.Inside.{IsSound, IsCore, Gathers, inserted, held_op, unreleased, count_untold}
 use Rattle.r6_core.proofs.Kept.{requests_kept}
 use Rattle.r6_core.proofs.SlotsKept.{out_same}
 use Rattle.r6_core.proofs.Gathering.{entry_in}

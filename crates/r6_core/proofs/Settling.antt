@@ -16,7 +16,9 @@ use Rattle.r6_frames.specs.declared.frames.Frames.{Frames}
 use Rattle.r6_frames.specs.Frames.{row_in, hold_at, held_request, held_requests, owed, AreLive, IsDriven, IsOver, IsLowestOver, KeepsOthers, Drives}
 use Rattle.r6_frames.specs.Sound as held
 use Rattle.r6_core.specs.declared.state.State.{State}
-use Rattle.r6_core.specs.States.{IsSound, IsCore, IsRestedFrame, IsRising, FinishesHeld, MayFinish, SameFrames, SameCalls, state_of, layout_in, requests_of, table, waiting_request, finished_request, released_request}
+use Rattle.r6_core.specs.Shards.{SameFrames, state_of, layout_in, requests_of, table, waiting_request, finished_request, released_request}
+use Rattle.r6_core.specs.Order.{IsRising, MayFinish}
+use Rattle.r6_core.specs.Inside.{IsSound, IsCore, IsRestedFrame, FinishesHeld, SameCalls}
 use Rattle.r6_frames.proofs.Held.{held_goes}
 use Rattle.r6_frames.proofs.Lists.{own, apart}
 use Rattle.r6_core.proofs.Passed.{all-append}

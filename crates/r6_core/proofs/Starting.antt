@@ -27,7 +27,10 @@ use Rattle.r6_core.specs.declared.state.State.{State}
 use Rattle.r6_frames.specs.Frames.{op_of, task_for, hold_at, use_at, row_in, frame_of, held_requests, Rest, shard_with, owed, begun_for, entry_of, IsWith, Begins, Drives, PutsOut, AreLive, IsFreeFrame, IsHeldFrame, NotHeldBy, IsDriven, IsOver, IsRequestOf, KeepsOthers}
 use Rattle.r6_frames.specs.Slots.{states_of, count_out}
 use Rattle.r6_frames.specs.Sound as held
-use Rattle.r6_core.specs.States.{IsSound, IsCore, IsRestedFrame, CanStart, Advances, state_of, rest_of, count_untold, layout_in, requests_of, waiting_request, finished_request, released_request, table, bound, limit, most_unanswered}
+use Rattle.r6_core.specs.Shards.{state_of, rest_of, layout_in, requests_of, waiting_request, finished_request, released_request, table}
+use Rattle.r6_core.specs.Refusals.{limit, most_unanswered}
+use Rattle.r6_core.specs.Order.{CanStart}
+use Rattle.r6_core.specs.Inside.{IsSound, IsCore, IsRestedFrame, Advances, count_untold, bound}
 use Rattle.r6_frames.proofs.Lists.{Entries, same_put}
 use Rattle.r6_frames.proofs.Held.{put_own}
 use Rattle.r6_core.proofs.Kept.{requests_kept}

@@ -6,7 +6,7 @@ use Rattle.std.proofs.lemmas.Nat.Bits.{bit_at-zero}
 use Rattle.std.proofs.lemmas.Option.{slice_get-map}
 use Rattle.r6_health.specs.Registers.{starting, lost_if}
 use Rattle.r6_world.specs.Registers.{InSync, Lost}
-use Rattle.r6_core.specs.States.{IsWhole}
+use Rattle.r6_core.specs.Shards.{IsWhole}
 
 not_lost : (slot : ℕ) → lost_if 0 slot ≡ InSync
 not_lost slot = ap (λ (bit : ℕ). cond (bit == 1) Lost InSync) (bit_at-zero slot)

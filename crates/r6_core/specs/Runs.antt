@@ -16,7 +16,7 @@ use Rattle.r6_world.specs.Claims.{IsLawfulStart, IsQuiet, AllAnswered}
 use Rattle.r6_world.specs.Laws.{ArrayHolds, Explained, AtEach, IsOfOutside, at_start}
 use Rattle.r6_world.specs.Witness.{smallest, small}
 use Rattle.r6_core.specs.declared.state.State.{State}
-use Rattle.r6_core.specs.States.{IsWhole, Step, state_of}
+use Rattle.r6_core.specs.Shards.{IsWhole, Step, state_of}
 
 -- One thing that happens. A call that is refused changes nothing, and isn't one
 pub data Happening : Type 0 where

@@ -4,7 +4,10 @@ ghost use Rattle.std.specs.Prelude.{◌≡◌, ℕ, length, MatchOption, IfOk, I
 ghost use Rattle.r6_world.specs.Steps.{Deliver, Good, Error, Taken, Through, GoesOn, Takes};
 ghost use Rattle.r6_world.specs.Changes.{Change, after, Allowed};
 ghost use Rattle.r6_frames.specs.Frames.{AreLive, IsAwaited, IsAbandoned, IsHeldFrame, IsDriven, KeepsOthers};
-ghost use Rattle.r6_core.specs.States.{IsSound, IsCore, IsRestedFrame, Step, state_of, layout_in, completion_of, receipt_of, buffer_in, HasDeliverFault, IsFirstFault, HasNone, deliver_faults, SameFrames, SameCalls, MayFinish, Finishes, FinishesBy, FinishesHeld, HaveTurnsBehind};
+ghost use Rattle.r6_core.specs.Shards.{Step, state_of, layout_in, completion_of, receipt_of, buffer_in, SameFrames};
+ghost use Rattle.r6_core.specs.Refusals.{HasDeliverFault, IsFirstFault, HasNone, deliver_faults};
+ghost use Rattle.r6_core.specs.Order.{MayFinish, Finishes, FinishesBy, HaveTurnsBehind};
+ghost use Rattle.r6_core.specs.Inside.{IsSound, IsCore, IsRestedFrame, SameCalls, FinishesHeld};
 
 use crate::call::Call;
 use crate::refusal::{DeviceFault, Receipt, Refusal, Refused};

@@ -2,22 +2,22 @@
 #![tactic(auto)]
 
 mod call;
-mod calls;
 mod deliver;
 mod laws;
 mod look;
 mod refusal;
 mod reply;
 mod scan;
+mod shard_core;
 mod state;
 mod tell;
 
 pub use call::Call;
-pub use calls::Core;
 pub use laws::array_law;
 pub use r6_frames::{Command, CommandKind, Op};
 pub use refusal::{CoreError, DeviceFault, FaultKind, Receipt, Refusal, Refused};
 pub use reply::{OpId, Reply};
+pub use shard_core::Core;
 pub use state::State;
 
 #[cfg(test)]

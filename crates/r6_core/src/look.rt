@@ -9,7 +9,10 @@ ghost use Rattle.r6_world.specs.Changes.{Release, See_failed, after, adopted, di
 ghost use Rattle.r6_frames.specs.Frames.{AreLive};
 ghost use Rattle.r6_frames.specs.Slots as slots;
 ghost use Rattle.r6_frames.specs.Slots.{states_of};
-ghost use Rattle.r6_core.specs.States.{IsSound, IsCore, Step, state_of, layout_in, inserted, Gathers, IsOfArray, AllTold, Agrees, SameFrames, SameCalls, SameReplies, LooksOn, FailsAll, HaveTurnsAfter};
+ghost use Rattle.r6_core.specs.Shards.{Step, state_of, layout_in, IsOfArray, SameFrames};
+ghost use Rattle.r6_core.specs.Refusals.{AllTold};
+ghost use Rattle.r6_core.specs.Order.{Agrees, SameReplies, LooksOn, FailsAll, HaveTurnsAfter};
+ghost use Rattle.r6_core.specs.Inside.{IsSound, IsCore, inserted, Gathers, SameCalls};
 
 use crate::refusal::Refusal;
 use crate::state::State;

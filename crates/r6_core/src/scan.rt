@@ -4,7 +4,9 @@ ghost use Rattle.std.specs.Prelude.{◌≡◌, ◌<◌, ℕ, length, MatchOption
 ghost use Rattle.r6_world.specs.Steps.{Through, Scans};
 ghost use Rattle.r6_frames.specs.Frames.{IsFreeFrame, IsRequestOf, AreLive};
 ghost use Rattle.r6_frames.specs.Sound as held;
-ghost use Rattle.r6_core.specs.States.{IsSound, IsCore, NoneCanStart, CannotStart, CanStart, Advances, HaveTurns, state_of, layout_in, SameFrames, SameCalls, KeepsReplies};
+ghost use Rattle.r6_core.specs.Shards.{state_of, layout_in, SameFrames};
+ghost use Rattle.r6_core.specs.Order.{CannotStart, CanStart, HaveTurns, KeepsReplies};
+ghost use Rattle.r6_core.specs.Inside.{IsSound, IsCore, NoneCanStart, Advances, SameCalls};
 
 use crate::state::State;
 use r6_frames::Request;

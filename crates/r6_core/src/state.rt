@@ -7,7 +7,10 @@ ghost use Rattle.r6_world.specs.Steps.{Submit, Take_command, No_command, Take_re
 ghost use Rattle.r6_world.specs.Changes.{Accept, after, Allowed};
 ghost use Rattle.r6_frames.specs.Frames.{op_of, buffer_of, world_command, IsCommandOf};
 ghost use Rattle.r6_frames.specs.Slots.{slot_before};
-ghost use Rattle.r6_core.specs.States.{IsSound, IsCore, Step, state_of, layout_in, reply_of, reply_to, BringsBack, HasSubmitFault, IsFirstFault, HasNone, submit_faults, IsFresh, SameCalls, NoReplies, SameReplies, TakesFirst, HasNoReply, KeepsReplies, HaveTurns};
+ghost use Rattle.r6_core.specs.Shards.{Step, state_of, layout_in, reply_of};
+ghost use Rattle.r6_core.specs.Refusals.{HasSubmitFault, IsFirstFault, HasNone, submit_faults};
+ghost use Rattle.r6_core.specs.Order.{reply_to, BringsBack, NoReplies, SameReplies, TakesFirst, HasNoReply, KeepsReplies, HaveTurns};
+ghost use Rattle.r6_core.specs.Inside.{IsSound, IsCore, IsFresh, SameCalls};
 
 use crate::call::Call;
 use crate::refusal::{Refusal, Refused};

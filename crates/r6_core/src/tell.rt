@@ -2,7 +2,9 @@
 
 ghost use Rattle.std.specs.Prelude.{◌≡◌, ◌≢◌, IfOk, IfErr, MatchOption, Some};
 ghost use Rattle.r6_world.specs.Steps.{Take_call, No_call, Told};
-ghost use Rattle.r6_core.specs.States.{IsCore, Step, call_of, KeepsReplies};
+ghost use Rattle.r6_core.specs.Shards.{Step, call_of};
+ghost use Rattle.r6_core.specs.Order.{KeepsReplies};
+ghost use Rattle.r6_core.specs.Inside.{IsCore};
 
 use crate::call::Call;
 use crate::refusal::Refusal;

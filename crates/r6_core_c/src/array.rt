@@ -3,7 +3,7 @@
 ghost use Rattle.std.specs.Prelude.{◌≡◌, ◌<◌, ◌^◌, length, IfOk};
 ghost use Rattle.std.specs.List.{All};
 ghost use Rattle.r6_layout.specs.Shape.{IsShape};
-ghost use Rattle.r6_core.specs.States.{IsWhole};
+ghost use Rattle.r6_core.specs.Shards.{IsWhole};
 
 use r6_core::{Core, CoreError, Op, Refusal, Reply};
 use r6_dev::{Fault, MemoryDevice};

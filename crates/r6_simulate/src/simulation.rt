@@ -2,7 +2,7 @@
 
 ghost use Rattle.std.specs.Prelude.{◌≡◌, ◌<◌, length, replicate, IfErr, IfOk, IfSome, OnOk};
 ghost use Rattle.std.specs.Io.KnownBytes.{Appends};
-ghost use Rattle.r6_core.specs.States.{IsWhole};
+ghost use Rattle.r6_core.specs.Shards.{IsWhole};
 ghost use Rattle.r6_layout.specs.Shape.{IsShape};
 ghost use Rattle.r6_simulate.specs.Shards.{shard_of_block, shard_of_event};
 

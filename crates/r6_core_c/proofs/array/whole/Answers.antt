@@ -1,5 +1,5 @@
 use Rattle.std.proofs.Common.{sym, subst}
-use Rattle.r6_core.specs.States.{IsWhole}
+use Rattle.r6_core.specs.Shards.{IsWhole}
 use Rattle.r6_core.proofs.Whole.{whole_start}
 use Rattle.r6_core_c.proofs.array.whole.Goals as goal
 

@@ -1,7 +1,8 @@
 use Rattle.std.proofs.Common.{◌+◌, sym, ap, subst, ◌∙◌}
 use Rattle.circular_buffer.specs.Buffer.{Buffer}
 use Rattle.r6_frames.specs.declared.op.Request.{Request}
-use Rattle.r6_core.specs.States.{IsCore, state_of}
+use Rattle.r6_core.specs.Shards.{state_of}
+use Rattle.r6_core.specs.Inside.{IsCore}
 use Rattle.r6_core.proofs.Accepting.{accepted_core, accepted_state}
 use Rattle.r6_core.proofs.state.State.accept.Goals as goal
 

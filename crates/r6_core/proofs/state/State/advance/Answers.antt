@@ -2,7 +2,8 @@ use Rattle.std.proofs.Common.{◌≡◌, ◌++◌, ◌∷◌, [], drop, sym, ap,
 use Rattle.circular_buffer.specs.Buffer.{Buffer, buffer}
 use Rattle.r6_world.specs.Steps.{Through, Scans}
 use Rattle.r6_frames.specs.declared.op.Request.{Request}
-use Rattle.r6_core.specs.States.{IsCore, Advances, state_of, layout_in}
+use Rattle.r6_core.specs.Shards.{state_of, layout_in}
+use Rattle.r6_core.specs.Inside.{IsCore, Advances}
 use Rattle.r6_core.proofs.Throughs.{through_none}
 use Rattle.r6_core.proofs.Starting.{popped, begun_held, begun_numbers, IsStart, started_core, started_leads, started_advances, turned_core, turned_state}
 use Rattle.r6_core.proofs.state.State.advance.Goals as goal

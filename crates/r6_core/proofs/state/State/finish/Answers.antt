@@ -1,7 +1,7 @@
 use Rattle.std.proofs.Common.{ap}
 use Rattle.r6_world.specs.Steps.{GoesOn}
 use Rattle.r6_frames.specs.declared.frames.Frames.{Frames}
-use Rattle.r6_core.specs.States.{layout_in, state_of}
+use Rattle.r6_core.specs.Shards.{layout_in, state_of}
 use Rattle.r6_core.proofs.Delivering.{freed, none_rested, ended_id, one_ends, ended_sound}
 use Rattle.r6_core.proofs.Throughs.{through_none}
 use Rattle.r6_core.proofs.state.State.finish.Goals as goal

@@ -2,7 +2,9 @@ use Rattle.std.proofs.Common.{◌≡◌, Bool, true, false, Option, Some, None, 
 use Rattle.std.specs.Prelude.{nat_eq}
 use Rattle.std.proofs.lemmas.Bool.{eqb-true}
 use Rattle.r6_world.specs.Registers.{Snapshot}
-use Rattle.r6_core.specs.States.{Agrees, AllTold, layout_in, state_of}
+use Rattle.r6_core.specs.Shards.{layout_in, state_of}
+use Rattle.r6_core.specs.Refusals.{AllTold}
+use Rattle.r6_core.specs.Order.{Agrees}
 use Rattle.r6_core.proofs.Releasing.{empty_of_length}
 use Rattle.r6_core.specs.declared.state.State.{State}
 use Rattle.r6_core.proofs.Looking.{HasSettled, settled_some, settled_none, failed_by-takes_over, failed_by-goes_on, looked, looked_failed, looked_stopped, looked_releases, looked_turns, stopped_turns}

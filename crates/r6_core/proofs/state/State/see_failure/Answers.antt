@@ -2,7 +2,8 @@ use Rattle.std.proofs.Common.{◌≡◌, [], drop, sym, ap, subst, ◌∙◌}
 use Rattle.circular_buffer.specs.Buffer.{Buffer}
 use Rattle.r6_world.specs.Changes.{See_failed, after}
 use Rattle.r6_frames.specs.declared.op.Request.{Request}
-use Rattle.r6_core.specs.States.{IsCore, state_of, layout_in}
+use Rattle.r6_core.specs.Shards.{state_of, layout_in}
+use Rattle.r6_core.specs.Inside.{IsCore}
 use Rattle.r6_core.proofs.Replies.{some_popped, none_popped, unpopped}
 use Rattle.r6_core.proofs.SeenFailure.{seen_sound, waiting_distinct, has_room, failing_on, failed_core, failed_state}
 use Rattle.r6_core.proofs.state.State.see_failure.Goals as goal

@@ -2,7 +2,8 @@ use Rattle.std.proofs.Common.{ap, subst, ◌∙◌}
 use Rattle.r6_world.specs.ShardStates.{Shard}
 use Rattle.r6_world.specs.Geometries.{layout_of}
 use Rattle.r6_world.specs.Steps.{Through, Scans, AtRest}
-use Rattle.r6_core.specs.States.{HaveTurns, state_of, layout_in}
+use Rattle.r6_core.specs.Shards.{state_of, layout_in}
+use Rattle.r6_core.specs.Order.{HaveTurns}
 use Rattle.r6_core.proofs.AtRest.{at_rest}
 use Rattle.r6_core.proofs.state.State.submit.Goals as goal
 

@@ -1,7 +1,7 @@
 use Rattle.std.proofs.Common.{◌≡◌, ◌∷◌, refl, sym, ap, ◌∙◌}
 use Rattle.std.specs.Prelude.{map, option_map, is_some, false, Option, Some, None}
 use Rattle.circular_buffer.specs.Buffer.{Buffer}
-use Rattle.r6_core.specs.States.{call_of}
+use Rattle.r6_core.specs.Shards.{call_of}
 use Rattle.r6_core.proofs.Replies.{some_popped}
 use Rattle.r6_core.proofs.state.State.take_call.Goals as goal
 

@@ -4,7 +4,8 @@ use Rattle.r6_frames.specs.declared.op.Request.{Request}
 use Rattle.r6_world.specs.Steps.{No_reply}
 use Rattle.r6_world.specs.PlainArray.{ArrayFailed}
 use Rattle.r6_world.specs.ShardStates.{Released}
-use Rattle.r6_core.specs.States.{Step, BringsBack, reply_of, requests_of, table}
+use Rattle.r6_core.specs.Shards.{Step, reply_of, requests_of, table}
+use Rattle.r6_core.specs.Order.{BringsBack}
 use Rattle.r6_core.specs.declared.reply.Reply.{Reply}
 use Rattle.r6_core.proofs.Known.{at_none}
 use Rattle.r6_core.proofs.Replies.{some_popped, none_popped, unpopped, no_reply, failed_core, failed_step, failed_request, brings_failure}

@@ -1,7 +1,8 @@
 use Rattle.std.proofs.Common.{◌≡◌, ◌∷◌, ℕ, sym, ap, subst, ◌∙◌}
 use Rattle.circular_buffer.specs.Buffer.{Buffer}
 use Rattle.r6_world.specs.ShardStates.{Released}
-use Rattle.r6_core.specs.States.{BringsBack, answer_of, reply_of, requests_of, table}
+use Rattle.r6_core.specs.Shards.{answer_of, reply_of, requests_of, table}
+use Rattle.r6_core.specs.Order.{BringsBack}
 use Rattle.r6_core.specs.declared.reply.Reply.{Reply}
 use Rattle.r6_core.proofs.Replies.{some_popped, reply_core, reply_step, reply_request, reply_as, brings_answer}
 use Rattle.r6_core.proofs.state.State.take_reply.Goals as goal

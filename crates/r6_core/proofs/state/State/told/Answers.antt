@@ -1,6 +1,6 @@
 use Rattle.std.proofs.Common.{◌≡◌, Bool, refl, sym, ◌∙◌, arith, true, false}
 use Rattle.std.specs.Prelude.{not}
-use Rattle.r6_core.specs.States.{count_untold}
+use Rattle.r6_core.specs.Inside.{count_untold}
 use Rattle.r6_core.proofs.CallRoom.{calls_fit, one_untold}
 use Rattle.r6_core.proofs.state.State.told.Goals as goal
 

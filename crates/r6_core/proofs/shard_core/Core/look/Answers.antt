@@ -1,7 +1,8 @@
 use Rattle.std.proofs.Common.{IfOk, subst}
 use Rattle.r6_world.specs.Steps.{Look}
-use Rattle.r6_core.specs.States.{Step, LooksOn, HaveTurnsAfter}
-use Rattle.r6_core.proofs.calls.Core.look.Goals as goal
+use Rattle.r6_core.specs.Shards.{Step}
+use Rattle.r6_core.specs.Order.{LooksOn, HaveTurnsAfter}
+use Rattle.r6_core.proofs.shard_core.Core.look.Goals as goal
 
 pub returns-clause-step : goal.returns-clause-step
 returns-clause-step c =

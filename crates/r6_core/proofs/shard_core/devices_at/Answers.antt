@@ -5,7 +5,7 @@ use Rattle.r6_world.specs.Worlds.{slot_at_start}
 use Rattle.r6_frames.specs.declared.slots.Device.TheVariants as device
 use Rattle.r6_frames.specs.Slots as slots
 use Rattle.r6_core.proofs.Fresh.{past_devices}
-use Rattle.r6_core.proofs.calls.devices_at.Goals as goal
+use Rattle.r6_core.proofs.shard_core.devices_at.Goals as goal
 
 pub loop-slot-init : goal.loop-slot-init
 loop-slot-init c = record {

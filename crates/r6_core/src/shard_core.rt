@@ -7,7 +7,9 @@ ghost use Rattle.r6_world.specs.Registers.{InSync, status_of};
 ghost use Rattle.r6_world.specs.Worlds.{shard_at_start, slot_at_start};
 ghost use Rattle.r6_world.specs.Steps.{Submit, Deliver, Look, Take_command, No_command, Take_call, No_call, Told, Take_reply, No_reply};
 ghost use Rattle.r6_frames.specs.Frames.{op_of, world_command, IsCommandOf};
-ghost use Rattle.r6_core.specs.States.{Step, state_of, devices_state, synced, reply_of, call_of, completion_of, receipt_of, buffer_in, BringsBack, IsOfArray, AllTold, HasSubmitFault, HasDeliverFault, IsFirstFault, HasNone, submit_faults, deliver_faults, NoReplies, SameReplies, KeepsReplies, FinishesBy, LooksOn, TakesFirst, HasNoReply, HaveTurns, HaveTurnsBehind, HaveTurnsAfter};
+ghost use Rattle.r6_core.specs.Shards.{Step, state_of, devices_state, synced, reply_of, call_of, completion_of, receipt_of, buffer_in, IsOfArray};
+ghost use Rattle.r6_core.specs.Refusals.{AllTold, HasSubmitFault, HasDeliverFault, IsFirstFault, HasNone, submit_faults, deliver_faults};
+ghost use Rattle.r6_core.specs.Order.{BringsBack, NoReplies, SameReplies, KeepsReplies, FinishesBy, LooksOn, TakesFirst, HasNoReply, HaveTurns, HaveTurnsBehind, HaveTurnsAfter};
 
 use crate::call::Call;
 use crate::refusal::{CoreError, DeviceFault, Receipt, Refusal, Refused};
@@ -32,7 +34,7 @@ pub struct Core {
 
 impl Model for Core {
     ghost use Rattle.r6_core.specs.declared.state.State.{State};
-    ghost use Rattle.r6_core.specs.States.{IsCore};
+    ghost use Rattle.r6_core.specs.Inside.{IsCore};
     ghost use Rattle.std.specs.Coded.{codes};
     ghost use Rattle.std.specs.FinMap as map;
     ghost use Rattle.circular_buffer.specs.Buffer.{buffer_code};

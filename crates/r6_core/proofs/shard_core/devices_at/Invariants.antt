@@ -1,9 +1,9 @@
 use Rattle.std.proofs.Common.{◌≡◌, ◌<◌, ◌≤◌, ℕ, length}
 use Rattle.r6_world.specs.Registers.{status_of}
 use Rattle.r6_world.specs.Worlds.{slot_at_start}
-use Rattle.r6_core.specs.States.{devices_state}
+use Rattle.r6_core.specs.Shards.{devices_state}
 use Rattle.r6_world.specs.ShardStates.{Missing}
-use Rattle.r6_core.proofs.calls.devices_at.Given as goal
+use Rattle.r6_core.proofs.shard_core.devices_at.Given as goal
 
 abbrev pub invariant-loop-slot : goal.invariant-loop-slot
 invariant-loop-slot l =

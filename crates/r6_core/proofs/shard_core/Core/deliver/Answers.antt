@@ -1,7 +1,8 @@
 use Rattle.std.proofs.Common.{◌≡◌, IfOk, IfErr, subst}
 use Rattle.r6_world.specs.Steps.{Deliver}
-use Rattle.r6_core.specs.States.{Step, completion_of, receipt_of, buffer_in, HasDeliverFault, HasNone, IsFirstFault, deliver_faults}
-use Rattle.r6_core.proofs.calls.Core.deliver.Goals as goal
+use Rattle.r6_core.specs.Shards.{Step, completion_of, receipt_of, buffer_in}
+use Rattle.r6_core.specs.Refusals.{HasDeliverFault, HasNone, IsFirstFault, deliver_faults}
+use Rattle.r6_core.proofs.shard_core.Core.deliver.Goals as goal
 
 pub returns-clause-step : goal.returns-clause-step
 returns-clause-step c =

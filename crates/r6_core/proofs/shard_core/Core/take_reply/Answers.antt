@@ -1,7 +1,7 @@
 use Rattle.std.proofs.Common.{MatchOption, subst}
 use Rattle.r6_world.specs.Steps.{Take_reply, No_reply}
-use Rattle.r6_core.specs.States.{Step, reply_of}
-use Rattle.r6_core.proofs.calls.Core.take_reply.Goals as goal
+use Rattle.r6_core.specs.Shards.{Step, reply_of}
+use Rattle.r6_core.proofs.shard_core.Core.take_reply.Goals as goal
 
 pub returns-clause-step : goal.returns-clause-step
 returns-clause-step c =

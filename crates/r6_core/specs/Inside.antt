@@ -1,0 +1,114 @@
+-- What is true of a state between calls, and what internal calls do. No public clause needs it.
+use Rattle.std.specs.Prelude.{◌≡◌, ℕ, ◌+◌, ◌*◌, ◌<◌, ◌≤◌, ◌⊎◌, nat_eq, nat_lt, if◌then◌else◌, false, List, [], ◌∷◌, ◌++◌, length, map, IsPermutation, Option, Some, None}
+use Rattle.std.specs.List.{AllByRecursion, IsDistinct}
+use Rattle.std.specs.Map.{keys_of}
+use Rattle.r6_tables.specs.Table.{next_of}
+use Rattle.r6_world.specs.PlainArray as world
+use Rattle.r6_world.specs.ShardStates as shards
+use Rattle.r6_frames.specs.declared.op.Request.{Request}
+use Rattle.r6_core.specs.declared.call.Call.{Call}
+use Rattle.r6_core.specs.declared.state.State.{State}
+use Rattle.r6_frames.specs.declared.frames.HeldRow.{HeldRow}
+use Rattle.r6_frames.specs.Slots.{count_out}
+use Rattle.r6_frames.specs.Frames.{op_of, held_requests, hold_at, Between, owed, AreLive, IsRequestOf, IsDriven, IsOver}
+use Rattle.r6_frames.specs.Frames as frames
+use Rattle.r6_frames.specs.Sound as held
+use Rattle.r6_core.specs.Shards.{requests_of}
+use Rattle.r6_core.specs.Refusals.{most_unanswered, limit, AllTold}
+use Rattle.r6_core.specs.Order.{CannotStart, Starts}
+
+-- ---- between calls
+
+pub record AreRequests (s : State) : Type 0 where
+  pub distinct : IsDistinct nat_eq (keys_of (requests_of s))
+  pub numbered : AllByRecursion (λ id. id < s.accepted) (keys_of (requests_of s))
+  pub counted : length (requests_of s) ≡ s.unanswered
+  pub few : s.unanswered ≤ most_unanswered
+  pub waiting : AllByRecursion (IsRequestOf s.frames) s.waiting.items
+
+-- whether a call was taken whose answer isn't told
+abbrev pub count_untold : Option Call → ℕ
+count_untold None = 0
+count_untold (Some taken) = 1
+
+pub record HasRoom (s : State) : Type 0 where
+  pub waiting : s.waiting.capacity ≡ most_unanswered
+  pub finished : s.finished.capacity ≡ most_unanswered
+  pub released : s.released.capacity ≡ most_unanswered
+  pub calls : s.calls.capacity ≡ 32
+  -- each call declares another slot lost, which is out
+  pub few_calls : length s.calls.items + count_untold s.untold ≤ count_out s.frames.slots s.frames.geometry.slots
+
+-- what was put out, with what may still come: each request that waits puts out at most two commands a position
+abbrev pub bound : State → ℕ
+bound s = next_of s.frames.commands + owed s.frames + 2 * s.frames.geometry.slots * length s.waiting.items
+
+pub record IsSound (s : State) : Type 0 where
+  pub frames : held.IsSound s.frames
+  pub requests : AreRequests s
+  pub room : HasRoom s
+  pub tokens : bound s ≤ limit + 2 * 32 * most_unanswered
+  pub accepted : s.accepted ≤ limit
+
+-- each hold has put out all that comes next, and isn't over
+abbrev pub IsRestedFrame : State → ℕ → Type 0
+IsRestedFrame s frame = IsDriven s.frames frame × (IsOver s.frames frame → ⊥)
+
+abbrev pub IsRested : State → Type 0
+IsRested s = (frame : ℕ) → IsRestedFrame s frame
+
+-- between public calls
+pub record IsCore (s : State) : Type 0 where
+  pub sound : IsSound s
+  pub rested : AreLive s.frames → IsRested s
+
+abbrev pub NoneCanStart : State → Type 0
+NoneCanStart s = AllByRecursion (CannotStart s.frames) s.waiting.items
+
+-- ---- what internal calls do
+
+abbrev pub SameCalls : State → State → Type 0
+SameCalls old new = (new.calls ≡ old.calls) × (new.untold ≡ old.untold)
+
+-- nothing was accepted, and nothing put out
+abbrev pub IsFresh : State → Type 0
+IsFresh s = (s.accepted ≡ 0) × (requests_of s ≡ []) × frames.IsAtStart s.frames × AllTold s × (s.frames.saw_failed ≡ false)
+
+-- the request goes where its number belongs
+abbrev pub inserted : Request → List Request → List Request
+inserted request [] = request ∷ []
+inserted request (other ∷ newer) = if nat_lt other.id request.id then other ∷ inserted request newer else request ∷ inserted other newer
+
+-- the oldest request that waited starts, or goes behind the others where it can't
+abbrev pub Advances : State → State → Type 0
+Advances old new =
+    (request : Request) × (rest : List Request) × (old.waiting.items ≡ request ∷ rest)
+    × (((new.waiting.items ≡ rest) × Starts old.frames request new.frames)
+    ⊎ ((new.waiting.items ≡ rest ++ request ∷ []) × CannotStart old.frames request × (new.frames ≡ old.frames)))
+    × ((other : Request) → CannotStart old.frames other → CannotStart new.frames other)
+
+-- the frame's hold was over, and its request is finished
+abbrev pub FinishesHeld : State → (frame : ℕ) → State → Type 0
+FinishesHeld old frame new =
+    (h : HeldRow) → hold_at old.frames.held.items frame ≡ Some h → IsOver old.frames frame
+    → (request : Request) × (request.id ≡ h.id) × (new.finished.items ≡ old.finished.items ++ request ∷ []) × (hold_at new.frames.held.items frame ≡ None)
+
+-- the requests that aren't released, each with its number
+abbrev pub held_op : ℕ × shards.Request → ℕ × world.Op
+held_op entry = (entry.0, entry.1.op)
+
+abbrev pub unreleased : State → List (ℕ × world.Op)
+unreleased s =
+    map (λ r. (r.id, op_of r.op)) s.waiting.items ++ (map held_op (held_requests s.frames) ++ map (λ r. (r.id, op_of r.op)) s.finished.items)
+
+-- all requests that aren't released wait, and no row is held
+pub record Gathers (old new : State) : Type 0 where
+  pub frames : held.IsSound new.frames
+  pub stopped : AreLive new.frames → ⊥
+  pub none_held : (frame : ℕ) → hold_at new.frames.held.items frame ≡ None
+  pub none_finished : new.finished.items ≡ []
+  pub all : IsPermutation (unreleased old) (unreleased new)
+  pub tokens : owed new.frames ≤ owed old.frames
+  pub shard : Between (λ l n s s'. s' ≡ record s { frame = λ frame. None }) old.frames new.frames
+  pub room : (new.waiting.capacity ≡ old.waiting.capacity) × (new.finished.capacity ≡ old.finished.capacity)
+  pub rest : (new.accepted ≡ old.accepted) × (new.unanswered ≡ old.unanswered) × (new.released ≡ old.released) × SameCalls old new

@@ -1,0 +1,120 @@
+-- Which shard of the world a core is, and its steps.
+use Rattle.std.specs.Prelude.{◌≡◌, ℕ, ◌≤◌, nat_eq, Bool, true, false, List, ◌++◌, map, slice_index_or, option_map, Option, Some, None, Result, Ok, Err}
+use Rattle.std.specs.Map.{lookup}
+use Rattle.r6_world.specs.PlainArray as world
+use Rattle.r6_world.specs.Layouts.{Layout}
+use Rattle.r6_world.specs.Geometries.{layout_of}
+use Rattle.r6_world.specs.Registers.{Snapshot, InSync, status_of}
+use Rattle.r6_world.specs.ShardStates as shards
+use Rattle.r6_world.specs.ShardStates.{Shard, Stage, Waiting, Finished, Released, SlotState, Synced, Missing, Building, LossOf, RebuildOf}
+use Rattle.r6_world.specs.Steps as steps
+use Rattle.r6_frames.specs.declared.op.Op.{Op}
+use Rattle.r6_frames.specs.declared.op.Op.TheVariants as op
+use Rattle.r6_frames.specs.declared.op.Request.{Request}
+use Rattle.r6_core.specs.declared.reply.Reply.{Reply}
+use Rattle.r6_core.specs.declared.reply.Reply.TheVariants as reply
+use Rattle.r6_core.specs.declared.refusal.DeviceFault.{DeviceFault}
+use Rattle.r6_core.specs.declared.refusal.Receipt.{Receipt}
+use Rattle.r6_core.specs.declared.refusal.Receipt.TheVariants as receipt
+use Rattle.r6_core.specs.declared.call.Call.{Call}
+use Rattle.r6_core.specs.declared.call.Call.TheVariants as call
+use Rattle.r6_core.specs.declared.state.State.{State}
+use Rattle.r6_frames.specs.declared.slots.Device.{Device}
+use Rattle.r6_frames.specs.declared.slots.Device.TheVariants as device
+use Rattle.r6_frames.specs.Slots as slots
+use Rattle.r6_frames.specs.Frames.{op_of, held_requests, Rest, shard_with}
+
+-- ---- requests
+
+-- the answer of a request that is finished: it stands in its buffer
+abbrev pub answer_of : Op → world.Reply
+answer_of (op.Read block buffer) = world.Reply.Data buffer
+answer_of (op.Write block buffer) = world.Reply.Done
+
+abbrev pub waiting_request : Request → ℕ × shards.Request
+waiting_request r = (r.id, record { op = op_of r.op; stage = Waiting })
+
+-- once a look has seen that the array failed, what isn't released is answered so
+abbrev pub ended_stage : (saw_failed : Bool) → Op → Stage
+ended_stage false o = Finished (answer_of o)
+ended_stage true o = Released world.Reply.ArrayFailed
+
+abbrev pub finished_request : (saw_failed : Bool) → Request → ℕ × shards.Request
+finished_request saw_failed r = (r.id, record { op = op_of r.op; stage = ended_stage saw_failed r.op })
+
+abbrev pub released_request : Request → ℕ × shards.Request
+released_request r = (r.id, record { op = op_of r.op; stage = Released (answer_of r.op) })
+
+-- the requests, each with its number: those that wait, are held, are finished and are released
+abbrev pub requests_of : State → List (ℕ × shards.Request)
+requests_of s =
+    map waiting_request s.waiting.items
+    ++ (held_requests s.frames ++ (map (finished_request s.frames.saw_failed) s.finished.items ++ map released_request s.released.items))
+
+-- the request of a number in a list
+abbrev pub table : List (ℕ × shards.Request) → ℕ → Option shards.Request
+table requests id = lookup (nat_eq id) requests
+
+-- ---- the shard
+
+abbrev pub call_of : Call → shards.Call
+call_of (call.DeclareLost slot generation) = LossOf slot generation
+call_of (call.ReportRebuilt slot generation) = RebuildOf slot generation
+
+-- what the shard has beside its frames
+abbrev pub rest_of : State → Rest
+rest_of s = record { accepted = s.accepted; request = table (requests_of s); calls = map call_of s.calls.items; untold = option_map call_of s.untold }
+
+abbrev pub state_of : State → Shard
+state_of s = shard_with (rest_of s) s.frames
+
+abbrev pub layout_in : State → Layout
+layout_in s = layout_of s.frames.geometry
+
+abbrev pub SameFrames : State → State → Type 0
+SameFrames old new = (new.frames.geometry ≡ old.frames.geometry) × (new.frames.shard ≡ old.frames.shard)
+
+-- a step of this shard, which stays the shard that it is
+abbrev pub Step : State → steps.Event → State → Type 0
+Step old event new = SameFrames old new × steps.Step (layout_in old) old.frames.shard (state_of old) event (state_of new)
+
+-- ---- completions and replies, as the world has them
+
+abbrev pub completion_of : Result (List ℕ) DeviceFault → steps.Completion
+completion_of (Ok buffer) = steps.Good buffer
+completion_of (Err fault) = steps.Error
+
+abbrev pub receipt_of : Receipt → steps.Receipt
+receipt_of receipt.Taken = steps.Taken
+receipt_of receipt.Late = steps.Late
+
+-- the command's buffer
+abbrev pub buffer_in : Result (List ℕ) DeviceFault → List ℕ
+buffer_in (Ok buffer) = buffer
+buffer_in (Err fault) = fault.buffer
+
+abbrev pub reply_of : Reply → world.Reply
+reply_of (reply.Data buffer) = world.Reply.Data buffer
+reply_of (reply.Done buffer) = world.Reply.Done
+reply_of (reply.ArrayFailed buffer) = world.Reply.ArrayFailed
+
+-- ---- slots
+
+-- the generation with which a slot is in sync
+abbrev pub synced : SlotState → Option ℕ
+synced (Synced generation) = Some generation
+synced Missing = None
+synced (Building generation built) = None
+
+-- the state of a slot with one of these devices; what is no slot is in sync
+abbrev pub devices_state : List Device → ℕ → SlotState
+devices_state devices slot = slots.state_of (slice_index_or devices slot (device.Synced 0))
+
+-- the snapshot is of the register of this array: what is no slot of the array is in sync there
+abbrev pub IsOfArray : State → Snapshot → Type 0
+IsOfArray s snapshot = (slot : ℕ) → s.frames.geometry.slots ≤ slot → status_of snapshot slot ≡ InSync
+
+-- no slot was lost and the array hasn't failed
+pub record IsWhole (snapshot : Snapshot) : Type 0 where
+  pub in_sync : (slot : ℕ) → status_of snapshot slot ≡ InSync
+  pub not_failed : snapshot.failed ≡ false
