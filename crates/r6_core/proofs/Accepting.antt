@@ -21,7 +21,9 @@ use Rattle.r6_frames.specs.declared.frames.HeldRow.{HeldRow}
 use Rattle.r6_frames.specs.declared.frames.FrameUse.{FrameUse}
 use Rattle.r6_frames.specs.declared.frames.FrameUse.TheVariants as uses
 use Rattle.r6_core.specs.declared.state.State.{State}
-use Rattle.r6_frames.specs.Frames.{op_of, buffer_of, hold_at, requests_from, held_requests, owed, owed_by, owed_in, is_unsent, IsRequestOf}
+use Rattle.r6_frames.specs.Views.{op_of, buffer_of, hold_at, requests_from, held_requests}
+use Rattle.r6_frames.specs.Calls.{IsRequestOf}
+use Rattle.r6_frames.specs.Owed.{owed, owed_by, owed_in, is_unsent}
 use Rattle.r6_core.specs.Shards.{state_of, layout_in, requests_of, waiting_request, finished_request, released_request}
 use Rattle.r6_core.specs.Refusals.{limit, most_unanswered, HasSubmitFault, HasNone, submit_faults}
 use Rattle.r6_core.specs.Inside.{IsSound, IsCore, AreRequests, bound}

@@ -16,7 +16,9 @@ use Rattle.r6_frames.specs.declared.frames.Frames.{Frames}
 use Rattle.r6_frames.specs.declared.slots.Device.{Device}
 use Rattle.r6_frames.specs.Slots as slots
 use Rattle.r6_frames.specs.Slots.{states_of, slot_in}
-use Rattle.r6_frames.specs.Frames.{held_requests, owed, shard_with, TakesOut}
+use Rattle.r6_frames.specs.Views.{held_requests, shard_with}
+use Rattle.r6_frames.specs.Calls.{TakesOut}
+use Rattle.r6_frames.specs.Owed.{owed}
 use Rattle.r6_frames.specs.Sound as held
 use Rattle.r6_frames.proofs.Lists.{table}
 use Rattle.r6_core.specs.declared.state.State.{State}

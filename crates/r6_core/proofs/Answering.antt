@@ -6,7 +6,9 @@ use Rattle.r6_world.specs.ShardStates.{Shard}
 use Rattle.r6_world.specs.Changes.{Change, after, Allowed}
 use Rattle.r6_world.specs.Steps.{Completion, Receipt, GoesOn, Through, Takes, Good, Taken}
 use Rattle.r6_frames.specs.declared.frames.Frames.{Frames}
-use Rattle.r6_frames.specs.Frames.{row_in, hold_at, held_requests, owed, outstanding, AreLive, Answers, Drives, IsAwaited, IsDriven, IsOver, KeepsOthers}
+use Rattle.r6_frames.specs.Views.{row_in, hold_at, held_requests, outstanding, AreLive}
+use Rattle.r6_frames.specs.Calls.{Answers, Drives, IsAwaited, KeepsOthers}
+use Rattle.r6_frames.specs.Owed.{owed, IsDriven, IsOver}
 use Rattle.r6_frames.specs.Sound as held
 use Rattle.r6_core.specs.declared.state.State.{State}
 use Rattle.r6_core.specs.Shards.{state_of, rest_of, layout_in}

@@ -10,7 +10,8 @@ use Rattle.r6_frames.specs.declared.op.Request.{Request as Entered}
 use Rattle.r6_frames.specs.declared.frames.FrameUse.{FrameUse}
 use Rattle.r6_frames.specs.declared.frames.FrameUse.TheVariants as uses
 use Rattle.r6_core.specs.declared.state.State.{State}
-use Rattle.r6_frames.specs.Frames.{op_of, hold_of, requests_from, NotHeldBy}
+use Rattle.r6_frames.specs.Views.{op_of, hold_of, requests_from}
+use Rattle.r6_frames.specs.Calls.{NotHeldBy}
 use Rattle.r6_core.specs.Shards.{state_of, rest_of, layout_in, waiting_request, finished_request, released_request}
 use Rattle.r6_core.specs.Order.{CannotStart}
 use Rattle.r6_core.specs.Inside.{IsCore, NoneCanStart}

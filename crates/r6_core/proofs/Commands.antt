@@ -12,7 +12,9 @@ use Rattle.r6_world.specs.Steps.{Take_command, No_command}
 use Rattle.r6_frames.specs.declared.command.Command.{Command}
 use Rattle.r6_frames.specs.declared.frames.Frames.{Frames}
 use Rattle.r6_core.specs.declared.state.State.{State}
-use Rattle.r6_frames.specs.Frames.{world_command, held_requests, owed_in, Rest, shard_with, hold_at, Steps, KeepsHolds, AreLive, IsDriven, IsOver}
+use Rattle.r6_frames.specs.Views.{world_command, held_requests, Rest, shard_with, hold_at, AreLive}
+use Rattle.r6_frames.specs.Calls.{Steps, KeepsHolds}
+use Rattle.r6_frames.specs.Owed.{owed_in, IsDriven, IsOver}
 use Rattle.r6_frames.specs.Slots.{count_out}
 use Rattle.r6_frames.specs.Sound as held
 use Rattle.r6_core.specs.Shards.{Step, layout_in, state_of, rest_of, requests_of, waiting_request, finished_request, released_request}

@@ -15,7 +15,9 @@ use Rattle.r6_world.specs.Steps as steps
 use Rattle.r6_frames.specs.declared.op.Request.{Request}
 use Rattle.r6_frames.specs.declared.frames.Frames.{Frames}
 use Rattle.r6_frames.specs.declared.frames.HeldRow.{HeldRow}
-use Rattle.r6_frames.specs.Frames.{hold_at, held_requests, owed, plan_in, ComesHome, IsDriven, IsOver, KeepsHeld, KeepsOthers}
+use Rattle.r6_frames.specs.Views.{hold_at, held_requests, plan_in}
+use Rattle.r6_frames.specs.Calls.{ComesHome, KeepsHeld, KeepsOthers}
+use Rattle.r6_frames.specs.Owed.{owed, IsDriven, IsOver}
 use Rattle.r6_frames.specs.Sound as held
 use Rattle.r6_core.specs.declared.refusal.DeviceFault.{DeviceFault}
 use Rattle.r6_core.specs.declared.state.State.{State}

@@ -22,7 +22,9 @@ use Rattle.r6_frames.specs.declared.frames.Job.TheVariants as job
 use Rattle.r6_frames.specs.declared.frames.HeldRow.{HeldRow}
 use Rattle.r6_frames.specs.declared.frames.Frames.{Frames}
 use Rattle.r6_core.specs.declared.state.State.{State}
-use Rattle.r6_frames.specs.Frames.{op_of, outcome_of, task_for, task_by, kind_in, entry_of, held_requests, hold_at, hold_of, owed, AreLive, Ends, IsElsewhere, IsDriven, IsOver}
+use Rattle.r6_frames.specs.Views.{op_of, outcome_of, task_for, task_by, kind_in, held_requests, hold_at, hold_of, AreLive}
+use Rattle.r6_frames.specs.Calls.{entry_of, Ends, IsElsewhere}
+use Rattle.r6_frames.specs.Owed.{owed, IsDriven, IsOver}
 use Rattle.r6_frames.specs.Sound as held
 use Rattle.r6_core.specs.Shards.{answer_of, state_of, rest_of, layout_in, requests_of, waiting_request, finished_request, released_request}
 use Rattle.r6_core.specs.Inside.{IsSound}

@@ -16,7 +16,9 @@ use Rattle.r6_frames.specs.declared.slots.Device.{Device}
 use Rattle.r6_frames.specs.Slots.{states_of, slot_before}
 use Rattle.r6_world.specs.ShardStates.{Synced}
 use Rattle.r6_core.specs.declared.state.State.{State}
-use Rattle.r6_frames.specs.Frames.{use_at, row_in, hold_of, frame_of, command_of, owed_in, IsAtStart, IsRequestOf}
+use Rattle.r6_frames.specs.Views.{use_at, row_in, hold_of, frame_of, command_of}
+use Rattle.r6_frames.specs.Calls.{IsAtStart, IsRequestOf}
+use Rattle.r6_frames.specs.Owed.{owed_in}
 use Rattle.r6_frames.specs.Sound as held
 use Rattle.r6_core.specs.Shards.{call_of, devices_state, state_of, requests_of, waiting_request, finished_request, released_request}
 use Rattle.r6_core.specs.Refusals.{most_unanswered}

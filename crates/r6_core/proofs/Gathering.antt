@@ -15,7 +15,9 @@ use Rattle.r6_frames.specs.declared.op.Request.{Request}
 use Rattle.r6_frames.specs.declared.frames.Frames.{Frames}
 use Rattle.r6_frames.specs.declared.frames.FrameUse.{FrameUse}
 use Rattle.r6_frames.specs.declared.frames.FrameUse.TheVariants as uses
-use Rattle.r6_frames.specs.Frames.{op_of, entry_of, held_requests, hold_at, hold_of, use_at, row_in, owed, shard_with, AreLive, Between, GivesUp, IsWith, KeepsOthers}
+use Rattle.r6_frames.specs.Views.{op_of, held_requests, hold_at, hold_of, use_at, row_in, shard_with, AreLive}
+use Rattle.r6_frames.specs.Calls.{entry_of, Between, GivesUp, IsWith, KeepsOthers}
+use Rattle.r6_frames.specs.Owed.{owed}
 use Rattle.r6_frames.specs.Sound as held
 use Rattle.r6_core.specs.declared.state.State.{State}
 use Rattle.r6_core.specs.Shards.{waiting_request, finished_request, released_request}

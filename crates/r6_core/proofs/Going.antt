@@ -13,7 +13,9 @@ use Rattle.r6_world.specs.Changes.{Change, Ask, Prepare, Send, Learn, Confirm, a
 use Rattle.r6_world.specs.Steps.{GoesOn, Through, Takes, Good, Taken}
 use Rattle.r6_frames.specs.declared.frames.Frames.{Frames}
 use Rattle.r6_frames.specs.Slots.{states_of, count_out}
-use Rattle.r6_frames.specs.Frames.{Rest, AreLive, Between, PutsOut, Drives, Answers, held_requests, owed, shard_with}
+use Rattle.r6_frames.specs.Views.{Rest, AreLive, held_requests, shard_with}
+use Rattle.r6_frames.specs.Calls.{Between, PutsOut, Drives, Answers}
+use Rattle.r6_frames.specs.Owed.{owed}
 use Rattle.r6_frames.specs.Sound as held
 use Rattle.r6_core.specs.declared.call.Call.{Call}
 use Rattle.r6_core.specs.declared.state.State.{State}

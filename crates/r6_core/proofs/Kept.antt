@@ -3,7 +3,7 @@ use Rattle.std.proofs.Common.{◌≡◌, List, [], ◌∷◌}
 use Rattle.std.specs.List.{AllByRecursion}
 use Rattle.r6_frames.specs.declared.op.Request.{Request}
 use Rattle.r6_frames.specs.declared.frames.Frames.{Frames}
-use Rattle.r6_frames.specs.Frames.{IsRequestOf}
+use Rattle.r6_frames.specs.Calls.{IsRequestOf}
 
 pub request_kept : (old new : Frames) (request : Request) → new.geometry ≡ old.geometry → new.shard ≡ old.shard → IsRequestOf old request → IsRequestOf new request
 request_kept old new request geometry shard is =

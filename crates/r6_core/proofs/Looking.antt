@@ -11,7 +11,7 @@ use Rattle.r6_world.specs.Steps.{AtRest, Leads, Through, GoesOn, Scans, TakesOve
 use Rattle.r6_frames.specs.declared.op.Request.{Request}
 use Rattle.r6_frames.specs.declared.frames.Frames.{Frames}
 use Rattle.r6_frames.specs.Sound as held
-use Rattle.r6_frames.specs.Frames.{AreLive}
+use Rattle.r6_frames.specs.Views.{AreLive}
 use Rattle.r6_frames.specs.Slots.{states_of}
 use Rattle.r6_core.specs.declared.state.State.{State}
 use Rattle.r6_core.specs.Shards.{Step, SameFrames, layout_in, state_of, call_of}

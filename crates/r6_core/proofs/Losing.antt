@@ -22,7 +22,9 @@ use Rattle.r6_frames.specs.declared.frames.Frames.{Frames}
 use Rattle.r6_frames.specs.declared.slots.Device.{Device}
 use Rattle.r6_frames.specs.declared.slots.Device.TheVariants as device
 use Rattle.r6_frames.specs.Slots.{state_of as state_of_device, slot_in, states_of, count_out, is_abandoned}
-use Rattle.r6_frames.specs.Frames.{use_at, row_in, hold_at, outstanding, held_requests, owed, shard_with, AreLive, Loses}
+use Rattle.r6_frames.specs.Views.{use_at, row_in, hold_at, outstanding, held_requests, shard_with, AreLive}
+use Rattle.r6_frames.specs.Calls.{Loses}
+use Rattle.r6_frames.specs.Owed.{owed}
 use Rattle.r6_frames.specs.Sound as held
 use Rattle.r6_frames.specs.Sound.{is_away_from, place_of}
 use Rattle.r6_frames.proofs.Resting.{command-there}

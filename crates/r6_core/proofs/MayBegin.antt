@@ -11,7 +11,7 @@ use Rattle.r6_world.specs.ShardStates.{SlotState, found}
 use Rattle.r6_world.proofs.Cells.{found-long}
 use Rattle.r6_frames.specs.declared.op.Op.{Op}
 use Rattle.r6_frames.specs.declared.op.Op.TheVariants as op
-use Rattle.r6_frames.specs.Frames.{buffer_of, task_for}
+use Rattle.r6_frames.specs.Views.{buffer_of, task_for}
 
 index_below : (shape : Shape) (slots : ℕ → SlotState) (row block : ℕ) → IsShape shape → index_of shape block + 2 < length (found (layout_of shape) slots row).cells
 index_below shape slots row block lawful = omega (arith, index_of-lt shape block lawful, found-long (layout_of shape) slots row, lawful.slots_allowed.0)

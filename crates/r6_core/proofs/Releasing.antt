@@ -13,7 +13,7 @@ use Rattle.r6_frames.specs.declared.op.Request.{Request}
 use Rattle.r6_frames.specs.declared.frames.FrameUse.{FrameUse}
 use Rattle.r6_frames.specs.declared.frames.FrameUse.TheVariants as uses
 use Rattle.r6_core.specs.declared.state.State.{State}
-use Rattle.r6_frames.specs.Frames.{held_requests, requests_from, held_request, shard_with}
+use Rattle.r6_frames.specs.Views.{held_requests, requests_from, held_request, shard_with}
 use Rattle.r6_core.specs.Shards.{state_of, layout_in, call_of, requests_of, waiting_request, finished_request, released_request}
 use Rattle.r6_core.specs.Inside.{IsSound, IsCore, SameCalls}
 use Rattle.r6_frames.proofs.Lists.{Entries, table}

@@ -16,7 +16,7 @@ use Rattle.r6_core.specs.declared.state.State.{State}
 use Rattle.r6_frames.specs.declared.op.Op.{Op as Entered}
 use Rattle.r6_frames.specs.declared.op.Op.TheVariants as op
 use Rattle.r6_core.specs.declared.reply.Reply.TheVariants as back
-use Rattle.r6_frames.specs.Frames.{op_of, buffer_of, held_requests, requests_from}
+use Rattle.r6_frames.specs.Views.{op_of, buffer_of, held_requests, requests_from}
 use Rattle.r6_core.specs.Shards.{Step, reply_of, answer_of, state_of, requests_of, waiting_request, finished_request, released_request}
 use Rattle.r6_core.specs.Order.{HasNoReply, BringsBack, reply_to}
 use Rattle.r6_core.specs.Inside.{IsSound, IsCore}

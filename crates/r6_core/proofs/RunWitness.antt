@@ -36,7 +36,7 @@ use Rattle.r6_frames.specs.declared.frames.Job.TheVariants as job
 use Rattle.r6_frames.specs.declared.frames.HeldRow.{HeldRow}
 use Rattle.r6_frames.specs.declared.frames.FrameUse.{FrameUse}
 use Rattle.r6_frames.specs.declared.frames.FrameUse.TheVariants as uses
-use Rattle.r6_frames.specs.Frames.{command_of, hold_at, hold_of, frame_of}
+use Rattle.r6_frames.specs.Views.{command_of, hold_at, hold_of, frame_of}
 use Rattle.r6_frames.proofs.Tables.{inserted-at}
 use Rattle.r6_core.specs.declared.state.State.{State}
 use Rattle.r6_core.specs.Shards.{IsWhole, Step, SameFrames, state_of}

@@ -9,7 +9,7 @@ use Rattle.r6_core.specs.declared.state.State.{State}
 use Rattle.r6_core.specs.Shards.{SameFrames, state_of, layout_in}
 use Rattle.r6_core.specs.Order.{CannotStart, Starts, InTurn, KeepsReplies}
 use Rattle.r6_core.specs.Inside.{IsCore, NoneCanStart, Advances, SameCalls}
-use Rattle.r6_frames.specs.Frames.{AreLive}
+use Rattle.r6_frames.specs.Views.{AreLive}
 use Rattle.r6_core.proofs.Passed.{all-append}
 use Rattle.r6_core.proofs.Throughs.{through_both, through_none}
 

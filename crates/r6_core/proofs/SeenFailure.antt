@@ -24,7 +24,9 @@ use Rattle.r6_frames.specs.declared.frames.Frames.{Frames}
 use Rattle.r6_frames.specs.declared.frames.FrameUse.{FrameUse}
 use Rattle.r6_frames.specs.declared.frames.FrameUse.TheVariants as uses
 use Rattle.r6_frames.specs.Slots.{states_of}
-use Rattle.r6_frames.specs.Frames.{held_request, held_requests, requests_from, hold_at, owed, Rest, shard_with, SeesFailure, AreLive, IsRequestOf}
+use Rattle.r6_frames.specs.Views.{held_request, held_requests, requests_from, hold_at, Rest, shard_with, AreLive}
+use Rattle.r6_frames.specs.Calls.{SeesFailure, IsRequestOf}
+use Rattle.r6_frames.specs.Owed.{owed}
 use Rattle.r6_frames.specs.Sound as held
 use Rattle.r6_frames.proofs.Lists.{Entries, table}
 use Rattle.r6_core.specs.declared.state.State.{State}

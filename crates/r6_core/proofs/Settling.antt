@@ -13,7 +13,9 @@ use Rattle.r6_frames.specs.declared.op.Request.{Request}
 use Rattle.r6_frames.specs.declared.frames.HeldRow.{HeldRow}
 use Rattle.r6_frames.specs.declared.frames.FrameUse.TheVariants.{Free}
 use Rattle.r6_frames.specs.declared.frames.Frames.{Frames}
-use Rattle.r6_frames.specs.Frames.{row_in, hold_at, held_request, held_requests, owed, AreLive, IsDriven, IsOver, IsLowestOver, KeepsOthers, Drives}
+use Rattle.r6_frames.specs.Views.{row_in, hold_at, held_request, held_requests, AreLive}
+use Rattle.r6_frames.specs.Calls.{KeepsOthers, Drives}
+use Rattle.r6_frames.specs.Owed.{owed, IsDriven, IsOver, IsLowestOver}
 use Rattle.r6_frames.specs.Sound as held
 use Rattle.r6_core.specs.declared.state.State.{State}
 use Rattle.r6_core.specs.Shards.{SameFrames, state_of, layout_in, requests_of, table, waiting_request, finished_request, released_request}

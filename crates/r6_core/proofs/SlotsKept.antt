@@ -8,7 +8,8 @@ use Rattle.r6_world.specs.Steps.{Leads}
 use Rattle.r6_world.specs.Geometries.{layout_of}
 use Rattle.r6_frames.specs.declared.frames.Frames.{Frames}
 use Rattle.r6_frames.specs.Slots.{states_of, count_out}
-use Rattle.r6_frames.specs.Frames.{Rest, Drives, PutsOut, shard_with}
+use Rattle.r6_frames.specs.Views.{Rest, shard_with}
+use Rattle.r6_frames.specs.Calls.{Drives, PutsOut}
 
 slots_after-put : (l : Layout) (s : Shard) (change : Change) → PutsOut change → (after l s change).slot ≡ s.slot
 slots_after-put l s (Ask frame h slot generation) puts = refl

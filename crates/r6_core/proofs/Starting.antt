@@ -24,7 +24,9 @@ use Rattle.r6_frames.specs.declared.op.Op.TheVariants as op
 use Rattle.r6_frames.specs.declared.op.Request.{Request as Entered}
 use Rattle.r6_frames.specs.declared.frames.Frames.{Frames}
 use Rattle.r6_core.specs.declared.state.State.{State}
-use Rattle.r6_frames.specs.Frames.{op_of, task_for, hold_at, use_at, row_in, frame_of, held_requests, Rest, shard_with, owed, begun_for, entry_of, IsWith, Begins, Drives, PutsOut, AreLive, IsFreeFrame, IsHeldFrame, NotHeldBy, IsDriven, IsOver, IsRequestOf, KeepsOthers}
+use Rattle.r6_frames.specs.Views.{op_of, task_for, hold_at, use_at, row_in, frame_of, held_requests, Rest, shard_with, AreLive}
+use Rattle.r6_frames.specs.Calls.{begun_for, entry_of, IsWith, Begins, Drives, PutsOut, IsFreeFrame, IsHeldFrame, NotHeldBy, IsRequestOf, KeepsOthers}
+use Rattle.r6_frames.specs.Owed.{owed, IsDriven, IsOver}
 use Rattle.r6_frames.specs.Slots.{states_of, count_out}
 use Rattle.r6_frames.specs.Sound as held
 use Rattle.r6_core.specs.Shards.{state_of, rest_of, layout_in, requests_of, waiting_request, finished_request, released_request, table}

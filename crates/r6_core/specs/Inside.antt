@@ -10,8 +10,10 @@ use Rattle.r6_core.specs.declared.call.Call.{Call}
 use Rattle.r6_core.specs.declared.state.State.{State}
 use Rattle.r6_frames.specs.declared.frames.HeldRow.{HeldRow}
 use Rattle.r6_frames.specs.Slots.{count_out}
-use Rattle.r6_frames.specs.Frames.{op_of, held_requests, hold_at, Between, owed, AreLive, IsRequestOf, IsDriven, IsOver}
-use Rattle.r6_frames.specs.Frames as frames
+use Rattle.r6_frames.specs.Views.{op_of, held_requests, hold_at, AreLive}
+use Rattle.r6_frames.specs.Calls.{Between, IsRequestOf}
+use Rattle.r6_frames.specs.Owed.{owed, IsDriven, IsOver}
+use Rattle.r6_frames.specs.Calls as frames
 use Rattle.r6_frames.specs.Sound as held
 use Rattle.r6_core.specs.Shards.{requests_of}
 use Rattle.r6_core.specs.Refusals.{most_unanswered, limit, AllTold}

@@ -15,7 +15,8 @@ use Rattle.r6_core.specs.declared.refusal.DeviceFault.{DeviceFault}
 use Rattle.r6_core.specs.declared.state.State.{State}
 use Rattle.r6_frames.specs.declared.frames.Frames.{Frames}
 use Rattle.r6_frames.specs.Slots.{states_of}
-use Rattle.r6_frames.specs.Frames.{op_of, buffer_of, held_requests, entry_of, AreLive, IsFreeFrame, NotHeldBy, IsWith, KeepsOthers}
+use Rattle.r6_frames.specs.Views.{op_of, buffer_of, held_requests, AreLive}
+use Rattle.r6_frames.specs.Calls.{entry_of, IsFreeFrame, NotHeldBy, IsWith, KeepsOthers}
 use Rattle.r6_frames.specs.Sound as held
 
 -- ---- replies

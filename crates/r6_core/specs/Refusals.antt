@@ -8,7 +8,8 @@ use Rattle.r6_frames.specs.declared.op.Op.{Op}
 use Rattle.r6_core.specs.declared.refusal.Refusal.{Refusal}
 use Rattle.r6_core.specs.declared.refusal.Refusal.TheVariants.{NoSuchBlock, WrongShard, WrongLength, Busy, ArrayFailed, Exhausted, UnknownToken, UntoldFirst, UnknownCall}
 use Rattle.r6_core.specs.declared.state.State.{State}
-use Rattle.r6_frames.specs.Frames.{op_of, buffer_of, IsAwaited}
+use Rattle.r6_frames.specs.Views.{op_of, buffer_of}
+use Rattle.r6_frames.specs.Calls.{IsAwaited}
 
 abbrev pub number_of : Refusal → ℕ
 number_of NoSuchBlock = 1

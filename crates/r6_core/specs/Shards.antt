@@ -22,7 +22,7 @@ use Rattle.r6_core.specs.declared.state.State.{State}
 use Rattle.r6_frames.specs.declared.slots.Device.{Device}
 use Rattle.r6_frames.specs.declared.slots.Device.TheVariants as device
 use Rattle.r6_frames.specs.Slots as slots
-use Rattle.r6_frames.specs.Frames.{op_of, held_requests, Rest, shard_with}
+use Rattle.r6_frames.specs.Views.{op_of, held_requests, Rest, shard_with}
 
 -- ---- requests
 

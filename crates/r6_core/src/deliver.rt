@@ -3,7 +3,9 @@
 ghost use Rattle.std.specs.Prelude.{◌≡◌, ℕ, length, MatchOption, IfOk, IfErr};
 ghost use Rattle.r6_world.specs.Steps.{Deliver, Good, Error, Taken, Through, GoesOn, Takes};
 ghost use Rattle.r6_world.specs.Changes.{Change, after, Allowed};
-ghost use Rattle.r6_frames.specs.Frames.{AreLive, IsAwaited, IsAbandoned, IsHeldFrame, IsDriven, KeepsOthers};
+ghost use Rattle.r6_frames.specs.Views.{AreLive};
+ghost use Rattle.r6_frames.specs.Calls.{IsAwaited, IsAbandoned, IsHeldFrame, KeepsOthers};
+ghost use Rattle.r6_frames.specs.Owed.{IsDriven};
 ghost use Rattle.r6_core.specs.Shards.{Step, state_of, layout_in, completion_of, receipt_of, buffer_in, SameFrames};
 ghost use Rattle.r6_core.specs.Refusals.{HasDeliverFault, IsFirstFault, HasNone, deliver_faults};
 ghost use Rattle.r6_core.specs.Order.{MayFinish, Finishes, FinishesBy, HaveTurnsBehind};

@@ -6,7 +6,7 @@ ghost use Rattle.r6_world.specs.Registers.{status_of};
 ghost use Rattle.r6_world.specs.ShardStates.{is_away};
 ghost use Rattle.r6_world.specs.Steps.{Look, Through, TakesOver};
 ghost use Rattle.r6_world.specs.Changes.{Release, See_failed, after, adopted, differs};
-ghost use Rattle.r6_frames.specs.Frames.{AreLive};
+ghost use Rattle.r6_frames.specs.Views.{AreLive};
 ghost use Rattle.r6_frames.specs.Slots as slots;
 ghost use Rattle.r6_frames.specs.Slots.{states_of};
 ghost use Rattle.r6_core.specs.Shards.{Step, state_of, layout_in, IsOfArray, SameFrames};

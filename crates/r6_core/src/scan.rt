@@ -2,7 +2,8 @@
 
 ghost use Rattle.std.specs.Prelude.{◌≡◌, ◌<◌, ℕ, length, MatchOption};
 ghost use Rattle.r6_world.specs.Steps.{Through, Scans};
-ghost use Rattle.r6_frames.specs.Frames.{IsFreeFrame, IsRequestOf, AreLive};
+ghost use Rattle.r6_frames.specs.Views.{AreLive};
+ghost use Rattle.r6_frames.specs.Calls.{IsFreeFrame, IsRequestOf};
 ghost use Rattle.r6_frames.specs.Sound as held;
 ghost use Rattle.r6_core.specs.Shards.{state_of, layout_in, SameFrames};
 ghost use Rattle.r6_core.specs.Order.{CannotStart, CanStart, HaveTurns, KeepsReplies};

@@ -37,7 +37,9 @@ use Rattle.r6_frames.specs.declared.frames.FrameUse.{FrameUse}
 use Rattle.r6_frames.specs.declared.frames.FrameUse.TheVariants.{Free, Held as HeldIn, Returning}
 use Rattle.r6_frames.specs.declared.frames.Frames.{Frames}
 use Rattle.r6_frames.specs.Slots.{state_of, slot_in, states_of}
-use Rattle.r6_frames.specs.Frames.{op_of, buffer_of, job_for, row_task, task_for, task_by, op_by, use_at, row_in, hold_at, hold_of, held_request, requests_from, entry_of, begun_for, shard_with, owed_by, owed_in, is_unsent, is_synced_at, AreLive, IsFreeFrame, NotHeldBy, IsRequestOf, Begins, OwesCommands}
+use Rattle.r6_frames.specs.Views.{op_of, buffer_of, job_for, row_task, task_for, task_by, op_by, use_at, row_in, hold_at, hold_of, held_request, requests_from, shard_with, is_synced_at, AreLive}
+use Rattle.r6_frames.specs.Calls.{entry_of, begun_for, IsFreeFrame, NotHeldBy, IsRequestOf, Begins}
+use Rattle.r6_frames.specs.Owed.{owed_by, owed_in, is_unsent, OwesCommands}
 use Rattle.r6_frames.specs.Sound.{is_put_out, is_away_from, count_home, home_in, count_free, IsJob, IsHeld, AreApart, AreFrames, AreCommands, IsSound}
 use Rattle.r6_frames.proofs.BegunOwes.{begun_owes_commands}
 use Rattle.r6_frames.proofs.Held.{use_at_own, use_at_other, apart_put, frame_put, held_comes, owed_at, owed_set, home_at, home_set, free_at, free_set}

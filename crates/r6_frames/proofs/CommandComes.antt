@@ -22,7 +22,7 @@ use Rattle.r6_frames.specs.declared.frames.FrameUse.{FrameUse}
 use Rattle.r6_frames.specs.declared.frames.FrameUse.TheVariants.{Held as HeldIn}
 use Rattle.r6_frames.specs.declared.frames.Frames.{Frames}
 use Rattle.r6_frames.specs.Slots.{slot_in, is_abandoned}
-use Rattle.r6_frames.specs.Frames.{use_at, hold_at, outstanding, command_of, transfer_of, AreLive}
+use Rattle.r6_frames.specs.Views.{use_at, hold_at, outstanding, command_of, transfer_of, AreLive}
 use Rattle.r6_frames.specs.Sound.{AreCommands, IsOfHold, IsOfFrame, HasCommand, is_away_from, place_of, is_write, count_home, home_in}
 use Rattle.r6_frames.proofs.Lists.{same_put}
 use Rattle.r6_frames.proofs.Tables.{inserted-own, inserted-other, len-inserted}

@@ -27,7 +27,9 @@ use Rattle.r6_frames.specs.declared.frames.FrameUse.{FrameUse}
 use Rattle.r6_frames.specs.declared.frames.FrameUse.TheVariants.{Held as HeldIn}
 use Rattle.r6_frames.specs.declared.frames.Frames.{Frames}
 use Rattle.r6_frames.specs.Slots.{is_abandoned}
-use Rattle.r6_frames.specs.Frames.{hold_at, hold_of, kind_in, op_by, held_requests, outstanding, command_of, transfer_of, owed, Rest, shard_with, Answers, IsAwaited, IsAbandoned, AreLive, KeepsOthers}
+use Rattle.r6_frames.specs.Views.{hold_at, hold_of, kind_in, op_by, held_requests, outstanding, command_of, transfer_of, Rest, shard_with, AreLive}
+use Rattle.r6_frames.specs.Calls.{Answers, IsAwaited, IsAbandoned, KeepsOthers}
+use Rattle.r6_frames.specs.Owed.{owed}
 use Rattle.r6_frames.specs.Sound.{IsSound, IsHeld, is_away_from, is_write, place_of}
 use Rattle.r6_frames.proofs.UnderWay.{held_standing}
 use Rattle.r6_frames.proofs.HeldRows.{use_found}

@@ -16,7 +16,8 @@ use Rattle.r6_frames.specs.declared.slots.Slot.{Slot}
 use Rattle.r6_frames.specs.declared.frames.HeldRow.{HeldRow}
 use Rattle.r6_frames.specs.declared.frames.FrameUse.{FrameUse}
 use Rattle.r6_frames.specs.declared.frames.FrameUse.TheVariants.{Free, Held as HeldIn}
-use Rattle.r6_frames.specs.Frames.{use_at, row_in, hold_at, kind_in, is_unsent, owed_by}
+use Rattle.r6_frames.specs.Views.{use_at, row_in, hold_at, kind_in}
+use Rattle.r6_frames.specs.Owed.{is_unsent, owed_by}
 use Rattle.r6_frames.specs.Sound.{IsHeld, IsJob, is_put_out}
 use Rattle.r6_frames.proofs.UnderWay.{under_way_after}
 use Rattle.r6_frames.proofs.Held.{held_within}

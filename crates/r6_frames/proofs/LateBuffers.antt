@@ -25,7 +25,9 @@ use Rattle.r6_frames.specs.declared.frames.FrameUse.{FrameUse}
 use Rattle.r6_frames.specs.declared.frames.FrameUse.TheVariants.{Free, Held as HeldIn, Returning}
 use Rattle.r6_frames.specs.declared.frames.Frames.{Frames}
 use Rattle.r6_frames.specs.Slots.{is_abandoned}
-use Rattle.r6_frames.specs.Frames.{use_at, row_in, hold_at, hold_of, plan_in, held_requests, outstanding, command_of, owed, shard_with, AreLive, ComesHome, IsAwaited, IsAbandoned, KeepsHeld, KeepsOthers, HasReturned}
+use Rattle.r6_frames.specs.Views.{use_at, row_in, hold_at, hold_of, plan_in, held_requests, outstanding, command_of, shard_with, AreLive}
+use Rattle.r6_frames.specs.Calls.{ComesHome, IsAwaited, IsAbandoned, KeepsHeld, KeepsOthers, HasReturned}
+use Rattle.r6_frames.specs.Owed.{owed}
 use Rattle.r6_frames.specs.Sound.{IsSound, IsHeld, IsReturning, is_away_from, place_of}
 use Rattle.r6_frames.proofs.Held.{use_at_own, use_within, use_held, free_at, home_at, owed_at, free_set}
 use Rattle.r6_frames.proofs.Ending.{none-away-at, some-away, count_home-all}

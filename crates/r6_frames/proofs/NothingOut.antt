@@ -10,7 +10,9 @@ use Rattle.r6_world.specs.Steps.{Through}
 use Rattle.r6_frames.specs.declared.frames.HeldRow.{HeldRow}
 use Rattle.r6_frames.specs.declared.frames.FrameUse.TheVariants.{Held as HeldIn}
 use Rattle.r6_frames.specs.declared.frames.Frames.{Frames}
-use Rattle.r6_frames.specs.Frames.{hold_at, hold_of, held_requests, owed, shard_with, AreLive, PutsOut, Drives, HasOut, IsOver, OwesCommands, IsDriven}
+use Rattle.r6_frames.specs.Views.{hold_at, hold_of, held_requests, shard_with, AreLive}
+use Rattle.r6_frames.specs.Calls.{PutsOut, Drives}
+use Rattle.r6_frames.specs.Owed.{owed, HasOut, IsOver, OwesCommands, IsDriven}
 use Rattle.r6_frames.specs.Sound.{IsHeld, IsSound}
 use Rattle.r6_frames.proofs.SoundAfter.{sound_changed, owed_changed, requests_changed, request_same}
 use Rattle.r6_frames.proofs.Held.{held_within, hold_at_own, frame_put}

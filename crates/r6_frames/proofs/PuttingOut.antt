@@ -24,7 +24,8 @@ use Rattle.r6_frames.specs.declared.frames.Frames.{Frames}
 use Rattle.r6_frames.specs.declared.slots.Device.{Device}
 use Rattle.r6_frames.specs.declared.slots.Device.TheVariants as device
 use Rattle.r6_frames.specs.Slots.{state_of, slot_in, states_of}
-use Rattle.r6_frames.specs.Frames.{hold_at, hold_of, frame_of, row_command, Rest, shard_with, AreLive, PutsOut}
+use Rattle.r6_frames.specs.Views.{hold_at, hold_of, frame_of, row_command, Rest, shard_with, AreLive}
+use Rattle.r6_frames.specs.Calls.{PutsOut}
 use Rattle.r6_frames.proofs.Lists.{same_put}
 use Rattle.r6_frames.proofs.Held.{put_own, put_twice, frame_put, held_within}
 use Rattle.r6_frames.proofs.HeldRows.{prepared}

@@ -20,7 +20,8 @@ use Rattle.r6_frames.specs.declared.command.Outstanding.{Outstanding}
 use Rattle.r6_frames.specs.declared.frames.HeldRow.{HeldRow}
 use Rattle.r6_frames.specs.declared.frames.FrameUse.TheVariants.{Held as HeldIn, Returning}
 use Rattle.r6_frames.specs.declared.frames.Frames.{Frames}
-use Rattle.r6_frames.specs.Frames.{use_at, hold_at, held_request, requests_from, kind_in, is_unsent, owed_by, owed_in, HasOut, IsOver}
+use Rattle.r6_frames.specs.Views.{use_at, hold_at, held_request, requests_from, kind_in}
+use Rattle.r6_frames.specs.Owed.{is_unsent, owed_by, owed_in, HasOut, IsOver}
 use Rattle.r6_frames.specs.Sound.{IsHeld, IsSound, AreFrames, AreCommands, is_put_out, is_write}
 use Rattle.r6_frames.proofs.UnderWay.{held_standing}
 use Rattle.r6_frames.proofs.Held.{held_within, held_stays, use_held, use_at_own, use_at_other, apart_still, owed_at, owed_set, free_at, free_set}

@@ -1,6 +1,6 @@
 use Rattle.std.proofs.Common.{◌∷◌, ◌++◌, [], subst}
 use Rattle.r6_world.specs.Steps.{Submit}
-use Rattle.r6_frames.specs.Frames.{op_of}
+use Rattle.r6_frames.specs.Views.{op_of}
 use Rattle.r6_core.specs.Shards.{Step}
 use Rattle.r6_core.specs.Order.{HaveTurns}
 use Rattle.r6_core.proofs.shard_core.Core.submit.Goals as goal

@@ -1,6 +1,7 @@
 use Rattle.std.proofs.Common.{ℕ, Bool, MatchOption, IfSome, subst}
 use Rattle.r6_world.specs.Steps.{Take_command, No_command}
-use Rattle.r6_frames.specs.Frames.{world_command, IsCommandOf}
+use Rattle.r6_frames.specs.Views.{world_command}
+use Rattle.r6_frames.specs.Calls.{IsCommandOf}
 use Rattle.r6_core.specs.Shards.{Step}
 use Rattle.r6_core.proofs.shard_core.Core.take_command.Goals as goal
 

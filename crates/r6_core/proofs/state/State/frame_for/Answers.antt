@@ -1,6 +1,6 @@
 use Rattle.std.proofs.Common.{◌≡◌, ℕ, false, true, refl, sym, ap, subst, ◌∙◌}
 use Rattle.r6_layout.specs.Layout.{row_of}
-use Rattle.r6_frames.specs.Frames.{NotHeldBy}
+use Rattle.r6_frames.specs.Calls.{NotHeldBy}
 use Rattle.r6_core.proofs.state.State.frame_for.Goals as goal
 
 pub returns-then-is_held : goal.returns-then-is_held

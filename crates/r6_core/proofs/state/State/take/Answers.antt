@@ -1,5 +1,5 @@
 use Rattle.std.proofs.Common.{ℕ}
-use Rattle.r6_frames.specs.Frames.{KeepsOthers}
+use Rattle.r6_frames.specs.Calls.{KeepsOthers}
 use Rattle.r6_core.proofs.Answering.{awaited}
 use Rattle.r6_core.proofs.Completing.{late_core, late_takes, finishes_none, if_ok_all}
 use Rattle.r6_core.proofs.state.State.take.Goals as goal

@@ -3,7 +3,8 @@ use Rattle.std.specs.Prelude.{slice_set, vec_capacity}
 use Rattle.r6_stripe.proofs.Steps.{not_false, not_not}
 use Rattle.r6_frames.specs.declared.frames.FrameUse.TheVariants.{Free}
 use Rattle.r6_frames.specs.declared.frames.Frames.{Frames}
-use Rattle.r6_frames.specs.Frames.{use_at, row_in, HasReturned}
+use Rattle.r6_frames.specs.Views.{use_at, row_in}
+use Rattle.r6_frames.specs.Calls.{HasReturned}
 use Rattle.r6_frames.specs.Sound.{is_away_from, place_of}
 use Rattle.r6_frames.proofs.HeldRows.{use_found}
 use Rattle.r6_frames.proofs.LateBuffers.{CameHome, is_late, stopped_home, held_home, row_size, row_away, returning_size, returning_away, returning_home, has_returned, has_room, freed_home}

@@ -1,0 +1,181 @@
+-- What each call of the frames does to the shard.
+use Rattle.std.specs.Prelude.{◌≡◌, ◌≢◌, ℕ, ◌+◌, ◌<◌, true, false, List, [], ◌∷◌, ◌++◌, length, Some, None, option_map}
+use Rattle.std.specs.List.{AllByRecursion, list_any}
+use Rattle.r6_kernels.specs.Blocks.{IsBlock}
+use Rattle.r6_layout.specs.Shape.{Shape, blocks}
+use Rattle.r6_layout.specs.Layout as layout
+use Rattle.r6_stripe.specs.Holds.Kind.{Idle}
+use Rattle.r6_stripe.specs.Steps.{Held as StripeHold, lost}
+use Rattle.r6_tables.specs.Table.{next_of}
+use Rattle.r6_world.specs.Tables.{put}
+use Rattle.r6_world.specs.PlainArray as world
+use Rattle.r6_world.specs.PlainArray.{Block}
+use Rattle.r6_world.specs.Layouts.{Layout, IsRowOf}
+use Rattle.r6_world.specs.Geometries.{layout_of}
+use Rattle.r6_world.specs.Tasks.{Hold}
+use Rattle.r6_world.specs.ShardStates as shards
+use Rattle.r6_world.specs.ShardStates.{Shard, Held, LossOf, frames, begun}
+use Rattle.r6_world.specs.Changes.{Change, Ask, Prepare, Send, Come_home, Lose, Finish, abandoned_if, taken_out, after, Allowed}
+use Rattle.r6_world.specs.Steps.{Event, Step, Through, Takes, Good, Taken}
+use Rattle.r6_frames.specs.declared.op.Request.{Request}
+use Rattle.r6_frames.specs.declared.command.Command.{Command}
+use Rattle.r6_frames.specs.declared.command.Outstanding.{Outstanding}
+use Rattle.r6_frames.specs.declared.frames.HeldRow.{HeldRow}
+use Rattle.r6_frames.specs.declared.frames.FrameUse.{FrameUse}
+use Rattle.r6_frames.specs.declared.frames.FrameUse.TheVariants as uses
+use Rattle.r6_frames.specs.declared.slots.Device.{Device}
+use Rattle.r6_frames.specs.Slots.{state_of, states_of, is_abandoned}
+use Rattle.r6_frames.specs.declared.frames.Frames.{Frames}
+use Rattle.r6_frames.specs.Views.{op_of, buffer_of, outcome_of, task_for, plan_in, use_at, hold_at, held_requests, outstanding, Rest, shard_with}
+
+-- a relation of two shards, whatever they have beside their frames
+abbrev pub Between : (Layout → ℕ → Shard → Shard → Type 0) → Frames → Frames → Type 0
+Between Leads old new =
+    (new.geometry ≡ old.geometry) × (new.shard ≡ old.shard)
+    × ((rest : Rest) → Leads (layout_of old.geometry) old.shard (shard_with rest old) (shard_with rest new))
+
+-- ---- commands
+
+-- a hold puts commands out
+abbrev pub PutsOut : Change → Type 0
+PutsOut (Ask frame h slot generation) = record {}
+PutsOut (Prepare frame h event) = record {}
+PutsOut (Send frame h slot generation block) = record {}
+PutsOut change = ⊥
+
+abbrev pub Drives : Frames → Frames → Type 0
+Drives old new = Between (λ l n. Through l n PutsOut) old new
+
+-- one step of the shard
+abbrev pub Steps : Frames → Event → Frames → Type 0
+Steps old event new = Between (λ l n s s'. Step l n s event s') old new
+
+-- the good completion of a command is taken
+abbrev pub Answers : Frames → (token : ℕ) → Block → Frames → Type 0
+Answers old token block new =
+    Between (λ l n s s'. (change : Change) × Takes token (Good block) Taken change × Allowed l n s change × (s' ≡ after l s change)) old new
+
+-- the buffer of an abandoned command comes home
+abbrev pub ComesHome : Frames → (token : ℕ) → Frames → Type 0
+ComesHome old token new =
+    Between (λ l n s s'. (c : shards.Command) × (c.taken ≡ true) × Allowed l n s (Come_home token c) × (s' ≡ after l s (Come_home token c))) old new
+
+-- a command that the array can perform: one block, for a slot, in a row of the shard
+pub record IsCommandOf (fs : Frames) (c : Command) : Type 0 where
+  pub block : length c.buffer ≡ fs.geometry.block
+  pub slot : c.slot < fs.geometry.slots
+  pub row : IsRowOf (layout_of fs.geometry) fs.shard c.row
+
+-- a command was taken and isn't answered
+abbrev pub IsAwaited : Frames → ℕ → Type 0
+IsAwaited fs token = (c : Outstanding) × (outstanding fs token ≡ Some c) × (token < fs.handed)
+
+-- and was abandoned
+abbrev pub IsAbandoned : Frames → ℕ → Type 0
+IsAbandoned fs token = (c : Outstanding) × (outstanding fs token ≡ Some c) × (is_abandoned fs.slots token c ≡ true)
+
+-- ---- slots go out
+
+-- The device of this slot and generation, to which the command went, is lost. A call is to be made at the register
+abbrev pub Loses : Frames → (token slot generation : ℕ) → Frames → Type 0
+Loses old token slot generation new =
+    (new.geometry ≡ old.geometry) × (new.shard ≡ old.shard)
+    × ((rest : Rest) →
+    let l = layout_of old.geometry in
+    let s = shard_with rest old in
+    (c : shards.Command) × (c.slot ≡ slot) × (c.generation ≡ generation) × (c.taken ≡ true) × Allowed l old.shard s (Lose token c)
+    × (shard_with (record rest { calls = rest.calls ++ LossOf slot generation ∷ [] }) new ≡ after l s (Lose token c)))
+
+-- the slot has another device, and the one before is taken out
+abbrev pub TakesOut : Frames → (slot : ℕ) → Device → Frames → Type 0
+TakesOut old slot device new = Between (λ l n s s'. s' ≡ taken_out l s slot (state_of device)) old new
+
+-- a look has seen that the array failed: all commands are abandoned
+abbrev pub SeesFailure : Frames → Frames → Type 0
+SeesFailure old new = Between (λ l n s s'. s' ≡ record s { saw_failed = true; command = λ token. abandoned_if true (s.command token) }) old new
+
+-- a held row is told of the loss of a slot
+abbrev pub told_use : Shape → (slot : ℕ) → FrameUse → FrameUse
+told_use shape slot uses.Free = uses.Free
+told_use shape slot (uses.Held h) = uses.Held (record h { hold = lost h.hold (layout.position_at shape h.row slot) })
+told_use shape slot (uses.Returning r) = uses.Returning r
+
+-- each held row is one of the array, as wide as the array
+abbrev pub AreHeldRows : Shape → List FrameUse → Type 0
+AreHeldRows shape held =
+    (frame : ℕ) (h : HeldRow) → hold_at held frame ≡ Some h → (h.row < shape.rows) × (length h.hold.planned.hold.cells ≡ shape.slots)
+
+-- ---- rows are held
+
+-- no row is held, and no command was put out
+abbrev pub IsAtStart : Frames → Type 0
+IsAtStart fs = ((frame : ℕ) → use_at fs.held.items frame ≡ uses.Free) × (next_of fs.commands ≡ 0) × ((token : ℕ) → outstanding fs token ≡ None) × (held_requests fs ≡ [])
+
+abbrev pub IsFreeFrame : Frames → ℕ → Type 0
+IsFreeFrame fs frame = (frame < frames) × (use_at fs.held.items frame ≡ uses.Free)
+
+abbrev pub IsHeldFrame : Frames → ℕ → Type 0
+IsHeldFrame fs frame = (h : HeldRow) × (hold_at fs.held.items frame ≡ Some h)
+
+abbrev pub NotHeldBy : Frames → (row : ℕ) → Type 0
+NotHeldBy fs row = (frame : ℕ) (h : HeldRow) → hold_at fs.held.items frame ≡ Some h → h.row ≢ row
+
+-- a request that may begin: for a block of the shard's rows, with a buffer of one block
+pub record IsRequestOf (fs : Frames) (request : Request) : Type 0 where
+  pub there : world.block_of (op_of request.op) < blocks fs.geometry
+  pub own : layout.shard_of fs.geometry (layout.row_of fs.geometry (world.block_of (op_of request.op))) ≡ fs.shard
+  pub sized : IsBlock fs.geometry.block (buffer_of request.op)
+
+-- the list has one more entry, whose frame no other has
+abbrev pub IsElsewhere : ℕ → ℕ × shards.Request → Type 0
+IsElsewhere frame entry = entry.1.stage ≢ Held frame
+
+pub record IsWith (few : List (ℕ × shards.Request)) (frame : ℕ) (entry : ℕ × shards.Request) (more : List (ℕ × shards.Request)) : Type 0 where
+  pub before : List (ℕ × shards.Request)
+  pub behind : List (ℕ × shards.Request)
+  pub without : few ≡ before ++ behind
+  pub with : more ≡ before ++ entry ∷ behind
+  pub elsewhere : AllByRecursion (IsElsewhere frame) (before ++ behind)
+
+abbrev pub entry_of : ℕ → Request → ℕ × shards.Request
+entry_of frame request = (request.id, record { op = op_of request.op; stage = Held frame })
+
+-- the row of the request's block is held in the frame, and its hold begins
+abbrev pub begun_for : Frames → Request → Hold
+begun_for fs request = begun (layout_of fs.geometry) (states_of fs.slots) (layout.row_of fs.geometry (world.block_of (op_of request.op))) (task_for request.id request.op)
+
+pub record Begins (old : Frames) (frame : ℕ) (request : Request) (new : Frames) : Type 0 where
+  pub requests : IsWith (held_requests old) frame (entry_of frame request) (held_requests new)
+  pub shard : Between (λ l n s s'. s' ≡ record s { frame = put s.frame frame (Some (begun_for old request)) }) old new
+
+-- the frame's hold ends, and answers the request
+pub record Ends (old : Frames) (frame : ℕ) (request : Request) (new : Frames) : Type 0 where
+  pub requests : IsWith (held_requests new) frame (entry_of frame request) (held_requests old)
+  pub hold : Hold
+  pub task : hold.task ≡ task_for request.id request.op
+  pub may : Between (λ l n s s'. Allowed l n s (Finish frame hold (outcome_of request.op))) old new
+  pub shard : Between (λ l n s s'. s' ≡ record s { frame = put s.frame frame None }) old new
+
+-- the frame's hold ends as it stands, and its request with it
+pub record GivesUp (old : Frames) (frame : ℕ) (request : Request) (new : Frames) : Type 0 where
+  pub requests : IsWith (held_requests new) frame (entry_of frame request) (held_requests old)
+  pub shard : Between (λ l n s s'. s' ≡ record s { frame = put s.frame frame None }) old new
+
+-- the frame's hold has ended, and all its buffers are home
+abbrev pub HasReturned : Frames → ℕ → Type 0
+HasReturned fs frame =
+    (r : StripeHold) × (use_at fs.held.items frame ≡ uses.Returning r) × (r.planned.hold.kind ≡ Idle) × (list_any (λ away. away) r.away ≡ false)
+
+-- ---- what a call leaves
+
+-- the other frames have what they had
+abbrev pub KeepsOthers : Frames → ℕ → Frames → Type 0
+KeepsOthers old frame new = (other : ℕ) → other ≢ frame → use_at new.held.items other ≡ use_at old.held.items other
+
+-- all frames have what they had
+abbrev pub KeepsHolds : Frames → Frames → Type 0
+KeepsHolds old new = new.held ≡ old.held
+
+-- a frame in which no row is held has none still, and each hold is as it was, its buffers aside
+abbrev pub KeepsHeld : Frames → Frames → Type 0
+KeepsHeld old new = (frame : ℕ) → option_map plan_in (hold_at new.held.items frame) ≡ option_map plan_in (hold_at old.held.items frame)

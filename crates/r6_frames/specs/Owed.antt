@@ -1,0 +1,55 @@
+-- What the held rows still owe: their commands, and their ends.
+use Rattle.std.specs.Prelude.{◌≡◌, ℕ, ◌+◌, ◌≤◌, ◌||◌, Bool, true, false, List, [], ◌∷◌, Some, None}
+use Rattle.r6_stripe.specs.Holds.{Cell, Event as RowEvent}
+use Rattle.r6_stripe.specs.Plans as plans
+use Rattle.r6_stripe.specs.Plans.{IsPlanned, AreSilent, planned_at, is_over, has_read_out, has_write_out}
+use Rattle.r6_stripe.specs.Steps.{has_outcome}
+use Rattle.r6_frames.specs.declared.frames.HeldRow.{HeldRow}
+use Rattle.r6_frames.specs.declared.frames.FrameUse.{FrameUse}
+use Rattle.r6_frames.specs.declared.frames.FrameUse.TheVariants as uses
+use Rattle.r6_frames.specs.declared.frames.Frames.{Frames}
+use Rattle.r6_frames.specs.Views.{hold_at}
+
+-- ---- commands and ends
+
+-- nothing comes next in the frame's hold
+abbrev pub IsDriven : Frames → ℕ → Type 0
+IsDriven fs frame = (h : HeldRow) → hold_at fs.held.items frame ≡ Some h → plans.next h.hold.planned ≡ None
+
+-- the frame's hold may end
+abbrev pub IsOver : Frames → ℕ → Type 0
+IsOver fs frame = (h : HeldRow) × (hold_at fs.held.items frame ≡ Some h) × (has_outcome h.hold.planned ≡ true)
+
+-- of the frames that may end, this one has the request with the lowest number
+abbrev pub IsLowestOver : Frames → ℕ → Type 0
+IsLowestOver fs frame =
+    IsOver fs frame
+    × ((other : ℕ) (h i : HeldRow) → IsOver fs other → hold_at fs.held.items frame ≡ Some h → hold_at fs.held.items other ≡ Some i → h.id ≤ i.id)
+
+-- a command of the frame's hold is put out that is neither answered nor abandoned
+abbrev pub HasOut : Frames → ℕ → Type 0
+HasOut fs frame =
+    (h : HeldRow) × (hold_at fs.held.items frame ≡ Some h) × ((has_read_out h.hold.planned.hold || has_write_out h.hold.planned.hold) ≡ true)
+
+-- the frame's hold isn't over, whatever it restores or computes first
+abbrev pub OwesCommands : Frames → ℕ → Type 0
+OwesCommands fs frame =
+    (h : HeldRow) → hold_at fs.held.items frame ≡ Some h
+    → (events : List RowEvent) → AreSilent events → IsPlanned h.hold.planned events → is_over (planned_at h.hold.planned events) ≡ false
+
+-- ---- how many commands the holds may still put out: at most one read and one write a position
+
+abbrev pub is_unsent : Cell → Bool
+is_unsent cell = plans.is_unwritten cell.writing || plans.is_ready cell.writing
+
+abbrev pub owed_by : HeldRow → ℕ
+owed_by h = plans.count_where (λ cell. plans.is_unread cell.reading) h.hold.planned.hold.cells + plans.count_where is_unsent h.hold.planned.hold.cells
+
+abbrev pub owed_in : List FrameUse → ℕ
+owed_in [] = 0
+owed_in (uses.Free ∷ held) = owed_in held
+owed_in (uses.Held h ∷ held) = owed_by h + owed_in held
+owed_in (uses.Returning r ∷ held) = owed_in held
+
+abbrev pub owed : Frames → ℕ
+owed fs = owed_in fs.held.items

@@ -1,0 +1,194 @@
+-- Which frames, commands and requests of the world's shard these are.
+use Rattle.std.specs.Prelude.{◌≡◌, ℕ, ◌+◌, ◌≤◌, nat_lt, not, Bool, false, List, [], ◌∷◌, slice_index_or, Option, Some, None, option_map}
+use Rattle.std.specs.FinMap as finite
+use Rattle.r6_layout.specs.Layout as layout
+use Rattle.r6_stripe.specs.Holds.{Kind}
+use Rattle.r6_stripe.specs.Holds.Kind.{Idle, Read as ReadKind, Write as WriteKind, Rebuild as RebuildKind, Check as CheckKind, Repair as RepairKind}
+use Rattle.r6_stripe.specs.Plans as plans
+use Rattle.r6_stripe.specs.declared.command.Task.{Task as RowTask}
+use Rattle.r6_stripe.specs.declared.command.Task.TheVariants as asks
+use Rattle.r6_stripe.specs.declared.command.RowCommand.{RowCommand}
+use Rattle.r6_stripe.specs.declared.command.RowCommand.TheVariants as stripe
+use Rattle.r6_tables.specs.Table.{entries_of, next_of}
+use Rattle.r6_world.specs.PlainArray as world
+use Rattle.r6_world.specs.PlainArray.{Block}
+use Rattle.r6_world.specs.Geometries.{layout_of}
+use Rattle.r6_world.specs.Tasks.{Task, ReadFor, WriteFor, Hold, Outcome, Answered, Wrote}
+use Rattle.r6_world.specs.ShardStates as shards
+use Rattle.r6_world.specs.ShardStates.{Shard, Held, Transfer, Fetch, Store, Storing, Call}
+use Rattle.r6_frames.specs.declared.op.Op.{Op}
+use Rattle.r6_frames.specs.declared.op.Op.TheVariants as op
+use Rattle.r6_frames.specs.declared.command.Command.{Command}
+use Rattle.r6_frames.specs.declared.command.CommandKind.{CommandKind}
+use Rattle.r6_frames.specs.declared.command.CommandKind.TheVariants as command
+use Rattle.r6_frames.specs.declared.command.Outstanding.{Outstanding}
+use Rattle.r6_frames.specs.declared.frames.Job.{Job}
+use Rattle.r6_frames.specs.declared.frames.Job.TheVariants as job
+use Rattle.r6_frames.specs.declared.frames.HeldRow.{HeldRow}
+use Rattle.r6_frames.specs.declared.frames.FrameUse.{FrameUse}
+use Rattle.r6_frames.specs.declared.frames.FrameUse.TheVariants as uses
+use Rattle.r6_frames.specs.declared.slots.Slot.{Slot}
+use Rattle.r6_frames.specs.Slots.{states_of, count_out, is_abandoned}
+use Rattle.r6_frames.specs.declared.frames.Frames.{Frames}
+
+-- ---- requests
+
+abbrev pub op_of : Op → world.Op
+op_of (op.Read block buffer) = world.Op.Read block
+op_of (op.Write block buffer) = world.Op.Write block buffer
+
+abbrev pub buffer_of : Op → Block
+buffer_of (op.Read block buffer) = buffer
+buffer_of (op.Write block buffer) = buffer
+
+-- how the hold of a request ends, whose answer stands in its buffer
+abbrev pub outcome_of : Op → Outcome
+outcome_of (op.Read block buffer) = Answered buffer
+outcome_of (op.Write block buffer) = Wrote
+
+-- what a row is held for by a request
+abbrev pub task_for : ℕ → Op → Task
+task_for id (op.Read block buffer) = ReadFor id block
+task_for id (op.Write block buffer) = WriteFor (record { id = id; block = block; new_data = buffer } ∷ [])
+
+-- with whose buffer a row is held, and what its hold is asked to do at the index
+abbrev pub job_for : Op → Job
+job_for (op.Read block buffer) = job.Read buffer
+job_for (op.Write block buffer) = job.Write
+
+abbrev pub row_task : ℕ → Op → RowTask
+row_task index (op.Read block buffer) = asks.Read index
+row_task index (op.Write block buffer) = asks.Write index buffer
+
+-- ---- held rows
+
+-- the block that a hold writes
+abbrev pub new_data_of : Kind → Block
+new_data_of (WriteKind (entry ∷ rest)) = entry.1
+new_data_of (WriteKind []) = []
+new_data_of Idle = []
+new_data_of (ReadKind index) = []
+new_data_of (RebuildKind target) = []
+new_data_of CheckKind = []
+new_data_of RepairKind = []
+
+abbrev pub task_by : ℕ → ℕ → Job → Kind → Task
+task_by id block (job.Read buffer) kind = ReadFor id block
+task_by id block job.Write kind = WriteFor (record { id = id; block = block; new_data = new_data_of kind } ∷ [])
+
+abbrev pub op_by : ℕ → Job → Kind → world.Op
+op_by block (job.Read buffer) kind = world.Op.Read block
+op_by block job.Write kind = world.Op.Write block (new_data_of kind)
+
+abbrev pub kind_in : HeldRow → Kind
+kind_in h = h.hold.planned.hold.kind
+
+abbrev pub hold_of : HeldRow → Hold
+hold_of h =
+    record { row = h.row; task = task_by h.id h.block h.job (kind_in h); course = h.hold.planned.hold; plan = h.hold.planned.plan; class = None }
+
+-- the row with its hold, its buffers aside
+abbrev pub plan_in : HeldRow → (ℕ × ℕ) × plans.Planned
+plan_in h = ((h.row, h.id), h.hold.planned)
+
+abbrev pub use_at : List FrameUse → ℕ → FrameUse
+use_at held frame = slice_index_or held frame uses.Free
+
+-- the row that is held in a frame
+abbrev pub row_in : FrameUse → Option HeldRow
+row_in uses.Free = None
+row_in (uses.Held h) = Some h
+row_in (uses.Returning hold) = None
+
+abbrev pub hold_at : List FrameUse → ℕ → Option HeldRow
+hold_at held frame = row_in (use_at held frame)
+
+abbrev pub frame_of : Frames → ℕ → Option Hold
+frame_of fs frame = option_map hold_of (hold_at fs.held.items frame)
+
+-- the requests that rows are held for, each with its number, in the order of the frames
+abbrev pub held_request : ℕ → HeldRow → ℕ × shards.Request
+held_request frame h = (h.id, record { op = op_by h.block h.job (kind_in h); stage = Held frame })
+
+abbrev pub requests_from : ℕ → List FrameUse → List (ℕ × shards.Request)
+requests_from frame [] = []
+requests_from frame (uses.Free ∷ held) = requests_from (frame + 1) held
+requests_from frame (uses.Held h ∷ held) = held_request frame h ∷ requests_from (frame + 1) held
+requests_from frame (uses.Returning hold ∷ held) = requests_from (frame + 1) held
+
+abbrev pub held_requests : Frames → List (ℕ × shards.Request)
+held_requests fs = requests_from 0 fs.held.items
+
+-- the device at the position of the row is in sync
+abbrev pub is_synced_at : Frames → (row position : ℕ) → Bool
+is_synced_at fs row position = not (shards.is_away (states_of fs.slots (layout.slot_at fs.geometry row position)))
+
+-- ---- commands
+
+abbrev pub transfer_of : CommandKind → Option Block → Transfer
+transfer_of command.Read block = Fetch
+transfer_of command.Write (Some block) = Store block
+transfer_of command.Write None = Storing
+
+abbrev pub command_of : List Slot → (handed token : ℕ) → Outstanding → shards.Command
+command_of slots handed token c =
+    record {
+      frame = c.frame;
+      slot = c.slot;
+      generation = c.generation;
+      row = c.row;
+      transfer = transfer_of c.kind c.buffer;
+      taken = nat_lt token handed;
+      abandoned = is_abandoned slots token c;
+    }
+
+-- the command of a hold to a position, with the buffer that leaves with it
+abbrev pub row_command : ℕ → CommandKind → Block → RowCommand
+row_command position command.Read buffer = stripe.Read position buffer
+row_command position command.Write buffer = stripe.Write position buffer
+
+-- the command that a device is handed
+abbrev pub given_transfer : CommandKind → Block → Transfer
+given_transfer command.Read block = Fetch
+given_transfer command.Write block = Store block
+
+-- the command in the frame that was not taken yet
+abbrev pub world_command : ℕ → Bool → Command → shards.Command
+world_command frame abandoned c =
+    record { frame = frame; slot = c.slot; generation = c.generation; row = c.row; transfer = given_transfer c.kind c.buffer; taken = false; abandoned = abandoned }
+
+abbrev pub outstanding : Frames → ℕ → Option Outstanding
+outstanding fs token = finite.get (entries_of fs.commands) token
+
+-- ---- the shard
+
+abbrev pub no_counts : shards.Counts
+no_counts = record { consistent = 0; wrong_p = 0; wrong_q = 0; wrong_data = 0; many = 0; skipped = 0; repaired = 0; rebuilt = 0 }
+
+-- what a shard has beside its frames: its requests, and the calls that it has to make at the register
+pub record Rest : Type 0 where
+  pub accepted : ℕ
+  pub request : ℕ → Option shards.Request
+  pub calls : List Call
+  pub untold : Option Call
+
+abbrev pub shard_with : Rest → Frames → Shard
+shard_with rest fs =
+    record {
+      accepted = rest.accepted;
+      request = rest.request;
+      frame = frame_of fs;
+      tokens = next_of fs.commands;
+      command = λ token. option_map (command_of fs.slots fs.handed token) (outstanding fs token);
+      slot = states_of fs.slots;
+      calls = rest.calls;
+      untold = rest.untold;
+      saw_failed = fs.saw_failed;
+      check_row = (layout_of fs.geometry).first_row fs.shard;
+      repair_row = (layout_of fs.geometry).first_row fs.shard;
+      counts = no_counts;
+    }
+
+-- holds go on: at most two slots are out, and no look has seen that the array failed
+abbrev pub AreLive : Frames → Type 0
+AreLive fs = (count_out fs.slots fs.geometry.slots ≤ 2) × (fs.saw_failed ≡ false)
