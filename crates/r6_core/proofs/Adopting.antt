@@ -4,12 +4,11 @@ use Rattle.std.specs.Prelude.{nat_eq}
 use Rattle.std.specs.List.{IsDistinct, AllByRecursion}
 use Rattle.std.specs.Map.{keys_of}
 use Rattle.std.proofs.lemmas.Bool.{cases_lt, ne_eqb, eq-eqb}
-use Rattle.r6_layout.specs.Shape.{Shape}
 use Rattle.r6_tables.specs.Table.{next_of}
 use Rattle.r6_world.specs.Tables.{put}
 use Rattle.r6_world.specs.Geometries.{layout_of}
-use Rattle.r6_world.specs.Registers.{Snapshot, InSync, status_of}
-use Rattle.r6_world.specs.ShardStates.{Shard, SlotState}
+use Rattle.r6_world.specs.Registers.{Snapshot, status_of}
+use Rattle.r6_world.specs.ShardStates.{Shard}
 use Rattle.r6_world.specs.Changes.{Change, Adopt, adopted, differs, taken_out, after}
 use Rattle.r6_world.specs.Steps.{TakesOver, Through}
 use Rattle.r6_frames.specs.declared.frames.Frames.{Frames}
@@ -22,23 +21,12 @@ use Rattle.r6_frames.specs.Owed.{owed}
 use Rattle.r6_frames.specs.Sound as held
 use Rattle.r6_frames.proofs.Lists.{table}
 use Rattle.r6_core.specs.declared.state.State.{State}
-use Rattle.r6_core.specs.Shards.{state_of, rest_of, layout_in, requests_of, waiting_request, finished_request, released_request, IsOfArray, SameFrames}
+use Rattle.r6_core.specs.Shards.{state_of, rest_of, layout_in, requests_of, waiting_request, finished_request, released_request, SameFrames}
 use Rattle.r6_core.specs.Refusals.{limit, most_unanswered, AllTold}
 use Rattle.r6_core.specs.Order.{Agrees, SameReplies}
 use Rattle.r6_core.specs.Inside.{IsSound, bound, count_untold, SameCalls}
-use Rattle.r6_core.proofs.Throughs.{through_both, through_one}
+use Rattle.r6_core.proofs.Throughs.{through_both, through_in, through_one}
 use Rattle.r6_core.proofs.Kept.{requests_kept}
-
--- a look changes no slot that agrees with it, and what is no slot of the array agrees
-pub adopted-in_sync : (state : SlotState) → adopted state InSync ≡ state
-adopted-in_sync (SlotState.Synced generation) = refl
-adopted-in_sync SlotState.Missing = refl
-adopted-in_sync (SlotState.Building generation built) = refl
-
-pub differs-in_sync : (state : SlotState) → differs state InSync ≡ false
-differs-in_sync (SlotState.Synced generation) = refl
-differs-in_sync SlotState.Missing = refl
-differs-in_sync (SlotState.Building generation built) = refl
 
 -- the first slots are as the look has them, the others as they were
 pub record IsAdopting (s new : State) (seen : Snapshot) (count : ℕ) (went_out : Bool) : Type 0 where
@@ -47,7 +35,7 @@ pub record IsAdopting (s new : State) (seen : Snapshot) (count : ℕ) (went_out 
   pub gone : (slot : ℕ) → slot < count → states_of new.frames.slots slot ≡ adopted (states_of s.frames.slots slot) (status_of seen slot)
   pub left : (slot : ℕ) → count ≤ slot → states_of new.frames.slots slot ≡ states_of s.frames.slots slot
   pub none : went_out ≡ false → (new ≡ s) × ((slot : ℕ) → slot < count → differs (states_of s.frames.slots slot) (status_of seen slot) ≡ false)
-  pub some : went_out ≡ true → (slot : ℕ) × (differs (states_of s.frames.slots slot) (status_of seen slot) ≡ true)
+  pub some : went_out ≡ true → (slot : ℕ) × (slot < s.frames.geometry.slots) × (differs (states_of s.frames.slots slot) (status_of seen slot) ≡ true)
   pub same : SameFrames s new
   pub calls : SameCalls s new
   pub order : SameReplies s new
@@ -120,10 +108,6 @@ sound_taken s slot device fs sound told takes is next owes requests =
       accepted = sound.accepted;
     }
 
-through_in : (g g' : Shape) (n n' : ℕ) (Kind : Change → Type 0) (old new : Shard) → g' ≡ g → n' ≡ n → Through (layout_of g') n' Kind old new → Through (layout_of g) n Kind old new
-through_in g g' n n' Kind old new same_shape same_shard t =
-    subst (λ m. Through (layout_of g) m Kind old new) same_shard (subst (λ x. Through (layout_of x) n' Kind old new) same_shape t)
-
 -- one more slot was looked at, and went out
 pub adopting_out : (s mid : State) (seen : Snapshot) (slot : ℕ) (went_out : Bool) (device : Device) (fs : Frames) → AllTold s → IsAdopting s mid seen slot went_out
     → slot < mid.frames.geometry.slots → differs (states_of mid.frames.slots slot) (status_of seen slot) ≡ true
@@ -152,7 +136,7 @@ adopting_out s mid seen slot went_out device fs told is lt other becomes takes s
       ];
       left = λ q above. ap (λ f. f q) states ∙ put-there (states_of mid.frames.slots) slot q (slots.state_of device) (λ e. absurd (omega arith)) ∙ is.left q (omega arith);
       none = λ e. absurd (cc);
-      some = λ e. (slot, sym (ap (λ state. differs state status) here) ∙ other);
+      some = λ e. (slot, omega (arith, lt, ap (λ shape. shape.slots) is.same.0), sym (ap (λ state. differs state status) here) ∙ other);
       same = (takes.0 ∙ is.same.0, takes.1 ∙ is.same.1);
       calls = is.calls;
       order = is.order;
@@ -196,21 +180,13 @@ adopting_stay s mid seen slot went_out is agrees stays =
     }
 
 -- when all were looked at
-module _ (s new : State) (seen : Snapshot) (count : ℕ) (went_out : Bool) (is : IsAdopting s new seen count went_out) (past : s.frames.geometry.slots ≤ count) (array : IsOfArray s seen) where
-  pub adopted_all : (slot : ℕ) → states_of new.frames.slots slot ≡ adopted (states_of s.frames.slots slot) (status_of seen slot)
-  adopted_all slot = elim (cases_lt slot count) [
-    | inl lower ↦ is.gone slot lower
-    | inr higher ↦ is.left slot higher ∙ sym (ap (adopted (states_of s.frames.slots slot)) (array slot (omega arith)) ∙ adopted-in_sync (states_of s.frames.slots slot))
-  ]
+module _ (s new : State) (seen : Snapshot) (count : ℕ) (went_out : Bool) (is : IsAdopting s new seen count went_out) (past : s.frames.geometry.slots ≤ count) where
+  pub adopted_all : (slot : ℕ) → slot < s.frames.geometry.slots
+      → states_of new.frames.slots slot ≡ adopted (states_of s.frames.slots slot) (status_of seen slot)
+  adopted_all slot below = is.gone slot (omega arith)
 
   pub adopted_none : went_out ≡ false → (new ≡ s) × Agrees s seen
-  adopted_none none = (
-    (is.none none).0,
-    λ slot. elim (cases_lt slot count) [
-      | inl lower ↦ (is.none none).1 slot lower
-      | inr higher ↦ ap (differs (states_of s.frames.slots slot)) (array slot (omega arith)) ∙ differs-in_sync (states_of s.frames.slots slot)
-    ],
-  )
+  adopted_none none = ((is.none none).0, λ slot below. (is.none none).1 slot (omega arith))
 
 pub adopted_some : (s new : State) (seen : Snapshot) (count : ℕ) (went_out : Bool) → IsAdopting s new seen count went_out → went_out ≡ true → Agrees s seen → ⊥
-adopted_some s new seen count went_out is some agrees = let there = is.some some in let same = agrees there.0 in let other = there.1 in absurd (cc)
+adopted_some s new seen count went_out is some agrees = let there = is.some some in let same = agrees there.0 there.1 in let other = there.2 in absurd (cc)

@@ -13,8 +13,8 @@ use Rattle.r6_frames.specs.Sound as held
 use Rattle.r6_core.specs.declared.state.State.{State}
 use Rattle.r6_core.specs.Shards.{state_of, rest_of, layout_in}
 use Rattle.r6_core.specs.Inside.{IsSound, IsCore, IsRestedFrame}
-use Rattle.r6_core.proofs.Throughs.{through_both}
-use Rattle.r6_core.proofs.Going.{Goes, SlotsStay, goes_still, answers_still, gone_state, gone_sound, through_in}
+use Rattle.r6_core.proofs.Throughs.{through_both, through_in}
+use Rattle.r6_core.proofs.Going.{Goes, SlotsStay, goes_still, answers_still, gone_state, gone_sound}
 use Rattle.r6_core.proofs.SlotsKept.{out_same}
 use Rattle.r6_core.proofs.Settling.{driven_goes, driven_leads}
 

@@ -24,8 +24,8 @@ use Rattle.r6_core.specs.declared.state.State.{State}
 use Rattle.r6_core.specs.Shards.{SameFrames, Step, completion_of, state_of, rest_of, layout_in}
 use Rattle.r6_core.specs.Order.{FinishesBy, HaveTurns, HaveTurnsBehind, SameReplies}
 use Rattle.r6_core.specs.Inside.{IsCore}
-use Rattle.r6_core.proofs.Throughs.{through_none}
-use Rattle.r6_core.proofs.Going.{no_rest, Goes, SlotsStay, goes_still, gone_state, gone_sound, through_in}
+use Rattle.r6_core.proofs.Throughs.{through_in, through_none}
+use Rattle.r6_core.proofs.Going.{no_rest, Goes, SlotsStay, goes_still, gone_state, gone_sound}
 use Rattle.r6_core.proofs.Answering.{TakesThrough, live_still}
 
 -- ---- a completion that comes late

@@ -26,10 +26,6 @@ use Rattle.r6_core.proofs.SlotsKept.{drives_keep, out_same}
 
 -- ---- lists of changes of another shape
 
-pub through_in : (g g' : Shape) (n n' : ℕ) (Kind : Change → Type 0) (old new : Shard) → g' ≡ g → n' ≡ n → Through (layout_of g') n' Kind old new → Through (layout_of g) n Kind old new
-through_in g g' n n' Kind old new same_shape same_shard t =
-    subst (λ m. Through (layout_of g) m Kind old new) same_shard (subst (λ x. Through (layout_of x) n' Kind old new) same_shape t)
-
 pub puts_out_on : (change : Change) → PutsOut change → GoesOn change
 puts_out_on (Ask frame h slot generation) is = record {}
 puts_out_on (Prepare frame h event) is = record {}

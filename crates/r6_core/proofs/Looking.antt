@@ -1,5 +1,5 @@
 -- A look at the register is one step of the shard.
-use Rattle.std.proofs.Common.{◌≡◌, ℕ, true, false, List, [], ◌∷◌, ◌++◌, map, refl, sym, ap, subst, ◌∙◌, inr, append-nil}
+use Rattle.std.proofs.Common.{◌≡◌, ℕ, ◌<◌, true, false, List, [], ◌∷◌, ◌++◌, map, refl, sym, ap, subst, ◌∙◌, inr, append-nil}
 use Rattle.std.specs.Prelude.{option_map}
 use Rattle.r6_layout.specs.Shape.{Shape}
 use Rattle.r6_world.specs.Layouts.{Layout}
@@ -20,14 +20,10 @@ use Rattle.r6_core.specs.Order.{SameReplies, Agrees, Finishes, IsRising, Release
 use Rattle.r6_core.specs.Inside.{IsCore, NoneCanStart}
 use Rattle.r6_core.proofs.AtRest.{at_rest}
 use Rattle.r6_core.proofs.Releasing.{released_nothing}
-use Rattle.r6_core.proofs.Throughs.{through_none}
+use Rattle.r6_core.proofs.Throughs.{through_in, through_none}
 
 rest_in : (g g' : Shape) (n n' : ℕ) (s : Shard) → g' ≡ g → n' ≡ n → AtRest (layout_of g') n' s → AtRest (layout_of g) n s
 rest_in g g' n n' s same_shape same_shard rest = subst (λ m. AtRest (layout_of g) m s) same_shard (subst (λ x. AtRest (layout_of x) n' s) same_shape rest)
-
-through_in : (g g' : Shape) (n n' : ℕ) (Kind : Change → Type 0) (old new : Shard) → g' ≡ g → n' ≡ n → Through (layout_of g') n' Kind old new → Through (layout_of g) n Kind old new
-through_in g g' n n' Kind old new same_shape same_shard t =
-    subst (λ m. Through (layout_of g) m Kind old new) same_shard (subst (λ x. Through (layout_of x) n' Kind old new) same_shape t)
 
 -- ---- whether the failure was seen
 
@@ -70,7 +66,7 @@ rest_failed l n s failed =
 pub record TookOver (s mid : State) (seen : Snapshot) : Type 0 where
   pub told : AllTold s
   pub takes : Through (layout_in s) s.frames.shard (TakesOver seen) (state_of s) (state_of mid)
-  pub slots : (slot : ℕ) → states_of mid.frames.slots slot ≡ adopted (states_of s.frames.slots slot) (status_of seen slot)
+  pub slots : (slot : ℕ) → slot < s.frames.geometry.slots → states_of mid.frames.slots slot ≡ adopted (states_of s.frames.slots slot) (status_of seen slot)
   pub same : SameFrames s mid
   pub order : SameReplies s mid
   pub waiting : mid.waiting ≡ s.waiting
@@ -78,7 +74,7 @@ pub record TookOver (s mid : State) (seen : Snapshot) : Type 0 where
 step_from : (s mid new : State) (seen : Snapshot) → TookOver s mid seen → SameFrames s new → Looks (layout_in s) s.frames.shard seen.failed (state_of mid) (state_of new)
     → AtRest (layout_in s) s.frames.shard (state_of new) → Step s (Look seen) new
 step_from s mid new seen took same looks rest =
-    (same, (ap (map call_of) took.told.0, ap (option_map call_of) took.told.1, state_of mid, took.takes, (λ slot below. took.slots slot), looks, rest))
+    (same, (ap (map call_of) took.told.0, ap (option_map call_of) took.told.1, state_of mid, took.takes, took.slots, looks, rest))
 
 -- the array has failed
 pub looked_failed : (s mid new : State) (seen : Snapshot) → TookOver s mid seen → seen.failed ≡ true → SameFrames mid new → state_of new ≡ after (layout_in mid) (state_of mid) See_failed

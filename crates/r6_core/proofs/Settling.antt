@@ -24,8 +24,8 @@ use Rattle.r6_core.specs.Inside.{IsSound, IsCore, IsRestedFrame, FinishesHeld, S
 use Rattle.r6_frames.proofs.Held.{held_goes}
 use Rattle.r6_frames.proofs.Lists.{own, apart}
 use Rattle.r6_core.proofs.Passed.{all-append}
-use Rattle.r6_core.proofs.Throughs.{through_both, through_of}
-use Rattle.r6_core.proofs.Going.{Goes, goes_still, drives_still, between_states, gone_sound, puts_out_on, through_in}
+use Rattle.r6_core.proofs.Throughs.{through_both, through_in, through_of}
+use Rattle.r6_core.proofs.Going.{Goes, goes_still, drives_still, between_states, gone_sound, puts_out_on}
 
 -- ---- the numbers of the requests of held rows
 

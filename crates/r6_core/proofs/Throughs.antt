@@ -1,6 +1,8 @@
 -- Lists of changes, one behind the other.
 use Rattle.std.proofs.Common.{◌≡◌, ℕ, List, [], ◌∷◌, ◌++◌, subst}
+use Rattle.r6_layout.specs.Shape.{Shape}
 use Rattle.r6_world.specs.Layouts.{Layout}
+use Rattle.r6_world.specs.Geometries.{layout_of}
 use Rattle.r6_world.specs.ShardStates.{Shard}
 use Rattle.r6_world.specs.Changes.{Change, after, Allowed}
 use Rattle.r6_world.specs.Steps.{Leads, Through}
@@ -31,3 +33,9 @@ leads_of l n Narrow Wide wider old new (change ∷ changes) a = (wider change a.
 pub through_of : (l : Layout) (n : ℕ) (Narrow Wide : Change → Type 0) → ((change : Change) → Narrow change → Wide change) → (old new : Shard)
     → Through l n Narrow old new → Through l n Wide old new
 through_of l n Narrow Wide wider old new a = (a.0, leads_of l n Narrow Wide wider old new a.0 a.1)
+
+-- over a layout and a shard that are known to be others
+pub through_in : (g g' : Shape) (n n' : ℕ) (Kind : Change → Type 0) (old new : Shard) → g' ≡ g → n' ≡ n
+    → Through (layout_of g') n' Kind old new → Through (layout_of g) n Kind old new
+through_in g g' n n' Kind old new same_shape same_shard t =
+    subst (λ m. Through (layout_of g) m Kind old new) same_shard (subst (λ x. Through (layout_of x) n' Kind old new) same_shape t)

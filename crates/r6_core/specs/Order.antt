@@ -66,7 +66,7 @@ FinishesBy (Err fault) old new = Finishes old new
 
 -- a look finds no slot other than the shard has it
 abbrev pub Agrees : State → Snapshot → Type 0
-Agrees s snapshot = (slot : ℕ) → differs (states_of s.frames.slots slot) (status_of snapshot slot) ≡ false
+Agrees s snapshot = (slot : ℕ) → slot < s.frames.geometry.slots → differs (states_of s.frames.slots slot) (status_of snapshot slot) ≡ false
 
 -- all that were finished are released, in their order, behind those that were, and behind them those that the look
 -- finished, from the oldest to the newest: none if it found no slot other

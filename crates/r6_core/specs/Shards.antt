@@ -1,5 +1,5 @@
 -- Which shard of the world a core is, and its steps.
-use Rattle.std.specs.Prelude.{◌≡◌, ℕ, ◌≤◌, nat_eq, Bool, true, false, List, ◌++◌, map, slice_index_or, option_map, Option, Some, None, Result, Ok, Err}
+use Rattle.std.specs.Prelude.{◌≡◌, ℕ, nat_eq, Bool, true, false, List, ◌++◌, map, slice_index_or, option_map, Option, Some, None, Result, Ok, Err}
 use Rattle.std.specs.Map.{lookup}
 use Rattle.r6_world.specs.PlainArray as world
 use Rattle.r6_world.specs.Layouts.{Layout}
@@ -109,10 +109,6 @@ synced (Building generation built) = None
 -- the state of a slot with one of these devices; what is no slot is in sync
 abbrev pub devices_state : List Device → ℕ → SlotState
 devices_state devices slot = slots.state_of (slice_index_or devices slot (device.Synced 0))
-
--- the snapshot is of the register of this array: what is no slot of the array is in sync there
-abbrev pub IsOfArray : State → Snapshot → Type 0
-IsOfArray s snapshot = (slot : ℕ) → s.frames.geometry.slots ≤ slot → status_of snapshot slot ≡ InSync
 
 -- no slot was lost and the array hasn't failed
 pub record IsWhole (snapshot : Snapshot) : Type 0 where

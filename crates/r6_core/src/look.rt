@@ -9,7 +9,7 @@ ghost use Rattle.r6_world.specs.Changes.{Release, See_failed, after, adopted, di
 ghost use Rattle.r6_frames.specs.Views.{AreLive};
 ghost use Rattle.r6_frames.specs.Slots as slots;
 ghost use Rattle.r6_frames.specs.Slots.{states_of};
-ghost use Rattle.r6_core.specs.Shards.{Step, state_of, layout_in, IsOfArray, SameFrames};
+ghost use Rattle.r6_core.specs.Shards.{Step, state_of, layout_in, SameFrames};
 ghost use Rattle.r6_core.specs.Refusals.{AllTold};
 ghost use Rattle.r6_core.specs.Order.{Agrees, SameReplies, LooksOn, FailsAll, HaveTurnsAfter};
 ghost use Rattle.r6_core.specs.Inside.{IsSound, IsCore, inserted, Gathers, SameCalls};
@@ -25,8 +25,7 @@ impl State {
     /// Takes over what the register has of each slot. Then all finished requests are released, those too that a loss has
     /// finished, and what can start starts; or, if the array has failed, every request that isn't answered is answered so.
     pub(crate) fn look(&mut self, snapshot: &Snapshot) -> Result<(), Refusal>
-        requires core { IsCore self.old }
-        requires array { IsOfArray self.old snapshot.now }
+        requires { IsCore self.old }
         ensures core { IsCore self.new }
         ensures step { IfOk result (λ _. Step self.old (Look snapshot.now) self.new) }
         ensures told { IfOk result (λ _. AllTold self.old) }
@@ -57,11 +56,10 @@ impl State {
     // Takes over what the register has of each slot: whether one went out.
     fn adopt(&mut self, snapshot: &Snapshot) -> bool
         requires sound { IsSound self.old }
-        requires array { IsOfArray self.old snapshot.now }
         requires told { AllTold self.old }
         ensures sound { IsSound self.new }
         ensures takes { Through (layout_in self.old) self.old.frames.shard (TakesOver snapshot.now) (state_of self.old) (state_of self.new) }
-        ensures slots { (slot : ℕ) → states_of self.new.frames.slots slot ≡ adopted (states_of self.old.frames.slots slot) (status_of snapshot.now slot) }
+        ensures slots { (slot : ℕ) → slot < self.old.frames.geometry.slots → states_of self.new.frames.slots slot ≡ adopted (states_of self.old.frames.slots slot) (status_of snapshot.now slot) }
         ensures none { result ≡ false → (self.new ≡ self.old) × Agrees self.old snapshot.now }
         ensures some { result ≡ true → Agrees self.old snapshot.now → ⊥ }
         ensures same { SameFrames self.old self.new }

@@ -3,12 +3,12 @@
 ghost use Rattle.std.specs.Prelude.{◌≡◌, ◌≢◌, ◌+◌, [], ◌∷◌, ◌++◌, ◌<◌, ◌≤◌, nat_lt, if◌then◌else◌, ℕ, Bool, false, MatchOption, IfOk, IfErr, IfSome, Option, Some, None};
 ghost use Rattle.r6_layout.specs.Shape.{IsShape};
 ghost use Rattle.r6_world.specs.Geometries.{layout_of};
-ghost use Rattle.r6_world.specs.Registers.{InSync, status_of};
+ghost use Rattle.r6_world.specs.Registers.{status_of};
 ghost use Rattle.r6_world.specs.Worlds.{shard_at_start, slot_at_start};
 ghost use Rattle.r6_world.specs.Steps.{Submit, Deliver, Look, Take_command, No_command, Take_call, No_call, Told, Take_reply, No_reply};
 ghost use Rattle.r6_frames.specs.Views.{op_of, world_command};
 ghost use Rattle.r6_frames.specs.Calls.{IsCommandOf};
-ghost use Rattle.r6_core.specs.Shards.{Step, state_of, devices_state, synced, reply_of, call_of, completion_of, receipt_of, buffer_in, IsOfArray};
+ghost use Rattle.r6_core.specs.Shards.{Step, state_of, devices_state, synced, reply_of, call_of, completion_of, receipt_of, buffer_in};
 ghost use Rattle.r6_core.specs.Refusals.{AllTold, HasSubmitFault, HasDeliverFault, IsFirstFault, HasNone, submit_faults, deliver_faults};
 ghost use Rattle.r6_core.specs.Order.{BringsBack, NoReplies, SameReplies, KeepsReplies, FinishesBy, LooksOn, TakesFirst, HasNoReply, HaveTurns, HaveTurnsBehind, HaveTurnsAfter};
 
@@ -53,8 +53,7 @@ impl Core {
     /// The core of a shard of the array. All room is made here.
     ///
     /// `window`, 1 to 8, is how many rows of a rebuild may be under way at one time; nothing depends on it yet, since cores
-    /// don't rebuild so far. The snapshot is of the register of this array (what is no slot of the array is in sync there),
-    /// at which no device was attached, and that has not failed.
+    /// don't rebuild so far. The snapshot is of a register at which no device was attached, and that has not failed.
     ///
     /// # Errors
     /// 1 `NoMemory`.
@@ -68,7 +67,6 @@ impl Core {
         requires limits { IsShape geometry }
         requires shard { shard < geometry.shards }
         requires window { (1 ≤ window) × (window ≤ 8) }
-        requires array { (slot : ℕ) → geometry.slots ≤ slot → status_of snapshot.now slot ≡ InSync }
         requires no_attach { snapshot.now.attaches ≡ 0 }
         requires unfailed { snapshot.now.failed ≡ false }
         ensures start { IfOk result (λ core. (core.frames.geometry ≡ geometry) × (core.frames.shard ≡ shard) × (state_of core ≡ shard_at_start (layout_of geometry) snapshot.now shard)) }
@@ -122,12 +120,9 @@ impl Core {
     /// the order in which they finished, those too that the look finished. If the array has failed, every request that
     /// isn't released is answered so, from the oldest to the newest, and nothing goes on any more.
     ///
-    /// The snapshot is of the register of this array: what is no slot of the array is in sync there.
-    ///
     /// # Errors
     /// 8 `UntoldFirst`. Nothing changes.
     pub fn look(&mut self, snapshot: &Snapshot) -> Result<(), Refusal>
-        requires { IsOfArray self.old snapshot.now }
         ensures step { IfOk result (λ _. Step self.old (Look snapshot.now) self.new) }
         ensures told { IfOk result (λ _. AllTold self.old) }
         ensures refused { IfErr result (λ refusal. (refusal ≡ Refusal.UntoldFirst) × (AllTold self.old → ⊥) × (self.new ≡ self.old)) }
@@ -213,7 +208,6 @@ impl Core {
 
 // What the slots have at the start: a rebuilding slot there is none.
 fn devices_at(snapshot: &Snapshot) -> [Device; MOST_SLOTS]
-    requires { (slot : ℕ) → 32 ≤ slot → status_of snapshot.now slot ≡ InSync }
     ensures { (slot : ℕ) → devices_state result slot ≡ slot_at_start (status_of snapshot.now slot) }
 {
     let mut devices = [Device::Missing; MOST_SLOTS];

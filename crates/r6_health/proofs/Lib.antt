@@ -1,3 +1,4 @@
+pub mod Beyond
 pub mod Failures
 pub mod Histories
 pub mod Keeps

@@ -1,7 +1,8 @@
 //! A copy of what the register holds.
-ghost use Rattle.std.specs.Prelude.{◌≡◌, ◌≤◌, ◌<◌, ◌^◌, count_ones, true, false};
+ghost use Rattle.std.specs.Prelude.{◌≡◌, ◌≤◌, ◌<◌, ◌^◌, ℕ, count_ones, true, false};
 ghost use Rattle.r6_health.specs.Registers.{state_at, attaches_of, has_failed, are_too_many_out, without, lost_if, starting};
 ghost use Rattle.r6_health.specs.Slots.{is_lost};
+ghost use Rattle.r6_health.specs.declared.slots.SlotState.TheVariants.{InSync};
 
 use crate::slots::{MOST_SLOTS, SlotState};
 use r6_layout::Geometry;
@@ -58,7 +59,8 @@ impl Snapshot {
     /// The state of a slot. What is no slot of the array is in sync.
     pub fn slot(&self, slot: usize) -> SlotState
         requires { slot < 32 }
-        ensures { result ≡ state_at self.now slot }
+        ensures value { result ≡ state_at self.now slot }
+        ensures beyond { (other : ℕ) → 32 ≤ other → state_at self.now other ≡ InSync }
     {
         self.slots[slot]
     }

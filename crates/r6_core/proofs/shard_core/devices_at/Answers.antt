@@ -9,6 +9,7 @@ use Rattle.r6_core.proofs.shard_core.devices_at.Goals as goal
 
 pub loop-slot-init : goal.loop-slot-init
 loop-slot-init c = record {
+  beyond = λ some. absurd (omega arith);
   many = refl;
   made = λ slot below. absurd (omega arith);
   ahead = λ slot low high. ap slots.state_of (get_or-replicate 32 slot device.Missing (device.Synced 0) high);
@@ -20,5 +21,5 @@ returns c slot =
     let all = c.loop-slot-test.false in
     elim (cases_lt slot 32) [
       | inl below ↦ is.made slot (omega arith)
-      | inr past ↦ past_devices c.loop-slot.devices slot (omega (arith, is.many)) ∙ sym (ap slot_at_start (c.requires slot past))
+      | inr past ↦ past_devices c.loop-slot.devices slot (omega (arith, is.many)) ∙ sym (ap slot_at_start (is.beyond (omega arith) slot past))
     ]

@@ -1,10 +1,7 @@
-use Rattle.std.proofs.Common.{ap, ◌∙◌, arith}
+use Rattle.std.proofs.Common.{ap, ◌∙◌}
 use Rattle.r6_frames.specs.Slots.{states_of}
 use Rattle.r6_core.proofs.Fresh.{fresh_start, states_before}
 use Rattle.r6_core.proofs.shard_core.Core.new.Goals as goal
-
-pub devices_at-requires : goal.devices_at-requires
-devices_at-requires c slot past = c.requires.array slot (omega (arith, past, c.requires.limits.slots_allowed.1))
 
 pub returns-in-Ok-clause-start : goal.returns-in-Ok-clause-start
 returns-in-Ok-clause-start c =

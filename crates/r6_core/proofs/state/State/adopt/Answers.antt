@@ -24,15 +24,15 @@ loop-slot-preserved c =
     elim c.match-renewed.branch [
       | in-Some w ↦
           let took = w.take_out.ensures in
-          let other : differs state (status_of seen slot) ≡ true = ap (differs state) (sym c.slot.ensures) ∙ sym c.renewed.ensures.differs ∙ ap is_some w.in-Some.is in
-          let becomes = w.in-Some.ensures.device.0 ∙ ap (adopted state) c.slot.ensures in
+          let other : differs state (status_of seen slot) ≡ true = ap (differs state) (sym c.slot.ensures.value) ∙ sym c.renewed.ensures.differs ∙ ap is_some w.in-Some.is in
+          let becomes = w.in-Some.ensures.device.0 ∙ ap (adopted state) c.slot.ensures.value in
           let out = adopting_out s mid seen slot c.loop-slot.went_out w.in-Some.device w.take_out.new.self c.requires.told inv
           (omega (arith, lt, c.slots-slot-end.ensures.value, geometry)) other becomes took.takes took.sound (ap next_of took.commands.0) took.owed took.requests in
           subst (λ (x : State). IsAdopting s x seen (slot + 1) c.match-renewed.went_out) (sym w.self-is)
           (subst (λ (b : Bool). IsAdopting s (record mid { frames = w.take_out.new.self }) seen (slot + 1) b) (sym w.went_out-is) out)
       | in_default w ↦
-          let agrees : differs state (status_of seen slot) ≡ false = ap (differs state) (sym c.slot.ensures) ∙ sym c.renewed.ensures.differs ∙ ap is_some w.in_default.is in
-          let stays : adopted state (status_of seen slot) ≡ state = ap (adopted state) (sym c.slot.ensures) ∙ c.renewed.ensures.same w.in_default.is in
+          let agrees : differs state (status_of seen slot) ≡ false = ap (differs state) (sym c.slot.ensures.value) ∙ sym c.renewed.ensures.differs ∙ ap is_some w.in_default.is in
+          let stays : adopted state (status_of seen slot) ≡ state = ap (adopted state) (sym c.slot.ensures.value) ∙ c.renewed.ensures.same w.in_default.is in
           let stay = adopting_stay s mid seen slot c.loop-slot.went_out inv agrees stays in
           subst (λ (x : State). IsAdopting s x seen (slot + 1) c.match-renewed.went_out) (sym w.self-is)
           (subst (λ (b : Bool). IsAdopting s mid seen (slot + 1) b) (sym w.went_out-is) stay)
@@ -40,11 +40,11 @@ loop-slot-preserved c =
 
 pub returns-clause-slots : goal.returns-clause-slots
 returns-clause-slots c =
-    adopted_all c.args.self.now c.loop-slot.self c.args.snapshot.now c.loop-slot.slot c.loop-slot.went_out c.loop-slot.invariant (omega (arith, c.slots-slot-end.ensures.value, c.loop-slot-test.false)) c.requires.array
+    adopted_all c.args.self.now c.loop-slot.self c.args.snapshot.now c.loop-slot.slot c.loop-slot.went_out c.loop-slot.invariant (omega (arith, c.slots-slot-end.ensures.value, c.loop-slot-test.false))
 
 pub returns-clause-none : goal.returns-clause-none
 returns-clause-none c =
-    adopted_none c.args.self.now c.loop-slot.self c.args.snapshot.now c.loop-slot.slot c.loop-slot.went_out c.loop-slot.invariant (omega (arith, c.slots-slot-end.ensures.value, c.loop-slot-test.false)) c.requires.array
+    adopted_none c.args.self.now c.loop-slot.self c.args.snapshot.now c.loop-slot.slot c.loop-slot.went_out c.loop-slot.invariant (omega (arith, c.slots-slot-end.ensures.value, c.loop-slot-test.false))
 
 pub returns-clause-some : goal.returns-clause-some
 returns-clause-some c = adopted_some c.args.self.now c.loop-slot.self c.args.snapshot.now c.loop-slot.slot c.loop-slot.went_out c.loop-slot.invariant

@@ -77,7 +77,7 @@ returns-clause-step c =
           let settle = w.settle.ensures in
           subst (λ (x : State). HasSettled s mid x seen) (sym w.self-is)
           (settled_some s mid w.settle.new.self seen (adopt.some w.if-went_out.true) settle.core settle.leads settle.same settle.order settle.unanswered settle.waiting)
-      | else-went_out w ↦ subst (λ (x : State). HasSettled s mid x seen) (sym w.self-is) (settled_none s mid seen (adopt.none w.if-went_out.false).0 c.requires.core)
+      | else-went_out w ↦ subst (λ (x : State). HasSettled s mid x seen) (sym w.self-is) (settled_none s mid seen (adopt.none w.if-went_out.false).0 c.requires)
     ] in
     looked s mid c.if-went_out.self c.release.new.self c.scan.new.self seen
     (record { told = told_of s (sym c.is_empty.ensures ∙ c.if-not-is_empty.false) (sym c.is_some.ensures ∙ c.if-is_some.false); takes = adopt.takes; slots = adopt.slots; same = adopt.same; order = adopt.order; waiting = adopt.waiting })
@@ -97,7 +97,7 @@ returns-clause-order c =
           let settle = w.settle.ensures in
           subst (λ (x : State). HasSettled s mid x seen) (sym w.self-is)
           (settled_some s mid w.settle.new.self seen (adopt.some w.if-went_out.true) settle.core settle.leads settle.same settle.order settle.unanswered settle.waiting)
-      | else-went_out w ↦ subst (λ (x : State). HasSettled s mid x seen) (sym w.self-is) (settled_none s mid seen (adopt.none w.if-went_out.false).0 c.requires.core)
+      | else-went_out w ↦ subst (λ (x : State). HasSettled s mid x seen) (sym w.self-is) (settled_none s mid seen (adopt.none w.if-went_out.false).0 c.requires)
     ] in
     (λ failed. absurd (no_both _ failed unfailed), λ e was. looked_releases s mid c.if-went_out.self c.release.new.self c.scan.new.self seen adopt.order done c.release.ensures.order c.scan.ensures.replies.0, λ e was. absurd (no_both _ was (sym kept ∙ c.if-self.false)))
 
@@ -119,6 +119,6 @@ returns-clause-turns c =
           let settle = w.settle.ensures in
           subst (λ (x : State). HasSettled s mid x seen) (sym w.self-is)
           (settled_some s mid w.settle.new.self seen (adopt.some w.if-went_out.true) settle.core settle.leads settle.same settle.order settle.unanswered settle.waiting)
-      | else-went_out w ↦ subst (λ (x : State). HasSettled s mid x seen) (sym w.self-is) (settled_none s mid seen (adopt.none w.if-went_out.false).0 c.requires.core)
+      | else-went_out w ↦ subst (λ (x : State). HasSettled s mid x seen) (sym w.self-is) (settled_none s mid seen (adopt.none w.if-went_out.false).0 c.requires)
     ] in
     looked_turns s mid c.if-went_out.self c.release.new.self c.scan.new.self seen adopt.waiting done c.release.ensures.same.0 c.release.ensures.waiting c.release.ensures.core.sound.frames c.scan.ensures.turns
