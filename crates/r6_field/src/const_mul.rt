@@ -2,9 +2,12 @@
 
 ghost use Rattle.std.specs.Prelude.{◌≡◌, ◌<◌, ℕ, slice_index};
 ghost use Rattle.r6_field.specs.Field.{product};
+ghost use Rattle.r6_field.specs.Lanes.{HasLanes};
 
 use crate::element::Gf;
+use crate::lanes::{at_lower_halves, at_upper_halves, sum};
 use std::marker::Model;
+use std::simd::prelude::*;
 
 /// A constant, with its products by each polynomial of degree below 4, and by x^4 times each.
 ///
@@ -46,5 +49,16 @@ impl ConstMul {
         ensures { result ≡ product self.now byte }
     {
         self.low[(byte & 15) as usize] ^ self.high[(byte >> 4) as usize]
+    }
+
+    /// The products of the constant and 32 bytes.
+    #[inline(always)]
+    pub fn mul_lanes(&self, bytes: u8x32) -> u8x32
+        ensures { HasLanes result (λ k. product self.now (slice_index bytes k)) }
+    {
+        sum(
+            at_lower_halves(&self.low, bytes),
+            at_upper_halves(&self.high, bytes),
+        )
     }
 }

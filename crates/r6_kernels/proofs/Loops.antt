@@ -1,8 +1,8 @@
 -- A loop that writes f k at each place k of a list, from the first on.
-use Rattle.std.proofs.Common.{◌≡◌, ◌≢◌, ℕ, zero, suc, ◌+◌, ◌<◌, ◌≤◌, List, [], ◌∷◌, length, get_or, set, replicate, bit_xor, refl, sym, ap, subst, ◌∙◌, arith, below_more}
-use Rattle.std.proofs.lemmas.List.{get_or-set_other, get_or-set_same, ext_get_or, get_or-replicate, length-replicate}
-use Rattle.r6_field.specs.Field.{product, generator}
-use Rattle.r6_kernels.specs.Blocks.{zeros, block_sum, scale}
+use Rattle.std.proofs.Common.{◌≡◌, ◌≢◌, ℕ, zero, suc, ◌+◌, ◌<◌, ◌≤◌, List, [], ◌∷◌, length, get_or, set, bit_xor, refl, sym, ◌∙◌, arith, below_more}
+use Rattle.std.proofs.lemmas.List.{get_or-set_other, get_or-set_same, ext_get_or}
+use Rattle.r6_field.specs.Field.{product}
+use Rattle.r6_kernels.specs.Blocks.{block_sum, scale}
 use Rattle.r6_kernels.proofs.BlockLaws.{length-block_sum, length-scale}
 
 -- the places below i are written, the others are as before
@@ -52,31 +52,3 @@ scale_from_written c a now i end long so_far =
     let multiple_long : length (scale c a) ≡ length a = length-scale c a in
     same_from_written (λ k. product c (get_or a k 0)) a now (scale c a) i end (long ∙ sym multiple_long)
     (λ k h. get_or-scale c a k (omega arith)) so_far
-
-pub scaled_sum_from_written : (c : ℕ) (a b now : List ℕ) (i : ℕ) → length now ≤ i → length now ≡ length a → length a ≡ length b → IsWrittenBelow (λ k. bit_xor (get_or a k 0) (product c (get_or b k 0))) a now i → now ≡ block_sum a (scale c b)
-scaled_sum_from_written c a b now i end long same so_far =
-    let multiple_long : length (scale c b) ≡ length b = length-scale c b in
-    let sum_long : length (block_sum a (scale c b)) ≡ length a = length-block_sum (length a) a (scale c b) refl (multiple_long ∙ sym same) in
-    same_from_written (λ k. bit_xor (get_or a k 0) (product c (get_or b k 0))) a now (block_sum a (scale c b)) i end (long ∙ sym sum_long)
-    (λ k h. get_or-block_sum a (scale c b) k (omega arith) (omega arith) ∙ ap (bit_xor (get_or a k 0)) (get_or-scale c b k (omega arith))) so_far
-
-pub p_change_from_written : (p old new now : List ℕ) (i : ℕ) → length now ≤ i → length now ≡ length p → length p ≡ length old → length new ≡ length old
-    → IsWrittenBelow (λ k. bit_xor (get_or p k 0) (bit_xor (get_or old k 0) (get_or new k 0))) p now i → now ≡ block_sum p (block_sum old new)
-p_change_from_written p old new now i end long same same' so_far =
-    let change : List ℕ = block_sum old new in
-    let change_long : length change ≡ length old = length-block_sum (length old) old new refl same' in
-    let sum_long : length (block_sum p change) ≡ length p = length-block_sum (length p) p change refl (change_long ∙ sym same) in
-    same_from_written (λ k. bit_xor (get_or p k 0) (bit_xor (get_or old k 0) (get_or new k 0))) p now (block_sum p change) i end (long ∙ sym sum_long)
-    (λ k h. get_or-block_sum p change k (omega arith) (omega arith) ∙ ap (bit_xor (get_or p k 0)) (get_or-block_sum old new k (omega arith) (omega arith))) so_far
-
-pub q_change_from_written : (c : ℕ) (q old new now : List ℕ) (i : ℕ) → length now ≤ i → length now ≡ length q → length q ≡ length old → length new ≡ length old
-    → IsWrittenBelow (λ k. bit_xor (get_or q k 0) (product c (bit_xor (get_or old k 0) (get_or new k 0)))) q now i → now ≡ block_sum q (scale c (block_sum old new))
-q_change_from_written c q old new now i end long same same' so_far =
-    let change : List ℕ = block_sum old new in
-    let change_long : length change ≡ length old = length-block_sum (length old) old new refl same' in
-    let multiple_long : length (scale c change) ≡ length old = length-scale c change ∙ change_long in
-    let sum_long : length (block_sum q (scale c change)) ≡ length q = length-block_sum (length q) q (scale c change) refl (multiple_long ∙ sym same) in
-    same_from_written (λ k. bit_xor (get_or q k 0) (product c (bit_xor (get_or old k 0) (get_or new k 0)))) q now (block_sum q (scale c change)) i end (long ∙ sym sum_long)
-    (λ k h.
-    get_or-block_sum q (scale c change) k (omega arith) (omega arith)
-    ∙ ap (bit_xor (get_or q k 0)) (get_or-scale c change k (omega arith) ∙ ap (product c) (get_or-block_sum old new k (omega arith) (omega arith)))) so_far

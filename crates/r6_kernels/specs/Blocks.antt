@@ -1,6 +1,6 @@
 -- Sums of blocks, byte by byte, and the two parity blocks of RAID-6 (H. Peter Anvin, "The mathematics of RAID-6").
 -- A block is the list of its bytes.
-use Rattle.std.specs.Prelude.{◌≡◌, ℕ, zero, suc, ◌<◌, List, [], ◌∷◌, ◌++◌, length, map, replicate, bit_xor}
+use Rattle.std.specs.Prelude.{◌≡◌, ℕ, suc, ◌<◌, List, [], ◌∷◌, length, replicate, bit_xor}
 use Rattle.std.specs.List.{All}
 use Rattle.r6_field.specs.Field.{product, power, generator}
 

@@ -1,3 +1,3 @@
 pub mod Blocks
+pub mod Lanes
 pub mod Laws
-pub mod Stretches

@@ -5,8 +5,6 @@ ghost use Rattle.std.specs.List.{All};
 ghost use Rattle.r6_field.specs.Field.{generator, product};
 ghost use Rattle.r6_kernels.specs.Blocks.{zeros, block_sum, scale};
 
-use r6_field::ConstMul;
-
 /// Writes zeros.
 pub(crate) fn clear(dst: &mut [u8])
     ensures { dst.new ≡ zeros (length dst.old) }
@@ -49,30 +47,5 @@ pub(crate) fn double_byte(byte: u8) -> u8
         byte << 1
     } else {
         (byte << 1) ^ 0x1d
-    }
-}
-
-/// Adds the products of a constant and the bytes of `src`.
-pub(crate) fn add_scaled(dst: &mut [u8], src: &[u8], constant: &ConstMul)
-    requires { length dst.old ≡ length src.now }
-    ensures { dst.new ≡ block_sum dst.old (scale constant.now src.now) }
-{
-    for (i, byte) in dst.iter_mut().enumerate() {
-        *byte ^= constant.mul(src[i]);
-    }
-}
-
-/// Adds the change from `old` to `new` to `p`, and its product with a constant to `q`.
-pub(crate) fn add_change(p: &mut [u8], q: &mut [u8], old: &[u8], new: &[u8], constant: &ConstMul)
-    requires p { length p.old ≡ length old.now }
-    requires q { length q.old ≡ length old.now }
-    requires same { length new.now ≡ length old.now }
-    ensures p { p.new ≡ block_sum p.old (block_sum old.now new.now) }
-    ensures q { q.new ≡ block_sum q.old (scale constant.now (block_sum old.now new.now)) }
-{
-    for i in 0..old.len() {
-        let change = old[i] ^ new[i];
-        p[i] ^= change;
-        q[i] ^= constant.mul(change);
     }
 }

@@ -4,11 +4,17 @@
 pub mod buffer;
 mod bytes;
 pub mod kernels;
+mod lanes;
 pub mod laws;
-mod stretches;
+mod multiples;
+mod parities;
+mod reach;
+mod sums;
 
 pub use buffer::Buffer;
 pub use kernels::{delta, double, parity, scale_add, xor_into};
 
+#[cfg(test)]
+mod lane_tests;
 #[cfg(test)]
 mod tests;
