@@ -41,6 +41,7 @@ use Rattle.r6_frames.specs.Views.{op_of, buffer_of, job_for, row_task, task_for,
 use Rattle.r6_frames.specs.Calls.{entry_of, begun_for, IsFreeFrame, NotHeldBy, IsRequestOf, Begins}
 use Rattle.r6_frames.specs.Owed.{owed_by, owed_in, is_unsent, OwesCommands}
 use Rattle.r6_frames.specs.Sound.{is_put_out, is_away_from, count_home, home_in, count_free, IsJob, IsHeld, AreApart, AreFrames, AreCommands, IsSound}
+use Rattle.r6_frames.specs.Uses.{IsForRow, block_in, task_in, row_of, synced, begun_row}
 use Rattle.r6_frames.proofs.BegunOwes.{begun_owes_commands}
 use Rattle.r6_frames.proofs.Held.{use_at_own, use_at_other, apart_put, frame_put, held_comes, owed_at, owed_set, home_at, home_set, free_at, free_set}
 
@@ -62,10 +63,6 @@ stands : (d : Device) (row : ℕ) → standing_if (not (shards.is_away (state_of
 stands (device.Synced generation) row = refl
 stands device.Missing row = refl
 stands (device.Building generation) row = refl
-
--- which positions of the row are in sync
-abbrev pub synced : Frames → ℕ → List Bool
-synced fs row = first fs.geometry.slots (is_synced_at fs row)
 
 abbrev pub found_in : Frames → ℕ → Hold
 found_in fs row = found (layout_of fs.geometry) (states_of fs.slots) row
@@ -105,25 +102,6 @@ all_home [] = refl
 all_home (b ∷ in_sync) = omega (arith, all_home in_sync)
 
 -- ---- the row that is held for a request
-
-abbrev pub block_in : Request → ℕ
-block_in request = block_of (op_of request.op)
-
-abbrev pub task_in : Shape → Request → RowTask
-task_in shape request = row_task (layout.index_of shape (block_in request)) request.op
-
-abbrev pub row_of : Frames → Request → ℕ
-row_of fs request = layout.row_of fs.geometry (block_in request)
-
-abbrev pub begun_row : Frames → Request → HeldRow
-begun_row fs request =
-    record {
-      row = row_of fs request;
-      id = request.id;
-      block = block_in request;
-      job = job_for request.op;
-      hold = begun_held fs.geometry.block (synced fs (row_of fs request)) (kind_of_task (task_in fs.geometry request));
-    }
 
 -- the row as the code makes it
 pub begun_as :
@@ -262,12 +240,9 @@ with_held fs held spare = record fs { held = held; spare = spare }
 pub inside : (fs : Frames) (frame : ℕ) → IsSound fs → IsFreeFrame fs frame → frame < length fs.held.items
 inside fs frame sound free = let count = sound.frames.count in omega (arith, free.0)
 
-abbrev pub IsShapeOf : Frames → buffers.Shape → Type 0
-IsShapeOf fs free_frame = free_frame ≡ record { count = fs.geometry.slots; size = fs.geometry.block }
-
 -- the last of the spare frames has the shape
-pub shape_is : (fs : Frames) (last : buffers.Shape) (rest : List buffers.Shape) → IsSound fs → fs.spare.items ≡ rest ++ last ∷ [] → IsShapeOf fs last
-shape_is fs last rest sound items = (All-pop (IsShapeOf fs) fs.spare.items rest (Some last) items sound.frames.spare_shape).1
+pub shape_is : (fs : Frames) (last : buffers.Shape) (rest : List buffers.Shape) → IsSound fs → fs.spare.items ≡ rest ++ last ∷ [] → IsForRow fs.geometry last
+shape_is fs last rest sound items = (All-pop (IsForRow fs.geometry) fs.spare.items rest (Some last) items sound.frames.spare_shape).1
 
 module _ (fs : Frames) (frame : ℕ) (request : Request) (held : Vec FrameUse Global) (spare : Vec buffers.Shape Global)
     (sound : IsSound fs) (free : IsFreeFrame fs frame) (right : IsRequestOf fs request) (unheld : NotHeldBy fs (row_of fs request))
@@ -286,7 +261,7 @@ module _ (fs : Frames) (frame : ℕ) (request : Request) (held : Vec FrameUse Gl
   row_here f h e is = let both : Some h ≡ Some (begun_row fs request) = sym is ∙ ap (hold_at held.items) e ∙ ap row_in own in cc
 
   frames_sound : length fs.spare.items ≡ length spare.items + 1 → vec_capacity spare ≡ vec_capacity fs.spare
-      → All (IsShapeOf fs) spare.items
+      → All (IsForRow fs.geometry) spare.items
       → AreFrames (with_held fs held spare)
   frames_sound one_less same_room shapes =
       let was = sound.frames in
@@ -353,7 +328,7 @@ module _ (fs : Frames) (frame : ℕ) (request : Request) (held : Vec FrameUse Gl
       }
 
   pub begun_sound : length fs.spare.items ≡ length spare.items + 1 → vec_capacity spare ≡ vec_capacity fs.spare
-      → All (IsShapeOf fs) spare.items
+      → All (IsForRow fs.geometry) spare.items
       → IsSound (with_held fs held spare)
   begun_sound one_less same_room shapes =
       record { shape = sound.shape; shard = sound.shard; frames = frames_sound one_less same_room shapes; commands = commands_sound }

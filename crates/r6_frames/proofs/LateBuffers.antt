@@ -1,13 +1,12 @@
 -- What the buffer of an abandoned command does when it comes home.
-use Rattle.std.proofs.Common.{◌≡◌, ◌≢◌, ℕ, ◌+◌, ◌<◌, Bool, true, false, [], ◌∷◌, ◌++◌, length, set, refl, sym, ap, subst, ◌∙◌, Some, arith, get_or-set_same, get_or-set_other, length-append}
+use Rattle.std.proofs.Common.{◌≡◌, ◌≢◌, ℕ, ◌+◌, ◌<◌, Bool, true, false, List, [], ◌∷◌, ◌++◌, length, set, refl, sym, ap, subst, ◌∙◌, Some, arith, get_or-set_same, get_or-set_other, length-append}
 use Rattle.std.specs.Prelude.{option_map, slice_index_or, if◌then◌else◌, vec_capacity}
 use mathlib.Core.Path.{fun_ext}
 use Rattle.std.specs.FinMap as map
-use Rattle.std.specs.List.{All, list_any}
+use Rattle.std.specs.List.{All}
 use Rattle.std.specs.Global.{Vec}
-use Rattle.std.specs.Vec.{with_item}
 use Rattle.std.proofs.lemmas.Bool.{lt-ltb}
-use Rattle.std.proofs.lemmas.List.{length-set, set-set}
+use Rattle.std.proofs.lemmas.List.{append-nil, length-set}
 use Rattle.std.proofs.lemmas.List.Elements.{All-append, All-cons, All-nil}
 use Rattle.r6_stripe.specs.Frames as buffers
 use Rattle.r6_stripe.specs.Holds.{Event, Kind, cell_at}
@@ -26,10 +25,11 @@ use Rattle.r6_frames.specs.declared.frames.FrameUse.TheVariants.{Free, Held as H
 use Rattle.r6_frames.specs.declared.frames.Frames.{Frames}
 use Rattle.r6_frames.specs.Slots.{is_abandoned}
 use Rattle.r6_frames.specs.Views.{use_at, row_in, hold_at, hold_of, plan_in, held_requests, outstanding, command_of, shard_with, AreLive}
-use Rattle.r6_frames.specs.Calls.{ComesHome, IsAwaited, IsAbandoned, KeepsHeld, KeepsOthers, HasReturned}
+use Rattle.r6_frames.specs.Calls.{ComesHome, IsAwaited, IsAbandoned, KeepsHeld, KeepsOthers}
 use Rattle.r6_frames.specs.Owed.{owed}
+use Rattle.r6_frames.specs.Uses.{IsForRow, has_away, AwaitsBuffer, use_home, spared_home}
 use Rattle.r6_frames.specs.Sound.{IsSound, IsHeld, IsReturning, is_away_from, place_of}
-use Rattle.r6_frames.proofs.Held.{use_at_own, use_within, use_held, free_at, home_at, owed_at, free_set}
+use Rattle.r6_frames.proofs.Held.{use_within, use_held, free_at, home_at, owed_at, free_set}
 use Rattle.r6_frames.proofs.Ending.{none-away-at, some-away, count_home-all}
 use Rattle.r6_frames.proofs.Finishing.{count_free-le}
 use Rattle.r6_frames.proofs.AnsweredRows.{late_row, late_held, late_is}
@@ -132,7 +132,7 @@ record IsSameRow (old new : FrameUse) : Type 0 where
 module _ (fs : Frames) (token : ℕ) (c : Outstanding) (sound : IsSound fs) (late : IsLate fs token c) where
   came_home : (held : Vec FrameUse) (spare : Vec buffers.Shape) (old new : FrameUse) → use_at fs.held.items c.frame ≡ old → held.items ≡ set fs.held.items c.frame new → IsHome fs c new → IsSameRow old new
       → length spare.items + free_at old ≡ length fs.spare.items + free_at new → vec_capacity spare ≡ vec_capacity fs.spare
-      → All (λ (f : buffers.Shape). f ≡ record { count = fs.geometry.slots; size = fs.geometry.block }) spare.items
+      → All (IsForRow fs.geometry) spare.items
       → CameHome fs token (left_of fs token held spare)
   came_home held spare old new was items home same more capacity shapes = record {
     sound = sound_left fs token c late.there held spare new items home sound late.awaited.2 (ap (λ v. length spare.items + free_at v) was ∙ more) capacity shapes;
@@ -176,17 +176,16 @@ module _ (fs : Frames) (token : ℕ) (c : Outstanding) (sound : IsSound fs) (lat
       returning = λ r there. absurd (cc);
     }
 
-    pub held_home : (block : Block) (position : ℕ) (hold : StripeHold) (commands : Numbered Outstanding) → position ≡ place_of fs c → hold ≡ answered h.hold position block
-        → commands ≡ (capacity_of fs.commands, (next_of fs.commands, map.remove (entries_of fs.commands) token))
-        → CameHome fs token (record fs { held = with_item fs.held c.frame (HeldIn (record h { hold = hold })); commands = commands })
-    held_home block position hold commands at done rest =
-        let goes : hold ≡ (late_row h (place_of fs c)).hold =
-        done ∙ ap (λ p. answered h.hold p block) at ∙ (λ i. record { planned = late_is h.hold.planned (place_of fs c) block (late.out h is) i; away = set h.hold.away (place_of fs c) false }) in
-        let same : record fs { held = with_item fs.held c.frame (HeldIn (record h { hold = hold })); commands = commands } ≡ left_of fs token (with_item fs.held c.frame (HeldIn (late_row h (place_of fs c)))) fs.spare =
-        λ i. record fs { held = with_item fs.held c.frame (HeldIn (record h { hold = goes i })); commands = rest i } in
-        subst (CameHome fs token) (sym same)
-        (came_home (with_item fs.held c.frame (HeldIn (late_row h (place_of fs c)))) fs.spare (HeldIn h) (HeldIn (late_row h (place_of fs c))) held_was refl late_home
-        (record { hold = refl; plan = refl; owed = refl; requests = λ frame. refl }) refl refl sound.frames.spare_shape)
+    pub held_home : (position : ℕ) (block : Block) (held : Vec FrameUse) (spare : Vec buffers.Shape) → position ≡ place_of fs c
+        → held.items ≡ set fs.held.items c.frame (use_home (HeldIn h) position block) → spare.items ≡ fs.spare.items → vec_capacity spare ≡ vec_capacity fs.spare
+        → CameHome fs token (left_of fs token held spare)
+    held_home position block held spare at items same room =
+        let goes : answered h.hold position block ≡ (late_row h (place_of fs c)).hold =
+        ap (λ p. answered h.hold p block) at ∙ (λ i. record { planned = late_is h.hold.planned (place_of fs c) block (late.out h is) i; away = set h.hold.away (place_of fs c) false }) in
+        came_home held spare (HeldIn h) (HeldIn (late_row h (place_of fs c))) held_was
+        (items ∙ ap (λ (hold : StripeHold). set fs.held.items c.frame (HeldIn (record h { hold = hold }))) goes) late_home
+        (record { hold = refl; plan = refl; owed = refl; requests = λ frame. refl }) (ap (λ (xs : List buffers.Shape). length xs + 0) same) room
+        (subst (All (IsForRow fs.geometry)) (sym same) sound.frames.spare_shape)
 
     pub row_size : h.hold.planned.hold.size ≡ fs.geometry.block
     row_size = whole.size
@@ -218,106 +217,127 @@ module _ (fs : Frames) (token : ℕ) (c : Outstanding) (sound : IsSound fs) (lat
         by_tests false true = later (Confirms (place_of fs c))
         by_tests false false = later (Gives (place_of fs c) block)
 
-    module _ (block : Block) (position : ℕ) (hold : StripeHold) (commands : Numbered Outstanding) (at : position ≡ place_of fs c) (done : hold ≡ answered r position block)
-        (rest : commands ≡ (capacity_of fs.commands, (next_of fs.commands, map.remove (entries_of fs.commands) token)))
-      where
-        goes : hold ≡ answered r (place_of fs c) block
-        goes = done ∙ ap (λ p. answered r p block) at
+    module _ (position : ℕ) (block : Block) (at : position ≡ place_of fs c) where
+      abbrev hold : StripeHold
+      hold = answered r position block
 
-        away_is : hold.away ≡ set r.away (place_of fs c) false
-        away_is = ap (λ (x : StripeHold). x.away) goes
+      goes : hold ≡ answered r (place_of fs c) block
+      goes = ap (λ p. answered r p block) at
 
-        wide_away : length hold.away ≡ fs.geometry.slots
-        wide_away = ap length away_is ∙ length-set r.away (place_of fs c) false ∙ returns.wide_away
+      away_is : hold.away ≡ set r.away (place_of fs c) false
+      away_is = ap (λ (x : StripeHold). x.away) goes
 
-        ended : hold.planned.hold.kind ≡ Kind.Idle
-        ended = ap (λ (x : StripeHold). x.planned.hold.kind) goes
-            ∙ heard_has (λ p. p.hold.kind ≡ Kind.Idle) block returns.ended (λ event. kind_after r.planned.hold event ∙ returns.ended)
+      wide_away : length hold.away ≡ fs.geometry.slots
+      wide_away = ap length away_is ∙ length-set r.away (place_of fs c) false ∙ returns.wide_away
 
-        size : hold.planned.hold.size ≡ fs.geometry.block
-        size = ap (λ (x : StripeHold). x.planned.hold.size) goes
-            ∙ heard_has (λ p. p.hold.size ≡ fs.geometry.block) block returns.size (λ event. size_after r.planned.hold event ∙ returns.size)
+      ended : hold.planned.hold.kind ≡ Kind.Idle
+      ended = ap (λ (x : StripeHold). x.planned.hold.kind) goes
+          ∙ heard_has (λ p. p.hold.kind ≡ Kind.Idle) block returns.ended (λ event. kind_after r.planned.hold event ∙ returns.ended)
 
-        wide : length hold.planned.hold.cells ≡ fs.geometry.slots
-        wide = ap (λ (x : StripeHold). length x.planned.hold.cells) goes
-            ∙ heard_has (λ p. length p.hold.cells ≡ fs.geometry.slots) block returns.wide (λ event. width_after r.planned.hold event ∙ returns.wide)
+      size : hold.planned.hold.size ≡ fs.geometry.block
+      size = ap (λ (x : StripeHold). x.planned.hold.size) goes
+          ∙ heard_has (λ p. p.hold.size ≡ fs.geometry.block) block returns.size (λ event. size_after r.planned.hold event ∙ returns.size)
 
-        now_home : is_away hold (place_of fs c) ≡ false
-        now_home = ap (λ away. slice_index_or away (place_of fs c) false) away_is ∙ get_or-set_same r.away (place_of fs c) false false (omega (arith, returns.wide_away, late.inside))
+      wide : length hold.planned.hold.cells ≡ fs.geometry.slots
+      wide = ap (λ (x : StripeHold). length x.planned.hold.cells) goes
+          ∙ heard_has (λ p. length p.hold.cells ≡ fs.geometry.slots) block returns.wide (λ event. width_after r.planned.hold event ∙ returns.wide)
 
-        others_same : (j : ℕ) → j ≢ place_of fs c → is_away hold j ≡ is_away_from (use_at fs.held.items c.frame) j
-        others_same j other =
-            ap (λ away. slice_index_or away j false) away_is ∙ get_or-set_other r.away (place_of fs c) j false false other ∙ sym (ap (λ v. is_away_from v j) was)
+      now_home : is_away hold (place_of fs c) ≡ false
+      now_home = ap (λ away. slice_index_or away (place_of fs c) false) away_is ∙ get_or-set_same r.away (place_of fs c) false false (omega (arith, returns.wide_away, late.inside))
 
-        one_more : home_at fs.geometry.slots (Returning hold) ≡ home_at fs.geometry.slots (use_at fs.held.items c.frame) + 1
-        one_more =
-            ap (λ away. home_at fs.geometry.slots (Returning (record hold { away = away }))) away_is ∙ home_back r.away (place_of fs c) away_from_frame
-            ∙ sym (ap (λ v. home_at fs.geometry.slots v + 1) was)
+      others_same : (j : ℕ) → j ≢ place_of fs c → is_away hold j ≡ is_away_from (use_at fs.held.items c.frame) j
+      others_same j other =
+          ap (λ away. slice_index_or away j false) away_is ∙ get_or-set_other r.away (place_of fs c) j false false other ∙ sym (ap (λ v. is_away_from v j) was)
 
-        -- buffers are away still
-        pub returning_home : list_any (λ away. away) hold.away ≡ true
-            → CameHome fs token (record fs { held = with_item fs.held c.frame (Returning hold); commands = commands })
-        returning_home away =
-            let home : IsHome fs c (Returning hold) = record {
-              below = late.below;
-              home = now_home;
-              others = others_same;
-              more = let e = one_more in omega arith;
-              row = λ x there. absurd (cc);
-              ended = λ none. ap row_in was;
-              returning = λ x there.
-                  let same : hold ≡ x = cc in
-                  let some = some-away hold.away away in
-                  subst (IsReturning fs.geometry) same (record {
-                    ended = ended;
-                    size = size;
-                    wide = wide;
-                    wide_away = wide_away;
-                    some_away = (some.0, omega (arith, some.1, wide_away), some.2);
-                  });
-            } in
-            subst (λ (t : Numbered Outstanding). CameHome fs token (record fs { held = with_item fs.held c.frame (Returning hold); commands = t })) (sym rest)
-            (came_home (with_item fs.held c.frame (Returning hold)) fs.spare (Returning r) (Returning hold) was refl home
-            (record { hold = refl; plan = refl; owed = refl; requests = λ frame. refl }) refl refl sound.frames.spare_shape)
+      one_more : home_at fs.geometry.slots (Returning hold) ≡ home_at fs.geometry.slots (use_at fs.held.items c.frame) + 1
+      one_more =
+          ap (λ away. home_at fs.geometry.slots (Returning (record hold { away = away }))) away_is ∙ home_back r.away (place_of fs c) away_from_frame
+          ∙ sym (ap (λ v. home_at fs.geometry.slots v + 1) was)
 
-        -- the last one is home, and the frame is free
-        module _ (home : list_any (λ away. away) hold.away ≡ false) where
-          -- the frames as the hold has heard of its last buffer
-          abbrev pub last_home : Frames
-          last_home = record fs { held = with_item fs.held c.frame (Returning hold); commands = commands }
+      -- buffers are away still
+      away_home : has_away hold ≡ true → IsHome fs c (Returning hold)
+      away_home away = record {
+        below = late.below;
+        home = now_home;
+        others = others_same;
+        more = let e = one_more in omega arith;
+        row = λ x there. absurd (cc);
+        ended = λ none. ap row_in was;
+        returning = λ x there.
+            let same : hold ≡ x = cc in
+            let some = some-away hold.away away in
+            subst (IsReturning fs.geometry) same (record {
+              ended = ended;
+              size = size;
+              wide = wide;
+              wide_away = wide_away;
+              some_away = (some.0, omega (arith, some.1, wide_away), some.2);
+            });
+      }
 
-          last_there : use_at last_home.held.items c.frame ≡ Returning hold
-          last_there = use_at_own fs.held.items c.frame (Returning hold) late.below
+      -- the last one is home
+      free_home : has_away hold ≡ false → IsHome fs c Free
+      free_home home = record {
+        below = late.below;
+        home = refl;
+        others = λ j other. sym (none-away-at hold.away home j) ∙ others_same j other;
+        more = let e = one_more in let all = count_home-all hold.away home in let n = wide_away in omega arith;
+        row = λ x there. absurd (cc);
+        ended = λ none. ap row_in was;
+        returning = λ x there. absurd (cc);
+      }
 
-          pub has_returned : HasReturned last_home c.frame
-          has_returned = (hold, last_there, ended, home)
+      abbrev mine : buffers.Shape
+      mine = record { count = length hold.planned.hold.cells; size = hold.planned.hold.size }
 
-          pub has_room : length fs.spare.items < vec_capacity fs.spare
-          has_room =
-              let one = free_set fs.held.items c.frame Free late.below in
-              let none = ap free_at was in
-              let few = count_free-le (set fs.held.items c.frame Free) in
-              omega (arith, one, none, few, length-set fs.held.items c.frame Free, sound.frames.spare, sound.frames.spare_room, sound.frames.count)
+      own : IsForRow fs.geometry mine
+      own i = record { count = wide i; size = size i }
 
-          pub freed_home : (new : Frames) → new.held.items ≡ set last_home.held.items c.frame Free
-              → ((x : StripeHold) → use_at last_home.held.items c.frame ≡ Returning x → new.spare.items ≡ fs.spare.items ++ (record { count = length x.planned.hold.cells; size = x.planned.hold.size }) ∷ [])
-              → vec_capacity new.spare ≡ vec_capacity fs.spare → new ≡ record last_home { held = new.held; spare = new.spare } → CameHome fs token new
-          freed_home new items more capacity same =
-              let is_home : IsHome fs c Free = record {
-                below = late.below;
-                home = refl;
-                others = λ j other. sym (none-away-at hold.away home j) ∙ others_same j other;
-                more = let e = one_more in let all = count_home-all hold.away home in let n = wide_away in omega arith;
-                row = λ x there. absurd (cc);
-                ended = λ none. ap row_in was;
-                returning = λ x there. absurd (cc);
-              } in
-              let spare_is = more hold last_there in
-              let mine : buffers.Shape = record { count = length hold.planned.hold.cells; size = hold.planned.hold.size } in
-              let own : mine ≡ record { count = fs.geometry.slots; size = fs.geometry.block } = λ i. record { count = wide i; size = size i } in
-              let Fits : buffers.Shape → Type 0 = λ f. f ≡ record { count = fs.geometry.slots; size = fs.geometry.block } in
-              let shapes = subst (All Fits) (sym spare_is) (All-append Fits fs.spare.items (mine ∷ []) sound.frames.spare_shape (All-cons Fits mine [] own (All-nil Fits))) in
-              subst (CameHome fs token) (sym (same ∙ (λ i. record last_home { held = new.held; spare = new.spare; commands = rest i })))
-              (came_home new.held new.spare (Returning r) Free was (items ∙ set-set fs.held.items c.frame (Returning hold) Free) is_home
+      pub returning_home : (held : Vec FrameUse) (spare : Vec buffers.Shape) → held.items ≡ set fs.held.items c.frame (use_home (Returning r) position block)
+          → spare.items ≡ fs.spare.items ++ spared_home (Returning r) position block → vec_capacity spare ≡ vec_capacity fs.spare
+          → CameHome fs token (left_of fs token held spare)
+      returning_home held spare items more room = by_away (has_away hold) refl items more
+        where
+          by_away : (away : Bool) → has_away hold ≡ away → held.items ≡ set fs.held.items c.frame (if away then Returning hold else Free)
+              → spare.items ≡ fs.spare.items ++ (if away then [] else mine ∷ []) → CameHome fs token (left_of fs token held spare)
+          by_away true away at spares =
+              let same = spares ∙ append-nil fs.spare.items in
+              came_home held spare (Returning r) (Returning hold) was at (away_home away)
+              (record { hold = refl; plan = refl; owed = refl; requests = λ frame. refl }) (ap (λ (xs : List buffers.Shape). length xs + 0) same) room
+              (subst (All (IsForRow fs.geometry)) (sym same) sound.frames.spare_shape)
+          by_away false home at spares =
+              came_home held spare (Returning r) Free was at (free_home home)
               (record { hold = refl; plan = refl; owed = refl; requests = λ frame. refl })
-              (omega (arith, ap length spare_is, length-append fs.spare.items (mine ∷ []))) capacity shapes)
+              (omega (arith, ap length spares, length-append fs.spare.items (mine ∷ []))) room
+              (subst (All (IsForRow fs.geometry)) (sym spares)
+              (All-append (IsForRow fs.geometry) fs.spare.items (mine ∷ []) sound.frames.spare_shape (All-cons (IsForRow fs.geometry) mine [] own (All-nil (IsForRow fs.geometry)))))
+
+  -- ---- whatever the frame is used for
+
+  pub brought_home : (u : FrameUse) (position : ℕ) (block : Block) (held : Vec FrameUse) (spare : Vec buffers.Shape) → use_at fs.held.items c.frame ≡ u → position ≡ place_of fs c
+      → held.items ≡ set fs.held.items c.frame (use_home u position block) → spare.items ≡ fs.spare.items ++ spared_home u position block
+      → vec_capacity spare ≡ vec_capacity fs.spare → CameHome fs token (left_of fs token held spare)
+  brought_home Free position block held spare was at items more room =
+      absurd (let home = ap (λ v. is_away_from v (place_of fs c)) was in let away = late.away in cc)
+  brought_home (HeldIn h) position block held spare was at items more room =
+      held_home h (ap row_in was) position block held spare at items (more ∙ append-nil fs.spare.items) room
+  brought_home (Returning r) position block held spare was at items more room = returning_home r was position block at held spare items more room
+
+  pub awaits_buffer : (u : FrameUse) (position : ℕ) (block : Block) → use_at fs.held.items c.frame ≡ u → position ≡ place_of fs c → length block ≡ fs.geometry.block
+      → AwaitsBuffer u position block
+  awaits_buffer Free position block was at sized = absurd (let home = ap (λ v. is_away_from v (place_of fs c)) was in let away = late.away in cc)
+  awaits_buffer (HeldIn h) position block was at sized = (row_away h (ap row_in was) position at, sized ∙ sym (row_size h (ap row_in was)))
+  awaits_buffer (Returning r) position block was at sized =
+      (returning_away r was position at, sized ∙ sym (returning_size r was), (returns r was).ended)
+
+  pub has_room : length fs.spare.items < vec_capacity fs.spare
+  has_room =
+      let one = free_set fs.held.items c.frame Free late.below in
+      let none = not_free (use_at fs.held.items c.frame) late.away in
+      let few = count_free-le (set fs.held.items c.frame Free) in
+      omega (arith, one, none, few, length-set fs.held.items c.frame Free, sound.frames.spare, sound.frames.spare_room, sound.frames.count)
+    where
+      not_free : (u : FrameUse) → is_away_from u (place_of fs c) ≡ true → free_at u ≡ 0
+      not_free Free away = absurd (cc)
+      not_free (HeldIn h) away = refl
+      not_free (Returning r) away = refl

@@ -1,11 +1,10 @@
 -- What each call of the frames does to the shard.
-use Rattle.std.specs.Prelude.{◌≡◌, ◌≢◌, ℕ, ◌+◌, ◌<◌, true, false, List, [], ◌∷◌, ◌++◌, length, Some, None, option_map}
-use Rattle.std.specs.List.{AllByRecursion, list_any}
+use Rattle.std.specs.Prelude.{◌≡◌, ◌≢◌, ℕ, ◌+◌, ◌<◌, ◌≤◌, Bool, true, List, [], ◌∷◌, ◌++◌, length, Option, MatchOption, Some, None, option_map}
+use Rattle.std.specs.List.{AllByRecursion}
 use Rattle.r6_kernels.specs.Blocks.{IsBlock}
 use Rattle.r6_layout.specs.Shape.{Shape, blocks}
 use Rattle.r6_layout.specs.Layout as layout
-use Rattle.r6_stripe.specs.Holds.Kind.{Idle}
-use Rattle.r6_stripe.specs.Steps.{Held as StripeHold, lost}
+use Rattle.r6_stripe.specs.Steps.{lost}
 use Rattle.r6_tables.specs.Table.{next_of}
 use Rattle.r6_world.specs.Tables.{put}
 use Rattle.r6_world.specs.PlainArray as world
@@ -16,7 +15,7 @@ use Rattle.r6_world.specs.Tasks.{Hold}
 use Rattle.r6_world.specs.ShardStates as shards
 use Rattle.r6_world.specs.ShardStates.{Shard, Held, LossOf, frames, begun}
 use Rattle.r6_world.specs.Changes.{Change, Ask, Prepare, Send, Come_home, Lose, Finish, abandoned_if, taken_out, after, Allowed}
-use Rattle.r6_world.specs.Steps.{Event, Step, Through, Takes, Good, Taken}
+use Rattle.r6_world.specs.Steps.{Event, No_command, Take_command, Step, Through, Takes, Good, Taken}
 use Rattle.r6_frames.specs.declared.op.Request.{Request}
 use Rattle.r6_frames.specs.declared.command.Command.{Command}
 use Rattle.r6_frames.specs.declared.command.Outstanding.{Outstanding}
@@ -26,7 +25,8 @@ use Rattle.r6_frames.specs.declared.frames.FrameUse.TheVariants as uses
 use Rattle.r6_frames.specs.declared.slots.Device.{Device}
 use Rattle.r6_frames.specs.Slots.{state_of, states_of, is_abandoned}
 use Rattle.r6_frames.specs.declared.frames.Frames.{Frames}
-use Rattle.r6_frames.specs.Views.{op_of, buffer_of, outcome_of, task_for, plan_in, use_at, hold_at, held_requests, outstanding, Rest, shard_with}
+use Rattle.r6_frames.specs.Views.{op_of, buffer_of, outcome_of, task_for, plan_in, use_at, hold_at, held_requests, outstanding, world_command, Rest, shard_with}
+use Rattle.r6_frames.specs.Owed.{owed}
 
 -- a relation of two shards, whatever they have beside their frames
 abbrev pub Between : (Layout → ℕ → Shard → Shard → Type 0) → Frames → Frames → Type 0
@@ -50,15 +50,23 @@ Drives old new = Between (λ l n. Through l n PutsOut) old new
 abbrev pub Steps : Frames → Event → Frames → Type 0
 Steps old event new = Between (λ l n s s'. Step l n s event s') old new
 
+-- the oldest command that wasn't taken is handed over, if there is one
+abbrev pub HandsOver : Frames → Option Command → Frames → Type 0
+HandsOver old result new =
+    MatchOption result (Steps old No_command new)
+    (λ c. (frame : ℕ) × (abandoned : Bool) × Steps old (Take_command c.token (world_command frame abandoned c)) new)
+
 -- the good completion of a command is taken
 abbrev pub Answers : Frames → (token : ℕ) → Block → Frames → Type 0
 Answers old token block new =
-    Between (λ l n s s'. (change : Change) × Takes token (Good block) Taken change × Allowed l n s change × (s' ≡ after l s change)) old new
+    Between (λ l n s s'. (change : Change) × Takes token (Good block) Taken change × Allowed l n s change
+    × (s' ≡ after l s change)) old new
 
 -- the buffer of an abandoned command comes home
 abbrev pub ComesHome : Frames → (token : ℕ) → Frames → Type 0
 ComesHome old token new =
-    Between (λ l n s s'. (c : shards.Command) × (c.taken ≡ true) × Allowed l n s (Come_home token c) × (s' ≡ after l s (Come_home token c))) old new
+    Between (λ l n s s'. (c : shards.Command) × (c.taken ≡ true) × Allowed l n s (Come_home token c)
+    × (s' ≡ after l s (Come_home token c))) old new
 
 -- a command that the array can perform: one block, for a slot, in a row of the shard
 pub record IsCommandOf (fs : Frames) (c : Command) : Type 0 where
@@ -83,7 +91,8 @@ Loses old token slot generation new =
     × ((rest : Rest) →
     let l = layout_of old.geometry in
     let s = shard_with rest old in
-    (c : shards.Command) × (c.slot ≡ slot) × (c.generation ≡ generation) × (c.taken ≡ true) × Allowed l old.shard s (Lose token c)
+    (c : shards.Command) × (c.slot ≡ slot) × (c.generation ≡ generation) × (c.taken ≡ true)
+    × Allowed l old.shard s (Lose token c)
     × (shard_with (record rest { calls = rest.calls ++ LossOf slot generation ∷ [] }) new ≡ after l s (Lose token c)))
 
 -- the slot has another device, and the one before is taken out
@@ -92,7 +101,9 @@ TakesOut old slot device new = Between (λ l n s s'. s' ≡ taken_out l s slot (
 
 -- a look has seen that the array failed: all commands are abandoned
 abbrev pub SeesFailure : Frames → Frames → Type 0
-SeesFailure old new = Between (λ l n s s'. s' ≡ record s { saw_failed = true; command = λ token. abandoned_if true (s.command token) }) old new
+SeesFailure old new =
+    Between (λ l n s s'. s' ≡ record s { saw_failed = true; command = λ token. abandoned_if true (s.command token) })
+    old new
 
 -- a held row is told of the loss of a slot
 abbrev pub told_use : Shape → (slot : ℕ) → FrameUse → FrameUse
@@ -103,13 +114,15 @@ told_use shape slot (uses.Returning r) = uses.Returning r
 -- each held row is one of the array, as wide as the array
 abbrev pub AreHeldRows : Shape → List FrameUse → Type 0
 AreHeldRows shape held =
-    (frame : ℕ) (h : HeldRow) → hold_at held frame ≡ Some h → (h.row < shape.rows) × (length h.hold.planned.hold.cells ≡ shape.slots)
+    (frame : ℕ) (h : HeldRow) → hold_at held frame ≡ Some h
+    → (h.row < shape.rows) × (length h.hold.planned.hold.cells ≡ shape.slots)
 
 -- ---- rows are held
 
 -- no row is held, and no command was put out
 abbrev pub IsAtStart : Frames → Type 0
-IsAtStart fs = ((frame : ℕ) → use_at fs.held.items frame ≡ uses.Free) × (next_of fs.commands ≡ 0) × ((token : ℕ) → outstanding fs token ≡ None) × (held_requests fs ≡ [])
+IsAtStart fs = ((frame : ℕ) → use_at fs.held.items frame ≡ uses.Free) × (next_of fs.commands ≡ 0)
+    × ((token : ℕ) → outstanding fs token ≡ None) × (held_requests fs ≡ [])
 
 abbrev pub IsFreeFrame : Frames → ℕ → Type 0
 IsFreeFrame fs frame = (frame < frames) × (use_at fs.held.items frame ≡ uses.Free)
@@ -130,7 +143,8 @@ pub record IsRequestOf (fs : Frames) (request : Request) : Type 0 where
 abbrev pub IsElsewhere : ℕ → ℕ × shards.Request → Type 0
 IsElsewhere frame entry = entry.1.stage ≢ Held frame
 
-pub record IsWith (few : List (ℕ × shards.Request)) (frame : ℕ) (entry : ℕ × shards.Request) (more : List (ℕ × shards.Request)) : Type 0 where
+pub record IsWith (few : List (ℕ × shards.Request)) (frame : ℕ) (entry : ℕ × shards.Request)
+    (more : List (ℕ × shards.Request)) : Type 0 where
   pub before : List (ℕ × shards.Request)
   pub behind : List (ℕ × shards.Request)
   pub without : few ≡ before ++ behind
@@ -142,7 +156,9 @@ entry_of frame request = (request.id, record { op = op_of request.op; stage = He
 
 -- the row of the request's block is held in the frame, and its hold begins
 abbrev pub begun_for : Frames → Request → Hold
-begun_for fs request = begun (layout_of fs.geometry) (states_of fs.slots) (layout.row_of fs.geometry (world.block_of (op_of request.op))) (task_for request.id request.op)
+begun_for fs request =
+    let row = layout.row_of fs.geometry (world.block_of (op_of request.op)) in
+    begun (layout_of fs.geometry) (states_of fs.slots) row (task_for request.id request.op)
 
 pub record Begins (old : Frames) (frame : ℕ) (request : Request) (new : Frames) : Type 0 where
   pub requests : IsWith (held_requests old) frame (entry_of frame request) (held_requests new)
@@ -161,11 +177,6 @@ pub record GivesUp (old : Frames) (frame : ℕ) (request : Request) (new : Frame
   pub requests : IsWith (held_requests new) frame (entry_of frame request) (held_requests old)
   pub shard : Between (λ l n s s'. s' ≡ record s { frame = put s.frame frame None }) old new
 
--- the frame's hold has ended, and all its buffers are home
-abbrev pub HasReturned : Frames → ℕ → Type 0
-HasReturned fs frame =
-    (r : StripeHold) × (use_at fs.held.items frame ≡ uses.Returning r) × (r.planned.hold.kind ≡ Idle) × (list_any (λ away. away) r.away ≡ false)
-
 -- ---- what a call leaves
 
 -- the other frames have what they had
@@ -178,4 +189,17 @@ KeepsHolds old new = new.held ≡ old.held
 
 -- a frame in which no row is held has none still, and each hold is as it was, its buffers aside
 abbrev pub KeepsHeld : Frames → Frames → Type 0
-KeepsHeld old new = (frame : ℕ) → option_map plan_in (hold_at new.held.items frame) ≡ option_map plan_in (hold_at old.held.items frame)
+KeepsHeld old new = (frame : ℕ)
+    → option_map plan_in (hold_at new.held.items frame) ≡ option_map plan_in (hold_at old.held.items frame)
+
+-- the slots are as they were, and no look has seen more
+abbrev pub KeepsSlots : Frames → Frames → Type 0
+KeepsSlots old new = (new.slots ≡ old.slots) × (new.saw_failed ≡ old.saw_failed)
+
+-- as much is owed, and no command was put out
+abbrev pub KeepsOwed : Frames → Frames → Type 0
+KeepsOwed old new = (owed new ≡ owed old) × (next_of new.commands ≡ next_of old.commands)
+
+-- no more is owed, and no command was put out
+abbrev pub OwesNoMore : Frames → Frames → Type 0
+OwesNoMore old new = (owed new ≤ owed old) × (next_of new.commands ≡ next_of old.commands)

@@ -4,6 +4,7 @@ use Rattle.r6_stripe.specs.Holds.{Cell, Event as RowEvent}
 use Rattle.r6_stripe.specs.Plans as plans
 use Rattle.r6_stripe.specs.Plans.{IsPlanned, AreSilent, planned_at, is_over, has_read_out, has_write_out}
 use Rattle.r6_stripe.specs.Steps.{has_outcome}
+use Rattle.r6_tables.specs.Table.{next_of}
 use Rattle.r6_frames.specs.declared.frames.HeldRow.{HeldRow}
 use Rattle.r6_frames.specs.declared.frames.FrameUse.{FrameUse}
 use Rattle.r6_frames.specs.declared.frames.FrameUse.TheVariants as uses
@@ -20,22 +21,29 @@ IsDriven fs frame = (h : HeldRow) → hold_at fs.held.items frame ≡ Some h →
 abbrev pub IsOver : Frames → ℕ → Type 0
 IsOver fs frame = (h : HeldRow) × (hold_at fs.held.items frame ≡ Some h) × (has_outcome h.hold.planned ≡ true)
 
+-- it may, and its request has this number
+abbrev pub IsOverWith : Frames → ℕ → (id : ℕ) → Type 0
+IsOverWith fs frame id = IsOver fs frame × ((h : HeldRow) → hold_at fs.held.items frame ≡ Some h → h.id ≡ id)
+
 -- of the frames that may end, this one has the request with the lowest number
 abbrev pub IsLowestOver : Frames → ℕ → Type 0
 IsLowestOver fs frame =
     IsOver fs frame
-    × ((other : ℕ) (h i : HeldRow) → IsOver fs other → hold_at fs.held.items frame ≡ Some h → hold_at fs.held.items other ≡ Some i → h.id ≤ i.id)
+    × ((other : ℕ) (h i : HeldRow) → IsOver fs other → hold_at fs.held.items frame ≡ Some h
+    → hold_at fs.held.items other ≡ Some i → h.id ≤ i.id)
 
 -- a command of the frame's hold is put out that is neither answered nor abandoned
 abbrev pub HasOut : Frames → ℕ → Type 0
 HasOut fs frame =
-    (h : HeldRow) × (hold_at fs.held.items frame ≡ Some h) × ((has_read_out h.hold.planned.hold || has_write_out h.hold.planned.hold) ≡ true)
+    (h : HeldRow) × (hold_at fs.held.items frame ≡ Some h)
+    × ((has_read_out h.hold.planned.hold || has_write_out h.hold.planned.hold) ≡ true)
 
 -- the frame's hold isn't over, whatever it restores or computes first
 abbrev pub OwesCommands : Frames → ℕ → Type 0
 OwesCommands fs frame =
     (h : HeldRow) → hold_at fs.held.items frame ≡ Some h
-    → (events : List RowEvent) → AreSilent events → IsPlanned h.hold.planned events → is_over (planned_at h.hold.planned events) ≡ false
+    → (events : List RowEvent) → AreSilent events → IsPlanned h.hold.planned events
+    → is_over (planned_at h.hold.planned events) ≡ false
 
 -- ---- how many commands the holds may still put out: at most one read and one write a position
 
@@ -43,7 +51,9 @@ abbrev pub is_unsent : Cell → Bool
 is_unsent cell = plans.is_unwritten cell.writing || plans.is_ready cell.writing
 
 abbrev pub owed_by : HeldRow → ℕ
-owed_by h = plans.count_where (λ cell. plans.is_unread cell.reading) h.hold.planned.hold.cells + plans.count_where is_unsent h.hold.planned.hold.cells
+owed_by h =
+    plans.count_where (λ cell. plans.is_unread cell.reading) h.hold.planned.hold.cells
+    + plans.count_where is_unsent h.hold.planned.hold.cells
 
 abbrev pub owed_in : List FrameUse → ℕ
 owed_in [] = 0
@@ -53,3 +63,7 @@ owed_in (uses.Returning r ∷ held) = owed_in held
 
 abbrev pub owed : Frames → ℕ
 owed fs = owed_in fs.held.items
+
+-- the token that comes next once all that is owed was put out
+abbrev pub last_token : Frames → ℕ
+last_token fs = next_of fs.commands + owed fs
