@@ -1,5 +1,5 @@
 -- Each step of the register's cell keeps its rule.
-use Rattle.std.proofs.Common.{◌≡◌, ◌≢◌, ◌⊎◌, ◌-◌, ◌≤◌, ◌<◌, ℕ, zero, suc, nat_eq, List, [], ◌∷◌, ◌++◌, length, set, Ok, Bool, true, false, refl, sym, ap, ◌∙◌, subst, inl, inr, ⊎_elim, arith, length-append, length-set, if◌then◌else◌, Contains}
+use Rattle.std.proofs.Common.{◌≡◌, ◌≢◌, ◌⊎◌, ◌≤◌, ◌<◌, ℕ, zero, suc, nat_eq, List, [], ◌∷◌, ◌++◌, length, set, Ok, Bool, true, false, refl, sym, ap, ◌∙◌, subst, inl, inr, ⊎_elim, arith, length-append, length-set, if◌then◌else◌, Contains}
 use mathlib.Core.Option.{some, some-ne-none, some-injective}
 use lib.ListN.{get_elem?}
 use Rattle.std.proofs.lemmas.List.Elements.{Contains-append_cases, Contains-push_cases}
@@ -15,10 +15,10 @@ use Rattle.r6_health.specs.declared.history.Stage.{Stage}
 use Rattle.r6_health.specs.declared.history.Stage.TheVariants.{New, Begun, Spent}
 use Rattle.r6_health.specs.declared.history.View.{View}
 use Rattle.r6_health.specs.Registers.{after}
-use Rattle.r6_health.specs.Words.{snapshot_of, turn_of, last_call, slots_of, shards_of}
+use Rattle.r6_health.specs.Words.{snapshot_of, slots_of, shards_of}
 use Rattle.r6_health.specs.Histories.{made, entry, start, answer_in, held, IsLegal, calls_by, StartsWith}
 use Rattle.r6_health.specs.Views.{newcomer, unbegun, spent, first_of, joined, Looks, Extends}
-use Rattle.r6_health.specs.Rule.{Fits, FitsAt, HasHistory, Kept, Calls, Begins}
+use Rattle.r6_health.specs.Rule.{Fits, FitsAt, HasHistory, Kept, Calls, Begins, Follows}
 use Rattle.r6_health.proofs.Histories.{held_after-push, legal-push, calls_by-push_own, calls_by-push_other, starts_with_itself, starts_with-more}
 
 -- where a list has an element, and where a longer list has one
@@ -175,21 +175,17 @@ call_made words new views by v call reply begun answers leaves at kept =
     }
 
 -- the exchange that makes a call, or finds other words and looks at them
-pub calling : (by : ℕ) (v : View) (current new : List ℕ) (call : Call) (reply : Answer) → v.stage ≡ Begun
-    → answer_in v.start (snapshot_of current) call ≡ Ok reply → snapshot_of new ≡ after v.start.shards (snapshot_of current) call
-    → last_call new ≡ call → turn_of new ≡ 1 - turn_of current
+pub calling : (by : ℕ) (v : View) (current new : List ℕ) (call : Call) (reply : Answer) → v.stage ≡ Begun → Follows v.start current call reply new
     → Turns Kept by v (λ x. if pointwise nat_eq x current then new else x) Calls
-calling by v current new call reply begun answers leaves is_call turn words views kept at = go (pointwise nat_eq words current) refl
+calling by v current new call reply begun step words views kept at = go (pointwise nat_eq words current) refl
   where
     go : (b : Bool) → pointwise nat_eq words current ≡ b → (w : View) × Kept (if b then new else words) (set views by w) × Calls v words (if b then new else words) w
     go true e =
         let same : words ≡ current = (bytes_decides words current).0 e in
-        let answers' = subst (λ (x : List ℕ). answer_in v.start (snapshot_of x) call ≡ Ok reply) (sym same) answers in
-        let leaves' = subst (λ (x : List ℕ). snapshot_of new ≡ after v.start.shards (snapshot_of x) call) (sym same) leaves in
-        let turn' = subst (λ (x : List ℕ). turn_of new ≡ 1 - turn_of x) (sym same) turn in
-        let t = call_made words new views by v call reply begun answers' leaves' at kept in
-        let made' = subst (λ (c : Call). (answer_in v.start (snapshot_of words) c ≡ Ok reply) × Extends v c reply t.0) (sym is_call) (answers', t.2) in
-        (t.0, t.1, inr (turn', reply, made'.0, made'.1))
+        let step' = subst (λ (x : List ℕ). Follows v.start x call reply new) (sym same) step in
+        let t = call_made words new views by v call reply begun step'.answers step'.leaves at kept in
+        let made' = subst (λ (c : Call). (answer_in v.start (snapshot_of words) c ≡ Ok reply) × Extends v c reply t.0) (sym step'.names) (step'.answers, t.2) in
+        (t.0, t.1, inr (step'.turn, reply, made'.0, made'.1))
     go false e = let t = look words views by v begun at kept in (t.0, t.1, inl (refl, t.2, t.3))
 
 -- a pass is split: the new one has made no call

@@ -23,7 +23,7 @@ use Rattle.r6_health.specs.Slots.{no_shards, has_shard, with_shard, has_all}
 use Rattle.r6_health.specs.Registers.{state_at, starting, lost_if}
 use Rattle.r6_health.specs.Registers.{report_answer, reported_state, answer, after}
 use Rattle.r6_health.specs.Histories.{entry, held_after, IsLegalAfter}
-use Rattle.r6_health.proofs.Sets.{has_all-missing}
+use Rattle.r6_health.proofs.Sets.{and_false, has_all-missing}
 use Rattle.r6_health.proofs.Tells.{legal-last}
 use Rattle.r6_health.specs.Laws.{is_report_of, reports, CompleteAfterAll}
 
@@ -100,10 +100,6 @@ counted log by shard at g r reply fresh before k =
     let is : is_report_of k at g e.call ≡ false = (λ i. ne_eqb shard k (λ h. other (sym h)) i && ((at == at) && (g == g))) in
     let none : reports k at g log + 0 ≡ reports k at g log = omega arith in
     (λ i. reports k at g log + worth (is i)) ∙ (none ∙ (before k ∙ ap worth (sym (has-with_other r shard k other)))))
-
-and_false : (b c : Bool) → c ≡ false → (b && c) ≡ false
-and_false true c e = e
-and_false false c e = refl
 
 set_before : (z : Bool) (g g' : ℕ) (r r' : ShardSet) → (if z then InSync else Rebuilding g r) ≡ Rebuilding g' r' → (g ≡ g') × (r ≡ r')
 set_before true g g' r r' e = absurd (cc)

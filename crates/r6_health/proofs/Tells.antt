@@ -1,5 +1,5 @@
 -- What a pass learns from steps in a row.
-use Rattle.std.proofs.Common.{◌≡◌, ◌==◌, ◌-◌, ℕ, List, [], ◌∷◌, ◌++◌, append_assoc, append-nil, ◌+◌, nat_le, not, Bool, true, false, if◌then◌else◌, Result, Ok, Err, refl, sym, ap, ◌∙◌, subst, ⊎_elim, arith}
+use Rattle.std.proofs.Common.{◌≡◌, ◌==◌, ◌-◌, ℕ, List, [], ◌∷◌, ◌++◌, append_assoc, append-nil, ◌+◌, nat_le, not, Bool, true, false, if◌then◌else◌, Option, Some, None, Result, Ok, Err, refl, sym, ap, ◌∙◌, subst, ⊎_elim, arith}
 use Rattle.r6_health.specs.declared.call.Call.{Call}
 use Rattle.r6_health.specs.declared.call.Answer.{Answer}
 use Rattle.r6_health.specs.declared.call.Call.TheVariants.{Fail, DeclareLost, Attach, ReportRebuilt}
@@ -21,7 +21,7 @@ use Rattle.r6_health.specs.Passes.{IsPassOf, view_of}
 use Rattle.r6_health.specs.Words.{snapshot_of, turn_of, last_call}
 use Rattle.r6_health.specs.Histories.{made, entry, answer_in, held, held_after, IsLegal, IsLegalAfter, StartsWith}
 use Rattle.r6_health.specs.Views.{IsGeneration, Grows, Looks, Extends, Misses, Refused, Answered, Attached, made_by, attached_by}
-use Rattle.r6_health.specs.Rule.{Calls}
+use Rattle.r6_health.specs.Rule.{Calls, Follows, Exchanged, Tried}
 use Rattle.r6_health.proofs.Histories.{starts_with_itself, starts_with-trans}
 
 no_turn : (n : ℕ) → n ≡ 1 - n → ⊥
@@ -39,15 +39,15 @@ ok_same : (result : Result Answer Refusal) (reply reply' : Answer) → result �
 ok_same result reply reply' e f = cc
 
 -- a step that writes a new turn is the call that the words name
-pub called : (v w : View) (before current new : List ℕ) (call : Call) (reply : Answer) → before ≡ current → turn_of new ≡ 1 - turn_of current → last_call new ≡ call
-    → answer_in v.start (snapshot_of current) call ≡ Ok reply → Calls v before new w → Extends v call reply w
-called v w before current new call reply same turn is_call answers told = ⊎_elim
+pub called : (v w : View) (before current new : List ℕ) (call : Call) (reply : Answer) → before ≡ current → Follows v.start current call reply new
+    → Calls v before new w → Extends v call reply w
+called v w before current new call reply same step told = ⊎_elim
     (λ (t : (new ≡ before) × Looks v w × (held w.start w.seen ≡ snapshot_of new)).
-    absurd (no_turn (turn_of current) (sym (ap turn_of (t.0 ∙ same)) ∙ turn)))
+    absurd (no_turn (turn_of current) (sym (ap turn_of (t.0 ∙ same)) ∙ step.turn)))
     (λ (t : (turn_of new ≡ 1 - turn_of before) × (r : Answer) × (answer_in v.start (snapshot_of before) (last_call new) ≡ Ok r) × Extends v (last_call new) r w).
-    let answers' : answer_in v.start (snapshot_of before) (last_call new) ≡ Ok reply = (λ i. answer_in v.start (snapshot_of (same i)) (is_call i)) ∙ answers in
+    let answers' : answer_in v.start (snapshot_of before) (last_call new) ≡ Ok reply = (λ i. answer_in v.start (snapshot_of (same i)) (step.names i)) ∙ step.answers in
     let one : t.1 ≡ reply = ok_same (answer_in v.start (snapshot_of before) (last_call new)) t.1 reply t.2 answers' in
-    subst (λ (x : Call × Answer). Extends v x.0 x.1 w) (λ i. (is_call i, one i)) t.3)
+    subst (λ (x : Call × Answer). Extends v x.0 x.1 w) (λ i. (step.names i, one i)) t.3)
     told
 
 pub grows_none : (v : View) → v.stage ≡ Begun → Grows v v
@@ -107,6 +107,19 @@ missed v u w call reply a b taken = record {
   reply = reply;
   taken = (λ i. answer_in (b.grows.same_start i) (held (b.grows.same_start i) u.seen) call) ∙ taken;
 }
+
+-- what a try tells whose call was taken at its load
+pub tried : (v u w : View) (words next : List ℕ) (call : Call) (reply : Answer) (told : Option Answer) → Looks v u → held u.start u.seen ≡ snapshot_of words
+    → Follows u.start words call reply next → Exchanged u (last_call next) told w → Tried v call (Ok told) w
+tried v u w words next call reply (Some reply') looks now step told =
+    extends-after v u w call reply' looks.grows (subst (λ (c : Call). Extends u c reply' w) step.names told)
+tried v u w words next call reply None looks now step told =
+    missed v u w call reply looks.grows told (ap (λ (held : Snapshot). answer_in u.start held call) now ∙ step.answers)
+
+-- what a try tells whose call was refused at its load
+pub tried_in_vain : (v u : View) (words : List ℕ) (call : Call) (refusal : Refusal) → Looks v u → held u.start u.seen ≡ snapshot_of words
+    → answer_in u.start (snapshot_of words) call ≡ Err refusal → Tried v call (Err refusal) u
+tried_in_vain v u words call refusal looks now refused = (looks, ap (λ (held : Snapshot). answer_in u.start held call) now ∙ refused)
 
 no_contention : {rest : Result Answer Refusal} (a : Bool) (p : Refusal) → (p ≡ Contended → ⊥) → (rest ≡ Err Contended → ⊥) → (if a then Err p else rest) ≡ Err Contended → ⊥
 no_contention true p other no_more e = other cc
@@ -209,3 +222,5 @@ seen_after v w call (Err refusal) told = (refused-grows v w call refusal told).s
 pub seen_after_attach : (v w : View) (slot : ℕ) (result : Result ℕ Refusal) → Attached v slot result w → StartsWith w.seen v.seen
 seen_after_attach v w slot (Ok generation) told = longer v w (Attach slot) (Generation generation) told
 seen_after_attach v w slot (Err refusal) told = (refused-grows v w (Attach slot) refusal told).seen
+
+pub ruleset attach_steps = (own_after_attach, seen_after_attach, seen_after_refusal, attach_gives)

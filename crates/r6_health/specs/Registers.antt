@@ -75,7 +75,8 @@ reported_state (Rebuilding current reported) shards shard =
     else Rebuilding current (with_shard reported shard)
 reported_state state shards shard = state
 
--- what a call answers in a register of so many slots and shards: the first refusal whose condition holds, or else the answer
+-- what a call answers in a register of so many slots and shards: the first refusal whose condition holds, or else
+-- the answer
 abbrev pub answer : ℕ → ℕ → Snapshot → Call → Result Answer Refusal
 answer slots shards s (Fail slot) =
     if is_beyond slots slot then Err NoSuchSlot
@@ -105,9 +106,17 @@ abbrev pub after : ℕ → Snapshot → Call → Snapshot
 after shards s (Fail slot) = without s slot
 after shards s (DeclareLost slot generation) = without s slot
 after shards s (Attach slot) =
-    record { slots = slice_set s.slots slot (Rebuilding (s.attaches + 1) no_shards); attaches = s.attaches + 1; failed = s.failed }
+    record {
+      slots = slice_set s.slots slot (Rebuilding (s.attaches + 1) no_shards);
+      attaches = s.attaches + 1;
+      failed = s.failed;
+    }
 after shards s (ReportRebuilt shard slot generation) =
-    record { slots = slice_set s.slots slot (reported_state (state_at s slot) shards shard); attaches = s.attaches; failed = s.failed }
+    record {
+      slots = slice_set s.slots slot (reported_state (state_at s slot) shards shard);
+      attaches = s.attaches;
+      failed = s.failed;
+    }
 
 -- a call on this snapshot has this result
 abbrev pub Applies : ℕ → ℕ → Snapshot → Call → Result (Answer × Snapshot) Refusal → Type 0

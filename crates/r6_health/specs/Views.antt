@@ -32,9 +32,16 @@ first_of s = record { stage = Begun; start = s; seen = []; mine = []; heard = []
 
 -- the pass that has taken another back: it has heard what that one had seen
 abbrev pub joined : View → View → View
-joined v w = record { stage = v.stage; start = v.start; seen = v.seen; mine = v.mine; heard = (v.heard ++ w.heard) ++ w.seen ∷ [] }
+joined v w = record {
+  stage = v.stage;
+  start = v.start;
+  seen = v.seen;
+  mine = v.mine;
+  heard = (v.heard ++ w.heard) ++ w.seen ∷ [];
+}
 
--- one register's history before and after: the later view begins with the earlier one, and no call of one's own was added
+-- one register's history before and after: the later view begins with the earlier one,
+-- and no call of one's own was added
 pub record Grows (v w : View) : Type 0 where
   pub begun : w.stage ≡ Begun
   pub same_start : w.start ≡ v.start

@@ -14,7 +14,7 @@ use crate::snapshot::Snapshot;
 use crate::words::{WORDS, next_turn, pack, unpack};
 use crossbeam_utils::atomic::seq_cell::RuledSeqCell;
 use r6_layout::Geometry;
-use std::alloc::Global;
+use std::alloc::{AllocError, Global};
 use std::sync::Wait;
 
 /// How often a call is tried.
@@ -34,11 +34,11 @@ pub struct Register {
 }
 
 impl Register {
-    ghost use Rattle.r6_health.specs.Registers.{starting};
-    ghost use Rattle.r6_health.specs.Histories.{start, held, StartsWith};
-    ghost use Rattle.r6_health.specs.Views.{newcomer, first_of, joined, Looks, Answered, Attached, made_by, attached_by};
-    ghost use Rattle.r6_health.specs.Rule.{Tried};
-    ghost use Rattle.r6_health.specs.Passes.{IsPassOf, view_of};
+    ghost use Rattle.r6_health.specs.Histories.{start_losing, held, StartsWith};
+    ghost use Rattle.r6_health.specs.Views.{newcomer, first_of, joined, Looks, Attached, attached_by};
+    ghost use Rattle.r6_health.specs.Rule.{Tried, Follows, Steps, Exchanged, start_in};
+    ghost use Rattle.r6_health.specs.Words.{snapshot_of, last_call};
+    ghost use Rattle.r6_health.specs.Passes.{IsPassOf, Tells, Adds, view_of, start_of};
 
     /// Makes a register at whose start the slots are lost whose bits are set, and its first pass.
     pub fn new<R: Wait>(
@@ -50,21 +50,34 @@ impl Register {
         requires slots { lost < 2 ^ geometry.now.slots }
         requires few { count_ones lost ≤ 2 }
         ensures pass { IfOk result (λ r. IsPassOf r.0 r.1) }
-        ensures first { IfOk result (λ r. view_of r.1 ≡ first_of (start geometry.now.slots geometry.now.shards (starting lost))) }
+        ensures first { IfOk result (λ r. view_of r.1 ≡ first_of (start_losing geometry.now.slots geometry.now.shards lost)) }
     {
-        let (cell, mut seat) = Cell::ruled(alloc, [0; WORDS])?;
         let slots = geometry.slots();
         let shards = geometry.shards();
         let snapshot = Snapshot::start(geometry, lost);
         let words = pack(slots, shards, &snapshot, Call::Fail(0), 0);
-        cell.swap_as::<Beginning, R>(rt, &mut seat, words);
+        let (cell, pass) = Register::begin(rt, alloc, words)?;
         let register = Register {
             cell,
             slots,
             shards,
             lost,
         };
-        Ok((register, Pass { seat }))
+        Ok((register, pass))
+    }
+
+    // A cell that begins with these words, and its first pass.
+    fn begin<R: Wait>(
+        rt: &R,
+        alloc: Global,
+        words: [u64; WORDS],
+    ) -> Result<(Cell, Pass), AllocError>
+        ensures cell { IfOk result (λ r. r.1.seat.table_id ≡ r.0.table.shared.table_id) }
+        ensures first { IfOk result (λ r. view_of r.1 ≡ first_of (start_in words)) }
+    {
+        let (cell, mut seat) = Cell::ruled(alloc, [0; WORDS])?;
+        cell.swap_as::<Beginning, R>(rt, &mut seat, words);
+        Ok((cell, Pass { seat }))
     }
 
     /// A pass for another thread. It has seen as much, and has made no call.
@@ -97,17 +110,48 @@ impl Register {
         ensures looks { Looks (view_of pass.old) (view_of pass.new) }
         ensures snapshot { result ≡ held (view_of pass.new).start (view_of pass.new).seen }
     {
-        self.look(rt, pass)
+        unpack(&self.load(rt, pass))
     }
 
-    fn look<R: Wait>(&self, rt: &R, pass: &mut Pass) -> Snapshot
+    fn load<R: Wait>(&self, rt: &R, pass: &mut Pass) -> [u64; WORDS]
         requires { IsPassOf self.now pass.old }
         ensures pass { IsPassOf self.now pass.new }
         ensures looks { Looks (view_of pass.old) (view_of pass.new) }
-        ensures snapshot { result ≡ held (view_of pass.new).start (view_of pass.new).seen }
+        ensures words { held (view_of pass.new).start (view_of pass.new).seen ≡ snapshot_of result }
     {
-        let current = self.cell.load_as::<Called, R>(rt, &mut pass.seat);
-        unpack(&current)
+        self.cell.load_as::<Called, R>(rt, &mut pass.seat)
+    }
+
+    // The words that a call makes of these, and its answer.
+    fn next(&self, words: &[u64; WORDS], call: Call) -> Result<(Answer, [u64; WORDS]), Refusal>
+        ensures { Steps (start_of self.now) words.now call result }
+    {
+        let (answer, next) = unpack(words).apply(self.slots, self.shards, call)?;
+        let turn = next_turn(words);
+        Ok((answer, pack(self.slots, self.shards, &next, call, turn)))
+    }
+
+    // Exchanges the words that were loaded for the next ones. `None`: another thread's call came between.
+    fn exchange<R: Wait>(
+        &self,
+        rt: &R,
+        pass: &mut Pass,
+        loaded: [u64; WORDS],
+        next: (Answer, [u64; WORDS]),
+    ) -> Option<Answer>
+        requires pass { IsPassOf self.now pass.old }
+        requires step { Follows (start_of self.now) loaded (last_call next.1) next.0 next.1 }
+        ensures pass { IsPassOf self.now pass.new }
+        ensures exchanged { Exchanged (view_of pass.old) (last_call next.1) result (view_of pass.new) }
+    {
+        let (answer, words) = next;
+        match self
+            .cell
+            .compare_exchange_as::<Called, R>(rt, &mut pass.seat, loaded, words)
+        {
+            Ok(_) => Some(answer),
+            Err(_) => None,
+        }
     }
 
     // Loads, computes and exchanges once. `None`: another thread's call came between.
@@ -121,24 +165,16 @@ impl Register {
         ensures pass { IsPassOf self.now pass.new }
         ensures tried { Tried (view_of pass.old) call result (view_of pass.new) }
     {
-        let words = self.cell.load_as::<Called, R>(rt, &mut pass.seat);
-        let (answer, next) = unpack(&words).apply(self.slots, self.shards, call)?;
-        let turn = next_turn(&words);
-        let new = pack(self.slots, self.shards, &next, call, turn);
-        match self
-            .cell
-            .compare_exchange_as::<Called, R>(rt, &mut pass.seat, words, new)
-        {
-            Ok(_) => Ok(Some(answer)),
-            Err(_) => Ok(None),
-        }
+        let words = self.load(rt, pass);
+        let next = self.next(&words, call)?;
+        Ok(self.exchange(rt, pass, words, next))
     }
 
     #[tactic(auto, using(crate::proofs::Tells::misses_after))]
     fn make<R: Wait>(&self, rt: &R, pass: &mut Pass, call: Call) -> Result<Answer, Refusal>
         requires { IsPassOf self.now pass.old }
         ensures pass { IsPassOf self.now pass.new }
-        ensures answered { Answered (view_of pass.old) call result (view_of pass.new) }
+        ensures answered { Tells pass.old call result pass.new }
     {
         'tries: for _ in 0..MOST_TRIES {
             if let Some(answer) = self.attempt(rt, pass, call)? {
@@ -155,8 +191,8 @@ impl Register {
     pub fn fail<R: Wait>(&self, rt: &R, pass: &mut Pass, slot: usize) -> Result<Answer, Refusal>
         requires { IsPassOf self.now pass.old }
         ensures pass { IsPassOf self.now pass.new }
-        ensures answered { Answered (view_of pass.old) (Call.Fail slot) result (view_of pass.new) }
-        ensures own { (view_of pass.new).mine ≡ (view_of pass.old).mine ++ made_by (Call.Fail slot) result }
+        ensures answered { Tells pass.old (Call.Fail slot) result pass.new }
+        ensures own { Adds pass.old (Call.Fail slot) result pass.new }
         ensures seen { StartsWith (view_of pass.new).seen (view_of pass.old).seen }
     {
         self.make(rt, pass, Call::Fail(slot))
@@ -176,8 +212,8 @@ impl Register {
     ) -> Result<Answer, Refusal>
         requires { IsPassOf self.now pass.old }
         ensures pass { IsPassOf self.now pass.new }
-        ensures answered { Answered (view_of pass.old) (Call.DeclareLost slot generation) result (view_of pass.new) }
-        ensures own { (view_of pass.new).mine ≡ (view_of pass.old).mine ++ made_by (Call.DeclareLost slot generation) result }
+        ensures answered { Tells pass.old (Call.DeclareLost slot generation) result pass.new }
+        ensures own { Adds pass.old (Call.DeclareLost slot generation) result pass.new }
         ensures seen { StartsWith (view_of pass.new).seen (view_of pass.old).seen }
     {
         self.make(rt, pass, Call::DeclareLost(slot, generation))
@@ -188,7 +224,7 @@ impl Register {
     ///
     /// Refused, in this order: no such slot, the array has failed, the slot isn't lost, the generations are spent,
     /// contended.
-    #[tactic(auto, using(crate::proofs::Tells::own_after_attach, crate::proofs::Tells::seen_after_attach, crate::proofs::Tells::seen_after_refusal, crate::proofs::Tells::attach_gives))]
+    #[tactic(auto, using(crate::proofs::Tells::attach_steps))]
     pub fn attach<R: Wait>(&self, rt: &R, pass: &mut Pass, slot: usize) -> Result<u32, Refusal>
         requires { IsPassOf self.now pass.old }
         ensures pass { IsPassOf self.now pass.new }
@@ -216,8 +252,8 @@ impl Register {
     ) -> Result<Answer, Refusal>
         requires { IsPassOf self.now pass.old }
         ensures pass { IsPassOf self.now pass.new }
-        ensures answered { Answered (view_of pass.old) (Call.ReportRebuilt shard slot generation) result (view_of pass.new) }
-        ensures own { (view_of pass.new).mine ≡ (view_of pass.old).mine ++ made_by (Call.ReportRebuilt shard slot generation) result }
+        ensures answered { Tells pass.old (Call.ReportRebuilt shard slot generation) result pass.new }
+        ensures own { Adds pass.old (Call.ReportRebuilt shard slot generation) result pass.new }
         ensures seen { StartsWith (view_of pass.new).seen (view_of pass.old).seen }
     {
         self.make(rt, pass, Call::ReportRebuilt(shard, slot, generation))
