@@ -127,8 +127,10 @@ CannotAdd before line = (said : Said) → ¬ Adds before line said
 
 -- the answer of a reader of one hexadecimal digit
 abbrev pub ReadsDigit : ℕ → Option ℕ → Type 0
-ReadsDigit byte answer = MatchOption answer ((d : ℕ) → d < 16 → byte ≢ digit_char d) (λ d. (d < 16) × (byte ≡ digit_char d))
+ReadsDigit byte answer =
+    MatchOption answer ((d : ℕ) → d < 16 → byte ≢ digit_char d) (λ d. (d < 16) × (byte ≡ digit_char d))
 
 -- the answer of a reader of one thing: the value whose text it is, if there is one
 abbrev pub Reads : {A : Type 0} → (text_of : A → Text) → (Is : A → Type 0) → Text → Option A → Type 0
-Reads text_of Is text answer = MatchOption answer ((value : _) → Is value → text ≢ text_of value) (λ value. Is value × (text ≡ text_of value))
+Reads text_of Is text answer =
+    MatchOption answer ((value : _) → Is value → text ≢ text_of value) (λ value. Is value × (text ≡ text_of value))

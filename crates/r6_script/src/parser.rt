@@ -27,7 +27,9 @@ fn parse_number(word: &str) -> Option<u64>
 fn parse_number_before(text: &str, end: char) -> Option<(u64, &str)>
     requires ascii { end < 128 }
     requires no_digit { 10 ≤ digit_value end }
-    ensures { MatchOption result ((n : ℕ) (rest : List ℕ) → IsNumber n → text.now ≢ decimal n ++ end ∷ rest) (λ found. IsNumber found.0 × (text.now ≡ decimal found.0 ++ end ∷ found.1.now)) }
+    ensures { MatchOption result
+        ((n : ℕ) (rest : List ℕ) → IsNumber n → text.now ≢ decimal n ++ end ∷ rest)
+        (λ found. IsNumber found.0 × (text.now ≡ decimal found.0 ++ end ∷ found.1.now)) }
 {
     let (word, rest) = text.split_once(end)?;
     Some((parse_number(word)?, rest))
@@ -56,7 +58,9 @@ fn parse_byte(word: &str) -> Option<u8>
 
 // A shard and a token of it.
 fn parse_command(text: &str) -> Option<(u64, u64)>
-    ensures { MatchOption result ((shard token : ℕ) → IsNumber shard → IsNumber token → text.now ≢ command_word shard token) (λ found. IsNumber found.0 × IsNumber found.1 × (text.now ≡ command_word found.0 found.1)) }
+    ensures { MatchOption result
+        ((shard token : ℕ) → IsNumber shard → IsNumber token → text.now ≢ command_word shard token)
+        (λ found. IsNumber found.0 × IsNumber found.1 × (text.now ≡ command_word found.0 found.1)) }
 {
     let (shard, token) = parse_number_before(text, ':')?;
     Some((shard, parse_number(token)?))
@@ -157,8 +161,10 @@ fn followed(
 ) -> Result<Script, ScriptFault>
     requires { IsSaid (said_of before) }
     ensures ok { IfOk result (λ script. Adds (said_of before) line.now (said_of (Some script))) }
-    ensures err { IfErr result (λ fault. fault ≢ ScriptFault.Memory → (fault ≡ ScriptFault.Line number) × CannotAdd (said_of before) line.now) }
-    ensures memory { IfErr result (λ fault. fault ≡ ScriptFault.Memory → (event : Entered) × (line.now ≡ line_of event)) }
+    ensures err { IfErr result (λ fault. fault ≢ ScriptFault.Memory
+        → (fault ≡ ScriptFault.Line number) × CannotAdd (said_of before) line.now) }
+    ensures memory { IfErr result (λ fault. fault ≡ ScriptFault.Memory
+        → (event : Entered) × (line.now ≡ line_of event)) }
 {
     match before {
         None => match parse_array(line) {

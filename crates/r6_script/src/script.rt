@@ -7,7 +7,7 @@ use std::alloc::{AllocError, AllocFailed};
 use std::fmt;
 
 /// What is done at a shard.
-#[derive(Clone, Copy, PartialEq, Eq, Debug)]
+#[derive(Clone, Copy)]
 pub enum Call {
     /// The device of the command with this token performs it.
     Perform(u64),
@@ -20,7 +20,7 @@ pub enum Call {
 }
 
 /// An event of a script, after its array.
-#[derive(Clone, Copy, PartialEq, Eq, Debug)]
+#[derive(Clone, Copy)]
 pub enum Event {
     /// The read of a block is submitted.
     Read(u64),

@@ -1,6 +1,6 @@
 -- What a settings document decides: the values that it gives, or the first thing that is wrong with
 -- it. The keys, their ranges and the order of the checks are this project's own.
-use Rattle.std.specs.Prelude.{ℕ, ◌==◌, ◌&&◌, ◌||◌, pos, Bool, false, not, List, [], ◌∷◌, length, map, Option, Some, None, Result, Ok, Err, is_some, nat_le, nat_lt, if◌then◌else◌, unwrap_or, option_map, option_and_then, string_bytes}
+use Rattle.std.specs.Prelude.{◌≡◌, ◌≢◌, ℕ, ◌==◌, ◌&&◌, ◌||◌, pos, Bool, false, not, List, [], ◌∷◌, length, map, Option, Some, None, Result, Ok, Err, is_some, nat_le, nat_lt, if◌then◌else◌, unwrap_or, option_map, option_and_then, string_bytes}
 use Rattle.std.specs.List.{list_any}
 use Rattle.std.specs.Option.{option_map_or}
 use Rattle.toml.specs.Data.{Data, integer, Items, no_items, item, Members, no_members, member, as_array, as_str, get_member}
@@ -10,7 +10,7 @@ use Rattle.r6_layout.specs.Shape.{Shape, shape_of}
 use Rattle.r6_settings.specs.declared.key.Key.{Key}
 use Rattle.r6_settings.specs.declared.key.Key.TheVariants.{Slots, Chunk, Block, Rows, Shards, Window, Workers, Lost, Devices}
 use Rattle.r6_settings.specs.declared.fault.SettingsFault.{SettingsFault}
-use Rattle.r6_settings.specs.declared.fault.SettingsFault.TheVariants.{NotToml, UnknownKey, Value, Geometry}
+use Rattle.r6_settings.specs.declared.fault.SettingsFault.TheVariants.{NotToml, UnknownKey, Value, Geometry, Memory}
 use Rattle.r6_settings.specs.declared.config.Config.{Config}
 use Rattle.r6_settings.specs.Keys.{name_of, is_key}
 
@@ -175,3 +175,13 @@ values_of config = record {
   lost = config.lost.items;
   devices = map string_bytes config.devices.items;
 }
+
+-- ---- what a fault says
+
+-- the fault of a key that says nothing
+abbrev pub IsOf : {A : Type 0} → Key → Option A → SettingsFault → Type 0
+IsOf key said fault = (fault ≡ Value key) × (said ≡ None)
+
+-- want of memory can come at any place; of every other fault this holds
+abbrev pub IsMemoryOr : (SettingsFault → Type 0) → SettingsFault → Type 0
+IsMemoryOr Holds fault = fault ≢ Memory → Holds fault

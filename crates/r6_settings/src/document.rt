@@ -1,9 +1,9 @@
 //! What the keys of a settings document say.
-ghost use Rattle.std.specs.Prelude.{◌≡◌, ◌≢◌, None, Some, IfErr, IfOk, MatchResult, map, option_map, string_bytes};
+ghost use Rattle.std.specs.Prelude.{◌≡◌, Some, IfErr, IfOk, MatchResult, map, option_map, string_bytes};
 ghost use Rattle.toml.specs.Data.{get_member, as_str};
 ghost use Rattle.toml.specs.View.{items_view, view, table_view};
 ghost use Rattle.r6_settings.specs.Keys.{is_key, name_of};
-ghost use Rattle.r6_settings.specs.Settings.{device_paths, each_of, geometry_integer, has_unknown_key, integer_from_to, lost_slots, one_to_eight, slot_below, slots_written};
+ghost use Rattle.r6_settings.specs.Settings.{IsMemoryOr, IsOf, device_paths, each_of, geometry_integer, has_unknown_key, integer_from_to, lost_slots, one_to_eight, slot_below, slots_written};
 
 use crate::fault::SettingsFault;
 use crate::key::Key;
@@ -55,7 +55,7 @@ fn integer_from_to(low: u32, high: u32, value: &Value) -> Option<u32>
 /// An integer of the geometry, whose key has to be there.
 pub fn geometry_integer(table: &Table, key: Key) -> Result<u32, SettingsFault>
     ensures ok { IfOk result (λ n. geometry_integer key (table_view table.now) ≡ Some n) }
-    ensures err { IfErr result (λ fault. (fault ≡ SettingsFault.Value key) × (geometry_integer key (table_view table.now) ≡ None)) }
+    ensures err { IfErr result (IsOf key (geometry_integer key (table_view table.now))) }
 {
     match value_at(table, key) {
         Some(value) => integer_from_to(0, u32::MAX, value).ok_or(SettingsFault::Value(key)),
@@ -66,7 +66,7 @@ pub fn geometry_integer(table: &Table, key: Key) -> Result<u32, SettingsFault>
 /// An integer from 1 to 8, and 1 where the document does not have the key.
 pub fn one_to_eight(table: &Table, key: Key) -> Result<u32, SettingsFault>
     ensures ok { IfOk result (λ n. one_to_eight key (table_view table.now) ≡ Some n) }
-    ensures err { IfErr result (λ fault. (fault ≡ SettingsFault.Value key) × (one_to_eight key (table_view table.now) ≡ None)) }
+    ensures err { IfErr result (IsOf key (one_to_eight key (table_view table.now))) }
 {
     match value_at(table, key) {
         Some(value) => integer_from_to(1, 8, value).ok_or(SettingsFault::Value(key)),
@@ -76,7 +76,7 @@ pub fn one_to_eight(table: &Table, key: Key) -> Result<u32, SettingsFault>
 
 fn slot_below(slots: u32, value: &Value) -> Result<u32, SettingsFault>
     ensures ok { IfOk result (λ n. slot_below slots (view value.now) ≡ Some n) }
-    ensures err { IfErr result (λ fault. (fault ≡ SettingsFault.Value Key.Lost) × (slot_below slots (view value.now) ≡ None)) }
+    ensures err { IfErr result (IsOf Key.Lost (slot_below slots (view value.now))) }
 {
     match integer_from_to(0, u32::MAX, value) {
         Some(slot) if slot < slots => Ok(slot),
@@ -88,7 +88,7 @@ fn slot_below(slots: u32, value: &Value) -> Result<u32, SettingsFault>
 pub fn lost_slots(alloc: Global, table: &Table, slots: u32) -> Result<Vec<u32>, SettingsFault>
     requires { slots ≡ slots_written (table_view table.now) }
     ensures ok { IfOk result (λ lost. lost_slots (table_view table.now) ≡ Some lost.items) }
-    ensures err { IfErr result (λ fault. fault ≢ SettingsFault.Memory → (fault ≡ SettingsFault.Value Key.Lost) × (lost_slots (table_view table.now) ≡ None)) }
+    ensures err { IfErr result (IsMemoryOr (IsOf Key.Lost (lost_slots (table_view table.now)))) }
 {
     let Some(value) = value_at(table, Key::Lost) else {
         return Ok(Vec::new(alloc));
@@ -116,7 +116,7 @@ pub fn lost_slots(alloc: Global, table: &Table, slots: u32) -> Result<Vec<u32>, 
 
 fn texts(alloc: Global, items: &[Value]) -> Result<Vec<String>, SettingsFault>
     ensures ok { IfOk result (λ texts. each_of as_str (items_view items.now) ≡ Some (map string_bytes texts.items)) }
-    ensures err { IfErr result (λ fault. fault ≢ SettingsFault.Memory → (fault ≡ SettingsFault.Value Key.Devices) × (each_of as_str (items_view items.now) ≡ None)) }
+    ensures err { IfErr result (IsMemoryOr (IsOf Key.Devices (each_of as_str (items_view items.now)))) }
 {
     let mut texts = Vec::new(alloc);
     for item in items {
@@ -132,7 +132,7 @@ fn texts(alloc: Global, items: &[Value]) -> Result<Vec<String>, SettingsFault>
 pub fn device_paths(alloc: Global, table: &Table, slots: u32) -> Result<Vec<String>, SettingsFault>
     requires { slots ≡ slots_written (table_view table.now) }
     ensures ok { IfOk result (λ paths. device_paths (table_view table.now) ≡ Some (map string_bytes paths.items)) }
-    ensures err { IfErr result (λ fault. fault ≢ SettingsFault.Memory → (fault ≡ SettingsFault.Value Key.Devices) × (device_paths (table_view table.now) ≡ None)) }
+    ensures err { IfErr result (IsMemoryOr (IsOf Key.Devices (device_paths (table_view table.now)))) }
 {
     let Some(value) = value_at(table, Key::Devices) else {
         return Err(SettingsFault::Value(Key::Devices));
