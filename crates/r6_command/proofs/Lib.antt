@@ -1,3 +1,4 @@
+pub mod Built
 pub mod GrammarLemmas
 pub mod Walks
 pub mod Taken

@@ -1,6 +1,6 @@
 -- What the words of a command line say. The commands are this project's own; that the first `--` only ends
 -- the options is POSIX's rule (Utility Conventions, guideline 10).
-use Rattle.std.specs.Prelude.{ℕ, ◌==◌, ◌||◌, Bool, false, List, [], ◌∷◌, Option, Some, None, codes, if◌then◌else◌, map, string_bytes, String}
+use Rattle.std.specs.Prelude.{◌≡◌, ℕ, ◌==◌, ◌||◌, Bool, false, List, [], ◌∷◌, Option, Some, None, codes, if◌then◌else◌, map, string_bytes, String}
 use Rattle.std.specs.Str.{bytes_eq}
 use Rattle.std.specs.declared.alloc.Global.{Global}
 use Rattle.r6_command.specs.declared.invocation.Invocation.{Invocation}
@@ -53,7 +53,11 @@ abbrev pub asks_option : List Text → Bool
 asks_option (program ∷ name ∷ words) = has_option words
 asks_option _ = false
 
--- the same, as the program holds it
+-- the words say no command, unless they ask for an option, as for help
+abbrev pub SaysNoCommand : List Text → Type 0
+SaysNoCommand words = asks_option words ≡ false → said words ≡ None
+
+-- a command as the program holds it
 abbrev pub asked_of : Invocation → Asked
 asked_of (invocation.Geometry config) = geometry config.now
 asked_of (invocation.Create config) = create config.now

@@ -1,11 +1,11 @@
 //! The words of the command line.
-ghost use Rattle.std.specs.Prelude.{◌≡◌, ◌≢◌, None, Some, IfErr, IfOk, option_map, false};
+ghost use Rattle.std.specs.Prelude.{◌≡◌, ◌≢◌, Some, IfErr, IfOk, option_map, false};
 ghost use Rattle.clap.specs.Words.{app_of, rule_of, subcommand_rows_of};
 ghost use Rattle.clap.specs.declared.builder.command.Command.TheViews.{out-Command as fields_of};
-ghost use Rattle.r6_command.specs.CommandLine.{Asked, asked_of, asks_option, said, texts};
+ghost use Rattle.r6_command.specs.CommandLine.{SaysNoCommand, asked_of, said, texts};
 ghost use Rattle.clap.specs.Values.{kind_of};
 ghost use Rattle.clap.specs.declared.error.kind.ErrorKind.TheVariants.{OutOfMemory};
-ghost use Rattle.r6_command.specs.Grammar.{asked_in, grammar, named, path_rule, with_one_path, with_two_paths};
+ghost use Rattle.r6_command.specs.Grammar.{Finds, asked_in, grammar, named, path_rule, program, with_command, with_one_path, with_paths, with_two_paths};
 
 use crate::fault::CommandFault;
 use clap::{Arg, ArgMatches, Command, Error};
@@ -54,6 +54,14 @@ impl<'a> Invocation<'a> {
     }
 }
 
+// Which paths a command has.
+#[derive(Clone, Copy)]
+enum Paths {
+    Config,
+    Script,
+    Both,
+}
+
 // The ids of a command's paths: the first and, where it has one, the second.
 const FIRST: &str = "first";
 
@@ -90,33 +98,84 @@ fn with_both<'a>(alloc: Global, name: &'a str) -> Result<Command<'a>, AllocError
     with_config(alloc, name)?.arg(path(alloc, SECOND, "SCRIPT", "The script"))
 }
 
-// The commands that are not built yet are read, so that they are answered by name, and left out of help.
-fn grammar<'a>(alloc: Global) -> Result<Command<'a>, AllocError>
-    ensures { IfOk result (λ made. app_of made ≡ grammar) }
+fn program<'a>(alloc: Global) -> Command<'a>
+    ensures { app_of result ≡ program }
 {
     Command::new(alloc, "raid6")
         .about("A RAID-6 array over 4 to 32 slots, laid out as Linux md lays it out.")
         .subcommand_required(true)
         .arg_required_else_help(true)
         .disable_help_subcommand(true)
-        .subcommand(with_config(alloc, "geometry")?.about("Print the array's layout"))?
-        .subcommand(with_config(alloc, "create")?.hide(true))?
-        .subcommand(with_config(alloc, "verify")?.hide(true))?
-        .subcommand(with_script(alloc, "simulate")?.about(
-            "Play a script against an array in memory",
-        ))?
-        .subcommand(with_both(alloc, "run")?.hide(true))
+}
+
+fn with_paths<'a>(alloc: Global, name: &'a str, paths: Paths) -> Result<Command<'a>, AllocError>
+    ensures app { IfOk result (λ made. app_of made ≡ with_paths paths name.entry.now) }
+    ensures local { IfOk result (λ made. (fields_of made).has_globals ≡ false) }
+{
+    match paths {
+        Paths::Config => with_config(alloc, name),
+        Paths::Script => with_script(alloc, name),
+        Paths::Both => with_both(alloc, name),
+    }
+}
+
+fn with_shown<'a>(
+    alloc: Global,
+    program: Command<'a>,
+    name: &'a str,
+    paths: Paths,
+    about: &'a str,
+) -> Result<Command<'a>, AllocError>
+    ensures { IfOk result (λ made. app_of made ≡ with_command (app_of program.entry) paths name.entry.now) }
+{
+    program.subcommand(with_paths(alloc, name, paths)?.about(about))
+}
+
+// A command that is not built yet is read, so that it is answered by name, and left out of help.
+fn with_hidden<'a>(
+    alloc: Global,
+    program: Command<'a>,
+    name: &'a str,
+    paths: Paths,
+) -> Result<Command<'a>, AllocError>
+    ensures { IfOk result (λ made. app_of made ≡ with_command (app_of program.entry) paths name.entry.now) }
+{
+    program.subcommand(with_paths(alloc, name, paths)?.hide(true))
+}
+
+fn grammar<'a>(alloc: Global) -> Result<Command<'a>, AllocError>
+    ensures { IfOk result (λ made. app_of made ≡ grammar) }
+{
+    let program = program(alloc);
+    let program = with_shown(
+        alloc,
+        program,
+        "geometry",
+        Paths::Config,
+        "Print the array's layout",
+    )?;
+    let program = with_hidden(alloc, program, "create", Paths::Config)?;
+    let program = with_hidden(alloc, program, "verify", Paths::Config)?;
+    let program = with_shown(
+        alloc,
+        program,
+        "simulate",
+        Paths::Script,
+        "Play a script against an array in memory",
+    )?;
+    with_hidden(alloc, program, "run", Paths::Both)
 }
 
 fn matched<'a>(alloc: Global, words: &'a [String]) -> Result<ArgMatches<'a>, Error>
-    ensures err { IfErr result (λ error. kind_of error ≢ OutOfMemory → asks_option (texts words.entry.now) ≡ false → said (texts words.entry.now) ≡ None) }
-    ensures ok { IfOk result (λ matches. (asked : Asked) × (asked_in (subcommand_rows_of matches) ≡ Some asked) × (said (texts words.entry.now) ≡ Some asked)) }
+    ensures err { IfErr result (λ error. kind_of error ≢ OutOfMemory → SaysNoCommand (texts words.entry.now)) }
+    ensures ok { IfOk result (λ matches. Finds (texts words.entry.now) (subcommand_rows_of matches)) }
 {
     grammar(alloc)?.try_get_matches_from(words)
 }
 
 fn named<'a>(name: &str, first: Option<&'a str>, second: Option<&'a str>) -> Option<Invocation<'a>>
-    ensures { option_map asked_of result ≡ named name.now (option_map (λ path. path.now) first.entry) (option_map (λ path. path.now) second.entry) }
+    ensures { option_map asked_of result
+        ≡ named name.now (option_map (λ path. path.now) first.entry) (option_map (λ path. path.now) second.entry) }
 {
     let first = first?;
     match name {
@@ -146,7 +205,7 @@ fn asked<'a>(matches: &ArgMatches<'a>) -> Option<Invocation<'a>>
 
 /// Reads what a command line asks for. The first word is the program's own name.
 pub fn command<'a>(alloc: Global, words: &'a [String]) -> Result<Invocation<'a>, CommandFault>
-    ensures err { IfErr result (λ fault. fault ≢ CommandFault.Memory → asks_option (texts words.entry.now) ≡ false → said (texts words.entry.now) ≡ None) }
+    ensures err { IfErr result (λ fault. fault ≢ CommandFault.Memory → SaysNoCommand (texts words.entry.now)) }
     ensures ok { IfOk result (λ invocation. said (texts words.entry.now) ≡ Some (asked_of invocation)) }
 {
     let matches = matched(alloc, words)?;
