@@ -2,10 +2,10 @@
 //! `settings` answers exactly that.
 #![tactic(auto)]
 
-pub mod config;
+mod config;
 mod document;
-pub mod fault;
-pub mod key;
+mod fault;
+mod key;
 
 pub use config::{Config, settings};
 pub use fault::SettingsFault;
