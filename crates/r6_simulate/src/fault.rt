@@ -6,7 +6,7 @@ use r6_dev::Fault as DeviceFault;
 use std::alloc::{AllocError, AllocFailed};
 
 /// Why a script isn't played to its end.
-#[derive(Clone, Copy, Debug, PartialEq, Eq)]
+#[derive(Clone, Copy, Debug)]
 pub enum SimulationFault {
     /// The device of this slot did not do what it was told.
     Device(usize, DeviceFault),

@@ -10,7 +10,7 @@ use std::alloc::AllocError;
 use std::fmt::{self, Write};
 
 /// What became of an event at a shard.
-#[derive(Clone, Copy, PartialEq, Eq, Debug)]
+#[derive(Clone, Copy)]
 pub enum Outcome {
     /// The shard accepted a request, under this number of its own.
     Accepted(usize, OpId),

@@ -60,6 +60,17 @@ struct Outstanding {
     performed: bool,
 }
 
+// The device of a command's slot does what the command tells it.
+fn carry_out(devices: &mut [MemoryDevice], command: &mut Command) -> Result<(), DeviceFault> {
+    let Some(device) = devices.get_mut(command.slot) else {
+        return Err(DeviceFault::Gone);
+    };
+    match command.kind {
+        CommandKind::Read => device.read(command.row, &mut command.buffer),
+        CommandKind::Write => device.write(command.row, &command.buffer),
+    }
+}
+
 // An array in memory, with the commands of its shards that were taken and aren't answered, by shard and token.
 #[derive(Drop)]
 struct Simulation {
@@ -145,20 +156,13 @@ impl Simulation {
         if outstanding.performed {
             return Ok(Outcome::PerformedAlready);
         }
-        let command = &mut outstanding.command;
-        let Some(device) = self.shards[shard].devices.get_mut(command.slot) else {
-            return Err(SimulationFault::Device(command.slot, DeviceFault::Gone));
-        };
-        let answer = match command.kind {
-            CommandKind::Read => device.read(command.row, &mut command.buffer),
-            CommandKind::Write => device.write(command.row, &command.buffer),
-        };
-        match answer {
+        let devices = self.shards[shard].devices.as_mut_slice();
+        match carry_out(devices, &mut outstanding.command) {
             Ok(()) => {
                 outstanding.performed = true;
                 Ok(Outcome::Performed)
             }
-            Err(fault) => Err(SimulationFault::Device(command.slot, fault)),
+            Err(fault) => Err(SimulationFault::Device(outstanding.command.slot, fault)),
         }
     }
 
@@ -266,6 +270,19 @@ impl Simulation {
         self.put_out_replies(shard, line)?;
         self.put_out_commands(shard, line)
     }
+
+    // Plays an event, and prints its line.
+    fn show<W: Write>(
+        &mut self,
+        event: Event,
+        line: &mut String,
+        out: &mut W,
+    ) -> Result<(), SimulationFault> {
+        line.clear();
+        self.play(event, line)?;
+        writeln!(line)?;
+        print(out, line.as_str())
+    }
 }
 
 fn print<W: Write>(out: &mut W, text: &str) -> Result<(), SimulationFault>
@@ -290,10 +307,7 @@ pub fn simulate<W: Write>(
     print(out, "array\n")?;
     let mut line = String::new(alloc);
     for event in &script.events {
-        line.clear();
-        simulation.play(*event, &mut line)?;
-        writeln!(line)?;
-        print(out, line.as_str())?;
+        simulation.show(*event, &mut line, out)?;
     }
     Ok(())
 }
