@@ -50,7 +50,8 @@ impl Register {
         requires slots { lost < 2 ^ geometry.now.slots }
         requires few { count_ones lost ≤ 2 }
         ensures pass { IfOk result (λ r. IsPassOf r.0 r.1) }
-        ensures first { IfOk result (λ r. view_of r.1 ≡ first_of (start_losing geometry.now.slots geometry.now.shards lost)) }
+        ensures first { IfOk result (λ r. view_of r.1
+            ≡ first_of (start_losing geometry.now.slots geometry.now.shards lost)) }
     {
         let slots = geometry.slots();
         let shards = geometry.shards();

@@ -3,13 +3,19 @@ use Rattle.std.proofs.Common.{◌≡◌, ℕ, ◌+◌, ◌-◌, ◌%◌, ◌<◌
 use Rattle.std.proofs.lemmas.Nat.{mod_below}
 use Rattle.std.proofs.lemmas.Bool.{cases_order, lt-ltb, le-ltb}
 use Rattle.r6_layout.specs.Shape.{Shape, IsShape, data_slots}
-use Rattle.r6_layout.specs.Layout.{Keeps, HasRole, IsPlace, chunk_row_of, p_slot, slot_at, position_at, role_of_position, position_of, role_at}
+use Rattle.r6_layout.specs.Layout.{Keeps, HasRole, IsPlace, chunk_row_of, p_slot, slot_at, position_at, role_of_position, role_at}
 use Rattle.r6_layout.specs.declared.place.Role.{Role}
 use Rattle.r6_layout.specs.declared.place.Role.TheVariants.{Data, P, Q}
 use Rattle.r6_layout.proofs.Rotation.{slot_in, position_in-slot_in, slot_in-position_in, slot_in_p, slot_in_q}
 use Rattle.r6_layout.proofs.Rows.{IsRowAt-row, chunk_row_is}
 
 -- ---- positions and roles
+
+-- the position of a role in row order
+abbrev position_of : Shape → Role → ℕ
+position_of shape (Data index) = index
+position_of shape P = data_slots shape
+position_of shape Q = data_slots shape + 1
 
 pub role_of_position-data : (shape : Shape) (index : ℕ) → index < data_slots shape → role_of_position shape index ≡ Data index
 role_of_position-data shape index below = rw (lt-ltb index (data_slots shape) below) refl

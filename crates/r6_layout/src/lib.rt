@@ -3,9 +3,9 @@
 //! The layout is md's left-symmetric one (md(4); mdadm(8), `--layout=left-symmetric`). No call takes memory.
 #![tactic(auto)]
 
-pub mod geometry;
+mod geometry;
 pub mod laws;
-pub mod place;
+mod place;
 
 pub use geometry::{Geometry, GeometryError};
 pub use place::{Place, Role};

@@ -2,8 +2,8 @@
 //! written is `specs/Script.antt`, and `parse_script` reads exactly what is written so.
 #![tactic(auto)]
 
-pub mod parser;
-pub mod script;
+mod parser;
+mod script;
 
 pub use parser::parse_script;
 pub use script::{Call, Event, Script, ScriptFault};

@@ -2,9 +2,9 @@
 //! each event gets a line.
 #![tactic(auto)]
 
-pub mod fault;
+mod fault;
 mod lines;
-pub mod simulation;
+mod simulation;
 
 pub use fault::SimulationFault;
 pub use simulation::simulate;

@@ -99,7 +99,10 @@ impl<V: Drop> Table<V> {
         requires room { map.len (entries_of self.old) < capacity_of self.old }
         requires numbers { next_of self.old + 1 < 2 ^ 64 }
         ensures number { result ≡ next_of self.old }
-        ensures entry { self.new ≡ (capacity_of self.old, (next_of self.old + 1, map.insert (entries_of self.old) (next_of self.old) value)) }
+        ensures entry { self.new ≡ (
+          capacity_of self.old,
+          (next_of self.old + 1, map.insert (entries_of self.old) (next_of self.old) value),
+        ) }
     {
         make_room(&mut self.places, self.capacity + self.capacity);
         let number = self.next;
@@ -109,14 +112,17 @@ impl<V: Drop> Table<V> {
         number
     }
 
-    /// Puts another value in the place of the number's entry, and answers that entry; without one it hands the value back.
+    /// Puts another value in the place of the number's entry, and answers that entry; without one it hands the value
+    /// back.
     ///
     /// # Errors
     /// The value, where the number has no entry; nothing changes.
     pub fn replace(&mut self, number: u64, value: V) -> Result<V, V>
         ensures entry { IfOk result (λ old. map.get (entries_of self.old) number ≡ Some old) }
-        ensures there { IfOk result (λ _. self.new ≡ (capacity_of self.old, (next_of self.old, map.insert (entries_of self.old) number value))) }
-        ensures absent { IfErr result (λ back. (map.get (entries_of self.old) number ≡ None) × (back ≡ value) × (self.new ≡ self.old)) }
+        ensures there { IfOk result (λ _. self.new
+            ≡ (capacity_of self.old, (next_of self.old, map.insert (entries_of self.old) number value))) }
+        ensures absent { IfErr result (λ back. (map.get (entries_of self.old) number ≡ None) × (back ≡ value)
+            × (self.new ≡ self.old)) }
     {
         let index = match index_of(&self.places, number) {
             Some(index) => index,
