@@ -1,6 +1,6 @@
 -- Sums of blocks, byte by byte, and the two parity blocks of RAID-6 (H. Peter Anvin, "The mathematics of RAID-6").
 -- A block is the list of its bytes.
-use Rattle.std.specs.Prelude.{◌≡◌, ℕ, suc, ◌<◌, List, [], ◌∷◌, length, replicate, bit_xor}
+use Rattle.std.specs.Prelude.{◌≡◌, ℕ, suc, ◌<◌, List, [], ◌∷◌, length, replicate, bit_xor, ◌≢◌, slice_index_or, slice_set}
 use Rattle.std.specs.List.{All}
 use Rattle.r6_field.specs.Field.{product, power, generator}
 
@@ -41,3 +41,11 @@ p_of len data' = total len data'
 -- Q: the sum of all g^i Di
 abbrev pub q_of : ℕ → List (List ℕ) → List ℕ
 q_of len data' = total len (weighted 0 data')
+
+-- the data with zeros in the place of one block
+abbrev pub without : ℕ → ℕ → List (List ℕ) → List (List ℕ)
+without len x data' = slice_set data' x (zeros len)
+
+-- all blocks but those at x and y have len bytes
+abbrev pub AreLongBut : ℕ → ℕ → ℕ → List (List ℕ) → Type 0
+AreLongBut len x y blocks = (position : ℕ) → position < length blocks → position ≢ x → position ≢ y → length (slice_index_or blocks position []) ≡ len

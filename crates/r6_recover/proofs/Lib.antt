@@ -4,7 +4,6 @@ pub mod FactorLaws
 pub mod KnownLaws
 pub mod MissingLaws
 pub mod ParityWrites
-pub mod SumLaws
 pub mod RecoveryLaws
 pub mod RestoreLaws
 pub mod RowLaws

@@ -5,10 +5,10 @@ use Rattle.std.proofs.lemmas.List.{get_or-set_other, length-set}
 use Rattle.std.proofs.lemmas.List.Elements.{All-get_or, All-set}
 use Rattle.r6_field.specs.Field.{product, power, generator}
 use Rattle.r6_field.proofs.FieldLaws.{power_of_generator-lt, product_comm, product-opposite_powers}
-use Rattle.r6_kernels.specs.Blocks.{IsBlock, zeros, block_sum, scale, p_of, q_of}
+use Rattle.r6_kernels.specs.Blocks.{IsBlock, zeros, block_sum, scale, p_of, q_of, without}
 use Rattle.r6_kernels.proofs.BlockLaws.{block_sum_comm, block_sum_assoc, block_sum_medial, block_sum-zeros, block_sum_twice, scale-block_sum, xor-scale, scale-scale, one-scale, zero-scale, IsBlock-zeros, IsBlock-block_sum, IsBlock-scale}
 use Rattle.r6_kernels.proofs.ParityLaws.{IsBlock-p_of, IsBlock-q_of, p_of-set, q_of-set}
-use Rattle.r6_recover.specs.Factors.{AreFactors, without}
+use Rattle.r6_recover.specs.Factors.{AreFactors}
 use Rattle.r6_recover.proofs.FactorLaws.{factors_at_first, factors_at_second}
 
 -- two blocks from their sum and their sum as Q weighs it

@@ -2,18 +2,14 @@
 use Rattle.std.proofs.Common.{◌≡◌, ◌≢◌, ℕ, ◌+◌, ◌-◌, ◌<◌, ◌≤◌, List, [], length, get_or, set, take, sym, ap, subst, ◌∙◌, arith, ⊎_elim}
 use Rattle.std.specs.List.{All}
 use Rattle.std.proofs.lemmas.Bool.{cases_eq}
-use Rattle.std.proofs.lemmas.List.{get_or-set_other, get_or-set_same, set-set, length-set, length-take-le, get_or-take, ext_get_or}
+use Rattle.std.proofs.lemmas.List.{get_or-set_other, get_or-set_same, length-set, length-take-le, get_or-take, ext_get_or}
 use Rattle.std.proofs.lemmas.List.Elements.{All-set}
 use Rattle.r6_field.specs.Field.{power, generator}
-use Rattle.r6_field.proofs.FieldLaws.{power_of_generator-lt}
-use Rattle.r6_kernels.specs.Blocks.{IsBlock, zeros, block_sum, scale, p_of, q_of}
-use Rattle.r6_kernels.proofs.BlockLaws.{block_sum_comm, block_sum_medial, zeros-block_sum, scale-block_sum, zero-scale, length-scale}
-use Rattle.r6_kernels.proofs.ParityLaws.{IsBlock-p_of, IsBlock-q_of}
+use Rattle.r6_kernels.specs.Blocks.{zeros, block_sum, scale, p_of, q_of, without, AreLongBut}
 use Rattle.r6_recover.specs.Rows.{block_at, IsFullRow, AgreeBut}
-use Rattle.r6_recover.specs.Factors.{without, combination, AreFactors}
-use Rattle.r6_recover.specs.Restores.{AreLongBut, IsRestored, RestoresBlock, Restores}
-use Rattle.r6_recover.proofs.RecoveryLaws.{All-without, block_from_p, block_from_q, block_from_both, second_from_p}
-use Rattle.r6_recover.proofs.SumLaws.{combination-eq}
+use Rattle.r6_recover.specs.Factors.{AreFactors}
+use Rattle.r6_recover.specs.Restores.{IsRestored, RestoresBlock, Restores}
+use Rattle.r6_recover.proofs.RecoveryLaws.{block_from_p, block_from_q, block_from_both, second_from_p}
 use Rattle.r6_recover.proofs.RowLaws.{length-row_data, All-row_data, block_at-p, block_at-q, same_without}
 
 -- ---- blocks that may be away
@@ -63,38 +59,22 @@ module _ (m len : ℕ) (old full : List (List ℕ)) (count : length old ≡ m + 
       (λ k h. same_data_at k (omega (arith, data_count)) (agree k (omega (arith, data_count)) (omega (arith, data_count))))
 
   -- Dx of P and the other data
-  pub value_from_p : (x : ℕ) → x < m → AgreeBut x (m + 1) old full
-      → block_sum (block_at old m) (p_of len (without len x (without len x (take m old)))) ≡ block_at full x
+  pub value_from_p : (x : ℕ) → x < m → AgreeBut x (m + 1) old full → block_sum (p_of len (without len x (take m old))) (block_at old m) ≡ block_at full x
   value_from_p x h agree =
-      let gone : without len x (without len x (take m old)) ≡ without len x (take m full) =
-      set-set (take m old) x (zeros len) (zeros len) ∙ same_data_without x (m + 1) (omega arith) agree in
+      let gone : without len x (take m old) ≡ without len x (take m full) = same_data_without x (m + 1) (omega arith) agree in
       let p : block_at old m ≡ p_of len (take m full) = agree m (omega arith) (omega arith) ∙ block_at-p m len full is in
-      (λ i. block_sum (p i) (p_of len (gone i)))
-      ∙ block_sum_comm (p_of len (take m full)) (p_of len (without len x (take m full)))
+      (λ i. block_sum (p_of len (gone i)) (p i))
       ∙ block_from_p len x (take m full) (All-row_data m len full is) (omega (arith, full_data_count))
       ∙ get_or-take m full x [] h
 
   -- Dx of Q and the other data
   pub value_from_q : (x : ℕ) → x < m → m ≤ 255 → AgreeBut x m old full
-      → block_sum (scale (power generator (255 - x)) (block_at old (m + 1))) (combination len 0 (power generator (255 - x)) (without len x (without len x (take m old)))) ≡ block_at full x
+      → scale (power generator (255 - x)) (block_sum (q_of len (without len x (take m old))) (block_at old (m + 1))) ≡ block_at full x
   value_from_q x h few agree =
-      let back : ℕ = power generator (255 - x) in
-      let all : All (IsBlock len) (take m full) = All-row_data m len full is in
-      let rest : List (List ℕ) = without len x (take m full) in
-      let rest_all : All (IsBlock len) rest = All-without len x (take m full) all in
-      let rest_p : IsBlock len (p_of len rest) = IsBlock-p_of len rest rest_all in
-      let rest_q : IsBlock len (q_of len rest) = IsBlock-q_of len rest rest_all in
-      let gone : without len x (without len x (take m old)) ≡ rest =
-      set-set (take m old) x (zeros len) (zeros len) ∙ same_data_without x m (omega arith) agree in
+      let gone : without len x (take m old) ≡ without len x (take m full) = same_data_without x m (omega arith) agree in
       let q : block_at old (m + 1) ≡ q_of len (take m full) = agree (m + 1) (omega arith) (omega arith) ∙ block_at-q m len full is in
-      let multiple : combination len 0 back rest ≡ scale back (q_of len rest) =
-      combination-eq len 0 back rest (omega arith) (power_of_generator-lt (255 - x)) rest_all
-      ∙ ap (λ (none : List ℕ). block_sum none (scale back (q_of len rest))) (zero-scale (p_of len rest) ∙ ap zeros rest_p.length_is)
-      ∙ zeros-block_sum len (scale back (q_of len rest)) (length-scale back (q_of len rest) ∙ rest_q.length_is) in
-      (λ i. block_sum (scale back (q i)) ((ap (combination len 0 back) gone ∙ multiple) i))
-      ∙ sym (scale-block_sum back (q_of len (take m full)) (q_of len rest))
-      ∙ ap (scale back) (block_sum_comm (q_of len (take m full)) (q_of len rest))
-      ∙ block_from_q len x (take m full) (omega arith) all (omega (arith, full_data_count))
+      (λ i. scale (power generator (255 - x)) (block_sum (q_of len (gone i)) (q i)))
+      ∙ block_from_q len x (take m full) (omega arith) (All-row_data m len full is) (omega (arith, full_data_count))
       ∙ get_or-take m full x [] h
 
   pub value_of_p : AgreeBut m (m + 1) old full → p_of len (take m old) ≡ block_at full m
@@ -118,40 +98,35 @@ module _ (m len : ℕ) (old full : List (List ℕ)) (count : length old ≡ m + 
       get_or-set_other (take m old) x k (zeros len) [] nx ∙ same_data_at k (omega arith) (agree k nx ny) ∙ sym (get_or-set_other (take m full) x k (zeros len) [] nx))
       (cases_eq k x))
 
-  -- Dx of two lost data blocks
-  pub value_of_first : (x y a b : ℕ) → x < y → y < m → m ≤ 255 → AreFactors x y a b → AgreeBut x y old full
-      → block_sum
-      (block_sum (scale a (block_at old m)) (scale b (block_at old (m + 1))))
-      (combination len a b (without len y (without len x (take m old))))
-      ≡ block_at full x
-  value_of_first x y a b order h few factors agree =
-      let all : All (IsBlock len) (take m full) = All-row_data m len full is in
-      let rest : List (List ℕ) = without len y (without len x (take m full)) in
-      let rest_all : All (IsBlock len) rest = All-without len y (without len x (take m full)) (All-without len x (take m full) all) in
-      let P : List ℕ = p_of len (take m full) in
-      let Q : List ℕ = q_of len (take m full) in
-      let gone : without len y (without len x (take m old)) ≡ rest = same_data_without_two x y (omega arith) agree in
-      let p : block_at old m ≡ P = agree m (omega arith) (omega arith) ∙ block_at-p m len full is in
-      let q : block_at old (m + 1) ≡ Q = agree (m + 1) (omega arith) (omega arith) ∙ block_at-q m len full is in
-      (λ i. block_sum (block_sum (scale a (p i)) (scale b (q i))) ((ap (combination len a b) gone ∙ combination-eq len a b rest factors.of_p.byte factors.of_q.byte rest_all) i))
-      ∙ block_sum_medial (scale a P) (scale b Q) (scale a (p_of len rest)) (scale b (q_of len rest))
-      ∙ (λ i. block_sum (sym (scale-block_sum a P (p_of len rest)) i) (sym (scale-block_sum b Q (q_of len rest)) i))
-      ∙ (λ i. block_sum (scale a (block_sum_comm P (p_of len rest) i)) (scale b (block_sum_comm Q (q_of len rest) i)))
-      ∙ block_from_both len x y a b (take m full) order (omega arith) factors all (omega (arith, full_data_count))
-      ∙ get_or-take m full x [] (omega arith)
+  module _ (x y : ℕ) (order : x < y) (h : y < m) (agree : AgreeBut x y old full) where
+    rest_is : without len y (without len x (take m old)) ≡ without len y (without len x (take m full))
+    rest_is = same_data_without_two x y (omega arith) agree
 
-  -- and then Dy
-  pub value_of_second : (x y : ℕ) → x < y → y < m → AgreeBut x y old full
-      → block_sum (block_sum (block_at old m) (p_of len (without len y (without len x (take m old))))) (block_at full x) ≡ block_at full y
-  value_of_second x y order h agree =
-      let rest : List (List ℕ) = without len y (without len x (take m full)) in
-      let gone : without len y (without len x (take m old)) ≡ rest = same_data_without_two x y (omega arith) agree in
-      let p : block_at old m ≡ p_of len (take m full) = agree m (omega arith) (omega arith) ∙ block_at-p m len full is in
-      let first : block_at full x ≡ get_or (take m full) x [] = sym (get_or-take m full x [] (omega arith)) in
-      (λ i. block_sum (block_sum (p i) (p_of len (gone i))) (first i))
-      ∙ ap (λ (sum : List ℕ). block_sum sum (get_or (take m full) x [])) (block_sum_comm (p_of len (take m full)) (p_of len rest))
-      ∙ second_from_p len x y (take m full) (omega arith) (All-row_data m len full is) (omega (arith, full_data_count)) (omega (arith, full_data_count))
-      ∙ get_or-take m full y [] h
+    p_is : block_at old m ≡ p_of len (take m full)
+    p_is = agree m (omega arith) (omega arith) ∙ block_at-p m len full is
+
+    q_is : block_at old (m + 1) ≡ q_of len (take m full)
+    q_is = agree (m + 1) (omega arith) (omega arith) ∙ block_at-q m len full is
+
+    -- Dx of two lost data blocks
+    pub value_of_first : (a b : ℕ) → m ≤ 255 → AreFactors x y a b
+        → block_sum
+        (scale a (block_sum (p_of len (without len y (without len x (take m old)))) (block_at old m)))
+        (scale b (block_sum (q_of len (without len y (without len x (take m old)))) (block_at old (m + 1))))
+        ≡ block_at full x
+    value_of_first a b few factors =
+        (λ i. block_sum (scale a (block_sum (p_of len (rest_is i)) (p_is i))) (scale b (block_sum (q_of len (rest_is i)) (q_is i))))
+        ∙ block_from_both len x y a b (take m full) order (omega arith) factors (All-row_data m len full is) (omega (arith, full_data_count))
+        ∙ get_or-take m full x [] (omega arith)
+
+    -- and then Dy
+    pub value_of_second : (first : List ℕ) → first ≡ block_at full x
+        → block_sum (block_sum (p_of len (without len y (without len x (take m old)))) (block_at old m)) first ≡ block_at full y
+    value_of_second first first_is =
+        let lower : first ≡ get_or (take m full) x [] = first_is ∙ sym (get_or-take m full x [] (omega arith)) in
+        (λ i. block_sum (block_sum (p_of len (rest_is i)) (p_is i)) (lower i))
+        ∙ second_from_p len x y (take m full) (omega arith) (All-row_data m len full is) (omega (arith, full_data_count)) (omega (arith, full_data_count))
+        ∙ get_or-take m full y [] h
 
 -- ---- one block after another
 

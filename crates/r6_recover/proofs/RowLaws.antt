@@ -7,10 +7,10 @@ use Rattle.std.proofs.lemmas.List.Elements.{All-take, All-append, All-cons, All-
 use Rattle.r6_field.specs.Field.{product, power, generator, inverse}
 use Rattle.r6_field.proofs.FieldLaws.{product-lt, product_comm, product_assoc, one-product, product-inverse, inverse-lt, power_of_generator-lt}
 use Rattle.std.specs.Int.Bits.{xor_lt}
-use Rattle.r6_kernels.specs.Blocks.{IsBlock, zeros, block_sum, scale, p_of, q_of}
+use Rattle.r6_kernels.specs.Blocks.{IsBlock, zeros, block_sum, scale, p_of, q_of, without}
 use Rattle.r6_kernels.proofs.ParityLaws.{IsBlock-p_of, IsBlock-q_of}
 use Rattle.r6_recover.specs.Rows.{block_at, data_of, IsFullRow, MeetsEquations, row_of, AgreeBut}
-use Rattle.r6_recover.specs.Factors.{without, IsQuotient, AreFactors}
+use Rattle.r6_recover.specs.Factors.{IsQuotient, AreFactors}
 use Rattle.r6_recover.proofs.FactorLaws.{denominator-nonzero}
 use Rattle.r6_recover.proofs.RecoveryLaws.{block_from_p, block_from_q, block_from_both, second_from_p}
 

@@ -1,14 +1,11 @@
 -- What restoring blocks leaves.
 use Rattle.std.specs.Prelude.{◌≡◌, ◌≢◌, ℕ, ◌-◌, ◌<◌, Bool, List, length, ⊤}
 use Rattle.std.specs.List.{All}
+use Rattle.r6_kernels.specs.Blocks.{AreLongBut}
 use Rattle.r6_recover.specs.Rows.{block_at, block_length, IsFullRow, AgreeBut}
 use Rattle.r6_recover.specs.Known.{IsKnown}
 use Rattle.r6_recover.specs.declared.known.Missing.{Missing}
 use Rattle.r6_recover.specs.declared.known.Missing.TheVariants.{None, One, Two, Many}
-
--- all blocks of a row but those at x and y have len bytes
-abbrev pub AreLongBut : ℕ → ℕ → ℕ → List (List ℕ) → Type 0
-AreLongBut len x y row = (position : ℕ) → position < length row → position ≢ x → position ≢ y → length (block_at row position) ≡ len
 
 -- a block is that at x of every full row with which the row agrees but at x and y
 abbrev pub IsRestored : ℕ → ℕ → ℕ → ℕ → List (List ℕ) → List ℕ → Type 0

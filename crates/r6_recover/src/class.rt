@@ -7,7 +7,7 @@ ghost use Rattle.r6_recover.specs.Classes.{HasClass, NamesWrongBlock};
 
 use crate::difference::{is_p_right, is_q_right, is_wrong_at};
 use crate::row::RowBuf;
-use r6_kernels::Buffer;
+use r6_kernels::{Buffer, has_right_parities};
 
 /// How the P and Q of a row differ from those of its data.
 #[derive(Clone, Copy, Debug, PartialEq, Eq)]
@@ -30,15 +30,13 @@ fn class_of(blocks: &[Buffer]) -> RowClass
     requires long { All (λ block. length block ≡ block_length blocks.now) blocks.now }
     ensures { HasClass blocks.now result }
 {
-    let p_right = is_p_right(blocks);
-    let q_right = is_q_right(blocks);
-    if p_right && q_right {
+    if has_right_parities(blocks) {
         return RowClass::Consistent;
     }
-    if q_right {
+    if is_q_right(blocks) {
         return RowClass::WrongP;
     }
-    if p_right {
+    if is_p_right(blocks) {
         return RowClass::WrongQ;
     }
     let m = blocks.len() - 2;

@@ -10,7 +10,6 @@ pub mod known;
 pub mod laws;
 pub mod parity;
 pub mod row;
-mod sums;
 
 pub use apart::{restore_from_p_into, restore_from_q_into, restore_missing_into, restore_two_into};
 pub use class::{RowClass, classify};
