@@ -24,10 +24,10 @@ use Rattle.r6_world.specs.Steps.{Event, Submit, Deliver, Good, Taken, Look, Take
 use Rattle.r6_world.specs.Worlds.{Devices, shard_at_start, slot_at_start}
 use Rattle.r6_world.specs.Witness.{smallest, small}
 use Rattle.r6_world.proofs.Tables.{not_both}
-use Rattle.r6_world.proofs.Reaches.{fetch, handed_out}
-use Rattle.r6_world.proofs.SmallShards.{no_hold, no_command, but_one, but_one-same, asked, held, on, state, none_built, entry_is, none_is, put-gone, one_waits_not, finished_not, released_not, free_rests, each, unread_not_asked, known_not_asked, unwritten_not_sent, n0<1, n1<4, n0≤2}
-use Rattle.r6_world.proofs.WitnessWrite.{fetched, s0}
-use Rattle.r6_world.proofs.WitnessError.{f1, submits}
+use Rattle.r6_world.proofs.Witness.Pieces.{fetch, handed_out}
+use Rattle.r6_world.proofs.Witness.SmallShards.{no_hold, no_command, but_one, but_one-same, asked, held, on, state, none_built, entry_is, none_is, put-gone, one_waits_not, finished_not, released_not, free_rests, each, unread_not_asked, known_not_asked, unwritten_not_sent, n0<1, n1<4, n0≤2}
+use Rattle.r6_world.proofs.Witness.Written.{fetched, s0}
+use Rattle.r6_world.proofs.Witness.Erred.{f1, submits}
 use Rattle.r6_frames.specs.declared.op.Op.TheVariants as op
 use Rattle.r6_frames.specs.declared.op.Request.{Request}
 use Rattle.r6_frames.specs.declared.command.CommandKind.TheVariants as command

@@ -1,0 +1,8 @@
+-- The laws, for every run.
+pub mod Judged
+pub mod Quiet
+pub mod Headline
+pub mod Starts
+pub mod ArrayLaws
+pub mod Along
+pub mod Sequentials

@@ -1,0 +1,4 @@
+-- What the step refuses.
+pub mod Refusals
+pub mod Reported
+pub mod Accepted

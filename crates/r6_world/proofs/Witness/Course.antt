@@ -1,0 +1,211 @@
+-- From a lawful start the whole course is a run.
+use Rattle.std.proofs.Common.{◌≡◌, ℕ, ◌<◌, ◌≤◌, List, ◌++◌, length, true, refl, sym, ap, subst, ◌∙◌, arith, Some}
+use Rattle.r6_kernels.specs.Blocks.{IsBlock}
+use Rattle.r6_layout.specs.Shape.{IsShape}
+use Rattle.r6_world.specs.PlainArray.{Block, Array, Op, Read, Write, Reply, Data, Done}
+use Rattle.r6_world.specs.Layouts.{IsArray, content}
+use Rattle.r6_world.specs.Registers.{InSync, status_of}
+use Rattle.r6_world.specs.ShardStates.{Released}
+use Rattle.r6_world.specs.Worlds.{World, Devices, Moment, started, shard_at_start, slot_at_start}
+use Rattle.r6_world.specs.Claims.{IsLawfulStart, IsFresh}
+use Rattle.r6_world.specs.Witness.{smallest, small, after_all, RunsInTurn, CourseFrom, ErrorFrom, FailureFrom, CheckFrom, IsAnswered, WitnessLaw}
+use Rattle.r6_world.proofs.Geometries.{layouts}
+use Rattle.r6_world.proofs.Witness.Pieces.{View, Stands, Reaches, run-append, goes-append, after-append}
+use Rattle.r6_world.proofs.Witness.SmallShards.{register_with, all_in_sync, but_one-same}
+use Rattle.r6_world.proofs.Witness.Written.{s0, v0, v6, wrote}
+use Rattle.r6_world.proofs.Witness.Lost.{when_lost, when_restored, loses, restores}
+use Rattle.r6_world.proofs.Witness.Erred.{when_erred, when_recovered, erred, recovers}
+use Rattle.r6_world.proofs.Witness.Failed.{two_out, two_fail, last_moments, fails}
+use Rattle.r6_world.proofs.Witness.Checked.{when_checked, checks}
+use Rattle.r6_world.proofs.Witness.Rebuilt.{when_attached, when_rebuilt, at_last, attaches, rebuilds, reads_again}
+
+-- ---- the start
+
+lawful : IsShape smallest
+lawful = record {
+  slots_allowed = (omega arith, omega arith);
+  chunk_allowed = (omega arith, omega arith);
+  block_allowed = (omega arith, omega arith, refl);
+  rows_allowed = (omega arith, omega arith, refl);
+  shards_allowed = (omega arith, omega arith, omega arith);
+}
+
+abbrev device : Array → Devices
+device array slot generation row = content small array row slot
+
+n0≤2 : 0 ≤ 2
+n0≤2 = omega arith
+
+n0<2 : 0 < 2
+n0<2 = omega arith
+
+n1<2 : 1 < 2
+n1<2 = omega arith
+
+starts : (array : Array) → IsArray small array → IsLawfulStart small (register_with InSync 0) (device array) array
+starts array sized = record {
+  many_slots = refl;
+  fresh = λ slot. subst IsFresh (sym (all_in_sync slot)) (record {});
+  no_others = λ slot past. all_in_sync slot;
+  few_lost = n0≤2;
+  no_attach = refl;
+  not_failed = refl;
+  sized = sized;
+  full_rows = λ row slot row-below below e. refl;
+}
+
+same_shard : shard_at_start small (register_with InSync 0) 0 ≡ s0
+same_shard = λ i. record s0 { slot = λ d. (ap slot_at_start (all_in_sync d) ∙ but_one-same d) i }
+
+stands : (array : Array) → Stands (started small (register_with InSync 0) (device array)) (v0 array)
+stands array = record {
+  shard_is = same_shard;
+  register_is = refl;
+  device_is = λ d g. refl;
+  unused = λ t e. refl;
+  completed_is = refl;
+  settled_is = refl;
+  few_out = n0≤2;
+  not_failed = refl;
+}
+
+-- ---- what stands is what is claimed
+
+answered : (w : World) (v : View) (id : ℕ) (op : Op) (reply : Reply) → Stands w v → v.shard.request id ≡ Some (record { op = op; stage = Released reply }) → IsAnswered w id op reply
+answered w v id op reply at there = ap (λ s. s.request id) at.shard_is ∙ there
+
+-- a run goes on
+more : (w : World) (moments : List Moment) (Claimed : World → Type 0) → RunsInTurn small w moments → Reaches small (after_all small w moments) Claimed
+    → (others : List Moment) × RunsInTurn small w (moments ++ others) × Claimed (after_all small w (moments ++ others))
+more w moments Claimed run rest = (
+  rest.0,
+  goes-append small w moments rest.0 run rest.1,
+  subst Claimed (sym (after-append small w moments rest.0)) rest.2,
+)
+
+-- ---- the course, part by part
+
+module _ (array : Array) (b : Block) (wide : length b ≡ 16) (other-wide : length (array 1) ≡ 16) where
+  abbrev start : World
+  start = started small (register_with InSync 0) (device array)
+
+  -- after this run the world is known to be so
+  abbrev Ends : List Moment → View → Type 0
+  Ends moments v = Stands (after_all small start moments) v
+
+  abbrev Runs : List Moment → Type 0
+  Runs moments = RunsInTurn small start moments
+
+  six : (x1 x2 x3 x4 x5 x6 : List Moment) → Runs (x1 ++ x2 ++ x3 ++ x4 ++ x5 ++ x6)
+      → Ends x1 (v6 array b) → Ends (x1 ++ x2) (when_lost array b) → Ends (x1 ++ x2 ++ x3) (when_restored array b)
+      → Ends (x1 ++ x2 ++ x3 ++ x4) (when_attached array b) → Ends (x1 ++ x2 ++ x3 ++ x4 ++ x5) (when_rebuilt array b)
+      → Ends (x1 ++ x2 ++ x3 ++ x4 ++ x5 ++ x6) (at_last array b)
+      → CourseFrom start b
+  six x1 x2 x3 x4 x5 x6 run at1 at2 at3 at4 at5 at6 = record {
+    write = x1;
+    loss = x2;
+    degraded_read = x3;
+    attach = x4;
+    rebuild = x5;
+    read = x6;
+    is_run = run;
+    is_written = answered (after_all small start x1) (v6 array b) 0 (Write 0 b) Done at1 refl;
+    is_lost = (ap (λ r. status_of r 1) at2.register_is, ap (λ s. s.slot 1) at2.shard_is);
+    is_restored = answered (after_all small start (x1 ++ x2 ++ x3)) (when_restored array b) 1 (Read 0) (Data b) at3 refl;
+    is_attached = (ap (λ r. status_of r 1) at4.register_is, ap (λ s. s.slot 1) at4.shard_is);
+    is_rebuilt = (ap (λ r. status_of r 1) at5.register_is, at5.completed_is, ap (λ s. s.slot 1) at5.shard_is);
+    is_read = answered (after_all small start (x1 ++ x2 ++ x3 ++ x4 ++ x5 ++ x6)) (at_last array b) 2 (Read 0) (Data b) at6 refl;
+  }
+
+  five : (x1 x2 x3 x4 x5 : List Moment) → Runs (x1 ++ x2 ++ x3 ++ x4 ++ x5)
+      → Ends x1 (v6 array b) → Ends (x1 ++ x2) (when_lost array b) → Ends (x1 ++ x2 ++ x3) (when_restored array b)
+      → Ends (x1 ++ x2 ++ x3 ++ x4) (when_attached array b) → Ends (x1 ++ x2 ++ x3 ++ x4 ++ x5) (when_rebuilt array b)
+      → CourseFrom start b
+  five x1 x2 x3 x4 x5 run at1 at2 at3 at4 at5 =
+      let part = more start (x1 ++ x2 ++ x3 ++ x4 ++ x5) (λ w. Stands w (at_last array b)) run (reads_again array b (after_all small start (x1 ++ x2 ++ x3 ++ x4 ++ x5)) at5) in
+      six x1 x2 x3 x4 x5 part.0 part.1 at1 at2 at3 at4 at5 part.2
+
+  four : (x1 x2 x3 x4 : List Moment) → Runs (x1 ++ x2 ++ x3 ++ x4)
+      → Ends x1 (v6 array b) → Ends (x1 ++ x2) (when_lost array b) → Ends (x1 ++ x2 ++ x3) (when_restored array b)
+      → Ends (x1 ++ x2 ++ x3 ++ x4) (when_attached array b)
+      → CourseFrom start b
+  four x1 x2 x3 x4 run at1 at2 at3 at4 =
+      let part = more start (x1 ++ x2 ++ x3 ++ x4) (λ w. Stands w (when_rebuilt array b)) run (rebuilds array b wide other-wide (after_all small start (x1 ++ x2 ++ x3 ++ x4)) at4) in
+      five x1 x2 x3 x4 part.0 part.1 at1 at2 at3 at4 part.2
+
+  three : (x1 x2 x3 : List Moment) → Runs (x1 ++ x2 ++ x3)
+      → Ends x1 (v6 array b) → Ends (x1 ++ x2) (when_lost array b) → Ends (x1 ++ x2 ++ x3) (when_restored array b) → CourseFrom start b
+  three x1 x2 x3 run at1 at2 at3 =
+      let part = more start (x1 ++ x2 ++ x3) (λ w. Stands w (when_attached array b)) run (attaches array b (after_all small start (x1 ++ x2 ++ x3)) at3) in
+      four x1 x2 x3 part.0 part.1 at1 at2 at3 part.2
+
+  two : (x1 x2 : List Moment) → Runs (x1 ++ x2) → Ends x1 (v6 array b) → Ends (x1 ++ x2) (when_lost array b) → CourseFrom start b
+  two x1 x2 run at1 at2 =
+      let part = more start (x1 ++ x2) (λ w. Stands w (when_restored array b)) run (restores array b wide other-wide (after_all small start (x1 ++ x2)) at2) in
+      three x1 x2 part.0 part.1 at1 at2 part.2
+
+  one : (x1 : List Moment) → Runs x1 → Ends x1 (v6 array b) → CourseFrom start b
+  one x1 run at1 =
+      let part = more start x1 (λ w. Stands w (when_lost array b)) run (loses array b (after_all small start x1) at1) in
+      two x1 part.0 part.1 at1 part.2
+
+  course : IsBlock 16 b → CourseFrom start b
+  course sized = let part = wrote array b sized start (stands array) in one part.0 part.1 part.2
+
+-- ---- the course with an error
+
+module _ (array : Array) (wide : length (array 0) ≡ 16) (other-wide : length (array 1) ≡ 16) where
+  abbrev begin : World
+  begin = started small (register_with InSync 0) (device array)
+
+  both : (x1 x2 : List Moment) → RunsInTurn small begin (x1 ++ x2) → (after_all small begin x1).broken 0 1 0 ≡ true
+      → Stands (after_all small begin x1) (when_erred array) → Stands (after_all small begin (x1 ++ x2)) (when_recovered array) → ErrorFrom begin (array 0)
+  both x1 x2 run broken at1 at2 = record {
+    error = x1;
+    read = x2;
+    is_run = run;
+    is_broken = broken;
+    is_missing = ap (λ s. s.slot 1) at1.shard_is;
+    is_lost = (ap (λ r. status_of r 1) at2.register_is, ap (λ s. s.slot 1) at2.shard_is);
+    is_read = answered (after_all small begin (x1 ++ x2)) (when_recovered array) 0 (Read 0) (Data (array 0)) at2 refl;
+  }
+
+  first_part : (x1 : List Moment) → RunsInTurn small begin x1 → (after_all small begin x1).broken 0 1 0 ≡ true → Stands (after_all small begin x1) (when_erred array) → ErrorFrom begin (array 0)
+  first_part x1 run broken at1 =
+      let part = more begin x1 (λ w. Stands w (when_recovered array)) run (recovers array wide other-wide (after_all small begin x1) at1) in
+      both x1 part.0 part.1 broken at1 part.2
+
+  error_course : ErrorFrom begin (array 0)
+  error_course = let part = erred array begin (stands array) in first_part part.0 part.1 part.2.1 part.2.0
+
+-- ---- the course with a failure
+
+failure_after : (w : World) (array : Array) → Reaches small w (λ later. Stands later (two_out array)) → FailureFrom w
+failure_after w array part =
+    let between : World = after_all small w part.0 in
+    let last = fails array between part.2 in
+    let same : after_all small w (part.0 ++ last_moments between) ≡ after_all small between (last_moments between) = after-append small w part.0 (last_moments between) in
+    record {
+      failure = part.0 ++ last_moments between;
+      is_run = run-append small w part.0 (last_moments between) part.1.run last.0;
+      has_failed = ap (λ x. x.register.failed) same ∙ last.1;
+      is_refused = ap (λ x. (x.shard 0).request 0) same ∙ last.2;
+    }
+
+checked : (w : World) (array : Array) → Reaches small w (λ later. Stands later (when_checked array)) → CheckFrom w
+checked w array part = record { check = part.0; is_run = part.1; is_consistent = ap (λ s. s.counts.consistent) part.2.shard_is }
+
+pub witness : WitnessLaw
+witness = (
+  lawful,
+  layouts smallest lawful,
+  (λ array b sized b-sized. (
+    register_with InSync 0,
+    device array,
+    starts array sized,
+    course array b b-sized.length_is (sized 1 n1<2).length_is b-sized,
+    error_course array (sized 0 n0<2).length_is (sized 1 n1<2).length_is,
+    failure_after (started small (register_with InSync 0) (device array)) array (two_fail array (started small (register_with InSync 0) (device array)) (stands array)),
+    checked (started small (register_with InSync 0) (device array)) array (checks array (sized 0 n0<2) (sized 1 n1<2) (started small (register_with InSync 0) (device array)) (stands array)),
+  )),
+)
