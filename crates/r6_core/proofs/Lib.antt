@@ -19,8 +19,8 @@ pub mod MayBegin
 pub mod Passed
 pub mod Releasing
 pub mod Replies
-pub mod RunWitness
 pub mod Runs
+pub mod Courses
 pub mod Scanned
 pub mod SeenFailure
 pub mod Settling

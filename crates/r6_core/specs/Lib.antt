@@ -3,6 +3,7 @@ pub mod Refusals
 pub mod Order
 pub mod Inside
 pub mod Runs
+pub mod Courses
 pub use Rattle.r6_frames.specs.Views
 pub use Rattle.r6_frames.specs.Calls
 pub use Rattle.r6_frames.specs.Owed

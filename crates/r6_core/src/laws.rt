@@ -3,20 +3,33 @@
 ghost use Rattle.r6_world.specs.Geometries.{LayoutLaw};
 ghost use Rattle.r6_world.specs.Laws.{ArrayLaw, QuietLaw, RebuiltLaw, ShardLaw};
 ghost use Rattle.r6_world.specs.Sequential.{SequentialLaw};
-ghost use Rattle.r6_core.specs.Runs.{RunsOfCores, ArrayOfCores, QuietOfCores, ThereAreRuns};
+ghost use Rattle.r6_core.specs.Runs.{RunsOfCores, RunsOfOneCore, ArrayOfCores, QuietOfCores, SequentialOfCores, ShardOfCores};
 
 /// The laws of an array whose shards are cores.
 ///
 /// A run of cores is a list of calls of [`Core`](crate::Core), each as its contract says, with devices that perform the
-/// commands that were taken, calls at the register that a core has to make, and calls there from outside; a good completion
-/// brings the block that its device gave, an error may come at any time, and a look sees the register as it is. `cores`:
-/// from cores as [`Core::new`](crate::Core::new) makes them, every such run is a run of the world, whose shards are the
-/// cores at each moment. So of every run of cores holds (`array_of_cores`): each request that is answered `Data` or `Done`
-/// acted at one moment between its hand-over and its answer as on one plain array, each such reply is that array's, one
-/// answered `ArrayFailed` acted so or not at all, and every idle row's slots in sync hold that array's blocks, P and Q, in
-/// each shard with at most two slots out that has not seen the failure; and (`quiet_of_cores`): when a core has no command
-/// out and its last event, takings aside, was a look at the register as it is, each request that it accepted has its reply
-/// ready, or it was taken. `there_are`: there are such runs.
+/// commands that were taken, calls at the register that a core has to make, and calls there from outside. What it asks of
+/// those who drive the cores:
+///
+/// - A good completion is only of a command that its device performed, and that of a read brings the block that the device
+///   gave. An error may come at any time. After a part of a device (the rows of one shard on it) has answered an error, no
+///   completion of a command that it performed later is delivered before that error.
+/// - A call that is taken is made at the register and told with no event of that core between.
+/// - A look sees the register as it is at that moment.
+///
+/// `cores`: from cores as [`Core::new`](crate::Core::new) makes them, every such run is a run of the world, whose shards are
+/// the cores at each moment. So of every run of the cores of all shards holds (`array_of_cores`): each request that is
+/// answered `Data` or `Done` acted at the end of its hold, between its hand-over and its answer, as on one plain array, each
+/// such reply is that array's, one answered `ArrayFailed` acted so or not at all, and every idle row's slots in sync hold
+/// that array's blocks, P and Q, in each shard with at most two slots out that has not seen the failure; and
+/// (`quiet_of_cores`): when a core has no command out and its last event, takings aside, was a look at the register as it
+/// is, each request that it accepted has its reply ready, or it was taken. With one shard, one request at a time and at most
+/// two slots out, the replies are the plain array's in the order of the requests (`sequential_of_cores`).
+///
+/// `one_core`, `shard_of_cores`: the run of one core alone, beside a register that anyone calls, is a run of the world too,
+/// and its answers and rows are so as well: the thread of a core need know nothing of the other shards.
+///
+/// That there are such runs, [`read_through_a_loss`](crate::read_through_a_loss) shows.
 pub fn array_law()
     ensures array { ArrayLaw }
     ensures quiet { QuietLaw }
@@ -28,7 +41,10 @@ pub fn array_law()
     ensures cores { RunsOfCores }
     ensures array_of_cores { ArrayOfCores }
     ensures quiet_of_cores { QuietOfCores }
-    ensures there_are { ThereAreRuns }
+    ensures sequential_of_cores { SequentialOfCores }
+
+    ensures one_core { RunsOfOneCore }
+    ensures shard_of_cores { ShardOfCores }
 {
     r6_world::array_law();
     r6_world::quiet_law();

@@ -1,8 +1,7 @@
 use Rattle.std.proofs.Common.{ℕ, ◌<◌}
 use Rattle.r6_world.specs.Laws.{ArrayHolds, Explained, AtEach, at_start}
 use Rattle.r6_world.specs.Claims.{IsQuiet, AllAnswered}
-use Rattle.r6_core.proofs.Runs.{runs_of_cores, of_every_run}
-use Rattle.r6_core.proofs.RunWitness.{there_are_runs}
+use Rattle.r6_core.proofs.Runs.{runs_of_cores, runs_of_one_core, of_every_run, shard_of_cores, sequential_of_cores}
 use Rattle.r6_core.proofs.laws.array_law.Goals as goal
 
 pub returns-clause-cores : goal.returns-clause-cores
@@ -16,5 +15,11 @@ pub returns-clause-quiet_of_cores : goal.returns-clause-quiet_of_cores
 returns-clause-quiet_of_cores c =
     of_every_run (λ l array start moments. AtEach l (λ w. (n : ℕ) → n < l.shards → IsQuiet w n → AllAnswered w n) start moments) c.layout_law.ensures c.quiet_law.ensures
 
-pub returns-clause-there_are : goal.returns-clause-there_are
-returns-clause-there_are c = there_are_runs
+pub returns-clause-sequential_of_cores : goal.returns-clause-sequential_of_cores
+returns-clause-sequential_of_cores c = sequential_of_cores c.layout_law.ensures c.sequential_law.ensures
+
+pub returns-clause-one_core : goal.returns-clause-one_core
+returns-clause-one_core c = runs_of_one_core
+
+pub returns-clause-shard_of_cores : goal.returns-clause-shard_of_cores
+returns-clause-shard_of_cores c = shard_of_cores c.layout_law.ensures c.shard_law.ensures
