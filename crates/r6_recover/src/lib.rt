@@ -19,4 +19,6 @@ pub use parity::{rewrite_parity, write_parity};
 pub use row::{RowBuf, repair_parity, restore};
 
 #[cfg(test)]
+mod lane_tests;
+#[cfg(test)]
 mod tests;
