@@ -4,21 +4,11 @@
 ghost use Rattle.std.specs.Prelude.{◌≡◌, ◌≢◌, ◌⊎◌, None};
 ghost use Rattle.clap.specs.Values.{kind_of};
 ghost use Rattle.clap.specs.declared.error.kind.ErrorKind.TheVariants.{DisplayHelp, DisplayVersion};
-ghost use Rattle.r6_tool.specs.Status.{status_of};
-
-mod execute;
-mod fault;
-mod geometry;
-mod output;
-#[cfg(test)]
-mod simulate_tests;
-#[cfg(test)]
-mod tests;
+ghost use Rattle.r6_execute.specs.Status.{status_of};
 
 use clap::Error;
-use execute::execute;
-use fault::Fault;
 use r6_command::{CommandFault, Invocation, command};
+use r6_execute::{Fault, execute};
 use std::fs::{self, File};
 use std::io::{self, ErrorKind, Read};
 use std::process::ExitCode;
@@ -115,3 +105,10 @@ fn status(rt: &HostRuntime) -> u8 {
 fn main(rt: HostRuntime) -> ExitCode {
     ExitCode::from(status(&rt))
 }
+
+#[cfg(test)]
+mod runs;
+#[cfg(test)]
+mod simulate_tests;
+#[cfg(test)]
+mod tests;

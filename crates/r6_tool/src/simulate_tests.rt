@@ -1,43 +1,45 @@
-use crate::execute::execute;
-use crate::tests::{Ended, Full, Torn};
+//! The command `simulate`.
+
+use crate::runs::{ends, ends_unread, ends_unwritten};
 use r6_command::Invocation;
-use std::alloc::Global;
+use std::alloc::{AllocError, Global};
 use std::fmt::Write as _;
 use std::io::ErrorKind;
+use std::process::Abort;
 use std::test::Fail;
 
 const SIMULATE: Invocation<'static> = Invocation::Simulate { script: "script" };
 
 const FOUR_SLOTS: &str = "array 4 1 16 4 1\n";
 
-fn simulated(alloc: Global, text: &[u8]) -> Ended {
-    let (mut out, mut err) = (Vec::new(alloc), Vec::new(alloc));
-    let mut settings: &[u8] = b"";
-    let mut text = text;
-    let status = execute(
-        alloc,
-        &SIMULATE,
-        &mut settings,
-        &mut text,
-        &mut out,
-        &mut err,
-    );
-    Ended { out, err, status }
-}
-
-// What a transcript lacks: it has the events of a script, each with the line that it prints.
-fn differs(alloc: Global, transcript: &[(&str, &str)]) -> Result<Option<String>, Fail> {
+/// Each event of a script has to print its line.
+fn plays<R: Abort>(rt: &R, alloc: Global, transcript: &[(&str, &str)]) -> Result<(), AllocError> {
     let (mut script, mut lines) = (String::new(alloc), String::new(alloc));
     for (event, line) in transcript {
         writeln!(script, "{event}")?;
         writeln!(lines, "{line}")?;
     }
-    let run = simulated(alloc, script.as_bytes());
-    if run.status == 0 && run.err.is_empty() && run.out.as_slice() == lines.as_bytes() {
-        return Ok(None);
-    }
-    let printed = std::str::from_utf8(run.out.as_slice()).ok().ok_or("text")?;
-    Ok(Some(format!(in alloc; "status {}\n{printed}", run.status)?))
+    ends(
+        rt,
+        alloc,
+        &SIMULATE,
+        script.as_bytes(),
+        (lines.as_str(), "", 0),
+    );
+    Ok(())
+}
+
+/// A script has to be refused at this line.
+fn is_refused_at<R: Abort>(rt: &R, alloc: Global, text: &str, line: u64) -> Result<(), AllocError> {
+    let fault = format!(in alloc; "script: line {line}\n")?;
+    ends(
+        rt,
+        alloc,
+        &SIMULATE,
+        text.as_bytes(),
+        ("", fault.as_str(), 3),
+    );
+    Ok(())
 }
 
 #[test]
@@ -58,8 +60,7 @@ fn a_write_waits_for_its_last_block_and_is_read_back(rt: HostRuntime) -> Result<
         ("do 0:4", "taken"),
         ("look 0", "looked | reply 0:1 data 5a"),
     ];
-    let found = differs(rt.alloc(), transcript.as_slice())?;
-    assert_eq!(rt; found, None);
+    plays(&rt, rt.alloc(), &transcript)?;
     Ok(())
 }
 
@@ -86,8 +87,7 @@ fn a_later_row_may_end_first(rt: HostRuntime) -> Result<(), Fail> {
         ("do 0:7", "taken"),
         ("look 0", "looked | reply 0:0 done"),
     ];
-    let found = differs(rt.alloc(), transcript.as_slice())?;
-    assert_eq!(rt; found, None);
+    plays(&rt, rt.alloc(), &transcript)?;
     Ok(())
 }
 
@@ -108,8 +108,7 @@ fn a_command_is_performed_once_and_answered_once(rt: HostRuntime) -> Result<(), 
         ("look 0", "looked | reply 0:0 data 00"),
         ("look 0", "looked"),
     ];
-    let found = differs(rt.alloc(), transcript.as_slice())?;
-    assert_eq!(rt; found, None);
+    plays(&rt, rt.alloc(), &transcript)?;
     Ok(())
 }
 
@@ -126,8 +125,7 @@ fn what_is_not_there_is_named(rt: HostRuntime) -> Result<(), Fail> {
         // What was refused got no number.
         ("read 7", "op 0:0 | 0:0 read slot 3 gen 0 row 3"),
     ];
-    let found = differs(rt.alloc(), transcript.as_slice())?;
-    assert_eq!(rt; found, None);
+    plays(&rt, rt.alloc(), &transcript)?;
     Ok(())
 }
 
@@ -151,15 +149,13 @@ fn each_shard_has_its_own_numbers(rt: HostRuntime) -> Result<(), Fail> {
             "taken | 1:2 write slot 0 gen 0 row 2 5a | 1:3 write slot 1 gen 0 row 2 5a | 1:4 write slot 2 gen 0 row 2 b4",
         ),
     ];
-    let found = differs(rt.alloc(), transcript.as_slice())?;
-    assert_eq!(rt; found, None);
+    plays(&rt, rt.alloc(), &transcript)?;
     Ok(())
 }
 
 #[test]
 fn a_shard_takes_256_requests_at_a_time(rt: HostRuntime) -> Result<(), Fail> {
-    let alloc = rt.alloc();
-    let (mut script, mut lines) = (String::new(alloc), String::new(alloc));
+    let (mut script, mut lines) = (String::new(rt.alloc()), String::new(rt.alloc()));
     write!(script, "{FOUR_SLOTS}read 0\n")?;
     write!(lines, "array\nop 0:0 | 0:0 read slot 1 gen 0 row 0\n")?;
     for id in 1..256 {
@@ -168,18 +164,20 @@ fn a_shard_takes_256_requests_at_a_time(rt: HostRuntime) -> Result<(), Fail> {
     }
     writeln!(script, "read 1")?;
     writeln!(lines, "refused 4 Busy")?;
-    let run = simulated(alloc, script.as_bytes());
-    assert_eq!(rt; run.out.as_slice(), lines.as_bytes());
-    assert_eq!(rt; run.status, 0);
+    ends(
+        &rt,
+        rt.alloc(),
+        &SIMULATE,
+        script.as_bytes(),
+        (lines.as_str(), "", 0),
+    );
     Ok(())
 }
 
 #[test]
 fn a_script_without_events_prints_nothing(rt: HostRuntime) {
     for text in ["", "\n", "#\n", "# array 4 1 16 4 1", "\n\n# nothing\n"] {
-        let run = simulated(rt.alloc(), text.as_bytes());
-        assert!(rt; run.out.is_empty() && run.err.is_empty(), "at {text:?}");
-        assert_eq!(rt; run.status, 0, "at {text:?}");
+        ends(&rt, rt.alloc(), &SIMULATE, text.as_bytes(), ("", "", 0));
     }
 }
 
@@ -188,30 +186,17 @@ fn comments_and_empty_lines_are_passed_over(rt: HostRuntime) {
     let texts = [
         (
             "# a\n\n#array\narray 4 1 16 4 1\n\n# b\nlook 0",
-            "array\nlooked\n",
-            "",
-            0,
+            ("array\nlooked\n", "", 0),
         ),
-        ("array 4 1 16 4 1", "array\n", "", 0),
+        ("array 4 1 16 4 1", ("array\n", "", 0)),
         (
             "# a\n\narray 4 1 16 4 1\n\n# b\nlook\n",
-            "",
-            "script: line 6\n",
-            3,
+            ("", "script: line 6\n", 3),
         ),
     ];
-    for (text, out, err, status) in texts {
-        let run = simulated(rt.alloc(), text.as_bytes());
-        assert_eq!(rt; run.out.as_slice(), out.as_bytes(), "at {text:?}");
-        assert_eq!(rt; run.err.as_slice(), err.as_bytes(), "at {text:?}");
-        assert_eq!(rt; run.status, status, "at {text:?}");
+    for (text, wanted) in texts {
+        ends(&rt, rt.alloc(), &SIMULATE, text.as_bytes(), wanted);
     }
-}
-
-fn is_refused_at(alloc: Global, text: &str, line: u64) -> Result<bool, Fail> {
-    let run = simulated(alloc, text.as_bytes());
-    let fault = format!(in alloc; "script: line {line}\n")?;
-    Ok(run.out.is_empty() && run.status == 3 && run.err.as_slice() == fault.as_bytes())
 }
 
 #[test]
@@ -241,7 +226,7 @@ fn a_script_begins_with_its_array(rt: HostRuntime) -> Result<(), Fail> {
         " # comment\n",
     ];
     for text in texts {
-        assert!(rt; is_refused_at(rt.alloc(), text, 1)?, "at {text:?}");
+        is_refused_at(&rt, rt.alloc(), text, 1)?;
     }
     Ok(())
 }
@@ -303,58 +288,42 @@ fn lines_out_of_the_grammar_are_refused(rt: HostRuntime) -> Result<(), Fail> {
         "0",
         "; comment",
     ];
-    let alloc = rt.alloc();
     for line in lines {
-        let text = format!(in alloc; "{FOUR_SLOTS}{line}\nlook 0\n")?;
-        assert!(rt; is_refused_at(alloc, text.as_str(), 2)?, "at {line:?}");
+        let text = format!(in rt.alloc(); "{FOUR_SLOTS}{line}\nlook 0\n")?;
+        is_refused_at(&rt, rt.alloc(), text.as_str(), 2)?;
     }
     Ok(())
 }
 
 #[test]
 fn a_script_that_cannot_be_read_is_reported(rt: HostRuntime) {
-    let alloc = rt.alloc();
     let kinds = [
-        (ErrorKind::PermissionDenied, "script: unreadable\n", 3),
-        (ErrorKind::OutOfMemory, "memory\n", 5),
+        (ErrorKind::PermissionDenied, ("script: unreadable\n", 3)),
+        (ErrorKind::OutOfMemory, ("memory\n", 5)),
     ];
-    for (kind, line, status) in kinds {
-        let mut settings: &[u8] = b"";
-        let mut script = Torn::new(FOUR_SLOTS.as_bytes(), kind);
-        let (mut out, mut err) = (Vec::new(alloc), Vec::new(alloc));
-        let ends = execute(
-            alloc,
+    for (kind, wanted) in kinds {
+        ends_unread(
+            &rt,
+            rt.alloc(),
             &SIMULATE,
-            &mut settings,
-            &mut script,
-            &mut out,
-            &mut err,
+            FOUR_SLOTS.as_bytes(),
+            kind,
+            wanted,
         );
-        assert_eq!(rt; err.as_slice(), line.as_bytes());
-        assert!(rt; out.is_empty());
-        assert_eq!(rt; ends, status);
     }
-    let run = simulated(alloc, b"# \xff\n");
-    assert_eq!(rt; run.err.as_slice(), b"script: unreadable\n".as_slice());
-    assert_eq!(rt; run.status, 3);
+    ends(
+        &rt,
+        rt.alloc(),
+        &SIMULATE,
+        b"# \xff\n",
+        ("", "script: unreadable\n", 3),
+    );
 }
 
 #[test]
 fn an_output_that_refuses_ends_the_run(rt: HostRuntime) {
-    let alloc = rt.alloc();
     for room in [0, 5, 6, 12] {
-        let mut settings: &[u8] = b"";
-        let mut script: &[u8] = b"array 4 1 16 4 1\nlook 0\nlook 0\n";
-        let (mut out, mut err) = (Full::new(room), Vec::new(alloc));
-        let ends = execute(
-            alloc,
-            &SIMULATE,
-            &mut settings,
-            &mut script,
-            &mut out,
-            &mut err,
-        );
-        assert_eq!(rt; err.as_slice(), b"output\n".as_slice());
-        assert_eq!(rt; ends, 4);
+        let script = b"array 4 1 16 4 1\nlook 0\nlook 0\n";
+        ends_unwritten(&rt, rt.alloc(), &SIMULATE, script, room);
     }
 }

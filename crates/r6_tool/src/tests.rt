@@ -1,7 +1,9 @@
-use crate::execute::execute;
+//! The command `geometry`, and the commands to come.
+
+use crate::runs::{ends, ends_unread, ends_unwritten};
 use r6_command::Invocation;
-use std::alloc::Global;
-use std::io::{self, ErrorKind, Read, Write};
+use r6_execute::execute;
+use std::io::ErrorKind;
 use std::test::Fail;
 
 const FOUR_SLOTS: &str = "slots = 4\nchunk = 1\nblock = 16\nrows = 4\nshards = 2\n";
@@ -15,94 +17,14 @@ chunk row 2: d1 p q d0
 chunk row 3: p q d0 d1
 ";
 
-// A reader that hands out its text and then fails.
-#[derive(Drop)]
-pub struct Torn<'a> {
-    text: &'a [u8],
-    kind: ErrorKind,
-}
-
-impl<'a> Torn<'a> {
-    pub fn new(text: &'a [u8], kind: ErrorKind) -> Torn<'a> {
-        Torn { text, kind }
-    }
-}
-
-impl Read for Torn<'_> {
-    fn read(&mut self, buf: &mut [u8]) -> io::Result<usize> {
-        if self.text.is_empty() {
-            return Err(io::Error::from(self.kind));
-        }
-        let mut text = self.text;
-        let count = text.read(buf)?;
-        self.text = text;
-        Ok(count)
-    }
-}
-
-// A writer that takes so many bytes and then refuses, a flush too.
-#[derive(Drop)]
-pub struct Full {
-    room: usize,
-}
-
-impl Full {
-    pub fn new(room: usize) -> Full {
-        Full { room }
-    }
-}
-
-impl Write for Full {
-    fn write(&mut self, buf: &[u8]) -> io::Result<usize> {
-        if self.room == 0 {
-            return Err(io::Error::from(ErrorKind::StorageFull));
-        }
-        let count = buf.len().min(self.room);
-        self.room -= count;
-        Ok(count)
-    }
-
-    fn flush(&mut self) -> io::Result<()> {
-        if self.room == 0 {
-            return Err(io::Error::from(ErrorKind::StorageFull));
-        }
-        Ok(())
-    }
-}
-
-// What a command wrote to its two outputs, and its status.
-#[derive(Drop)]
-pub struct Ended {
-    pub out: Vec<u8>,
-    pub err: Vec<u8>,
-    pub status: u8,
-}
-
 const GEOMETRY: Invocation<'static> = Invocation::Geometry {
     config: "array.toml",
 };
 
-fn ran(alloc: Global, invocation: &Invocation<'_>, text: &[u8]) -> Ended {
-    let (mut out, mut err) = (Vec::new(alloc), Vec::new(alloc));
-    let mut text = text;
-    let mut script: &[u8] = b"";
-    let status = execute(
-        alloc,
-        invocation,
-        &mut text,
-        &mut script,
-        &mut out,
-        &mut err,
-    );
-    Ended { out, err, status }
-}
-
 #[test]
 fn prints_the_layout_of_four_slots(rt: HostRuntime) {
-    let run = ran(rt.alloc(), &GEOMETRY, FOUR_SLOTS.as_bytes());
-    assert_eq!(rt; run.out.as_slice(), FOUR_SLOTS_LAYOUT.as_bytes());
-    assert!(rt; run.err.is_empty());
-    assert_eq!(rt; run.status, 0);
+    let text = FOUR_SLOTS.as_bytes();
+    ends(&rt, rt.alloc(), &GEOMETRY, text, (FOUR_SLOTS_LAYOUT, "", 0));
 }
 
 #[test]
@@ -119,9 +41,7 @@ chunk row 3: d2 d3 p q d0 d1
 chunk row 4: d3 p q d0 d1 d2
 chunk row 5: p q d0 d1 d2 d3
 ";
-    let run = ran(rt.alloc(), &GEOMETRY, text.as_slice());
-    assert_eq!(rt; run.out.as_slice(), layout.as_bytes());
-    assert_eq!(rt; run.status, 0);
+    ends(&rt, rt.alloc(), &GEOMETRY, text, (layout, "", 0));
 }
 
 // Three chunk rows are fewer than five slots.
@@ -134,26 +54,33 @@ chunk row 0: q d0 d1 d2 p
 chunk row 1: d0 d1 d2 p q
 chunk row 2: d1 d2 p q d0
 ";
-    let run = ran(rt.alloc(), &GEOMETRY, text.as_slice());
-    assert_eq!(rt; run.out.as_slice(), layout.as_bytes());
+    ends(&rt, rt.alloc(), &GEOMETRY, text, (layout, "", 0));
 }
 
 #[test]
 fn prints_the_largest_array(rt: HostRuntime) -> Result<(), Fail> {
-    let text = b"slots = 32\nchunk = 128\nblock = 4096\nrows = 16777216\nshards = 16\n";
-    let run = ran(rt.alloc(), &GEOMETRY, text.as_slice());
-    let layout = std::str::from_utf8(run.out.as_slice()).ok().ok_or("text")?;
-    let mut lines = layout.lines();
-    assert_eq!(rt;
-        lines.next(),
-        Some("slots 32 chunk 128 block 4096 rows 16777216 shards 16 blocks 503316480")
+    let mut settings: &[u8] =
+        b"slots = 32\nchunk = 128\nblock = 4096\nrows = 16777216\nshards = 16\n";
+    let mut script: &[u8] = b"";
+    let (mut out, mut err) = (Vec::new(rt.alloc()), Vec::new(rt.alloc()));
+    execute(
+        rt.alloc(),
+        &GEOMETRY,
+        &mut settings,
+        &mut script,
+        &mut out,
+        &mut err,
     );
-    assert_eq!(rt; lines.next(), Some("shard 0 rows 0 to 1048575"));
+    let layout = std::str::from_utf8(out.as_slice()).ok().ok_or("text")?;
+    assert!(rt;
+        layout.starts_with(
+            "slots 32 chunk 128 block 4096 rows 16777216 shards 16 blocks 503316480\nshard 0 rows 0 to 1048575\n"
+        )
+    );
     assert_eq!(rt; layout.lines().count(), 1 + 16 + 32);
-    assert_eq!(rt;
-        layout.lines().last(),
-        Some(
-            "chunk row 31: p q d0 d1 d2 d3 d4 d5 d6 d7 d8 d9 d10 d11 d12 d13 d14 d15 d16 d17 d18 d19 d20 d21 d22 d23 d24 d25 d26 d27 d28 d29"
+    assert!(rt;
+        layout.ends_with(
+            "\nchunk row 31: p q d0 d1 d2 d3 d4 d5 d6 d7 d8 d9 d10 d11 d12 d13 d14 d15 d16 d17 d18 d19 d20 d21 d22 d23 d24 d25 d26 d27 d28 d29\n"
         )
     );
     Ok(())
@@ -252,101 +179,61 @@ fn names_the_first_fault(rt: HostRuntime) {
         ),
     ];
     for (text, line) in texts {
-        let run = ran(rt.alloc(), &GEOMETRY, text.as_bytes());
-        assert_eq!(rt; run.err.as_slice(), line.as_bytes(), "at {text:?}");
-        assert!(rt; run.out.is_empty(), "at {text:?}");
-        assert_eq!(rt; run.status, 3, "at {text:?}");
+        ends(&rt, rt.alloc(), &GEOMETRY, text.as_bytes(), ("", line, 3));
     }
 }
 
 #[test]
 fn a_file_that_fails_or_is_no_text_is_unreadable(rt: HostRuntime) {
-    let alloc = rt.alloc();
     let kinds = [
-        (ErrorKind::PermissionDenied, "settings: unreadable\n", 3),
-        (ErrorKind::OutOfMemory, "memory\n", 5),
+        (ErrorKind::PermissionDenied, ("settings: unreadable\n", 3)),
+        (ErrorKind::OutOfMemory, ("memory\n", 5)),
     ];
-    for (kind, line, status) in kinds {
-        let mut settings = Torn {
-            text: FOUR_SLOTS.as_bytes(),
-            kind,
-        };
-        let mut script: &[u8] = b"";
-        let (mut out, mut err) = (Vec::new(alloc), Vec::new(alloc));
-        let ends = execute(
-            alloc,
+    for (kind, wanted) in kinds {
+        ends_unread(
+            &rt,
+            rt.alloc(),
             &GEOMETRY,
-            &mut settings,
-            &mut script,
-            &mut out,
-            &mut err,
+            FOUR_SLOTS.as_bytes(),
+            kind,
+            wanted,
         );
-        assert_eq!(rt; err.as_slice(), line.as_bytes());
-        assert!(rt; out.is_empty());
-        assert_eq!(rt; ends, status);
     }
-    let run = ran(alloc, &GEOMETRY, b"slots = 4 # \xff\n");
-    assert_eq!(rt; run.err.as_slice(), b"settings: unreadable\n".as_slice());
-    assert_eq!(rt; run.status, 3);
+    let text = b"slots = 4 # \xff\n";
+    ends(
+        &rt,
+        rt.alloc(),
+        &GEOMETRY,
+        text,
+        ("", "settings: unreadable\n", 3),
+    );
 }
 
 #[test]
 fn an_output_that_refuses_is_reported(rt: HostRuntime) {
-    let alloc = rt.alloc();
     for room in [0, 60, FOUR_SLOTS_LAYOUT.len() - 1, FOUR_SLOTS_LAYOUT.len()] {
-        let mut settings = FOUR_SLOTS.as_bytes();
-        let mut script: &[u8] = b"";
-        let (mut out, mut err) = (Full { room }, Vec::new(alloc));
-        let ends = execute(
-            alloc,
-            &GEOMETRY,
-            &mut settings,
-            &mut script,
-            &mut out,
-            &mut err,
-        );
-        assert_eq!(rt; err.as_slice(), b"output\n".as_slice());
-        assert_eq!(rt; ends, 4);
-        // The status stands where standard error refuses too.
-        let mut settings = FOUR_SLOTS.as_bytes();
-        let (mut out, mut err) = (Full { room }, Full { room: 0 });
-        assert_eq!(rt;
-            execute(
-                alloc,
-                &GEOMETRY,
-                &mut settings,
-                &mut script,
-                &mut out,
-                &mut err
-            ),
-            4
-        );
+        ends_unwritten(&rt, rt.alloc(), &GEOMETRY, FOUR_SLOTS.as_bytes(), room);
     }
 }
 
 #[test]
 fn commands_to_come_say_so(rt: HostRuntime) {
-    let path = "path";
+    let (config, script) = ("config", "script");
     let commands = [
         (
-            Invocation::Create { config: path },
+            Invocation::Create { config },
             "raid6: create is not built yet\n",
         ),
         (
-            Invocation::Verify { config: path },
+            Invocation::Verify { config },
             "raid6: verify is not built yet\n",
         ),
         (
-            Invocation::Run {
-                config: path,
-                script: path,
-            },
+            Invocation::Run { config, script },
             "raid6: run is not built yet\n",
         ),
     ];
     for (invocation, line) in commands {
-        let run = ran(rt.alloc(), &invocation, b"");
-        assert_eq!(rt; run.err.as_slice(), line.as_bytes());
-        assert_eq!(rt; run.status, 2);
+        ends(&rt, rt.alloc(), &invocation, b"", ("", line, 2));
     }
 }

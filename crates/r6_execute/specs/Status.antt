@@ -1,7 +1,7 @@
 -- The statuses with which the program ends. They are this project's own.
 use Rattle.std.specs.Prelude.{ℕ}
-use Rattle.r6_tool.specs.declared.fault.Fault.{Fault}
-use Rattle.r6_tool.specs.declared.fault.Fault.TheVariants.{NotText, NotBuilt, Unreadable, Settings, Script, Device, Output, Memory}
+use Rattle.r6_execute.specs.declared.fault.Fault.{Fault}
+use Rattle.r6_execute.specs.declared.fault.Fault.TheVariants.{NotText, NotBuilt, Unreadable, Settings, Script, Device, Output, Memory}
 use Rattle.r6_settings.specs.declared.fault.SettingsFault.TheVariants as settings
 use Rattle.r6_script.specs.declared.script.ScriptFault.TheVariants as script
 

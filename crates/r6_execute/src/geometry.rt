@@ -2,7 +2,7 @@
 
 ghost use Rattle.std.specs.Prelude.{◌≡◌, ◌+◌, ◌≤◌, ◌<◌, ◌++◌, OnOk, IfOk, string_bytes};
 ghost use Rattle.r6_layout.specs.Shape.{chunk_rows};
-ghost use Rattle.r6_tool.specs.Layouts.{chunk_row_line, layout_text, role_text, shape_line, shard_line};
+ghost use Rattle.r6_execute.specs.Layouts.{chunk_row_line, layout_text, role_text, shape_line, shard_line};
 
 use r6_layout::{Geometry, Role};
 use std::alloc::{AllocError, Global};

@@ -5,9 +5,9 @@ ghost use Rattle.std.specs.Io.KnownBytes.{Appends};
 ghost use Rattle.r6_command.specs.CommandLine.{asked_of};
 ghost use Rattle.r6_script.specs.Script.{Say, lines_of, said_of};
 ghost use Rattle.r6_settings.specs.Settings.{settings_in, values_of};
-ghost use Rattle.r6_tool.specs.Commands.{EndsBy, IsDone, IsScriptFault, IsSettingsFault};
-ghost use Rattle.r6_tool.specs.Faults.{fault_text};
-ghost use Rattle.r6_tool.specs.Status.{status_of};
+ghost use Rattle.r6_execute.specs.Commands.{EndsBy, IsDone, IsScriptFault, IsSettingsFault};
+ghost use Rattle.r6_execute.specs.Faults.{fault_text};
+ghost use Rattle.r6_execute.specs.Status.{status_of};
 
 use crate::fault::{Fault, Input};
 use crate::geometry::described;

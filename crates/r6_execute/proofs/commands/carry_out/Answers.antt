@@ -2,8 +2,8 @@ use Rattle.std.proofs.Common.{◌∙◌, ap}
 use Rattle.r6_command.specs.CommandLine.{asked_of}
 use Rattle.r6_script.specs.Script.{said_of}
 use Rattle.r6_settings.specs.Settings.{values_of}
-use Rattle.r6_tool.proofs.Writes.{appends_kept, on_ok}
-use Rattle.r6_tool.proofs.execute.carry_out.Goals as goal
+use Rattle.r6_execute.proofs.Writes.{appends_kept, on_ok}
+use Rattle.r6_execute.proofs.commands.carry_out.Goals as goal
 
 pub returns-in_ok-print-in-Geometry-clause-ok : goal.returns-in_ok-print-in-Geometry-clause-ok
 returns-in_ok-print-in-Geometry-clause-ok g c =

@@ -37,7 +37,7 @@ pub enum Fault {
 }
 
 impl Fault {
-    ghost use Rattle.r6_tool.specs.Status.{status_of};
+    ghost use Rattle.r6_execute.specs.Status.{status_of};
 
     /// The status with which the program ends: 2 for a use that it does not have, 3 for settings and scripts,
     /// 4 for output and devices, and 5 for memory.
@@ -60,7 +60,7 @@ impl Fault {
 
 impl fmt::Display for Fault {
     ghost use Rattle.std.specs.Prelude.{Some};
-    ghost use Rattle.r6_tool.specs.Faults.{fault_text};
+    ghost use Rattle.r6_execute.specs.Faults.{fault_text};
 
     ghost output = { λ fault. Some (fault_text fault) };
 
@@ -80,7 +80,7 @@ impl fmt::Display for Fault {
 }
 
 impl From<SettingsFault> for Fault {
-    ghost use Rattle.r6_tool.specs.declared.fault.Fault.TheVariants.{Settings};
+    ghost use Rattle.r6_execute.specs.declared.fault.Fault.TheVariants.{Settings};
 
     ghost from_gives = { λ fault told. told ≡ Settings fault };
 
@@ -90,7 +90,7 @@ impl From<SettingsFault> for Fault {
 }
 
 impl From<ScriptFault> for Fault {
-    ghost use Rattle.r6_tool.specs.declared.fault.Fault.TheVariants.{Script};
+    ghost use Rattle.r6_execute.specs.declared.fault.Fault.TheVariants.{Script};
 
     ghost from_gives = { λ fault told. told ≡ Script fault };
 
@@ -100,7 +100,7 @@ impl From<ScriptFault> for Fault {
 }
 
 impl From<SimulationFault> for Fault {
-    ghost use Rattle.r6_tool.specs.Faults.{fault_of};
+    ghost use Rattle.r6_execute.specs.Faults.{fault_of};
 
     ghost from_gives = { λ fault told. told ≡ fault_of fault };
 
@@ -114,7 +114,7 @@ impl From<SimulationFault> for Fault {
 }
 
 impl<T: Drop> From<AllocFailed<T>> for Fault {
-    ghost use Rattle.r6_tool.specs.declared.fault.Fault.TheVariants.{Memory};
+    ghost use Rattle.r6_execute.specs.declared.fault.Fault.TheVariants.{Memory};
 
     ghost from_gives = { λ _ told. told ≡ Memory };
 
@@ -124,7 +124,7 @@ impl<T: Drop> From<AllocFailed<T>> for Fault {
 }
 
 impl From<AllocError> for Fault {
-    ghost use Rattle.r6_tool.specs.declared.fault.Fault.TheVariants.{Memory};
+    ghost use Rattle.r6_execute.specs.declared.fault.Fault.TheVariants.{Memory};
 
     ghost from_gives = { λ _ told. told ≡ Memory };
 

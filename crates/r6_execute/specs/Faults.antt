@@ -5,10 +5,10 @@ use Rattle.r6_script.specs.Script as script
 use Rattle.r6_settings.specs.Faults as settings
 use Rattle.r6_simulate.specs.declared.fault.SimulationFault.{SimulationFault}
 use Rattle.r6_simulate.specs.declared.fault.SimulationFault.TheVariants as simulation
-use Rattle.r6_tool.specs.declared.fault.Fault.{Fault}
-use Rattle.r6_tool.specs.declared.fault.Fault.TheVariants.{NotText, NotBuilt, Unreadable, Settings, Script, Device, Output, Memory}
-use Rattle.r6_tool.specs.declared.fault.Input.{Input}
-use Rattle.r6_tool.specs.declared.fault.Input.TheVariants as input
+use Rattle.r6_execute.specs.declared.fault.Fault.{Fault}
+use Rattle.r6_execute.specs.declared.fault.Fault.TheVariants.{NotText, NotBuilt, Unreadable, Settings, Script, Device, Output, Memory}
+use Rattle.r6_execute.specs.declared.fault.Input.{Input}
+use Rattle.r6_execute.specs.declared.fault.Input.TheVariants as input
 
 -- how a file is named
 abbrev pub name_of : Input → List ℕ

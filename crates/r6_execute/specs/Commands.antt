@@ -6,10 +6,10 @@ use Rattle.r6_command.specs.CommandLine.{Asked, geometry, create, verify, simula
 use Rattle.r6_script.specs.Script.{Explains, Said, Say, lines_of}
 use Rattle.r6_settings.specs.declared.fault.SettingsFault.TheVariants as settings
 use Rattle.r6_settings.specs.Settings.{Values, settings_in}
-use Rattle.r6_tool.specs.declared.fault.Fault.{Fault}
-use Rattle.r6_tool.specs.declared.fault.Fault.TheVariants.{NotBuilt, Unreadable, Settings, Script, Device, Output, Memory}
-use Rattle.r6_tool.specs.declared.fault.Input.TheVariants as input
-use Rattle.r6_tool.specs.Layouts.{layout_text}
+use Rattle.r6_execute.specs.declared.fault.Fault.{Fault}
+use Rattle.r6_execute.specs.declared.fault.Fault.TheVariants.{NotBuilt, Unreadable, Settings, Script, Device, Output, Memory}
+use Rattle.r6_execute.specs.declared.fault.Input.TheVariants as input
+use Rattle.r6_execute.specs.Layouts.{layout_text}
 
 abbrev pub Text : Type 0
 Text = List ℕ

@@ -1,0 +1,133 @@
+//! Commands carried out over texts, and over files and outputs that fail.
+
+use r6_command::Invocation;
+use r6_execute::execute;
+use std::alloc::Global;
+use std::io::{self, ErrorKind, Read, Write};
+use std::process::Abort;
+
+/// What a command prints, what it says of a fault, and its status.
+pub(crate) type Ended<'a> = (&'a str, &'a str, u8);
+
+/// A reader that hands out its text and then fails.
+#[derive(Drop)]
+struct Torn<'a> {
+    text: &'a [u8],
+    kind: ErrorKind,
+}
+
+impl Read for Torn<'_> {
+    fn read(&mut self, buf: &mut [u8]) -> io::Result<usize> {
+        if self.text.is_empty() {
+            return Err(io::Error::from(self.kind));
+        }
+        let mut text = self.text;
+        let count = text.read(buf)?;
+        self.text = text;
+        Ok(count)
+    }
+}
+
+/// A writer that takes so many bytes and then refuses, a flush too.
+#[derive(Drop)]
+struct Full {
+    room: usize,
+}
+
+impl Write for Full {
+    fn write(&mut self, buf: &[u8]) -> io::Result<usize> {
+        if self.room == 0 {
+            return Err(io::Error::from(ErrorKind::StorageFull));
+        }
+        let count = buf.len().min(self.room);
+        self.room -= count;
+        Ok(count)
+    }
+
+    fn flush(&mut self) -> io::Result<()> {
+        if self.room == 0 {
+            return Err(io::Error::from(ErrorKind::StorageFull));
+        }
+        Ok(())
+    }
+}
+
+/// A command whose file has this text has to end so.
+pub(crate) fn ends<R: Abort>(
+    rt: &R,
+    alloc: Global,
+    invocation: &Invocation<'_>,
+    text: &[u8],
+    wanted: Ended<'_>,
+) {
+    let (mut settings, mut script) = (text, text);
+    let (mut out, mut err) = (Vec::new(alloc), Vec::new(alloc));
+    let status = execute(
+        alloc,
+        invocation,
+        &mut settings,
+        &mut script,
+        &mut out,
+        &mut err,
+    );
+    assert_eq!(rt; out.as_slice(), wanted.0.as_bytes(), "at {text:?}");
+    assert_eq!(rt; err.as_slice(), wanted.1.as_bytes(), "at {text:?}");
+    assert_eq!(rt; status, wanted.2, "at {text:?}");
+}
+
+/// A command whose file fails behind this text has to print nothing, and to end so.
+pub(crate) fn ends_unread<R: Abort>(
+    rt: &R,
+    alloc: Global,
+    invocation: &Invocation<'_>,
+    text: &[u8],
+    kind: ErrorKind,
+    wanted: (&str, u8),
+) {
+    let (mut settings, mut script) = (Torn { text, kind }, Torn { text, kind });
+    let (mut out, mut err) = (Vec::new(alloc), Vec::new(alloc));
+    let status = execute(
+        alloc,
+        invocation,
+        &mut settings,
+        &mut script,
+        &mut out,
+        &mut err,
+    );
+    assert!(rt; out.is_empty());
+    assert_eq!(rt; err.as_slice(), wanted.0.as_bytes());
+    assert_eq!(rt; status, wanted.1);
+}
+
+/// A command whose output takes so many bytes has to say so, and to end with 4, where standard error refuses too.
+pub(crate) fn ends_unwritten<R: Abort>(
+    rt: &R,
+    alloc: Global,
+    invocation: &Invocation<'_>,
+    text: &[u8],
+    room: usize,
+) {
+    let (mut settings, mut script) = (text, text);
+    let (mut out, mut err) = (Full { room }, Vec::new(alloc));
+    let status = execute(
+        alloc,
+        invocation,
+        &mut settings,
+        &mut script,
+        &mut out,
+        &mut err,
+    );
+    assert_eq!(rt; err.as_slice(), b"output\n".as_slice(), "room {room}");
+    assert_eq!(rt; status, 4, "room {room}");
+    let (mut settings, mut script) = (text, text);
+    let (mut out, mut err) = (Full { room }, Full { room: 0 });
+    let status = execute(
+        alloc,
+        invocation,
+        &mut settings,
+        &mut script,
+        &mut out,
+        &mut err,
+    );
+    assert_eq!(rt; status, 4, "room {room}");
+}
