@@ -7,6 +7,3 @@ pub mod invocation;
 
 pub use fault::CommandFault;
 pub use invocation::{Invocation, command};
-
-#[cfg(test)]
-mod tests;

@@ -108,36 +108,3 @@ impl BlockDevice for MemoryDevice {
         Ok(())
     }
 }
-
-#[cfg(test)]
-mod tests {
-    use super::*;
-    use std::test::Fail;
-
-    #[test]
-    fn blocks_are_zeros_until_they_are_written(rt: HostRuntime) -> Result<(), Fail> {
-        let mut device = MemoryDevice::new(rt.alloc(), 4..8, 16)?;
-        let mut block = Buffer::new(rt.alloc(), 16)?;
-        block.copy_from_slice(&[0x5a; 16]);
-        assert_eq!(rt; device.write(5, &block), Ok(()));
-        for row in 4..8 {
-            assert_eq!(rt; device.read(row, &mut block), Ok(()));
-            let byte = if row == 5 { 0x5a } else { 0 };
-            assert_eq!(rt; block.as_slice(), [byte; 16].as_slice());
-        }
-        Ok(())
-    }
-
-    #[test]
-    fn another_row_and_another_length_are_refused(rt: HostRuntime) -> Result<(), Fail> {
-        let mut device = MemoryDevice::new(rt.alloc(), 4..8, 16)?;
-        let mut block = Buffer::new(rt.alloc(), 16)?;
-        let mut short = Buffer::new(rt.alloc(), 15)?;
-        assert_eq!(rt; device.read(3, &mut block), Err(Fault::Length));
-        assert_eq!(rt; device.write(8, &block), Err(Fault::Length));
-        assert_eq!(rt; device.read(4, &mut short), Err(Fault::Length));
-        assert_eq!(rt; device.write(4, &short), Err(Fault::Length));
-        assert_eq!(rt; Fault::Length.number(), 4);
-        Ok(())
-    }
-}

@@ -23,6 +23,3 @@ pub use refusal::{Refusal, RegisterError};
 pub use register::Register;
 pub use slots::{ShardSet, SlotState};
 pub use snapshot::Snapshot;
-
-#[cfg(test)]
-mod tests;

@@ -18,8 +18,3 @@ pub use buffer::Buffer;
 pub use check::has_right_parities;
 pub use kernels::{delta, double, parity, scale_add, xor_into};
 pub use recovery::{recover_from_p, recover_from_q, recover_two};
-
-#[cfg(test)]
-mod lane_tests;
-#[cfg(test)]
-mod tests;

@@ -9,6 +9,3 @@ mod place;
 
 pub use geometry::{Geometry, GeometryError};
 pub use place::{Place, Role};
-
-#[cfg(test)]
-mod tests;

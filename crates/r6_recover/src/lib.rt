@@ -17,8 +17,3 @@ pub use in_place::restore_pair;
 pub use known::{Known, Missing, TooManyLost, missing_among};
 pub use parity::{rewrite_parity, write_parity};
 pub use row::{RowBuf, repair_parity, restore};
-
-#[cfg(test)]
-mod lane_tests;
-#[cfg(test)]
-mod tests;

@@ -10,6 +10,3 @@ mod key;
 pub use config::{Config, settings};
 pub use fault::SettingsFault;
 pub use key::Key;
-
-#[cfg(test)]
-mod tests;

@@ -19,8 +19,3 @@ pub use command::{Outcome, RowCommand, Task};
 pub use frame::Frame;
 pub use hold::Hold;
 pub use laws::{plan_examples, plan_law, refused_holds, row_law, seen_law};
-
-#[cfg(test)]
-mod recovery_tests;
-#[cfg(test)]
-mod tests;

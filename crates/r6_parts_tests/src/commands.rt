@@ -1,5 +1,6 @@
-use crate::fault::CommandFault;
-use crate::invocation::command;
+//! Command lines.
+
+use r6_command::{CommandFault, command};
 use std::alloc::Global;
 use std::test::Fail;
 

@@ -1,6 +1,6 @@
 //! Recovery and classes at lengths around the bytes of a step of the kernels.
 
-use super::*;
+use r6_recover::{Known, RowBuf, RowClass, classify, repair_parity, restore};
 use std::alloc::{AllocError, Global};
 use std::test::Fail;
 

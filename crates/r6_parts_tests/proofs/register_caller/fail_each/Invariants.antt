@@ -2,7 +2,7 @@ use Rattle.std.proofs.Common.{◌≡◌, ◌++◌, take, length}
 use Rattle.r6_health.specs.Passes.{view_of}
 use Rattle.r6_health.specs.Passes.{IsPassOf}
 use Rattle.r6_health.specs.Uses.{failures_of}
-use Rattle.r6_health.proofs.tests.fail_each.Given as goal
+use Rattle.r6_parts_tests.proofs.register_caller.fail_each.Given as goal
 
 abbrev pub invariant-loop-slot : goal.invariant-loop-slot
 invariant-loop-slot g l = record {

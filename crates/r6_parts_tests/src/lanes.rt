@@ -2,8 +2,8 @@
 
 ghost use Rattle.std.specs.Prelude.{◌≡◌, length, IfOk};
 
-use super::*;
 use r6_field::{ConstMul, Gf};
+use r6_kernels::{Buffer, delta, parity, scale_add};
 use std::alloc::{AllocError, Global};
 use std::test::Fail;
 
@@ -60,31 +60,38 @@ fn parity_byte_by_byte(rt: HostRuntime) -> Result<(), Fail> {
 }
 
 #[test]
-fn multiples_and_changes_byte_by_byte(rt: HostRuntime) -> Result<(), Fail> {
+fn multiples_byte_by_byte(rt: HostRuntime) -> Result<(), Fail> {
     let factor = Gf(0x53);
+    for len in LENGTHS {
+        let added = counted(rt.alloc(), len, 0xc3)?;
+        let before = counted(rt.alloc(), len, 0x77)?;
+        let mut sum = counted(rt.alloc(), len, 0x77)?;
+        scale_add(&mut sum, &added, &ConstMul::new(factor));
+        for place in 0..len {
+            let multiple = factor * Gf(byte_at(&added, place));
+            assert_eq!(rt;
+                Gf(byte_at(&sum, place)),
+                Gf(byte_at(&before, place)) + multiple
+            );
+        }
+    }
+    Ok(())
+}
+
+#[test]
+fn changes_byte_by_byte(rt: HostRuntime) -> Result<(), Fail> {
     for len in LENGTHS {
         let old = counted(rt.alloc(), len, 0x01)?;
         let new = counted(rt.alloc(), len, 0xc3)?;
-        let mut sum = counted(rt.alloc(), len, 0x77)?;
-        scale_add(&mut sum, &new, &ConstMul::new(factor));
+        let before = counted(rt.alloc(), len, 0x11)?;
         let mut p = counted(rt.alloc(), len, 0x11)?;
-        let mut q = counted(rt.alloc(), len, 0x22)?;
-        let was_p = counted(rt.alloc(), len, 0x11)?;
-        let was_q = counted(rt.alloc(), len, 0x22)?;
-        let was_sum = counted(rt.alloc(), len, 0x77)?;
+        let mut q = counted(rt.alloc(), len, 0x11)?;
         delta(&mut p, &mut q, &old, &new, 3);
         for place in 0..len {
+            let was = Gf(byte_at(&before, place));
             let change = Gf(byte_at(&old, place)) + Gf(byte_at(&new, place));
-            let added = factor * Gf(byte_at(&new, place));
-            assert_eq!(rt;
-                Gf(byte_at(&sum, place)),
-                Gf(byte_at(&was_sum, place)) + added
-            );
-            assert_eq!(rt; Gf(byte_at(&p, place)), Gf(byte_at(&was_p, place)) + change);
-            assert_eq!(rt;
-                Gf(byte_at(&q, place)),
-                Gf(byte_at(&was_q, place)) + Gf(8) * change
-            );
+            assert_eq!(rt; Gf(byte_at(&p, place)), was + change);
+            assert_eq!(rt; Gf(byte_at(&q, place)), was + Gf(8) * change);
         }
     }
     Ok(())

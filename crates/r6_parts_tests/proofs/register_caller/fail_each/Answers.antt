@@ -6,7 +6,7 @@ use Rattle.r6_health.specs.declared.history.Made.{Made}
 use Rattle.r6_health.specs.Views.{made_by}
 use Rattle.r6_health.specs.Uses.{failures_of}
 use Rattle.r6_health.proofs.Failures.{failures_of-push}
-use Rattle.r6_health.proofs.tests.fail_each.Goals as goal
+use Rattle.r6_parts_tests.proofs.register_caller.fail_each.Goals as goal
 
 pub loop-slot-preserved : goal.loop-slot-preserved
 loop-slot-preserved g c =

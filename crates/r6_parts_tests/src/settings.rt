@@ -1,6 +1,6 @@
-use crate::config::settings;
-use crate::fault::SettingsFault;
-use crate::key::Key;
+//! Texts of settings.
+
+use r6_settings::{Key, SettingsFault, settings};
 use std::test::Fail;
 
 const FOUR_SLOTS: &str = "slots = 4\nchunk = 1\nblock = 16\nrows = 4\nshards = 2\n";

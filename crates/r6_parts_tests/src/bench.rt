@@ -1,0 +1,246 @@
+//! A hold over the blocks of a row in memory, which does one step at a time.
+
+ghost use Rattle.std.specs.Prelude.{◌≡◌, ◌≤◌, ◌<◌, length, true};
+
+use crate::blocks::{filled, is_filled};
+use r6_kernels::Buffer;
+use r6_stripe::{Frame, Hold, Outcome, RowCommand, Task};
+use std::alloc::{AllocError, Global};
+use std::process::Abort;
+use std::test::Fail;
+
+/// The bytes of a block.
+const BLOCK: usize = 16;
+
+/// What a hold is asked: the index of a data block, and the byte that is written throughout.
+#[derive(Clone, Copy)]
+pub(crate) enum Ask {
+    Read(usize),
+    Write(usize, u8),
+}
+
+/// What happens next.
+#[derive(Clone, Copy)]
+pub(crate) enum Step {
+    /// The next command is put out, and waits.
+    Next,
+    /// All commands are put out, and wait.
+    NextAll,
+    /// The device of the position performs its command that waits.
+    Answer(usize),
+    /// Commands are put out and performed one by one, so many at the most.
+    Drive(usize),
+    /// The position is lost.
+    Lose(usize),
+    /// Whether the hold is over.
+    IsOver,
+    /// Whether all buffers are home.
+    IsHome,
+}
+
+/// What a step answers.
+#[derive(Clone, Copy, PartialEq, Eq, Debug)]
+pub(crate) enum Seen {
+    Nothing,
+    /// The position.
+    Read(usize),
+    Write(usize),
+    /// So many commands.
+    Commands(usize),
+    Home,
+    Lost,
+    Is(bool),
+}
+
+/// A hold, the blocks of its row, and the commands that wait.
+#[derive(Drop)]
+pub(crate) struct Bench {
+    pub(crate) hold: Hold,
+    pub(crate) devices: Vec<Buffer>,
+    out: Vec<RowCommand>,
+}
+
+/// The blocks of a row.
+pub(crate) fn row_of(alloc: Global, bytes: &[u8]) -> Result<Vec<Buffer>, AllocError> {
+    let mut blocks = Vec::new(alloc);
+    for byte in bytes {
+        blocks.push(filled(alloc, BLOCK, *byte)?)?;
+    }
+    Ok(blocks)
+}
+
+/// Whether each block but those at the lost positions has its byte throughout.
+pub(crate) fn has_bytes(blocks: &Vec<Buffer>, bytes: &[u8], lost: &[usize]) -> bool {
+    if blocks.len() != bytes.len() {
+        return false;
+    }
+    for position in 0..blocks.len() {
+        if !lost.contains(&position) && !is_filled(&blocks[position], bytes[position]) {
+            return false;
+        }
+    }
+    true
+}
+
+/// The hold of a row, of whose positions these are in sync.
+fn hold_of(alloc: Global, ask: Ask, in_sync: &[bool]) -> Result<Hold, Fail> {
+    let count = in_sync.len();
+    let (Ask::Read(index) | Ask::Write(index, _)) = ask;
+    if count < 4 || count > 32 || index >= count - 2 {
+        return Err(Fail::from("no row"));
+    }
+    let frame = Frame::new(alloc, count, BLOCK)?;
+    let task = match ask {
+        Ask::Read(index) => Task::Read(index),
+        Ask::Write(index, byte) => Task::Write(index, filled(alloc, BLOCK, byte)?),
+    };
+    Ok(Hold::begin(frame, task, in_sync))
+}
+
+pub(crate) fn position_of(command: &RowCommand) -> usize {
+    match command {
+        RowCommand::Read(position, _) => *position,
+        RowCommand::Write(position, _) => *position,
+    }
+}
+
+fn seen_of(command: &RowCommand) -> Seen {
+    match command {
+        RowCommand::Read(position, _) => Seen::Read(*position),
+        RowCommand::Write(position, _) => Seen::Write(*position),
+    }
+}
+
+/// The device of a command performs it: the position, with the buffer that comes back.
+fn perform(command: RowCommand, devices: &mut Vec<Buffer>) -> (usize, Buffer) {
+    match command {
+        RowCommand::Read(position, mut buffer) => {
+            if position < devices.len() && buffer.len() == devices[position].len() {
+                buffer.copy_from(&devices[position]);
+            }
+            (position, buffer)
+        }
+        RowCommand::Write(position, buffer) => {
+            if position < devices.len() && buffer.len() == devices[position].len() {
+                let device = &mut devices[position];
+                device.copy_from(&buffer);
+            }
+            (position, buffer)
+        }
+    }
+}
+
+impl Bench {
+    /// A row of these bytes, of whose positions these are in sync.
+    pub(crate) fn new(
+        alloc: Global,
+        ask: Ask,
+        bytes: &[u8],
+        in_sync: &[bool],
+    ) -> Result<Bench, Fail> {
+        Ok(Bench {
+            hold: hold_of(alloc, ask, in_sync)?,
+            devices: row_of(alloc, bytes)?,
+            out: Vec::new(alloc),
+        })
+    }
+
+    /// Plays a course: each step has to answer so.
+    pub(crate) fn play<R: Abort>(
+        &mut self,
+        rt: &R,
+        course: &[(Step, Seen)],
+    ) -> Result<(), AllocError> {
+        for (index, (step, seen)) in course.iter().enumerate() {
+            let found = self.seen(*step)?;
+            assert_eq!(rt; found, *seen, "at step {index}");
+        }
+        Ok(())
+    }
+
+    fn seen(&mut self, step: Step) -> Result<Seen, AllocError> {
+        Ok(match step {
+            Step::Next => self.next()?,
+            Step::NextAll => self.next_all()?,
+            Step::Answer(position) => self.answer_out(position),
+            Step::Drive(most) => Seen::Commands(self.drive(most)),
+            Step::Lose(position) => self.lose(position),
+            Step::IsOver => Seen::Is(self.hold.outcome() == Some(Outcome::Done)),
+            Step::IsHome => Seen::Is(self.hold.is_home()),
+        })
+    }
+
+    fn next(&mut self) -> Result<Seen, AllocError> {
+        let Some(command) = self.hold.next_command() else {
+            return Ok(Seen::Nothing);
+        };
+        let seen = seen_of(&command);
+        self.out.push(command)?;
+        Ok(seen)
+    }
+
+    fn next_all(&mut self) -> Result<Seen, AllocError> {
+        for count in 0..usize::MAX {
+            if self.next()? == Seen::Nothing {
+                return Ok(Seen::Commands(count));
+            }
+        }
+        Ok(Seen::Nothing)
+    }
+
+    fn answer_out(&mut self, position: usize) -> Seen {
+        match self
+            .out
+            .iter()
+            .position(|command| position_of(command) == position)
+        {
+            Some(index) => {
+                let command = self.out.swap_remove(index);
+                self.answer(command)
+            }
+            None => Seen::Nothing,
+        }
+    }
+
+    /// The device of a command performs it, and its buffer comes home.
+    pub(crate) fn answer(&mut self, command: RowCommand) -> Seen {
+        let (position, buffer) = perform(command, &mut self.devices);
+        if self.hold.is_away(position) && buffer.len() == self.hold.block_len() {
+            self.hold.done(position, buffer);
+            Seen::Home
+        } else {
+            Seen::Nothing
+        }
+    }
+
+    /// Performs commands one by one, so many at the most; how many there were.
+    pub(crate) fn drive(&mut self, most: usize) -> usize {
+        for count in 0..most {
+            match self.hold.next_command() {
+                Some(command) => self.answer(command),
+                None => return count,
+            };
+        }
+        most
+    }
+
+    pub(crate) fn lose(&mut self, position: usize) -> Seen {
+        if position < self.hold.positions() {
+            self.hold.lost(position);
+            Seen::Lost
+        } else {
+            Seen::Nothing
+        }
+    }
+
+    /// Whether the hold has put a block with this byte throughout at a position.
+    pub(crate) fn has_block(&self, position: usize, byte: u8) -> bool {
+        if position >= self.hold.positions() {
+            return false;
+        }
+        match self.hold.block(position) {
+            Some(block) => is_filled(block, byte),
+            None => false,
+        }
+    }
+}

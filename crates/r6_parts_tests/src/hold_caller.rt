@@ -1,0 +1,40 @@
+//! A caller of a hold, complete: a row's operation is driven to its end over blocks in memory.
+
+use r6_kernels::Buffer;
+use r6_stripe::{Hold, Outcome, RowCommand};
+
+/// The position's block is read into the command's buffer, or taken from it: the position, and the buffer that comes back.
+fn perform(command: RowCommand, blocks: &mut Vec<Buffer>) -> (usize, Buffer) {
+    match command {
+        RowCommand::Read(position, mut buffer) => {
+            if let Some(block) = blocks.get(position) {
+                if block.len() == buffer.len() {
+                    buffer.copy_from(block);
+                }
+            }
+            (position, buffer)
+        }
+        RowCommand::Write(position, buffer) => {
+            if let Some(block) = blocks.get_mut(position) {
+                if block.len() == buffer.len() {
+                    block.copy_from(&buffer);
+                }
+            }
+            (position, buffer)
+        }
+    }
+}
+
+/// Drives a hold to its end, and says whether its task is done.
+pub(crate) fn drive(hold: &mut Hold, blocks: &mut Vec<Buffer>) -> bool {
+    for _ in 0..u64::MAX {
+        let Some(command) = hold.next_command() else {
+            break;
+        };
+        let (position, buffer) = perform(command, blocks);
+        if hold.is_away(position) && buffer.len() == hold.block_len() {
+            hold.done(position, buffer);
+        }
+    }
+    hold.outcome() == Some(Outcome::Done)
+}

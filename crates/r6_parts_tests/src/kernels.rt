@@ -1,0 +1,71 @@
+//! Worked values of the kernels at lengths around the widths of vectors.
+
+use crate::blocks::{filled, is_filled};
+use r6_field::{ConstMul, Gf};
+use r6_kernels::{Buffer, delta, double, parity, scale_add, xor_into};
+use std::test::Fail;
+
+#[test]
+fn parity_of_two(rt: HostRuntime) -> Result<(), Fail> {
+    for len in [0, 1, 31, 33, 48, 80, 4096] {
+        let mut p = Buffer::new(rt.alloc(), len)?;
+        let mut q = Buffer::new(rt.alloc(), len)?;
+        let sources = [
+            filled(rt.alloc(), len, 0x01)?,
+            filled(rt.alloc(), len, 0x80)?,
+        ];
+        parity(&sources, &mut p, &mut q);
+        assert!(rt; is_filled(&p, 0x81), "length {len}");
+        assert!(rt; is_filled(&q, 0x1c), "length {len}");
+    }
+    Ok(())
+}
+
+#[test]
+fn parity_of_no_source(rt: HostRuntime) -> Result<(), Fail> {
+    let mut p = filled(rt.alloc(), 33, 0x81)?;
+    let mut q = filled(rt.alloc(), 33, 0x1c)?;
+    parity(&[], &mut p, &mut q);
+    assert!(rt; is_filled(&p, 0x00));
+    assert!(rt; is_filled(&q, 0x00));
+    Ok(())
+}
+
+#[test]
+fn a_block_keeps_what_is_copied(rt: HostRuntime) -> Result<(), Fail> {
+    let mut block = filled(rt.alloc(), 80, 0x81)?;
+    let other = filled(rt.alloc(), 80, 0x1c)?;
+    block.copy_from(&other);
+    assert!(rt; is_filled(&block, 0x1c));
+    block.clear();
+    assert!(rt; is_filled(&block, 0x00));
+    assert!(rt; !block.is_empty() && block.len() == 80);
+    assert!(rt; Buffer::empty(rt.alloc()).is_empty());
+    Ok(())
+}
+
+// Block 1 of data was 80 and becomes 01: P loses 81, and Q twice 81, which is 1f.
+#[test]
+fn parity_goes_on_with_a_changed_block(rt: HostRuntime) -> Result<(), Fail> {
+    let mut p = filled(rt.alloc(), 33, 0x81)?;
+    let mut q = filled(rt.alloc(), 33, 0x1c)?;
+    let old = filled(rt.alloc(), 33, 0x80)?;
+    let new = filled(rt.alloc(), 33, 0x01)?;
+    delta(&mut p, &mut q, &old, &new, 1);
+    assert!(rt; is_filled(&p, 0x00));
+    assert!(rt; is_filled(&q, 0x03));
+    Ok(())
+}
+
+#[test]
+fn multiples_are_added(rt: HostRuntime) -> Result<(), Fail> {
+    let mut block = filled(rt.alloc(), 33, 0x80)?;
+    let other = filled(rt.alloc(), 33, 0x01)?;
+    double(&mut block);
+    assert!(rt; is_filled(&block, 0x1d));
+    scale_add(&mut block, &other, &ConstMul::new(Gf(0x1d)));
+    assert!(rt; is_filled(&block, 0x00));
+    xor_into(&mut block, &other);
+    assert!(rt; is_filled(&block, 0x01));
+    Ok(())
+}

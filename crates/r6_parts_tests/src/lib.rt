@@ -1,0 +1,43 @@
+//! Tests of the crates below the core: worked values from outside, each public call once, and courses of calls.
+#![tactic(auto)]
+
+#[cfg(test)]
+mod bench;
+#[cfg(test)]
+mod blocks;
+#[cfg(test)]
+mod callers;
+#[cfg(test)]
+mod commands;
+#[cfg(test)]
+mod device_caller;
+#[cfg(test)]
+mod devices;
+#[cfg(test)]
+mod elements;
+#[cfg(test)]
+mod hold_caller;
+#[cfg(test)]
+mod holds;
+#[cfg(test)]
+mod kernels;
+#[cfg(test)]
+mod lanes;
+#[cfg(test)]
+mod layouts;
+#[cfg(test)]
+mod losses;
+#[cfg(test)]
+mod register_caller;
+#[cfg(test)]
+mod registers;
+#[cfg(test)]
+mod row_lengths;
+#[cfg(test)]
+mod rows;
+#[cfg(test)]
+mod settings;
+#[cfg(test)]
+mod tables;
+#[cfg(test)]
+mod threads;

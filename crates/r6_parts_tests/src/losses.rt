@@ -1,0 +1,227 @@
+//! Holds that lose positions at every moment, and go on by recovery.
+
+ghost use Rattle.std.specs.Prelude.{◌≤◌};
+
+use crate::bench::{Ask, Bench, Seen, Step, has_bytes, position_of};
+use crate::blocks::filled;
+use crate::holds::{CHANGED, DATA, full_row};
+use r6_kernels::Buffer;
+use r6_stripe::{Outcome, RowCommand};
+use std::alloc::{AllocError, Global};
+use std::test::Fail;
+
+/// The last step at which a position is lost.
+const LAST_STEP: usize = 18;
+
+/// A position is lost: before the hold begins, or at one of its steps.
+#[derive(Clone, Copy, Debug, PartialEq, Eq)]
+struct Loss {
+    position: usize,
+    step: usize,
+}
+
+/// How the devices answer.
+#[derive(Clone, Copy, PartialEq, Eq)]
+enum Answers {
+    /// Each command before the next is put out.
+    AtOnce,
+    /// The last first, when nothing more is put out.
+    LastFirst,
+    /// Likewise, but those of lost positions only after the end.
+    LateIfLost,
+}
+
+/// What stands at a position that is lost is of no account.
+fn spoil(
+    alloc: Global,
+    devices: &mut Vec<Buffer>,
+    losses: &[Loss],
+    step: usize,
+) -> Result<(), AllocError> {
+    for loss in losses {
+        if loss.step == step && loss.position < devices.len() {
+            devices[loss.position] = filled(alloc, 16, 0xee)?;
+        }
+    }
+    Ok(())
+}
+
+/// Drives a hold to its end. What is left are the commands that are answered late.
+fn run(
+    alloc: Global,
+    bench: &mut Bench,
+    losses: &[Loss],
+    answers: Answers,
+) -> Result<Vec<RowCommand>, AllocError> {
+    let mut out: Vec<RowCommand> = Vec::new(alloc);
+    let mut late = Vec::new(alloc);
+    for step in 1..48usize {
+        spoil(alloc, &mut bench.devices, losses, step)?;
+        for loss in losses {
+            if loss.step == step {
+                bench.lose(loss.position);
+            }
+        }
+        if let Some(command) = bench.hold.next_command() {
+            out.push(command)?;
+            if answers != Answers::AtOnce {
+                continue;
+            }
+        }
+        let Some(command) = out.pop() else {
+            if step > LAST_STEP {
+                break;
+            }
+            continue;
+        };
+        let position = position_of(&command);
+        let is_lost = losses.iter().any(|loss| loss.position == position);
+        if is_lost && answers == Answers::LateIfLost {
+            late.push(command)?;
+        } else {
+            bench.answer(command);
+        }
+    }
+    Ok(late)
+}
+
+/// Whether the hold has ended and done its task: a read has its block, and a write changed all positions that aren't lost.
+fn is_done(bench: &Bench, writes: bool, row: &[u8], lost: &[usize]) -> bool {
+    bench.hold.outcome() == Some(Outcome::Done)
+        && has_bytes(&bench.devices, row, lost)
+        && (writes || bench.has_block(1, DATA[1]))
+}
+
+/// A read or a write of 5a at data block 1 of a row, with these losses before it begins.
+fn begun(alloc: Global, count: usize, writes: bool, losses: &[Loss]) -> Result<Bench, Fail>
+    requires at_least { 4 ≤ count }
+    requires at_most { count ≤ 8 }
+{
+    let mut in_sync = [true; 8];
+    for loss in losses {
+        if loss.step == 0 && loss.position < in_sync.len() {
+            in_sync[loss.position] = false;
+        }
+    }
+    let ask = if writes {
+        Ask::Write(1, 0x5a)
+    } else {
+        Ask::Read(1)
+    };
+    let before = full_row(alloc, &DATA[..count - 2])?;
+    let mut bench = Bench::new(alloc, ask, before.as_slice(), &in_sync[..count])?;
+    spoil(alloc, &mut bench.devices, losses, 0)?;
+    Ok(bench)
+}
+
+/// Whether a hold does its task, whatever the two losses.
+fn survives(
+    alloc: Global,
+    count: usize,
+    writes: bool,
+    losses: [Loss; 2],
+    answers: Answers,
+) -> Result<bool, Fail>
+    requires at_least { 4 ≤ count }
+    requires at_most { count ≤ 8 }
+{
+    let mut bench = begun(alloc, count, writes, &losses)?;
+    let late = run(alloc, &mut bench, &losses, answers)?;
+    let after = if writes { CHANGED } else { DATA };
+    let after = full_row(alloc, &after[..count - 2])?;
+    let lost = [losses[0].position, losses[1].position];
+    let was_done = is_done(&bench, writes, after.as_slice(), &lost);
+    for command in late {
+        bench.answer(command);
+    }
+    Ok(was_done && is_done(&bench, writes, after.as_slice(), &lost) && bench.hold.is_home())
+}
+
+/// Two losses of a row of so many positions that a hold doesn't survive; they may be the same.
+fn fatal_losses(
+    alloc: Global,
+    count: usize,
+    writes: bool,
+    answers: Answers,
+) -> Result<Option<[Loss; 2]>, Fail>
+    requires at_least { 4 ≤ count }
+    requires at_most { count ≤ 8 }
+{
+    for first in 0..count {
+        for second in first..count {
+            for moment in 0..35usize {
+                let losses = [
+                    Loss {
+                        position: first,
+                        step: moment / 5 * 3,
+                    },
+                    Loss {
+                        position: second,
+                        step: moment % 5 * 4,
+                    },
+                ];
+                if !survives(alloc, count, writes, losses, answers)? {
+                    return Ok(Some(losses));
+                }
+            }
+        }
+    }
+    Ok(None)
+}
+
+#[test]
+fn any_two_losses_are_survived(rt: HostRuntime) -> Result<(), Fail> {
+    for count in [4usize, 6, 8] {
+        for answers in [Answers::AtOnce, Answers::LastFirst, Answers::LateIfLost] {
+            assert_eq!(rt; fatal_losses(rt.alloc(), count, false, answers)?, None);
+            assert_eq!(rt; fatal_losses(rt.alloc(), count, true, answers)?, None);
+        }
+    }
+    Ok(())
+}
+
+// Position 1 is lost, and four blocks of data are restored from four other positions.
+#[test]
+fn a_read_recovers_from_as_many_as_there_are_data(rt: HostRuntime) -> Result<(), Fail> {
+    let loss = Loss {
+        position: 1,
+        step: 0,
+    };
+    let mut bench = begun(rt.alloc(), 6, false, &[loss])?;
+    bench.play(
+        &rt,
+        &[
+            (Step::Next, Seen::Read(0)),
+            (Step::Next, Seen::Read(2)),
+            (Step::Next, Seen::Read(3)),
+            (Step::Next, Seen::Read(4)),
+            (Step::Next, Seen::Nothing),
+            (Step::Answer(0), Seen::Home),
+            (Step::Answer(2), Seen::Home),
+            (Step::Answer(3), Seen::Home),
+            (Step::IsOver, Seen::Is(false)),
+            (Step::Answer(4), Seen::Home),
+            (Step::Next, Seen::Nothing),
+            (Step::IsOver, Seen::Is(true)),
+        ],
+    )?;
+    Ok(())
+}
+
+#[test]
+fn three_losses_are_not_survived(rt: HostRuntime) -> Result<(), Fail> {
+    let before = full_row(rt.alloc(), &DATA[..4])?;
+    let in_sync = [false, false, true, true, true, false];
+    for ask in [Ask::Read(1), Ask::Write(1, 0x5a)] {
+        let mut bench = Bench::new(rt.alloc(), ask, before.as_slice(), &in_sync)?;
+        bench.play(
+            &rt,
+            &[
+                (Step::Drive(9), Seen::Commands(3)),
+                (Step::IsOver, Seen::Is(false)),
+            ],
+        )?;
+        assert!(rt; has_bytes(&bench.devices, before.as_slice(), &[]));
+    }
+    Ok(())
+}

@@ -1,0 +1,91 @@
+//! Registers shared by threads.
+
+ghost use Rattle.r6_health.specs.Passes.{IsPassOf};
+
+use r6_health::{Pass, Register};
+use r6_layout::Geometry;
+use std::alloc::{AllocError, Global};
+use std::sync::Wait;
+use std::test::Fail;
+use std::thread::{Threads, join};
+
+/// A hundred calls. Answers the generations that its attaches were given.
+fn churn<R: Wait>(
+    rt: &R,
+    alloc: Global,
+    register: &Register,
+    mut pass: Pass,
+    slot: usize,
+) -> Result<Vec<u32>, AllocError>
+    requires { IsPassOf register.now pass }
+{
+    let mut given = Vec::new(alloc);
+    'turns: for _ in 0..50 {
+        let _ = register.fail(rt, &mut pass, slot);
+        if let Ok(generation) = register.attach(rt, &mut pass, slot) {
+            given.push(generation)?;
+        }
+    }
+    Ok(given)
+}
+
+/// Two threads share each of two slots.
+fn churn_both<R: Threads + Wait + Sync>(
+    rt: &R,
+    alloc: Global,
+    register: &Register,
+    one: Pass,
+    other: Pass,
+    slot: usize,
+) -> Result<Vec<u32>, AllocError>
+    requires one { IsPassOf register.now one }
+    requires other { IsPassOf register.now other }
+{
+    let (a, b) = join(
+        rt,
+        move || churn(rt, alloc, register, one, slot),
+        move || churn(rt, alloc, register, other, slot),
+    );
+    let mut all = a?;
+    all.extend_from_slice(&b?)?;
+    Ok(all)
+}
+
+fn churn_all<R: Threads + Wait + Sync>(
+    rt: &R,
+    alloc: Global,
+    register: &Register,
+    mut pass: Pass,
+) -> Result<Vec<u32>, AllocError>
+    requires { IsPassOf register.now pass }
+{
+    let second = register.split(&mut pass);
+    let third = register.split(&mut pass);
+    let fourth = register.split(&mut pass);
+    let (a, b) = join(
+        rt,
+        move || -> Result<Vec<u32>, AllocError>
+            requires { IsPassOf register.now pass × IsPassOf register.now second }
+        { churn_both(rt, alloc, register, pass, second, 0) },
+        move || -> Result<Vec<u32>, AllocError>
+            requires { IsPassOf register.now third × IsPassOf register.now fourth }
+        { churn_both(rt, alloc, register, third, fourth, 2) },
+    );
+    let mut all = a?;
+    all.extend_from_slice(&b?)?;
+    Ok(all)
+}
+
+#[test]
+fn four_threads_are_given_each_generation_once(rt: HostRuntime) -> Result<(), Fail> {
+    let geometry = Geometry::new(4, 1, 16, 4, 2)?;
+    let (register, mut pass) = Register::new(&rt, rt.alloc(), &geometry, 0)?;
+    let theirs = register.split(&mut pass);
+    let mut given = churn_all(&rt, rt.alloc(), &register, theirs)?;
+    given.sort()?;
+    let attaches = register.read(&rt, &mut pass).attaches();
+    let wanted: Vec<u32> = (1..=attaches).collect(rt.alloc())?;
+    assert_eq!(rt; given.as_slice(), wanted.as_slice());
+    assert!(rt; attaches > 0);
+    Ok(())
+}
