@@ -1,1 +1,2 @@
 pub mod Writes
+mod Played

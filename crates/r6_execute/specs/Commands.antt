@@ -6,6 +6,8 @@ use Rattle.r6_command.specs.CommandLine.{Asked, geometry, create, verify, simula
 use Rattle.r6_script.specs.Script.{Explains, Said, Say, lines_of}
 use Rattle.r6_settings.specs.declared.fault.SettingsFault.TheVariants as settings
 use Rattle.r6_settings.specs.Settings.{Values, settings_in}
+use Rattle.r6_execute.specs.declared.ending.Ending.{Ending}
+use Rattle.r6_execute.specs.declared.ending.Ending.TheVariants as ending
 use Rattle.r6_execute.specs.declared.fault.Fault.{Fault}
 use Rattle.r6_execute.specs.declared.fault.Fault.TheVariants.{NotBuilt, Unreadable, Settings, Script, Device, Output, Memory}
 use Rattle.r6_execute.specs.declared.fault.Input.TheVariants as input
@@ -43,19 +45,40 @@ IsNotBuilt name _ = ⊥
 
 -- ---- how a command ends; `old` and `new` are what its standard output holds before and after it
 
-abbrev pub IsDone : Asked → (settings_text script_text old new : Option Text) → Type 0
-IsDone (geometry path) settings_text script_text old new = (values : Values)
+-- the layout of the settings' shape was printed
+abbrev pub HasPrinted : (settings_text old new : Option Text) → Type 0
+HasPrinted settings_text old new = (values : Values)
     × IfSome settings_text (λ text. settings_in false text ≡ Ok values) × Appends old new (layout_text values.shape)
-IsDone (simulate path) settings_text script_text old new = (said : Said)
+
+-- the script was played; one without events prints nothing, and its array can't have failed
+abbrev pub HasPlayed : (script_text old new : Option Text) → Ending → Type 0
+HasPlayed script_text old new ending.Good = (said : Said)
     × IfSome script_text (λ text. Say (lines_of text) said) × (said ≡ None → Keeps old new)
-IsDone _ settings_text script_text old new = ⊥
+HasPlayed script_text old new ending.Failed = (said : Said)
+    × IfSome script_text (λ text. Say (lines_of text) said) × (said ≢ None)
+
+abbrev pub EndsAs : Asked → (settings_text script_text old new : Option Text) → Ending → Type 0
+EndsAs (geometry path) settings_text script_text old new ending.Good = HasPrinted settings_text old new
+EndsAs (simulate path) settings_text script_text old new end = HasPlayed script_text old new end
+EndsAs _ settings_text script_text old new _ = ⊥
+
+abbrev pub IsDone : Asked → (settings_text script_text old new : Option Text) → Type 0
+IsDone asked settings_text script_text old new = EndsAs asked settings_text script_text old new ending.Good
+
+-- only the array of a script may have failed
+abbrev pub IsFailed : Asked → (settings_text script_text old new : Option Text) → Type 0
+IsFailed asked settings_text script_text old new = EndsAs asked settings_text script_text old new ending.Failed
 
 -- a fault of a file, and of a command that is not built, comes before anything is printed
+abbrev pub StopsGeometry : (settings_text old new : Option Text) → Fault → Type 0
+StopsGeometry settings_text old new fault = (IsSettingsFault settings_text fault × Keeps old new) ⊎ IsRunFault fault
+
+abbrev pub StopsPlay : (script_text old new : Option Text) → Fault → Type 0
+StopsPlay script_text old new fault = (IsScriptFault script_text fault × Keeps old new) ⊎ IsRunFault fault
+
 abbrev pub EndsBy : Asked → (settings_text script_text old new : Option Text) → Fault → Type 0
-EndsBy (geometry path) settings_text script_text old new fault =
-    (IsSettingsFault settings_text fault × Keeps old new) ⊎ IsRunFault fault
-EndsBy (simulate path) settings_text script_text old new fault =
-    (IsScriptFault script_text fault × Keeps old new) ⊎ IsRunFault fault
+EndsBy (geometry path) settings_text script_text old new fault = StopsGeometry settings_text old new fault
+EndsBy (simulate path) settings_text script_text old new fault = StopsPlay script_text old new fault
 EndsBy (create path) settings_text script_text old new fault = IsNotBuilt (codes "create") fault × Keeps old new
 EndsBy (verify path) settings_text script_text old new fault = IsNotBuilt (codes "verify") fault × Keeps old new
 EndsBy (run config script) settings_text script_text old new fault = IsNotBuilt (codes "run") fault × Keeps old new

@@ -2,6 +2,10 @@
 use Rattle.std.specs.Prelude.{ℕ}
 use Rattle.r6_execute.specs.declared.fault.Fault.{Fault}
 use Rattle.r6_execute.specs.declared.fault.Fault.TheVariants.{NotText, NotBuilt, Unreadable, Settings, Script, Device, Output, Memory}
+use Rattle.r6_execute.specs.declared.ending.Ending.{Ending}
+use Rattle.r6_execute.specs.declared.ending.Ending.TheVariants.{Good, Failed}
+use Rattle.r6_simulate.specs.declared.simulation.Ending as play
+use Rattle.r6_simulate.specs.declared.simulation.Ending.TheVariants as played
 use Rattle.r6_settings.specs.declared.fault.SettingsFault.TheVariants as settings
 use Rattle.r6_script.specs.declared.script.ScriptFault.TheVariants as script
 
@@ -17,3 +21,13 @@ status_of (Script fault) = 3
 status_of (Device slot fault) = 4
 status_of Output = 4
 status_of Memory = 5
+
+-- the status of a command that met no fault
+abbrev pub status_of_ending : Ending → ℕ
+status_of_ending Good = 0
+status_of_ending Failed = 1
+
+-- a script that was played
+abbrev pub ending_of : play.Ending → Ending
+ending_of played.InService = Good
+ending_of played.Failed = Failed

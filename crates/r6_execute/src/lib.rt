@@ -3,9 +3,11 @@
 #![tactic(auto)]
 
 mod commands;
+mod ending;
 mod fault;
 mod geometry;
 mod output;
 
 pub use commands::execute;
+pub use ending::Ending;
 pub use fault::{Fault, Input};

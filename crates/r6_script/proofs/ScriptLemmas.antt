@@ -20,13 +20,14 @@ use Rattle.r6_layout.specs.Limits as limits
 use Rattle.r6_layout.specs.Shape.{Shape, IsShape, shape_of}
 use Rattle.r6_layout.specs.declared.geometry.GeometryError.{GeometryError}
 use Rattle.r6_layout.specs.declared.geometry.GeometryError.TheVariants.{Slots, Chunk, Block, Rows, Shards}
-use Rattle.r6_script.specs.declared.script.Call.TheVariants.{Perform, Answer, Do, Look}
+use Rattle.r6_script.specs.declared.script.Call.TheVariants.{Perform, Answer, Do, Tell, Look}
+use Rattle.r6_script.specs.declared.script.Completion.{Completion}
 use Rattle.r6_script.specs.declared.script.Script.{Script}
 use Rattle.r6_script.specs.declared.script.ScriptFault.{ScriptFault}
 use Rattle.r6_script.specs.declared.script.ScriptFault.TheVariants.{Line, Memory}
 use Rattle.r6_script.specs.declared.script.Event.{Event}
-use Rattle.r6_script.specs.declared.script.Event.TheVariants.{Read, Write, At}
-use Rattle.r6_script.specs.Script.{Text, Adds, CannotAdd, Explains, IsNumber, IsByte, IsEvent, IsScript, Reads, Say, array_line, byte_word, is_passed_over, line_of, lines_of, lines_saying, said_of, without_comments}
+use Rattle.r6_script.specs.declared.script.Event.TheVariants.{Read, Write, At, Fail, Attach}
+use Rattle.r6_script.specs.Script.{Text, Adds, CannotAdd, Explains, IsNumber, IsByte, IsEvent, IsScript, Reads, Say, array_line, byte_word, completion_word, is_passed_over, line_of, lines_of, lines_saying, said_of, without_comments}
 
 -- ---- numbers
 
@@ -154,19 +155,26 @@ pub only_write : (text : Text) (event : Event) → codes "write" ++ 32 ∷ text 
 only_write text (Read block) e is = absurd (other_first 119 114 _ _ refl e)
 only_write text (Write block byte) e is = (block, byte, is.0, is.1, drop_same 6 _ _ e)
 only_write text (At shard (Perform token)) e is = absurd (other_first 119 112 _ _ refl e)
-only_write text (At shard (Answer token)) e is = absurd (other_first 119 97 _ _ refl e)
+only_write text (At shard (Answer token completion)) e is = absurd (other_first 119 97 _ _ refl e)
 only_write text (At shard (Do token)) e is = absurd (other_first 119 100 _ _ refl e)
+only_write text (At shard Tell) e is = absurd (other_first 119 116 _ _ refl e)
 only_write text (At shard Look) e is = absurd (other_first 119 108 _ _ refl e)
+only_write text (Fail slot) e is = absurd (other_first 119 102 _ _ refl e)
+only_write text (Attach slot) e is = absurd (other_first 119 97 _ _ refl e)
 
 pub only_answer : (text : Text) (event : Event) → codes "answer" ++ 32 ∷ text ≡ line_of event → IsEvent event
-    → (shard : ℕ) × (token : ℕ) × IsNumber shard × IsNumber token × (text ≡ decimal shard ++ 58 ∷ (decimal token ++ codes " ok"))
+    → (shard : ℕ) × (token : ℕ) × (completion : Completion) × IsNumber shard × IsNumber token
+    × (text ≡ decimal shard ++ 58 ∷ (decimal token ++ 32 ∷ completion_word completion))
 only_answer text (Read block) e is = absurd (other_first 97 114 _ _ refl e)
 only_answer text (Write block byte) e is = absurd (other_first 97 119 _ _ refl e)
 only_answer text (At shard (Perform token)) e is = absurd (other_first 97 112 _ _ refl e)
-only_answer text (At shard (Answer token)) e is =
-    (shard, token, is.0, is.1, drop_same 7 _ _ e ∙ append_assoc (decimal shard) (58 ∷ decimal token) (codes " ok"))
+only_answer text (At shard (Answer token completion)) e is =
+    (shard, token, completion, is.0, is.1, drop_same 7 _ _ e ∙ append_assoc (decimal shard) (58 ∷ decimal token) (32 ∷ completion_word completion))
 only_answer text (At shard (Do token)) e is = absurd (other_first 97 100 _ _ refl e)
+only_answer text (At shard Tell) e is = absurd (other_first 97 116 _ _ refl e)
 only_answer text (At shard Look) e is = absurd (other_first 97 108 _ _ refl e)
+only_answer text (Fail slot) e is = absurd (other_first 97 102 _ _ refl e)
+only_answer text (Attach slot) e is = absurd (other_first 110 116 _ _ refl (drop_same 1 _ _ e))
 
 -- what is read of a text is read of the same text
 pub reads_same : {A : Type 0} (text_of : A → Text) (Is : A → Type 0) (a b : Text) (answer : Option A) → a ≡ b → Reads text_of Is b answer → Reads text_of Is a answer

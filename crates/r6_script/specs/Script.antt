@@ -4,9 +4,11 @@ use Rattle.std.specs.Char.{digit_char}
 use Rattle.std.specs.List.{All, join_with_byte, slice_split}
 use Rattle.r6_layout.specs.Shape.{Shape, IsShape}
 use Rattle.r6_script.specs.declared.script.Call.{Call}
-use Rattle.r6_script.specs.declared.script.Call.TheVariants.{Perform, Answer, Do, Look}
+use Rattle.r6_script.specs.declared.script.Call.TheVariants.{Perform, Answer, Do, Tell, Look}
+use Rattle.r6_script.specs.declared.script.Completion.{Completion}
+use Rattle.r6_script.specs.declared.script.Completion.TheVariants.{Good, Error}
 use Rattle.r6_script.specs.declared.script.Event.{Event}
-use Rattle.r6_script.specs.declared.script.Event.TheVariants.{Read, Write, At}
+use Rattle.r6_script.specs.declared.script.Event.TheVariants.{Read, Write, At, Fail, Attach}
 use Rattle.r6_script.specs.declared.script.Script.{Script}
 use Rattle.r6_script.specs.declared.script.ScriptFault.{ScriptFault}
 use Rattle.r6_script.specs.declared.script.ScriptFault.TheVariants.{Line, Memory}
@@ -31,18 +33,29 @@ byte_word byte = digit_char (byte / 16) ∷ digit_char (byte % 16) ∷ []
 abbrev pub command_word : (shard token : ℕ) → Text
 command_word shard token = decimal shard ++ 58 ∷ decimal token
 
+-- the word of a completion
+abbrev pub completion_word : Completion → Text
+completion_word Good = codes "ok"
+completion_word Error = codes "error"
+
+abbrev pub IsCompletion : Completion → Type 0
+IsCompletion completion = Unit {0}
+
 -- ---- lines: words, with one space between them
 
 abbrev pub words_of_call : (shard : ℕ) → Call → List Text
 words_of_call shard (Perform token) = codes "perform" ∷ command_word shard token ∷ []
-words_of_call shard (Answer token) = codes "answer" ∷ command_word shard token ∷ codes "ok" ∷ []
+words_of_call shard (Answer token completion) = codes "answer" ∷ command_word shard token ∷ completion_word completion ∷ []
 words_of_call shard (Do token) = codes "do" ∷ command_word shard token ∷ []
+words_of_call shard Tell = codes "tell" ∷ decimal shard ∷ []
 words_of_call shard Look = codes "look" ∷ decimal shard ∷ []
 
 abbrev pub words_of : Event → List Text
 words_of (Read block) = codes "read" ∷ decimal block ∷ []
 words_of (Write block byte) = codes "write" ∷ decimal block ∷ byte_word byte ∷ []
 words_of (At shard call) = words_of_call shard call
+words_of (Fail slot) = codes "fail" ∷ decimal slot ∷ []
+words_of (Attach slot) = codes "attach" ∷ decimal slot ∷ []
 
 abbrev pub words_of_array : Shape → List Text
 words_of_array shape =
@@ -58,14 +71,17 @@ array_line shape = join_with_byte 32 (words_of_array shape)
 -- the numbers of an event are numbers, and its byte is one
 abbrev pub IsCall : Call → Type 0
 IsCall (Perform token) = IsNumber token
-IsCall (Answer token) = IsNumber token
+IsCall (Answer token completion) = IsNumber token
 IsCall (Do token) = IsNumber token
+IsCall Tell = Unit {0}
 IsCall Look = Unit {0}
 
 abbrev pub IsEvent : Event → Type 0
 IsEvent (Read block) = IsNumber block
 IsEvent (Write block byte) = IsNumber block × IsByte byte
 IsEvent (At shard call) = IsNumber shard × IsCall call
+IsEvent (Fail slot) = IsNumber slot
+IsEvent (Attach slot) = IsNumber slot
 
 -- ---- scripts
 

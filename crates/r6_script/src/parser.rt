@@ -4,9 +4,9 @@ ghost use Rattle.std.specs.Prelude.{◌≡◌, ◌≢◌, ◌<◌, ◌++◌, ◌
 ghost use Rattle.std.specs.Char.{digit_value};
 ghost use Rattle.r6_layout.specs.Shape.{IsShape};
 ghost use Rattle.r6_script.specs.declared.script.Event.{Event as Entered};
-ghost use Rattle.r6_script.specs.Script.{Adds, CannotAdd, Explains, IsByte, IsEvent, IsNumber, IsSaid, Reads, ReadsDigit, Say, array_line, byte_word, command_word, is_passed_over, line_of, lines_of, said_of};
+ghost use Rattle.r6_script.specs.Script.{Adds, CannotAdd, Explains, IsByte, IsCompletion, IsEvent, IsNumber, IsSaid, Reads, ReadsDigit, Say, array_line, byte_word, command_word, completion_word, is_passed_over, line_of, lines_of, said_of};
 
-use crate::script::{Call, Event, Script, ScriptFault};
+use crate::script::{Call, Completion, Event, Script, ScriptFault};
 use r6_layout::Geometry;
 use std::alloc::Global;
 
@@ -66,6 +66,17 @@ fn parse_command(text: &str) -> Option<(u64, u64)>
     Some((shard, parse_number(token)?))
 }
 
+// How a command is completed.
+fn parse_completion(word: &str) -> Option<Completion>
+    ensures { Reads completion_word IsCompletion word.now result }
+{
+    match word {
+        "ok" => Some(Completion::Good),
+        "error" => Some(Completion::Error),
+        _ => None,
+    }
+}
+
 // The event of the line that goes on with this text after `read`.
 fn parse_read(text: &str) -> Option<Event>
     ensures { Reads line_of IsEvent (codes "read" ++ 32 ∷ text.now) result }
@@ -94,12 +105,8 @@ fn parse_answer(text: &str) -> Option<Event>
     ensures { Reads line_of IsEvent (codes "answer" ++ 32 ∷ text.now) result }
 {
     let (shard, rest) = parse_number_before(text, ':')?;
-    let (token, completion) = parse_number_before(rest, ' ')?;
-    if completion == "ok" {
-        Some(Event::At(shard, Call::Answer(token)))
-    } else {
-        None
-    }
+    let (token, word) = parse_number_before(rest, ' ')?;
+    Some(Event::At(shard, Call::Answer(token, parse_completion(word)?)))
 }
 
 // The event of the line that goes on with this text after `do`.
@@ -117,6 +124,27 @@ fn parse_look(text: &str) -> Option<Event>
     Some(Event::At(parse_number(text)?, Call::Look))
 }
 
+// The event of the line that goes on with this text after `tell`.
+fn parse_tell(text: &str) -> Option<Event>
+    ensures { Reads line_of IsEvent (codes "tell" ++ 32 ∷ text.now) result }
+{
+    Some(Event::At(parse_number(text)?, Call::Tell))
+}
+
+// The event of the line that goes on with this text after `fail`.
+fn parse_fail(text: &str) -> Option<Event>
+    ensures { Reads line_of IsEvent (codes "fail" ++ 32 ∷ text.now) result }
+{
+    Some(Event::Fail(parse_number(text)?))
+}
+
+// The event of the line that goes on with this text after `attach`.
+fn parse_attach(text: &str) -> Option<Event>
+    ensures { Reads line_of IsEvent (codes "attach" ++ 32 ∷ text.now) result }
+{
+    Some(Event::Attach(parse_number(text)?))
+}
+
 // The event that a line says.
 fn parse_event(line: &str) -> Option<Event>
     ensures { Reads line_of IsEvent line.now result }
@@ -128,7 +156,10 @@ fn parse_event(line: &str) -> Option<Event>
         "perform" => parse_perform(text),
         "answer" => parse_answer(text),
         "do" => parse_do(text),
+        "tell" => parse_tell(text),
         "look" => parse_look(text),
+        "fail" => parse_fail(text),
+        "attach" => parse_attach(text),
         _ => None,
     }
 }

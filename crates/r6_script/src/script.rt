@@ -6,15 +6,26 @@ use r6_layout::Geometry;
 use std::alloc::{AllocError, AllocFailed};
 use std::fmt;
 
+/// How a command is completed.
+#[derive(Clone, Copy)]
+pub enum Completion {
+    /// Its device did it.
+    Good,
+    /// Its device answers a fault, whether it did it or not.
+    Error,
+}
+
 /// What is done at a shard.
 #[derive(Clone, Copy)]
 pub enum Call {
     /// The device of the command with this token performs it.
     Perform(u64),
-    /// The good completion of the command with this token is delivered.
-    Answer(u64),
+    /// The completion of the command with this token is delivered.
+    Answer(u64, Completion),
     /// The device of the command with this token performs it, and then its good completion is delivered.
     Do(u64),
+    /// The shard's next call is made at the register, and the shard is told the answer.
+    Tell,
     /// The shard looks at the register.
     Look,
 }
@@ -28,6 +39,10 @@ pub enum Event {
     Write(u64, u8),
     /// Something is done at a shard.
     At(u64, Call),
+    /// A slot is failed at the register.
+    Fail(u64),
+    /// A new device is attached to a slot at the register.
+    Attach(u64),
 }
 
 /// An array, and what happens to it.

@@ -1,1 +1,1 @@
-pub mod RegisterLemmas
+pub mod WholeLemmas

@@ -1,8 +1,14 @@
 -- The lines that the command `simulate` prints. The words are this project's own.
-use Rattle.std.specs.Prelude.{ℕ, ◌==◌, List, [], ◌∷◌, ◌++◌, Option, Some, None, codes, decimal, if◌then◌else◌}
+use Rattle.std.specs.Prelude.{ℕ, ◌==◌, List, [], ◌∷◌, ◌++◌, Option, Some, None, Result, Ok, Err, codes, decimal, if◌then◌else◌}
 use Rattle.std.specs.List.{flat_map, join_with_byte, list_all}
 use Rattle.std.specs.Option.{option_map_or}
+use Rattle.r6_health.specs.Refusals as register
+use Rattle.r6_health.specs.declared.call.Answer.{Answer}
+use Rattle.r6_health.specs.declared.call.Answer.TheVariants as answer
+use Rattle.r6_health.specs.declared.refusal.Refusal as register_refusal
 use Rattle.r6_core.specs.Refusals.{number_of}
+use Rattle.r6_core.specs.declared.call.Call.{Call}
+use Rattle.r6_core.specs.declared.call.Call.TheVariants as call
 use Rattle.r6_core.specs.declared.refusal.Receipt.TheVariants.{Taken, Late}
 use Rattle.r6_core.specs.declared.refusal.Refusal.{Refusal}
 use Rattle.r6_core.specs.declared.refusal.Refusal.TheVariants.{NoSuchBlock, WrongShard, WrongLength, Busy, ArrayFailed, Exhausted, UnknownToken, UntoldFirst, UnknownCall}
@@ -13,7 +19,7 @@ use Rattle.r6_core.specs.declared.CommandKind.{CommandKind}
 use Rattle.r6_core.specs.declared.CommandKind.TheVariants as kind
 use Rattle.r6_script.specs.Script.{byte_word, command_word}
 use Rattle.r6_simulate.specs.declared.lines.Outcome.{Outcome}
-use Rattle.r6_simulate.specs.declared.lines.Outcome.TheVariants.{Accepted, Performed, PerformedAlready, NoSuchCommand, NotPerformed, Received, Looked, Refused}
+use Rattle.r6_simulate.specs.declared.lines.Outcome.TheVariants.{Accepted, Performed, PerformedAlready, NoSuchCommand, NotPerformed, Received, Looked, Refused, Told, Nothing, Called, NoSuchShard}
 
 abbrev pub Text : Type 0
 Text = List ℕ
@@ -29,6 +35,20 @@ refusal_name UnknownToken = codes "UnknownToken"
 refusal_name UntoldFirst = codes "UntoldFirst"
 refusal_name UnknownCall = codes "UnknownCall"
 
+-- a call at the register
+abbrev pub call_text : Call → Text
+call_text (call.DeclareLost slot generation) = codes "declare_lost " ++ decimal slot ++ 32 ∷ decimal generation
+call_text (call.ReportRebuilt slot generation) = codes "report_rebuilt " ++ decimal slot ++ 32 ∷ decimal generation
+
+-- what the register answers
+abbrev pub answer_text : Result Answer register_refusal.Refusal → Text
+answer_text (Ok answer.Degraded) = codes "degraded"
+answer_text (Ok answer.Failed) = codes "failed"
+answer_text (Ok (answer.Generation generation)) = codes "generation " ++ decimal generation
+answer_text (Ok answer.More) = codes "more"
+answer_text (Ok answer.Complete) = codes "complete"
+answer_text (Err refusal) = codes "refused " ++ decimal (register.refusal_number refusal) ++ 32 ∷ register.refusal_name refusal
+
 -- what became of an event
 abbrev pub outcome_text : Outcome → Text
 outcome_text (Accepted shard id) = codes "op " ++ command_word shard id.0
@@ -40,6 +60,10 @@ outcome_text (Received Taken) = codes "taken"
 outcome_text (Received Late) = codes "late"
 outcome_text Looked = codes "looked"
 outcome_text (Refused refusal) = codes "refused " ++ decimal (number_of refusal) ++ 32 ∷ refusal_name refusal
+outcome_text (Told made answered) = call_text made.0 ++ codes ": " ++ answer_text answered.0
+outcome_text Nothing = codes "nothing"
+outcome_text (Called answered) = answer_text answered.0
+outcome_text NoSuchShard = codes "no such shard"
 
 -- the byte that all bytes of a block are, if they are equal
 abbrev pub only_byte : List ℕ → Option ℕ

@@ -2,9 +2,11 @@
 //! each event gets a line.
 #![tactic(auto)]
 
+mod devices;
 mod fault;
 mod lines;
+mod register;
 mod simulation;
 
 pub use fault::SimulationFault;
-pub use simulation::simulate;
+pub use simulation::{Ending, simulate};

@@ -5,11 +5,54 @@ ghost use Rattle.std.specs.List.{list_all};
 ghost use Rattle.r6_script.specs.Script.{byte_word};
 ghost use Rattle.r6_simulate.specs.Lines.{block_text, command_text, only_byte, refusal_name, reply_text};
 
-use r6_core::{Command, CommandKind, OpId, Receipt, Refusal, Reply};
+use r6_core::{Call, Command, CommandKind, OpId, Receipt, Refusal, Reply};
+use r6_health::{Answer, Refusal as RegisterRefusal};
 use std::alloc::AllocError;
 use std::fmt::{self, Write};
 
-/// What became of an event at a shard.
+/// A call that a shard makes at the register.
+#[derive(Clone, Copy)]
+pub struct Made(pub Call);
+
+impl fmt::Display for Made {
+    ghost use Rattle.std.specs.Prelude.{Some};
+    ghost use Rattle.r6_simulate.specs.Lines.{call_text};
+
+    ghost output = { λ made. Some (call_text made.0) };
+
+    fn fmt<W: fmt::Write>(&self, f: &mut fmt::Formatter<W>) -> fmt::Result {
+        match self.0 {
+            Call::DeclareLost(slot, generation) => write!(f, "declare_lost {slot} {generation}"),
+            Call::ReportRebuilt(slot, generation) => {
+                write!(f, "report_rebuilt {slot} {generation}")
+            }
+        }
+    }
+}
+
+/// What the register answers to a call.
+#[derive(Clone, Copy)]
+pub struct Answered(pub Result<Answer, RegisterRefusal>);
+
+impl fmt::Display for Answered {
+    ghost use Rattle.std.specs.Prelude.{Some};
+    ghost use Rattle.r6_simulate.specs.Lines.{answer_text};
+
+    ghost output = { λ answered. Some (answer_text answered.0) };
+
+    fn fmt<W: fmt::Write>(&self, f: &mut fmt::Formatter<W>) -> fmt::Result {
+        match self.0 {
+            Ok(Answer::Degraded) => write!(f, "degraded"),
+            Ok(Answer::Failed) => write!(f, "failed"),
+            Ok(Answer::Generation(generation)) => write!(f, "generation {generation}"),
+            Ok(Answer::More) => write!(f, "more"),
+            Ok(Answer::Complete) => write!(f, "complete"),
+            Err(refusal) => write!(f, "refused {} {}", refusal.number(), refusal.name()),
+        }
+    }
+}
+
+/// What became of an event.
 #[derive(Clone, Copy)]
 pub enum Outcome {
     /// The shard accepted a request, under this number of its own.
@@ -28,6 +71,14 @@ pub enum Outcome {
     Looked,
     /// The shard refused a request, a completion or a look.
     Refused(Refusal),
+    /// The shard's call was made, and the shard was told the answer.
+    Told(Made, Answered),
+    /// The shard has no call to make.
+    Nothing,
+    /// The register was called from outside.
+    Called(Answered),
+    /// The array has no shard of this number.
+    NoSuchShard,
 }
 
 fn refusal_name(refusal: Refusal) -> &'static str
@@ -65,6 +116,10 @@ impl fmt::Display for Outcome {
             Outcome::Refused(refusal) => {
                 write!(f, "refused {} {}", refusal.number(), refusal_name(*refusal))
             }
+            Outcome::Told(made, answered) => write!(f, "{made}: {answered}"),
+            Outcome::Nothing => write!(f, "nothing"),
+            Outcome::Called(answered) => write!(f, "{answered}"),
+            Outcome::NoSuchShard => write!(f, "no such shard"),
         }
     }
 }

@@ -3,72 +3,43 @@
 ghost use Rattle.std.specs.Prelude.{◌≡◌, ◌<◌, length, replicate, IfErr, IfOk, IfSome, OnOk};
 ghost use Rattle.std.specs.Io.KnownBytes.{Appends};
 ghost use Rattle.r6_core.specs.Shards.{IsWhole};
-ghost use Rattle.r6_layout.specs.Shape.{IsShape};
 ghost use Rattle.r6_simulate.specs.Shards.{shard_of_block, shard_of_event};
 
+use crate::devices::{Devices, block_of};
 use crate::fault::SimulationFault;
-use crate::lines::{Outcome, write_command, write_reply};
+use crate::lines::{Answered, Made, Outcome, write_command, write_reply};
+use crate::register::OwnRegister;
 use indexmap::IndexMap;
-use r6_core::{Command, CommandKind, Core, Op, Refused};
-use r6_dev::{BlockDevice, Fault as DeviceFault, MemoryDevice};
-use r6_health::Snapshot;
+use r6_core::{Command, CommandKind, Core, DeviceFault, FaultKind, Op, Refused};
+use r6_health::{Answer, Snapshot};
 use r6_kernels::Buffer;
 use r6_layout::Geometry;
-use r6_script::{Call, Event, Script};
+use r6_script::{Call, Completion, Event, Script};
 use std::alloc::{AllocError, Global};
 use std::fmt::Write as _;
 use std::io::Write;
+use std::sync::Wait;
 
 // Rows of a rebuild that a shard may hold at a time.
 const WINDOW: usize = 1;
 
-// What every shard sees of the register: no slot lost, and no device attached.
-fn register(geometry: &Geometry) -> Snapshot
-    ensures whole { IsWhole result }
-    ensures no_attach { result.attaches ≡ 0 }
-{
-    Snapshot::start(geometry, 0)
-}
+// The byte that a new device has throughout.
+const NEW: u8 = 0xff;
 
-// A shard's core, and the part of each slot's device that serves the shard's rows.
-#[derive(Drop)]
-struct Shard {
-    core: Core,
-    devices: Vec<MemoryDevice>,
-}
-
-impl Shard {
-    fn new(alloc: Global, geometry: Geometry, shard: usize) -> Result<Shard, SimulationFault>
-        requires { shard < geometry.shards }
-    {
-        let mut devices = Vec::with_capacity(alloc, geometry.slots())?;
-        for _ in 0..geometry.slots() {
-            devices.push(MemoryDevice::new(alloc, geometry.shard_rows(shard), geometry.block())?)?;
-        }
-        let snapshot = register(&geometry);
-        match Core::new(alloc, geometry, shard, WINDOW, &snapshot) {
-            Ok(core) => Ok(Shard { core, devices }),
-            Err(_) => Err(SimulationFault::Memory),
-        }
-    }
+/// How a run of a script ends.
+#[derive(Clone, Copy)]
+pub enum Ending {
+    /// The register has not failed.
+    InService,
+    /// A third slot was out.
+    Failed,
 }
 
 // A command that was taken and isn't answered, and whether its device performed it.
 #[derive(Drop)]
-struct Outstanding {
+struct InFlight {
     command: Command,
     performed: bool,
-}
-
-// The device of a command's slot does what the command tells it.
-fn carry_out(devices: &mut [MemoryDevice], command: &mut Command) -> Result<(), DeviceFault> {
-    let Some(device) = devices.get_mut(command.slot) else {
-        return Err(DeviceFault::Gone);
-    };
-    match command.kind {
-        CommandKind::Read => device.read(command.row, &mut command.buffer),
-        CommandKind::Write => device.write(command.row, &command.buffer),
-    }
 }
 
 // An array in memory, with the commands of its shards that were taken and aren't answered, by shard and token.
@@ -76,23 +47,51 @@ fn carry_out(devices: &mut [MemoryDevice], command: &mut Command) -> Result<(), 
 struct Simulation {
     alloc: Global,
     geometry: Geometry,
-    shards: Vec<Shard>,
-    outstanding: IndexMap<(usize, u64), Outstanding>,
-    ghost all_there: { length shards.items ≡ geometry.shards },
+    register: OwnRegister,
+    cores: Vec<Core>,
+    devices: Devices,
+    in_flight: IndexMap<(usize, u64), InFlight>,
+    ghost all_there: { length cores.items ≡ geometry.shards },
     ghost some_there: { 0 < geometry.shards },
 }
 
-impl Simulation {
-    fn new(alloc: Global, geometry: Geometry) -> Result<Simulation, SimulationFault> {
-        let mut shards = Vec::with_capacity(alloc, geometry.shards())?;
-        for shard in 0..geometry.shards() {
-            shards.push(Shard::new(alloc, geometry, shard)?)?;
+// A register with no slot lost, and no device attached.
+fn whole(geometry: &Geometry) -> Snapshot
+    ensures whole { IsWhole result }
+    ensures no_attach { result.attaches ≡ 0 }
+{
+    Snapshot::start(geometry, 0)
+}
+
+// The cores of an array with all slots in sync, by shard.
+fn cores_of(alloc: Global, geometry: Geometry) -> Result<Vec<Core>, SimulationFault>
+    ensures all { IfOk result (λ cores. length cores.items ≡ geometry.shards) }
+    ensures some { IfOk result (λ cores. 0 < length cores.items) }
+{
+    let snapshot = whole(&geometry);
+    let mut cores = Vec::with_capacity(alloc, geometry.shards())?;
+    for shard in 0..geometry.shards() {
+        match Core::new(alloc, geometry, shard, WINDOW, &snapshot) {
+            Ok(core) => cores.push(core)?,
+            Err(_) => return Err(SimulationFault::Memory),
         }
+    }
+    Ok(cores)
+}
+
+impl Simulation {
+    fn new<R: Wait>(
+        rt: &R,
+        alloc: Global,
+        geometry: Geometry,
+    ) -> Result<Simulation, SimulationFault> {
         Ok(Simulation {
             alloc,
             geometry,
-            shards,
-            outstanding: IndexMap::new(alloc),
+            register: OwnRegister::new(rt, alloc, &geometry)?,
+            cores: cores_of(alloc, geometry)?,
+            devices: Devices::new(alloc, geometry)?,
+            in_flight: IndexMap::new(alloc),
         })
     }
 
@@ -100,10 +99,7 @@ impl Simulation {
     fn block_of(&self, byte: u8) -> Result<Buffer, AllocError>
         ensures { IfOk result (λ block. block ≡ replicate self.now.geometry.block byte) }
     {
-        let bytes = vec![in self.alloc; byte; self.geometry.block()]?;
-        let mut block = Buffer::new(self.alloc, bytes.len())?;
-        block.copy_from_slice(bytes.as_slice());
-        Ok(block)
+        block_of(self.alloc, self.geometry.block(), byte)
     }
 
     // The shard of a block; a block that isn't there goes to shard 0, which refuses it.
@@ -117,7 +113,7 @@ impl Simulation {
         }
     }
 
-    // The shard at which an event happens, if the array has it.
+    // The shard at which an event happens, if it happens at one that the array has.
     fn shard_of(&self, event: &Event) -> Option<usize>
         ensures value { result ≡ shard_of_event self.now.geometry event.now }
         ensures within { IfSome result (λ shard. shard < self.now.geometry.shards) }
@@ -126,12 +122,13 @@ impl Simulation {
             Event::Read(block) | Event::Write(block, _) => Some(self.shard_of_block(*block)),
             Event::At(shard, _) => {
                 let shard = *shard as usize;
-                if shard < self.shards.len() {
+                if shard < self.cores.len() {
                     Some(shard)
                 } else {
                     None
                 }
             }
+            Event::Fail(_) | Event::Attach(_) => None,
         }
     }
 
@@ -139,72 +136,137 @@ impl Simulation {
         requires { shard < self.old.geometry.shards }
         ensures { self.new.geometry ≡ self.old.geometry }
     {
-        match self.shards[shard].core.submit(op) {
+        match self.cores[shard].submit(op) {
             Ok(id) => Outcome::Accepted(shard, id),
             Err(Refused { refusal, .. }) => Outcome::Refused(refusal),
         }
     }
 
-    // The device of an outstanding command performs it, once.
+    // The device of a command in flight performs it, once.
     fn perform(&mut self, shard: usize, token: u64) -> Result<Outcome, SimulationFault>
         requires { shard < self.old.geometry.shards }
         ensures { self.new.geometry ≡ self.old.geometry }
     {
-        let Some(outstanding) = self.outstanding.get_mut(&(shard, token)) else {
+        let Some(in_flight) = self.in_flight.get_mut(&(shard, token)) else {
             return Ok(Outcome::NoSuchCommand);
         };
-        if outstanding.performed {
+        if in_flight.performed {
             return Ok(Outcome::PerformedAlready);
         }
-        let devices = self.shards[shard].devices.as_mut_slice();
-        match carry_out(devices, &mut outstanding.command) {
-            Ok(()) => {
-                outstanding.performed = true;
-                Ok(Outcome::Performed)
-            }
-            Err(fault) => Err(SimulationFault::Device(outstanding.command.slot, fault)),
+        self.devices.perform(shard, &mut in_flight.command)?;
+        in_flight.performed = true;
+        Ok(Outcome::Performed)
+    }
+
+    // Delivers a completion.
+    fn deliver(
+        &mut self,
+        shard: usize,
+        token: u64,
+        completion: Result<Buffer, DeviceFault>,
+    ) -> Outcome
+        requires { shard < self.old.geometry.shards }
+        ensures { self.new.geometry ≡ self.old.geometry }
+    {
+        match self.cores[shard].deliver(token, completion) {
+            Ok(receipt) => Outcome::Received(receipt),
+            Err(Refused { refusal, .. }) => Outcome::Refused(refusal),
         }
     }
 
-    // Delivers the good completion of a command; one that isn't outstanding is completed with zeros, so that its
+    // Delivers the good completion of a command; one that isn't in flight is completed with zeros, so that its
     // refusal shows.
     fn answer(&mut self, shard: usize, token: u64) -> Result<Outcome, SimulationFault>
         requires { shard < self.old.geometry.shards }
         ensures { self.new.geometry ≡ self.old.geometry }
     {
         let key = (shard, token);
-        let buffer = match self.outstanding.get(&key) {
-            Some(outstanding) if !outstanding.performed => return Ok(Outcome::NotPerformed),
-            _ => match self.outstanding.swap_remove(&key) {
-                Some(outstanding) => outstanding.command.buffer,
+        let buffer = match self.in_flight.get(&key) {
+            Some(in_flight) if !in_flight.performed => return Ok(Outcome::NotPerformed),
+            _ => match self.in_flight.swap_remove(&key) {
+                Some(in_flight) => in_flight.command.buffer,
                 None => self.block_of(0)?,
             },
         };
-        match self.shards[shard].core.deliver(token, Ok(buffer)) {
-            Ok(receipt) => Ok(Outcome::Received(receipt)),
-            Err(Refused { refusal, .. }) => Ok(Outcome::Refused(refusal)),
+        Ok(self.deliver(shard, token, Ok(buffer)))
+    }
+
+    // Delivers an error of a command, whether it was performed or not.
+    fn answer_error(&mut self, shard: usize, token: u64) -> Result<Outcome, SimulationFault>
+        requires { shard < self.old.geometry.shards }
+        ensures { self.new.geometry ≡ self.old.geometry }
+    {
+        let fault = match self.in_flight.swap_remove(&(shard, token)) {
+            Some(in_flight) => DeviceFault {
+                kind: fault_of(in_flight.command.kind),
+                buffer: in_flight.command.buffer,
+            },
+            None => DeviceFault {
+                kind: FaultKind::ReadFault,
+                buffer: self.block_of(0)?,
+            },
+        };
+        Ok(self.deliver(shard, token, Err(fault)))
+    }
+
+    // Makes the shard's next call at the register, and tells the shard the answer.
+    fn tell<R: Wait>(&mut self, rt: &R, shard: usize) -> Outcome
+        requires { shard < self.old.geometry.shards }
+        ensures { self.new.geometry ≡ self.old.geometry }
+    {
+        let Some(call) = self.cores[shard].take_call() else {
+            return Outcome::Nothing;
+        };
+        let answer = self.register.make(rt, shard, call);
+        match self.cores[shard].told(call, answer) {
+            Ok(()) => Outcome::Told(Made(call), Answered(answer)),
+            Err(refusal) => Outcome::Refused(refusal),
         }
     }
 
+    // Hands the register as it is to the shard.
+    fn look<R: Wait>(&mut self, rt: &R, shard: usize) -> Outcome
+        requires { shard < self.old.geometry.shards }
+        ensures { self.new.geometry ≡ self.old.geometry }
+    {
+        let snapshot = self.register.read(rt);
+        match self.cores[shard].look(&snapshot) {
+            Ok(()) => Outcome::Looked,
+            Err(refusal) => Outcome::Refused(refusal),
+        }
+    }
+
+    // Attaches a new device to a slot.
+    fn attach<R: Wait>(&mut self, rt: &R, slot: usize) -> Result<Outcome, SimulationFault>
+        ensures { self.new.geometry ≡ self.old.geometry }
+    {
+        let answer = self.register.attach(rt, slot);
+        if let Ok(generation) = answer {
+            self.devices.add(slot, generation, NEW)?;
+        }
+        Ok(Outcome::Called(Answered(answer.map(Answer::Generation))))
+    }
+
     // Does something at a shard.
-    fn call(&mut self, shard: usize, call: Call) -> Result<Outcome, SimulationFault>
+    fn call<R: Wait>(
+        &mut self,
+        rt: &R,
+        shard: usize,
+        call: Call,
+    ) -> Result<Outcome, SimulationFault>
         requires { shard < self.old.geometry.shards }
         ensures { self.new.geometry ≡ self.old.geometry }
     {
         match call {
             Call::Perform(token) => self.perform(shard, token),
-            Call::Answer(token) => self.answer(shard, token),
+            Call::Answer(token, Completion::Good) => self.answer(shard, token),
+            Call::Answer(token, Completion::Error) => self.answer_error(shard, token),
             Call::Do(token) => match self.perform(shard, token)? {
                 Outcome::Performed => self.answer(shard, token),
                 other => Ok(other),
             },
-            Call::Look => {
-                let snapshot = register(&self.geometry);
-                match self.shards[shard].core.look(&snapshot) {
-                    Ok(()) => Ok(Outcome::Looked),
-                    Err(refusal) => Ok(Outcome::Refused(refusal)),
-                }
-            }
+            Call::Tell => Ok(self.tell(rt, shard)),
+            Call::Look => Ok(self.look(rt, shard)),
         }
     }
 
@@ -214,7 +276,7 @@ impl Simulation {
         ensures { self.new.geometry ≡ self.old.geometry }
     {
         for _ in 0..u64::MAX {
-            let Some((id, reply)) = self.shards[shard].core.take_reply() else {
+            let Some((id, reply)) = self.cores[shard].take_reply() else {
                 break;
             };
             write_reply(line, shard, id, &reply)?;
@@ -227,7 +289,7 @@ impl Simulation {
         requires { shard < self.old.geometry.shards }
     {
         for _ in 0..u64::MAX {
-            let Some(command) = self.shards[shard].core.take_command() else {
+            let Some(command) = self.cores[shard].take_command() else {
                 break;
             };
             write_command(line, shard, &command)?;
@@ -241,47 +303,65 @@ impl Simulation {
         ensures { self.new.geometry ≡ self.old.geometry }
     {
         let key = (shard, command.token);
-        let outstanding = Outstanding {
+        let in_flight = InFlight {
             command,
             performed: false,
         };
-        self.outstanding.insert(key, outstanding)?;
+        self.in_flight.insert(key, in_flight)?;
         Ok(())
     }
 
+    // What becomes of an event at the shard that it names, or at the register.
+    fn happen<R: Wait>(
+        &mut self,
+        rt: &R,
+        event: Event,
+        shard: Option<usize>,
+    ) -> Result<Outcome, SimulationFault>
+        requires { IfSome shard (λ shard. shard < self.old.geometry.shards) }
+        ensures { self.new.geometry ≡ self.old.geometry }
+    {
+        match (event, shard) {
+            (Event::Read(block), Some(shard)) => {
+                let buffer = self.block_of(0)?;
+                Ok(self.submit(shard, Op::Read(block, buffer)))
+            }
+            (Event::Write(block, byte), Some(shard)) => {
+                let buffer = self.block_of(byte)?;
+                Ok(self.submit(shard, Op::Write(block, buffer)))
+            }
+            (Event::At(_, call), Some(shard)) => self.call(rt, shard, call),
+            (Event::Fail(slot), _) => Ok(Outcome::Called(Answered(
+                self.register.fail(rt, slot as usize),
+            ))),
+            (Event::Attach(slot), _) => self.attach(rt, slot as usize),
+            (_, None) => Ok(Outcome::NoSuchShard),
+        }
+    }
+
     // Plays an event, and writes its line: what became of it, and what its shard puts out, replies first.
-    fn play(&mut self, event: Event, line: &mut String) -> Result<(), SimulationFault> {
-        let Some(shard) = self.shard_of(&event) else {
-            write!(line, "no such shard")?;
+    fn play<R: Wait>(
+        &mut self,
+        rt: &R,
+        event: Event,
+        line: &mut String,
+    ) -> Result<(), SimulationFault> {
+        let shard = self.shard_of(&event);
+        let outcome = self.happen(rt, event, shard)?;
+        write!(line, "{outcome}")?;
+        let Some(shard) = shard else {
             return Ok(());
         };
-        let outcome = match event {
-            Event::Read(block) => {
-                let buffer = self.block_of(0)?;
-                self.submit(shard, Op::Read(block, buffer))
-            }
-            Event::Write(block, byte) => {
-                let buffer = self.block_of(byte)?;
-                self.submit(shard, Op::Write(block, buffer))
-            }
-            Event::At(_, call) => self.call(shard, call)?,
-        };
-        write!(line, "{outcome}")?;
         self.put_out_replies(shard, line)?;
         self.put_out_commands(shard, line)
     }
+}
 
-    // Plays an event, and prints its line.
-    fn show<W: Write>(
-        &mut self,
-        event: Event,
-        line: &mut String,
-        out: &mut W,
-    ) -> Result<(), SimulationFault> {
-        line.clear();
-        self.play(event, line)?;
-        writeln!(line)?;
-        print(out, line.as_str())
+// How the device of a command of this kind fails.
+fn fault_of(kind: CommandKind) -> FaultKind {
+    match kind {
+        CommandKind::Read => FaultKind::ReadFault,
+        CommandKind::Write => FaultKind::WriteFault,
     }
 }
 
@@ -293,21 +373,40 @@ fn print<W: Write>(out: &mut W, text: &str) -> Result<(), SimulationFault>
         .map_err(|_| SimulationFault::Output)
 }
 
-/// Plays the events of a script, in order, against an array in memory: devices of zeros, all in sync. A line for the
-/// array and for each event goes to `out`, when the event was played.
+// Plays an event, and prints its line.
+fn play_and_print<R: Wait, W: Write>(
+    rt: &R,
+    simulation: &mut Simulation,
+    event: Event,
+    line: &mut String,
+    out: &mut W,
+) -> Result<(), SimulationFault> {
+    line.clear();
+    simulation.play(rt, event, line)?;
+    writeln!(line)?;
+    print(out, line.as_str())
+}
+
+/// Plays the events of a script, in order, against an array in memory: devices of zeros, all in sync, and one register.
+/// A line for the array and for each event goes to `out`, when the event was played.
 ///
 /// # Errors
 /// `Memory`; `Output` where `out` refuses a line; `Device` where a device does not do what a core tells it.
-pub fn simulate<W: Write>(
+pub fn simulate<R: Wait, W: Write>(
+    rt: &R,
     alloc: Global,
     script: &Script,
     out: &mut W,
-) -> Result<(), SimulationFault> {
-    let mut simulation = Simulation::new(alloc, script.geometry)?;
+) -> Result<Ending, SimulationFault> {
+    let mut simulation = Simulation::new(rt, alloc, script.geometry)?;
     print(out, "array\n")?;
     let mut line = String::new(alloc);
     for event in &script.events {
-        simulation.show(*event, &mut line, out)?;
+        play_and_print(rt, &mut simulation, *event, &mut line, out)?;
     }
-    Ok(())
+    if simulation.register.read(rt).failed() {
+        Ok(Ending::Failed)
+    } else {
+        Ok(Ending::InService)
+    }
 }

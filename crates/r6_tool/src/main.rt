@@ -12,6 +12,7 @@ use r6_execute::{Fault, execute};
 use std::fs::{self, File};
 use std::io::{self, ErrorKind, Read};
 use std::process::ExitCode;
+use std::sync::Wait;
 
 /// A file that a command reads. One that can't be opened fails at every read, and so does one that the
 /// command does not name.
@@ -72,11 +73,13 @@ fn explained(rt: &HostRuntime, error: &Error) -> u8
     }
 }
 
-fn perform(rt: &HostRuntime, invocation: &Invocation<'_>) -> u8 {
+// `waits` is the right to wait, which `main` has.
+fn perform<R: Wait>(rt: &HostRuntime, waits: &R, invocation: &Invocation<'_>) -> u8 {
     let mut settings = Source::open(rt, invocation.config());
     let mut script = Source::open(rt, invocation.script());
     let (mut out, mut err) = (rt.stdout(), rt.stderr());
     execute(
+        waits,
         rt.alloc(),
         invocation,
         &mut settings,
@@ -86,7 +89,7 @@ fn perform(rt: &HostRuntime, invocation: &Invocation<'_>) -> u8 {
     )
 }
 
-fn status(rt: &HostRuntime) -> u8 {
+fn status<R: Wait>(rt: &HostRuntime, waits: &R) -> u8 {
     let words: Vec<String> = match std::env::args(rt) {
         Ok(words) => match words.collect(rt.alloc()) {
             Ok(words) => words,
@@ -96,14 +99,14 @@ fn status(rt: &HostRuntime) -> u8 {
         Err(_) => return refused(rt, Fault::NotText),
     };
     match command(rt.alloc(), words.as_slice()) {
-        Ok(invocation) => perform(rt, &invocation),
+        Ok(invocation) => perform(rt, waits, &invocation),
         Err(CommandFault::Refused(error)) => explained(rt, &error),
         Err(CommandFault::Memory) => refused(rt, Fault::Memory),
     }
 }
 
 fn main(rt: HostRuntime) -> ExitCode {
-    ExitCode::from(status(&rt))
+    ExitCode::from(status(&rt, &rt))
 }
 
 #[cfg(test)]

@@ -5,6 +5,7 @@ use r6_execute::execute;
 use std::alloc::Global;
 use std::io::{self, ErrorKind, Read, Write};
 use std::process::Abort;
+use std::sync::Wait;
 
 /// What a command prints, what it says of a fault, and its status.
 pub(crate) type Ended<'a> = (&'a str, &'a str, u8);
@@ -53,7 +54,7 @@ impl Write for Full {
 }
 
 /// A command whose file has this text has to end so.
-pub(crate) fn ends<R: Abort>(
+pub(crate) fn ends<R: Abort + Wait>(
     rt: &R,
     alloc: Global,
     invocation: &Invocation<'_>,
@@ -63,6 +64,7 @@ pub(crate) fn ends<R: Abort>(
     let (mut settings, mut script) = (text, text);
     let (mut out, mut err) = (Vec::new(alloc), Vec::new(alloc));
     let status = execute(
+        rt,
         alloc,
         invocation,
         &mut settings,
@@ -76,7 +78,7 @@ pub(crate) fn ends<R: Abort>(
 }
 
 /// A command whose file fails behind this text has to print nothing, and to end so.
-pub(crate) fn ends_unread<R: Abort>(
+pub(crate) fn ends_unread<R: Abort + Wait>(
     rt: &R,
     alloc: Global,
     invocation: &Invocation<'_>,
@@ -87,6 +89,7 @@ pub(crate) fn ends_unread<R: Abort>(
     let (mut settings, mut script) = (Torn { text, kind }, Torn { text, kind });
     let (mut out, mut err) = (Vec::new(alloc), Vec::new(alloc));
     let status = execute(
+        rt,
         alloc,
         invocation,
         &mut settings,
@@ -100,7 +103,7 @@ pub(crate) fn ends_unread<R: Abort>(
 }
 
 /// A command whose output takes so many bytes has to say so, and to end with 4, where standard error refuses too.
-pub(crate) fn ends_unwritten<R: Abort>(
+pub(crate) fn ends_unwritten<R: Abort + Wait>(
     rt: &R,
     alloc: Global,
     invocation: &Invocation<'_>,
@@ -110,6 +113,7 @@ pub(crate) fn ends_unwritten<R: Abort>(
     let (mut settings, mut script) = (text, text);
     let (mut out, mut err) = (Full { room }, Vec::new(alloc));
     let status = execute(
+        rt,
         alloc,
         invocation,
         &mut settings,
@@ -122,6 +126,7 @@ pub(crate) fn ends_unwritten<R: Abort>(
     let (mut settings, mut script) = (text, text);
     let (mut out, mut err) = (Full { room }, Full { room: 0 });
     let status = execute(
+        rt,
         alloc,
         invocation,
         &mut settings,

@@ -6,14 +6,29 @@ use std::alloc::{AllocError, Global};
 use std::fmt::Write as _;
 use std::io::ErrorKind;
 use std::process::Abort;
+use std::sync::Wait;
 use std::test::Fail;
 
 const SIMULATE: Invocation<'static> = Invocation::Simulate { script: "script" };
 
 const FOUR_SLOTS: &str = "array 4 1 16 4 1\n";
 
-/// Each event of a script has to print its line.
-fn plays<R: Abort>(rt: &R, alloc: Global, transcript: &[(&str, &str)]) -> Result<(), AllocError> {
+/// Each event of a script has to print its line, and the array not to have failed.
+fn plays<R: Abort + Wait>(
+    rt: &R,
+    alloc: Global,
+    transcript: &[(&str, &str)],
+) -> Result<(), AllocError> {
+    plays_to(rt, alloc, transcript, 0)
+}
+
+/// Each event of a script has to print its line, and the script to end with this status.
+fn plays_to<R: Abort + Wait>(
+    rt: &R,
+    alloc: Global,
+    transcript: &[(&str, &str)],
+    status: u8,
+) -> Result<(), AllocError> {
     let (mut script, mut lines) = (String::new(alloc), String::new(alloc));
     for (event, line) in transcript {
         writeln!(script, "{event}")?;
@@ -24,13 +39,18 @@ fn plays<R: Abort>(rt: &R, alloc: Global, transcript: &[(&str, &str)]) -> Result
         alloc,
         &SIMULATE,
         script.as_bytes(),
-        (lines.as_str(), "", 0),
+        (lines.as_str(), "", status),
     );
     Ok(())
 }
 
 /// A script has to be refused at this line.
-fn is_refused_at<R: Abort>(rt: &R, alloc: Global, text: &str, line: u64) -> Result<(), AllocError> {
+fn is_refused_at<R: Abort + Wait>(
+    rt: &R,
+    alloc: Global,
+    text: &str,
+    line: u64,
+) -> Result<(), AllocError> {
     let fault = format!(in alloc; "script: line {line}\n")?;
     ends(
         rt,
@@ -174,6 +194,183 @@ fn a_shard_takes_256_requests_at_a_time(rt: HostRuntime) -> Result<(), Fail> {
     Ok(())
 }
 
+// The device of block 0 confirms the new block and is failed; P and Q then have it. `examples/loss.script` is this course.
+#[test]
+fn a_write_outlives_the_device_that_confirmed_it(rt: HostRuntime) -> Result<(), Fail> {
+    let transcript = [
+        ("array 4 1 16 4 1", "array"),
+        ("write 0 5a", "op 0:0 | 0:0 read slot 2 gen 0 row 0"),
+        (
+            "do 0:0",
+            "taken | 0:1 write slot 1 gen 0 row 0 5a | 0:2 write slot 3 gen 0 row 0 5a | 0:3 write slot 0 gen 0 row 0 5a",
+        ),
+        ("do 0:1", "taken"),
+        ("fail 1", "degraded"),
+        ("look 0", "looked"),
+        ("do 0:2", "taken"),
+        ("do 0:3", "taken"),
+        ("look 0", "looked | reply 0:0 done"),
+        (
+            "read 0",
+            "op 0:1 | 0:4 read slot 2 gen 0 row 0 | 0:5 read slot 3 gen 0 row 0",
+        ),
+        ("do 0:4", "taken"),
+        ("do 0:5", "taken"),
+        ("look 0", "looked | reply 0:1 data 5a"),
+    ];
+    plays(&rt, rt.alloc(), &transcript)?;
+    Ok(())
+}
+
+// Both data blocks of a row are lost, and P and Q hold it alone. `examples/two_losses.script` is this course.
+#[test]
+fn two_errors_lose_no_block(rt: HostRuntime) -> Result<(), Fail> {
+    let transcript = [
+        ("array 4 1 16 4 1", "array"),
+        ("write 0 5a", "op 0:0 | 0:0 read slot 2 gen 0 row 0"),
+        (
+            "do 0:0",
+            "taken | 0:1 write slot 1 gen 0 row 0 5a | 0:2 write slot 3 gen 0 row 0 5a | 0:3 write slot 0 gen 0 row 0 5a",
+        ),
+        ("do 0:1", "taken"),
+        ("do 0:2", "taken"),
+        ("do 0:3", "taken"),
+        ("look 0", "looked | reply 0:0 done"),
+        ("read 0", "op 0:1 | 0:4 read slot 1 gen 0 row 0"),
+        (
+            "answer 0:4 error",
+            "taken | 0:5 read slot 2 gen 0 row 0 | 0:6 read slot 3 gen 0 row 0",
+        ),
+        ("answer 0:5 error", "taken | 0:7 read slot 0 gen 0 row 0"),
+        ("look 0", "refused 8 UntoldFirst"),
+        ("tell 0", "declare_lost 1 0: degraded"),
+        ("tell 0", "declare_lost 2 0: degraded"),
+        ("tell 0", "nothing"),
+        ("do 0:6", "taken"),
+        ("do 0:7", "taken"),
+        ("look 0", "looked | reply 0:1 data 5a"),
+        (
+            "write 1 a5",
+            "op 0:2 | 0:8 read slot 3 gen 0 row 0 | 0:9 read slot 0 gen 0 row 0",
+        ),
+        ("do 0:8", "taken"),
+        // P is 5a + a5, and Q 5a + 02 a5, where 02 a5 is 57.
+        (
+            "do 0:9",
+            "taken | 0:10 write slot 3 gen 0 row 0 ff | 0:11 write slot 0 gen 0 row 0 0d",
+        ),
+        ("do 0:10", "taken"),
+        ("do 0:11", "taken"),
+        ("look 0", "looked | reply 0:2 done"),
+        (
+            "read 1",
+            "op 0:3 | 0:12 read slot 3 gen 0 row 0 | 0:13 read slot 0 gen 0 row 0",
+        ),
+        ("do 0:12", "taken"),
+        ("do 0:13", "taken"),
+        ("look 0", "looked | reply 0:3 data a5"),
+    ];
+    plays(&rt, rt.alloc(), &transcript)?;
+    Ok(())
+}
+
+// `examples/third_loss.script` is this course.
+#[test]
+fn three_losses_found_by_two_shards_fail_the_array(rt: HostRuntime) -> Result<(), Fail> {
+    let transcript = [
+        ("array 4 1 16 4 2", "array"),
+        ("read 0", "op 0:0 | 0:0 read slot 1 gen 0 row 0"),
+        (
+            "answer 0:0 error",
+            "taken | 0:1 read slot 2 gen 0 row 0 | 0:2 read slot 3 gen 0 row 0",
+        ),
+        ("answer 0:1 error", "taken | 0:3 read slot 0 gen 0 row 0"),
+        ("read 4", "op 1:0 | 1:0 read slot 3 gen 0 row 2"),
+        (
+            "answer 1:0 error",
+            "taken | 1:1 read slot 0 gen 0 row 2 | 1:2 read slot 1 gen 0 row 2",
+        ),
+        ("look 0", "refused 8 UntoldFirst"),
+        ("tell 0", "declare_lost 1 0: degraded"),
+        ("tell 0", "declare_lost 2 0: degraded"),
+        ("tell 1", "declare_lost 3 0: failed"),
+        ("look 0", "looked | reply 0:0 failed"),
+        ("look 1", "looked | reply 1:0 failed"),
+        ("read 0", "refused 5 ArrayFailed"),
+    ];
+    plays_to(&rt, rt.alloc(), &transcript, 1)?;
+    Ok(())
+}
+
+// A read whose slot a look finds lost starts again, and what the lost device answers then is late.
+#[test]
+fn completions_are_late_doubled_or_of_no_command(rt: HostRuntime) -> Result<(), Fail> {
+    let transcript = [
+        ("array 4 1 16 4 1", "array"),
+        ("read 0", "op 0:0 | 0:0 read slot 1 gen 0 row 0"),
+        ("do 0:0", "taken"),
+        ("answer 0:0 ok", "refused 7 UnknownToken"),
+        ("answer 0:0 error", "refused 7 UnknownToken"),
+        ("answer 0:999999 ok", "refused 7 UnknownToken"),
+        ("answer 0:999999 error", "refused 7 UnknownToken"),
+        ("read 0", "op 0:1 | 0:1 read slot 1 gen 0 row 0"),
+        ("perform 0:1", "performed"),
+        ("fail 1", "degraded"),
+        (
+            "look 0",
+            "looked | reply 0:0 data 00 | 0:2 read slot 2 gen 0 row 0 | 0:3 read slot 3 gen 0 row 0",
+        ),
+        ("answer 0:1 ok", "late"),
+        ("answer 0:2 error", "taken | 0:4 read slot 0 gen 0 row 0"),
+        ("fail 3", "degraded"),
+        ("tell 0", "declare_lost 2 0: failed"),
+        ("answer 0:3 error", "taken"),
+        ("tell 0", "declare_lost 3 0: refused 5 ArrayFailed"),
+        ("answer 0:4 error", "late"),
+        ("look 0", "looked | reply 0:1 failed"),
+    ];
+    plays_to(&rt, rt.alloc(), &transcript, 1)?;
+    Ok(())
+}
+
+#[test]
+fn the_register_answers_each_call(rt: HostRuntime) -> Result<(), Fail> {
+    let transcript = [
+        ("array 4 1 16 4 1", "array"),
+        ("fail 4", "refused 1 NoSuchSlot"),
+        ("attach 18446744073709551615", "refused 1 NoSuchSlot"),
+        ("attach 0", "refused 4 NotLost"),
+        ("read 0", "op 0:0 | 0:0 read slot 1 gen 0 row 0"),
+        (
+            "answer 0:0 error",
+            "taken | 0:1 read slot 2 gen 0 row 0 | 0:2 read slot 3 gen 0 row 0",
+        ),
+        ("fail 1", "degraded"),
+        ("fail 1", "refused 2 AlreadyLost"),
+        ("attach 1", "generation 1"),
+        ("attach 1", "refused 4 NotLost"),
+        // The shard lost the device that has been replaced since.
+        ("tell 0", "declare_lost 1 0: refused 3 Stale"),
+        ("tell 0", "nothing"),
+        ("tell 1", "no such shard"),
+        ("fail 1", "degraded"),
+        ("attach 1", "generation 2"),
+        ("answer 0:1 error", "taken | 0:3 read slot 0 gen 0 row 0"),
+        ("fail 2", "degraded"),
+        ("tell 0", "declare_lost 2 0: refused 2 AlreadyLost"),
+        ("look 0", "looked"),
+        ("do 0:2", "taken"),
+        ("do 0:3", "taken"),
+        ("look 0", "looked | reply 0:0 data 00"),
+        // A slot with a new device counts as out until it is rebuilt.
+        ("fail 0", "failed"),
+        ("fail 3", "refused 5 ArrayFailed"),
+        ("attach 0", "refused 5 ArrayFailed"),
+    ];
+    plays_to(&rt, rt.alloc(), &transcript, 1)?;
+    Ok(())
+}
+
 #[test]
 fn a_script_without_events_prints_nothing(rt: HostRuntime) {
     for text in ["", "\n", "#\n", "# array 4 1 16 4 1", "\n\n# nothing\n"] {
@@ -284,6 +481,20 @@ fn lines_out_of_the_grammar_are_refused(rt: HostRuntime) -> Result<(), Fail> {
         "look",
         "look 0:0",
         "look 0 0",
+        "tell",
+        "tell 0:0",
+        "tell 00",
+        "fail",
+        "fail 1 1",
+        "fail 01",
+        "fail 18446744073709551616",
+        "attach",
+        "attach 1 new.img",
+        "attach x",
+        "answer 0:0 error ",
+        "answer 0:0 errors",
+        "answer 0:0 gone",
+        "turn 0 rebuild",
         "reads 0",
         "0",
         "; comment",

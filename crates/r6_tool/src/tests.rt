@@ -64,6 +64,7 @@ fn prints_the_largest_array(rt: HostRuntime) -> Result<(), Fail> {
     let mut script: &[u8] = b"";
     let (mut out, mut err) = (Vec::new(rt.alloc()), Vec::new(rt.alloc()));
     execute(
+        &rt,
         rt.alloc(),
         &GEOMETRY,
         &mut settings,
