@@ -1,7 +1,7 @@
 //! The new blocks of a write.
 
 ghost use Rattle.std.specs.Prelude.{◌≡◌, ◌<◌, ◌≤◌, ◌+◌, ◌-◌, ◌||◌, not, true, false, None, ℕ, length, take, slice_set, All, IsTrue};
-ghost use Rattle.r6_recover.specs.Rows.{row_of, block_at};
+ghost use Rattle.r6_recover.specs.Rows.{block_at};
 ghost use Rattle.r6_stripe.specs.Places.{with_ready, ready_at, renewed, modified, away_of};
 ghost use Rattle.r6_stripe.specs.Plans as plans;
 ghost use Rattle.r6_stripe.specs.Sound.{IsSound};
@@ -10,10 +10,10 @@ ghost use Rattle.r6_stripe.specs.Views.{hold_of, plan_of, planned_of};
 use crate::command::Task;
 use crate::place::Place;
 use crate::plan::Plan;
+use crate::recover::rewrite_row;
 use crate::state::HoldState;
 use r6_field::{ConstMul, Gf};
 use r6_kernels::{Buffer, scale_add, xor_into};
-use r6_recover::write_parity;
 
 impl HoldState {
     /// Restores the block that a read wants, or computes the new blocks of a write, if one is owed that isn't there. All reads
@@ -64,13 +64,7 @@ impl HoldState {
         };
         let index = *index;
         if let Plan::Reconstruct = self.plan {
-            rewrite(
-                &mut self.blocks,
-                index,
-                block,
-                &mut self.sum,
-                &mut self.weighted,
-            );
+            rewrite_row(&mut self.blocks, index, block);
             make_ready(&mut self.places, index, true, true);
             return;
         }
@@ -80,28 +74,6 @@ impl HoldState {
         modify(&mut self.blocks, index, block, p, q, &mut self.sum);
         make_ready(&mut self.places, index, p, q);
     }
-}
-
-/// Writes a data block, and P and Q anew.
-fn rewrite(
-    blocks: &mut Vec<Buffer>,
-    index: usize,
-    block: &Buffer,
-    sum: &mut Buffer,
-    weighted: &mut Buffer,
-)
-    requires below { index + 2 < length blocks.old.items }
-    requires long { All (λ b. length b ≡ length sum.old) blocks.old.items }
-    requires size { length block.now ≡ length sum.old }
-    requires same { length weighted.old ≡ length sum.old }
-    ensures row { blocks.new.items ≡ row_of (length sum.old) (take (length blocks.old.items - 2) (slice_set blocks.old.items index block.now)) }
-    ensures sum_length { length sum.new ≡ length sum.old }
-    ensures weighted_length { length weighted.new ≡ length weighted.old }
-    ensures long { All (λ b. length b ≡ length sum.old) blocks.new.items }
-    ensures count { length blocks.new.items ≡ length blocks.old.items }
-{
-    blocks[index].copy_from(block);
-    write_parity(blocks.as_mut_slice(), sum, weighted);
 }
 
 /// Writes a data block, and what it changes to P and Q, each if it is `known`. Without any the old block is of no account.

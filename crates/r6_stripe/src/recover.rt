@@ -148,7 +148,7 @@ fn exchange(blocks: &mut Vec<Buffer>, position: Option<usize>, apart: &mut Buffe
 }
 
 /// Writes a data block, and P and Q anew.
-fn rewrite_row(blocks: &mut Vec<Buffer>, index: usize, block: &Buffer)
+pub(crate) fn rewrite_row(blocks: &mut Vec<Buffer>, index: usize, block: &Buffer)
     requires below { index + 2 < length blocks.old.items }
     requires long { All (λ b. length b ≡ length block.now) blocks.old.items }
     ensures row { blocks.new.items ≡ row_of (length block.now) (data_of (slice_set blocks.old.items index block.now)) }

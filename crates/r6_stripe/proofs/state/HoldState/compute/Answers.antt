@@ -1,4 +1,5 @@
 use Rattle.std.proofs.Common.{◌≡◌, inl, ◌<◌, ◌+◌, ◌-◌, Bool, ℕ, true, List, [], length, get_or, set, take, sym, ◌∙◌, ap, subst, arith, Some}
+use Rattle.std.proofs.lemmas.List.{length-set}
 use Rattle.r6_recover.specs.Rows.{row_of}
 use Rattle.r6_stripe.specs.Holds.{Kind, is_known}
 use Rattle.r6_stripe.specs.Plans as plans
@@ -34,20 +35,22 @@ awaits c = awaits_new c.args.self.now.plan c.args.self.now.task c.args.self.now.
 
 -- ---- by the plan to reconstruct
 
-pub rewrite-requires-clause-long : goal.rewrite-requires-clause-long
-rewrite-requires-clause-long c =
+pub rewrite_row-requires-clause-long : goal.rewrite_row-requires-clause-long
+rewrite_row-requires-clause-long c =
     let s = c.args.self.now in
     let sound = c.requires.sound in
-    let waits = awaits (goal.at.rewrite-requires-clause-long c).In-Write in
+    let waits = awaits (goal.at.rewrite_row-requires-clause-long c).In-Write in
     λ k d below.
     let inside : k < length s.places.items = omega (arith, below, sound.wide) in
-    ap length (any_default s.blocks.items k d [] below) ∙ sound.at_home k inside (inl (all_home c.args.self.now.plan c.args.self.now.len c.in-Write.index c.in-Write.block c.args.self.now.places.items c.args.self.now.blocks.items waits c.in-Reconstruct.is k inside)) ∙ sym (sound.sum waits.unlent)
+    ap length (any_default s.blocks.items k d [] below) ∙ sound.at_home k inside (inl (all_home c.args.self.now.plan c.args.self.now.len c.in-Write.index c.in-Write.block c.args.self.now.places.items c.args.self.now.blocks.items waits c.in-Reconstruct.is k inside)) ∙ sym waits.sized
 
-reconstructed : (c : After-make_ready) → c.args.self.now.task ≡ Some (task.Write c.in-Write.index c.in-Write.block) → AwaitsNew c.args.self.now.plan c.args.self.now.len c.in-Write.index c.in-Write.block c.args.self.now.places.items c.args.self.now.blocks.items → IsPrepared c.args.self.now.plan c.args.self.now.task c.args.self.now.len c.args.self.now.places.items c.args.self.now.blocks.items c.make_ready.new.places.items c.rewrite.new.blocks.items
+reconstructed : (c : After-make_ready) → c.args.self.now.task ≡ Some (task.Write c.in-Write.index c.in-Write.block) → AwaitsNew c.args.self.now.plan c.args.self.now.len c.in-Write.index c.in-Write.block c.args.self.now.places.items c.args.self.now.blocks.items → IsPrepared c.args.self.now.plan c.args.self.now.task c.args.self.now.len c.args.self.now.places.items c.args.self.now.blocks.items c.make_ready.new.places.items c.rewrite_row.new.blocks.items
 reconstructed c is waits =
     let s = c.args.self.now in
-    let new = c.rewrite.new.blocks.items in
-    let rows : new ≡ row_of s.len (take (length s.blocks.items - 2) (set s.blocks.items c.in-Write.index c.in-Write.block)) = c.rewrite.ensures.row ∙ ap (λ (n : ℕ). row_of n (take (length s.blocks.items - 2) (set s.blocks.items c.in-Write.index c.in-Write.block))) (c.requires.sound.sum waits.unlent) in
+    let new = c.rewrite_row.new.blocks.items in
+    let written = set s.blocks.items c.in-Write.index c.in-Write.block in
+    let rows : new ≡ row_of s.len (take (length s.blocks.items - 2) written) =
+    c.rewrite_row.ensures.row ∙ (λ i. row_of (waits.sized i) (take (length-set s.blocks.items c.in-Write.index c.in-Write.block i - 2) written)) in
     prepared s.plan s.task s.len c.in-Write.index c.in-Write.block s.places.items s.blocks.items new (renewed (length s.places.items) c.in-Write.index true true) c.make_ready.new.places.items is c.make_ready.ensures (reconstructs c.args.self.now.plan c.args.self.now.len c.in-Write.index c.in-Write.block c.args.self.now.places.items c.args.self.now.blocks.items waits c.in-Reconstruct.is new rows)
 
 pub returns-in-Reconstruct-clause-sound : goal.returns-in-Reconstruct-clause-sound
@@ -61,11 +64,11 @@ returns-in-Reconstruct-clause-sound c =
     record {
       four_or_more = omega (arith, sound.four_or_more, later_count);
       at_most = omega (arith, sound.at_most, later_count);
-      wide = c.rewrite.ensures.count ∙ sound.wide ∙ sym later_count;
-      sum = λ none. c.rewrite.ensures.sum_length ∙ sound.sum waits.unlent;
-      weighted = c.rewrite.ensures.weighted_length ∙ sound.weighted;
+      wide = c.rewrite_row.ensures.count ∙ sound.wide ∙ sym later_count;
+      sum = λ none. sound.sum waits.unlent;
+      weighted = sound.weighted;
       fits = subst (λ (n : ℕ). IsTask n s.len s.task) (sym later_count) sound.fits;
-      at_home = λ j below home. c.rewrite.ensures.long j [] (omega (arith, below, later_count, c.rewrite.ensures.count, sound.wide)) ∙ sound.sum waits.unlent;
+      at_home = λ j below home. c.rewrite_row.ensures.long j [] (omega (arith, below, later_count, c.rewrite_row.ensures.count, sound.wide)) ∙ waits.sized;
       settled = done.settled;
       lends = λ j h lent. absurd (let f = sym (done.unlent j h) ∙ lent in cc);
       computed = true;
