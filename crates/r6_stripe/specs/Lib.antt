@@ -4,6 +4,7 @@ pub mod Frames
 pub mod HoldViews
 pub mod Holds
 pub mod Places
+pub mod OneBlock
 pub mod PlanLaws
 pub mod Plans
 pub mod Recovery

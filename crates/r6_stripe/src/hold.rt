@@ -19,8 +19,8 @@ use std::marker::Model;
 
 /// One operation that holds one row, in the frame that it was handed.
 ///
-/// No call takes memory. Whatever happened, drive it on by [`Hold::next_command`] until it answers none, and then ask for
-/// its [`Hold::outcome`].
+/// No call takes memory. Whatever happened, drive it on by [`Hold::next_command`] until it answers none, and then ask
+/// for its [`Hold::outcome`].
 #[derive(Drop)]
 pub struct Hold {
     state: HoldState,
@@ -39,11 +39,12 @@ impl Model for Hold {
 }
 
 impl Hold {
-    /// Begins a hold of a row, of whose positions these are in sync; the others are out. All buffers of the frame are home.
+    /// Begins a hold of a row, of whose positions these are in sync; the others are out. All buffers of the frame are
+    /// home.
     ///
-    /// A read reads its block. A write reads the data that it doesn't change, or its own block and the parities in sync,
-    /// whichever are fewer, or nothing if no parity is in sync. Where this is impossible the hold recovers: it reads as many
-    /// positions in sync as there are data, and restores what it lacks from them.
+    /// A read reads its block. A write reads the data that it doesn't change, or its own block and the parities in
+    /// sync, whichever are fewer, or nothing if no parity is in sync. Where this is impossible the hold recovers: it
+    /// reads as many positions in sync as there are data, and restores what it lacks from them.
     pub fn begin(frame: Frame, task: Task, in_sync: &[bool]) -> Hold
         requires positions { length in_sync.now ≡ frame.count }
         requires task { IsTask frame.count frame.size (Some task) }
@@ -72,10 +73,11 @@ impl Hold {
         Hold { state }
     }
 
-    /// The command that comes next, if one does: the reads in row order; when all have been answered, the writes in row order.
+    /// The command that comes next, if one does: the reads in row order; when all have been answered, the writes in row
+    /// order.
     ///
-    /// A hold that loses what its plan reads recovers, by further reads. With three positions out it may have none, and not be
-    /// over.
+    /// A hold that loses what its plan reads recovers, by further reads. With three positions out it may have none, and
+    /// not be over.
     pub fn next_command(&mut self) -> Option<RowCommand>
         ensures { PutsOut self.old result self.new }
     {
@@ -102,7 +104,7 @@ impl Hold {
     /// How the hold ends, if it is over.
     pub fn outcome(&self) -> Option<Outcome>
         ensures over { result ≡ (if has_outcome self.now.planned then Some Outcome.Done else None) }
-        ensures ends { IfSome result (λ _. MayEnd self.now.planned.hold (outcome_of self.now.planned.hold self.now.planned.hold.kind)) }
+        ensures ends { let hold = self.now.planned.hold in IfSome result (λ _. MayEnd hold (outcome_of hold hold.kind)) }
     {
         if self.state.has_outcome() {
             Some(Outcome::Done)
@@ -114,13 +116,15 @@ impl Hold {
     /// The block of the position, if it was read and no new one took its place.
     pub fn block(&self, position: usize) -> Option<&Buffer>
         requires { position < length self.now.planned.hold.cells }
-        ensures { MatchOption result (IsUnknown (cell_at self.now.planned.hold.cells position)) (λ block. IsKnownAs (cell_at self.now.planned.hold.cells position) block.now × (length block.now ≡ self.now.planned.hold.size)) }
+        ensures { let hold = self.now.planned.hold in
+            let cell = cell_at hold.cells position in
+            MatchOption result (IsUnknown cell) (λ block. IsKnownAs cell block.now × (length block.now ≡ hold.size)) }
     {
         self.state.block(position)
     }
 
-    /// Ends the hold, and hands its task back, with the caller's buffer as it was handed in. From then on nothing more is put
-    /// out, and only buffers come home.
+    /// Ends the hold, and hands its task back, with the caller's buffer as it was handed in. From then on nothing more is
+    /// put out, and only buffers come home.
     pub fn take_task(&mut self) -> Option<Task>
         ensures task { kind_of result ≡ self.old.planned.hold.kind }
         ensures closed { self.new ≡ closed self.old }

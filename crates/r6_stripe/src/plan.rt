@@ -4,6 +4,7 @@ ghost use Rattle.std.specs.Prelude.{◌≡◌, ◌≢◌, ◌⊎◌, ◌+◌, �
 ghost use Rattle.r6_stripe.specs.Holds.{MayEnd, cell_at};
 ghost use Rattle.r6_stripe.specs.Holds.Kind.{Read, Write};
 ghost use Rattle.r6_stripe.specs.Places.{is_readable};
+ghost use Rattle.r6_stripe.specs.OneBlock.{plan_of_one};
 ghost use Rattle.r6_stripe.specs.Plans as plans;
 ghost use Rattle.r6_stripe.specs.Sound.{IsSound, IsTask, IsWritePlan, Suits};
 ghost use Rattle.r6_stripe.specs.Steps.{can_drop, has_outcome, is_idle};
@@ -85,46 +86,28 @@ impl HoldState {
     pub(crate) fn gives_up(&self) -> bool
         ensures { result ≡ plans.gives_up (hold_of self.now) }
     {
-        match self.task {
-            Some(_) => false,
-            None => true,
-        }
+        self.task.is_none()
     }
 
     /// Whether a read is put out that is neither answered nor abandoned.
     fn has_read_out(&self) -> bool
         ensures { result ≡ plans.has_read_out (hold_of self.now) }
     {
-        for position in 0..self.places.len() {
-            if self.places[position].has_read_out() {
-                return true;
-            }
-        }
-        false
+        self.places.iter().any(|place| place.has_read_out())
     }
 
     /// Whether a write is put out that is neither answered nor abandoned.
     fn has_write_out(&self) -> bool
         ensures { result ≡ plans.has_write_out (hold_of self.now) }
     {
-        for position in 0..self.places.len() {
-            if self.places[position].has_write_out() {
-                return true;
-            }
-        }
-        false
+        self.places.iter().any(|place| place.has_write_out())
     }
 
     /// Whether the new blocks were computed.
     pub(crate) fn has_computed(&self) -> bool
         ensures { result ≡ plans.has_computed (hold_of self.now) }
     {
-        for position in 0..self.places.len() {
-            if self.places[position].is_computed() {
-                return true;
-            }
-        }
-        false
+        self.places.iter().any(|place| place.is_computed())
     }
 
     /// Whether the position's block is known, if the plan reads it.
@@ -151,7 +134,8 @@ impl HoldState {
     fn is_dropped(&self, position: usize) -> bool
         requires within { position < length self.now.places.items }
         requires count { 2 ≤ length self.now.places.items }
-        ensures { result ≡ (can_drop (plan_of self.now.plan) (hold_of self.now) position && plans.is_out (cell_at (hold_of self.now).cells position).standing) }
+        ensures { let hold = hold_of self.now in
+            result ≡ (can_drop (plan_of self.now.plan) hold position && plans.is_out (cell_at hold.cells position).standing) }
     {
         self.can_drop(position) && !self.places[position].is_in_sync()
     }
@@ -160,26 +144,14 @@ impl HoldState {
     fn known_count(&self) -> usize
         ensures { result ≡ plans.known_count (hold_of self.now).cells }
     {
-        let mut count = 0;
-        for position in 0..self.places.len() {
-            if self.places[position].is_known() {
-                count += 1;
-            }
-        }
-        count
+        self.places.iter().filter(|place| place.is_known()).count()
     }
 
     /// How many blocks are known or being read.
     fn coming_count(&self) -> usize
         ensures { result ≡ plans.coming_count (hold_of self.now).cells }
     {
-        let mut count = 0;
-        for position in 0..self.places.len() {
-            if self.places[position].is_coming() {
-                count += 1;
-            }
-        }
-        count
+        self.places.iter().filter(|place| place.is_coming()).count()
     }
 
     /// Whether another read is wanted now: a recovery has enough with as many blocks as there are data.
@@ -222,7 +194,8 @@ impl HoldState {
     fn is_next_read(&self, position: usize) -> bool
         requires within { position < length self.now.places.items }
         requires count { 2 ≤ length self.now.places.items }
-        ensures { result ≡ (is_readable (cell_at (hold_of self.now).cells position) && plans.wants (plan_of self.now.plan) (hold_of self.now) position) }
+        ensures { let hold = hold_of self.now in
+            result ≡ (is_readable (cell_at hold.cells position) && plans.wants (plan_of self.now.plan) hold position) }
     {
         self.places[position].is_readable() && self.wants(position)
     }
@@ -230,7 +203,8 @@ impl HoldState {
     /// The lowest position that is to be read, and whose read wasn't put out.
     fn first_unread(&self) -> Option<usize>
         requires { 2 ≤ length self.now.places.items }
-        ensures { result ≡ plans.first_from (plans.is_next_read (plan_of self.now.plan) (hold_of self.now)) 0 (length (hold_of self.now).cells) }
+        ensures { let hold = hold_of self.now in
+            result ≡ plans.first_from (plans.is_next_read (plan_of self.now.plan) hold) 0 (length hold.cells) }
     {
         if !self.lacks() {
             return None;
@@ -257,7 +231,8 @@ impl HoldState {
     /// The position whose block is restored next: the one that a read wants, if it is out and isn't known.
     pub(crate) fn next_restore(&self) -> Option<usize>
         requires { IsTask (length self.now.places.items) self.now.len self.now.task }
-        ensures { option_map plans.Next.RestoreAt result ≡ plans.next_restore (hold_of self.now) (hold_of self.now).kind }
+        ensures { let hold = hold_of self.now in
+            option_map plans.Next.RestoreAt result ≡ plans.next_restore hold hold.kind }
     {
         match self.task {
             Some(Task::Read(index)) => {
@@ -284,7 +259,8 @@ impl HoldState {
     /// Whether no position is still to get its new block.
     pub(crate) fn is_computed(&self) -> bool
         requires { 2 ≤ length self.now.places.items }
-        ensures { result ≡ plans.each_below (λ position. not (plans.lacks_new (hold_of self.now) position)) (length (hold_of self.now).cells) }
+        ensures { let hold = hold_of self.now in
+            result ≡ plans.each_below (λ position. not (plans.lacks_new hold position)) (length hold.cells) }
     {
         for position in 0..self.places.len() {
             if self.lacks_new(position) {
@@ -298,18 +274,14 @@ impl HoldState {
     pub(crate) fn next_write(&self) -> Option<usize>
         ensures { option_map plans.Next.WriteAt result ≡ plans.next_write (hold_of self.now) }
     {
-        for position in 0..self.places.len() {
-            if self.places[position].is_sendable() {
-                return Some(position);
-            }
-        }
-        None
+        self.places.iter().position(|place| place.is_sendable())
     }
 
     /// Whether all reads have been answered, and enough is known.
     pub(crate) fn has_read(&self) -> bool
         requires { 2 ≤ length self.now.places.items }
-        ensures { result ≡ not (plans.has_read_out (hold_of self.now) || not (plans.is_enough (plan_of self.now.plan) (hold_of self.now))) }
+        ensures { let hold = hold_of self.now in
+            result ≡ not (plans.has_read_out hold || not (plans.is_enough (plan_of self.now.plan) hold)) }
     {
         !self.has_read_out() && self.is_enough()
     }
@@ -338,7 +310,8 @@ impl HoldState {
         }
     }
 
-    /// The plan after the position is lost: without a block that it wants, doesn't know and can't drop, it becomes recover.
+    /// The plan after the position is lost: without a block that it wants, doesn't know and can't drop, it becomes
+    /// recover.
     pub(crate) fn plan_after_loss(&self, position: usize) -> Plan
         requires within { position < length self.now.places.items }
         requires count { 2 ≤ length self.now.places.items }
@@ -373,7 +346,8 @@ impl HoldState {
     /// Whether all data that aren't written are in sync.
     fn can_reconstruct(&self) -> bool
         requires { 2 ≤ length self.now.places.items }
-        ensures { result ≡ plans.each_below (plans.is_readable plans.Plan.Reconstruct (hold_of self.now)) (plans.data_count (hold_of self.now)) }
+        ensures { let hold = hold_of self.now in
+            result ≡ plans.each_below (plans.is_readable plans.Plan.Reconstruct hold) (plans.data_count hold) }
     {
         for position in 0..self.places.len() - 2 {
             if !self.is_readable(position) {
@@ -440,29 +414,48 @@ impl HoldState {
         let data = self.places.len() - 2;
         let parities = self.parities_in_sync();
         let is_in_sync = self.places[index].is_in_sync();
-        if is_in_sync && parities == 0 {
-            return Plan::Overwrite;
-        }
-        // by modify; where that is impossible, by recovery
-        let reads = if is_in_sync { 1 + parities } else { data };
-        if self.can_reconstruct() && data - 1 <= reads {
-            return Plan::Reconstruct;
-        }
-        if is_in_sync && reads <= data {
-            return Plan::Modify;
-        }
-        Plan::Recover
+        plan_of_fewest_reads(self.can_reconstruct(), is_in_sync, data, parities)
     }
 
     /// Whether the hold is over, and may end.
     pub(crate) fn has_outcome(&self) -> bool
         requires { IsSound self.now }
         ensures over { result ≡ has_outcome (planned_of self.now) }
-        ensures ends { IsTrue result → MayEnd (hold_of self.now) (plans.outcome_of (hold_of self.now) (hold_of self.now).kind) }
+        ensures ends { let hold = hold_of self.now in
+            IsTrue result → MayEnd hold (plans.outcome_of hold hold.kind) }
     {
         if self.gives_up() {
             return false;
         }
         self.is_over()
+    }
+}
+
+/// The plan of a write of one block with the fewest reads, by whether all other data and the block itself are in sync,
+/// and by how many data there are and how many parities in sync.
+fn plan_of_fewest_reads(
+    can_reconstruct: bool,
+    is_in_sync: bool,
+    data_count: usize,
+    parities: usize,
+) -> Plan
+    requires count { 2 ≤ data_count }
+    requires parities { parities ≤ 2 }
+    ensures plan { plan_of result ≡ plan_of_one can_reconstruct is_in_sync data_count parities }
+    ensures writes { IsWritePlan result }
+    ensures overwrites { result ≡ Plan.Overwrite → parities ≡ 0 }
+{
+    if is_in_sync && parities == 0 {
+        return Plan::Overwrite;
+    }
+    // by modify; where that is impossible, by recovery
+    let reads = if is_in_sync { 1 + parities } else { data_count };
+    if can_reconstruct && data_count - 1 <= reads {
+        return Plan::Reconstruct;
+    }
+    if is_in_sync && reads <= data_count {
+        Plan::Modify
+    } else {
+        Plan::Recover
     }
 }

@@ -29,7 +29,8 @@ pub(crate) struct HoldState {
     pub(crate) places: Vec<Place>,
     /// In row order. A block of no bytes stands where a buffer is away.
     pub(crate) blocks: Vec<Buffer>,
-    /// Room for two more blocks. The first may be lent: then it stands in for a buffer that is away, and a block of no bytes here.
+    /// Room for two more blocks. The first may be lent: then it stands in for a buffer that is away, and a block of no
+    /// bytes here.
     pub(crate) sum: Buffer,
     pub(crate) weighted: Buffer,
     pub(crate) alloc: Global,
@@ -128,7 +129,8 @@ impl HoldState {
     pub(crate) fn block(&self, position: usize) -> Option<&Buffer>
         requires sound { IsSound self.now }
         requires place { position < length self.now.places.items }
-        ensures { MatchOption result (IsUnknown (cell_at (hold_of self.now).cells position)) (λ block. IsKnownAs (cell_at (hold_of self.now).cells position) block.now × (length block.now ≡ self.now.len)) }
+        ensures { let cell = cell_at (hold_of self.now).cells position in
+            MatchOption result (IsUnknown cell) (λ block. IsKnownAs cell block.now × (length block.now ≡ self.now.len)) }
     {
         match self.places[position].read {
             ReadState::Known => Some(&self.blocks[position]),
@@ -168,12 +170,7 @@ impl HoldState {
     pub(crate) fn is_home(&self) -> bool
         ensures { result ≡ not (list_any (λ away. away) (held_of self.now).away) }
     {
-        for position in 0..self.places.len() {
-            if self.places[position].away {
-                return false;
-            }
-        }
-        true
+        !self.places.iter().any(|place| place.away)
     }
 
     /// The frame, with all its buffers.
