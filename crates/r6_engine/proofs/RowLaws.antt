@@ -1,0 +1,169 @@
+-- One row of an array, read slot by slot.
+use Rattle.std.proofs.Common.{◌≡◌, ◌≢◌, ◌⊎◌, ℕ, ◌+◌, ◌*◌, ◌<◌, ◌≤◌, Bool, true, false, List, [], length, get_or, set, Option, Some, None, refl, sym, ap, subst, ◌∙◌, arith, ⊎_elim, replicate}
+use Rattle.std.proofs.lemmas.Bool.{cases_eq, cases_lt, false≢true}
+use Rattle.std.proofs.lemmas.List.{get_or-set_same, get_or-set_other, get_or-replicate, get_or_past, length-set, length-replicate}
+use Rattle.r6_dev.specs.History.{Block}
+use Rattle.r6_layout.specs.Shape.{Shape, IsShape, data_slots}
+use Rattle.r6_layout.specs.Layout.{OwnsRow, shard_of, slot_at, position_at, first_row}
+use Rattle.r6_layout.proofs.Roles.{slot_at-lt, position_at-lt, position_at-slot_at, slot_at-position_at}
+use Rattle.r6_layout.proofs.Shards.{OwnsRow-shard_of}
+use Rattle.r6_recover.specs.Known.{IsKnown}
+use Rattle.r6_recover.specs.Rows.{block_at, block_length}
+use Rattle.r6_engine.specs.Parts.{Parts, Devices, TellsRows, AllTell, OnlyRead, PartRead, part_number}
+use Rattle.r6_engine.specs.Rows.{SlotRead, RowRead, marked}
+
+pub only_read_none : (parts : Parts) → OnlyRead parts parts
+only_read_none parts = record { tells = λ number first end blocks tell. tell; there = λ number gone. gone }
+
+pub only_read_both : (old between new : Parts) → OnlyRead old between → OnlyRead between new → OnlyRead old new
+only_read_both old between new first second = record {
+  tells = λ number from end blocks tell. second.tells number from end blocks (first.tells number from end blocks tell);
+  there = λ number gone. first.there number (second.there number gone);
+}
+
+pub all_tell_still : (shape : Shape) (old new : Parts) (device : Devices) → OnlyRead old new → AllTell shape old device → AllTell shape new device
+all_tell_still shape old new device read tell =
+    λ shard slot in_shards in_slots. read.tells (part_number shape shard slot) (first_row shape shard) (first_row shape (shard + 1)) (device slot) (tell shard slot in_shards in_slots)
+
+-- a part's block is the one of its device
+pub part_gives : (shape : Shape) (old new : Parts) (row slot number : ℕ) (block : Block) (device : Devices)
+    → IsShape shape → row < shape.rows → slot < shape.slots → number ≡ part_number shape (shard_of shape row) slot
+    → PartRead old new number row true block → AllTell shape old device → block ≡ device slot row
+part_gives shape old new row slot number block device is within in_slots at read tell =
+    let owner : OwnsRow shape (shard_of shape row) row = OwnsRow-shard_of shape row is within in
+    let tells : TellsRows (first_row shape (shard_of shape row)) (first_row shape (shard_of shape row + 1)) (device slot) (old number) =
+    subst (λ (n : ℕ). TellsRows (first_row shape (shard_of shape row)) (first_row shape (shard_of shape row + 1)) (device slot) (old n)) (sym at)
+    (tell (shard_of shape row) slot owner.is_shard in_slots) in
+    read.gives refl (first_row shape (shard_of shape row)) (first_row shape (shard_of shape row + 1)) (device slot) owner.from_first owner.below_next tells
+
+pub slot_read : (shape : Shape) (old new : Parts) (row slot number position : ℕ) (before after : List Block) (block : Block)
+    → IsShape shape → row < shape.rows → slot < shape.slots → length before ≡ shape.slots
+    → number ≡ part_number shape (shard_of shape row) slot → position ≡ position_at shape row slot
+    → after ≡ set before position block → PartRead old new number row true block → SlotRead shape old new row slot true before after
+slot_read shape old new row slot number position before after block is within in_slots count at place set_is read =
+    let n : shape.slots ≡ length before = sym count in
+    let some : 0 < shape.slots = omega (arith, in_slots) in
+    let below : position < length before = subst (λ (p : ℕ). p < length before) (sym place) (subst (λ (k : ℕ). position_at shape row slot < k) n (position_at-lt shape row slot some)) in
+    record {
+      only_read = read.only_read;
+      gives = λ _ device tell.
+          subst (λ (p : ℕ). block_at after p ≡ device slot row) place
+          (subst (λ (blocks : List Block). block_at blocks position ≡ device slot row) (sym set_is)
+          (get_or-set_same before position block [] below ∙ part_gives shape old new row slot number block device is within in_slots at read tell));
+      absent = λ off. absurd (false≢true (sym off));
+      others = λ other apart.
+          subst (λ (blocks : List Block). block_at blocks other ≡ block_at before other) (sym set_is)
+          (get_or-set_other before position other block [] (λ same. apart (same ∙ place)));
+    }
+
+-- the slots below the count were read
+pub record SlotsRead (shape : Shape) (old now : Parts) (row count : ℕ) (known : List Bool) (blocks : List Block) : Type 0 where
+  pub only_read : OnlyRead old now
+  pub room : length known ≡ 32
+  pub unread : (slot : ℕ) → count ≤ slot → slot < shape.slots → get_or known (position_at shape row slot) false ≡ false
+  pub gives : (device : Devices) → AllTell shape old device → (slot : ℕ) → slot < count → IsKnown known (position_at shape row slot) → block_at blocks (position_at shape row slot) ≡ device slot row
+  pub absent : (slot : ℕ) → slot < count → get_or known (position_at shape row slot) false ≡ false → old (part_number shape (shard_of shape row) slot) ≡ None
+
+none_known : (position : ℕ) → get_or (replicate 32 false) position false ≡ false
+none_known position =
+    ⊎_elim
+    (λ (h : position < 32). get_or-replicate 32 position false false h)
+    (λ (past : 32 ≤ position). get_or_past (replicate 32 false) position false (subst (λ (n : ℕ). n ≤ position) (sym (length-replicate 32 false)) past))
+    (cases_lt position 32)
+
+pub slots_read_none : (shape : Shape) (parts : Parts) (row : ℕ) (blocks : List Block) → SlotsRead shape parts parts row 0 (replicate 32 false) blocks
+slots_read_none shape parts row blocks = record {
+  only_read = only_read_none parts;
+  room = length-replicate 32 false;
+  unread = λ slot _ _. none_known (position_at shape row slot);
+  gives = λ device tell slot below. absurd (omega (arith, below));
+  absent = λ slot below. absurd (omega (arith, below));
+}
+
+-- two slots of a row have two positions
+positions_apart : (shape : Shape) (row slot other : ℕ) → slot < shape.slots → other < shape.slots → other ≢ slot → position_at shape row other ≢ position_at shape row slot
+positions_apart shape row slot other in_slots in_slots' apart same =
+    apart (sym (slot_at-position_at shape row other in_slots') ∙ ap (slot_at shape row) same ∙ slot_at-position_at shape row slot in_slots)
+
+-- one slot more, of a part that is there
+slots_read_there : (shape : Shape) (old now next : Parts) (row slot : ℕ) (known : List Bool) (before after : List Block)
+    → slot < shape.slots → shape.slots ≤ 32 → SlotsRead shape old now row slot known before → SlotRead shape now next row slot true before after
+    → SlotsRead shape old next row (slot + 1) (set known (position_at shape row slot) true) after
+slots_read_there shape old now next row slot known before after in_slots few read one =
+    let at = position_at shape row slot in
+    let some : 0 < shape.slots = omega (arith, in_slots) in
+    let place : at < shape.slots = position_at-lt shape row slot some in
+    let room : length known ≡ 32 = read.room in
+    let below : at < length known = omega (arith, place, few, room) in
+    let other : (slot' : ℕ) → slot' ≢ slot → slot' < shape.slots → get_or (set known at true) (position_at shape row slot') false ≡ get_or known (position_at shape row slot') false =
+    λ slot' apart within. get_or-set_other known at (position_at shape row slot') true false (positions_apart shape row slot slot' in_slots within apart) in
+    record {
+      only_read = only_read_both old now next read.only_read one.only_read;
+      room = length-set known at true ∙ room;
+      unread = λ slot' from within. other slot' (λ same. absurd (omega (arith, same, from))) within ∙ read.unread slot' (omega (arith, from)) within;
+      gives = λ device tell slot' under known'.
+          ⊎_elim
+          (λ (same : slot' ≡ slot). subst (λ (s : ℕ). block_at after (position_at shape row s) ≡ device s row) (sym same) (one.gives refl device (all_tell_still shape old now device read.only_read tell)))
+          (λ (apart : slot' ≢ slot).
+          let within : slot' < shape.slots = omega (arith, under, in_slots) in
+          let less : slot' < slot = omega (arith, under, apart) in
+          one.others (position_at shape row slot') (positions_apart shape row slot slot' in_slots within apart)
+          ∙ read.gives device tell slot' less (sym (other slot' apart within) ∙ known'))
+          (cases_eq slot' slot);
+      absent = λ slot' under unknown.
+          ⊎_elim
+          (λ (same : slot' ≡ slot). absurd (false≢true (sym unknown ∙ ap (λ s. get_or (set known at true) (position_at shape row s) false) same ∙ get_or-set_same known at true false below)))
+          (λ (apart : slot' ≢ slot).
+          let within : slot' < shape.slots = omega (arith, under, in_slots) in
+          let less : slot' < slot = omega (arith, under, apart) in
+          read.absent slot' less (sym (other slot' apart within) ∙ unknown))
+          (cases_eq slot' slot);
+    }
+
+-- one slot more, whose part isn't there
+slots_read_absent : (shape : Shape) (old now next : Parts) (row slot : ℕ) (known : List Bool) (before after : List Block)
+    → slot < shape.slots → SlotsRead shape old now row slot known before → SlotRead shape now next row slot false before after
+    → SlotsRead shape old next row (slot + 1) known after
+slots_read_absent shape old now next row slot known before after in_slots read one =
+    record {
+      only_read = only_read_both old now next read.only_read one.only_read;
+      room = read.room;
+      unread = λ slot' from within. read.unread slot' (omega (arith, from)) within;
+      gives = λ device tell slot' under known'.
+          ⊎_elim
+          (λ (same : slot' ≡ slot).
+          let unknown : get_or known (position_at shape row slot') false ≡ false = read.unread slot' (omega (arith, same)) (omega (arith, same, in_slots)) in
+          absurd (false≢true (sym unknown ∙ known')))
+          (λ (apart : slot' ≢ slot).
+          let within : slot' < shape.slots = omega (arith, under, in_slots) in
+          let less : slot' < slot = omega (arith, under, apart) in
+          one.others (position_at shape row slot') (positions_apart shape row slot slot' in_slots within apart)
+          ∙ read.gives device tell slot' less known')
+          (cases_eq slot' slot);
+      absent = λ slot' under unknown.
+          ⊎_elim
+          (λ (same : slot' ≡ slot).
+          read.only_read.there (part_number shape (shard_of shape row) slot')
+          (ap (λ s. now (part_number shape (shard_of shape row) s)) same ∙ one.absent refl))
+          (λ (apart : slot' ≢ slot). read.absent slot' (omega (arith, under, apart)) unknown)
+          (cases_eq slot' slot);
+    }
+
+pub slots_read_next : (shape : Shape) (old now next : Parts) (row slot : ℕ) (known : List Bool) (there : Bool) (before after : List Block)
+    → slot < shape.slots → shape.slots ≤ 32 → SlotsRead shape old now row slot known before → SlotRead shape now next row slot there before after
+    → SlotsRead shape old next row (slot + 1) (marked known (position_at shape row slot) there) after
+slots_read_next shape old now next row slot known true before after in_slots few read one = slots_read_there shape old now next row slot known before after in_slots few read one
+slots_read_next shape old now next row slot known false before after in_slots few read one = slots_read_absent shape old now next row slot known before after in_slots read one
+
+-- all slots
+pub row_read : (shape : Shape) (old now : Parts) (row : ℕ) (known : List Bool) (blocks : List Block) → SlotsRead shape old now row shape.slots known blocks → RowRead shape old now row known blocks
+row_read shape old now row known blocks read = record {
+  only_read = read.only_read;
+  gives = λ device tell position within is.
+      let back : position_at shape row (slot_at shape row position) ≡ position = position_at-slot_at shape row position within in
+      subst (λ (p : ℕ). block_at blocks p ≡ device (slot_at shape row position) row) back
+      (read.gives device tell (slot_at shape row position) (slot_at-lt shape row position (omega (arith, within))) (subst (λ (p : ℕ). IsKnown known p) (sym back) is));
+  absent = λ position within unknown.
+      let back : position_at shape row (slot_at shape row position) ≡ position = position_at-slot_at shape row position within in
+      read.absent (slot_at shape row position) (slot_at-lt shape row position (omega (arith, within))) (subst (λ (p : ℕ). get_or known p false ≡ false) (sym back) unknown);
+}

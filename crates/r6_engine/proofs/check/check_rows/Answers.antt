@@ -1,0 +1,18 @@
+use Rattle.std.proofs.Common.{◌+◌, sym, subst}
+use Rattle.r6_engine.specs.Parts.{parts_of}
+use Rattle.r6_engine.proofs.ReportLaws.{Checked, checked_next}
+use Rattle.r6_engine.proofs.check.check_rows.Goals as goal
+
+pub loop-row-preserved : goal.loop-row-preserved
+loop-row-preserved g c =
+    let shape = c.args.geometry.now in
+    let told = g.D.BlockDevice.told in
+    let row = c.loop-row.row in
+    let started = parts_of told c.args.parts.now in
+    let now = parts_of told c.loop-row.parts in
+    let next = parts_of told c.find.new.parts in
+    record {
+      room = c.find.ensures.room;
+      checked = subst (λ report. Checked shape started next (row + 1) report) (sym c.note.ensures)
+          (checked_next shape started now next row c.loop-row.report c.in-Ok.finding c.loop-row.invariant.checked c.in-Ok.ensures.only_read c.in-Ok.ensures.found);
+    }

@@ -1,0 +1,53 @@
+use Rattle.std.proofs.Common.{◌≡◌, ℕ, ◌<◌, None, sym, ap, subst, arith}
+use Rattle.r6_engine.specs.Parts.{parts_of}
+use Rattle.r6_engine.specs.Rebuilds.{IsRebuilt, targets_of}
+use Rattle.r6_engine.proofs.RebuildLaws.{Rebuilding, rebuilding_none, rebuilding_next, rebuilt_at_end, rebuilt_at_fault}
+use Rattle.r6_engine.proofs.rebuild.rebuild_rows.Goals as goal
+
+pub loop-row-init : goal.loop-row-init
+loop-row-init g c =
+    let told = g.D.BlockDevice.told in
+    record {
+      room = c.requires.room;
+      so_far = rebuilding_none c.args.geometry.now c.args.target (parts_of told c.args.parts.now) (targets_of told c.args.targets.now);
+    }
+
+pub returns-in-Err : goal.returns-in-Err
+returns-in-Err g c =
+    let shape = c.args.geometry.now in
+    let told = g.D.BlockDevice.told in
+    let row = c.loop-row.row in
+    let started = parts_of told c.args.parts.now in
+    let targets = targets_of told c.args.targets.now in
+    let before = targets_of told c.loop-row.targets in
+    let after = targets_of told c.rebuild_row.new.targets in
+    let within : row < shape.rows = omega (arith, c.loop-row-test.true, c.rows-row-end.ensures.value) in
+    subst (IsRebuilt shape c.args.target started targets after) (sym c.ended.ensures)
+    (rebuilt_at_fault shape c.args.target started (parts_of told c.loop-row.parts) targets before after row c.in-Err.fault.slot c.in-Err.fault.fault
+    c.loop-row.invariant.so_far within c.in-Err.ensures.within (λ other. ap (targets_of told) (c.in-Err.ensures.unwritten other)))
+
+pub loop-row-preserved : goal.loop-row-preserved
+loop-row-preserved g c =
+    let shape = c.args.geometry.now in
+    let told = g.D.BlockDevice.told in
+    let row = c.loop-row.row in
+    let within : row < shape.rows = omega (arith, c.loop-row-test.true, c.rows-row-end.ensures.value) in
+    record {
+      room = c.rebuild_row.ensures.room;
+      so_far = rebuilding_next shape c.args.target (parts_of told c.args.parts.now) (parts_of told c.loop-row.parts) (parts_of told c.rebuild_row.new.parts)
+          (targets_of told c.args.targets.now) (targets_of told c.loop-row.targets) (targets_of told c.rebuild_row.new.targets) row
+          c.rows-row-end.ensures.limits within c.loop-row.invariant.so_far c.in-Ok.ensures.rebuilt;
+    }
+
+pub returns : goal.returns
+returns g c =
+    let shape = c.args.geometry.now in
+    let told = g.D.BlockDevice.told in
+    let started = parts_of told c.args.parts.now in
+    let now = parts_of told c.loop-row.parts in
+    let targets = targets_of told c.args.targets.now in
+    let after = targets_of told c.loop-row.targets in
+    let all : c.loop-row.row ≡ shape.rows = omega (arith, c.loop-row-test.false, c.loop-row.auto.row-end, c.rows-row-end.ensures.value) in
+    subst (λ (n : ℕ). IsRebuilt shape c.args.target started targets after (record { rows = n; fault = None })) (sym c.rows.ensures.value)
+    (rebuilt_at_end shape c.args.target started now targets after
+    (subst (λ (n : ℕ). Rebuilding shape c.args.target started now targets after n) all c.loop-row.invariant.so_far))

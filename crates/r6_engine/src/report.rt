@@ -1,0 +1,112 @@
+//! What a check finds, by class.
+
+ghost use Rattle.std.specs.Prelude.{◌≡◌, ◌<◌, ◌+◌, ◌^◌, [], None};
+ghost use Rattle.r6_engine.specs.Reports.{counts_of, total, with_finding, with_row};
+
+use r6_dev::Fault;
+use r6_recover::RowClass;
+
+/// How many rows have each class, and how many were skipped because a slot of theirs is lost.
+#[derive(Clone, Copy, PartialEq, Eq, Debug)]
+pub struct Counts {
+    pub consistent: u64,
+    pub wrong_p: u64,
+    pub wrong_q: u64,
+    pub wrong_data: u64,
+    pub many: u64,
+    pub skipped: u64,
+}
+
+/// A row of another class than `Consistent`.
+#[derive(Clone, Copy, PartialEq, Eq, Debug)]
+pub struct WrongRow {
+    pub row: u64,
+    pub class: RowClass,
+}
+
+/// Where a pass met a fault.
+#[derive(Clone, Copy, PartialEq, Eq, Debug)]
+pub struct RowFault {
+    pub row: u64,
+    pub slot: usize,
+    pub fault: Fault,
+}
+
+/// What a check of an array found.
+#[derive(Clone, Copy, PartialEq, Eq, Debug)]
+pub struct Report {
+    pub counts: Counts,
+    /// The first row that isn't consistent.
+    pub first: Option<WrongRow>,
+    /// The fault that ended the check. The rows before its row are counted, and no other.
+    pub fault: Option<RowFault>,
+}
+
+impl Counts {
+    /// Of no row.
+    pub fn new() -> Counts
+        ensures { result ≡ record { consistent = 0; wrong_p = 0; wrong_q = 0; wrong_data = 0; many = 0; skipped = 0 } }
+    {
+        Counts {
+            consistent: 0,
+            wrong_p: 0,
+            wrong_q: 0,
+            wrong_data: 0,
+            many: 0,
+            skipped: 0,
+        }
+    }
+
+    // Counts one more row, of this class or skipped.
+    fn add(&mut self, finding: Option<RowClass>)
+        requires { total self.old + 1 < 2 ^ 64 }
+        ensures { self.new ≡ with_finding self.old finding }
+    {
+        match finding {
+            None => self.skipped += 1,
+            Some(RowClass::Consistent) => self.consistent += 1,
+            Some(RowClass::WrongP) => self.wrong_p += 1,
+            Some(RowClass::WrongQ) => self.wrong_q += 1,
+            Some(RowClass::WrongData(_)) => self.wrong_data += 1,
+            Some(RowClass::Many) => self.many += 1,
+        }
+    }
+}
+
+// The first wrong row, where this row comes next.
+fn first_of(first: Option<WrongRow>, row: u64, finding: Option<RowClass>) -> Option<WrongRow>
+    ensures { result ≡ with_row first row finding }
+{
+    match first {
+        Some(wrong) => Some(wrong),
+        None => match finding {
+            None => None,
+            Some(RowClass::Consistent) => None,
+            Some(class) => Some(WrongRow { row, class }),
+        },
+    }
+}
+
+impl Report {
+    /// Of no row.
+    pub(crate) fn new() -> Report
+        ensures counts { result.counts ≡ counts_of [] }
+        ensures first { result.first ≡ None }
+        ensures fault { result.fault ≡ None }
+    {
+        Report {
+            counts: Counts::new(),
+            first: None,
+            fault: None,
+        }
+    }
+
+    /// Takes in what was found of the next row.
+    pub(crate) fn note(&mut self, row: u64, finding: Option<RowClass>)
+        requires { total self.old.counts + 1 < 2 ^ 64 }
+        ensures { self.new ≡ record self.old { counts = with_finding self.old.counts finding; first = with_row self.old.first row finding } }
+    {
+        self.counts.add(finding);
+        self.first = first_of(self.first, row, finding);
+    }
+}
