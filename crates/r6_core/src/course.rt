@@ -106,19 +106,3 @@ fn take_block(core: &mut Core) -> Option<Buffer>
         _ => None,
     }
 }
-
-#[cfg(test)]
-use std::test::Fail;
-
-// The block that is lost is the sum of the other data block and P: 11 = 22 + 33.
-#[test]
-fn a_read_is_answered_through_the_loss_of_its_device(rt: HostRuntime) -> Result<(), Fail> {
-    let room = Buffer::new(rt.alloc(), 16)?;
-    let mut other = Buffer::new(rt.alloc(), 16)?;
-    other.copy_from_slice(&[0x22; 16]);
-    let mut parity = Buffer::new(rt.alloc(), 16)?;
-    parity.copy_from_slice(&[0x33; 16]);
-    let (_, block) = read_through_a_loss(rt.alloc(), room, other, parity).ok_or("another run")?;
-    assert_eq!(rt; block.as_slice(), &[0x11u8; 16][..]);
-    Ok(())
-}

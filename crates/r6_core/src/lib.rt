@@ -21,8 +21,3 @@ pub use refusal::{CoreError, DeviceFault, FaultKind, Receipt, Refusal, Refused};
 pub use reply::{OpId, Reply};
 pub use shard_core::Core;
 pub use state::State;
-
-#[cfg(test)]
-mod loss_tests;
-#[cfg(test)]
-mod tests;

@@ -196,16 +196,6 @@ impl Core {
     }
 }
 
-#[cfg(test)]
-impl Core {
-    // How many slots the array has.
-    pub(crate) fn slots(&self) -> usize
-        ensures { (result ≡ self.now.frames.geometry.slots) × (4 ≤ result) }
-    {
-        self.state.frames.geometry.slots()
-    }
-}
-
 // What the slots have at the start: a rebuilding slot there is none.
 fn devices_at(snapshot: &Snapshot) -> [Device; MOST_SLOTS]
     ensures { (slot : ℕ) → devices_state result slot ≡ slot_at_start (status_of snapshot.now slot) }

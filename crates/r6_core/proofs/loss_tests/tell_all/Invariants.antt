@@ -1,6 +1,0 @@
-use Rattle.std.proofs.Common.{◌≡◌, ◌≤◌, ℕ}
-use Rattle.r6_world.specs.Registers.{InSync, status_of}
-use Rattle.r6_core.proofs.loss_tests.tell_all.Given as goal
-
-abbrev pub invariant-loop : goal.invariant-loop
-invariant-loop l = (slot : ℕ) → 4 ≤ slot → status_of l.snapshot slot ≡ InSync

@@ -1,0 +1,436 @@
+//! A core over devices in memory, which does one step at a time.
+
+ghost use Rattle.std.specs.Prelude.{◌≡◌, length, IfOk};
+ghost use Rattle.r6_layout.specs.Shape.{IsShape};
+
+use r6_core::{
+    Call, Command, CommandKind, Core, DeviceFault, FaultKind, Op, OpId, Receipt, Refused, Reply,
+};
+use r6_dev::{BlockDevice, MemoryDevice};
+use r6_health::{Answer as RegisterAnswer, Refusal as RegisterRefusal, Snapshot};
+use r6_kernels::Buffer;
+use r6_layout::Geometry;
+use std::alloc::{AllocError, Global};
+use std::process::Abort;
+use std::test::Fail;
+
+/// Four slots, which each array here has.
+const SLOTS: usize = 4;
+
+/// The bytes of a block.
+const BLOCK: usize = 16;
+
+/// What the register says of a call.
+pub(crate) type Told = Result<RegisterAnswer, RegisterRefusal>;
+
+/// What happens next.
+#[derive(Clone, Copy)]
+pub(crate) enum Step {
+    /// A request to write this byte throughout a block.
+    Write(u64, u8),
+    /// A request to read a block.
+    Read(u64),
+    /// The same, into a buffer of this length.
+    ReadInto(u64, usize),
+    /// The next command is taken.
+    Take,
+    /// All commands are taken.
+    TakeAll,
+    /// The device of a command that was taken performs it, and its completion is delivered.
+    Do(u64),
+    /// The device of a command that was taken answers an error, and has other bytes from then on.
+    Fail(u64),
+    /// A completion of this token, with a buffer of this length and byte that no device filled.
+    Deliver(u64, usize, u8),
+    /// Commands are taken, performed and delivered one by one, so many at the most.
+    Drive(usize),
+    /// The next call is taken.
+    TakeCall,
+    /// The core hears that the loss of a slot of generation 0 was answered so.
+    Tell(usize, Told),
+    /// The calls of the core are made at the register.
+    TellAll,
+    /// The register hears that a slot is lost.
+    Lose(usize),
+    /// The core looks at the register.
+    Look,
+    /// The next reply is taken.
+    Reply,
+    /// The generation of a slot is asked for.
+    InSync(usize),
+}
+
+/// What a step answers.
+#[derive(Clone, Copy, PartialEq, Eq, Debug)]
+pub(crate) enum Answer {
+    /// The number of the request.
+    Accepted(u64),
+    /// By this number, with what was handed in.
+    Refused(u8),
+    /// The token, the slot and the row.
+    Command(u64, usize, u64),
+    /// So many commands.
+    Commands(usize),
+    Taken,
+    Late,
+    /// So many completions were taken, and so many came late.
+    Driven(usize, usize),
+    /// The slot and the generation whose loss is to be declared.
+    Loss(usize, u32),
+    Heard,
+    /// So many calls, and whether the array has failed.
+    Told(usize, bool),
+    Lost,
+    Looked,
+    /// The number of the request, and the byte that its buffer has throughout.
+    Done(u64, u8),
+    Data(u64, u8),
+    /// The array has failed: the number of the request.
+    Failed(u64),
+    Generation(Option<u32>),
+    Nothing,
+    /// Nothing that a core may answer.
+    Wrong,
+}
+
+/// The core of shard 0 over devices in memory, beside what the register holds.
+#[derive(Drop)]
+pub(crate) struct Bench {
+    alloc: Global,
+    core: Core,
+    devices: Vec<MemoryDevice>,
+    rows: u64,
+    pub(crate) register: Snapshot,
+    taken: Vec<Command>,
+}
+
+/// A block with one byte throughout.
+pub(crate) fn filled(alloc: Global, len: usize, byte: u8) -> Result<Buffer, AllocError>
+    ensures { IfOk result (λ block. length block ≡ len) }
+{
+    let bytes = vec![in alloc; byte; len]?;
+    let mut block = Buffer::new(alloc, len)?;
+    block.copy_from_slice(bytes.as_slice());
+    Ok(block)
+}
+
+/// The byte that a block has throughout.
+fn byte_of(block: &Buffer) -> Option<u8> {
+    let byte = *block.as_slice().first()?;
+    if block.len() == BLOCK && block.as_slice().iter().all(|b| *b == byte) {
+        Some(byte)
+    } else {
+        None
+    }
+}
+
+/// The register after a slot is declared lost, and what it answers.
+fn declare(register: &Snapshot, slot: usize) -> (Told, Snapshot) {
+    if register.failed() {
+        return (Err(RegisterRefusal::ArrayFailed), *register);
+    }
+    if slot >= SLOTS {
+        return (Err(RegisterRefusal::NoSuchSlot), *register);
+    }
+    if register.slot(slot).is_lost() {
+        return (Err(RegisterRefusal::AlreadyLost), *register);
+    }
+    let register = register.lose(slot);
+    let answer = if register.failed() {
+        RegisterAnswer::Failed
+    } else {
+        RegisterAnswer::Degraded
+    };
+    (Ok(answer), register)
+}
+
+/// The devices of an array, of zeros.
+fn devices_of(alloc: Global, rows: u64) -> Result<Vec<MemoryDevice>, AllocError> {
+    let mut devices = Vec::new(alloc);
+    for _ in 0..SLOTS {
+        devices.push(MemoryDevice::new(alloc, 0..rows, BLOCK)?)?;
+    }
+    Ok(devices)
+}
+
+/// The core of shard 0 of an array with this register, to which no device was attached.
+fn core_of(alloc: Global, geometry: &Geometry, register: &Snapshot) -> Result<Core, Fail>
+    requires { IsShape geometry.now }
+{
+    if geometry.shards() == 0 || register.failed() || register.attaches() > 0 {
+        return Err(Fail::from("no start"));
+    }
+    Ok(Core::new(alloc, *geometry, 0, 1, register)?)
+}
+
+/// The register of an array at whose start these slots are lost.
+pub(crate) fn register_without(geometry: &Geometry, lost: &[usize]) -> Snapshot {
+    let mut register = Snapshot::start(geometry, 0);
+    for slot in lost {
+        register = declare(&register, *slot).1;
+    }
+    register
+}
+
+impl Bench {
+    /// An array of four slots, chunks of one block and blocks of 16 bytes, at whose start these slots are lost.
+    pub(crate) fn new(
+        alloc: Global,
+        rows: u64,
+        shards: usize,
+        lost: &[usize],
+    ) -> Result<Bench, Fail> {
+        let geometry = Geometry::new(SLOTS, 1, BLOCK, rows, shards)?;
+        let register = register_without(&geometry, lost);
+        Ok(Bench {
+            alloc,
+            core: core_of(alloc, &geometry, &register)?,
+            devices: devices_of(alloc, rows)?,
+            rows,
+            register,
+            taken: Vec::new(alloc),
+        })
+    }
+
+    /// Plays a course: each step has to answer so.
+    pub(crate) fn play<R: Abort>(
+        &mut self,
+        rt: &R,
+        course: &[(Step, Answer)],
+    ) -> Result<(), AllocError> {
+        for (index, (step, answer)) in course.iter().enumerate() {
+            let found = self.answer(*step)?;
+            assert_eq!(rt; found, *answer, "at step {index}");
+        }
+        Ok(())
+    }
+
+    /// What a step answers.
+    pub(crate) fn answer(&mut self, step: Step) -> Result<Answer, AllocError> {
+        Ok(match step {
+            Step::Write(block, byte) => self.write(block, byte)?,
+            Step::Read(block) => self.read(block, BLOCK)?,
+            Step::ReadInto(block, len) => self.read(block, len)?,
+            Step::Take => self.take()?,
+            Step::TakeAll => self.take_all()?,
+            Step::Do(token) => self.answer_taken(token, true),
+            Step::Fail(token) => self.answer_taken(token, false),
+            Step::Deliver(token, len, byte) => {
+                let block = filled(self.alloc, len, byte)?;
+                self.deliver(token, Ok(block))
+            }
+            Step::Drive(most) => self.drive(most, &[]),
+            Step::TakeCall => self.take_call(),
+            Step::Tell(slot, told) => self.tell(Call::DeclareLost(slot, 0), told),
+            Step::TellAll => self.tell_all(),
+            Step::Lose(slot) => self.lose(slot),
+            Step::Look => self.look(),
+            Step::Reply => self.take_reply(),
+            Step::InSync(slot) => Answer::Generation(self.core.in_sync(slot)),
+        })
+    }
+
+    fn write(&mut self, block: u64, byte: u8) -> Result<Answer, AllocError> {
+        let buffer = filled(self.alloc, BLOCK, byte)?;
+        Ok(self.submit(Op::Write(block, buffer)))
+    }
+
+    fn read(&mut self, block: u64, len: usize) -> Result<Answer, AllocError> {
+        let buffer = Buffer::new(self.alloc, len)?;
+        Ok(self.submit(Op::Read(block, buffer)))
+    }
+
+    fn submit(&mut self, op: Op) -> Answer {
+        let (block, len) = (op.block(), op.buffer().len());
+        match self.core.submit(op) {
+            Ok(OpId(id)) => Answer::Accepted(id),
+            Err(Refused { refusal, back }) => {
+                if back.block() == block && back.buffer().len() == len {
+                    Answer::Refused(refusal.number())
+                } else {
+                    Answer::Wrong
+                }
+            }
+        }
+    }
+
+    fn take(&mut self) -> Result<Answer, AllocError> {
+        let Some(command) = self.core.take_command() else {
+            return Ok(Answer::Nothing);
+        };
+        let answer = Answer::Command(command.token, command.slot, command.row);
+        self.taken.push(command)?;
+        Ok(answer)
+    }
+
+    fn take_all(&mut self) -> Result<Answer, AllocError> {
+        for count in 0..usize::MAX {
+            if self.take()? == Answer::Nothing {
+                return Ok(Answer::Commands(count));
+            }
+        }
+        Ok(Answer::Wrong)
+    }
+
+    /// The device of a command that was taken answers it.
+    fn answer_taken(&mut self, token: u64, is_good: bool) -> Answer {
+        match self.taken.iter().position(|command| command.token == token) {
+            Some(index) => {
+                let command = self.taken.swap_remove(index);
+                self.complete(command, is_good)
+            }
+            None => Answer::Nothing,
+        }
+    }
+
+    /// The device of a command performs it, or answers an error, and its completion is delivered.
+    fn complete(&mut self, mut command: Command, is_good: bool) -> Answer {
+        if !is_good {
+            return self.fail(command);
+        }
+        self.perform(&mut command);
+        self.deliver(command.token, Ok(command.buffer))
+    }
+
+    fn perform(&mut self, command: &mut Command) {
+        if let Some(device) = self.devices.get_mut(command.slot) {
+            let _ = match command.kind {
+                CommandKind::Read => device.read(command.row, &mut command.buffer),
+                CommandKind::Write => device.write(command.row, &command.buffer),
+            };
+        }
+    }
+
+    fn fail(&mut self, command: Command) -> Answer {
+        let mut buffer = command.buffer;
+        if buffer.len() == BLOCK {
+            buffer.copy_from_slice(&[0xee; BLOCK]);
+        }
+        if let Some(device) = self.devices.get_mut(command.slot) {
+            for row in 0..self.rows {
+                let _ = device.write(row, &buffer);
+            }
+        }
+        let kind = FaultKind::Gone;
+        self.deliver(command.token, Err(DeviceFault { kind, buffer }))
+    }
+
+    fn deliver(&mut self, token: u64, completion: Result<Buffer, DeviceFault>) -> Answer {
+        match self.core.deliver(token, completion) {
+            Ok(Receipt::Taken) => Answer::Taken,
+            Ok(Receipt::Late) => Answer::Late,
+            Err(refused) => Answer::Refused(refused.refusal.number()),
+        }
+    }
+
+    /// Takes and answers commands until there is none, so many at the most, with an error at each of these tokens.
+    pub(crate) fn drive(&mut self, most: usize, failing: &[u64]) -> Answer {
+        let (mut taken, mut late): (usize, usize) = (0, 0);
+        for _ in 0..most {
+            let Some(command) = self.core.take_command() else {
+                break;
+            };
+            let is_good = !failing.contains(&command.token);
+            match self.complete(command, is_good) {
+                Answer::Taken => taken = taken.saturating_add(1),
+                Answer::Late => late = late.saturating_add(1),
+                _ => return Answer::Wrong,
+            }
+        }
+        Answer::Driven(taken, late)
+    }
+
+    /// Likewise, but before the command of this token is answered, a look finds the slot lost.
+    pub(crate) fn drive_losing(&mut self, most: usize, slot: usize, at: u64) {
+        for _ in 0..most {
+            if let Some(command) = self.core.take_command() {
+                if command.token == at {
+                    self.lose(slot);
+                    self.look();
+                }
+                self.complete(command, true);
+            }
+        }
+    }
+
+    fn take_call(&mut self) -> Answer {
+        match self.core.take_call() {
+            Some(Call::DeclareLost(slot, generation)) => Answer::Loss(slot, generation),
+            Some(Call::ReportRebuilt(..)) => Answer::Wrong,
+            None => Answer::Nothing,
+        }
+    }
+
+    fn tell(&mut self, call: Call, told: Told) -> Answer {
+        match self.core.told(call, told) {
+            Ok(()) => Answer::Heard,
+            Err(refusal) => Answer::Refused(refusal.number()),
+        }
+    }
+
+    pub(crate) fn tell_all(&mut self) -> Answer {
+        for count in 0..SLOTS {
+            let Some(call) = self.core.take_call() else {
+                return Answer::Told(count, self.register.failed());
+            };
+            let Call::DeclareLost(slot, _) = call else {
+                return Answer::Wrong;
+            };
+            let (told, register) = declare(&self.register, slot);
+            self.register = register;
+            self.tell(call, told);
+        }
+        Answer::Wrong
+    }
+
+    fn lose(&mut self, slot: usize) -> Answer {
+        let (told, register) = declare(&self.register, slot);
+        self.register = register;
+        match told {
+            Ok(_) => Answer::Lost,
+            Err(refusal) => Answer::Refused(refusal.number()),
+        }
+    }
+
+    pub(crate) fn look(&mut self) -> Answer {
+        match self.core.look(&self.register) {
+            Ok(()) => Answer::Looked,
+            Err(refusal) => Answer::Refused(refusal.number()),
+        }
+    }
+
+    fn take_reply(&mut self) -> Answer {
+        let Some((OpId(id), reply)) = self.core.take_reply() else {
+            return Answer::Nothing;
+        };
+        match reply {
+            Reply::Done(buffer) => byte_of(&buffer).map_or(
+                Answer::Wrong,
+                |byte| Answer::Done(id, byte),
+            ),
+            Reply::Data(buffer) => byte_of(&buffer).map_or(
+                Answer::Wrong,
+                |byte| Answer::Data(id, byte),
+            ),
+            Reply::ArrayFailed(_) => Answer::Failed(id),
+        }
+    }
+
+    /// A request is run to its reply, with an error at each of these tokens: the number of its commands, and the answer.
+    pub(crate) fn run(
+        &mut self,
+        request: Step,
+        failing: &[u64],
+    ) -> Result<(usize, Answer), AllocError> {
+        let answer = self.answer(request)?;
+        let Answer::Accepted(_) = answer else {
+            return Ok((0, answer));
+        };
+        let Answer::Driven(taken, late) = self.drive(99, failing) else {
+            return Ok((0, Answer::Wrong));
+        };
+        self.tell_all();
+        self.look();
+        Ok((taken.saturating_add(late), self.take_reply()))
+    }
+}

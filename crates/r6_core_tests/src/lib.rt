@@ -1,0 +1,20 @@
+//! Tests of the core: courses of requests, completions and losses, played over devices in memory by the calls that every
+//! caller has.
+#![tactic(auto)]
+
+#[cfg(test)]
+mod bench;
+#[cfg(test)]
+mod caller;
+#[cfg(test)]
+mod course;
+#[cfg(test)]
+mod losses;
+#[cfg(test)]
+mod requests;
+#[cfg(test)]
+mod scripts;
+#[cfg(test)]
+mod served;
+#[cfg(test)]
+mod starts;

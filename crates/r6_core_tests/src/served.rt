@@ -1,0 +1,36 @@
+//! Requests served by the caller.
+
+use crate::caller::serve;
+use r6_core::{Core, Op, OpId, Reply};
+use r6_dev::MemoryDevice;
+use r6_health::{Register, SlotState, Snapshot};
+use r6_kernels::Buffer;
+use r6_layout::Geometry;
+use std::alloc::{AllocError, Global};
+use std::test::Fail;
+
+/// Devices of zeros, of which that of slot 1 has no rows.
+fn devices_of(alloc: Global) -> Result<Vec<MemoryDevice>, AllocError> {
+    let mut devices = Vec::new(alloc);
+    for rows in [4u64, 0, 4, 4] {
+        devices.push(MemoryDevice::new(alloc, 0..rows, 16)?)?;
+    }
+    Ok(devices)
+}
+
+// Block 0 stands in slot 1, whose device is lost at the first command.
+#[test]
+fn requests_are_served_without_a_device(rt: HostRuntime) -> Result<(), Fail> {
+    let geometry = Geometry::new(4, 1, 16, 4, 1)?;
+    let (register, mut pass) = Register::new(&rt, rt.alloc(), &geometry, 0)?;
+    let mut core = Core::new(rt.alloc(), geometry, 0, 1, &Snapshot::start(&geometry, 0))?;
+    let mut devices = devices_of(rt.alloc())?;
+    for id in 0..2u64 {
+        let op = Op::Read(0, Buffer::new(rt.alloc(), 16)?);
+        let reply = serve(&rt, &mut core, &mut devices, &register, &mut pass, op);
+        let is_read = matches!(&reply, Some((OpId(number), Reply::Data(_))) if *number == id);
+        assert!(rt; is_read, "request {id}");
+    }
+    assert_eq!(rt; register.read(&rt, &mut pass).slot(1), SlotState::Lost);
+    Ok(())
+}
