@@ -24,7 +24,7 @@ use Rattle.r6_core.specs.declared.state.State.{State}
 use Rattle.r6_frames.specs.Views.{op_of, buffer_of, hold_at, requests_from, held_requests}
 use Rattle.r6_frames.specs.Calls.{IsRequestOf}
 use Rattle.r6_frames.specs.Owed.{owed, owed_by, owed_in, is_unsent}
-use Rattle.r6_core.specs.Shards.{state_of, layout_in, requests_of, waiting_request, finished_request, released_request}
+use Rattle.r6_core.specs.Shards.{state_of, layout_in, requests_of, waiting_request, finished_request, released_request, core_of}
 use Rattle.r6_core.specs.Refusals.{limit, most_unanswered, HasSubmitFault, HasNone, submit_faults}
 use Rattle.r6_core.specs.Inside.{IsSound, IsCore, AreRequests, bound}
 use Rattle.r6_core.proofs.Passed.{all-append}
@@ -109,7 +109,7 @@ with_request s r =
     record s { accepted = s.accepted + 1; unanswered = s.unanswered + 1; waiting = record { items = s.waiting.items ++ r ∷ []; capacity = s.waiting.capacity } }
 
 -- a request with no fault is one of the shard's
-pub request_of : (s : State) (o : Op) → HasNone (HasSubmitFault s o) submit_faults → IsBlock (length (buffer_of o)) (buffer_of o) → (id : ℕ)
+pub request_of : (s : State) (o : Op) → HasNone (HasSubmitFault (core_of s) o) submit_faults → IsBlock (length (buffer_of o)) (buffer_of o) → (id : ℕ)
     → IsRequestOf s.frames (record { id = id; op = o })
 request_of s o right sized id =
     record {
@@ -118,7 +118,7 @@ request_of s o right sized id =
       sized = elim (cases_eq (length (buffer_of o)) s.frames.geometry.block) [ inl e ↦ record { length_is = e; bytes = sized.bytes } | inr ne ↦ absurd (right.1.1.0 ne) ];
     }
 
-pub accepted_core : (s : State) (o : Op) → IsCore s → HasNone (HasSubmitFault s o) submit_faults → IsBlock (length (buffer_of o)) (buffer_of o)
+pub accepted_core : (s : State) (o : Op) → IsCore s → HasNone (HasSubmitFault (core_of s) o) submit_faults → IsBlock (length (buffer_of o)) (buffer_of o)
     → IsCore (with_request s (record { id = s.accepted; op = o }))
 accepted_core s o core right sized =
     let sound = core.sound in

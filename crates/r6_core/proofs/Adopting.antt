@@ -21,10 +21,10 @@ use Rattle.r6_frames.specs.Owed.{owed}
 use Rattle.r6_frames.specs.Sound as held
 use Rattle.r6_frames.proofs.Lists.{table}
 use Rattle.r6_core.specs.declared.state.State.{State}
-use Rattle.r6_core.specs.Shards.{state_of, rest_of, layout_in, requests_of, waiting_request, finished_request, released_request, SameFrames}
-use Rattle.r6_core.specs.Refusals.{limit, most_unanswered, AllTold}
+use Rattle.r6_core.specs.Shards.{state_of, rest_of, layout_in, requests_of, waiting_request, finished_request, released_request, core_of}
+use Rattle.r6_core.specs.Refusals.{limit, most_unanswered}
 use Rattle.r6_core.specs.Order.{Agrees, SameReplies}
-use Rattle.r6_core.specs.Inside.{IsSound, bound, count_untold, SameCalls}
+use Rattle.r6_core.specs.Inside.{SameFrames, NoCalls, IsSound, bound, count_untold, SameCalls, Seen}
 use Rattle.r6_core.proofs.Throughs.{through_both, through_in, through_one}
 use Rattle.r6_core.proofs.Kept.{requests_kept}
 
@@ -38,7 +38,7 @@ pub record IsAdopting (s new : State) (seen : Snapshot) (count : ℕ) (went_out 
   pub some : went_out ≡ true → (slot : ℕ) × (slot < s.frames.geometry.slots) × (differs (states_of s.frames.slots slot) (status_of seen slot) ≡ true)
   pub same : SameFrames s new
   pub calls : SameCalls s new
-  pub order : SameReplies s new
+  pub order : Seen SameReplies s new
   pub unanswered : new.unanswered ≡ s.unanswered
   pub waiting : new.waiting ≡ s.waiting
 
@@ -81,7 +81,7 @@ module _ (s : State) (slot : ℕ) (device : Device) (fs : Frames) (takes : Takes
   state-taken = (λ i. shard_with (record (rest_of s) { request = table (requests-taken i) }) fs) ∙ takes.2 (rest_of s)
 
 -- a slot went out, while no call is to be made
-sound_taken : (s : State) (slot : ℕ) (device : Device) (fs : Frames) → IsSound s → AllTold s → TakesOut s.frames slot device fs → held.IsSound fs
+sound_taken : (s : State) (slot : ℕ) (device : Device) (fs : Frames) → IsSound s → NoCalls s → TakesOut s.frames slot device fs → held.IsSound fs
     → next_of fs.commands ≡ next_of s.frames.commands → owed fs ≡ owed s.frames → held_requests fs ≡ held_requests s.frames → IsSound (with_frames s fs)
 sound_taken s slot device fs sound told takes is next owes requests =
     let same = requests-taken s slot device fs takes requests in
@@ -109,7 +109,7 @@ sound_taken s slot device fs sound told takes is next owes requests =
     }
 
 -- one more slot was looked at, and went out
-pub adopting_out : (s mid : State) (seen : Snapshot) (slot : ℕ) (went_out : Bool) (device : Device) (fs : Frames) → AllTold s → IsAdopting s mid seen slot went_out
+pub adopting_out : (s mid : State) (seen : Snapshot) (slot : ℕ) (went_out : Bool) (device : Device) (fs : Frames) → NoCalls s → IsAdopting s mid seen slot went_out
     → slot < mid.frames.geometry.slots → differs (states_of mid.frames.slots slot) (status_of seen slot) ≡ true
     → slots.state_of device ≡ adopted (states_of mid.frames.slots slot) (status_of seen slot)
     → TakesOut mid.frames slot device fs → held.IsSound fs → next_of fs.commands ≡ next_of mid.frames.commands → owed fs ≡ owed mid.frames → held_requests fs ≡ held_requests mid.frames
@@ -118,7 +118,7 @@ adopting_out s mid seen slot went_out device fs told is lt other becomes takes s
     let status = status_of seen slot in
     let here = is.left slot (omega arith) in
     let states = states-taken mid slot device fs takes in
-    let still : AllTold mid = (ap (λ b. b.items) is.calls.0 ∙ told.0, is.calls.1 ∙ told.1) in
+    let still : NoCalls mid = (ap (λ b. b.items) is.calls.0 ∙ told.0, is.calls.1 ∙ told.1) in
     let becomes_after : state_of (with_frames mid fs) ≡ after (layout_in mid) (state_of mid) (Adopt slot status) =
     state-taken mid slot device fs takes requests ∙ ap (taken_out (layout_in mid) (state_of mid) slot) becomes in
     let one = through_one (layout_in mid) mid.frames.shard (TakesOver seen) (state_of mid) (state_of (with_frames mid fs)) (Adopt slot status) refl (lt, other) becomes_after in
@@ -185,8 +185,8 @@ module _ (s new : State) (seen : Snapshot) (count : ℕ) (went_out : Bool) (is :
       → states_of new.frames.slots slot ≡ adopted (states_of s.frames.slots slot) (status_of seen slot)
   adopted_all slot below = is.gone slot (omega arith)
 
-  pub adopted_none : went_out ≡ false → (new ≡ s) × Agrees s seen
+  pub adopted_none : went_out ≡ false → (new ≡ s) × Agrees (core_of s) seen
   adopted_none none = ((is.none none).0, λ slot below. (is.none none).1 slot (omega arith))
 
-pub adopted_some : (s new : State) (seen : Snapshot) (count : ℕ) (went_out : Bool) → IsAdopting s new seen count went_out → went_out ≡ true → Agrees s seen → ⊥
+pub adopted_some : (s new : State) (seen : Snapshot) (count : ℕ) (went_out : Bool) → IsAdopting s new seen count went_out → went_out ≡ true → Agrees (core_of s) seen → ⊥
 adopted_some s new seen count went_out is some agrees = let there = is.some some in let same = agrees there.0 there.1 in let other = there.2 in absurd (cc)

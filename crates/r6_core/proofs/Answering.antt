@@ -12,17 +12,11 @@ use Rattle.r6_frames.specs.Owed.{owed, IsDriven, IsOver}
 use Rattle.r6_frames.specs.Sound as held
 use Rattle.r6_core.specs.declared.state.State.{State}
 use Rattle.r6_core.specs.Shards.{state_of, rest_of, layout_in}
-use Rattle.r6_core.specs.Inside.{IsSound, IsCore, IsRestedFrame}
+use Rattle.r6_core.specs.Inside.{IsSound, IsCore, IsRestedFrame, TakesThrough}
 use Rattle.r6_core.proofs.Throughs.{through_both, through_in}
 use Rattle.r6_core.proofs.Going.{Goes, SlotsStay, goes_still, answers_still, gone_state, gone_sound}
 use Rattle.r6_core.proofs.SlotsKept.{out_same}
 use Rattle.r6_core.proofs.Settling.{driven_goes, driven_leads}
-
--- the completion of a command, with what holds do behind it
-abbrev pub TakesThrough : State → (token : ℕ) → Completion → Receipt → State → Type 0
-TakesThrough s token completion receipt new =
-    (change : Change) × Takes token completion receipt change × Allowed (layout_in s) s.frames.shard (state_of s) change
-    × Through (layout_in s) s.frames.shard GoesOn (after (layout_in s) (state_of s) change) (state_of new)
 
 -- whether a command is awaited can be told
 pub awaited : (fs : Frames) (token : ℕ) → ((IsAwaited fs token → ⊥) → ⊥) → IsAwaited fs token

@@ -13,8 +13,8 @@ use Rattle.r6_core.specs.declared.state.State.{State}
 use Rattle.r6_frames.specs.Views.{op_of, hold_of, requests_from}
 use Rattle.r6_frames.specs.Calls.{NotHeldBy}
 use Rattle.r6_core.specs.Shards.{state_of, rest_of, layout_in, waiting_request, finished_request, released_request}
-use Rattle.r6_core.specs.Order.{CannotStart}
-use Rattle.r6_core.specs.Inside.{IsCore, NoneCanStart}
+use Rattle.r6_core.specs.Order.{MustWait}
+use Rattle.r6_core.specs.Inside.{CannotStart, IsCore, NoneCanStart}
 use Rattle.r6_frames.proofs.Lists.{Entries, table, looked_up}
 use Rattle.r6_frames.proofs.Resting.{goes_on, nothing_next, brought_in, free_frame_is}
 
@@ -65,6 +65,11 @@ waits_at P (r ∷ rs) rest id op past all is =
 
 not_held_by : (s : State) (row : ℕ) → NotHeld (state_of s) row → NotHeldBy s.frames row
 not_held_by s row not_held frame h is at = not_held frame (hold_of h) (ap (option_map hold_of) is) at
+
+-- what can't start in the frames of the code can't start in the shard
+pub must_wait : (s : State) → IsCore s → (r : Entered) → CannotStart s.frames r → MustWait (layout_in s) (state_of s) r
+must_wait s core r cannot live not_held frame free =
+    cannot live (not_held_by s _ not_held) frame (free_frame_is (rest_of s) s.frames frame core.sound.frames live free)
 
 -- ---- at rest
 

@@ -17,7 +17,8 @@ use Rattle.r6_frames.specs.Calls.{Steps, KeepsHolds}
 use Rattle.r6_frames.specs.Owed.{owed_in, IsDriven, IsOver}
 use Rattle.r6_frames.specs.Slots.{count_out}
 use Rattle.r6_frames.specs.Sound as held
-use Rattle.r6_core.specs.Shards.{Step, layout_in, state_of, rest_of, requests_of, waiting_request, finished_request, released_request}
+use Rattle.r6_core.specs.Shards.{Step, layout_in, state_of, rest_of, requests_of, waiting_request, finished_request, released_request, core_of}
+use Rattle.r6_core.specs.Effects.{HandsCommand}
 use Rattle.r6_core.specs.Inside.{IsCore}
 use Rattle.r6_frames.proofs.Lists.{table}
 use Rattle.r6_core.proofs.Kept.{requests_kept}
@@ -74,7 +75,7 @@ taken_core s new core is =
           rested_kept s.frames new frame (ap (λ held. hold_at held.items frame) is.holds) (core.rested before frame);
     }
 
-step_of : (s : State) (new : Frames) (event : steps.Event) → KeepsHolds s.frames new → new.saw_failed ≡ s.frames.saw_failed → Steps s.frames event new → Step s event (record s { frames = new })
+step_of : (s : State) (new : Frames) (event : steps.Event) → KeepsHolds s.frames new → new.saw_failed ≡ s.frames.saw_failed → Steps s.frames event new → Step (core_of s) event (core_of (record s { frames = new }))
 step_of s new event holds failed stepped =
     let same = same_requests s new holds failed in
     let rest : List (ℕ × shards.Request) → Rest = λ es. record (rest_of s) { request = table es } in
@@ -100,6 +101,6 @@ pub taken_rests : (s : State) (new : Frames) (result : Option Command) → IsCor
 taken_rests s new result core sound holds same took = taken_core s new core (is_taken s.frames new result sound holds same took)
 
 pub taken_step : (s : State) (new : Frames) (result : Option Command) → KeepsHolds s.frames new → SameSlots s.frames new → TakesCommand s.frames result new
-    → MatchOption result (Step s No_command (record s { frames = new })) (λ c. (frame : ℕ) × (abandoned : Bool) × Step s (Take_command c.token (world_command frame abandoned c)) (record s { frames = new }))
+    → MatchOption result (Step (core_of s) No_command (core_of (record s { frames = new }))) (λ c. HandsCommand (core_of s) c (core_of (record s { frames = new })))
 taken_step s new None holds same took = step_of s new No_command holds same.1 took
 taken_step s new (Some c) holds same took = (took.0, took.1, step_of s new (Take_command c.token (world_command took.0 took.1 c)) holds same.1 took.2)

@@ -15,18 +15,21 @@ use Rattle.r6_world.specs.Steps as steps
 use Rattle.r6_frames.specs.declared.op.Request.{Request}
 use Rattle.r6_frames.specs.declared.frames.Frames.{Frames}
 use Rattle.r6_frames.specs.declared.frames.HeldRow.{HeldRow}
-use Rattle.r6_frames.specs.Views.{hold_at, held_requests, plan_in}
+use Rattle.r6_frames.specs.declared.frames.FrameUse.{FrameUse}
+use Rattle.r6_frames.specs.Views.{hold_at, held_requests, plan_in, hold_of, row_in}
 use Rattle.r6_frames.specs.Calls.{ComesHome, KeepsHeld, KeepsOthers}
 use Rattle.r6_frames.specs.Owed.{owed, IsDriven, IsOver}
 use Rattle.r6_frames.specs.Sound as held
 use Rattle.r6_core.specs.declared.refusal.DeviceFault.{DeviceFault}
+use Rattle.r6_core.specs.declared.refusal.Receipt.{Receipt}
 use Rattle.r6_core.specs.declared.state.State.{State}
-use Rattle.r6_core.specs.Shards.{SameFrames, Step, completion_of, state_of, rest_of, layout_in}
-use Rattle.r6_core.specs.Order.{FinishesBy, HaveTurns, HaveTurnsBehind, SameReplies}
-use Rattle.r6_core.specs.Inside.{IsCore}
+use Rattle.r6_core.specs.Shards.{Step, completion_of, state_of, rest_of, layout_in, core_of, receipt_of}
+use Rattle.r6_core.specs.Order.{FinishesBy, HaveTurns, HaveTurnsBehind, SameReplies, KeepsFrames}
+use Rattle.r6_core.specs.Inside.{SameFrames, IsCore, Seen, TakesThrough}
 use Rattle.r6_core.proofs.Throughs.{through_in, through_none}
+use Rattle.r6_core.proofs.Scanned.{turns_in}
 use Rattle.r6_core.proofs.Going.{no_rest, Goes, SlotsStay, goes_still, gone_state, gone_sound}
-use Rattle.r6_core.proofs.Answering.{TakesThrough, live_still}
+use Rattle.r6_core.proofs.Answering.{live_still}
 
 -- ---- a completion that comes late
 
@@ -78,7 +81,7 @@ module _ (s : State) (token : ℕ) (fs : Frames) (core : IsCore s) (sound : held
       takes c taken (Err fault) = (refl, taken)
 
 -- nothing is finished
-pub finishes_none : (completion : Result (List ℕ) DeviceFault) (s : State) (fs : Frames) → FinishesBy completion s (record s { frames = fs })
+pub finishes_none : (completion : Result (List ℕ) DeviceFault) (s : State) (fs : Frames) → Seen (FinishesBy completion) s (record s { frames = fs })
 finishes_none (Ok buffer) s fs = ([], omega arith, sym (append-nil s.finished.items), refl)
 finishes_none (Err fault) s fs = ([], tt, sym (append-nil s.finished.items), refl)
 
@@ -90,7 +93,7 @@ if_ok_all (Err fault) P p = tt
 
 pub delivered : (s mid new : State) (token : ℕ) (completion : Completion) (receipt : steps.Receipt) → TakesThrough s token completion receipt mid → SameFrames s mid
     → Through (layout_in mid) mid.frames.shard Scans (state_of mid) (state_of new) → SameFrames mid new → AtRest (layout_in new) new.frames.shard (state_of new)
-    → Step s (Deliver token completion receipt) new
+    → Step (core_of s) (Deliver token completion receipt) (core_of new)
 delivered s mid new token completion receipt took same leads still rest =
     let geometry = still.0 ∙ same.0 in
     let shard = still.1 ∙ same.1 in
@@ -107,12 +110,30 @@ delivered s mid new token completion receipt took same leads still rest =
       ),
     )
 
-pub finishes_on : (completion : Result (List ℕ) DeviceFault) (s mid new : State) → FinishesBy completion s mid → SameReplies mid new → FinishesBy completion s new
-finishes_on (Ok buffer) s mid new order same = (order.0, order.1, ap (λ (b : Buffer Request). b.items) same.0 ∙ order.2, same.1 ∙ order.3)
-finishes_on (Err fault) s mid new order same = (order.0, order.1, ap (λ (b : Buffer Request). b.items) same.0 ∙ order.2, same.1 ∙ order.3)
+pub finishes_on : (completion : Result (List ℕ) DeviceFault) (s mid new : State) → Seen (FinishesBy completion) s mid → Seen SameReplies mid new → Seen (FinishesBy completion) s new
+finishes_on (Ok buffer) s mid new order same = (order.0, order.1, same.0 ∙ order.2, same.1 ∙ order.3)
+finishes_on (Err fault) s mid new order same = (order.0, order.1, same.0 ∙ order.2, same.1 ∙ order.3)
 
-pub turns_behind : (completion : Result (List ℕ) DeviceFault) (s mid new : State) → IfOk completion (λ _. (frame : ℕ) × KeepsOthers s.frames frame mid.frames) → mid.waiting ≡ s.waiting
-    → held.IsSound mid.frames → HaveTurns mid.frames mid.waiting.items new → HaveTurnsBehind completion s new
-turns_behind (Ok buffer) s mid new others waiting sound turns =
-    (others.0, mid.frames, others.1, sound, subst (λ (b : Buffer Request). HaveTurns mid.frames b.items new) waiting turns)
-turns_behind (Err fault) s mid new others waiting sound turns = (mid.frames, sound, subst (λ (b : Buffer Request). HaveTurns mid.frames b.items new) waiting turns)
+-- what a frame holds depends on its use alone
+frames_kept : (s mid : State) → (frame : ℕ) × KeepsOthers s.frames frame mid.frames → KeepsFrames (state_of s) (state_of mid)
+frames_kept s mid kept = (kept.0, λ other ne. ap (λ (u : FrameUse). option_map hold_of (row_in u)) (kept.1 other ne))
+
+pub turns_behind : (completion : Result (List ℕ) DeviceFault) (s mid new : State) (token : ℕ) (receipt : Receipt)
+    → TakesThrough s token (completion_of completion) (receipt_of receipt) mid → SameFrames s mid
+    → IfOk completion (λ _. (frame : ℕ) × KeepsOthers s.frames frame mid.frames) → mid.waiting ≡ s.waiting
+    → HaveTurns (core_of mid) (state_of mid) mid.waiting.items (core_of new) → HaveTurnsBehind (core_of s) token completion receipt (core_of new)
+turns_behind completion s mid new token receipt took same others waiting turns = (
+  took.0,
+  took.1,
+  took.2,
+  state_of mid,
+  took.3,
+  kept completion others,
+  subst (λ (b : Buffer Request). HaveTurns (core_of s) (state_of mid) b.items (core_of new)) waiting
+      (turns_in s.frames.geometry mid.frames.geometry s.frames.shard mid.frames.shard (state_of mid) (state_of new) mid.waiting.items new.waiting.items same.0 same.1 turns),
+)
+  where
+    kept : (completion : Result (List ℕ) DeviceFault) → IfOk completion (λ _. (frame : ℕ) × KeepsOthers s.frames frame mid.frames)
+        → IfOk completion (λ _. KeepsFrames (state_of s) (state_of mid))
+    kept (Ok buffer) others = frames_kept s mid others
+    kept (Err fault) others = tt

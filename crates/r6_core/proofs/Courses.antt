@@ -18,9 +18,11 @@ use Rattle.r6_world.specs.Witness.{smallest, small, after_all}
 use Rattle.r6_world.proofs.Tables.{put-same, None-not_Some, Some-inj}
 use Rattle.r6_world.proofs.Geometries.{layouts}
 use Rattle.r6_world.proofs.Laws.Along.{unperformed}
-use Rattle.r6_core.specs.declared.state.State.{State}
-use Rattle.r6_core.specs.Shards.{Step, state_of}
-use Rattle.r6_core.specs.Runs.{Happening, Call, Perform, Tell, Moment, in_world, moment_of, cores_after, MayHappen, CoresRun, IsMade, IsThis, AreShards, StayShards}
+use Rattle.r6_core.specs.declared.refusal.DeviceFault.{DeviceFault}
+use Rattle.r6_core.specs.declared.refusal.Receipt.{Receipt}
+use Rattle.r6_core.specs.Shards.{CoreView, Step, world_shard, completion_of, receipt_of}
+use Rattle.r6_core.specs.Effects.{IsMade, Receives}
+use Rattle.r6_core.specs.Runs.{Happening, Call, Perform, Tell, Moment, in_world, moment_of, cores_after, MayHappen, CoresRun, IsThis, AreShards, StayShards}
 use Rattle.r6_core.specs.Courses.{events_in, events_of, cores_behind, HasRun, Fails, Reads, Declares, RunsThroughLoss}
 use Rattle.r6_core.proofs.Runs.{runs_of_one_core, own_moments}
 
@@ -28,6 +30,12 @@ use Rattle.r6_core.proofs.Runs.{runs_of_one_core, own_moments}
 pub of_ok : {A E : Type 0} (r : Result A E) (P : A → Type 0) (a : A) → result_ok r ≡ Some a → IfOk r P → P a
 of_ok (Ok x) P a e p = subst P (Some-inj x a e) p
 of_ok (Err x) P a e p = absurd (None-not_Some a e)
+
+-- and of a completion that is received its step
+pub received : {E : Type 0} (completion : Result (List ℕ) DeviceFault) (r : Result Receipt E) (receipt : Receipt) (old new : CoreView) (token : ℕ)
+    → result_ok r ≡ Some receipt → IfOk r (λ x. Receives old token completion x new) → Step old (Deliver token (completion_of completion) (receipt_of receipt)) new
+received completion (Ok x) receipt old new token e p = subst (λ y. Step old (Deliver token (completion_of completion) (receipt_of y)) new) (Some-inj x receipt e) p.step
+received completion (Err x) receipt old new token e p = absurd (None-not_Some receipt e)
 
 both : {A : Type 0} (b : Bool) (x : A) → (if b then x else x) ≡ x
 both true x = refl
@@ -47,7 +55,7 @@ events-append : (a b : List Moment) → events_of (a ++ b) ≡ events_of a ++ ev
 events-append [] b = refl
 events-append (m ∷ a) b = ap (λ x. events_in m.happening ++ x) (events-append a b) ∙ sym (append-assoc (events_in m.happening) (events_of a) (events_of b))
 
-cores-append : (cores : ℕ → State) (a b : List Moment) → cores_behind cores (a ++ b) ≡ cores_behind (cores_behind cores a) b
+cores-append : (cores : ℕ → CoreView) (a b : List Moment) → cores_behind cores (a ++ b) ≡ cores_behind (cores_behind cores a) b
 cores-append cores [] b = refl
 cores-append cores (m ∷ a) b = cores-append (cores_after cores m.happening) a b
 
@@ -55,13 +63,13 @@ world-append : (l : Layout) (w : World) (a b : List Moment) → after_all l w (m
 world-append l w [] b = refl
 world-append l w (m ∷ a) b = world-append l (next l w (moment_of m)) a b
 
-run-append : (l : Layout) (Ours : ℕ → Type 0) (Comes : RegisterCall → Type 0) (w : World) (cores : ℕ → State) (a b : List Moment) → CoresRun l Ours Comes w cores a
+run-append : (l : Layout) (Ours : ℕ → Type 0) (Comes : RegisterCall → Type 0) (w : World) (cores : ℕ → CoreView) (a b : List Moment) → CoresRun l Ours Comes w cores a
     → CoresRun l Ours Comes (after_all l w (map moment_of a)) (cores_behind cores a) b → CoresRun l Ours Comes w cores (a ++ b)
 run-append l Ours Comes w cores [] b r s = s
 run-append l Ours Comes w cores (m ∷ a) b r s = (r.0, run-append l Ours Comes (next l w (moment_of m)) (cores_after cores m.happening) a b r.1 s)
 
 -- at its end the world's shards are the cores
-shards-behind : (l : Layout) (Ours : ℕ → Type 0) (w : World) (cores : ℕ → State) (moments : List Moment) → StayShards l Ours w cores moments
+shards-behind : (l : Layout) (Ours : ℕ → Type 0) (w : World) (cores : ℕ → CoreView) (moments : List Moment) → StayShards l Ours w cores moments
     → AreShards Ours (after_all l w (map moment_of moments)) (cores_behind cores moments)
 shards-behind l Ours w cores [] x = x
 shards-behind l Ours w cores (m ∷ moments) x = shards-behind l Ours (next l w (moment_of m)) (cores_after cores m.happening) moments x.1
@@ -73,8 +81,8 @@ module _ (limits : IsShape smallest) (device : Devices) (array : Array) (lawful 
   begins = started small (starting 0) device
 
   -- a run, the world to which it leads, and what stands there
-  record Leads (events : List Event) (core : State) (w : World) : Type 0 where
-    first : State
+  record Leads (events : List Event) (core : CoreView) (w : World) : Type 0 where
+    first : CoreView
     made : IsMade smallest (starting 0) 0 first
     moments : List Moment
     run : CoresRun small (IsThis 0) IsByAnyone begins (λ m. first) moments
@@ -88,7 +96,7 @@ module _ (limits : IsShape smallest) (device : Devices) (array : Array) (lawful 
   later w h = next small w (moment_of (record { happening = h; noise = (happened small w (in_world h)).device }))
 
   -- one more thing happens, and no device changes
-  go_on : (events : List Event) (core : State) (w : World) → (x : Leads events core w) → (h : Happening) (new : State)
+  go_on : (events : List Event) (core : CoreView) (w : World) → (x : Leads events core w) → (h : Happening) (new : CoreView)
       → MayHappen small (IsThis 0) IsByAnyone w (cores_behind (λ m. x.first) x.moments) h
       → cores_after (cores_behind (λ m. x.first) x.moments) h 0 ≡ new
       → ((slot g row : ℕ) → (happened small w (in_world h)).device slot g row ≡ device slot g row)
@@ -103,7 +111,7 @@ module _ (limits : IsShape smallest) (device : Devices) (array : Array) (lawful 
         run = run-append small (IsThis 0) IsByAnyone begins (λ m. x.first) x.moments (m ∷ []) x.run
             (subst (λ (y : World). MayHappen small (IsThis 0) IsByAnyone y cores h) (sym x.world_is) may, record {});
         events_are = events-append x.moments (m ∷ []) ∙ ap (λ y. y ++ (events_in h ++ [])) x.events_are ∙ ap (λ y. events ++ y) (none-behind (events_in h));
-        core_is = ap (λ (y : ℕ → State). y 0) (cores-append (λ m. x.first) x.moments (m ∷ [])) ∙ becomes;
+        core_is = ap (λ (y : ℕ → CoreView). y 0) (cores-append (λ m. x.first) x.moments (m ∷ [])) ∙ becomes;
         world_is = world-append small begins x.moments (m ∷ []) ∙ ap (λ (y : World). next small y (moment_of m)) x.world_is;
         device_is = λ slot g row. both _ _ ∙ calm slot g row;
       }
@@ -113,25 +121,25 @@ module _ (limits : IsShape smallest) (device : Devices) (array : Array) (lawful 
       none-behind (e ∷ es) = ap (λ y. e ∷ y) (none-behind es)
 
   -- a call of the core
-  calls : (events : List Event) (core : State) (w : World) → Leads events core w → (event : Event) (new : State) → MayCome w 0 event → Step core event new
+  calls : (events : List Event) (core : CoreView) (w : World) → Leads events core w → (event : Event) (new : CoreView) → MayCome w 0 event → Step core event new
       → Leads (events ++ event ∷ []) new (later w (Call 0 event new))
   calls events core w x event new comes step =
-      go_on events core w x (Call 0 event new) new (refl, comes, subst (λ (y : State). Step y event new) (sym x.core_is) step) refl x.device_is
+      go_on events core w x (Call 0 event new) new (refl, comes, subst (λ (y : CoreView). Step y event new) (sym x.core_is) step) refl x.device_is
 
   -- the world's shard is the core
-  shard-is : (events : List Event) (core : State) (w : World) → (x : Leads events core w) → w.shard 0 ≡ state_of core
+  shard-is : (events : List Event) (core : CoreView) (w : World) → (x : Leads events core w) → w.shard 0 ≡ world_shard core
   shard-is events core w x =
       let stays = (runs_of_one_core smallest limits 0 (omega arith) (starting 0) device (λ m. x.first) (made-of x.first x.made) x.moments x.run).1 in
       ap (λ (y : World). y.shard 0) (sym x.world_is)
       ∙ shards-behind small (IsThis 0) begins (λ m. x.first) x.moments stays 0 refl
-      ∙ ap state_of x.core_is
+      ∙ ap world_shard x.core_is
     where
-      made-of : (first : State) → IsMade smallest (starting 0) 0 first → (n : ℕ) → n ≡ 0 → IsMade smallest (starting 0) n first
+      made-of : (first : CoreView) → IsMade smallest (starting 0) 0 first → (n : ℕ) → n ≡ 0 → IsMade smallest (starting 0) n first
       made-of first made n same = subst (λ k. IsMade smallest (starting 0) k first) (sym same) made
 
   -- a command that is there to be taken was not performed
-  fresh : (events : List Event) (core : State) (w : World) → (x : Leads events core w) → (token : ℕ) (c : Command)
-      → (state_of core).command token ≡ Some c → c.taken ≡ false → w.performed 0 token ≡ None
+  fresh : (events : List Event) (core : CoreView) (w : World) → (x : Leads events core w) → (token : ℕ) (c : Command)
+      → (world_shard core).command token ≡ Some c → c.taken ≡ false → w.performed 0 token ≡ None
   fresh events core w x token c there untaken =
       let made : (n : ℕ) → n ≡ 0 → IsMade smallest (starting 0) n x.first = (λ n same. subst (λ k. IsMade smallest (starting 0) k x.first) (sym same) x.made) in
       let as_world = (runs_of_one_core smallest limits 0 (omega arith) (starting 0) device (λ m. x.first) made x.moments x.run).0 in
@@ -142,7 +150,7 @@ module _ (limits : IsShape smallest) (device : Devices) (array : Array) (lawful 
       untaken)
 
   -- a command is answered by an error
-  fails : (events : List Event) (core : State) (w : World) → Leads events core w → (new : State) → (f : Fails core new)
+  fails : (events : List Event) (core : CoreView) (w : World) → Leads events core w → (new : CoreView) → (f : Fails core new)
       → (w' : World) × (w'.register ≡ w.register) × Leads (events ++ Take_command f.token f.command ∷ Deliver f.token Error Taken ∷ []) new w'
   fails events core w x new f =
       let taken = calls events core w x (Take_command f.token f.command) f.middle (record {}) f.taken in
@@ -165,7 +173,7 @@ module _ (limits : IsShape smallest) (device : Devices) (array : Array) (lawful 
       subst (λ o. IsBrought o gave block) (sym flies) (subst (λ y. worlds.Brings y gave block) (sym is) same)
 
   -- a read is performed, and answered with what stands on its slot
-  reads : (events : List Event) (core : State) (w : World) → Leads events core w → (slot : ℕ) (block : Block) (new : State) → device slot 0 0 ≡ block → (r : Reads slot block core new)
+  reads : (events : List Event) (core : CoreView) (w : World) → Leads events core w → (slot : ℕ) (block : Block) (new : CoreView) → device slot 0 0 ≡ block → (r : Reads slot block core new)
       → (w' : World) × (w'.register ≡ w.register) × Leads (events ++ Take_command r.token r.command ∷ Deliver r.token (Good block) Taken ∷ []) new w'
   reads events core w x slot block new stands r =
       let t = r.token in
@@ -174,7 +182,7 @@ module _ (limits : IsShape smallest) (device : Devices) (array : Array) (lawful 
       let w1 = later w (Call 0 (Take_command t c) r.middle) in
       let flies : w1.flight 0 t ≡ Some c = put-same (w.flight 0) t (Some c) t refl in
       let out : (w1.shard 0).command t ≢ None =
-      (λ none. None-not_Some _ (sym none ∙ ap (λ (s : Shard). s.command t) r.taken.1.1 ∙ put-same (state_of core).command t _ t refl)) in
+      (λ none. None-not_Some _ (sym none ∙ ap (λ (s : Shard). s.command t) r.taken.1.1 ∙ put-same (world_shard core).command t _ t refl)) in
       let before : w1.performed 0 t ≡ None = fresh events core w x t c r.taken.1.0.0 r.taken.1.0.1 in
       let calm : (slot g row : ℕ) → performed_on w1.device c c.transfer slot g row ≡ device slot g row =
       (λ slot g row. ap (λ (y : Devices). y slot g row) (unchanged c c.transfer r.is_read w1.device) ∙ taken.device_is slot g row) in
@@ -192,7 +200,7 @@ module _ (limits : IsShape smallest) (device : Devices) (array : Array) (lawful 
       )
 
   -- the loss of slot 1 is declared at the register
-  declares : (events : List Event) (core : State) (w : World) → Leads events core w → w.register ≡ starting 0 → (new : State) → (d : Declares core new)
+  declares : (events : List Event) (core : CoreView) (w : World) → Leads events core w → w.register ≡ starting 0 → (new : CoreView) → (d : Declares core new)
       → (w' : World) × (w'.register ≡ without (starting 0) 1) × Leads (events ++ Take_call (LossOf 1 0) ∷ steps.Told (LossOf 1 0) (Ok Degraded) ∷ []) new w'
   declares events core w x now new d =
       let h = Tell 0 (LossOf 1 0) (Ok Degraded) d.middle new in (
@@ -201,7 +209,7 @@ module _ (limits : IsShape smallest) (device : Devices) (array : Array) (lawful 
         go_on events core w x h new (
           refl,
           inl (answered ∙ ap (λ (y : Snapshot). answer_to small y (DeclareLost 1 0)) (sym now)),
-          subst (λ (y : State). Step y (Take_call (LossOf 1 0)) d.middle) (sym x.core_is) d.taken,
+          subst (λ (y : CoreView). Step y (Take_call (LossOf 1 0)) d.middle) (sym x.core_is) d.taken,
           d.told,
         ) refl x.device_is,
       )
@@ -210,7 +218,7 @@ module _ (limits : IsShape smallest) (device : Devices) (array : Array) (lawful 
       answered = refl
 
   -- all of them, one behind the other
-  pub loss : (c0 c1 c2 c3 c4 c5 c6 c7 : State) (other parity block : Block) → device 2 0 0 ≡ other → device 3 0 0 ≡ parity → IsMade smallest (starting 0) 0 c0
+  pub loss : (c0 c1 c2 c3 c4 c5 c6 c7 : CoreView) (other parity block : Block) → device 2 0 0 ≡ other → device 3 0 0 ≡ parity → IsMade smallest (starting 0) 0 c0
       → Step c0 (Submit (Read 0) 0) c1 → (f : Fails c1 c2) → Declares c2 c3 → (second : Reads 2 other c3 c4) → (third : Reads 3 parity c4 c5)
       → Step c5 (Look (without (starting 0) 1)) c6 → Step c6 (Take_reply 0 (Data block)) c7
       → HasRun smallest 0 (starting 0) device
@@ -243,11 +251,11 @@ module _ (limits : IsShape smallest) (device : Devices) (array : Array) (lawful 
       }
 
 -- a core that was made for the smallest array with no slot lost
-pub made_smallest : (shape : Shape) (r : Snapshot) (core : State) → shape ≡ smallest → r ≡ starting 0 → IsMade shape r 0 core → IsMade smallest (starting 0) 0 core
+pub made_smallest : (shape : Shape) (r : Snapshot) (core : CoreView) → shape ≡ smallest → r ≡ starting 0 → IsMade shape r 0 core → IsMade smallest (starting 0) 0 core
 made_smallest shape r core is start made =
     subst (λ (y : Snapshot). IsMade smallest y 0 core) start (subst (λ (x : Shape). IsMade x r 0 core) is made)
 
-pub through_loss : IsShape smallest → (c0 c1 c2 c3 c4 c5 c6 c7 : State) (other parity block : Block) → IsMade smallest (starting 0) 0 c0
+pub through_loss : IsShape smallest → (c0 c1 c2 c3 c4 c5 c6 c7 : CoreView) (other parity block : Block) → IsMade smallest (starting 0) 0 c0
     → Step c0 (Submit (Read 0) 0) c1 → Fails c1 c2 → Declares c2 c3 → Reads 2 other c3 c4 → Reads 3 parity c4 c5
     → Step c5 (Look (without (starting 0) 1)) c6 → Step c6 (Take_reply 0 (Data block)) c7 → RunsThroughLoss other parity block c7
 through_loss limits c0 c1 c2 c3 c4 c5 c6 c7 other parity block made submitted f declared second third looked replied device array lawful on2 on3 = (

@@ -3,6 +3,7 @@ pub mod Adopting
 pub mod Answering
 pub mod AtRest
 pub mod CallRoom
+pub mod Callers
 pub mod Commands
 pub mod Completing
 pub mod Delivering

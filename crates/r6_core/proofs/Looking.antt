@@ -14,12 +14,12 @@ use Rattle.r6_frames.specs.Sound as held
 use Rattle.r6_frames.specs.Views.{AreLive}
 use Rattle.r6_frames.specs.Slots.{states_of}
 use Rattle.r6_core.specs.declared.state.State.{State}
-use Rattle.r6_core.specs.Shards.{Step, SameFrames, layout_in, state_of, call_of}
-use Rattle.r6_core.specs.Refusals.{AllTold}
+use Rattle.r6_core.specs.Shards.{Step, layout_in, state_of, call_of, core_of}
 use Rattle.r6_core.specs.Order.{SameReplies, Agrees, Finishes, IsRising, ReleasesAll, InTurn, HaveTurns, HaveTurnsAfter}
-use Rattle.r6_core.specs.Inside.{IsCore, NoneCanStart}
+use Rattle.r6_core.specs.Inside.{SameFrames, NoCalls, IsCore, NoneCanStart, Seen}
 use Rattle.r6_core.proofs.AtRest.{at_rest}
 use Rattle.r6_core.proofs.Releasing.{released_nothing}
+use Rattle.r6_core.proofs.Scanned.{all_wait, turns_in}
 use Rattle.r6_core.proofs.Throughs.{through_in, through_none}
 
 rest_in : (g g' : Shape) (n n' : ℕ) (s : Shard) → g' ≡ g → n' ≡ n → AtRest (layout_of g') n' s → AtRest (layout_of g) n s
@@ -64,28 +64,28 @@ rest_failed l n s failed =
 -- ---- the slots as the look has them
 
 pub record TookOver (s mid : State) (seen : Snapshot) : Type 0 where
-  pub told : AllTold s
+  pub told : NoCalls s
   pub takes : Through (layout_in s) s.frames.shard (TakesOver seen) (state_of s) (state_of mid)
   pub slots : (slot : ℕ) → slot < s.frames.geometry.slots → states_of mid.frames.slots slot ≡ adopted (states_of s.frames.slots slot) (status_of seen slot)
   pub same : SameFrames s mid
-  pub order : SameReplies s mid
+  pub order : Seen SameReplies s mid
   pub waiting : mid.waiting ≡ s.waiting
 
 step_from : (s mid new : State) (seen : Snapshot) → TookOver s mid seen → SameFrames s new → Looks (layout_in s) s.frames.shard seen.failed (state_of mid) (state_of new)
-    → AtRest (layout_in s) s.frames.shard (state_of new) → Step s (Look seen) new
+    → AtRest (layout_in s) s.frames.shard (state_of new) → Step (core_of s) (Look seen) (core_of new)
 step_from s mid new seen took same looks rest =
     (same, (ap (map call_of) took.told.0, ap (option_map call_of) took.told.1, state_of mid, took.takes, took.slots, looks, rest))
 
 -- the array has failed
 pub looked_failed : (s mid new : State) (seen : Snapshot) → TookOver s mid seen → seen.failed ≡ true → SameFrames mid new → state_of new ≡ after (layout_in mid) (state_of mid) See_failed
-    → Step s (Look seen) new
+    → Step (core_of s) (Look seen) (core_of new)
 looked_failed s mid new seen took failed same fails =
     step_from s mid new seen took (same.0 ∙ took.same.0, same.1 ∙ took.same.1)
     (subst (λ b. Looks (layout_in s) s.frames.shard b (state_of mid) (state_of new)) (sym failed) fails)
     (rest_failed (layout_in s) s.frames.shard (state_of new) (ap (λ (x : Shard). x.saw_failed) fails))
 
 -- it has failed before
-pub looked_stopped : (s mid : State) (seen : Snapshot) → TookOver s mid seen → seen.failed ≡ false → mid.frames.saw_failed ≡ true → Step s (Look seen) mid
+pub looked_stopped : (s mid : State) (seen : Snapshot) → TookOver s mid seen → seen.failed ≡ false → mid.frames.saw_failed ≡ true → Step (core_of s) (Look seen) (core_of mid)
 looked_stopped s mid seen took unfailed failed =
     let looks : Looks (layout_in s) s.frames.shard false (state_of mid) (state_of mid) =
     (state_of mid, ([], refl), through_none (layout_in s) s.frames.shard Scans (after (layout_in s) (state_of mid) Release) (state_of mid) (released_nothing mid failed)) in
@@ -101,15 +101,15 @@ pub record HasSettled (s mid new : State) (seen : Snapshot) : Type 0 where
   pub same : SameFrames mid new
   pub more : List Request
   pub rising : IsRising more
-  pub none : Agrees s seen → more ≡ []
+  pub none : Agrees (core_of s) seen → more ≡ []
   pub finished : new.finished.items ≡ mid.finished.items ++ more
-  pub released : new.released ≡ mid.released
+  pub released : new.released.items ≡ mid.released.items
   pub unanswered : new.unanswered ≡ mid.unanswered
   pub waiting : new.waiting ≡ mid.waiting
-  pub frames : Agrees s seen → new.frames ≡ s.frames
+  pub stays : Agrees (core_of s) seen → state_of new ≡ state_of s
 
-pub settled_some : (s mid new : State) (seen : Snapshot) → (Agrees s seen → ⊥) → IsCore new → Through (layout_in mid) mid.frames.shard GoesOn (state_of mid) (state_of new) → SameFrames mid new
-    → Finishes mid new → new.unanswered ≡ mid.unanswered → new.waiting ≡ mid.waiting → HasSettled s mid new seen
+pub settled_some : (s mid new : State) (seen : Snapshot) → (Agrees (core_of s) seen → ⊥) → IsCore new → Through (layout_in mid) mid.frames.shard GoesOn (state_of mid) (state_of new) → SameFrames mid new
+    → Seen Finishes mid new → new.unanswered ≡ mid.unanswered → new.waiting ≡ mid.waiting → HasSettled s mid new seen
 settled_some s mid new seen other core leads same finishes unanswered waiting =
     record {
       core = core;
@@ -122,7 +122,7 @@ settled_some s mid new seen other core leads same finishes unanswered waiting =
       released = finishes.3;
       unanswered = unanswered;
       waiting = waiting;
-      frames = λ agrees. absurd (other agrees);
+      stays = λ agrees. absurd (other agrees);
     }
 
 pub settled_none : (s mid : State) (seen : Snapshot) → mid ≡ s → IsCore s → HasSettled s mid mid seen
@@ -138,7 +138,7 @@ settled_none s mid seen same core =
       released = refl;
       unanswered = refl;
       waiting = refl;
-      frames = λ agrees. ap (λ (x : State). x.frames) same;
+      stays = λ agrees. ap state_of same;
     }
 
 -- what is finished was released, and what can start has started
@@ -151,7 +151,7 @@ pub record HasReleased (mid settled released new : State) : Type 0 where
   pub rested : NoneCanStart new
 
 pub looked : (s mid settled released new : State) (seen : Snapshot) → TookOver s mid seen → seen.failed ≡ false → HasSettled s mid settled seen → HasReleased mid settled released new
-    → Step s (Look seen) new
+    → Step (core_of s) (Look seen) (core_of new)
 looked s mid settled released new seen took unfailed done has =
     let shape = ap (λ (fs : Frames). fs.geometry) has.frames ∙ done.same.0 ∙ took.same.0 in
     let shard = ap (λ (fs : Frames). fs.shard) has.frames ∙ done.same.1 ∙ took.same.1 in
@@ -163,36 +163,43 @@ looked s mid settled released new seen took unfailed done has =
     (subst (λ b. Looks (layout_in s) s.frames.shard b (state_of mid) (state_of new)) (sym unfailed) looks)
     (rest_in s.frames.geometry new.frames.geometry s.frames.shard new.frames.shard (state_of new) (has.same.0 ∙ shape) (has.same.1 ∙ shard) (at_rest new has.core has.rested))
 
-pub looked_releases : (s mid settled released new : State) (seen : Snapshot) → SameReplies s mid → HasSettled s mid settled seen
-    → (released.released.items ≡ settled.released.items ++ settled.finished.items) × (released.finished.items ≡ []) → SameReplies released new → ReleasesAll s seen new
+pub looked_releases : (s mid settled released new : State) (seen : Snapshot) → Seen SameReplies s mid → HasSettled s mid settled seen
+    → (released.released.items ≡ settled.released.items ++ settled.finished.items) × (released.finished.items ≡ []) → Seen SameReplies released new
+    → ReleasesAll (core_of s) seen (core_of new)
 looked_releases s mid settled released new seen same done order kept = (
   done.more,
   done.rising,
   done.none,
-  ap (λ b. b.items) kept.1
-      ∙ order.0
-      ∙ (λ i. ((done.released ∙ same.1) i).items ++ (done.finished ∙ ap (λ b. b.items ++ done.more) same.0) i),
-  ap (λ b. b.items) kept.0 ∙ order.1,
+  kept.1 ∙ order.0 ∙ (λ i. (done.released ∙ same.1) i ++ (done.finished ∙ ap (λ rs. rs ++ done.more) same.0) i),
+  kept.0 ∙ order.1,
 )
 
-pub looked_turns : (s mid settled released new : State) (seen : Snapshot) → mid.waiting ≡ s.waiting → HasSettled s mid settled seen → released.frames ≡ settled.frames → released.waiting ≡ settled.waiting
-    → held.IsSound released.frames → HaveTurns released.frames released.waiting.items new → HaveTurnsAfter s seen new
-looked_turns s mid settled released new seen same done frames waiting sound turns = λ unfailed. (
-  settled.frames,
-  done.frames,
-  subst (λ (fs : Frames). held.IsSound fs) frames sound,
-  subst (λ rs. HaveTurns settled.frames rs new) (ap (λ b. b.items) (waiting ∙ done.waiting ∙ same)) (subst (λ fs. HaveTurns fs released.waiting.items new) frames turns),
-)
+pub looked_turns : (s mid settled released new : State) (seen : Snapshot) → TookOver s mid seen → HasSettled s mid settled seen → HasReleased mid settled released new
+    → released.waiting ≡ settled.waiting → HaveTurns (core_of released) (state_of released) released.waiting.items (core_of new)
+    → HaveTurnsAfter (core_of s) seen (core_of new)
+looked_turns s mid settled released new seen took done has waiting turns = λ unfailed.
+    let shape = done.same.0 ∙ took.same.0 in
+    let shard = done.same.1 ∙ took.same.1 in
+    let own = turns_in s.frames.geometry released.frames.geometry s.frames.shard released.frames.shard (state_of released) (state_of new) released.waiting.items new.waiting.items
+    (ap (λ (fs : Frames). fs.geometry) has.frames ∙ shape) (ap (λ (fs : Frames). fs.shard) has.frames ∙ shard) turns in
+    let from = subst (λ x. HaveTurns (core_of s) x released.waiting.items (core_of new)) (has.is ∙ ap (λ g. after (layout_of g) (state_of settled) Release) shape) own in (
+      state_of mid,
+      took.takes,
+      state_of settled,
+      through_in s.frames.geometry mid.frames.geometry s.frames.shard mid.frames.shard GoesOn (state_of mid) (state_of settled) took.same.0 took.same.1 done.leads,
+      done.stays,
+      subst (λ rs. HaveTurns (core_of s) (after (layout_in s) (state_of settled) Release) rs (core_of new)) (ap (λ b. b.items) (waiting ∙ done.waiting ∙ took.waiting)) from,
+    )
 
--- in a shard that has stopped none starts
-none_turn : (fs : Frames) → (AreLive fs → ⊥) → (requests : List Request) → InTurn fs requests fs requests
-none_turn fs stopped [] = (refl, refl)
-none_turn fs stopped (request ∷ requests) = inr (λ live. absurd (stopped live), requests, refl, none_turn fs stopped requests)
-
-pub stopped_turns : (s mid : State) (seen : Snapshot) → mid.waiting ≡ s.waiting → mid.frames.saw_failed ≡ true → (Agrees s seen → mid.frames ≡ s.frames) → held.IsSound mid.frames → HaveTurnsAfter s seen mid
-stopped_turns s mid seen waiting failed frames sound = λ unfailed. (
-  mid.frames,
-  frames,
-  sound,
-  subst (λ rs. HaveTurns mid.frames rs mid) (ap (λ b. b.items) waiting) (none_turn mid.frames (λ live. let not = live.1 in absurd (cc)) mid.waiting.items),
+pub stopped_turns : (s mid : State) (seen : Snapshot) → TookOver s mid seen → mid.frames.saw_failed ≡ true → (Agrees (core_of s) seen → state_of mid ≡ state_of s)
+    → HaveTurnsAfter (core_of s) seen (core_of mid)
+stopped_turns s mid seen took failed stays = λ unfailed. (
+  state_of mid,
+  took.takes,
+  state_of mid,
+  ([], refl),
+  stays,
+  subst (λ x. HaveTurns (core_of s) x s.waiting.items (core_of mid)) (released_nothing mid failed)
+      (subst (λ rs. InTurn (layout_in s) s.frames.shard (state_of mid) rs (state_of mid) mid.waiting.items) (ap (λ b. b.items) took.waiting)
+      (all_wait (layout_in s) s.frames.shard (state_of mid) mid.waiting.items (λ live. let not = live.1 in absurd (cc)))),
 )

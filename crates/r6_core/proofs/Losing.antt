@@ -32,10 +32,9 @@ use Rattle.r6_core.specs.declared.call.Call.{Call}
 use Rattle.r6_core.specs.declared.call.Call.TheVariants as call
 use Rattle.r6_core.specs.declared.state.State.{State}
 use Rattle.r6_core.specs.Shards.{call_of, state_of, rest_of, layout_in}
-use Rattle.r6_core.specs.Inside.{IsSound}
+use Rattle.r6_core.specs.Inside.{IsSound, TakesThrough}
 use Rattle.r6_core.proofs.Going.{no_rest, Goes, gone_on, gone_state}
 use Rattle.r6_core.proofs.Throughs.{through_in}
-use Rattle.r6_core.proofs.Answering.{TakesThrough}
 
 -- ---- counts
 

@@ -17,7 +17,7 @@ use Rattle.r6_frames.specs.declared.op.Op.{Op as Entered}
 use Rattle.r6_frames.specs.declared.op.Op.TheVariants as op
 use Rattle.r6_core.specs.declared.reply.Reply.TheVariants as back
 use Rattle.r6_frames.specs.Views.{op_of, buffer_of, held_requests, requests_from}
-use Rattle.r6_core.specs.Shards.{Step, reply_of, answer_of, state_of, requests_of, waiting_request, finished_request, released_request}
+use Rattle.r6_core.specs.Shards.{Step, reply_of, answer_of, state_of, requests_of, waiting_request, finished_request, released_request, core_of}
 use Rattle.r6_core.specs.Order.{HasNoReply, BringsBack, reply_to}
 use Rattle.r6_core.specs.Inside.{IsSound, IsCore}
 use Rattle.r6_frames.proofs.Lists.{Entries, table, gone, own, apart, all_parts, distinct_without, looked_up}
@@ -67,7 +67,7 @@ held_unreleased frame (uses.Free ∷ held) = held_unreleased (frame + 1) held
 held_unreleased frame (uses.Held h ∷ held) = (tt, held_unreleased (frame + 1) held)
 held_unreleased frame (uses.Returning r ∷ held) = held_unreleased (frame + 1) held
 
-none_released : (s : State) → HasNoReply s → (id : ℕ) (op : Op) (reply : Reply) → table (requests_of s) id ≢ Some (record { op = op; stage = Released reply })
+none_released : (s : State) → HasNoReply (core_of s) → (id : ℕ) (op : Op) (reply : Reply) → table (requests_of s) id ≢ Some (record { op = op; stage = Released reply })
 none_released s empty id op reply is =
     let P = λ (r : shards.Request). IsUnreleased r.stage in
     let all : AllUnreleased (before_released s) =
@@ -77,7 +77,7 @@ none_released s empty id op reply is =
     looked_up P id (before_released s) _ all (ap (λ xs. table xs id) (sym es) ∙ is)
 
 -- no reply is ready
-pub no_reply : (s : State) → HasNoReply s → Step s No_reply s
+pub no_reply : (s : State) → HasNoReply (core_of s) → Step (core_of s) No_reply (core_of s)
 no_reply s none = ((refl, refl), (none_released s none, refl))
 
 -- a buffer from which nothing was popped
@@ -117,7 +117,7 @@ pub reply_request : (s : State) (r : Request) (rest : Buffer Request) → IsSoun
 reply_request s r rest sound is = (is_taken s r rest sound.requests.distinct is).was
 
 pub reply_step : (s : State) (r : Request) (rest : Buffer Request) → IsSound s → s.released.items ≡ r ∷ rest.items
-    → Step s (Take_reply r.id (answer_of r.op)) (without_first s rest)
+    → Step (core_of s) (Take_reply r.id (answer_of r.op)) (core_of (without_first s rest))
 reply_step s r rest sound is =
     let taken = is_taken s r rest sound.requests.distinct is in
     ((refl, refl), (op_of r.op, taken.was, ap (λ requests. record (state_of s) { request = requests }) taken.now))
@@ -200,13 +200,10 @@ module _ (s : State) (r : Request) (rest : Buffer Request) (failed : s.frames.sa
   pub failed_request : IsSound s → table (requests_of s) r.id ≡ Some (failed_stage (op_of r.op))
   failed_request sound = (is_failed s r rest sound.requests.distinct failed none is).was
 
-  pub failed_step : IsSound s → Step s (Take_reply r.id ArrayFailed) (without_failed s rest)
+  pub failed_step : IsSound s → Step (core_of s) (Take_reply r.id ArrayFailed) (core_of (without_failed s rest))
   failed_step sound =
       let taken = is_failed s r rest sound.requests.distinct failed none is in
       ((refl, refl), (op_of r.op, taken.was, ap (λ requests. record (state_of s) { request = requests }) taken.now))
-
-  pub failed_counted : IsSound s → 0 < s.unanswered
-  failed_counted sound = let one = (is_failed s r rest sound.requests.distinct failed none is).count in omega (arith, one, sound.requests.counted)
 
   pub failed_core : IsCore s → rest.capacity ≡ s.finished.capacity → IsCore (without_failed s rest)
   failed_core core capacity =
@@ -246,4 +243,7 @@ brings_answer r (op.Read block buffer) stage is = subst (λ (x : Option shards.R
 brings_answer r (op.Write block buffer) stage is = subst (λ (x : Option shards.Request). BringsBack x (reply_to (op.Write block buffer))) (sym is) (block, refl)
 
 pub brings_failure : (r : Option shards.Request) (o : Entered) (stage : Stage) → r ≡ Some (record { op = op_of o; stage = stage }) → BringsBack r (back.ArrayFailed (buffer_of o))
-brings_failure r o stage is = subst (λ (x : Option shards.Request). BringsBack x (back.ArrayFailed (buffer_of o))) (sym is) tt
+brings_failure r (op.Read block buffer) stage is =
+    subst (λ (x : Option shards.Request). BringsBack x (back.ArrayFailed buffer)) (sym is) (λ other new_data e. absurd (cc))
+brings_failure r (op.Write block buffer) stage is =
+    subst (λ (x : Option shards.Request). BringsBack x (back.ArrayFailed buffer)) (sym is) (λ other new_data e. let same : buffer ≡ new_data = cc in same)

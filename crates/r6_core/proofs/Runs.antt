@@ -15,64 +15,64 @@ use Rattle.r6_world.specs.Worlds.{World, Devices, Possible, Run, next, started}
 use Rattle.r6_world.specs.Laws.{IsOfOutside, IsByAnyone, IsOfShard, AreOfShard, OfEveryRun, ShardLaw}
 use Rattle.r6_world.specs.Sequential.{SequentialLaw}
 use Rattle.r6_world.proofs.Tables.{put-same, put-other}
-use Rattle.r6_core.specs.declared.state.State.{State}
-use Rattle.r6_core.specs.Shards.{Step, state_of}
-use Rattle.r6_core.specs.Runs.{Happening, Call, Perform, Tell, Outside, Moment, in_world, moment_of, cores_after, MayHappen, CoresRun, IsMade, StayShards, AreRuns, IsShard, IsThis, RunsOfCores, RunsOfOneCore, OfEveryRunOfCores, ShardOfCores, SequentialOfCores}
+use Rattle.r6_core.specs.Shards.{CoreView, Step, world_shard}
+use Rattle.r6_core.specs.Effects.{IsMade}
+use Rattle.r6_core.specs.Runs.{Happening, Call, Perform, Tell, Outside, Moment, in_world, moment_of, cores_after, MayHappen, CoresRun, StayShards, AreRuns, IsShard, IsThis, RunsOfCores, RunsOfOneCore, OfEveryRunOfCores, ShardOfCores, SequentialOfCores}
 
 -- the core is of this shard of the array, and is what the world has as the shard
-record Is (shape : Shape) (n : ℕ) (shard : Shard) (core : State) : Type 0 where
-  geometry : core.frames.geometry ≡ shape
-  number : core.frames.shard ≡ n
-  same : shard ≡ state_of core
+record Is (shape : Shape) (n : ℕ) (shard : Shard) (core : CoreView) : Type 0 where
+  geometry : core.shape ≡ shape
+  number : core.shard ≡ n
+  same : shard ≡ world_shard core
 
-stepped : (shape : Shape) (n : ℕ) (shard : Shard) (core : State) (event : Event) (new : State) → Is shape n shard core → Step core event new
-    → steps.Step (layout_of shape) n shard event (state_of new)
+stepped : (shape : Shape) (n : ℕ) (shard : Shard) (core : CoreView) (event : Event) (new : CoreView) → Is shape n shard core → Step core event new
+    → steps.Step (layout_of shape) n shard event (world_shard new)
 stepped shape n shard core event new is step =
-    let of_shape = subst (λ (x : Shape). steps.Step (layout_of x) core.frames.shard (state_of core) event (state_of new)) is.geometry step.1 in
-    let of_shard = subst (λ (x : ℕ). steps.Step (layout_of shape) x (state_of core) event (state_of new)) is.number of_shape in
-    subst (λ (x : Shard). steps.Step (layout_of shape) n x event (state_of new)) (sym is.same) of_shard
+    let of_shape = subst (λ (x : Shape). steps.Step (layout_of x) core.shard (world_shard core) event (world_shard new)) is.geometry step.1 in
+    let of_shard = subst (λ (x : ℕ). steps.Step (layout_of shape) x (world_shard core) event (world_shard new)) is.number of_shape in
+    subst (λ (x : Shard). steps.Step (layout_of shape) n x event (world_shard new)) (sym is.same) of_shard
 
 -- whatever happens
-are_put : (shape : Shape) (shard : ℕ → Shard) (cores : ℕ → State) (k : ℕ) (new : State) → new.frames.geometry ≡ shape → new.frames.shard ≡ k
-    → (n : ℕ) → Is shape n (shard n) (cores n) → Is shape n (put shard k (state_of new) n) (put cores k new n)
+are_put : (shape : Shape) (shard : ℕ → Shard) (cores : ℕ → CoreView) (k : ℕ) (new : CoreView) → new.shape ≡ shape → new.shard ≡ k
+    → (n : ℕ) → Is shape n (shard n) (cores n) → Is shape n (put shard k (world_shard new) n) (put cores k new n)
 are_put shape shard cores k new geometry number n is =
     elim (cases_eq n k) [
       | inl here ↦
           let core : put cores k new n ≡ new = put-same cores k new n here in
           record {
-            geometry = ap (λ (s : State). s.frames.geometry) core ∙ geometry;
-            number = ap (λ (s : State). s.frames.shard) core ∙ (number ∙ sym here);
-            same = put-same shard k (state_of new) n here ∙ sym (ap state_of core);
+            geometry = ap (λ (s : CoreView). s.shape) core ∙ geometry;
+            number = ap (λ (s : CoreView). s.shard) core ∙ (number ∙ sym here);
+            same = put-same shard k (world_shard new) n here ∙ sym (ap world_shard core);
           }
       | inr elsewhere ↦
           let core : put cores k new n ≡ cores n = put-other cores k new n elsewhere in
           record {
-            geometry = ap (λ (s : State). s.frames.geometry) core ∙ is.geometry;
-            number = ap (λ (s : State). s.frames.shard) core ∙ is.number;
-            same = put-other shard k (state_of new) n elsewhere ∙ (is.same ∙ sym (ap state_of core));
+            geometry = ap (λ (s : CoreView). s.shape) core ∙ is.geometry;
+            number = ap (λ (s : CoreView). s.shard) core ∙ is.number;
+            same = put-other shard k (world_shard new) n elsewhere ∙ (is.same ∙ sym (ap world_shard core));
           }
     ]
 
 module _ (shape : Shape) (Ours : ℕ → Type 0) (Comes : RegisterCall → Type 0) (below : (n : ℕ) → Ours n → n < shape.shards) where
-  abbrev Are : World → (ℕ → State) → Type 0
+  abbrev Are : World → (ℕ → CoreView) → Type 0
   Are w cores = (n : ℕ) → Ours n → Is shape n (w.shard n) (cores n)
 
-  possible : (w : World) (cores : ℕ → State) → Are w cores → (h : Happening) → MayHappen (layout_of shape) Ours Comes w cores h
+  possible : (w : World) (cores : ℕ → CoreView) → Are w cores → (h : Happening) → MayHappen (layout_of shape) Ours Comes w cores h
       → Possible (layout_of shape) Comes w (in_world h)
   possible w cores are (Call n event new) may = (below n may.0, may.1, stepped shape n (w.shard n) (cores n) event new (are n may.0) may.2)
   possible w cores are (Perform n token c) may = may.1
   possible w cores are (Tell n call answer middle new) may =
       let is = are n may.0 in
       let taken = may.2 in
-      let mid : Is shape n (state_of middle) middle = record { geometry = taken.0.0 ∙ is.geometry; number = taken.0.1 ∙ is.number; same = refl } in (
+      let mid : Is shape n (world_shard middle) middle = record { geometry = taken.0.0 ∙ is.geometry; number = taken.0.1 ∙ is.number; same = refl } in (
         below n may.0,
         may.1,
         stepped shape n (w.shard n) (cores n) (Take_call call) middle is taken,
-        stepped shape n (state_of middle) middle (steps.Told call answer) new mid may.3,
+        stepped shape n (world_shard middle) middle (steps.Told call answer) new mid may.3,
       )
   possible w cores are (Outside call) may = may
 
-  still : (w : World) (cores : ℕ → State) → Are w cores → (h : Happening) (noise : Devices) → MayHappen (layout_of shape) Ours Comes w cores h
+  still : (w : World) (cores : ℕ → CoreView) → Are w cores → (h : Happening) (noise : Devices) → MayHappen (layout_of shape) Ours Comes w cores h
       → Are (next (layout_of shape) w (moment_of (record { happening = h; noise = noise }))) (cores_after cores h)
   still w cores are (Call k event new) noise may n ours =
       let is = are k may.0 in
@@ -86,7 +86,7 @@ module _ (shape : Shape) (Ours : ℕ → Type 0) (Comes : RegisterCall → Type 
       are_put shape w.shard cores k new (second.0 ∙ first.0 ∙ is.geometry) (second.1 ∙ first.1 ∙ is.number) n (are n ours)
   still w cores are (Outside call) noise may n ours = are n ours
 
-  runs : (w : World) (cores : ℕ → State) → Are w cores → (moments : List Moment) → CoresRun (layout_of shape) Ours Comes w cores moments
+  runs : (w : World) (cores : ℕ → CoreView) → Are w cores → (moments : List Moment) → CoresRun (layout_of shape) Ours Comes w cores moments
       → Run (layout_of shape) Comes w (map moment_of moments) × StayShards (layout_of shape) Ours w cores moments
   runs w cores are [] run = (run, λ n ours. (are n ours).same)
   runs w cores are (m ∷ moments) run =
@@ -95,7 +95,7 @@ module _ (shape : Shape) (Ours : ℕ → Type 0) (Comes : RegisterCall → Type 
 
   pub are_runs : AreRuns shape Ours Comes
   are_runs r device cores made moments run =
-      runs (started (layout_of shape) r device) cores (λ n ours. let is = made n ours in record { geometry = is.0; number = is.1; same = sym is.2 }) moments run
+      runs (started (layout_of shape) r device) cores (λ n ours. let is = made n ours in record { geometry = is.geometry; number = is.number; same = sym is.start }) moments run
 
 pub runs_of_cores : RunsOfCores
 runs_of_cores shape limits = are_runs shape (IsShard shape) IsOfOutside (λ n below. below)
@@ -110,7 +110,7 @@ of_every_run Law layouts law shape limits r device array lawful cores are moment
     law (layout_of shape) (layouts shape limits) r device array lawful (map moment_of moments) as_world
 
 -- all that happens is of the one core
-pub own_moments : (l : Layout) (n : ℕ) (Comes : RegisterCall → Type 0) (w : World) (cores : ℕ → State) (moments : List Moment) → CoresRun l (IsThis n) Comes w cores moments
+pub own_moments : (l : Layout) (n : ℕ) (Comes : RegisterCall → Type 0) (w : World) (cores : ℕ → CoreView) (moments : List Moment) → CoresRun l (IsThis n) Comes w cores moments
     → AreOfShard n (map moment_of moments)
 own_moments l n Comes w cores [] run = record {}
 own_moments l n Comes w cores (m ∷ moments) run =

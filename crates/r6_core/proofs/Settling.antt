@@ -18,9 +18,9 @@ use Rattle.r6_frames.specs.Calls.{KeepsOthers, Drives}
 use Rattle.r6_frames.specs.Owed.{owed, IsDriven, IsOver, IsLowestOver}
 use Rattle.r6_frames.specs.Sound as held
 use Rattle.r6_core.specs.declared.state.State.{State}
-use Rattle.r6_core.specs.Shards.{SameFrames, state_of, layout_in, requests_of, table, waiting_request, finished_request, released_request}
+use Rattle.r6_core.specs.Shards.{state_of, layout_in, requests_of, table, waiting_request, finished_request, released_request}
 use Rattle.r6_core.specs.Order.{IsRising, MayFinish}
-use Rattle.r6_core.specs.Inside.{IsSound, IsCore, IsRestedFrame, FinishesHeld, SameCalls}
+use Rattle.r6_core.specs.Inside.{SameFrames, IsSound, IsCore, IsRestedFrame, FinishesHeld, SameCalls, Seen}
 use Rattle.r6_frames.proofs.Held.{held_goes}
 use Rattle.r6_frames.proofs.Lists.{own, apart}
 use Rattle.r6_core.proofs.Passed.{all-append}
@@ -86,7 +86,7 @@ pub record IsSettling (old now : State) : Type 0 where
   pub calls : SameCalls old now
   pub unanswered : now.unanswered ≡ old.unanswered
   pub waiting : now.waiting ≡ old.waiting
-  pub released : now.released ≡ old.released
+  pub released : now.released.items ≡ old.released.items
   pub more : List Request
   pub rising : IsRising more
   pub items : now.finished.items ≡ old.finished.items ++ more
@@ -125,7 +125,7 @@ settling s fs goes drives sound live driven =
 module _ (old now new : State) (frame : ℕ) (before : IsSettling old now) (lowest : IsLowestOver now.frames frame)
     (sound : IsSound new) (live : AreLive new.frames) (leads : Through (layout_in now) now.frames.shard GoesOn (state_of now) (state_of new))
     (rests : IsRestedFrame new frame) (others : KeepsOthers now.frames frame new.frames) (same : SameFrames now new) (calls : SameCalls now new)
-    (order : MayFinish now new) (ends : FinishesHeld now frame new) (unanswered : new.unanswered ≡ now.unanswered) (waiting : new.waiting ≡ now.waiting) where
+    (order : Seen MayFinish now new) (ends : FinishesHeld now frame new) (unanswered : new.unanswered ≡ now.unanswered) (waiting : new.waiting ≡ now.waiting) where
   abbrev h : HeldRow
   h = lowest.0.0
 
@@ -155,7 +155,7 @@ module _ (old now new : State) (frame : ℕ) (before : IsSettling old now) (lowe
         | inr ne ↦ λ i is. before.driven other i (sym (ap row_in (others other ne)) ∙ is)
       ]
 
-  released_on : new.released ≡ old.released
+  released_on : new.released.items ≡ old.released.items
   released_on = order.3 ∙ before.released
 
   pub settling_on : IsSettling old new

@@ -25,19 +25,19 @@ use Rattle.r6_frames.specs.declared.op.Request.{Request as Entered}
 use Rattle.r6_frames.specs.declared.frames.Frames.{Frames}
 use Rattle.r6_core.specs.declared.state.State.{State}
 use Rattle.r6_frames.specs.Views.{op_of, task_for, hold_at, use_at, row_in, frame_of, held_requests, Rest, shard_with, AreLive}
-use Rattle.r6_frames.specs.Calls.{begun_for, entry_of, IsWith, Begins, Drives, PutsOut, IsFreeFrame, IsHeldFrame, NotHeldBy, IsRequestOf, KeepsOthers}
+use Rattle.r6_frames.specs.Calls.{begun_for, entry_of, Begins, Drives, PutsOut, IsFreeFrame, IsHeldFrame, NotHeldBy, IsRequestOf, KeepsOthers}
 use Rattle.r6_frames.specs.Owed.{owed, IsDriven, IsOver}
 use Rattle.r6_frames.specs.Slots.{states_of, count_out}
 use Rattle.r6_frames.specs.Sound as held
 use Rattle.r6_core.specs.Shards.{state_of, rest_of, layout_in, requests_of, waiting_request, finished_request, released_request, table}
 use Rattle.r6_core.specs.Refusals.{limit, most_unanswered}
-use Rattle.r6_core.specs.Order.{CanStart}
-use Rattle.r6_core.specs.Inside.{IsSound, IsCore, IsRestedFrame, Advances, count_untold, bound}
+use Rattle.r6_core.specs.Order.{start_of, Starts}
+use Rattle.r6_core.specs.Inside.{CanStart, IsSound, IsCore, IsRestedFrame, Advances, count_untold, bound}
 use Rattle.r6_frames.proofs.Lists.{Entries, same_put}
 use Rattle.r6_frames.proofs.Held.{put_own}
 use Rattle.r6_core.proofs.Kept.{requests_kept}
 use Rattle.r6_core.proofs.Passed.{Passed, passed, all-append}
-use Rattle.r6_core.proofs.Throughs.{through_of}
+use Rattle.r6_core.proofs.Throughs.{through_in, through_of}
 use Rattle.r6_frames.proofs.Resting.{frame-held, free_is}
 use Rattle.r6_core.proofs.SlotsKept.{out_same, drives_keep}
 use Rattle.r6_core.proofs.Accepting.{others}
@@ -154,9 +154,6 @@ module _ (s : State) (request : Entered) (rest : List Entered) (frame : ℕ) (mi
   shard_same : new.shard ≡ s.frames.shard
   shard_same = is.drives.1 ∙ is.begins.shard.1
 
-  pub started_same : (new.geometry ≡ s.frames.geometry) × (new.shard ≡ s.frames.shard)
-  started_same = (geometry_same, shard_same)
-
   frames_same : (other : ℕ) → other ≢ frame → use_at new.held.items other ≡ use_at s.frames.held.items other
   frames_same other ne = is.others_kept other ne ∙ is.begun_others other ne
 
@@ -191,34 +188,34 @@ module _ (s : State) (request : Entered) (rest : List Entered) (frame : ℕ) (mi
       (requests.now ∙ stage_put (table (requests_of s)) request.id (op_of request.op) Waiting (Held frame) requests.was)
       ∙ sym (start_after l (state_of s) frame row request.id request.op)
 
-  pub started_leads : IsSound s → Through (layout_in s) s.frames.shard Scans (state_of s) (state_of (with_frames s rest new))
-  started_leads sound =
-      let l = layout_in s in
+  pub started : IsSound s → Starts (layout_in s) s.frames.shard (state_of s) request (state_of (with_frames s rest new))
+  started sound =
       let n = s.frames.shard in
       let row = row_of s.frames.geometry (block_of (op_of request.op)) in
       let distinct = sound.requests.distinct in
       let own = (subst (λ rs. AllByRecursion (IsRequestOf s.frames) rs) is.items sound.requests.waiting).0 in
       let begun_at = shard_with (rest_of (with_frames s rest new)) mid in
       let later : Through (layout_of mid.geometry) mid.shard PutsOut begun_at (state_of (with_frames s rest new)) = is.drives.2 (rest_of (with_frames s rest new)) in
-      let here : Through l n PutsOut begun_at (state_of (with_frames s rest new)) =
-      subst (λ (n : ℕ). Through l n PutsOut begun_at (state_of (with_frames s rest new))) is.begins.shard.1
-      (subst (λ g. Through (layout_of g) mid.shard PutsOut begun_at (state_of (with_frames s rest new))) is.begins.shard.0 later) in
-      let driven = through_of l n PutsOut Scans scans begun_at (state_of (with_frames s rest new)) here in
-      let task = task_for request.id request.op in (
-        Start frame row task ∷ driven.0,
+      let here = through_in s.frames.geometry mid.geometry n mid.shard PutsOut begun_at (state_of (with_frames s rest new)) is.begins.shard.0 is.begins.shard.1 later in (
+        frame,
         (
-          is_request request.id request.op,
-          (
-            free_is (rest_of s) s.frames frame sound.frames is.can.0 is.can.1,
-            not_held (rest_of s) s.frames row is.can.2,
-            (row_of-lt s.frames.geometry (block_of (op_of request.op)) sound.frames.shape own.there, own.own),
-            is.can.0,
-            may_start l (state_of s) request.id request.op (requests_started distinct).was,
-            may_begin s.frames.geometry (states_of s.frames.slots) row request.id request.op sound.frames.shape own.sized,
-          ),
-          subst (λ (from : Shard). Leads l n Scans from driven.0 (state_of (with_frames s rest new))) (started_mid distinct) driven.1,
+          free_is (rest_of s) s.frames frame sound.frames is.can.0 is.can.1,
+          not_held (rest_of s) s.frames row is.can.2,
+          (row_of-lt s.frames.geometry (block_of (op_of request.op)) sound.frames.shape own.there, own.own),
+          is.can.0,
+          may_start (layout_in s) (state_of s) request.id request.op (requests_started distinct).was,
+          may_begin s.frames.geometry (states_of s.frames.slots) row request.id request.op sound.frames.shape own.sized,
         ),
+        subst (λ (from : Shard). Through (layout_in s) n PutsOut from (state_of (with_frames s rest new))) (started_mid distinct) here,
       )
+
+  pub started_leads : IsSound s → Through (layout_in s) s.frames.shard Scans (state_of s) (state_of (with_frames s rest new))
+  started_leads sound =
+      let l = layout_in s in
+      let starts = started sound in
+      let start = start_of l request starts.0 in
+      let driven = through_of l s.frames.shard PutsOut Scans scans (after l (state_of s) start) (state_of (with_frames s rest new)) starts.2 in
+      (start ∷ driven.0, (is_request request.id request.op, starts.1, driven.1))
 
   -- no more commands may come than before
   started_bound : bound (with_frames s rest new) ≤ bound s
@@ -277,17 +274,7 @@ module _ (s : State) (request : Entered) (rest : List Entered) (frame : ℕ) (mi
     request,
     rest,
     is.items,
-    inl (
-      refl,
-      record {
-        frame = frame;
-        can = is.can;
-        geometry = geometry_same;
-        live = is.live;
-        requests = subst (λ (es : Entries Request). IsWith (held_requests s.frames) frame (entry_of frame request) es) (sym is.requests) is.begins.requests;
-        sound = is.sound;
-      },
-    ),
+    inl (refl, started sound),
     λ other cannot live free_row f free.
         let apart : f ≢ frame = λ e. let both : Some is.held_still.0 ≡ None = sym is.held_still.1 ∙ ap (hold_at new.held.items) (sym e) ∙ no_row new f free in absurd (cc) in
         cannot is.can.0

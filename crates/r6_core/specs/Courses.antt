@@ -12,9 +12,9 @@ use Rattle.r6_world.specs.Worlds.{Devices, started}
 use Rattle.r6_world.specs.Claims.{IsLawfulStart}
 use Rattle.r6_world.specs.Laws.{IsByAnyone}
 use Rattle.r6_world.specs.Witness.{smallest, small, after_all}
-use Rattle.r6_core.specs.declared.state.State.{State}
-use Rattle.r6_core.specs.Shards.{Step}
-use Rattle.r6_core.specs.Runs.{Happening, Call, Perform, Tell, Outside, Moment, moment_of, cores_after, IsMade, IsThis, CoresRun}
+use Rattle.r6_core.specs.Shards.{CoreView, Step}
+use Rattle.r6_core.specs.Effects.{IsMade}
+use Rattle.r6_core.specs.Runs.{Happening, Call, Perform, Tell, Outside, Moment, moment_of, cores_after, IsThis, CoresRun}
 
 -- the calls of the core in what happened, with their answers
 abbrev pub events_in : Happening → List Event
@@ -28,14 +28,14 @@ events_of [] = []
 events_of (m ∷ moments) = events_in m.happening ++ events_of moments
 
 -- the cores behind a run
-abbrev pub cores_behind : (ℕ → State) → List Moment → ℕ → State
+abbrev pub cores_behind : (ℕ → CoreView) → List Moment → ℕ → CoreView
 cores_behind cores [] = cores
 cores_behind cores (m ∷ moments) = cores_behind (cores_after cores m.happening) moments
 
 -- A run of the core of shard n from where it was made, beside a register and devices: these were its calls and their
 -- answers, and they have led to this core and this register.
-pub record HasRun (shape : Shape) (n : ℕ) (r : Snapshot) (device : Devices) (events : List Event) (core : State) (register : Snapshot) : Type 0 where
-  pub first : State
+pub record HasRun (shape : Shape) (n : ℕ) (r : Snapshot) (device : Devices) (events : List Event) (core : CoreView) (register : Snapshot) : Type 0 where
+  pub first : CoreView
   pub made : IsMade shape r n first
   pub moments : List Moment
   pub run : CoresRun (layout_of shape) (IsThis n) IsByAnyone (started (layout_of shape) r device) (λ m. first) moments
@@ -46,18 +46,18 @@ pub record HasRun (shape : Shape) (n : ℕ) (r : Snapshot) (device : Devices) (e
 -- ---- the calls of such a run
 
 -- a command is taken, and answered by an error
-pub record Fails (old new : State) : Type 0 where
+pub record Fails (old new : CoreView) : Type 0 where
   pub token : ℕ
   pub command : Command
-  pub middle : State
+  pub middle : CoreView
   pub taken : Step old (Take_command token command) middle
   pub delivered : Step middle (Deliver token Error Taken) new
 
 -- the read of a slot's first block is taken, and answered with this block
-pub record Reads (slot : ℕ) (block : Block) (old new : State) : Type 0 where
+pub record Reads (slot : ℕ) (block : Block) (old new : CoreView) : Type 0 where
   pub token : ℕ
   pub command : Command
-  pub middle : State
+  pub middle : CoreView
   pub taken : Step old (Take_command token command) middle
   pub delivered : Step middle (Deliver token (Good block) Taken) new
   pub is_read : command.transfer ≡ Fetch
@@ -66,15 +66,15 @@ pub record Reads (slot : ℕ) (block : Block) (old new : State) : Type 0 where
   pub of_row : command.row ≡ 0
 
 -- the loss of slot 1 is declared at the register, which goes on without it
-pub record Declares (old new : State) : Type 0 where
-  pub middle : State
+pub record Declares (old new : CoreView) : Type 0 where
+  pub middle : CoreView
   pub taken : Step old (Take_call (LossOf 1 0)) middle
   pub told : Step middle (steps.Told (LossOf 1 0) (Ok Degraded)) new
 
 -- A read of block 0 of the smallest array, whose device fails: its block stands on slot 1, the other data block of the row on
 -- slot 2 and P on slot 3. The core takes the slot out and reads the two others, its caller declares the loss, and after a
 -- look the read is answered with this block.
-abbrev pub RunsThroughLoss : (other parity block : Block) → State → Type 0
+abbrev pub RunsThroughLoss : (other parity block : Block) → CoreView → Type 0
 RunsThroughLoss other parity block core =
     (device : Devices) (array : Array) → IsLawfulStart small (starting 0) device array → device 2 0 0 ≡ other → device 3 0 0 ≡ parity
     → (failed second third : ℕ × Command)

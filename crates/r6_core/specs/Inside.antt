@@ -1,23 +1,39 @@
 -- What is true of a state between calls, and what internal calls do. No public clause needs it.
-use Rattle.std.specs.Prelude.{◌≡◌, ℕ, ◌+◌, ◌*◌, ◌<◌, ◌≤◌, ◌⊎◌, nat_eq, nat_lt, if◌then◌else◌, false, List, [], ◌∷◌, ◌++◌, length, map, IsPermutation, Option, Some, None}
+use Rattle.std.specs.Prelude.{◌≡◌, ℕ, ◌+◌, ◌*◌, ◌<◌, ◌≤◌, ◌⊎◌, nat_eq, nat_lt, if◌then◌else◌, false, List, [], ◌∷◌, ◌++◌, length, map, IsPermutation, Option, Some, None, Result}
 use Rattle.std.specs.List.{AllByRecursion, IsDistinct}
 use Rattle.std.specs.Map.{keys_of}
 use Rattle.r6_tables.specs.Table.{next_of}
+use Rattle.r6_layout.specs.Layout as layout
 use Rattle.r6_world.specs.PlainArray as world
 use Rattle.r6_world.specs.ShardStates as shards
+use Rattle.r6_world.specs.Changes.{Change, after, Allowed}
+use Rattle.r6_world.specs.Steps as steps
+use Rattle.r6_world.specs.Steps.{Through, GoesOn, Takes}
 use Rattle.r6_frames.specs.declared.op.Request.{Request}
 use Rattle.r6_core.specs.declared.call.Call.{Call}
+use Rattle.r6_core.specs.declared.refusal.DeviceFault.{DeviceFault}
+use Rattle.r6_core.specs.declared.refusal.Refusal.{Refusal}
 use Rattle.r6_core.specs.declared.state.State.{State}
+use Rattle.r6_frames.specs.declared.frames.Frames.{Frames}
 use Rattle.r6_frames.specs.declared.frames.HeldRow.{HeldRow}
 use Rattle.r6_frames.specs.Slots.{count_out}
 use Rattle.r6_frames.specs.Views.{op_of, held_requests, hold_at, AreLive}
-use Rattle.r6_frames.specs.Calls.{Between, IsRequestOf}
+use Rattle.r6_frames.specs.Calls.{Between, IsAwaited, IsFreeFrame, IsRequestOf, NotHeldBy}
 use Rattle.r6_frames.specs.Owed.{owed, IsDriven, IsOver}
 use Rattle.r6_frames.specs.Calls as frames
 use Rattle.r6_frames.specs.Sound as held
-use Rattle.r6_core.specs.Shards.{requests_of}
-use Rattle.r6_core.specs.Refusals.{most_unanswered, limit, AllTold}
-use Rattle.r6_core.specs.Order.{CannotStart, Starts}
+use Rattle.r6_core.specs.Shards.{CoreView, SameShard, buffer_in, core_of, layout_in, requests_of, state_of}
+use Rattle.r6_core.specs.Refusals.{most_unanswered, limit, HasCompletionFault}
+use Rattle.r6_core.specs.Order.{Starts}
+
+-- ---- a state, as callers see it
+
+-- a relation of two cores, of their states
+abbrev pub Seen : (CoreView → CoreView → Type 0) → State → State → Type 0
+Seen Related old new = Related (core_of old) (core_of new)
+
+abbrev pub SameFrames : State → State → Type 0
+SameFrames old new = Seen SameShard old new
 
 -- ---- between calls
 
@@ -64,17 +80,31 @@ pub record IsCore (s : State) : Type 0 where
   pub sound : IsSound s
   pub rested : AreLive s.frames → IsRested s
 
+-- the request can start in the frame
+abbrev pub CanStart : Frames → Request → ℕ → Type 0
+CanStart fs request frame =
+    AreLive fs × IsFreeFrame fs frame × NotHeldBy fs (layout.row_of fs.geometry (world.block_of (op_of request.op)))
+
+-- a waiting request can't start: nothing goes on, its row is held, or no frame is free
+abbrev pub CannotStart : Frames → Request → Type 0
+CannotStart fs request =
+    AreLive fs → NotHeldBy fs (layout.row_of fs.geometry (world.block_of (op_of request.op))) → (frame : ℕ) → IsFreeFrame fs frame → ⊥
+
 abbrev pub NoneCanStart : State → Type 0
 NoneCanStart s = AllByRecursion (CannotStart s.frames) s.waiting.items
 
 -- ---- what internal calls do
+
+-- no call is to be made at the register, and the answer of each is told
+abbrev pub NoCalls : State → Type 0
+NoCalls s = (s.calls.items ≡ []) × (s.untold ≡ None)
 
 abbrev pub SameCalls : State → State → Type 0
 SameCalls old new = (new.calls ≡ old.calls) × (new.untold ≡ old.untold)
 
 -- nothing was accepted, and nothing put out
 abbrev pub IsFresh : State → Type 0
-IsFresh s = (s.accepted ≡ 0) × (requests_of s ≡ []) × frames.IsAtStart s.frames × AllTold s × (s.frames.saw_failed ≡ false)
+IsFresh s = (s.accepted ≡ 0) × (requests_of s ≡ []) × frames.IsAtStart s.frames × NoCalls s × (s.frames.saw_failed ≡ false)
 
 -- the request goes where its number belongs
 abbrev pub inserted : Request → List Request → List Request
@@ -85,8 +115,8 @@ inserted request (other ∷ newer) = if nat_lt other.id request.id then other �
 abbrev pub Advances : State → State → Type 0
 Advances old new =
     (request : Request) × (rest : List Request) × (old.waiting.items ≡ request ∷ rest)
-    × (((new.waiting.items ≡ rest) × Starts old.frames request new.frames)
-    ⊎ ((new.waiting.items ≡ rest ++ request ∷ []) × CannotStart old.frames request × (new.frames ≡ old.frames)))
+    × (((new.waiting.items ≡ rest) × Starts (layout_in old) old.frames.shard (state_of old) request (state_of new))
+    ⊎ ((new.waiting.items ≡ rest ++ request ∷ []) × CannotStart old.frames request × (new.frames ≡ old.frames) × (state_of new ≡ state_of old)))
     × ((other : Request) → CannotStart old.frames other → CannotStart new.frames other)
 
 -- the frame's hold was over, and its request is finished
@@ -114,3 +144,15 @@ pub record Gathers (old new : State) : Type 0 where
   pub shard : Between (λ l n s s'. s' ≡ record s { frame = λ frame. None }) old.frames new.frames
   pub room : (new.waiting.capacity ≡ old.waiting.capacity) × (new.finished.capacity ≡ old.finished.capacity)
   pub rest : (new.accepted ≡ old.accepted) × (new.unanswered ≡ old.unanswered) × (new.released ≡ old.released) × SameCalls old new
+
+-- why a completion is refused
+abbrev pub HasFault : State → ℕ → Result (List ℕ) DeviceFault → Refusal → Type 0
+HasFault s token completion = HasCompletionFault (IsAwaited s.frames token) s.frames.geometry.block (buffer_in completion)
+
+-- a completion of this kind opens the call, and then holds go on
+abbrev pub TakesThrough : State → ℕ → steps.Completion → steps.Receipt → State → Type 0
+TakesThrough old token completion receipt new =
+    let l = layout_in old in
+    let n = old.frames.shard in
+    (change : Change) × Takes token completion receipt change × Allowed l n (state_of old) change
+    × Through l n GoesOn (after l (state_of old) change) (state_of new)

@@ -1,6 +1,7 @@
 pub mod Shards
 pub mod Refusals
 pub mod Order
+pub mod Effects
 pub mod Inside
 pub mod Runs
 pub mod Courses

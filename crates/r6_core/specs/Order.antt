@@ -1,23 +1,23 @@
--- In which order requests start and are answered.
-use Rattle.std.specs.Prelude.{◌≡◌, ℕ, ◌<◌, ◌≤◌, ◌⊎◌, true, false, List, [], ◌∷◌, ◌++◌, length, Option, Some, None, Result, Ok, Err}
+-- In which order requests start, are finished, and are answered.
+use Rattle.std.specs.Prelude.{◌≡◌, ◌≢◌, ℕ, ◌<◌, ◌≤◌, ◌⊎◌, true, false, List, [], ◌∷◌, ◌++◌, length, Option, Some, None, Result, Ok, Err, IfOk}
 use Rattle.std.specs.List.{AllByRecursion}
-use Rattle.r6_layout.specs.Layout as layout
 use Rattle.r6_world.specs.PlainArray as world
+use Rattle.r6_world.specs.Layouts.{Layout}
 use Rattle.r6_world.specs.Registers.{Snapshot, status_of}
-use Rattle.r6_world.specs.Changes.{differs}
 use Rattle.r6_world.specs.ShardStates as shards
+use Rattle.r6_world.specs.ShardStates.{Shard, IsFree, IsLive, NotHeld}
+use Rattle.r6_world.specs.Changes.{Change, Start, Release, after, Allowed, differs}
+use Rattle.r6_world.specs.Steps.{Through, GoesOn, Takes, TakesOver}
 use Rattle.r6_frames.specs.declared.op.Op.{Op}
 use Rattle.r6_frames.specs.declared.op.Op.TheVariants as op
 use Rattle.r6_frames.specs.declared.op.Request.{Request}
+use Rattle.r6_frames.specs.Views.{op_of, buffer_of, task_for}
+use Rattle.r6_frames.specs.Calls.{PutsOut}
 use Rattle.r6_core.specs.declared.reply.Reply.{Reply}
 use Rattle.r6_core.specs.declared.reply.Reply.TheVariants as reply
 use Rattle.r6_core.specs.declared.refusal.DeviceFault.{DeviceFault}
-use Rattle.r6_core.specs.declared.state.State.{State}
-use Rattle.r6_frames.specs.declared.frames.Frames.{Frames}
-use Rattle.r6_frames.specs.Slots.{states_of}
-use Rattle.r6_frames.specs.Views.{op_of, buffer_of, held_requests, AreLive}
-use Rattle.r6_frames.specs.Calls.{entry_of, IsFreeFrame, NotHeldBy, IsWith, KeepsOthers}
-use Rattle.r6_frames.specs.Sound as held
+use Rattle.r6_core.specs.declared.refusal.Receipt.{Receipt}
+use Rattle.r6_core.specs.Shards.{CoreView, world_shard, core_layout, completion_of, receipt_of}
 
 -- ---- replies
 
@@ -25,29 +25,29 @@ abbrev pub reply_to : Op → Reply
 reply_to (op.Read block buffer) = reply.Data buffer
 reply_to (op.Write block buffer) = reply.Done buffer
 
--- a write's reply brings the block that was handed in with the request
+-- a write's reply brings the block that was handed in with the request, whatever came of it
 abbrev pub BringsBack : Option shards.Request → Reply → Type 0
 BringsBack (Some request) (reply.Done buffer) = (block : ℕ) × (request.op ≡ world.Op.Write block buffer)
 BringsBack (Some request) (reply.Data buffer) = (block : ℕ) × (request.op ≡ world.Op.Read block)
-BringsBack (Some request) (reply.ArrayFailed buffer) = Unit {0}
+BringsBack (Some request) (reply.ArrayFailed buffer) = (block : ℕ) (new_data : world.Block) → request.op ≡ world.Op.Write block new_data → buffer ≡ new_data
 BringsBack None back = ⊥
 
 -- no request is finished, and no reply released
-abbrev pub NoReplies : State → Type 0
-NoReplies s = (s.finished.items ≡ []) × (s.released.items ≡ [])
+abbrev pub NoReplies : CoreView → Type 0
+NoReplies core = (core.finished ≡ []) × (core.released ≡ [])
 
-abbrev pub SameReplies : State → State → Type 0
+abbrev pub SameReplies : CoreView → CoreView → Type 0
 SameReplies old new = (new.finished ≡ old.finished) × (new.released ≡ old.released)
 
-abbrev pub KeepsReplies : State → State → Type 0
+abbrev pub KeepsReplies : CoreView → CoreView → Type 0
 KeepsReplies old new = SameReplies old new × (new.unanswered ≡ old.unanswered)
 
 -- ---- in which order requests are finished and released
 
 -- at most one more request is finished, behind those that were
-abbrev pub MayFinish : State → State → Type 0
+abbrev pub MayFinish : CoreView → CoreView → Type 0
 MayFinish old new =
-    (more : List Request) × (length more ≤ 1) × (new.finished.items ≡ old.finished.items ++ more) × (new.released ≡ old.released)
+    (more : List Request) × (length more ≤ 1) × (new.finished ≡ old.finished ++ more) × (new.released ≡ old.released)
 
 -- from the oldest to the newest
 abbrev pub IsRising : List Request → Type 0
@@ -55,89 +55,93 @@ IsRising [] = Unit {0}
 IsRising (request ∷ newer) = AllByRecursion (λ other. request.id < other.id) newer × IsRising newer
 
 -- more requests are finished, behind those that were, from the oldest of them to the newest
-abbrev pub Finishes : State → State → Type 0
+abbrev pub Finishes : CoreView → CoreView → Type 0
 Finishes old new =
-    (more : List Request) × IsRising more × (new.finished.items ≡ old.finished.items ++ more) × (new.released ≡ old.released)
+    (more : List Request) × IsRising more × (new.finished ≡ old.finished ++ more) × (new.released ≡ old.released)
 
 -- a good completion finishes one request at most; with an error all may end whose device is lost
-abbrev pub FinishesBy : Result (List ℕ) DeviceFault → State → State → Type 0
+abbrev pub FinishesBy : Result (List ℕ) DeviceFault → CoreView → CoreView → Type 0
 FinishesBy (Ok buffer) old new = MayFinish old new
 FinishesBy (Err fault) old new = Finishes old new
 
 -- a look finds no slot other than the shard has it
-abbrev pub Agrees : State → Snapshot → Type 0
-Agrees s snapshot = (slot : ℕ) → slot < s.frames.geometry.slots → differs (states_of s.frames.slots slot) (status_of snapshot slot) ≡ false
+abbrev pub Agrees : CoreView → Snapshot → Type 0
+Agrees core snapshot = (slot : ℕ) → slot < core.shape.slots → differs ((world_shard core).slot slot) (status_of snapshot slot) ≡ false
 
 -- all that were finished are released, in their order, behind those that were, and behind them those that the look
 -- finished, from the oldest to the newest: none if it found no slot other
-abbrev pub ReleasesAll : State → Snapshot → State → Type 0
+abbrev pub ReleasesAll : CoreView → Snapshot → CoreView → Type 0
 ReleasesAll old snapshot new =
     (more : List Request) × IsRising more × (Agrees old snapshot → more ≡ [])
-    × (new.released.items ≡ old.released.items ++ (old.finished.items ++ more)) × (new.finished.items ≡ [])
+    × (new.released ≡ old.released ++ (old.finished ++ more)) × (new.finished ≡ [])
 
 -- the array has failed: all that aren't released are answered so, from the oldest to the newest, and none waits
-abbrev pub FailsAll : State → State → Type 0
-FailsAll old new = IsRising new.finished.items × (new.released ≡ old.released) × (new.waiting.items ≡ [])
+abbrev pub FailsAll : CoreView → CoreView → Type 0
+FailsAll old new = IsRising new.finished × (new.released ≡ old.released) × (new.waiting ≡ [])
 
 -- an array that has failed stays failed: a shard that has seen it releases nothing more
-abbrev pub LooksOn : State → Snapshot → State → Type 0
+abbrev pub LooksOn : CoreView → Snapshot → CoreView → Type 0
 LooksOn old snapshot new =
     (snapshot.failed ≡ true → FailsAll old new)
-    × (snapshot.failed ≡ false → old.frames.saw_failed ≡ false → ReleasesAll old snapshot new)
-    × (snapshot.failed ≡ false → old.frames.saw_failed ≡ true → SameReplies old new)
+    × (snapshot.failed ≡ false → (world_shard old).saw_failed ≡ false → ReleasesAll old snapshot new)
+    × (snapshot.failed ≡ false → (world_shard old).saw_failed ≡ true → SameReplies old new)
 
 -- ---- in which order replies are taken
 
 -- the reply that was released first leaves; once the array has failed, those that it answers so come last
-abbrev pub TakesFirst : State → (id : ℕ) → Reply → State → Type 0
+abbrev pub TakesFirst : CoreView → (id : ℕ) → Reply → CoreView → Type 0
 TakesFirst old id back new =
     (request : Request) × (id ≡ request.id)
-    × (((old.released.items ≡ request ∷ new.released.items) × (new.finished ≡ old.finished) × (back ≡ reply_to request.op))
-    ⊎ ((old.released.items ≡ []) × (new.released ≡ old.released) × (old.frames.saw_failed ≡ true)
-    × (old.finished.items ≡ request ∷ new.finished.items) × (back ≡ reply.ArrayFailed (buffer_of request.op))))
+    × (((old.released ≡ request ∷ new.released) × (new.finished ≡ old.finished) × (back ≡ reply_to request.op))
+    ⊎ ((old.released ≡ []) × (new.released ≡ old.released) × ((world_shard old).saw_failed ≡ true)
+    × (old.finished ≡ request ∷ new.finished) × (back ≡ reply.ArrayFailed (buffer_of request.op))))
 
-abbrev pub HasNoReply : State → Type 0
-HasNoReply s = (s.released.items ≡ []) × (s.frames.saw_failed ≡ true → s.finished.items ≡ [])
+abbrev pub HasNoReply : CoreView → Type 0
+HasNoReply core = (core.released ≡ []) × ((world_shard core).saw_failed ≡ true → core.finished ≡ [])
 
 -- ---- in which order requests start
 
--- the request can start in the frame
-abbrev pub CanStart : Frames → Request → ℕ → Type 0
-CanStart fs request frame =
-    AreLive fs × IsFreeFrame fs frame × NotHeldBy fs (layout.row_of fs.geometry (world.block_of (op_of request.op)))
+-- the change with which a row is held for the request
+abbrev pub start_of : Layout → Request → (frame : ℕ) → Change
+start_of l request frame = Start frame (l.row_of (world.block_of (op_of request.op))) (task_for request.id request.op)
 
--- a waiting request can't start: nothing goes on, its row is held, or no frame is free
-abbrev pub CannotStart : Frames → Request → Type 0
-CannotStart fs request =
-    AreLive fs → NotHeldBy fs (layout.row_of fs.geometry (world.block_of (op_of request.op))) → (frame : ℕ) → IsFreeFrame fs frame → ⊥
+-- the request starts in a frame, and its hold puts out what comes first
+abbrev pub Starts : Layout → ℕ → Shard → Request → Shard → Type 0
+Starts l n old request new =
+    (frame : ℕ) × Allowed l n old (start_of l request frame) × Through l n PutsOut (after l old (start_of l request frame)) new
 
--- the request starts, and from then on its row is held
-pub record Starts (old : Frames) (request : Request) (new : Frames) : Type 0 where
-  pub frame : ℕ
-  pub can : CanStart old request frame
-  pub geometry : new.geometry ≡ old.geometry
-  pub live : AreLive new
-  pub requests : IsWith (held_requests old) frame (entry_of frame request) (held_requests new)
-  pub sound : held.IsSound new
+-- it can't: nothing goes on, its row is held, or no frame is free
+abbrev pub MustWait : Layout → Shard → Request → Type 0
+MustWait l s request = IsLive l s → NotHeld s (l.row_of (world.block_of (op_of request.op))) → (frame : ℕ) → IsFree l s frame → ⊥
 
 -- Each request has its turn, from the oldest to the newest: it starts if it can at its turn, and else it waits still
-abbrev pub InTurn : (old : Frames) → List Request → (new : Frames) → (waiting : List Request) → Type 0
-InTurn old [] new waiting = (new ≡ old) × (waiting ≡ [])
-InTurn old (request ∷ newer) new waiting =
-    ((mid : Frames) × Starts old request mid × InTurn mid newer new waiting)
-    ⊎ (CannotStart old request × (others : List Request) × (waiting ≡ request ∷ others) × InTurn old newer new others)
+abbrev pub InTurn : Layout → ℕ → (old : Shard) → List Request → (new : Shard) → (waiting : List Request) → Type 0
+InTurn l n old [] new waiting = (new ≡ old) × (waiting ≡ [])
+InTurn l n old (request ∷ newer) new waiting =
+    ((mid : Shard) × Starts l n old request mid × InTurn l n mid newer new waiting)
+    ⊎ (MustWait l old request × (others : List Request) × (waiting ≡ request ∷ others) × InTurn l n old newer new others)
 
--- from these frames on each of these requests has its turn, and those that wait still are what then waits
-abbrev pub HaveTurns : Frames → List Request → State → Type 0
-HaveTurns fs requests new = InTurn fs requests new.frames new.waiting.items
+-- from this shard on each of these requests has its turn, and those that wait still are what then waits
+abbrev pub HaveTurns : CoreView → Shard → List Request → CoreView → Type 0
+HaveTurns old from requests new = InTurn (core_layout old) old.shard from requests (world_shard new) new.waiting
+
+-- all but one frame have what they had
+abbrev pub KeepsFrames : Shard → Shard → Type 0
+KeepsFrames old new = (frame : ℕ) × ((other : ℕ) → other ≢ frame → new.frame other ≡ old.frame other)
 
 -- those that waited have their turns behind the completion of a command: a good one changes one frame
-abbrev pub HaveTurnsBehind : Result (List ℕ) DeviceFault → State → State → Type 0
-HaveTurnsBehind (Ok buffer) old new =
-    (frame : ℕ) × (behind : Frames) × KeepsOthers old.frames frame behind × held.IsSound behind × HaveTurns behind old.waiting.items new
-HaveTurnsBehind (Err fault) old new = (behind : Frames) × held.IsSound behind × HaveTurns behind old.waiting.items new
+abbrev pub HaveTurnsBehind : CoreView → ℕ → Result (List ℕ) DeviceFault → Receipt → CoreView → Type 0
+HaveTurnsBehind old token completion receipt new =
+    let l = core_layout old in
+    (change : Change) × Takes token (completion_of completion) (receipt_of receipt) change × Allowed l old.shard (world_shard old) change
+    × (behind : Shard) × Through l old.shard GoesOn (after l (world_shard old) change) behind
+    × IfOk completion (λ _. KeepsFrames (world_shard old) behind) × HaveTurns old behind old.waiting new
 
--- and behind a look at an array that hasn't failed: with the frames as they were if it found no slot other
-abbrev pub HaveTurnsAfter : State → Snapshot → State → Type 0
+-- and behind a look at an array that hasn't failed: from the shard as it was, if the look found no slot other
+abbrev pub HaveTurnsAfter : CoreView → Snapshot → CoreView → Type 0
 HaveTurnsAfter old snapshot new =
-    snapshot.failed ≡ false → (behind : Frames) × (Agrees old snapshot → behind ≡ old.frames) × held.IsSound behind × HaveTurns behind old.waiting.items new
+    let l = core_layout old in
+    snapshot.failed ≡ false
+    → (mid : Shard) × Through l old.shard (TakesOver snapshot) (world_shard old) mid
+    × (behind : Shard) × Through l old.shard GoesOn mid behind
+    × (Agrees old snapshot → behind ≡ world_shard old) × HaveTurns old (after l behind Release) old.waiting new

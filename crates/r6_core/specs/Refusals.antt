@@ -1,15 +1,19 @@
--- The refusals of a core, each with its number, and when a call is refused.
-use Rattle.std.specs.Prelude.{◌≡◌, ◌≢◌, ℕ, ◌^◌, ◌≤◌, ◌⊎◌, true, List, [], ◌∷◌, length, None}
+-- The refusals of a core, each with its number and its name, and when a call is refused.
+use Rattle.std.specs.Prelude.{◌≡◌, ◌≢◌, ℕ, ◌^◌, ◌≤◌, ◌⊎◌, true, List, [], ◌∷◌, length, codes, Some, None}
 use Rattle.r6_layout.specs.Shape.{blocks}
 use Rattle.r6_layout.specs.Layout as layout
-use Rattle.r6_tables.specs.Table.{next_of}
 use Rattle.r6_world.specs.PlainArray as world
+use Rattle.r6_world.specs.ShardStates.{Command}
 use Rattle.r6_frames.specs.declared.op.Op.{Op}
+use Rattle.r6_core.specs.declared.refusal.CoreError.{CoreError}
+use Rattle.r6_core.specs.declared.refusal.CoreError.TheVariants.{NoMemory}
 use Rattle.r6_core.specs.declared.refusal.Refusal.{Refusal}
 use Rattle.r6_core.specs.declared.refusal.Refusal.TheVariants.{NoSuchBlock, WrongShard, WrongLength, Busy, ArrayFailed, Exhausted, UnknownToken, UntoldFirst, UnknownCall}
-use Rattle.r6_core.specs.declared.state.State.{State}
 use Rattle.r6_frames.specs.Views.{op_of, buffer_of}
-use Rattle.r6_frames.specs.Calls.{IsAwaited}
+use Rattle.r6_core.specs.Shards.{CoreView, world_shard}
+
+abbrev pub error_number : CoreError → ℕ
+error_number NoMemory = 1
 
 abbrev pub number_of : Refusal → ℕ
 number_of NoSuchBlock = 1
@@ -21,6 +25,17 @@ number_of Exhausted = 6
 number_of UnknownToken = 7
 number_of UntoldFirst = 8
 number_of UnknownCall = 11
+
+abbrev pub name_of : Refusal → List ℕ
+name_of NoSuchBlock = codes "NoSuchBlock"
+name_of WrongShard = codes "WrongShard"
+name_of WrongLength = codes "WrongLength"
+name_of Busy = codes "Busy"
+name_of ArrayFailed = codes "ArrayFailed"
+name_of Exhausted = codes "Exhausted"
+name_of UnknownToken = codes "UnknownToken"
+name_of UntoldFirst = codes "UntoldFirst"
+name_of UnknownCall = codes "UnknownCall"
 
 -- ---- limits
 
@@ -35,24 +50,32 @@ limit = 2 ^ 60
 -- ---- why a request or a completion is refused, in this order
 
 -- why a request is refused; the first that holds
-abbrev pub HasSubmitFault : State → Op → Refusal → Type 0
-HasSubmitFault s o NoSuchBlock = blocks s.frames.geometry ≤ world.block_of (op_of o)
-HasSubmitFault s o WrongShard = layout.shard_of s.frames.geometry (layout.row_of s.frames.geometry (world.block_of (op_of o))) ≢ s.frames.shard
-HasSubmitFault s o WrongLength = length (buffer_of o) ≢ s.frames.geometry.block
-HasSubmitFault s o ArrayFailed = s.frames.saw_failed ≡ true
-HasSubmitFault s o Exhausted = (limit ≤ next_of s.frames.commands) ⊎ (limit ≤ s.accepted)
-HasSubmitFault s o Busy = most_unanswered ≤ s.unanswered
+abbrev pub HasSubmitFault : CoreView → Op → Refusal → Type 0
+HasSubmitFault core o NoSuchBlock = blocks core.shape ≤ world.block_of (op_of o)
+HasSubmitFault core o WrongShard = layout.shard_of core.shape (layout.row_of core.shape (world.block_of (op_of o))) ≢ core.shard
+HasSubmitFault core o WrongLength = length (buffer_of o) ≢ core.shape.block
+HasSubmitFault core o ArrayFailed = (world_shard core).saw_failed ≡ true
+HasSubmitFault core o Exhausted = (limit ≤ (world_shard core).tokens) ⊎ (limit ≤ (world_shard core).accepted)
+HasSubmitFault core o Busy = most_unanswered ≤ core.unanswered
 -- for no other reason
-HasSubmitFault s o _ = ⊥
+HasSubmitFault core o _ = ⊥
 
 abbrev pub submit_faults : List Refusal
 submit_faults = NoSuchBlock ∷ WrongShard ∷ WrongLength ∷ ArrayFailed ∷ Exhausted ∷ Busy ∷ []
 
-abbrev pub HasDeliverFault : State → ℕ → List ℕ → Refusal → Type 0
-HasDeliverFault s token block UnknownToken = IsAwaited s.frames token → ⊥
-HasDeliverFault s token block WrongLength = length block ≢ s.frames.geometry.block
+-- a command of this token was taken and isn't answered
+abbrev pub IsOut : CoreView → ℕ → Type 0
+IsOut core token = (c : Command) × ((world_shard core).command token ≡ Some c) × (c.taken ≡ true)
+
+-- why a completion is refused, of a command that is out or not; the first that holds
+abbrev pub HasCompletionFault : (out : Type 0) (size : ℕ) → List ℕ → Refusal → Type 0
+HasCompletionFault out size block UnknownToken = out → ⊥
+HasCompletionFault out size block WrongLength = length block ≢ size
 -- for no other reason
-HasDeliverFault s token block _ = ⊥
+HasCompletionFault out size block _ = ⊥
+
+abbrev pub HasDeliverFault : CoreView → ℕ → List ℕ → Refusal → Type 0
+HasDeliverFault core token block = HasCompletionFault (IsOut core token) core.shape.block block
 
 abbrev pub deliver_faults : List Refusal
 deliver_faults = UnknownToken ∷ WrongLength ∷ []
@@ -70,5 +93,5 @@ HasNone HasFault (fault ∷ faults) = (HasFault fault → ⊥) × HasNone HasFau
 -- ---- why a look is refused
 
 -- no call is to be made at the register, and the answer of each is told
-abbrev pub AllTold : State → Type 0
-AllTold s = (s.calls.items ≡ []) × (s.untold ≡ None)
+abbrev pub AllTold : CoreView → Type 0
+AllTold core = ((world_shard core).calls ≡ []) × ((world_shard core).untold ≡ None)

@@ -15,17 +15,17 @@ use Rattle.r6_world.specs.Worlds.{World, Devices, MayCome, Possible, Run, IsAnsw
 use Rattle.r6_world.specs.Claims.{IsLawfulStart, IsQuiet, AllAnswered}
 use Rattle.r6_world.specs.Laws.{ShardHolds, ArrayHolds, Explained, AtEach, IsOfOutside, IsByAnyone, at_start}
 use Rattle.r6_world.specs.Sequential.{OneAtATime, FewOut, PlainThroughout}
-use Rattle.r6_core.specs.declared.state.State.{State}
-use Rattle.r6_core.specs.Shards.{Step, state_of}
+use Rattle.r6_core.specs.Shards.{CoreView, Step, world_shard}
+use Rattle.r6_core.specs.Effects.{IsMade}
 
 -- One thing that happens. A call that is refused changes nothing, and isn't one
 pub data Happening : Type 0 where
   -- a call of a shard's core, and the state that it leaves
-  Call : (shard : ℕ) → Event → State → Happening
+  Call : (shard : ℕ) → Event → CoreView → Happening
   -- a device performs a command
   Perform : (shard token : ℕ) → Command → Happening
   -- a shard's next call is taken from its core, made at the register, and the core is told the answer
-  Tell : (shard : ℕ) → shards.Call → Told → (middle new : State) → Happening
+  Tell : (shard : ℕ) → shards.Call → Told → (middle new : CoreView) → Happening
   -- a call at the register from outside
   Outside : RegisterCall → Happening
 
@@ -36,16 +36,16 @@ pub record Moment : Type 0 where
 
 -- as the world has it
 abbrev pub in_world : Happening → worlds.Happening
-in_world (Call n event new) = worlds.Core n event (state_of new)
+in_world (Call n event new) = worlds.Core n event (world_shard new)
 in_world (Perform n token c) = worlds.Perform n token c
-in_world (Tell n call answer middle new) = worlds.Tell n call answer (state_of middle) (state_of new)
+in_world (Tell n call answer middle new) = worlds.Tell n call answer (world_shard middle) (world_shard new)
 in_world (Outside call) = worlds.Outside call
 
 abbrev pub moment_of : Moment → worlds.Moment
 moment_of m = record { happening = in_world m.happening; noise = m.noise }
 
 -- the cores, by shard, behind it
-abbrev pub cores_after : (ℕ → State) → Happening → ℕ → State
+abbrev pub cores_after : (ℕ → CoreView) → Happening → ℕ → CoreView
 cores_after cores (Call n event new) = put cores n new
 cores_after cores (Perform n token c) = cores
 cores_after cores (Tell n call answer middle new) = put cores n new
@@ -54,30 +54,26 @@ cores_after cores (Outside call) = cores
 -- What may happen next, where these cores are ours and these calls come at the register from outside: a call of one of
 -- ours that keeps its contract, with the world's completions and the register as it is and answers; and what the devices
 -- and the register's other callers may do
-abbrev pub MayHappen : Layout → (Ours : ℕ → Type 0) → (Comes : RegisterCall → Type 0) → World → (ℕ → State) → Happening → Type 0
+abbrev pub MayHappen : Layout → (Ours : ℕ → Type 0) → (Comes : RegisterCall → Type 0) → World → (ℕ → CoreView) → Happening → Type 0
 MayHappen l Ours Comes w cores (Call n event new) = Ours n × MayCome w n event × Step (cores n) event new
 MayHappen l Ours Comes w cores (Perform n token c) = Ours n × Possible l Comes w (worlds.Perform n token c)
 MayHappen l Ours Comes w cores (Tell n call answer middle new) =
     Ours n × IsAnswer l w.register (as_made n call) answer × Step (cores n) (Take_call call) middle × Step middle (steps.Told call answer) new
 MayHappen l Ours Comes w cores (Outside call) = Comes call
 
-abbrev pub CoresRun : Layout → (Ours : ℕ → Type 0) → (Comes : RegisterCall → Type 0) → World → (ℕ → State) → List Moment → Type 0
+abbrev pub CoresRun : Layout → (Ours : ℕ → Type 0) → (Comes : RegisterCall → Type 0) → World → (ℕ → CoreView) → List Moment → Type 0
 CoresRun l Ours Comes w cores [] = record {}
 CoresRun l Ours Comes w cores (m ∷ moments) =
     MayHappen l Ours Comes w cores m.happening × CoresRun l Ours Comes (next l w (moment_of m)) (cores_after cores m.happening) moments
 
--- the core of each shard is as it was made
-abbrev pub IsMade : Shape → Snapshot → (shard : ℕ) → State → Type 0
-IsMade shape r n core = (core.frames.geometry ≡ shape) × (core.frames.shard ≡ n) × (state_of core ≡ shard_at_start (layout_of shape) r n)
-
-abbrev pub AreMade : Shape → (Ours : ℕ → Type 0) → Snapshot → (ℕ → State) → Type 0
+abbrev pub AreMade : Shape → (Ours : ℕ → Type 0) → Snapshot → (ℕ → CoreView) → Type 0
 AreMade shape Ours r cores = (n : ℕ) → Ours n → IsMade shape r n (cores n)
 
 -- the world's shards are the cores, at each moment
-abbrev pub AreShards : (Ours : ℕ → Type 0) → World → (ℕ → State) → Type 0
-AreShards Ours w cores = (n : ℕ) → Ours n → w.shard n ≡ state_of (cores n)
+abbrev pub AreShards : (Ours : ℕ → Type 0) → World → (ℕ → CoreView) → Type 0
+AreShards Ours w cores = (n : ℕ) → Ours n → w.shard n ≡ world_shard (cores n)
 
-abbrev pub StayShards : Layout → (Ours : ℕ → Type 0) → World → (ℕ → State) → List Moment → Type 0
+abbrev pub StayShards : Layout → (Ours : ℕ → Type 0) → World → (ℕ → CoreView) → List Moment → Type 0
 StayShards l Ours w cores [] = AreShards Ours w cores
 StayShards l Ours w cores (m ∷ moments) =
     AreShards Ours w cores × StayShards l Ours (next l w (moment_of m)) (cores_after cores m.happening) moments
@@ -85,7 +81,7 @@ StayShards l Ours w cores (m ∷ moments) =
 -- every run of these cores, made at one register, is a run of the world, whose shards they are
 abbrev pub AreRuns : Shape → (Ours : ℕ → Type 0) → (Comes : RegisterCall → Type 0) → Type 0
 AreRuns shape Ours Comes =
-    (r : Snapshot) (device : Devices) (cores : ℕ → State) → AreMade shape Ours r cores
+    (r : Snapshot) (device : Devices) (cores : ℕ → CoreView) → AreMade shape Ours r cores
     → (moments : List Moment) → CoresRun (layout_of shape) Ours Comes (started (layout_of shape) r device) cores moments
     → Run (layout_of shape) Comes (started (layout_of shape) r device) (map moment_of moments)
     × StayShards (layout_of shape) Ours (started (layout_of shape) r device) cores moments
@@ -109,7 +105,7 @@ RunsOfOneCore = (shape : Shape) → IsShape shape → (n : ℕ) → n < shape.sh
 abbrev pub OfEveryRunOfCores : (Layout → Array → World → List worlds.Moment → Type 0) → Type 0
 OfEveryRunOfCores Law =
     (shape : Shape) → IsShape shape → (r : Snapshot) (device : Devices) (array : Array) → IsLawfulStart (layout_of shape) r device array
-    → (cores : ℕ → State) → AreMade shape (IsShard shape) r cores
+    → (cores : ℕ → CoreView) → AreMade shape (IsShard shape) r cores
     → (moments : List Moment) → CoresRun (layout_of shape) (IsShard shape) IsOfOutside (started (layout_of shape) r device) cores moments
     → Law (layout_of shape) array (started (layout_of shape) r device) (map moment_of moments)
 
@@ -134,7 +130,7 @@ abbrev pub ShardOfCores : Type 0
 ShardOfCores =
     (shape : Shape) → IsShape shape → (n : ℕ) → n < shape.shards
     → (r : Snapshot) (device : Devices) (array : Array) → IsLawfulStart (layout_of shape) r device array
-    → (core : State) → IsMade shape r n core
+    → (core : CoreView) → IsMade shape r n core
     → (moments : List Moment) → CoresRun (layout_of shape) (IsThis n) IsByAnyone (started (layout_of shape) r device) (λ m. core) moments
     → let start = started (layout_of shape) r device in
     ShardHolds (layout_of shape) n start start (at_start array)

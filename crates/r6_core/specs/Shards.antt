@@ -1,6 +1,7 @@
 -- Which shard of the world a core is, and its steps.
 use Rattle.std.specs.Prelude.{◌≡◌, ℕ, nat_eq, Bool, true, false, List, ◌++◌, map, slice_index_or, option_map, Option, Some, None, Result, Ok, Err}
 use Rattle.std.specs.Map.{lookup}
+use Rattle.r6_layout.specs.Shape.{Shape}
 use Rattle.r6_world.specs.PlainArray as world
 use Rattle.r6_world.specs.Layouts.{Layout}
 use Rattle.r6_world.specs.Geometries.{layout_of}
@@ -71,12 +72,62 @@ state_of s = shard_with (rest_of s) s.frames
 abbrev pub layout_in : State → Layout
 layout_in s = layout_of s.frames.geometry
 
-abbrev pub SameFrames : State → State → Type 0
-SameFrames old new = (new.frames.geometry ≡ old.frames.geometry) × (new.frames.shard ≡ old.frames.shard)
+-- ---- a core as its callers see it
+
+-- Clauses speak of this. The last field is the core's own: nobody else reads it
+pub record CoreView : Type 0 where
+  pub shape : Shape  -- of the array
+  pub shard : ℕ  -- which of its shards
+  pub waiting : List Request  -- from the oldest to the newest
+  pub finished : List Request  -- in the order in which they finished
+  pub released : List Request  -- in the order in which they were released
+  pub unanswered : ℕ  -- how many were accepted whose replies were not taken
+  inside : State
+
+abbrev pub core_of : State → CoreView
+core_of s =
+    record {
+      shape = s.frames.geometry;
+      shard = s.frames.shard;
+      waiting = s.waiting.items;
+      finished = s.finished.items;
+      released = s.released.items;
+      unanswered = s.unanswered;
+      inside = s;
+    }
+
+-- a core as the tuple of its fields, by which a proof tells cores apart
+abbrev pub Fields : Type 0
+Fields = Shape × (ℕ × (List Request × (List Request × (List Request × (ℕ × State)))))
+
+abbrev pub fields : CoreView → Fields
+fields core = (core.shape, (core.shard, (core.waiting, (core.finished, (core.released, (core.unanswered, core.inside))))))
+
+abbrev pub of_fields : Fields → CoreView
+of_fields f =
+    record {
+      shape = f.0;
+      shard = f.1.0;
+      waiting = f.1.1.0;
+      finished = f.1.1.1.0;
+      released = f.1.1.1.1.0;
+      unanswered = f.1.1.1.1.1.0;
+      inside = f.1.1.1.1.1.1;
+    }
+
+-- the shard of the world that it is
+abbrev pub world_shard : CoreView → Shard
+world_shard core = state_of core.inside
+
+abbrev pub core_layout : CoreView → Layout
+core_layout core = layout_of core.shape
+
+abbrev pub SameShard : CoreView → CoreView → Type 0
+SameShard old new = (new.shape ≡ old.shape) × (new.shard ≡ old.shard)
 
 -- a step of this shard, which stays the shard that it is
-abbrev pub Step : State → steps.Event → State → Type 0
-Step old event new = SameFrames old new × steps.Step (layout_in old) old.frames.shard (state_of old) event (state_of new)
+abbrev pub Step : CoreView → steps.Event → CoreView → Type 0
+Step old event new = SameShard old new × steps.Step (core_layout old) old.shard (world_shard old) event (world_shard new)
 
 -- ---- completions and replies, as the world has them
 

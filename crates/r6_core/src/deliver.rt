@@ -1,15 +1,14 @@
 //! Completions of commands, and losses that they tell of.
 
 ghost use Rattle.std.specs.Prelude.{◌≡◌, ℕ, length, MatchOption, IfOk, IfErr};
-ghost use Rattle.r6_world.specs.Steps.{Deliver, Good, Error, Taken, Through, GoesOn, Takes};
-ghost use Rattle.r6_world.specs.Changes.{Change, after, Allowed};
+ghost use Rattle.r6_world.specs.Steps.{Deliver, Good, Error, Taken, Through, GoesOn};
 ghost use Rattle.r6_frames.specs.Views.{AreLive};
 ghost use Rattle.r6_frames.specs.Calls.{IsAwaited, IsAbandoned, IsHeldFrame, KeepsOthers};
 ghost use Rattle.r6_frames.specs.Owed.{IsDriven};
-ghost use Rattle.r6_core.specs.Shards.{Step, state_of, layout_in, completion_of, receipt_of, buffer_in, SameFrames};
-ghost use Rattle.r6_core.specs.Refusals.{HasDeliverFault, IsFirstFault, HasNone, deliver_faults};
+ghost use Rattle.r6_core.specs.Shards.{Step, core_of, state_of, layout_in, completion_of, receipt_of};
+ghost use Rattle.r6_core.specs.Refusals.{IsFirstFault, HasNone, deliver_faults};
 ghost use Rattle.r6_core.specs.Order.{MayFinish, Finishes, FinishesBy, HaveTurnsBehind};
-ghost use Rattle.r6_core.specs.Inside.{IsSound, IsCore, IsRestedFrame, SameCalls, FinishesHeld};
+ghost use Rattle.r6_core.specs.Inside.{IsSound, IsCore, IsRestedFrame, HasFault, FinishesHeld, SameCalls, SameFrames, Seen, TakesThrough};
 
 use crate::call::Call;
 use crate::refusal::{DeviceFault, Receipt, Refusal, Refused};
@@ -20,7 +19,9 @@ impl State {
     // Why a completion is refused, if it is.
     fn fault(&self, token: u64, completion: &Result<Buffer, DeviceFault>) -> Option<Refusal>
         requires { IsSound self.now }
-        ensures { MatchOption result (HasNone (HasDeliverFault self.now token (buffer_in completion.now)) deliver_faults) (IsFirstFault (HasDeliverFault self.now token (buffer_in completion.now)) deliver_faults) }
+        ensures { MatchOption result
+            (HasNone (HasFault self.now token completion.now) deliver_faults)
+            (IsFirstFault (HasFault self.now token completion.now) deliver_faults) }
     {
         if !self.frames.awaits(token) {
             return Some(Refusal::UnknownToken);
@@ -43,12 +44,16 @@ impl State {
     ) -> Result<Receipt, Refused<Result<Buffer, DeviceFault>>>
         requires { IsCore self.old }
         ensures core { IsCore self.new }
-        ensures step { IfOk result (λ receipt. Step self.old (Deliver token (completion_of completion) (receipt_of receipt)) self.new) }
-        ensures accepted { IfOk result (λ _. HasNone (HasDeliverFault self.old token (buffer_in completion)) deliver_faults) }
-        ensures refused { IfErr result (λ refused. (self.new ≡ self.old) × (refused.back ≡ completion) × IsFirstFault (HasDeliverFault self.old token (buffer_in completion)) deliver_faults refused.refusal) }
-        ensures order { IfOk result (λ _. FinishesBy completion self.old self.new) }
+        ensures step { IfOk result (λ receipt.
+            Step (core_of self.old) (Deliver token (completion_of completion) (receipt_of receipt)) (core_of self.new)) }
+        ensures right { IfOk result (λ _. HasNone (HasFault self.old token completion) deliver_faults) }
+        ensures refused { IfErr result (λ r.
+            (self.new ≡ self.old) × (r.back ≡ completion) × IsFirstFault (HasFault self.old token completion) deliver_faults r.refusal) }
+
+        // holds go on, and what waited has its turn
+        ensures order { IfOk result (λ _. Seen (FinishesBy completion) self.old self.new) }
         ensures unanswered { self.new.unanswered ≡ self.old.unanswered }
-        ensures turns { IfOk result (λ _. HaveTurnsBehind completion self.old self.new) }
+        ensures turns { IfOk result (λ receipt. HaveTurnsBehind (core_of self.old) token completion receipt (core_of self.new)) }
     {
         if let Some(refusal) = self.fault(token, &completion) {
             return Err(Refused {
@@ -64,11 +69,11 @@ impl State {
     // The completion of a command that was taken: late, or with what it does to its hold or to all.
     fn take(&mut self, token: u64, completion: Result<Buffer, DeviceFault>) -> Receipt
         requires core { IsCore self.old }
-        requires right { HasNone (HasDeliverFault self.old token (buffer_in completion)) deliver_faults }
+        requires right { HasNone (HasFault self.old token completion) deliver_faults }
         ensures core { IsCore self.new }
-        ensures takes { (change : Change) × Takes token (completion_of completion) (receipt_of result) change × Allowed (layout_in self.old) self.old.frames.shard (state_of self.old) change × Through (layout_in self.old) self.old.frames.shard GoesOn (after (layout_in self.old) (state_of self.old) change) (state_of self.new) }
+        ensures takes { TakesThrough self.old token (completion_of completion) (receipt_of result) self.new }
         ensures same { SameFrames self.old self.new }
-        ensures order { FinishesBy completion self.old self.new }
+        ensures order { Seen (FinishesBy completion) self.old self.new }
         ensures unanswered { self.new.unanswered ≡ self.old.unanswered }
         ensures others { IfOk completion (λ _. (frame : ℕ) × KeepsOthers self.old.frames frame self.new.frames) }
         ensures waiting { self.new.waiting ≡ self.old.waiting }
@@ -95,9 +100,9 @@ impl State {
         requires wanted { IsAbandoned self.old.frames token → ⊥ }
         requires size { length buffer ≡ self.old.frames.geometry.block }
         ensures core { IsCore self.new }
-        ensures takes { (change : Change) × Takes token (Good buffer) Taken change × Allowed (layout_in self.old) self.old.frames.shard (state_of self.old) change × Through (layout_in self.old) self.old.frames.shard GoesOn (after (layout_in self.old) (state_of self.old) change) (state_of self.new) }
+        ensures takes { TakesThrough self.old token (Good buffer) Taken self.new }
         ensures same { SameFrames self.old self.new }
-        ensures order { MayFinish self.old self.new }
+        ensures order { Seen MayFinish self.old self.new }
         ensures unanswered { self.new.unanswered ≡ self.old.unanswered }
         ensures others { (frame : ℕ) × KeepsOthers self.old.frames frame self.new.frames }
         ensures waiting { self.new.waiting ≡ self.old.waiting }
@@ -114,9 +119,9 @@ impl State {
         requires wanted { IsAbandoned self.old.frames token → ⊥ }
         requires size { length buffer ≡ self.old.frames.geometry.block }
         ensures core { IsCore self.new }
-        ensures takes { (change : Change) × Takes token Error Taken change × Allowed (layout_in self.old) self.old.frames.shard (state_of self.old) change × Through (layout_in self.old) self.old.frames.shard GoesOn (after (layout_in self.old) (state_of self.old) change) (state_of self.new) }
+        ensures takes { TakesThrough self.old token Error Taken self.new }
         ensures same { SameFrames self.old self.new }
-        ensures order { Finishes self.old self.new }
+        ensures order { Seen Finishes self.old self.new }
         ensures unanswered { self.new.unanswered ≡ self.old.unanswered }
         ensures waiting { self.new.waiting ≡ self.old.waiting }
     {
@@ -137,7 +142,7 @@ impl State {
         ensures leads { Through (layout_in self.old) self.old.frames.shard GoesOn (state_of self.old) (state_of self.new) }
         ensures same { SameFrames self.old self.new }
         ensures calls { SameCalls self.old self.new }
-        ensures order { Finishes self.old self.new }
+        ensures order { Seen Finishes self.old self.new }
         ensures unanswered { self.new.unanswered ≡ self.old.unanswered }
         ensures waiting { self.new.waiting ≡ self.old.waiting }
     {
@@ -160,10 +165,12 @@ impl State {
         ensures live { AreLive self.new.frames }
         ensures leads { Through (layout_in self.old) self.old.frames.shard GoesOn (state_of self.old) (state_of self.new) }
         ensures rests { IsRestedFrame self.new frame }
+
+        // one request at most is finished, and nothing else changes
         ensures others { KeepsOthers self.old.frames frame self.new.frames }
         ensures same { SameFrames self.old self.new }
         ensures calls { SameCalls self.old self.new }
-        ensures order { MayFinish self.old self.new }
+        ensures order { Seen MayFinish self.old self.new }
         ensures ends { FinishesHeld self.old frame self.new }
         ensures unanswered { self.new.unanswered ≡ self.old.unanswered }
         ensures waiting { self.new.waiting ≡ self.old.waiting }

@@ -20,4 +20,3 @@ pub use r6_frames::{Command, CommandKind, Op};
 pub use refusal::{CoreError, DeviceFault, FaultKind, Receipt, Refusal, Refused};
 pub use reply::{OpId, Reply};
 pub use shard_core::Core;
-pub use state::State;

@@ -9,10 +9,9 @@ ghost use Rattle.r6_world.specs.Changes.{Release, See_failed, after, adopted, di
 ghost use Rattle.r6_frames.specs.Views.{AreLive};
 ghost use Rattle.r6_frames.specs.Slots as slots;
 ghost use Rattle.r6_frames.specs.Slots.{states_of};
-ghost use Rattle.r6_core.specs.Shards.{Step, state_of, layout_in, SameFrames};
-ghost use Rattle.r6_core.specs.Refusals.{AllTold};
-ghost use Rattle.r6_core.specs.Order.{Agrees, SameReplies, LooksOn, FailsAll, HaveTurnsAfter};
-ghost use Rattle.r6_core.specs.Inside.{IsSound, IsCore, inserted, Gathers, SameCalls};
+ghost use Rattle.r6_core.specs.Shards.{Step, core_of, state_of, layout_in};
+ghost use Rattle.r6_core.specs.Order.{Agrees, SameReplies, FailsAll, LooksOn, HaveTurnsAfter};
+ghost use Rattle.r6_core.specs.Inside.{IsSound, IsCore, SameFrames, SameCalls, NoCalls, Seen, inserted, Gathers};
 
 use crate::refusal::Refusal;
 use crate::state::State;
@@ -27,12 +26,14 @@ impl State {
     pub(crate) fn look(&mut self, snapshot: &Snapshot) -> Result<(), Refusal>
         requires { IsCore self.old }
         ensures core { IsCore self.new }
-        ensures step { IfOk result (λ _. Step self.old (Look snapshot.now) self.new) }
-        ensures told { IfOk result (λ _. AllTold self.old) }
-        ensures refused { IfErr result (λ refusal. (refusal ≡ Refusal.UntoldFirst) × (AllTold self.old → ⊥) × (self.new ≡ self.old)) }
-        ensures order { IfOk result (λ _. LooksOn self.old snapshot.now self.new) }
+        ensures step { IfOk result (λ _. Step (core_of self.old) (Look snapshot.now) (core_of self.new)) }
+        ensures told { IfOk result (λ _. NoCalls self.old) }
+        ensures refused { IfErr result (λ refusal. (self.new ≡ self.old) × (refusal ≡ Refusal.UntoldFirst) × (NoCalls self.old → ⊥)) }
+
+        // what is finished is released, and what waited has its turn
+        ensures order { IfOk result (λ _. LooksOn (core_of self.old) snapshot.now (core_of self.new)) }
         ensures unanswered { self.new.unanswered ≡ self.old.unanswered }
-        ensures turns { IfOk result (λ _. HaveTurnsAfter self.old snapshot.now self.new) }
+        ensures turns { IfOk result (λ _. HaveTurnsAfter (core_of self.old) snapshot.now (core_of self.new)) }
     {
         if !self.calls.is_empty() || self.untold.is_some() {
             return Err(Refusal::UntoldFirst);
@@ -56,15 +57,17 @@ impl State {
     // Takes over what the register has of each slot: whether one went out.
     fn adopt(&mut self, snapshot: &Snapshot) -> bool
         requires sound { IsSound self.old }
-        requires told { AllTold self.old }
+        requires told { NoCalls self.old }
         ensures sound { IsSound self.new }
         ensures takes { Through (layout_in self.old) self.old.frames.shard (TakesOver snapshot.now) (state_of self.old) (state_of self.new) }
         ensures slots { (slot : ℕ) → slot < self.old.frames.geometry.slots → states_of self.new.frames.slots slot ≡ adopted (states_of self.old.frames.slots slot) (status_of snapshot.now slot) }
-        ensures none { result ≡ false → (self.new ≡ self.old) × Agrees self.old snapshot.now }
-        ensures some { result ≡ true → Agrees self.old snapshot.now → ⊥ }
+        ensures none { result ≡ false → (self.new ≡ self.old) × Agrees (core_of self.old) snapshot.now }
+        ensures some { result ≡ true → Agrees (core_of self.old) snapshot.now → ⊥ }
+
+        // nothing else changes
         ensures same { SameFrames self.old self.new }
         ensures calls { SameCalls self.old self.new }
-        ensures order { SameReplies self.old self.new }
+        ensures order { Seen SameReplies self.old self.new }
         ensures unanswered { self.new.unanswered ≡ self.old.unanswered }
         ensures waiting { self.new.waiting ≡ self.old.waiting }
     {
@@ -85,7 +88,7 @@ impl State {
         ensures fails { state_of self.new ≡ after (layout_in self.old) (state_of self.old) See_failed }
         ensures same { SameFrames self.old self.new }
         ensures calls { SameCalls self.old self.new }
-        ensures order { FailsAll self.old self.new }
+        ensures order { Seen FailsAll self.old self.new }
         ensures unanswered { self.new.unanswered ≡ self.old.unanswered }
     {
         self.frames.see_failure();

@@ -1,14 +1,24 @@
 //! Why a call of a core is refused, and what a device says of a command.
 
 ghost use Rattle.std.specs.Prelude.{◌≡◌};
-ghost use Rattle.r6_core.specs.Refusals.{number_of};
+ghost use Rattle.r6_core.specs.Refusals.{error_number, number_of, name_of};
 
 use r6_kernels::Buffer;
 
 /// Why a core can't be made.
 #[derive(Clone, Copy, PartialEq, Eq, Debug)]
 pub enum CoreError {
+    /// There is no memory for its room.
     NoMemory = 1,
+}
+
+impl CoreError {
+    /// The number of the error.
+    pub fn number(self) -> u8
+        ensures { result ≡ error_number self }
+    {
+        self as u8
+    }
 }
 
 /// Why a call is refused. A refusal changes nothing.
@@ -41,12 +51,30 @@ impl Refusal {
     {
         self as u8
     }
+
+    /// The name of the refusal, as this type has it.
+    pub fn name(self) -> &'static str
+        ensures { result.now ≡ name_of self }
+    {
+        match self {
+            Refusal::NoSuchBlock => "NoSuchBlock",
+            Refusal::WrongShard => "WrongShard",
+            Refusal::WrongLength => "WrongLength",
+            Refusal::Busy => "Busy",
+            Refusal::ArrayFailed => "ArrayFailed",
+            Refusal::Exhausted => "Exhausted",
+            Refusal::UnknownToken => "UnknownToken",
+            Refusal::UntoldFirst => "UntoldFirst",
+            Refusal::UnknownCall => "UnknownCall",
+        }
+    }
 }
 
 /// A refusal, with what was handed in.
 #[derive(Drop)]
 pub struct Refused<T> {
     pub refusal: Refusal,
+    /// As it was.
     pub back: T,
 }
 
@@ -66,7 +94,9 @@ pub enum FaultKind {
 /// A command that a device didn't perform, with the command's buffer.
 #[derive(Drop)]
 pub struct DeviceFault {
+    /// For whoever tells of it: each takes the slot out.
     pub kind: FaultKind,
+    /// Of the block's length; its bytes don't matter.
     pub buffer: Buffer,
 }
 

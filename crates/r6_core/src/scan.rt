@@ -5,9 +5,9 @@ ghost use Rattle.r6_world.specs.Steps.{Through, Scans};
 ghost use Rattle.r6_frames.specs.Views.{AreLive};
 ghost use Rattle.r6_frames.specs.Calls.{IsFreeFrame, IsRequestOf};
 ghost use Rattle.r6_frames.specs.Sound as held;
-ghost use Rattle.r6_core.specs.Shards.{state_of, layout_in, SameFrames};
-ghost use Rattle.r6_core.specs.Order.{CannotStart, CanStart, HaveTurns, KeepsReplies};
-ghost use Rattle.r6_core.specs.Inside.{IsSound, IsCore, NoneCanStart, Advances, SameCalls};
+ghost use Rattle.r6_core.specs.Shards.{core_of, state_of, layout_in};
+ghost use Rattle.r6_core.specs.Order.{HaveTurns, KeepsReplies};
+ghost use Rattle.r6_core.specs.Inside.{IsSound, IsCore, NoneCanStart, CannotStart, CanStart, Advances, SameFrames, SameCalls, Seen};
 
 use crate::state::State;
 use r6_frames::Request;
@@ -19,10 +19,10 @@ impl State {
         ensures core { IsCore self.new }
         ensures leads { Through (layout_in self.old) self.old.frames.shard Scans (state_of self.old) (state_of self.new) }
         ensures rested { NoneCanStart self.new }
-        ensures turns { HaveTurns self.old.frames self.old.waiting.items self.new }
+        ensures turns { HaveTurns (core_of self.old) (state_of self.old) self.old.waiting.items (core_of self.new) }
         ensures same { SameFrames self.old self.new }
         ensures calls { SameCalls self.old self.new }
-        ensures replies { KeepsReplies self.old self.new }
+        ensures replies { Seen KeepsReplies self.old self.new }
     {
         if !self.frames.is_live() {
             return;
@@ -43,7 +43,7 @@ impl State {
         ensures advances { Advances self.old self.new }
         ensures same { SameFrames self.old self.new }
         ensures calls { SameCalls self.old self.new }
-        ensures replies { KeepsReplies self.old self.new }
+        ensures replies { Seen KeepsReplies self.old self.new }
     {
         let Some(request) = self.waiting.pop_front() else {
             unreachable!()

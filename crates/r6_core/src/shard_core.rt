@@ -1,16 +1,14 @@
 //! The core as its callers see it.
 
-ghost use Rattle.std.specs.Prelude.{◌≡◌, ◌≢◌, ◌+◌, [], ◌∷◌, ◌++◌, ◌<◌, ◌≤◌, nat_lt, if◌then◌else◌, ℕ, Bool, false, MatchOption, IfOk, IfErr, IfSome, Option, Some, None};
+ghost use Rattle.std.specs.Prelude.{◌≡◌, ◌≤◌, ◌<◌, nat_lt, if◌then◌else◌, ℕ, MatchOption, IfOk, IfErr, IfSome, None, false};
 ghost use Rattle.r6_layout.specs.Shape.{IsShape};
 ghost use Rattle.r6_world.specs.Geometries.{layout_of};
 ghost use Rattle.r6_world.specs.Registers.{status_of};
 ghost use Rattle.r6_world.specs.Worlds.{shard_at_start, slot_at_start};
-ghost use Rattle.r6_world.specs.Steps.{Submit, Deliver, Look, Take_command, No_command, Take_call, No_call, Told, Take_reply, No_reply};
-ghost use Rattle.r6_frames.specs.Views.{op_of, world_command};
-ghost use Rattle.r6_frames.specs.Calls.{IsCommandOf};
-ghost use Rattle.r6_core.specs.Shards.{Step, state_of, devices_state, synced, reply_of, call_of, completion_of, receipt_of, buffer_in};
-ghost use Rattle.r6_core.specs.Refusals.{AllTold, HasSubmitFault, HasDeliverFault, IsFirstFault, HasNone, submit_faults, deliver_faults};
-ghost use Rattle.r6_core.specs.Order.{BringsBack, NoReplies, SameReplies, KeepsReplies, FinishesBy, LooksOn, TakesFirst, HasNoReply, HaveTurns, HaveTurnsBehind, HaveTurnsAfter};
+ghost use Rattle.r6_world.specs.Steps.{No_command, No_call};
+ghost use Rattle.r6_core.specs.Shards.{Step, world_shard, devices_state, synced};
+ghost use Rattle.r6_core.specs.Order.{NoReplies};
+ghost use Rattle.r6_core.specs.Effects.{KeepsRequests, IsMade, Accepts, RefusesOp, Receives, RefusesCompletion, LooksAt, RefusesLook, IsCommandOf, HandsCommand, HandsCall, Hears, RefusesAnswer, HandsReply, HandsNoReply};
 
 use crate::call::Call;
 use crate::refusal::{CoreError, DeviceFault, Receipt, Refusal, Refused};
@@ -34,23 +32,24 @@ pub struct Core {
 }
 
 impl Model for Core {
-    ghost use Rattle.r6_core.specs.declared.state.State.{State};
-    ghost use Rattle.r6_core.specs.Inside.{IsCore};
-    ghost use Rattle.std.specs.Coded.{codes};
+    ghost use Rattle.std.specs.Prelude.{refl};
+    ghost use Rattle.std.specs.Coded.{codes, code_by};
     ghost use Rattle.std.specs.FinMap as map;
     ghost use Rattle.circular_buffer.specs.Buffer.{buffer_code};
+    ghost use Rattle.r6_core.specs.Shards.{CoreView, Fields, core_of, fields, of_fields};
+    ghost use Rattle.r6_core.specs.Inside.{IsCore};
 
-    ghost Value = { State };
+    ghost Value = { CoreView };
 
-    ghost coded = { Prim.hlevel (codes, map.code, buffer_code) };
+    ghost coded = { code_by Fields (Prim.hlevel (codes, map.code, buffer_code)) fields of_fields (λ _. refl) };
 
-    ghost view = { λ core. core.state };
+    ghost view = { λ core. core_of core.state };
 
     ghost invariant = { λ core. IsCore core.state };
 }
 
 impl Core {
-    /// The core of a shard of the array. All room is made here.
+    /// The core of shard `shard` of the array, one of those of the geometry. All room is made here.
     ///
     /// `window`, 1 to 8, is how many rows of a rebuild may be under way at one time; nothing depends on it yet, since cores
     /// don't rebuild so far. The snapshot is of a register at which no device was attached, and that has not failed.
@@ -69,9 +68,7 @@ impl Core {
         requires window { (1 ≤ window) × (window ≤ 8) }
         requires no_attach { snapshot.now.attaches ≡ 0 }
         requires unfailed { snapshot.now.failed ≡ false }
-        ensures start { IfOk result (λ core. (core.frames.geometry ≡ geometry) × (core.frames.shard ≡ shard) × (state_of core ≡ shard_at_start (layout_of geometry) snapshot.now shard)) }
-        ensures order { IfOk result NoReplies }
-        ensures unanswered { IfOk result (λ core. core.unanswered ≡ 0) }
+        ensures made { IfOk result (IsMade geometry snapshot.now shard) }
     {
         match State::new(alloc, geometry, shard, devices_at(snapshot)) {
             Ok(state) => Ok(Core { state }),
@@ -85,14 +82,10 @@ impl Core {
     /// In this order: 1 `NoSuchBlock`, 2 `WrongShard`, 3 `WrongLength`, 5 `ArrayFailed`, 6 `Exhausted`, 4 `Busy`, with the
     /// request back. Nothing changes.
     pub fn submit(&mut self, op: Op) -> Result<OpId, Refused<Op>>
-        ensures step { IfOk result (λ id. Step self.old (Submit (op_of op) id.0) self.new) }
-        ensures accepted { IfOk result (λ _. HasNone (HasSubmitFault self.old op) submit_faults) }
-        ensures refused { IfErr result (λ refused. (self.new ≡ self.old) × (refused.back ≡ op) × IsFirstFault (HasSubmitFault self.old op) submit_faults refused.refusal) }
-        ensures order { IfOk result (λ _. SameReplies self.old self.new) }
-        ensures unanswered { IfOk result (λ _. self.new.unanswered ≡ self.old.unanswered + 1) }
-        ensures turns { IfOk result (λ id. HaveTurns self.old.frames (self.old.waiting.items ++ (record { id = id.0; op = op }) ∷ []) self.new) }
+        ensures accepted { IfOk result (λ id. Accepts self.old op id.0 self.new) }
+        ensures refused { IfErr result (λ r. RefusesOp self.old op r.refusal r.back self.new) }
     {
-        Ok(OpId(self.state.submit(op)?))
+        self.state.submit(op)
     }
 
     /// Takes the completion of a command, with its buffer: a read's with the block. An error takes the slot of the command
@@ -106,12 +99,8 @@ impl Core {
         token: u64,
         completion: Result<Buffer, DeviceFault>,
     ) -> Result<Receipt, Refused<Result<Buffer, DeviceFault>>>
-        ensures step { IfOk result (λ receipt. Step self.old (Deliver token (completion_of completion) (receipt_of receipt)) self.new) }
-        ensures accepted { IfOk result (λ _. HasNone (HasDeliverFault self.old token (buffer_in completion)) deliver_faults) }
-        ensures refused { IfErr result (λ refused. (self.new ≡ self.old) × (refused.back ≡ completion) × IsFirstFault (HasDeliverFault self.old token (buffer_in completion)) deliver_faults refused.refusal) }
-        ensures order { IfOk result (λ _. FinishesBy completion self.old self.new) }
-        ensures unanswered { self.new.unanswered ≡ self.old.unanswered }
-        ensures turns { IfOk result (λ _. HaveTurnsBehind completion self.old self.new) }
+        ensures received { IfOk result (λ receipt. Receives self.old token completion receipt self.new) }
+        ensures refused { IfErr result (λ r. RefusesCompletion self.old token completion r.refusal r.back self.new) }
     {
         self.state.deliver(token, completion)
     }
@@ -123,31 +112,28 @@ impl Core {
     /// # Errors
     /// 8 `UntoldFirst`. Nothing changes.
     pub fn look(&mut self, snapshot: &Snapshot) -> Result<(), Refusal>
-        ensures step { IfOk result (λ _. Step self.old (Look snapshot.now) self.new) }
-        ensures told { IfOk result (λ _. AllTold self.old) }
-        ensures refused { IfErr result (λ refusal. (refusal ≡ Refusal.UntoldFirst) × (AllTold self.old → ⊥) × (self.new ≡ self.old)) }
-        ensures order { IfOk result (λ _. LooksOn self.old snapshot.now self.new) }
-        ensures unanswered { self.new.unanswered ≡ self.old.unanswered }
-        ensures turns { IfOk result (λ _. HaveTurnsAfter self.old snapshot.now self.new) }
+        ensures looked { IfOk result (λ _. LooksAt self.old snapshot.now self.new) }
+        ensures refused { IfErr result (λ refusal. RefusesLook self.old refusal self.new) }
     {
         self.state.look(snapshot)
     }
 
     /// Takes the command that was put out first and not taken.
+    ///
+    /// Commands that were abandoned meanwhile are handed out too, and are to be delivered as all others: their buffers stay
+    /// away until then, and the frames of their rows with them. Any completion does, also with an error.
     pub fn take_command(&mut self) -> Option<Command>
-        ensures step { MatchOption result (Step self.old No_command self.new) (λ c. (frame : ℕ) × (abandoned : Bool) × Step self.old (Take_command c.token (world_command frame abandoned c)) self.new) }
-        ensures there { IfSome result (λ c. IsCommandOf self.old.frames c) }
-        ensures replies { KeepsReplies self.old self.new }
-        ensures waiting { self.new.waiting ≡ self.old.waiting }
+        ensures step { MatchOption result (Step self.old No_command self.new) (λ c. HandsCommand self.old c self.new) }
+        ensures there { IfSome result (IsCommandOf self.old) }
+        ensures kept { KeepsRequests self.old self.new }
     {
         self.state.take_command()
     }
 
     /// Takes the call that is to be made next at the register, if the answer of the one before was told.
     pub fn take_call(&mut self) -> Option<Call>
-        ensures step { MatchOption result (Step self.old No_call self.new) (λ call. Step self.old (Take_call (call_of call)) self.new) }
-        ensures replies { KeepsReplies self.old self.new }
-        ensures waiting { self.new.waiting ≡ self.old.waiting }
+        ensures step { MatchOption result (Step self.old No_call self.new) (λ call. HandsCall self.old call self.new) }
+        ensures kept { KeepsRequests self.old self.new }
     {
         self.state.take_call()
     }
@@ -162,29 +148,23 @@ impl Core {
         call: Call,
         answer: Result<Answer, RegisterRefusal>,
     ) -> Result<(), Refusal>
-        ensures step { IfOk result (λ _. Step self.old (Told (call_of call) answer) self.new) }
-        ensures known { IfOk result (λ _. self.old.untold ≡ Some call) }
-        ensures refused { IfErr result (λ refusal. (refusal ≡ Refusal.UnknownCall) × (self.old.untold ≢ Some call) × (self.new ≡ self.old)) }
-        ensures replies { KeepsReplies self.old self.new }
-        ensures waiting { self.new.waiting ≡ self.old.waiting }
+        ensures heard { IfOk result (λ _. Hears self.old call answer self.new) }
+        ensures refused { IfErr result (λ refusal. RefusesAnswer self.old call refusal self.new) }
+        ensures kept { KeepsRequests self.old self.new }
     {
         self.state.told(call, answer)
     }
 
     /// Takes the reply that was released first.
     pub fn take_reply(&mut self) -> Option<(OpId, Reply)>
-        ensures step { MatchOption result (Step self.old No_reply self.new) (λ r. Step self.old (Take_reply (r.0).0 (reply_of r.1)) self.new) }
-        ensures buffer { IfSome result (λ r. BringsBack ((state_of self.old).request (r.0).0) r.1) }
-        ensures first { MatchOption result (HasNoReply self.old × (self.new ≡ self.old)) (λ r. TakesFirst self.old (r.0).0 r.1 self.new) }
-        ensures unanswered { MatchOption result (self.new.unanswered ≡ self.old.unanswered) (λ _. self.new.unanswered + 1 ≡ self.old.unanswered) }
-        ensures waiting { self.new.waiting ≡ self.old.waiting }
+        ensures reply { MatchOption result (HandsNoReply self.old self.new) (λ r. HandsReply self.old (r.0).0 r.1 self.new) }
     {
         self.state.take_reply()
     }
 
     /// The generation with which the shard has the slot in sync; `None` for any other slot, and for a number that no slot has.
     pub fn in_sync(&self, slot: usize) -> Option<u32>
-        ensures { result ≡ (if nat_lt slot self.now.frames.geometry.slots then synced ((state_of self.now).slot slot) else None) }
+        ensures { result ≡ (if nat_lt slot self.now.shape.slots then synced ((world_shard self.now).slot slot) else None) }
     {
         if slot >= self.state.frames.geometry.slots() {
             return None;

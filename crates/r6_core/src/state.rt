@@ -1,17 +1,18 @@
 //! The state of a shard, and what requests do to it.
 
-ghost use Rattle.std.specs.Prelude.{◌≡◌, ◌+◌, ◌<◌, ◌++◌, ◌∷◌, [], ℕ, Bool, length, map, MatchOption, IfOk, IfErr, IfSome};
+ghost use Rattle.std.specs.Prelude.{◌≡◌, ◌+◌, ◌<◌, ◌++◌, ◌∷◌, [], length, map, MatchOption, IfOk, IfErr, IfSome};
 ghost use Rattle.r6_kernels.specs.Blocks.{IsBlock};
 ghost use Rattle.r6_layout.specs.Shape.{IsShape};
-ghost use Rattle.r6_world.specs.Steps.{Submit, Take_command, No_command, Take_reply, No_reply};
+ghost use Rattle.r6_world.specs.Steps.{Submit, No_command, Take_reply, No_reply};
 ghost use Rattle.r6_world.specs.Changes.{Accept, after, Allowed};
-ghost use Rattle.r6_frames.specs.Views.{op_of, buffer_of, world_command};
-ghost use Rattle.r6_frames.specs.Calls.{IsCommandOf};
+ghost use Rattle.r6_frames.specs.Views.{op_of, buffer_of};
+ghost use Rattle.r6_frames.specs.Calls as frames;
 ghost use Rattle.r6_frames.specs.Slots.{slot_before};
-ghost use Rattle.r6_core.specs.Shards.{Step, state_of, layout_in, reply_of};
+ghost use Rattle.r6_core.specs.Shards.{Step, core_of, state_of, layout_in, reply_of};
 ghost use Rattle.r6_core.specs.Refusals.{HasSubmitFault, IsFirstFault, HasNone, submit_faults};
-ghost use Rattle.r6_core.specs.Order.{reply_to, BringsBack, NoReplies, SameReplies, TakesFirst, HasNoReply, KeepsReplies, HaveTurns};
-ghost use Rattle.r6_core.specs.Inside.{IsSound, IsCore, IsFresh, SameCalls};
+ghost use Rattle.r6_core.specs.Order.{NoReplies, SameReplies, BringsBack, TakesFirst, HasNoReply, HaveTurns, reply_to};
+ghost use Rattle.r6_core.specs.Effects.{KeepsRequests, HandsCommand};
+ghost use Rattle.r6_core.specs.Inside.{IsSound, IsCore, IsFresh, SameCalls, Seen};
 
 use crate::call::Call;
 use crate::refusal::{Refusal, Refused};
@@ -30,7 +31,7 @@ pub const LIMIT: u64 = 1 << 60;
 /// The state of a shard's core. An accepted request stands in one place: it waits, a row is held for it, it is finished, or
 /// its reply is released.
 #[derive(Drop)]
-pub struct State {
+pub(crate) struct State {
     /// How many requests were accepted so far.
     pub accepted: u64,
     /// How many of them have replies that were not taken.
@@ -60,7 +61,7 @@ impl State {
         requires shard { shard < geometry.shards }
         ensures core { IfOk result IsCore }
         ensures fresh { IfOk result (λ s. IsFresh s × (s.frames.geometry ≡ geometry) × (s.frames.shard ≡ shard) × (s.frames.slots ≡ map slot_before devices)) }
-        ensures order { IfOk result NoReplies }
+        ensures order { IfOk result (λ s. NoReplies (core_of s)) }
         ensures unanswered { IfOk result (λ s. s.unanswered ≡ 0) }
     {
         Ok(State {
@@ -78,7 +79,9 @@ impl State {
     // Why a request is refused, if it is.
     fn refusal(&self, op: &Op) -> Option<Refusal>
         requires { IsSound self.now }
-        ensures { MatchOption result (HasNone (HasSubmitFault self.now op.now) submit_faults) (IsFirstFault (HasSubmitFault self.now op.now) submit_faults) }
+        ensures { MatchOption result
+            (HasNone (HasSubmitFault (core_of self.now) op.now) submit_faults)
+            (IsFirstFault (HasSubmitFault (core_of self.now) op.now) submit_faults) }
     {
         let Some(place) = self.frames.geometry.place(op.block()) else {
             return Some(Refusal::NoSuchBlock);
@@ -102,15 +105,20 @@ impl State {
     }
 
     /// Takes a request, and starts what can start.
-    pub(crate) fn submit(&mut self, op: Op) -> Result<u64, Refused<Op>>
+    pub(crate) fn submit(&mut self, op: Op) -> Result<OpId, Refused<Op>>
         requires { IsCore self.old }
         ensures core { IsCore self.new }
-        ensures step { IfOk result (λ id. Step self.old (Submit (op_of op) id) self.new) }
-        ensures accepted { IfOk result (λ _. HasNone (HasSubmitFault self.old op) submit_faults) }
-        ensures refused { IfErr result (λ refused. (self.new ≡ self.old) × (refused.back ≡ op) × IsFirstFault (HasSubmitFault self.old op) submit_faults refused.refusal) }
-        ensures order { IfOk result (λ _. SameReplies self.old self.new) }
+        ensures step { IfOk result (λ id. Step (core_of self.old) (Submit (op_of op) id.0) (core_of self.new)) }
+        ensures right { IfOk result (λ _. HasNone (HasSubmitFault (core_of self.old) op) submit_faults) }
+        ensures refused { IfErr result (λ r.
+            (self.new ≡ self.old) × (r.back ≡ op) × IsFirstFault (HasSubmitFault (core_of self.old) op) submit_faults r.refusal) }
+
+        // what waited, and then the request, has its turn
+        ensures order { IfOk result (λ _. Seen SameReplies self.old self.new) }
         ensures unanswered { IfOk result (λ _. self.new.unanswered ≡ self.old.unanswered + 1) }
-        ensures turns { IfOk result (λ id. HaveTurns self.old.frames (self.old.waiting.items ++ (record { id = id; op = op }) ∷ []) self.new) }
+        ensures turns { IfOk result (λ id. HaveTurns (core_of self.old)
+            (after (layout_in self.old) (state_of self.old) (Accept (op_of op)))
+            (self.old.waiting.items ++ (record { id = id.0; op = op }) ∷ []) (core_of self.new)) }
     {
         if let Some(refusal) = self.refusal(&op) {
             return Err(Refused { refusal, back: op });
@@ -118,13 +126,13 @@ impl State {
         op.buffer().assure_bytes();
         let id = self.accept(op);
         self.scan();
-        Ok(id)
+        Ok(OpId(id))
     }
 
     // Puts the request behind all that wait.
     fn accept(&mut self, op: Op) -> u64
         requires core { IsCore self.old }
-        requires right { HasNone (HasSubmitFault self.old op) submit_faults }
+        requires right { HasNone (HasSubmitFault (core_of self.old) op) submit_faults }
         requires sized { IsBlock (length (buffer_of op)) (buffer_of op) }
         ensures core { IsCore self.new }
         ensures id { result ≡ self.old.accepted }
@@ -132,7 +140,7 @@ impl State {
         ensures allowed { Allowed (layout_in self.old) self.old.frames.shard (state_of self.old) (Accept (op_of op)) }
         ensures same { (self.new.frames ≡ self.old.frames) × SameCalls self.old self.new }
         ensures waiting { self.new.waiting.items ≡ self.old.waiting.items ++ (record { id = result; op = op }) ∷ [] }
-        ensures order { SameReplies self.old self.new }
+        ensures order { Seen SameReplies self.old self.new }
         ensures unanswered { self.new.unanswered ≡ self.old.unanswered + 1 }
     {
         let id = self.accepted;
@@ -148,10 +156,11 @@ impl State {
     pub(crate) fn take_command(&mut self) -> Option<Command>
         requires { IsCore self.old }
         ensures core { IsCore self.new }
-        ensures step { MatchOption result (Step self.old No_command self.new) (λ c. (frame : ℕ) × (abandoned : Bool) × Step self.old (Take_command c.token (world_command frame abandoned c)) self.new) }
-        ensures there { IfSome result (λ c. IsCommandOf self.old.frames c) }
-        ensures replies { KeepsReplies self.old self.new }
-        ensures waiting { self.new.waiting ≡ self.old.waiting }
+        ensures step { MatchOption result
+            (Step (core_of self.old) No_command (core_of self.new))
+            (λ c. HandsCommand (core_of self.old) c (core_of self.new)) }
+        ensures there { IfSome result (λ c. frames.IsCommandOf self.old.frames c) }
+        ensures kept { Seen KeepsRequests self.old self.new }
         ensures same { SameCalls self.old self.new }
     {
         self.frames.take_command()
@@ -161,10 +170,14 @@ impl State {
     pub(crate) fn take_reply(&mut self) -> Option<(OpId, Reply)>
         requires { IsCore self.old }
         ensures core { IsCore self.new }
-        ensures step { MatchOption result (Step self.old No_reply self.new) (λ r. Step self.old (Take_reply (r.0).0 (reply_of r.1)) self.new) }
+        ensures step { MatchOption result
+            (Step (core_of self.old) No_reply (core_of self.new))
+            (λ r. Step (core_of self.old) (Take_reply (r.0).0 (reply_of r.1)) (core_of self.new)) }
+        ensures first { MatchOption result
+            (HasNoReply (core_of self.old) × (self.new ≡ self.old))
+            (λ r. TakesFirst (core_of self.old) (r.0).0 r.1 (core_of self.new)) }
         ensures buffer { IfSome result (λ r. BringsBack ((state_of self.old).request (r.0).0) r.1) }
-        ensures first { MatchOption result (HasNoReply self.old × (self.new ≡ self.old)) (λ r. TakesFirst self.old (r.0).0 r.1 self.new) }
-        ensures unanswered { MatchOption result (self.new.unanswered ≡ self.old.unanswered) (λ _. self.new.unanswered + 1 ≡ self.old.unanswered) }
+        ensures unanswered { IfSome result (λ _. self.new.unanswered + 1 ≡ self.old.unanswered) }
         ensures waiting { self.new.waiting ≡ self.old.waiting }
         ensures same { SameCalls self.old self.new }
     {
@@ -180,10 +193,14 @@ impl State {
         requires core { IsCore self.old }
         requires last { self.old.released.items ≡ [] }
         ensures core { IsCore self.new }
-        ensures step { MatchOption result (Step self.old No_reply self.new) (λ r. Step self.old (Take_reply (r.0).0 (reply_of r.1)) self.new) }
+        ensures step { MatchOption result
+            (Step (core_of self.old) No_reply (core_of self.new))
+            (λ r. Step (core_of self.old) (Take_reply (r.0).0 (reply_of r.1)) (core_of self.new)) }
+        ensures first { MatchOption result
+            (HasNoReply (core_of self.old) × (self.new ≡ self.old))
+            (λ r. TakesFirst (core_of self.old) (r.0).0 r.1 (core_of self.new)) }
         ensures buffer { IfSome result (λ r. BringsBack ((state_of self.old).request (r.0).0) r.1) }
-        ensures first { MatchOption result (HasNoReply self.old × (self.new ≡ self.old)) (λ r. TakesFirst self.old (r.0).0 r.1 self.new) }
-        ensures unanswered { MatchOption result (self.new.unanswered ≡ self.old.unanswered) (λ _. self.new.unanswered + 1 ≡ self.old.unanswered) }
+        ensures unanswered { IfSome result (λ _. self.new.unanswered + 1 ≡ self.old.unanswered) }
         ensures waiting { self.new.waiting ≡ self.old.waiting }
         ensures same { SameCalls self.old self.new }
     {

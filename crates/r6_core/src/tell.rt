@@ -1,10 +1,10 @@
 //! Calls at the register are taken, and their answers told.
 
 ghost use Rattle.std.specs.Prelude.{◌≡◌, ◌≢◌, IfOk, IfErr, MatchOption, Some};
-ghost use Rattle.r6_world.specs.Steps.{Take_call, No_call, Told};
-ghost use Rattle.r6_core.specs.Shards.{Step, call_of};
-ghost use Rattle.r6_core.specs.Order.{KeepsReplies};
-ghost use Rattle.r6_core.specs.Inside.{IsCore};
+ghost use Rattle.r6_world.specs.Steps.{No_call, Told};
+ghost use Rattle.r6_core.specs.Shards.{Step, core_of, call_of};
+ghost use Rattle.r6_core.specs.Effects.{KeepsRequests, HandsCall};
+ghost use Rattle.r6_core.specs.Inside.{IsCore, Seen};
 
 use crate::call::Call;
 use crate::refusal::Refusal;
@@ -16,9 +16,8 @@ impl State {
     pub(crate) fn take_call(&mut self) -> Option<Call>
         requires { IsCore self.old }
         ensures core { IsCore self.new }
-        ensures step { MatchOption result (Step self.old No_call self.new) (λ call. Step self.old (Take_call (call_of call)) self.new) }
-        ensures replies { KeepsReplies self.old self.new }
-        ensures waiting { self.new.waiting ≡ self.old.waiting }
+        ensures step { MatchOption result (Step (core_of self.old) No_call (core_of self.new)) (λ call. HandsCall (core_of self.old) call (core_of self.new)) }
+        ensures kept { Seen KeepsRequests self.old self.new }
         ensures frames { self.new.frames ≡ self.old.frames }
     {
         if self.untold.is_some() {
@@ -37,11 +36,10 @@ impl State {
     ) -> Result<(), Refusal>
         requires { IsCore self.old }
         ensures core { IsCore self.new }
-        ensures step { IfOk result (λ _. Step self.old (Told (call_of call) answer) self.new) }
-        ensures refused { IfErr result (λ refusal. (refusal ≡ Refusal.UnknownCall) × (self.old.untold ≢ Some call) × (self.new ≡ self.old)) }
+        ensures step { IfOk result (λ _. Step (core_of self.old) (Told (call_of call) answer) (core_of self.new)) }
+        ensures refused { IfErr result (λ refusal. (self.new ≡ self.old) × (refusal ≡ Refusal.UnknownCall) × (self.old.untold ≢ Some call)) }
         ensures known { IfOk result (λ _. self.old.untold ≡ Some call) }
-        ensures replies { KeepsReplies self.old self.new }
-        ensures waiting { self.new.waiting ≡ self.old.waiting }
+        ensures kept { Seen KeepsRequests self.old self.new }
         ensures frames { self.new.frames ≡ self.old.frames }
     {
         if self.untold != Some(call) {

@@ -6,12 +6,10 @@ use Rattle.r6_health.specs.Refusals as register
 use Rattle.r6_health.specs.declared.call.Answer.{Answer}
 use Rattle.r6_health.specs.declared.call.Answer.TheVariants as answer
 use Rattle.r6_health.specs.declared.refusal.Refusal as register_refusal
-use Rattle.r6_core.specs.Refusals.{number_of}
+use Rattle.r6_core.specs.Refusals.{number_of, name_of}
 use Rattle.r6_core.specs.declared.call.Call.{Call}
 use Rattle.r6_core.specs.declared.call.Call.TheVariants as call
 use Rattle.r6_core.specs.declared.refusal.Receipt.TheVariants.{Taken, Late}
-use Rattle.r6_core.specs.declared.refusal.Refusal.{Refusal}
-use Rattle.r6_core.specs.declared.refusal.Refusal.TheVariants.{NoSuchBlock, WrongShard, WrongLength, Busy, ArrayFailed, Exhausted, UnknownToken, UntoldFirst, UnknownCall}
 use Rattle.r6_core.specs.declared.reply.Reply.{Reply}
 use Rattle.r6_core.specs.declared.reply.Reply.TheVariants as reply
 use Rattle.r6_core.specs.declared.Command.{Command}
@@ -23,17 +21,6 @@ use Rattle.r6_simulate.specs.declared.lines.Outcome.TheVariants.{Accepted, Perfo
 
 abbrev pub Text : Type 0
 Text = List ℕ
-
-abbrev pub refusal_name : Refusal → Text
-refusal_name NoSuchBlock = codes "NoSuchBlock"
-refusal_name WrongShard = codes "WrongShard"
-refusal_name WrongLength = codes "WrongLength"
-refusal_name Busy = codes "Busy"
-refusal_name ArrayFailed = codes "ArrayFailed"
-refusal_name Exhausted = codes "Exhausted"
-refusal_name UnknownToken = codes "UnknownToken"
-refusal_name UntoldFirst = codes "UntoldFirst"
-refusal_name UnknownCall = codes "UnknownCall"
 
 -- a call at the register
 abbrev pub call_text : Call → Text
@@ -59,7 +46,7 @@ outcome_text NotPerformed = codes "not performed"
 outcome_text (Received Taken) = codes "taken"
 outcome_text (Received Late) = codes "late"
 outcome_text Looked = codes "looked"
-outcome_text (Refused refusal) = codes "refused " ++ decimal (number_of refusal) ++ 32 ∷ refusal_name refusal
+outcome_text (Refused refusal) = codes "refused " ++ decimal (number_of refusal) ++ 32 ∷ name_of refusal
 outcome_text (Told made answered) = call_text made.0 ++ codes ": " ++ answer_text answered.0
 outcome_text Nothing = codes "nothing"
 outcome_text (Called answered) = answer_text answered.0

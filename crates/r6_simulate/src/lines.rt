@@ -3,7 +3,7 @@
 ghost use Rattle.std.specs.Prelude.{◌≡◌, ◌==◌, ◌++◌, OnOk, string_bytes};
 ghost use Rattle.std.specs.List.{list_all};
 ghost use Rattle.r6_script.specs.Script.{byte_word};
-ghost use Rattle.r6_simulate.specs.Lines.{block_text, command_text, only_byte, refusal_name, reply_text};
+ghost use Rattle.r6_simulate.specs.Lines.{block_text, command_text, only_byte, reply_text};
 
 use r6_core::{Call, Command, CommandKind, OpId, Receipt, Refusal, Reply};
 use r6_health::{Answer, Refusal as RegisterRefusal};
@@ -81,22 +81,6 @@ pub enum Outcome {
     NoSuchShard,
 }
 
-fn refusal_name(refusal: Refusal) -> &'static str
-    ensures { result.now ≡ refusal_name refusal }
-{
-    match refusal {
-        Refusal::NoSuchBlock => "NoSuchBlock",
-        Refusal::WrongShard => "WrongShard",
-        Refusal::WrongLength => "WrongLength",
-        Refusal::Busy => "Busy",
-        Refusal::ArrayFailed => "ArrayFailed",
-        Refusal::Exhausted => "Exhausted",
-        Refusal::UnknownToken => "UnknownToken",
-        Refusal::UntoldFirst => "UntoldFirst",
-        Refusal::UnknownCall => "UnknownCall",
-    }
-}
-
 impl fmt::Display for Outcome {
     ghost use Rattle.std.specs.Prelude.{Some};
     ghost use Rattle.r6_simulate.specs.Lines.{outcome_text};
@@ -114,7 +98,7 @@ impl fmt::Display for Outcome {
             Outcome::Received(Receipt::Late) => write!(f, "late"),
             Outcome::Looked => write!(f, "looked"),
             Outcome::Refused(refusal) => {
-                write!(f, "refused {} {}", refusal.number(), refusal_name(*refusal))
+                write!(f, "refused {} {}", refusal.number(), refusal.name())
             }
             Outcome::Told(made, answered) => write!(f, "{made}: {answered}"),
             Outcome::Nothing => write!(f, "nothing"),

@@ -1,8 +1,8 @@
-use Rattle.std.proofs.Common.{◌∙◌, sym, ap, subst}
+use Rattle.std.proofs.Common.{◌∙◌, sym, ap, subst, Ok}
 use Rattle.r6_world.specs.Steps.{Deliver, Good}
 use Rattle.r6_frames.specs.Views.{world_command, given_transfer}
 use Rattle.r6_core.specs.Shards.{Step, receipt_of}
-use Rattle.r6_core.proofs.Courses.{of_ok}
+use Rattle.r6_core.proofs.Courses.{received}
 use Rattle.r6_core.proofs.course.answer_read.Goals as goal
 
 pub returns-in-Taken : goal.returns-in-Taken
@@ -15,8 +15,8 @@ returns-in-Taken c =
       middle = c.take_command.new.self;
       taken = step.2;
       delivered = subst (λ receipt. Step c.take_command.new.self (Deliver command.token (Good c.args.block) (receipt_of receipt)) c.deliver.new.self) c.in-Taken.is
-          (of_ok c.deliver.result (λ receipt. Step c.take_command.new.self (Deliver command.token (Good c.args.block) (receipt_of receipt)) c.deliver.new.self) c.in_ok-ok.field-0
-          (sym c.ok.ensures.value ∙ c.in_ok-ok.was) c.deliver.ensures.step);
+          (received (Ok c.args.block) c.deliver.result c.in_ok-ok.field-0 c.take_command.new.self c.deliver.new.self command.token
+          (sym c.ok.ensures.value ∙ c.in_ok-ok.was) c.deliver.ensures.received);
       is_read = ap (λ kind. given_transfer kind command.buffer) c.in-Read.is;
       of_slot = c.if-command-slot.false;
       of_generation = c.if-command-ne0.false;

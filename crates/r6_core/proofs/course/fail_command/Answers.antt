@@ -2,7 +2,7 @@ use Rattle.std.proofs.Common.{◌∙◌, sym, subst}
 use Rattle.r6_world.specs.Steps.{Deliver, Error}
 use Rattle.r6_frames.specs.Views.{world_command}
 use Rattle.r6_core.specs.Shards.{Step, receipt_of}
-use Rattle.r6_core.proofs.Courses.{of_ok}
+use Rattle.r6_core.proofs.Courses.{received}
 use Rattle.r6_core.proofs.course.fail_command.Goals as goal
 
 pub returns-in-Taken : goal.returns-in-Taken
@@ -15,6 +15,6 @@ returns-in-Taken c =
       middle = c.take_command.new.self;
       taken = step.2;
       delivered = subst (λ receipt. Step c.take_command.new.self (Deliver token Error (receipt_of receipt)) c.deliver.new.self) c.in-Taken.is
-          (of_ok c.deliver.result (λ receipt. Step c.take_command.new.self (Deliver token Error (receipt_of receipt)) c.deliver.new.self) c.in_ok-ok.field-0
-          (sym c.ok.ensures.value ∙ c.in_ok-ok.was) c.deliver.ensures.step);
+          (received _ c.deliver.result c.in_ok-ok.field-0 c.take_command.new.self c.deliver.new.self token
+          (sym c.ok.ensures.value ∙ c.in_ok-ok.was) c.deliver.ensures.received);
     }

@@ -5,7 +5,7 @@ use Rattle.r6_world.specs.Registers.{Snapshot}
 use Rattle.r6_world.specs.Steps.{Look}
 use Rattle.r6_world.specs.Witness.{smallest}
 use Rattle.r6_core.specs.Shards.{Step}
-use Rattle.r6_core.specs.Runs.{IsMade}
+use Rattle.r6_core.specs.Effects.{IsMade, LooksAt}
 use Rattle.r6_core.proofs.Courses.{of_ok, made_smallest, through_loss}
 use Rattle.r6_core.proofs.course.read_through_a_loss.Goals as goal
 
@@ -18,9 +18,10 @@ returns c =
     let start : c.start-register.result ≡ starting 0 = c.start-register.ensures in
     let lost : c.lose.result ≡ without (starting 0) 1 = c.lose.ensures ∙ ap (λ (r : Snapshot). without r 1) start in
     let first = c.in_ok-core.core in
-    let made : IsMade geometry c.start-register.result 0 first = of_ok c.new-2.result (IsMade geometry c.start-register.result 0) first (sym c.ok-2.ensures.value ∙ c.in_ok-core.was) c.new-2.ensures.start in
+    let made : IsMade geometry c.start-register.result 0 first = of_ok c.new-2.result (IsMade geometry c.start-register.result 0) first (sym c.ok-2.ensures.value ∙ c.in_ok-core.was) c.new-2.ensures.made in
     let looked : Step c.answer_read-2.new.core (Look c.lose.result) c.look.new.self =
-    of_ok c.look.result (λ done. Step c.answer_read-2.new.core (Look c.lose.result) c.look.new.self) c.in_ok-ok.field-0 (sym c.ok-3.ensures.value ∙ c.in_ok-ok.was) c.look.ensures.step in
+    (of_ok c.look.result (λ done. LooksAt c.answer_read-2.new.core c.lose.result c.look.new.self) c.in_ok-ok.field-0
+    (sym c.ok-3.ensures.value ∙ c.in_ok-ok.was) c.look.ensures.looked).step in
     record {
       run = through_loss limits first c.submit_read.new.core c.fail_command.new.core c.declare_loss.new.core c.answer_read.new.core c.answer_read-2.new.core c.look.new.self c.take_block.new.core
           c.args.other c.args.parity c.in_ok-block.block

@@ -1,17 +1,18 @@
-use Rattle.std.proofs.Common.{◌≡◌, IfOk, IfErr, subst}
-use Rattle.r6_world.specs.Steps.{Deliver}
-use Rattle.r6_core.specs.Shards.{Step, completion_of, receipt_of, buffer_in}
-use Rattle.r6_core.specs.Refusals.{HasDeliverFault, HasNone, IsFirstFault, deliver_faults}
+use Rattle.std.proofs.Common.{ap, subst, IfOk, IfErr}
+use Rattle.r6_core.specs.Shards.{core_of}
+use Rattle.r6_core.specs.Effects.{Receives, RefusesCompletion}
+use Rattle.r6_core.proofs.Callers.{receives, first_fault, if_err}
 use Rattle.r6_core.proofs.shard_core.Core.deliver.Goals as goal
 
-pub returns-clause-step : goal.returns-clause-step
-returns-clause-step c =
-    subst (λ old. IfOk c.deliver.result (λ receipt. Step old (Deliver c.args.token (completion_of c.args.completion) (receipt_of receipt)) c.deliver.new.self)) c.self.view_is c.deliver.ensures.step
-
-pub returns-clause-accepted : goal.returns-clause-accepted
-returns-clause-accepted c =
-    subst (λ old. IfOk c.deliver.result (λ _. HasNone (HasDeliverFault old c.args.token (buffer_in c.args.completion)) deliver_faults)) c.self.view_is c.deliver.ensures.accepted
+pub returns-clause-received : goal.returns-clause-received
+returns-clause-received c =
+    let done = c.deliver.ensures in
+    subst (λ old. IfOk c.deliver.result (λ receipt. Receives old c.args.token c.args.completion receipt (core_of c.deliver.new.self))) c.self.view_is
+    (receives c.deliver.result c.self.inside.state c.deliver.new.self c.args.token c.args.completion done.step done.right done.order done.unanswered done.turns)
 
 pub returns-clause-refused : goal.returns-clause-refused
 returns-clause-refused c =
-    subst (λ old. IfErr c.deliver.result (λ refused. (c.deliver.new.self ≡ old) × (refused.back ≡ c.args.completion) × IsFirstFault (HasDeliverFault old c.args.token (buffer_in c.args.completion)) deliver_faults refused.refusal)) c.self.view_is c.deliver.ensures.refused
+    let s = c.self.inside.state in
+    subst (λ old. IfErr c.deliver.result (λ r. RefusesCompletion old c.args.token c.args.completion r.refusal r.back (core_of c.deliver.new.self))) c.self.view_is
+    (if_err c.deliver.result _ _
+    (λ r is. record { same = ap core_of is.0; back_is = is.1; fault = first_fault s c.args.token c.args.completion r.refusal is.2 }) c.deliver.ensures.refused)

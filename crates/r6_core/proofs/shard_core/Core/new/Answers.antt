@@ -3,11 +3,16 @@ use Rattle.r6_frames.specs.Slots.{states_of}
 use Rattle.r6_core.proofs.Fresh.{fresh_start, states_before}
 use Rattle.r6_core.proofs.shard_core.Core.new.Goals as goal
 
-pub returns-in-Ok-clause-start : goal.returns-in-Ok-clause-start
-returns-in-Ok-clause-start c =
-    let fresh = c.in-Ok.ensures.fresh in (
-      fresh.1,
-      fresh.2,
-      fresh_start c.in-Ok.state c.args.geometry c.args.shard c.args.snapshot.now fresh.0 fresh.1 fresh.2
-          (λ slot. ap (λ slots. states_of slots slot) fresh.3 ∙ states_before c.devices_at.result slot ∙ c.devices_at.ensures slot),
-    )
+pub returns-in-Ok : goal.returns-in-Ok
+returns-in-Ok c =
+    let fresh = c.in-Ok.ensures.fresh in
+    record {
+      made = record {
+        geometry = fresh.1;
+        number = fresh.2;
+        start = fresh_start c.in-Ok.state c.args.geometry c.args.shard c.args.snapshot.now fresh.0 fresh.1 fresh.2
+            (λ slot. ap (λ slots. states_of slots slot) fresh.3 ∙ states_before c.devices_at.result slot ∙ c.devices_at.ensures slot);
+        replies = c.in-Ok.ensures.order;
+        unanswered = c.in-Ok.ensures.unanswered;
+      };
+    }

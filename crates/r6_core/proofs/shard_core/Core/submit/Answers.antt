@@ -1,14 +1,16 @@
-use Rattle.std.proofs.Common.{◌∷◌, ◌++◌, [], subst}
-use Rattle.r6_world.specs.Steps.{Submit}
-use Rattle.r6_frames.specs.Views.{op_of}
-use Rattle.r6_core.specs.Shards.{Step}
-use Rattle.r6_core.specs.Order.{HaveTurns}
+use Rattle.std.proofs.Common.{ap, subst, IfOk, IfErr}
+use Rattle.r6_core.specs.Shards.{core_of}
+use Rattle.r6_core.specs.Effects.{Accepts, RefusesOp}
+use Rattle.r6_core.proofs.Callers.{accepts, if_err}
 use Rattle.r6_core.proofs.shard_core.Core.submit.Goals as goal
 
-pub returns-clause-step : goal.returns-clause-step
-returns-clause-step c =
-    subst (λ old. Step old (Submit (op_of c.args.op) c.in_ok-submit.field-0) c.submit.new.self) c.self.view_is c.in_ok-submit.ensures.step
+pub returns-clause-accepted : goal.returns-clause-accepted
+returns-clause-accepted c =
+    let done = c.submit.ensures in
+    subst (λ old. IfOk c.submit.result (λ id. Accepts old c.args.op id.0 (core_of c.submit.new.self))) c.self.view_is
+    (accepts (λ id. id.0) c.submit.result c.self.inside.state c.submit.new.self c.args.op done.step done.right done.order done.unanswered done.turns)
 
-pub returns-clause-turns : goal.returns-clause-turns
-returns-clause-turns c =
-    subst (λ old. HaveTurns old.frames (old.waiting.items ++ record { id = c.in_ok-submit.field-0; op = c.args.op } ∷ []) c.submit.new.self) c.self.view_is c.in_ok-submit.ensures.turns
+pub returns-clause-refused : goal.returns-clause-refused
+returns-clause-refused c =
+    subst (λ old. IfErr c.submit.result (λ r. RefusesOp old c.args.op r.refusal r.back (core_of c.submit.new.self))) c.self.view_is
+    (if_err c.submit.result _ _ (λ r is. record { same = ap core_of is.0; back_is = is.1; fault = is.2 }) c.submit.ensures.refused)

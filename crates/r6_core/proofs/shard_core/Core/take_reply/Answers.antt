@@ -1,8 +1,14 @@
 use Rattle.std.proofs.Common.{MatchOption, subst}
-use Rattle.r6_world.specs.Steps.{Take_reply, No_reply}
-use Rattle.r6_core.specs.Shards.{Step, reply_of}
+use Rattle.r6_core.specs.Shards.{core_of}
+use Rattle.r6_core.specs.Effects.{HandsReply, HandsNoReply}
+use Rattle.r6_core.proofs.Callers.{hands_reply}
 use Rattle.r6_core.proofs.shard_core.Core.take_reply.Goals as goal
 
-pub returns-clause-step : goal.returns-clause-step
-returns-clause-step c =
-    subst (λ old. MatchOption c.take_reply.result (Step old No_reply c.take_reply.new.self) (λ r. Step old (Take_reply (r.0).0 (reply_of r.1)) c.take_reply.new.self)) c.self.view_is c.take_reply.ensures.step
+pub returns : goal.returns
+returns c =
+    let done = c.take_reply.ensures in
+    let new = core_of c.take_reply.new.self in
+    record {
+      reply = subst (λ old. MatchOption c.take_reply.result (HandsNoReply old new) (λ r. HandsReply old (r.0).0 r.1 new)) c.self.view_is
+          (hands_reply (λ id. id.0) c.take_reply.result c.self.inside.state c.take_reply.new.self done.step done.first done.buffer done.unanswered done.waiting);
+    }

@@ -78,6 +78,12 @@ returns-in-Ok-clause-advances c = (
   c.in-Some.request,
   drop 1 c.args.self.now.waiting.items,
   popped c.args.self.now.waiting.items c.in-Some.request c.in-Some.ensures.value,
-  inr (ap (λ (b : Buffer Request). b.items) (turned c), c.in-None.ensures, refl),
+  inr (
+    ap (λ (b : Buffer Request). b.items) (turned c),
+    c.in-None.ensures,
+    refl,
+    ap (λ (w : Buffer Request). state_of (record c.args.self.now { waiting = w })) (turned c)
+        ∙ turned_state c.args.self.now c.in-Some.request (drop 1 c.args.self.now.waiting.items) (popped c.args.self.now.waiting.items c.in-Some.request c.in-Some.ensures.value) c.requires.core.sound,
+  ),
   λ other cannot. cannot,
 )

@@ -15,4 +15,6 @@ returns-clause-order c = finishes_on c.args.completion c.args.self.now c.take-re
 
 pub returns-clause-turns : goal.returns-clause-turns
 returns-clause-turns c =
-    turns_behind c.args.completion c.args.self.now c.take-receipt.new.self c.scan.new.self c.take-receipt.ensures.others c.take-receipt.ensures.waiting c.take-receipt.ensures.core.sound.frames c.scan.ensures.turns
+    let take = c.take-receipt.ensures in
+    turns_behind c.args.completion c.args.self.now c.take-receipt.new.self c.scan.new.self c.args.token c.take-receipt.result take.takes take.same take.others take.waiting
+    c.scan.ensures.turns

@@ -2,16 +2,16 @@ use Rattle.std.proofs.Common.{◌≡◌, Bool, true, false, Option, Some, None, 
 use Rattle.std.specs.Prelude.{nat_eq}
 use Rattle.std.proofs.lemmas.Bool.{eqb-true}
 use Rattle.r6_world.specs.Registers.{Snapshot}
-use Rattle.r6_core.specs.Shards.{layout_in, state_of}
-use Rattle.r6_core.specs.Refusals.{AllTold}
+use Rattle.r6_core.specs.Shards.{layout_in, state_of, core_of}
 use Rattle.r6_core.specs.Order.{Agrees}
+use Rattle.r6_core.specs.Inside.{NoCalls}
 use Rattle.r6_core.proofs.Releasing.{empty_of_length}
 use Rattle.r6_core.specs.declared.state.State.{State}
 use Rattle.r6_core.proofs.Looking.{HasSettled, settled_some, settled_none, failed_by-takes_over, failed_by-goes_on, looked, looked_failed, looked_stopped, looked_releases, looked_turns, stopped_turns}
 use Rattle.r6_core.proofs.state.State.look.Goals as goal
 use Rattle.r6_core.proofs.state.State.look.Goals.{then-went_out, else-went_out}
 
-told_of : (s : State) → nat_eq (length s.calls.items) 0 ≡ true → is_some s.untold ≡ false → AllTold s
+told_of : (s : State) → nat_eq (length s.calls.items) 0 ≡ true → is_some s.untold ≡ false → NoCalls s
 told_of s empty none = (empty_of_length s.calls.items (eqb-true (length s.calls.items) 0 empty), none_of s.untold none)
   where
     none_of : {X : Type 0} (o : Option X) → is_some o ≡ false → o ≡ None
@@ -21,10 +21,11 @@ told_of s empty none = (empty_of_length s.calls.items (eqb-true (length s.calls.
 no_both : (b : Bool) → b ≡ true → b ≡ false → ⊥
 no_both b is not = let e : true ≡ false = sym is ∙ not in absurd (cc)
 
--- a look that finds no slot other leaves the frames
-frames_stay : (s mid : State) (seen : Snapshot) (went_out : Bool) → (went_out ≡ true → Agrees s seen → ⊥) → (went_out ≡ false → (mid ≡ s) × Agrees s seen) → Agrees s seen → mid.frames ≡ s.frames
-frames_stay s mid seen true some none agrees = absurd (some refl agrees)
-frames_stay s mid seen false some none agrees = ap (λ (x : State). x.frames) (none refl).0
+-- a look that finds no slot other leaves the shard
+stays : (s mid : State) (seen : Snapshot) (went_out : Bool) → (went_out ≡ true → Agrees (core_of s) seen → ⊥) → (went_out ≡ false → (mid ≡ s) × Agrees (core_of s) seen)
+    → Agrees (core_of s) seen → state_of mid ≡ state_of s
+stays s mid seen true some none agrees = absurd (some refl agrees)
+stays s mid seen false some none agrees = ap state_of (none refl).0
 
 pub returns-then-failed-clause-step : goal.returns-then-failed-clause-step
 returns-then-failed-clause-step c =
@@ -106,7 +107,9 @@ returns-then-self-clause-turns c =
     let adopt = c.adopt-went_out.ensures in
     let s = c.args.self.now in
     let mid = c.adopt-went_out.new.self in
-    stopped_turns s mid c.args.snapshot.now adopt.waiting c.if-self.true (frames_stay s mid c.args.snapshot.now c.adopt-went_out.result adopt.some adopt.none) adopt.sound.frames
+    stopped_turns s mid c.args.snapshot.now
+    (record { told = told_of s (sym c.is_empty.ensures ∙ c.if-not-is_empty.false) (sym c.is_some.ensures ∙ c.if-is_some.false); takes = adopt.takes; slots = adopt.slots; same = adopt.same; order = adopt.order; waiting = adopt.waiting })
+    c.if-self.true (stays s mid c.args.snapshot.now c.adopt-went_out.result adopt.some adopt.none)
 
 pub returns-clause-turns : goal.returns-clause-turns
 returns-clause-turns c =
@@ -121,4 +124,9 @@ returns-clause-turns c =
           (settled_some s mid w.settle.new.self seen (adopt.some w.if-went_out.true) settle.core settle.leads settle.same settle.order settle.unanswered settle.waiting)
       | else-went_out w ↦ subst (λ (x : State). HasSettled s mid x seen) (sym w.self-is) (settled_none s mid seen (adopt.none w.if-went_out.false).0 c.requires)
     ] in
-    looked_turns s mid c.if-went_out.self c.release.new.self c.scan.new.self seen adopt.waiting done c.release.ensures.same.0 c.release.ensures.waiting c.release.ensures.core.sound.frames c.scan.ensures.turns
+    let release = c.release.ensures in
+    let scan = c.scan.ensures in
+    looked_turns s mid c.if-went_out.self c.release.new.self c.scan.new.self seen
+    (record { told = told_of s (sym c.is_empty.ensures ∙ c.if-not-is_empty.false) (sym c.is_some.ensures ∙ c.if-is_some.false); takes = adopt.takes; slots = adopt.slots; same = adopt.same; order = adopt.order; waiting = adopt.waiting })
+    done (record { is = release.released; frames = release.same.0; leads = scan.leads; same = scan.same; core = scan.core; rested = scan.rested })
+    release.waiting scan.turns

@@ -1,4 +1,5 @@
 use Rattle.std.proofs.Common.{sym}
+use Rattle.r6_core.specs.Shards.{layout_in, state_of}
 use Rattle.r6_core.proofs.Scanned.{unscanned, some_waits, scanned_on, scanned_all, scanned_in_turn, none_starts, all_wait}
 use Rattle.r6_core.proofs.state.State.scan.Goals as goal
 
@@ -24,7 +25,7 @@ returns-then-not-is_live-clause-rested c = none_starts c.args.self.now.frames c.
     (λ live. let is = c.is_live.ensures.1 live in let not = c.if-not-is_live.true in absurd (cc))
 
 pub returns-then-not-is_live-clause-turns : goal.returns-then-not-is_live-clause-turns
-returns-then-not-is_live-clause-turns c = all_wait c.args.self.now.frames c.args.self.now.waiting.items
+returns-then-not-is_live-clause-turns c = all_wait (layout_in c.args.self.now) c.args.self.now.frames.shard (state_of c.args.self.now) c.args.self.now.waiting.items
     (λ live. let is = c.is_live.ensures.1 live in let not = c.if-not-is_live.true in absurd (cc))
 
 pub advance-requires-clause-live : goal.advance-requires-clause-live

@@ -1,10 +1,13 @@
 use Rattle.std.proofs.Common.{ap, subst, ◌∙◌}
 use Rattle.r6_world.specs.ShardStates.{Shard}
 use Rattle.r6_world.specs.Geometries.{layout_of}
+use Rattle.r6_world.specs.Changes.{Accept, after}
+use Rattle.r6_frames.specs.Views.{op_of}
 use Rattle.r6_world.specs.Steps.{Through, Scans, AtRest}
-use Rattle.r6_core.specs.Shards.{state_of, layout_in}
+use Rattle.r6_core.specs.Shards.{state_of, layout_in, core_of}
 use Rattle.r6_core.specs.Order.{HaveTurns}
 use Rattle.r6_core.proofs.AtRest.{at_rest}
+use Rattle.r6_core.proofs.Scanned.{turns_in}
 use Rattle.r6_core.proofs.state.State.submit.Goals as goal
 
 pub returns-clause-step : goal.returns-clause-step
@@ -27,7 +30,11 @@ returns-clause-step c =
 
 pub returns-clause-turns : goal.returns-clause-turns
 returns-clause-turns c =
+    let s = c.args.self.now in
     let mid = c.accept-id.new.self in
     let new = c.scan.new.self in
-    subst (λ rs. HaveTurns c.args.self.now.frames rs new) c.accept-id.ensures.waiting
-    (subst (λ fs. HaveTurns fs mid.waiting.items new) c.accept-id.ensures.same.0 c.scan.ensures.turns)
+    let same = c.accept-id.ensures.same.0 in
+    subst (λ rs. HaveTurns (core_of s) (after (layout_in s) (state_of s) (Accept (op_of c.args.op))) rs (core_of new)) c.accept-id.ensures.waiting
+    (subst (λ (from : Shard). HaveTurns (core_of s) from mid.waiting.items (core_of new)) c.accept-id.ensures.accepted
+    (turns_in s.frames.geometry mid.frames.geometry s.frames.shard mid.frames.shard (state_of mid) (state_of new) mid.waiting.items new.waiting.items
+    (ap (λ fs. fs.geometry) same) (ap (λ fs. fs.shard) same) c.scan.ensures.turns))

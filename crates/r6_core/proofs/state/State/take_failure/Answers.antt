@@ -4,7 +4,7 @@ use Rattle.r6_frames.specs.declared.op.Request.{Request}
 use Rattle.r6_world.specs.Steps.{No_reply}
 use Rattle.r6_world.specs.PlainArray.{ArrayFailed}
 use Rattle.r6_world.specs.ShardStates.{Released}
-use Rattle.r6_core.specs.Shards.{Step, reply_of, requests_of, table}
+use Rattle.r6_core.specs.Shards.{Step, reply_of, requests_of, table, core_of}
 use Rattle.r6_core.specs.Order.{BringsBack}
 use Rattle.r6_core.specs.declared.reply.Reply.{Reply}
 use Rattle.r6_core.proofs.Known.{at_none}
@@ -23,7 +23,7 @@ returns-in_err-request-clause-step c =
     let s = c.args.self.now in
     let none = sym c.pop_front.ensures.value ∙ c.in_err-request.was in
     at_none _ _ _ c.from_residual.ensures
-    (subst (λ (rest : Buffer Request). Step s No_reply (record s { finished = rest })) (sym (unpopped s.finished c.pop_front.new.self none c.pop_front.ensures.items))
+    (subst (λ (rest : Buffer Request). Step (core_of s) No_reply (core_of (record s { finished = rest }))) (sym (unpopped s.finished c.pop_front.new.self none c.pop_front.ensures.items))
     (no_reply s (c.requires.last, λ failed. (none_popped s.finished.items none).0)))
 
 is_first : (c : goal.After-failed) → c.args.self.now.finished.items ≡ c.in_ok-request.request ∷ c.pop_front.new.self.items

@@ -1,0 +1,165 @@
+-- What callers see of the calls of a state.
+use Rattle.std.proofs.Common.{◌≡◌, ◌≢◌, ℕ, ◌+◌, ◌<◌, true, List, [], ◌∷◌, ◌++◌, map, refl, sym, ap, ◌∙◌, inl, inr, Option, Some, None, MatchOption, IfSome, Result, Ok, Err, IfOk, IfErr}
+use Rattle.std.specs.Prelude.{nat_lt, option_map}
+use Rattle.std.proofs.lemmas.Bool.{lt-ltb, ltb-true}
+use Rattle.r6_world.specs.Registers.{Snapshot, Told}
+use Rattle.r6_world.specs.Changes.{Accept, after}
+use Rattle.r6_world.specs.Steps as steps
+use Rattle.r6_world.specs.ShardStates as shards
+use Rattle.r6_world.specs.ShardStates.{LossOf, RebuildOf}
+use Rattle.r6_frames.specs.declared.op.Op.{Op}
+use Rattle.r6_frames.specs.declared.command.Outstanding.{Outstanding}
+use Rattle.r6_frames.specs.declared.command.Command.{Command}
+use Rattle.r6_frames.specs.Views.{op_of, command_of, outstanding}
+use Rattle.r6_frames.specs.Calls as frames
+use Rattle.r6_frames.specs.Calls.{IsAwaited}
+use Rattle.r6_core.specs.declared.call.Call.{Call}
+use Rattle.r6_core.specs.declared.call.Call.TheVariants.{DeclareLost, ReportRebuilt}
+use Rattle.r6_core.specs.declared.reply.Reply.{Reply}
+use Rattle.r6_core.specs.declared.refusal.DeviceFault.{DeviceFault}
+use Rattle.r6_core.specs.declared.refusal.Receipt.{Receipt}
+use Rattle.r6_core.specs.declared.refusal.Refusal.{Refusal}
+use Rattle.r6_core.specs.declared.refusal.Refusal.TheVariants.{UntoldFirst, UnknownCall}
+use Rattle.r6_core.specs.declared.state.State.{State}
+use Rattle.r6_core.specs.Shards.{core_of, call_of, state_of, layout_in, Step, completion_of, receipt_of, buffer_in, reply_of}
+use Rattle.r6_core.specs.Refusals.{HasSubmitFault, submit_faults, IsOut, HasDeliverFault, deliver_faults, IsFirstFault, HasNone, AllTold}
+use Rattle.r6_core.specs.Order.{BringsBack, SameReplies, FinishesBy, LooksOn, TakesFirst, HasNoReply, HaveTurns, HaveTurnsBehind, HaveTurnsAfter}
+use Rattle.r6_core.specs.Effects.{Accepts, Receives, LooksAt, IsCommandOf, Hears, RefusesAnswer, HandsReply, HandsNoReply}
+use Rattle.r6_core.specs.Inside.{Seen, NoCalls, HasFault}
+
+-- ---- cases of a result
+
+pub if_err : {X E : Type 0} (result : Result X E) (P Q : E → Type 0) → ((e : E) → P e → Q e) → IfErr result P → IfErr result Q
+if_err (Ok x) P Q on h = tt
+if_err (Err e) P Q on h = on e h
+
+pub if_some : {X : Type 0} (result : Option X) (P Q : X → Type 0) → ((x : X) → P x → Q x) → IfSome result P → IfSome result Q
+if_some None P Q on h = tt
+if_some (Some x) P Q on h = on x h
+
+-- ---- commands that are out
+
+out_of : (s : State) (token : ℕ) → IsAwaited s.frames token → IsOut (core_of s) token
+out_of s token is = (
+  command_of s.frames.slots s.frames.handed token is.0,
+  ap (option_map (command_of s.frames.slots s.frames.handed token)) is.1,
+  lt-ltb token s.frames.handed is.2,
+)
+
+awaited_of : (s : State) (token : ℕ) → IsOut (core_of s) token → IsAwaited s.frames token
+awaited_of s token is = at (outstanding s.frames token) refl
+  where
+    at : (o : Option Outstanding) → outstanding s.frames token ≡ o → IsAwaited s.frames token
+    at None e = absurd (let none : None ≡ Some is.0 = ap (option_map (command_of s.frames.slots s.frames.handed token)) (sym e) ∙ is.1 in cc)
+    at (Some c) e =
+        let there : Some (command_of s.frames.slots s.frames.handed token c) ≡ Some is.0 = ap (option_map (command_of s.frames.slots s.frames.handed token)) (sym e) ∙ is.1 in
+        let same : command_of s.frames.slots s.frames.handed token c ≡ is.0 = cc in
+        (c, e, ltb-true token s.frames.handed (ap (λ (x : shards.Command). x.taken) same ∙ is.2))
+
+-- ---- calls at the register
+
+no_calls : (calls : List Call) → map call_of calls ≡ [] → calls ≡ []
+no_calls [] e = refl
+no_calls (call ∷ calls) e = absurd (cc)
+
+none_untold : (untold : Option Call) → option_map call_of untold ≡ None → untold ≡ None
+none_untold None e = refl
+none_untold (Some call) e = absurd (cc)
+
+same_call : (call other : Call) → call_of call ≡ call_of other → call ≡ other
+same_call (DeclareLost slot generation) (DeclareLost slot' generation') e =
+    let slots : slot ≡ slot' = cc in
+    let generations : generation ≡ generation' = cc in
+    λ i. DeclareLost (slots i) (generations i)
+same_call (ReportRebuilt slot generation) (ReportRebuilt slot' generation') e =
+    let slots : slot ≡ slot' = cc in
+    let generations : generation ≡ generation' = cc in
+    λ i. ReportRebuilt (slots i) (generations i)
+same_call (DeclareLost slot generation) (ReportRebuilt slot' generation') e = absurd (cc)
+same_call (ReportRebuilt slot generation) (DeclareLost slot' generation') e = absurd (cc)
+
+same_untold : (untold : Option Call) (call : Call) → option_map call_of untold ≡ Some (call_of call) → untold ≡ Some call
+same_untold None call e = absurd (cc)
+same_untold (Some other) call e = let same : call_of other ≡ call_of call = cc in ap (λ (c : Call). Some c) (same_call other call same)
+
+told_all : (s : State) → NoCalls s → AllTold (core_of s)
+told_all s none = (ap (map call_of) none.0, ap (option_map call_of) none.1)
+
+pub not_told : (s : State) → (NoCalls s → ⊥) → AllTold (core_of s) → ⊥
+not_told s some none = some (no_calls s.calls.items none.0, none_untold s.untold none.1)
+
+-- ---- the calls
+
+pub accepts : {I E : Type 0} (number : I → ℕ) (result : Result I E) (s new : State) (o : Op)
+    → IfOk result (λ id. Step (core_of s) (steps.Submit (op_of o) (number id)) (core_of new))
+    → IfOk result (λ _. HasNone (HasSubmitFault (core_of s) o) submit_faults)
+    → IfOk result (λ _. Seen SameReplies s new)
+    → IfOk result (λ _. new.unanswered ≡ s.unanswered + 1)
+    → IfOk result (λ id. HaveTurns (core_of s) (after (layout_in s) (state_of s) (Accept (op_of o))) (s.waiting.items ++ record { id = number id; op = o } ∷ []) (core_of new))
+    → IfOk result (λ id. Accepts (core_of s) o (number id) (core_of new))
+accepts number (Ok id) s new o step right order unanswered turns =
+    record { step = step; right = right; order = order; unanswered = unanswered; turns = turns }
+accepts number (Err e) s new o step right order unanswered turns = tt
+
+pub receives : {E : Type 0} (result : Result Receipt E) (s new : State) (token : ℕ) (completion : Result (List ℕ) DeviceFault)
+    → IfOk result (λ receipt. Step (core_of s) (steps.Deliver token (completion_of completion) (receipt_of receipt)) (core_of new))
+    → IfOk result (λ _. HasNone (HasFault s token completion) deliver_faults)
+    → IfOk result (λ _. Seen (FinishesBy completion) s new)
+    → new.unanswered ≡ s.unanswered
+    → IfOk result (λ receipt. HaveTurnsBehind (core_of s) token completion receipt (core_of new))
+    → IfOk result (λ receipt. Receives (core_of s) token completion receipt (core_of new))
+receives (Ok receipt) s new token completion step right order unanswered turns =
+    record {
+      step = step;
+      right = ((λ no. right.0 (λ is. no (out_of s token is))), right.1);
+      order = order;
+      unanswered = unanswered;
+      turns = turns;
+    }
+receives (Err e) s new token completion step right order unanswered turns = tt
+
+pub first_fault : (s : State) (token : ℕ) (completion : Result (List ℕ) DeviceFault) (refusal : Refusal)
+    → IsFirstFault (HasFault s token completion) deliver_faults refusal
+    → IsFirstFault (HasDeliverFault (core_of s) token (buffer_in completion)) deliver_faults refusal
+first_fault s token completion refusal first = elim first [
+  | inl unknown ↦ inl (unknown.0, λ out. unknown.1 (awaited_of s token out))
+  | inr known ↦ inr (λ no. known.0 (λ is. no (out_of s token is)), known.1)
+]
+
+pub looks_at : {E : Type 0} (result : Result (Unit {0}) E) (s new : State) (seen : Snapshot)
+    → IfOk result (λ _. Step (core_of s) (steps.Look seen) (core_of new))
+    → IfOk result (λ _. NoCalls s)
+    → IfOk result (λ _. LooksOn (core_of s) seen (core_of new))
+    → new.unanswered ≡ s.unanswered
+    → IfOk result (λ _. HaveTurnsAfter (core_of s) seen (core_of new))
+    → IfOk result (λ _. LooksAt (core_of s) seen (core_of new))
+looks_at (Ok x) s new seen step told order unanswered turns =
+    record { step = step; told = told_all s told; order = order; unanswered = unanswered; turns = turns }
+looks_at (Err e) s new seen step told order unanswered turns = tt
+
+pub is_command : (s : State) (c : Command) → frames.IsCommandOf s.frames c → IsCommandOf (core_of s) c
+is_command s c is = record { block = is.block; slot = is.slot; row = is.row }
+
+pub hears : {E : Type 0} (result : Result (Unit {0}) E) (s new : State) (call : Call) (answer : Told)
+    → IfOk result (λ _. Step (core_of s) (steps.Told (call_of call) answer) (core_of new))
+    → IfOk result (λ _. s.untold ≡ Some call)
+    → IfOk result (λ _. Hears (core_of s) call answer (core_of new))
+hears (Ok x) s new call answer step known = record { step = step; known = ap (option_map call_of) known }
+hears (Err e) s new call answer step known = tt
+
+pub refuses_answer : (s new : State) (call : Call) (refusal : Refusal) → (new ≡ s) × (refusal ≡ UnknownCall) × (s.untold ≢ Some call)
+    → RefusesAnswer (core_of s) call refusal (core_of new)
+refuses_answer s new call refusal is =
+    record { same = ap core_of is.0; refusal_is = is.1; unknown = λ e. is.2 (same_untold s.untold call e) }
+
+pub hands_reply : {I : Type 0} (number : I → ℕ) (result : Option (I × Reply)) (s new : State)
+    → MatchOption result (Step (core_of s) steps.No_reply (core_of new)) (λ r. Step (core_of s) (steps.Take_reply (number r.0) (reply_of r.1)) (core_of new))
+    → MatchOption result (HasNoReply (core_of s) × (new ≡ s)) (λ r. TakesFirst (core_of s) (number r.0) r.1 (core_of new))
+    → IfSome result (λ r. BringsBack ((state_of s).request (number r.0)) r.1)
+    → IfSome result (λ _. new.unanswered + 1 ≡ s.unanswered)
+    → new.waiting ≡ s.waiting
+    → MatchOption result (HandsNoReply (core_of s) (core_of new)) (λ r. HandsReply (core_of s) (number r.0) r.1 (core_of new))
+hands_reply number None s new step first brings unanswered waiting =
+    record { step = step; none = first.0; same = ap core_of first.1 }
+hands_reply number (Some r) s new step first brings unanswered waiting =
+    record { step = step; first = first; brings = brings; unanswered = unanswered; waiting = ap (λ b. b.items) waiting }

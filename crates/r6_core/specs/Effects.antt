@@ -1,0 +1,123 @@
+-- What each call of a core does.
+use Rattle.std.specs.Prelude.{◌≡◌, ◌≢◌, ℕ, ◌+◌, ◌<◌, Bool, List, [], ◌∷◌, ◌++◌, length, Some, Result}
+use Rattle.r6_layout.specs.Shape.{Shape}
+use Rattle.r6_world.specs.Layouts.{IsRowOf}
+use Rattle.r6_world.specs.Geometries.{layout_of}
+use Rattle.r6_world.specs.Registers.{Snapshot, Told}
+use Rattle.r6_world.specs.Changes.{Accept, after}
+use Rattle.r6_world.specs.Steps as steps
+use Rattle.r6_world.specs.Worlds.{shard_at_start}
+use Rattle.r6_frames.specs.declared.op.Op.{Op}
+use Rattle.r6_frames.specs.declared.command.Command.{Command}
+use Rattle.r6_frames.specs.Views.{op_of, world_command}
+use Rattle.r6_core.specs.declared.call.Call.{Call}
+use Rattle.r6_core.specs.declared.reply.Reply.{Reply}
+use Rattle.r6_core.specs.declared.refusal.DeviceFault.{DeviceFault}
+use Rattle.r6_core.specs.declared.refusal.Receipt.{Receipt}
+use Rattle.r6_core.specs.declared.refusal.Refusal.{Refusal}
+use Rattle.r6_core.specs.declared.refusal.Refusal.TheVariants.{UntoldFirst, UnknownCall}
+use Rattle.r6_core.specs.Shards.{CoreView, Step, world_shard, core_layout, completion_of, receipt_of, buffer_in, reply_of, call_of}
+use Rattle.r6_core.specs.Refusals.{HasSubmitFault, submit_faults, HasDeliverFault, deliver_faults, IsFirstFault, HasNone, AllTold}
+use Rattle.r6_core.specs.Order.{BringsBack, NoReplies, SameReplies, KeepsReplies, FinishesBy, LooksOn, TakesFirst, HasNoReply, HaveTurns, HaveTurnsBehind, HaveTurnsAfter}
+
+-- replies and what waits stay as they are
+abbrev pub KeepsRequests : CoreView → CoreView → Type 0
+KeepsRequests old new = KeepsReplies old new × (new.waiting ≡ old.waiting)
+
+-- ---- new
+
+-- the core of a shard as it is made, with a register as it was seen
+pub record IsMade (shape : Shape) (snapshot : Snapshot) (shard : ℕ) (core : CoreView) : Type 0 where
+  pub geometry : core.shape ≡ shape
+  pub number : core.shard ≡ shard
+  pub start : world_shard core ≡ shard_at_start (layout_of shape) snapshot shard
+  pub replies : NoReplies core
+  pub unanswered : core.unanswered ≡ 0
+
+-- ---- submit
+
+-- the request is taken: those that waited have their turns, and it has the last
+pub record Accepts (old : CoreView) (o : Op) (id : ℕ) (new : CoreView) : Type 0 where
+  pub step : Step old (steps.Submit (op_of o) id) new
+  pub right : HasNone (HasSubmitFault old o) submit_faults
+  pub order : SameReplies old new
+  pub unanswered : new.unanswered ≡ old.unanswered + 1
+  pub turns : HaveTurns old (after (core_layout old) (world_shard old) (Accept (op_of o))) (old.waiting ++ record { id = id; op = o } ∷ []) new
+
+-- it comes back, and nothing changes
+pub record RefusesOp (old : CoreView) (o : Op) (refusal : Refusal) (back : Op) (new : CoreView) : Type 0 where
+  pub same : new ≡ old
+  pub back_is : back ≡ o
+  pub fault : IsFirstFault (HasSubmitFault old o) submit_faults refusal
+
+-- ---- deliver
+
+-- the completion is taken, or comes late
+pub record Receives (old : CoreView) (token : ℕ) (completion : Result (List ℕ) DeviceFault) (receipt : Receipt) (new : CoreView) : Type 0 where
+  pub step : Step old (steps.Deliver token (completion_of completion) (receipt_of receipt)) new
+  pub right : HasNone (HasDeliverFault old token (buffer_in completion)) deliver_faults
+  pub order : FinishesBy completion old new
+  pub unanswered : new.unanswered ≡ old.unanswered
+  pub turns : HaveTurnsBehind old token completion receipt new
+
+-- it comes back, and nothing changes
+pub record RefusesCompletion (old : CoreView) (token : ℕ) (completion : Result (List ℕ) DeviceFault) (refusal : Refusal) (back : Result (List ℕ) DeviceFault) (new : CoreView) : Type 0 where
+  pub same : new ≡ old
+  pub back_is : back ≡ completion
+  pub fault : IsFirstFault (HasDeliverFault old token (buffer_in completion)) deliver_faults refusal
+
+-- ---- look
+
+pub record LooksAt (old : CoreView) (snapshot : Snapshot) (new : CoreView) : Type 0 where
+  pub step : Step old (steps.Look snapshot) new
+  pub told : AllTold old
+  pub order : LooksOn old snapshot new
+  pub unanswered : new.unanswered ≡ old.unanswered
+  pub turns : HaveTurnsAfter old snapshot new
+
+-- a call is untold: nothing changes
+pub record RefusesLook (old : CoreView) (refusal : Refusal) (new : CoreView) : Type 0 where
+  pub same : new ≡ old
+  pub refusal_is : refusal ≡ UntoldFirst
+  pub untold : AllTold old → ⊥
+
+-- ---- commands
+
+-- a command that the array can perform: one block, for a slot, in a row of the shard
+pub record IsCommandOf (core : CoreView) (c : Command) : Type 0 where
+  pub block : length c.buffer ≡ core.shape.block
+  pub slot : c.slot < core.shape.slots
+  pub row : IsRowOf (core_layout core) core.shard c.row
+
+abbrev pub HandsCommand : CoreView → Command → CoreView → Type 0
+HandsCommand old c new = (frame : ℕ) × (abandoned : Bool) × Step old (steps.Take_command c.token (world_command frame abandoned c)) new
+
+-- ---- calls at the register
+
+abbrev pub HandsCall : CoreView → Call → CoreView → Type 0
+HandsCall old call new = Step old (steps.Take_call (call_of call)) new
+
+pub record Hears (old : CoreView) (call : Call) (answer : Told) (new : CoreView) : Type 0 where
+  pub step : Step old (steps.Told (call_of call) answer) new
+  pub known : (world_shard old).untold ≡ Some (call_of call)
+
+-- the call isn't the one whose answer is awaited: nothing changes
+pub record RefusesAnswer (old : CoreView) (call : Call) (refusal : Refusal) (new : CoreView) : Type 0 where
+  pub same : new ≡ old
+  pub refusal_is : refusal ≡ UnknownCall
+  pub unknown : (world_shard old).untold ≢ Some (call_of call)
+
+-- ---- replies
+
+pub record HandsReply (old : CoreView) (id : ℕ) (reply : Reply) (new : CoreView) : Type 0 where
+  pub step : Step old (steps.Take_reply id (reply_of reply)) new
+  pub first : TakesFirst old id reply new
+  pub brings : BringsBack ((world_shard old).request id) reply
+  pub unanswered : new.unanswered + 1 ≡ old.unanswered
+  pub waiting : new.waiting ≡ old.waiting
+
+-- none is ready
+pub record HandsNoReply (old new : CoreView) : Type 0 where
+  pub step : Step old steps.No_reply new
+  pub none : HasNoReply old
+  pub same : new ≡ old
