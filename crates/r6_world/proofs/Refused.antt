@@ -2,3 +2,4 @@
 pub mod Refusals
 pub mod Reported
 pub mod Accepted
+pub mod Unsent
