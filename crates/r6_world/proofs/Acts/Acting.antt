@@ -1,12 +1,12 @@
 -- When a hold ends, its requests act on the plain array.
-use Rattle.std.proofs.Common.{◌≡◌, ℕ, ◌<◌, ◌⊎◌, List, [], ◌∷◌, Bool, true, false, ◌||◌, eqb, inl, inr, refl, sym, ap, ◌∙◌, subst, Option, Some, None}
+use Rattle.std.proofs.Common.{◌≡◌, ℕ, ◌⊎◌, List, [], ◌∷◌, Bool, true, false, ◌||◌, eqb, inl, inr, refl, sym, ap, ◌∙◌, subst, Option, Some, None}
 use Rattle.std.proofs.lemmas.Bool.{cases_eq, cases_Bool, false≢true, true≢false, or_left, or_right, or_cases, or_parts, eq-eqb, ne_eqb, eqb-true, eqb-false, false_from_ne_true}
-use Rattle.r6_stripe.specs.Holds.{Event, MayEnd, after_event}
+use Rattle.r6_stripe.specs.Holds.{after_event, Owes}
 use Rattle.r6_stripe.specs.Holds.Event.{Asks, Writes}
 use Rattle.r6_stripe.proofs.Seen as Laws
 use Rattle.r6_world.specs.Tables.{put}
 use Rattle.r6_world.specs.PlainArray.{Block, Array, Op, Read, Write, Data, Done, Plain, served}
-use Rattle.r6_world.specs.Layouts.{Layout, IsLayout, IsRowOf}
+use Rattle.r6_world.specs.Layouts.{Layout, IsLayout, IsRowOf, full_row}
 use Rattle.r6_world.specs.Tasks.{Write as RowWrite, Task, ReadFor, WriteFor, Rebuild, Check, Repair, Hold, is_written, serves, serves_one, kind_of, end_of, Outcome, Answered, Wrote, Rebuilt, GivenUp, Classed, Skipped}
 use Rattle.r6_world.specs.ShardStates.{Shard, IsLive, SlotState, Synced, Building, standing_of, Request, Stage, Waiting, Held, Finished, Released}
 use Rattle.r6_world.specs.Changes.{IsTarget, AllBuilt, Change, Start, Ask, Prepare, Classify, Send, Finish, Bring_in, Allowed, slots_after, after, outcome_reply, finished, finished_stage, released, released_stage}
@@ -269,7 +269,7 @@ module _ (l : Layout) (is : IsLayout l) (w : World) (n : ℕ) (device : Devices)
       slots-end l is n device gave.gave (restored s.command gave.flight) s plain.array f h (r.held f h a.0) outcome a.1 h.task refl (λ slot g e. (r.held f h a.0).rebuilds slot g e) a.3
 
   rows-end : (s : Shard) (plain : Plain) (array : Array) → (x : Sound l n device gave s plain.array (plain.answers n)) → (f : ℕ) (h : Hold) (outcome : Outcome) → (a : Allowed l n s (Finish f h outcome))
-      → Rattle.r6_world.specs.Layouts.full_row l array h.row ≡ Rattle.r6_stripe.specs.Holds.after h.course (Rattle.r6_world.specs.Layouts.full_row l plain.array h.row)
+      → full_row l array h.row ≡ Rattle.r6_stripe.specs.Holds.after h.course (full_row l plain.array h.row)
       → ((row : ℕ) → (row ≡ h.row → ⊥) → SameRow l plain.array array row)
       → Rows l n device gave.gave (put s.frame f None) (restored s.command gave.flight) (slots_after s h h.task outcome) s.tokens array
   rows-end s plain array x f h outcome a row-is same =
@@ -284,7 +284,7 @@ module _ (l : Layout) (is : IsLayout l) (w : World) (n : ℕ) (device : Devices)
       let sv : Serves l s.request f h.row (ReadFor id block) = subst (λ y. Serves l s.request f h.row y) task (snd.requests.serves_held a.2.1 f h a.0) in
       let held = (snd.rows a.2).held f h a.0 in
       let b-is : b ≡ plain.array block =
-      sym (Laws.reads h.course (block_seen l device s.slot h.row) held.out (Rattle.r6_world.specs.Layouts.full_row l plain.array h.row) (l.index_of block) b held.seen (held.is_kind ∙ ap (kind_of l h.row) task) a.1)
+      sym (Laws.reads h.course (block_seen l device s.slot h.row) held.out (full_row l plain.array h.row) (l.index_of block) b held.seen (held.is_kind ∙ ap (kind_of l h.row) task) a.1)
       ∙ row-at l is plain.array h.row block (snd.requests.in_array id (Read block) (Held f) sv.0) sv.1 in
       let none : plain.answers n id ≡ None = (snd.requests.stands id (Read block) (Held f) sv.0).0 in
       let next : Plain = served plain n id (Read block) in
@@ -345,7 +345,7 @@ module _ (l : Layout) (is : IsLayout l) (w : World) (n : ℕ) (device : Devices)
         going = record {
           sound = record {
             rows = λ live. rows-end s plain next.array snd f h Wrote a
-                (ap (λ y. Rattle.r6_world.specs.Layouts.full_row l y h.row) array-is
+                (ap (λ y. full_row l y h.row) array-is
                 ∙ written-after l is n device gave.gave (restored s.command gave.flight) s.slot plain.array f h held writes task (held-batch s plain snd f h.row writes sv))
                 other-rows;
             flies = snd.flies;
@@ -402,14 +402,14 @@ module _ (l : Layout) (is : IsLayout l) (w : World) (n : ℕ) (device : Devices)
       }
 
   read-ends : (s : Shard) (plain : Plain) → Sound l n device gave s plain.array (plain.answers n) → (f : ℕ) (h : Hold) (outcome : Outcome) (a : Allowed l n s (Finish f h outcome)) (id block : ℕ) → h.task ≡ ReadFor id block
-      → Rattle.r6_stripe.specs.Holds.Owes h.course (kind_of l h.row (ReadFor id block)) (end_of outcome)
+      → Owes h.course (kind_of l h.row (ReadFor id block)) (end_of outcome)
   read-ends s plain x f h outcome a id block e =
-      subst (λ k. Rattle.r6_stripe.specs.Holds.Owes h.course k (end_of outcome)) (((x.rows a.2).held f h a.0).is_kind ∙ ap (kind_of l h.row) e) a.1.owes_nothing
+      subst (λ k. Owes h.course k (end_of outcome)) (((x.rows a.2).held f h a.0).is_kind ∙ ap (kind_of l h.row) e) a.1.owes_nothing
 
   write-ends : (s : Shard) (plain : Plain) → Sound l n device gave s plain.array (plain.answers n) → (f : ℕ) (h : Hold) (outcome : Outcome) (a : Allowed l n s (Finish f h outcome)) (writes : List RowWrite) → h.task ≡ WriteFor writes
-      → Rattle.r6_stripe.specs.Holds.Owes h.course (kind_of l h.row (WriteFor writes)) (end_of outcome)
+      → Owes h.course (kind_of l h.row (WriteFor writes)) (end_of outcome)
   write-ends s plain x f h outcome a writes e =
-      subst (λ k. Rattle.r6_stripe.specs.Holds.Owes h.course k (end_of outcome)) (((x.rows a.2).held f h a.0).is_kind ∙ ap (kind_of l h.row) e) a.1.owes_nothing
+      subst (λ k. Owes h.course k (end_of outcome)) (((x.rows a.2).held f h a.0).is_kind ∙ ap (kind_of l h.row) e) a.1.owes_nothing
 
   -- a hold ends in one of these ways
   finish-one : (s : Shard) (blocks : List ℕ) (plain : Plain) → Going s blocks plain → (f : ℕ) (h : Hold) (outcome : Outcome) → Allowed l n s (Finish f h outcome)

@@ -1,19 +1,20 @@
 -- The headline, for every list of steps.
 use Rattle.std.proofs.Common.{◌≡◌, ◌≢◌, ℕ, ◌<◌, ◌⊎◌, List, [], ◌∷◌, Bool, true, false, not, ◌&&◌, cond, if◌then◌else◌, zero, suc, inl, inr, refl, sym, ap, ◌∙◌, subst, arith, Option, Some, None, Err}
 use Rattle.std.proofs.lemmas.Bool.{cases_eq, false≢true, true≢false, le-ltb, and_parts}
-use Rattle.r6_stripe.specs.Holds.{Cell, Standing, cell_at, standing_cell}
+use Rattle.r6_stripe.specs.Seen.{Seen}
+use Rattle.r6_stripe.specs.Holds.{Cell, Standing, cell_at}
 use Rattle.r6_stripe.proofs.Seen as RowLaws
 use Rattle.r6_world.specs.Tables.{put, put_in, count_below}
 use Rattle.r6_world.specs.PlainArray.{Block, Array, Op, Reply, ArrayFailed, Plain}
 use Rattle.r6_world.specs.Layouts.{Layout, IsLayout, IsRowOf, content, full_row}
 use Rattle.r6_world.specs.Registers.{Snapshot, RegisterCall, Told as Answer, Contended, answer_to, register_after}
 use Rattle.r6_world.specs.Tasks.{Task, WriteFor, Hold}
-use Rattle.r6_world.specs.ShardStates.{Shard, SlotState, Missing, InSyncFor, IsLive, is_away, Transfer, Fetch, Store, Storing, handed, Call, Command, Request, Released, found, standing_of, frames}
+use Rattle.r6_world.specs.ShardStates.{Shard, SlotState, Missing, InSyncFor, IsLive, is_away, Transfer, Fetch, Store, Storing, handed, Call, Command, Request, Released, found, standing_of, frames, Stage, Waiting, Held, Finished}
 use Rattle.r6_world.specs.Changes.{Change, Start, Learn, Confirm, Come_home, Lose, Adopt, See_failed, Accept, Release, Skip_turn, Hand_command, Hear, Hand_reply, Allowed, after, taken_out, told_hold, abandoned_to, adopted, put_back}
 use Rattle.r6_world.specs.Steps.{Scans, GoesOn, TakesOver, Takes, Looks, Leads, Through, Completion, Good, Error, Receipt, Taken, Late, Event, Submit, Deliver, Look, Turn_started, Turn_skipped, Take_command, No_command, Take_call, No_call, Told, Take_reply, No_reply, Step}
 use Rattle.r6_world.specs.Worlds.{World, Devices, Happening, Core, Perform, Tell, Outside, Moment, Possible, Run, next, performed_on, given, broken_by, break, as_made, flown, Brings, IsBrought}
 use Rattle.r6_world.specs.Claims.{IsIdle, IsUnwritten, IsWrite, RowsHold, AnswersFail}
-use Rattle.r6_world.specs.ActingPoints.{MayAct, acting, plain_after, acts_between, is_going, is_served}
+use Rattle.r6_world.specs.ActingPoints.{MayAct, acting, plain_after, acts_between, is_going, is_served, is_failure}
 use Rattle.r6_world.specs.Laws.{Explained, ShardHolds}
 use Rattle.r6_world.proofs.Tables.{put-same, put-other, put-cases, Some-inj, not_both, same_entry, at-entry}
 use Rattle.r6_world.proofs.FullRows.{SameRow}
@@ -597,7 +598,7 @@ module _ (l : Layout) (is : IsLayout l) (Judged : ℕ → Type 0) (Comes : Regis
 
   -- a slot in sync for a row that no write holds
   idle-there : (w : World) (n : ℕ) (array : Array) (row slot g : ℕ) → row < l.rows → slot < l.slots → (out : ℕ → Rattle.r6_stripe.specs.RowWorld.Command)
-      → Rattle.r6_stripe.specs.Seen.Seen (found l (w.shard n).slot row) (block_seen l w.device (w.shard n).slot row) out (full_row l array row) → InSyncFor ((w.shard n).slot slot) row g
+      → Seen (found l (w.shard n).slot row) (block_seen l w.device (w.shard n).slot row) out (full_row l array row) → InSyncFor ((w.shard n).slot slot) row g
       → w.device slot g row ≡ content l array row slot
   idle-there w n array row slot g below inside out seen sync =
       let slots = (w.shard n).slot in
@@ -707,25 +708,25 @@ module _ (l : Layout) (is : IsLayout l) (Judged : ℕ → Type 0) (Comes : Regis
   same-acts None e = false≢true e
   same-acts (Some r) e = at r.stage e
     where
-      at : (stage : Rattle.r6_world.specs.ShardStates.Stage) → (is_going stage && is_served stage) ≡ true → ⊥
-      at Rattle.r6_world.specs.ShardStates.Waiting e = false≢true e
-      at (Rattle.r6_world.specs.ShardStates.Held f) e = false≢true e
-      at (Rattle.r6_world.specs.ShardStates.Finished reply) e = false≢true e
+      at : (stage : Stage) → (is_going stage && is_served stage) ≡ true → ⊥
+      at Waiting e = false≢true e
+      at (Held f) e = false≢true e
+      at (Finished reply) e = false≢true e
       at (Released reply) e = false≢true e
 
-  stands-none : (frame : ℕ → Option Hold) (answer : Option Reply) (id : ℕ) (stage : Rattle.r6_world.specs.ShardStates.Stage) → is_going stage ≡ true → Rattle.r6_world.proofs.Acts.Requests.Stands frame answer id stage → answer ≡ None
-  stands-none frame answer id Rattle.r6_world.specs.ShardStates.Waiting e x = x
-  stands-none frame answer id (Rattle.r6_world.specs.ShardStates.Held f) e x = x.0
-  stands-none frame answer id (Rattle.r6_world.specs.ShardStates.Finished reply) e x = absurd (false≢true e)
+  stands-none : (frame : ℕ → Option Hold) (answer : Option Reply) (id : ℕ) (stage : Stage) → is_going stage ≡ true → Rattle.r6_world.proofs.Acts.Requests.Stands frame answer id stage → answer ≡ None
+  stands-none frame answer id Waiting e x = x
+  stands-none frame answer id (Held f) e x = x.0
+  stands-none frame answer id (Finished reply) e x = absurd (false≢true e)
   stands-none frame answer id (Released reply) e x = absurd (false≢true e)
 
-  no-failure : (reply : Reply) → not (Rattle.r6_world.specs.ActingPoints.is_failure reply) ≡ true → reply ≡ ArrayFailed → ⊥
-  no-failure reply e failed = false≢true (sym (ap (λ y. not (Rattle.r6_world.specs.ActingPoints.is_failure y)) failed) ∙ e)
+  no-failure : (reply : Reply) → not (is_failure reply) ≡ true → reply ≡ ArrayFailed → ⊥
+  no-failure reply e failed = false≢true (sym (ap (λ y. not (is_failure y)) failed) ∙ e)
 
-  stands-some : (frame : ℕ → Option Hold) (answer : Option Reply) (id : ℕ) (stage : Rattle.r6_world.specs.ShardStates.Stage) → is_served stage ≡ true → Rattle.r6_world.proofs.Acts.Requests.Stands frame answer id stage → answer ≡ None → ⊥
-  stands-some frame answer id Rattle.r6_world.specs.ShardStates.Waiting e x none = false≢true e
-  stands-some frame answer id (Rattle.r6_world.specs.ShardStates.Held f) e x none = false≢true e
-  stands-some frame answer id (Rattle.r6_world.specs.ShardStates.Finished reply) e x none = not_both answer reply none (x (no-failure reply e))
+  stands-some : (frame : ℕ → Option Hold) (answer : Option Reply) (id : ℕ) (stage : Stage) → is_served stage ≡ true → Rattle.r6_world.proofs.Acts.Requests.Stands frame answer id stage → answer ≡ None → ⊥
+  stands-some frame answer id Waiting e x none = false≢true e
+  stands-some frame answer id (Held f) e x none = false≢true e
+  stands-some frame answer id (Finished reply) e x none = not_both answer reply none (x (no-failure reply e))
   stands-some frame answer id (Released reply) e x none = not_both answer reply none (x (no-failure reply e))
 
   acts-here : (w w' : World) (plain plain' : Plain) → Kept w plain → Kept w' plain' → (k : ℕ) → Judged k → (list : List (ℕ × ℕ)) → Acts w [] list plain plain' → (id : ℕ)

@@ -1,7 +1,8 @@
 -- At the start each row is as the array has it, and nothing was done.
 use Rattle.std.proofs.Common.{◌≡◌, ◌≢◌, ℕ, ◌<◌, ◌≤◌, ◌⊎◌, inl, inr, refl, sym, ap, ◌∙◌, subst, arith, None}
 use Rattle.std.proofs.lemmas.Bool.{false≢true, cases_lt}
-use Rattle.r6_stripe.specs.Holds.{Cell, Standing, cell_at, standing_cell}
+use Rattle.r6_stripe.specs.Seen.{Seen}
+use Rattle.r6_stripe.specs.Holds.{Cell, Standing, cell_at, no_cell, fresh, IsIdle}
 use Rattle.r6_stripe.proofs.Seen as RowLaws
 use Rattle.r6_world.specs.PlainArray.{Array}
 use Rattle.r6_world.specs.Layouts.{Layout, IsLayout, full_row}
@@ -24,21 +25,21 @@ module _ (l : Layout) (is : IsLayout l) (Judged : ℕ → Type 0) (Comes : Regis
   in-sync-first Lost row e = absurd (e refl)
   in-sync-first (Rebuilding g by) row e = absurd (e refl)
 
-  found-past : (slots : ℕ → SlotState) (row at : ℕ) → l.slots ≤ at → cell_at (found l slots row).cells at ≡ Rattle.r6_stripe.specs.Holds.no_cell
+  found-past : (slots : ℕ → SlotState) (row at : ℕ) → l.slots ≤ at → cell_at (found l slots row).cells at ≡ no_cell
   found-past slots row at past = cell-past (found l slots row).cells at (subst (λ y. y ≤ at) (sym (found-long l slots row)) past)
 
   not-target : (s : Standing) → (s ≡ Rattle.r6_stripe.specs.Holds.Standing.InSync) ⊎ (s ≡ Rattle.r6_stripe.specs.Holds.Standing.Out) → s ≢ Rattle.r6_stripe.specs.Holds.Standing.Target
   not-target s (inl e) e' = absurd (let both : Rattle.r6_stripe.specs.Holds.Standing.InSync ≡ Rattle.r6_stripe.specs.Holds.Standing.Target = sym e ∙ e' in cc)
   not-target s (inr e) e' = absurd (let both : Rattle.r6_stripe.specs.Holds.Standing.Out ≡ Rattle.r6_stripe.specs.Holds.Standing.Target = sym e ∙ e' in cc)
 
-  found-idle : (slots : ℕ → SlotState) (row : ℕ) → Rattle.r6_stripe.specs.Holds.IsIdle (found l slots row)
+  found-idle : (slots : ℕ → SlotState) (row : ℕ) → IsIdle (found l slots row)
   found-idle slots row =
       record {
         no_hold = refl;
         four_or_more = subst (λ y. 4 ≤ y) (sym (found-long l slots row)) is.four_or_more;
         untouched = λ at. elim (cases_lt at l.slots) [
-          | inl below ↦ found-at l slots row at below ∙ sym (ap Rattle.r6_stripe.specs.Holds.fresh (found-at l slots row at below))
-          | inr past ↦ found-past slots row at past ∙ sym (ap Rattle.r6_stripe.specs.Holds.fresh (found-past slots row at past))
+          | inl below ↦ found-at l slots row at below ∙ sym (ap fresh (found-at l slots row at below))
+          | inr past ↦ found-past slots row at past ∙ sym (ap fresh (found-past slots row at past))
         ];
         no_target = λ at. elim (cases_lt at l.slots) [
           | inl below ↦ λ e. not-target _ (stands-in-or-out (slots (l.slot_at row at)) row) (sym (ap (λ (c : Cell). c.standing) (found-at l slots row at below)) ∙ e)
@@ -47,7 +48,7 @@ module _ (l : Layout) (is : IsLayout l) (Judged : ℕ → Type 0) (Comes : Regis
       }
 
   start-row : (r : Snapshot) (device : Devices) (array : Array) → IsLawfulStart l r device array → (row : ℕ) → row < l.rows
-      → Rattle.r6_stripe.specs.Seen.Seen (found l (λ d. slot_at_start (status_of r d)) row) (block_seen l device (λ d. slot_at_start (status_of r d)) row) (λ at. Rattle.r6_stripe.specs.RowWorld.Command.NoCommand) (full_row l array row)
+      → Seen (found l (λ d. slot_at_start (status_of r d)) row) (block_seen l device (λ d. slot_at_start (status_of r d)) row) (λ at. Rattle.r6_stripe.specs.RowWorld.Command.NoCommand) (full_row l array row)
   start-row r device array start row below =
       let slots : ℕ → SlotState = λ d. slot_at_start (status_of r d) in
       RowLaws.starts (found l slots row) (block_seen l device slots row) (λ at. Rattle.r6_stripe.specs.RowWorld.Command.NoCommand) (full_row l array row) (found-idle slots row)

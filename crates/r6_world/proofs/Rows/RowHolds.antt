@@ -2,11 +2,10 @@
 use Rattle.std.proofs.Common.{◌≡◌, ◌≢◌, ℕ, ◌<◌, ◌⊎◌, length, Bool, false, inl, inr, refl, sym, ap, ◌∙◌, subst, Option, Some, None}
 use Rattle.std.proofs.lemmas.List.{length-set}
 use Rattle.std.proofs.lemmas.Bool.{cases_eq}
-use Rattle.r6_stripe.specs.Holds.{Hold as Course, Cell, Kind, Standing, Outcome as End, cell_at, no_cell, standing_cell, fresh, with_target, with_new, begun as begun_course, ended, after, after_event, Carries, AreNew, MayAsk, MayRestore, MayCompute, MayWrite, MayEnd, MayBegin}
-use Rattle.r6_stripe.specs.Holds.Event.{Asks, Restores, Computes, Writes, Gives, Confirms, Loses}
+use Rattle.r6_stripe.specs.Holds.{Cell, Kind, Standing, Outcome as End, cell_at, no_cell, ended, after, MayEnd, MayBegin}
 use Rattle.r6_stripe.specs.Holds.Standing.{InSync, Target, Out}
-use Rattle.r6_stripe.specs.Holds.Reading.{Unread, Asked, Known}
-use Rattle.r6_stripe.specs.Holds.Writing.{Unwritten, Ready, Sent, Confirmed}
+use Rattle.r6_stripe.specs.Holds.Reading.{Asked}
+use Rattle.r6_stripe.specs.Holds.Writing.{Sent}
 use Rattle.r6_stripe.specs.RowWorld.{Command as RowCommand}
 use Rattle.r6_stripe.specs.RowWorld.Command.{NoCommand}
 use Rattle.r6_stripe.specs.Seen.{Seen}

@@ -1,12 +1,10 @@
 -- A slot is taken out, and the shard's rows hear of it.
-use Rattle.std.proofs.Common.{◌≡◌, ◌≢◌, ℕ, ◌+◌, ◌<◌, ◌≤◌, ◌⊎◌, List, [], ◌∷◌, map, length, Bool, true, false, ◌||◌, ◌==◌, inl, inr, refl, sym, ap, ◌∙◌, subst, arith, Option, Some, None}
+use Rattle.std.proofs.Common.{◌≡◌, ◌≢◌, ℕ, ◌<◌, ◌⊎◌, List, length, false, ◌||◌, ◌==◌, inl, inr, refl, sym, ap, ◌∙◌, subst, arith, Option, Some, None}
 use Rattle.std.proofs.lemmas.List.{length-set}
 use Rattle.std.proofs.lemmas.Bool.{cases_eq, or_parts, or_cases, eqb-false, eqb-true}
-use Rattle.r6_stripe.specs.Holds.{Hold as Course, Cell, Kind, Standing, Outcome as End, cell_at, no_cell, standing_cell, fresh, with_target, with_new, begun as begun_course, ended, after, after_event, Carries, AreNew, MayAsk, MayRestore, MayCompute, MayWrite, MayEnd, MayBegin}
-use Rattle.r6_stripe.specs.Holds.Event.{Asks, Restores, Computes, Writes, Gives, Confirms, Loses}
+use Rattle.r6_stripe.specs.Holds.{Hold as Course, Cell, Kind, Standing, cell_at, standing_cell, after_event}
+use Rattle.r6_stripe.specs.Holds.Event.{Loses}
 use Rattle.r6_stripe.specs.Holds.Standing.{InSync, Target, Out}
-use Rattle.r6_stripe.specs.Holds.Reading.{Unread, Asked, Known}
-use Rattle.r6_stripe.specs.Holds.Writing.{Unwritten, Ready, Sent, Confirmed}
 use Rattle.r6_stripe.specs.Seen.{Seen}
 use Rattle.r6_stripe.proofs.Seen as Laws
 use Rattle.r6_world.specs.Tables.{put}

@@ -1,10 +1,10 @@
 -- A device performs a command, and the shard's rows hold what it has put or given.
 use Rattle.std.proofs.Common.{◌≡◌, ℕ, ◌<◌, ◌⊎◌, true, false, inl, inr, refl, sym, ap, ◌∙◌, subst, arith, Option, Some, None}
-use Rattle.std.proofs.lemmas.Bool.{cases_eq, cases_lt, false≢true, or_parts, or_cases, eqb-false, eqb-true}
+use Rattle.std.proofs.lemmas.Bool.{cases_eq, false≢true}
 use Rattle.r6_stripe.specs.Holds.{Cell, cell_at}
-use Rattle.r6_stripe.specs.RowWorld.{Command as RowCommand, IsUnperformed, IsPerformed}
+use Rattle.r6_stripe.specs.RowWorld.{Command as RowCommand, IsUnperformed}
 use Rattle.r6_stripe.specs.RowWorld as RowWorld
-use Rattle.r6_stripe.specs.RowWorld.Command.{NoCommand, ReadOut, ReadPerformed, WriteOut, WritePerformed}
+use Rattle.r6_stripe.specs.RowWorld.Command.{ReadPerformed}
 use Rattle.r6_stripe.proofs.Seen as Laws
 use Rattle.r6_world.specs.Tables.{put}
 use Rattle.r6_world.specs.PlainArray.{Block, Array}

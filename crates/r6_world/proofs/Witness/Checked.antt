@@ -34,7 +34,7 @@ use Rattle.r6_world.specs.Tasks.{Check, Classed, IsClassRead}
 use Rattle.r6_world.specs.ShardStates.{InSyncFor}
 use Rattle.r6_world.specs.Changes.{Classify}
 use Rattle.r6_world.proofs.Witness.SmallRows.{q, full}
-use Rattle.r6_world.proofs.Witness.Written.{fetched, s0, v0}
+use Rattle.r6_world.proofs.Witness.Written.{fetched, made, when_made}
 
 -- ---- the class
 
@@ -54,66 +54,66 @@ consistent b other sized other-sized =
 
 -- ---- the hold
 
-abbrev h0 : Hold
-h0 = begun small (but_one (Synced 0)) 0 Check
+abbrev begun_check : Hold
+begun_check = begun small (but_one (Synced 0)) 0 Check
 
-abbrev h1 : Hold
-h1 = on h0 (Asks 0)
+abbrev own_asked : Hold
+own_asked = on begun_check (Asks 0)
 
-abbrev h2 : Hold
-h2 = on h1 (Asks 1)
+abbrev other_asked : Hold
+other_asked = on own_asked (Asks 1)
 
-abbrev h3 : Hold
-h3 = on h2 (Asks 2)
+abbrev p_asked : Hold
+p_asked = on other_asked (Asks 2)
 
-abbrev h4 : Hold
-h4 = on h3 (Asks 3)
+abbrev all_asked : Hold
+all_asked = on p_asked (Asks 3)
 
-abbrev h5 : (b other : Block) → Hold
-h5 b other = on h4 (Gives 3 (q b other))
+abbrev q_known : (b other : Block) → Hold
+q_known b other = on all_asked (Gives 3 (q b other))
 
-abbrev h6 : (b other : Block) → Hold
-h6 b other = on (h5 b other) (Gives 2 (p b other))
+abbrev p_known : (b other : Block) → Hold
+p_known b other = on (q_known b other) (Gives 2 (p b other))
 
-abbrev h7 : (b other : Block) → Hold
-h7 b other = on (h6 b other) (Gives 1 other)
+abbrev other_known : (b other : Block) → Hold
+other_known b other = on (p_known b other) (Gives 1 other)
 
-abbrev h8 : (b other : Block) → Hold
-h8 b other = on (h7 b other) (Gives 0 b)
+abbrev all_known : (b other : Block) → Hold
+all_known b other = on (other_known b other) (Gives 0 b)
 
-abbrev h9 : (b other : Block) → Hold
-h9 b other = record (h8 b other) { class = Some Consistent }
+abbrev classed : (b other : Block) → Hold
+classed b other = record (all_known b other) { class = Some Consistent }
 
 -- ---- the states
 
-abbrev out1 : ℕ → Option Command
-out1 = put no_command 0 (Some (fetch 1 0))
+abbrev own_out : ℕ → Option Command
+own_out = put no_command 0 (Some (fetch 1 0))
 
-abbrev out2 : ℕ → Option Command
-out2 = put out1 1 (Some (fetch 2 0))
+abbrev data_out : ℕ → Option Command
+data_out = put own_out 1 (Some (fetch 2 0))
 
-abbrev out3 : ℕ → Option Command
-out3 = put out2 2 (Some (fetch 3 0))
+abbrev data_and_p_out : ℕ → Option Command
+data_and_p_out = put data_out 2 (Some (fetch 3 0))
 
-abbrev out4 : ℕ → Option Command
-out4 = put out3 3 (Some (fetch 0 0))
+abbrev all_out : ℕ → Option Command
+all_out = put data_and_p_out 3 (Some (fetch 0 0))
 
-abbrev k1 : Shard
-k1 = state 0 no_request (held h4) 4 out4 (but_one (Synced 0)) [] 0
+abbrev all_reads_out : Shard
+all_reads_out = state 0 no_request (held all_asked) 4 all_out (but_one (Synced 0)) [] 0
 
-abbrev k2 : (b other : Block) → Shard
-k2 b other = state 0 no_request (held (h5 b other)) 4 out3 (but_one (Synced 0)) [] 0
+abbrev three_reads_out : (b other : Block) → Shard
+three_reads_out b other = state 0 no_request (held (q_known b other)) 4 data_and_p_out (but_one (Synced 0)) [] 0
 
-abbrev k3 : (b other : Block) → Shard
-k3 b other = state 0 no_request (held (h6 b other)) 4 out2 (but_one (Synced 0)) [] 0
+abbrev two_reads_out : (b other : Block) → Shard
+two_reads_out b other = state 0 no_request (held (p_known b other)) 4 data_out (but_one (Synced 0)) [] 0
 
-abbrev k4 : (b other : Block) → Shard
-k4 b other = state 0 no_request (held (h7 b other)) 4 out1 (but_one (Synced 0)) [] 0
+abbrev one_read_out : (b other : Block) → Shard
+one_read_out b other = state 0 no_request (held (other_known b other)) 4 own_out (but_one (Synced 0)) [] 0
 
-abbrev a5 : (b other : Block) → Shard
-a5 b other =
-    after small (after small (after small (handed_out (k4 b other) 0 (fetch 1 0)) (Learn 0 (fetched 1 0) (h7 b other) b)) (Classify 0 (h8 b other) Consistent))
-    (Finish 0 (h9 b other) (Classed Consistent))
+abbrev after_own : (b other : Block) → Shard
+after_own b other =
+    after small (after small (after small (handed_out (one_read_out b other) 0 (fetch 1 0)) (Learn 0 (fetched 1 0) (other_known b other) b)) (Classify 0 (all_known b other) Consistent))
+    (Finish 0 (classed b other) (Classed Consistent))
 
 -- ---- a turn begins the check
 
@@ -127,32 +127,32 @@ may_ask : (h : Hold) (at : ℕ) → (h.course.kind ≡ Idle → ⊥) → (cell h
     → ((other : ℕ) → (cell_at h.course.cells other).writing ≡ Unwritten) → MayAsk h.course at
 may_ask h at kind in' unread before = record { held = kind; in_sync = in'; unread = unread; before_writes = before }
 
-unwritten : (other : ℕ) → (cell_at h0.course.cells other).writing ≡ Unwritten
-unwritten = each (λ c. c.writing ≡ Unwritten) h0 refl refl refl refl refl
+unwritten : (other : ℕ) → (cell_at begun_check.course.cells other).writing ≡ Unwritten
+unwritten = each (λ c. c.writing ≡ Unwritten) begun_check refl refl refl refl refl
 
-unwritten1 : (other : ℕ) → (cell_at h1.course.cells other).writing ≡ Unwritten
-unwritten1 = each (λ c. c.writing ≡ Unwritten) h1 refl refl refl refl refl
+own_unwritten : (other : ℕ) → (cell_at own_asked.course.cells other).writing ≡ Unwritten
+own_unwritten = each (λ c. c.writing ≡ Unwritten) own_asked refl refl refl refl refl
 
-unwritten2 : (other : ℕ) → (cell_at h2.course.cells other).writing ≡ Unwritten
-unwritten2 = each (λ c. c.writing ≡ Unwritten) h2 refl refl refl refl refl
+other_unwritten : (other : ℕ) → (cell_at other_asked.course.cells other).writing ≡ Unwritten
+other_unwritten = each (λ c. c.writing ≡ Unwritten) other_asked refl refl refl refl refl
 
-unwritten3 : (other : ℕ) → (cell_at h3.course.cells other).writing ≡ Unwritten
-unwritten3 = each (λ c. c.writing ≡ Unwritten) h3 refl refl refl refl refl
+p_unwritten : (other : ℕ) → (cell_at p_asked.course.cells other).writing ≡ Unwritten
+p_unwritten = each (λ c. c.writing ≡ Unwritten) p_asked refl refl refl refl refl
 
-may_begin : (at : ℕ) → at < 4 → (cell_at h0.course.cells at).standing ≡ InPlace
+may_begin : (at : ℕ) → at < 4 → (cell_at begun_check.course.cells at).standing ≡ InPlace
 may_begin zero below = refl
 may_begin (suc zero) below = refl
 may_begin (suc (suc zero)) below = refl
 may_begin (suc (suc (suc zero))) below = refl
 may_begin (suc (suc (suc (suc at)))) below = absurd (omega (arith, below))
 
-abbrev a1 : Shard
-a1 = after small (after small (after small (after small (after small s0 (Start 0 0 Check)) (Ask 0 h0 1 0)) (Ask 0 h1 2 0)) (Ask 0 h2 3 0)) (Ask 0 h3 0 0)
+abbrev after_turn : Shard
+after_turn = after small (after small (after small (after small (after small made (Start 0 0 Check)) (Ask 0 begun_check 1 0)) (Ask 0 own_asked 2 0)) (Ask 0 other_asked 3 0)) (Ask 0 p_asked 0 0)
 
-begins : k1 ≡ a1
-begins = λ i. record k1 { frame = λ f. entry_is a1.frame 0 (Some h4) refl (λ at ne. rw (ne_eqb at 0 ne) refl) f i }
+begins : all_reads_out ≡ after_turn
+begins = λ i. record all_reads_out { frame = λ f. entry_is after_turn.frame 0 (Some all_asked) refl (λ at ne. rw (ne_eqb at 0 ne) refl) f i }
 
-turns : Step small 0 s0 (Turn_started Check) k1
+turns : Step small 0 made (Turn_started Check) all_reads_out
 turns = (
   record {},
   0,
@@ -166,114 +166,114 @@ turns = (
     may_begin,
   ),
   (
-    Ask 0 h0 1 0 ∷ Ask 0 h1 2 0 ∷ Ask 0 h2 3 0 ∷ Ask 0 h3 0 0 ∷ [],
+    Ask 0 begun_check 1 0 ∷ Ask 0 own_asked 2 0 ∷ Ask 0 other_asked 3 0 ∷ Ask 0 p_asked 0 0 ∷ [],
     (
       record {},
-      (refl, n1<4, refl, (n0≤2, refl), may_ask h0 0 check_held refl refl unwritten, refl),
+      (refl, n1<4, refl, (n0≤2, refl), may_ask begun_check 0 check_held refl refl unwritten, refl),
       (
         record {},
-        (refl, n2<4, refl, (n0≤2, refl), may_ask h1 1 check_held refl refl unwritten1, refl),
+        (refl, n2<4, refl, (n0≤2, refl), may_ask own_asked 1 check_held refl refl own_unwritten, refl),
         (
           record {},
-          (refl, n3<4, refl, (n0≤2, refl), may_ask h2 2 check_held refl refl unwritten2, refl),
-          (record {}, (refl, n0<4, refl, (n0≤2, refl), may_ask h3 3 check_held refl refl unwritten3, refl), begins),
+          (refl, n3<4, refl, (n0≤2, refl), may_ask other_asked 2 check_held refl refl other_unwritten, refl),
+          (record {}, (refl, n0<4, refl, (n0≤2, refl), may_ask p_asked 3 check_held refl refl p_unwritten, refl), begins),
         ),
       ),
     ),
   ),
-  held_rests k1 h4 refl refl 0 (fetch 1 0) refl refl refl none_wait (none_built (Synced 0) (λ x. x)),
+  held_rests all_reads_out all_asked refl refl 0 (fetch 1 0) refl refl refl none_wait (none_built (Synced 0) (λ x. x)),
 )
 
 -- ---- the row is read
 
-abbrev a2 : (b other : Block) → Shard
-a2 b other = after small (handed_out k1 3 (fetch 0 0)) (Learn 3 (fetched 0 0) h4 (q b other))
+abbrev after_q : (b other : Block) → Shard
+after_q b other = after small (handed_out all_reads_out 3 (fetch 0 0)) (Learn 3 (fetched 0 0) all_asked (q b other))
 
-read3 : (b other : Block) → k2 b other ≡ a2 b other
-read3 b other = λ i. record (k2 b other) {
-  frame = λ f. entry_is (a2 b other).frame 0 (Some (h5 b other)) refl (λ at ne. rw (ne_eqb at 0 ne) refl) f i;
-  command = λ t. sym (put-gone out3 3 (Some (fetch 0 0)) (Some (fetched 0 0)) refl t) i;
+reads_q : (b other : Block) → three_reads_out b other ≡ after_q b other
+reads_q b other = λ i. record (three_reads_out b other) {
+  frame = λ f. entry_is (after_q b other).frame 0 (Some (q_known b other)) refl (λ at ne. rw (ne_eqb at 0 ne) refl) f i;
+  command = λ t. sym (put-gone data_and_p_out 3 (Some (fetch 0 0)) (Some (fetched 0 0)) refl t) i;
 }
 
-learns3 : (b other : Block) → Step small 0 (handed_out k1 3 (fetch 0 0)) (Deliver 3 (Good (q b other)) Taken) (k2 b other)
-learns3 b other = (
-  Learn 3 (fetched 0 0) h4 (q b other),
+learns_q : (b other : Block) → Step small 0 (handed_out all_reads_out 3 (fetch 0 0)) (Deliver 3 (Good (q b other)) Taken) (three_reads_out b other)
+learns_q b other = (
+  Learn 3 (fetched 0 0) all_asked (q b other),
   (refl, refl, refl),
   (refl, refl, refl, refl),
-  k2 b other,
-  ([], read3 b other),
+  three_reads_out b other,
+  ([], reads_q b other),
   ([], refl),
-  held_rests (k2 b other) (h5 b other) refl refl 0 (fetch 1 0) refl refl refl none_wait (none_built (Synced 0) (λ x. x)),
+  held_rests (three_reads_out b other) (q_known b other) refl refl 0 (fetch 1 0) refl refl refl none_wait (none_built (Synced 0) (λ x. x)),
 )
 
-abbrev a3 : (b other : Block) → Shard
-a3 b other = after small (handed_out (k2 b other) 2 (fetch 3 0)) (Learn 2 (fetched 3 0) (h5 b other) (p b other))
+abbrev after_p : (b other : Block) → Shard
+after_p b other = after small (handed_out (three_reads_out b other) 2 (fetch 3 0)) (Learn 2 (fetched 3 0) (q_known b other) (p b other))
 
-read2 : (b other : Block) → k3 b other ≡ a3 b other
-read2 b other = λ i. record (k3 b other) {
-  frame = λ f. entry_is (a3 b other).frame 0 (Some (h6 b other)) refl (λ at ne. rw (ne_eqb at 0 ne) refl) f i;
-  command = λ t. sym (put-gone out2 2 (Some (fetch 3 0)) (Some (fetched 3 0)) refl t) i;
+reads_p : (b other : Block) → two_reads_out b other ≡ after_p b other
+reads_p b other = λ i. record (two_reads_out b other) {
+  frame = λ f. entry_is (after_p b other).frame 0 (Some (p_known b other)) refl (λ at ne. rw (ne_eqb at 0 ne) refl) f i;
+  command = λ t. sym (put-gone data_out 2 (Some (fetch 3 0)) (Some (fetched 3 0)) refl t) i;
 }
 
-learns2 : (b other : Block) → Step small 0 (handed_out (k2 b other) 2 (fetch 3 0)) (Deliver 2 (Good (p b other)) Taken) (k3 b other)
-learns2 b other = (
-  Learn 2 (fetched 3 0) (h5 b other) (p b other),
+learns_p : (b other : Block) → Step small 0 (handed_out (three_reads_out b other) 2 (fetch 3 0)) (Deliver 2 (Good (p b other)) Taken) (two_reads_out b other)
+learns_p b other = (
+  Learn 2 (fetched 3 0) (q_known b other) (p b other),
   (refl, refl, refl),
   (refl, refl, refl, refl),
-  k3 b other,
-  ([], read2 b other),
+  two_reads_out b other,
+  ([], reads_p b other),
   ([], refl),
-  held_rests (k3 b other) (h6 b other) refl refl 0 (fetch 1 0) refl refl refl none_wait (none_built (Synced 0) (λ x. x)),
+  held_rests (two_reads_out b other) (p_known b other) refl refl 0 (fetch 1 0) refl refl refl none_wait (none_built (Synced 0) (λ x. x)),
 )
 
-abbrev a4 : (b other : Block) → Shard
-a4 b other = after small (handed_out (k3 b other) 1 (fetch 2 0)) (Learn 1 (fetched 2 0) (h6 b other) other)
+abbrev after_other : (b other : Block) → Shard
+after_other b other = after small (handed_out (two_reads_out b other) 1 (fetch 2 0)) (Learn 1 (fetched 2 0) (p_known b other) other)
 
-read1 : (b other : Block) → k4 b other ≡ a4 b other
-read1 b other = λ i. record (k4 b other) {
-  frame = λ f. entry_is (a4 b other).frame 0 (Some (h7 b other)) refl (λ at ne. rw (ne_eqb at 0 ne) refl) f i;
-  command = λ t. sym (put-gone out1 1 (Some (fetch 2 0)) (Some (fetched 2 0)) refl t) i;
+reads_other : (b other : Block) → one_read_out b other ≡ after_other b other
+reads_other b other = λ i. record (one_read_out b other) {
+  frame = λ f. entry_is (after_other b other).frame 0 (Some (other_known b other)) refl (λ at ne. rw (ne_eqb at 0 ne) refl) f i;
+  command = λ t. sym (put-gone own_out 1 (Some (fetch 2 0)) (Some (fetched 2 0)) refl t) i;
 }
 
-learns1 : (b other : Block) → Step small 0 (handed_out (k3 b other) 1 (fetch 2 0)) (Deliver 1 (Good other) Taken) (k4 b other)
-learns1 b other = (
-  Learn 1 (fetched 2 0) (h6 b other) other,
+learns_other : (b other : Block) → Step small 0 (handed_out (two_reads_out b other) 1 (fetch 2 0)) (Deliver 1 (Good other) Taken) (one_read_out b other)
+learns_other b other = (
+  Learn 1 (fetched 2 0) (p_known b other) other,
   (refl, refl, refl),
   (refl, refl, refl, refl),
-  k4 b other,
-  ([], read1 b other),
+  one_read_out b other,
+  ([], reads_other b other),
   ([], refl),
-  held_rests (k4 b other) (h7 b other) refl refl 0 (fetch 1 0) refl refl refl none_wait (none_built (Synced 0) (λ x. x)),
+  held_rests (one_read_out b other) (other_known b other) refl refl 0 (fetch 1 0) refl refl refl none_wait (none_built (Synced 0) (λ x. x)),
 )
 
 -- ---- it is classified
 
-known_of : (b other : Block) (at : ℕ) → at < 4 → (cell_at (h8 b other).course.cells at).reading ≡ Known (block_at (full b other) at)
+known_of : (b other : Block) (at : ℕ) → at < 4 → (cell_at (all_known b other).course.cells at).reading ≡ Known (block_at (full b other) at)
 known_of b other zero below = refl
 known_of b other (suc zero) below = refl
 known_of b other (suc (suc zero)) below = refl
 known_of b other (suc (suc (suc zero))) below = refl
 known_of b other (suc (suc (suc (suc at)))) below = absurd (omega (arith, below))
 
-is_read : (b other : Block) → IsBlock 16 b → IsBlock 16 other → IsClassRead (h8 b other).course Consistent
+is_read : (b other : Block) → IsBlock 16 b → IsBlock 16 other → IsClassRead (all_known b other).course Consistent
 is_read b other sized other-sized = (full b other, refl, known_of b other, consistent b other sized other-sized)
 
-may_end : (b other : Block) → MayEnd (h9 b other).course Read_all
+may_end : (b other : Block) → MayEnd (classed b other).course Read_all
 may_end b other = record {
   quiet =
-      each IsQuiet (h9 b other) (λ in'. (known_not_asked b, unwritten_not_sent)) (λ in'. (known_not_asked other, unwritten_not_sent))
+      each IsQuiet (classed b other) (λ in'. (known_not_asked b, unwritten_not_sent)) (λ in'. (known_not_asked other, unwritten_not_sent))
       (λ in'. (known_not_asked (p b other), unwritten_not_sent)) (λ in'. (known_not_asked (q b other), unwritten_not_sent)) (λ in'. (unread_not_asked, unwritten_not_sent));
   owes_nothing = (refl, refl);
 }
 
-classifies : (b other : Block) → IsBlock 16 b → IsBlock 16 other → Step small 0 (handed_out (k4 b other) 0 (fetch 1 0)) (Deliver 0 (Good b) Taken) (a5 b other)
+classifies : (b other : Block) → IsBlock 16 b → IsBlock 16 other → Step small 0 (handed_out (one_read_out b other) 0 (fetch 1 0)) (Deliver 0 (Good b) Taken) (after_own b other)
 classifies b other sized other-sized = (
-  Learn 0 (fetched 1 0) (h7 b other) b,
+  Learn 0 (fetched 1 0) (other_known b other) b,
   (refl, refl, refl),
   (refl, refl, refl, refl),
-  a5 b other,
+  after_own b other,
   (
-    Classify 0 (h8 b other) Consistent ∷ Finish 0 (h9 b other) (Classed Consistent) ∷ [],
+    Classify 0 (all_known b other) Consistent ∷ Finish 0 (classed b other) (Classed Consistent) ∷ [],
     (
       record {},
       (refl, (n0≤2, refl), record {}, refl, is_read b other sized other-sized),
@@ -281,30 +281,30 @@ classifies b other sized other-sized = (
     ),
   ),
   ([], refl),
-  free_rests (a5 b other) (λ f. sym (none_is (a5 b other).frame 0 refl (λ at ne. rw (ne_eqb at 0 ne) refl) f)) none_wait (none_built (Synced 0) (λ x. x)),
+  free_rests (after_own b other) (λ f. sym (none_is (after_own b other).frame 0 refl (λ at ne. rw (ne_eqb at 0 ne) refl) f)) none_wait (none_built (Synced 0) (λ x. x)),
 )
 
 -- ---- all together
 
-abbrev y1 : Array → View
-y1 array = record (v0 array) { shard = k1; settled = false }
+abbrev when_reading_all : Array → View
+when_reading_all array = record (when_made array) { shard = all_reads_out; settled = false }
 
-abbrev y2 : Array → View
-y2 array = record (v0 array) { shard = k2 (array 0) (array 1); used = 3 ∷ []; settled = false }
+abbrev when_reading_three : Array → View
+when_reading_three array = record (when_made array) { shard = three_reads_out (array 0) (array 1); used = 3 ∷ []; settled = false }
 
-abbrev y3 : Array → View
-y3 array = record (v0 array) { shard = k3 (array 0) (array 1); used = 2 ∷ 3 ∷ []; settled = false }
+abbrev when_reading_two : Array → View
+when_reading_two array = record (when_made array) { shard = two_reads_out (array 0) (array 1); used = 2 ∷ 3 ∷ []; settled = false }
 
-abbrev y4 : Array → View
-y4 array = record (v0 array) { shard = k4 (array 0) (array 1); used = 1 ∷ 2 ∷ 3 ∷ []; settled = false }
+abbrev when_reading_one : Array → View
+when_reading_one array = record (when_made array) { shard = one_read_out (array 0) (array 1); used = 1 ∷ 2 ∷ 3 ∷ []; settled = false }
 
 abbrev pub when_checked : Array → View
-when_checked array = record (v0 array) { shard = a5 (array 0) (array 1); used = 0 ∷ 1 ∷ 2 ∷ 3 ∷ []; settled = false }
+when_checked array = record (when_made array) { shard = after_own (array 0) (array 1); used = 0 ∷ 1 ∷ 2 ∷ 3 ∷ []; settled = false }
 
-pub checks : (array : Array) → IsBlock 16 (array 0) → IsBlock 16 (array 1) → (w : World) → Stands w (v0 array) → Reaches small w (λ later. Stands later (when_checked array))
+pub checks : (array : Array) → IsBlock 16 (array 0) → IsBlock 16 (array 1) → (w : World) → Stands w (when_made array) → Reaches small w (λ later. Stands later (when_checked array))
 checks array sized other-sized w at =
-    leads w (y1 array) (λ later. Stands later (when_checked array)) (core w (v0 array) at (Turn_started Check) k1 n0≤2 (record {}) (record {}) turns)
-    (λ x1 at1. leads x1 (y2 array) (λ later. Stands later (when_checked array)) (reads x1 (y1 array) at1 3 0 0 (k2 (array 0) (array 1)) refl refl n0≤2 (learns3 (array 0) (array 1)))
-    (λ x2 at2. leads x2 (y3 array) (λ later. Stands later (when_checked array)) (reads x2 (y2 array) at2 2 3 0 (k3 (array 0) (array 1)) refl refl n0≤2 (learns2 (array 0) (array 1)))
-    (λ x3 at3. leads x3 (y4 array) (λ later. Stands later (when_checked array)) (reads x3 (y3 array) at3 1 2 0 (k4 (array 0) (array 1)) refl refl n0≤2 (learns1 (array 0) (array 1)))
-    (λ x4 at4. reads x4 (y4 array) at4 0 1 0 (a5 (array 0) (array 1)) refl refl n0≤2 (classifies (array 0) (array 1) sized other-sized)))))
+    leads w (when_reading_all array) (λ later. Stands later (when_checked array)) (core w (when_made array) at (Turn_started Check) all_reads_out n0≤2 (record {}) (record {}) turns)
+    (λ x1 at1. leads x1 (when_reading_three array) (λ later. Stands later (when_checked array)) (reads x1 (when_reading_all array) at1 3 0 0 (three_reads_out (array 0) (array 1)) refl refl n0≤2 (learns_q (array 0) (array 1)))
+    (λ x2 at2. leads x2 (when_reading_two array) (λ later. Stands later (when_checked array)) (reads x2 (when_reading_three array) at2 2 3 0 (two_reads_out (array 0) (array 1)) refl refl n0≤2 (learns_p (array 0) (array 1)))
+    (λ x3 at3. leads x3 (when_reading_one array) (λ later. Stands later (when_checked array)) (reads x3 (when_reading_two array) at3 1 2 0 (one_read_out (array 0) (array 1)) refl refl n0≤2 (learns_other (array 0) (array 1)))
+    (λ x4 at4. reads x4 (when_reading_one array) at4 0 1 0 (after_own (array 0) (array 1)) refl refl n0≤2 (classifies (array 0) (array 1) sized other-sized)))))

@@ -12,7 +12,7 @@ use Rattle.r6_world.specs.Witness.{smallest, small, after_all, RunsInTurn, Cours
 use Rattle.r6_world.proofs.Geometries.{layouts}
 use Rattle.r6_world.proofs.Witness.Pieces.{View, Stands, Reaches, run-append, goes-append, after-append}
 use Rattle.r6_world.proofs.Witness.SmallShards.{register_with, all_in_sync, but_one-same}
-use Rattle.r6_world.proofs.Witness.Written.{s0, v0, v6, wrote}
+use Rattle.r6_world.proofs.Witness.Written.{made, when_made, when_released, wrote}
 use Rattle.r6_world.proofs.Witness.Lost.{when_lost, when_restored, loses, restores}
 use Rattle.r6_world.proofs.Witness.Erred.{when_erred, when_recovered, erred, recovers}
 use Rattle.r6_world.proofs.Witness.Failed.{two_out, two_fail, last_moments, fails}
@@ -54,10 +54,10 @@ starts array sized = record {
   full_rows = λ row slot row-below below e. refl;
 }
 
-same_shard : shard_at_start small (register_with InSync 0) 0 ≡ s0
-same_shard = λ i. record s0 { slot = λ d. (ap slot_at_start (all_in_sync d) ∙ but_one-same d) i }
+same_shard : shard_at_start small (register_with InSync 0) 0 ≡ made
+same_shard = λ i. record made { slot = λ d. (ap slot_at_start (all_in_sync d) ∙ but_one-same d) i }
 
-stands : (array : Array) → Stands (started small (register_with InSync 0) (device array)) (v0 array)
+stands : (array : Array) → Stands (started small (register_with InSync 0) (device array)) (when_made array)
 stands array = record {
   shard_is = same_shard;
   register_is = refl;
@@ -97,7 +97,7 @@ module _ (array : Array) (b : Block) (wide : length b ≡ 16) (other-wide : leng
   Runs moments = RunsInTurn small start moments
 
   six : (x1 x2 x3 x4 x5 x6 : List Moment) → Runs (x1 ++ x2 ++ x3 ++ x4 ++ x5 ++ x6)
-      → Ends x1 (v6 array b) → Ends (x1 ++ x2) (when_lost array b) → Ends (x1 ++ x2 ++ x3) (when_restored array b)
+      → Ends x1 (when_released array b) → Ends (x1 ++ x2) (when_lost array b) → Ends (x1 ++ x2 ++ x3) (when_restored array b)
       → Ends (x1 ++ x2 ++ x3 ++ x4) (when_attached array b) → Ends (x1 ++ x2 ++ x3 ++ x4 ++ x5) (when_rebuilt array b)
       → Ends (x1 ++ x2 ++ x3 ++ x4 ++ x5 ++ x6) (at_last array b)
       → CourseFrom start b
@@ -109,7 +109,7 @@ module _ (array : Array) (b : Block) (wide : length b ≡ 16) (other-wide : leng
     rebuild = x5;
     read = x6;
     is_run = run;
-    is_written = answered (after_all small start x1) (v6 array b) 0 (Write 0 b) Done at1 refl;
+    is_written = answered (after_all small start x1) (when_released array b) 0 (Write 0 b) Done at1 refl;
     is_lost = (ap (λ r. status_of r 1) at2.register_is, ap (λ s. s.slot 1) at2.shard_is);
     is_restored = answered (after_all small start (x1 ++ x2 ++ x3)) (when_restored array b) 1 (Read 0) (Data b) at3 refl;
     is_attached = (ap (λ r. status_of r 1) at4.register_is, ap (λ s. s.slot 1) at4.shard_is);
@@ -118,7 +118,7 @@ module _ (array : Array) (b : Block) (wide : length b ≡ 16) (other-wide : leng
   }
 
   five : (x1 x2 x3 x4 x5 : List Moment) → Runs (x1 ++ x2 ++ x3 ++ x4 ++ x5)
-      → Ends x1 (v6 array b) → Ends (x1 ++ x2) (when_lost array b) → Ends (x1 ++ x2 ++ x3) (when_restored array b)
+      → Ends x1 (when_released array b) → Ends (x1 ++ x2) (when_lost array b) → Ends (x1 ++ x2 ++ x3) (when_restored array b)
       → Ends (x1 ++ x2 ++ x3 ++ x4) (when_attached array b) → Ends (x1 ++ x2 ++ x3 ++ x4 ++ x5) (when_rebuilt array b)
       → CourseFrom start b
   five x1 x2 x3 x4 x5 run at1 at2 at3 at4 at5 =
@@ -126,7 +126,7 @@ module _ (array : Array) (b : Block) (wide : length b ≡ 16) (other-wide : leng
       six x1 x2 x3 x4 x5 part.0 part.1 at1 at2 at3 at4 at5 part.2
 
   four : (x1 x2 x3 x4 : List Moment) → Runs (x1 ++ x2 ++ x3 ++ x4)
-      → Ends x1 (v6 array b) → Ends (x1 ++ x2) (when_lost array b) → Ends (x1 ++ x2 ++ x3) (when_restored array b)
+      → Ends x1 (when_released array b) → Ends (x1 ++ x2) (when_lost array b) → Ends (x1 ++ x2 ++ x3) (when_restored array b)
       → Ends (x1 ++ x2 ++ x3 ++ x4) (when_attached array b)
       → CourseFrom start b
   four x1 x2 x3 x4 run at1 at2 at3 at4 =
@@ -134,17 +134,17 @@ module _ (array : Array) (b : Block) (wide : length b ≡ 16) (other-wide : leng
       five x1 x2 x3 x4 part.0 part.1 at1 at2 at3 at4 part.2
 
   three : (x1 x2 x3 : List Moment) → Runs (x1 ++ x2 ++ x3)
-      → Ends x1 (v6 array b) → Ends (x1 ++ x2) (when_lost array b) → Ends (x1 ++ x2 ++ x3) (when_restored array b) → CourseFrom start b
+      → Ends x1 (when_released array b) → Ends (x1 ++ x2) (when_lost array b) → Ends (x1 ++ x2 ++ x3) (when_restored array b) → CourseFrom start b
   three x1 x2 x3 run at1 at2 at3 =
       let part = more start (x1 ++ x2 ++ x3) (λ w. Stands w (when_attached array b)) run (attaches array b (after_all small start (x1 ++ x2 ++ x3)) at3) in
       four x1 x2 x3 part.0 part.1 at1 at2 at3 part.2
 
-  two : (x1 x2 : List Moment) → Runs (x1 ++ x2) → Ends x1 (v6 array b) → Ends (x1 ++ x2) (when_lost array b) → CourseFrom start b
+  two : (x1 x2 : List Moment) → Runs (x1 ++ x2) → Ends x1 (when_released array b) → Ends (x1 ++ x2) (when_lost array b) → CourseFrom start b
   two x1 x2 run at1 at2 =
       let part = more start (x1 ++ x2) (λ w. Stands w (when_restored array b)) run (restores array b wide other-wide (after_all small start (x1 ++ x2)) at2) in
       three x1 x2 part.0 part.1 at1 at2 part.2
 
-  one : (x1 : List Moment) → Runs x1 → Ends x1 (v6 array b) → CourseFrom start b
+  one : (x1 : List Moment) → Runs x1 → Ends x1 (when_released array b) → CourseFrom start b
   one x1 run at1 =
       let part = more start x1 (λ w. Stands w (when_lost array b)) run (loses array b (after_all small start x1) at1) in
       two x1 part.0 part.1 at1 part.2

@@ -12,8 +12,8 @@ use Rattle.r6_world.specs.Witness.{small, after_all, IsAnswered}
 use Rattle.r6_world.proofs.Tables.{put-other}
 use Rattle.r6_world.proofs.Witness.Pieces.{Reaches, View, Stands, leads, quiet, core, outside}
 use Rattle.r6_world.proofs.Witness.SmallShards.{but_one, register_with, others_in_sync, n0<1, n0≤2, n1<4, n2<4, n3<4}
-use Rattle.r6_world.proofs.Witness.Written.{v0}
-use Rattle.r6_world.proofs.Witness.Erred.{f1, submits}
+use Rattle.r6_world.proofs.Witness.Written.{when_made}
+use Rattle.r6_world.proofs.Witness.Erred.{read_out, submits}
 
 abbrev two_lost : Snapshot
 two_lost = record { slots = InSync ∷ Lost ∷ Lost ∷ replicate 29 InSync; attaches = 0; failed = false }
@@ -24,7 +24,7 @@ three_lost = record { slots = InSync ∷ Lost ∷ Lost ∷ Lost ∷ replicate 28
 -- ---- the look that sees it
 
 abbrev taken_out : Shard
-taken_out = after small (after small (after small f1 (Adopt 1 Lost)) (Adopt 2 Lost)) (Adopt 3 Lost)
+taken_out = after small (after small (after small read_out (Adopt 1 Lost)) (Adopt 2 Lost)) (Adopt 3 Lost)
 
 abbrev stopped : Shard
 stopped = after small taken_out See_failed
@@ -36,16 +36,16 @@ other_slot slot =
     ∙ put-other (but_one (Synced 0)) 1 Missing (suc (suc (suc (suc slot)))) (λ e. omega (arith, e))
     ∙ put-other (λ d. Synced 0) 1 (Synced 0) (suc (suc (suc (suc slot)))) (λ e. omega (arith, e))
 
-was_in_sync : (slot : ℕ) → f1.slot (suc (suc (suc (suc slot)))) ≡ Synced 0
+was_in_sync : (slot : ℕ) → read_out.slot (suc (suc (suc (suc slot)))) ≡ Synced 0
 was_in_sync slot = put-other (λ d. Synced 0) 1 (Synced 0) (suc (suc (suc (suc slot)))) (λ e. omega (arith, e))
 
-all_seen : (slot : ℕ) → taken_out.slot slot ≡ adopted (f1.slot slot) (status_of three_lost slot)
+all_seen : (slot : ℕ) → taken_out.slot slot ≡ adopted (read_out.slot slot) (status_of three_lost slot)
 all_seen zero = refl
 all_seen (suc zero) = refl
 all_seen (suc (suc zero)) = refl
 all_seen (suc (suc (suc zero))) = refl
 all_seen (suc (suc (suc (suc slot)))) =
-    other_slot slot ∙ sym (ap (adopted (f1.slot (suc (suc (suc (suc slot)))))) (others_in_sync 28 slot) ∙ was_in_sync slot)
+    other_slot slot ∙ sym (ap (adopted (read_out.slot (suc (suc (suc (suc slot)))))) (others_in_sync 28 slot) ∙ was_in_sync slot)
 
 not_live : IsLive small stopped → ⊥
 not_live live = clash live.1
@@ -61,7 +61,7 @@ stopped_rests = record {
   brought_in = λ live slot all. not_live live;
 }
 
-looks : Step small 0 f1 (Look three_lost) stopped
+looks : Step small 0 read_out (Look three_lost) stopped
 looks = (
   refl,
   refl,
@@ -78,7 +78,7 @@ looks = (
 -- ---- all together
 
 abbrev submitted : Array → View
-submitted array = record (v0 array) { shard = f1; settled = false }
+submitted array = record (when_made array) { shard = read_out; settled = false }
 
 abbrev one_out : Array → View
 one_out array = record (submitted array) { register = register_with Lost 0 }
@@ -86,10 +86,10 @@ one_out array = record (submitted array) { register = register_with Lost 0 }
 abbrev pub two_out : Array → View
 two_out array = record (submitted array) { register = two_lost }
 
-pub two_fail : (array : Array) (w : World) → Stands w (v0 array) → Reaches small w (λ later. Stands later (two_out array))
+pub two_fail : (array : Array) (w : World) → Stands w (when_made array) → Reaches small w (λ later. Stands later (two_out array))
 two_fail array w at =
     leads w (submitted array) (λ later. Stands later (two_out array))
-    (core w (v0 array) at (Submit (Read 0) 0) f1 n0≤2 (quiet w (v0 array) at (λ t. refl) refl refl refl) (record {}) submits)
+    (core w (when_made array) at (Submit (Read 0) 0) read_out n0≤2 (quiet w (when_made array) at (λ t. refl) refl refl refl) (record {}) submits)
     (λ x1 at1. leads x1 (one_out array) (λ later. Stands later (two_out array))
     (outside x1 (submitted array) at1 (Fail 1) (record {}) (Ok Degraded) refl refl None (λ before e. refl) false (λ before e. refl))
     (λ x2 at2. outside x2 (one_out array) at2 (Fail 2) (record {}) (Ok Degraded) refl refl None (λ before e. e) false (λ before e. refl)))
