@@ -15,5 +15,5 @@ pub use apart::{restore_from_p_into, restore_from_q_into, restore_missing_into, 
 pub use class::{RowClass, classify};
 pub use in_place::restore_pair;
 pub use known::{Known, Missing, TooManyLost, missing_among};
-pub use parity::{rewrite_parity, write_parity};
+pub use parity::rewrite_parity;
 pub use row::{RowBuf, repair_parity, restore};

@@ -18,19 +18,3 @@ pub fn rewrite_parity(blocks: &mut [Buffer])
     let (p, q) = parities.split_at_mut(1);
     parity(data_blocks, &mut p[0], &mut q[0]);
 }
-
-/// P and Q from the data, by way of two sums. `rewrite_parity` needs no room for these.
-pub fn write_parity(blocks: &mut [Buffer], sum: &mut Buffer, weighted: &mut Buffer)
-    requires count { 2 ≤ length blocks.old }
-    requires long { All (λ block. length block ≡ length sum.old) blocks.old }
-    requires same { length weighted.old ≡ length sum.old }
-    ensures row { blocks.new ≡ row_of (length sum.old) (data_of blocks.old) }
-    ensures sum_length { length sum.new ≡ length sum.old }
-    ensures weighted_length { length weighted.new ≡ length weighted.old }
-    ensures long { All (λ block. length block ≡ length sum.old) blocks.new }
-{
-    let m = blocks.len() - 2;
-    parity(&blocks[..m], sum, weighted);
-    blocks[m].copy_from(sum);
-    blocks[m + 1].copy_from(weighted);
-}
