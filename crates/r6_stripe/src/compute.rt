@@ -2,7 +2,7 @@
 
 ghost use Rattle.std.specs.Prelude.{◌≡◌, ◌<◌, ◌≤◌, ◌+◌, ◌-◌, ◌||◌, not, true, false, None, ℕ, length, take, slice_set, All, IsTrue};
 ghost use Rattle.r6_recover.specs.Rows.{block_at};
-ghost use Rattle.r6_stripe.specs.Places.{with_ready, ready_at, renewed, modified, away_of};
+ghost use Rattle.r6_stripe.specs.Places.{with_ready, ready_at, renewed, modified, parities_changed, away_of};
 ghost use Rattle.r6_stripe.specs.Plans as plans;
 ghost use Rattle.r6_stripe.specs.Sound.{IsSound};
 ghost use Rattle.r6_stripe.specs.Views.{hold_of, plan_of, planned_of};
@@ -13,7 +13,7 @@ use crate::plan::Plan;
 use crate::recover::rewrite_row;
 use crate::state::HoldState;
 use r6_field::{ConstMul, Gf};
-use r6_kernels::{Buffer, scale_add, xor_into};
+use r6_kernels::{Buffer, delta, scale_add, xor_into};
 
 impl HoldState {
     /// Restores the block that a read wants, or computes the new blocks of a write, if one is owed that isn't there. All reads
@@ -94,6 +94,35 @@ fn modify(
     ensures modified { blocks.new.items ≡ modified blocks.old.items index new_block.now p_known q_known }
     ensures change_length { length change.new ≡ length change.old }
 {
+    if p_known && q_known {
+        change_both(blocks.as_mut_slice(), index, new_block);
+        blocks[index].copy_from(new_block);
+        return;
+    }
+    if p_known || q_known {
+        change_each(blocks, index, new_block, p_known, q_known, change);
+    }
+    blocks[index].copy_from(new_block);
+}
+
+/// Adds what a data block changes to P and to Q, each if it is `known`.
+fn change_each(
+    blocks: &mut Vec<Buffer>,
+    index: usize,
+    new_block: &Buffer,
+    p_known: bool,
+    q_known: bool,
+    change: &mut Buffer,
+)
+    requires below { index + 2 < length blocks.old.items }
+    requires few { length blocks.old.items ≤ 32 }
+    requires size { length new_block.now ≡ length change.old }
+    requires data_length { length (block_at blocks.old.items index) ≡ length change.old }
+    requires p_length { IsTrue p_known → length (block_at blocks.old.items (length blocks.old.items - 2)) ≡ length change.old }
+    requires q_length { IsTrue q_known → length (block_at blocks.old.items (length blocks.old.items - 2 + 1)) ≡ length change.old }
+    ensures changed { blocks.new.items ≡ parities_changed blocks.old.items index new_block.now p_known q_known }
+    ensures change_length { length change.new ≡ length change.old }
+{
     let m = blocks.len() - 2;
     change.copy_from(&blocks[index]);
     xor_into(change, new_block);
@@ -104,7 +133,22 @@ fn modify(
         let factor = ConstMul::new(Gf::exp(index as u32));
         scale_add(&mut blocks[m + 1], change, &factor);
     }
-    blocks[index].copy_from(new_block);
+}
+
+/// Adds to P and to Q what a data block changes, in one pass.
+fn change_both(blocks: &mut [Buffer], index: usize, new_block: &Buffer)
+    requires below { index + 2 < length blocks.old }
+    requires few { length blocks.old ≤ 32 }
+    requires data_length { length (block_at blocks.old index) ≡ length new_block.now }
+    requires p_length { length (block_at blocks.old (length blocks.old - 2)) ≡ length new_block.now }
+    requires q_length { length (block_at blocks.old (length blocks.old - 2 + 1)) ≡ length new_block.now }
+    ensures { blocks.new ≡ parities_changed blocks.old index new_block.now true true }
+{
+    let m = blocks.len() - 2;
+    let (data_blocks, parities) = blocks.split_at_mut(m);
+    let (p, q) = parities.split_at_mut(1);
+    let old_block = &data_blocks[index];
+    delta(&mut p[0], &mut q[0], old_block, new_block, index as u32);
 }
 
 /// The new blocks of the index, and of P and Q, each if it was computed, are there.
