@@ -1,5 +1,6 @@
 -- What each call of the frames does to the shard.
-use Rattle.std.specs.Prelude.{◌≡◌, ◌≢◌, ℕ, ◌+◌, ◌<◌, ◌≤◌, Bool, true, List, [], ◌∷◌, ◌++◌, length, Option, MatchOption, Some, None, option_map}
+use Rattle.std.specs.Prelude.{◌≡◌, ◌≢◌, ℕ, ◌+◌, ◌<◌, ◌≤◌, Bool, true, false, List, [], ◌∷◌, ◌++◌, length, map, slice_set, Option, MatchOption, Some, None, option_map}
+use Rattle.std.specs.Global.{Vec}
 use Rattle.std.specs.List.{AllByRecursion}
 use Rattle.r6_kernels.specs.Blocks.{IsBlock}
 use Rattle.r6_layout.specs.Shape.{Shape, blocks}
@@ -116,6 +117,19 @@ abbrev pub AreHeldRows : Shape → List FrameUse → Type 0
 AreHeldRows shape held =
     (frame : ℕ) (h : HeldRow) → hold_at held frame ≡ Some h
     → (h.row < shape.rows) × (length h.hold.planned.hold.cells ≡ shape.slots)
+
+-- unless the slot was out before
+abbrev pub heard : (out : Bool) → Shape → (slot : ℕ) → FrameUse → FrameUse
+heard true shape slot u = u
+heard false shape slot u = told_use shape slot u
+
+-- the slot has another device, and the held rows have heard of the loss of the one before
+pub record IsWithout (old : Frames) (slot : ℕ) (device : Device) (new : Frames) : Type 0 where
+  pub held : Vec FrameUse
+  pub told : held.items ≡ map (heard (shards.is_away (states_of old.slots slot)) old.geometry slot) old.held.items
+  pub same :
+      new
+      ≡ record old { slots = slice_set old.slots slot (record { device = device; since = next_of old.commands }); held = held }
 
 -- ---- rows are held
 
