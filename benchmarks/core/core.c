@@ -15,6 +15,7 @@ enum { ARENA = 64 << 20, LINE = 64, TRIES = 9 };
 
 uint8_t r6_core_serve(bool writes, size_t width, uint64_t rounds);
 uint8_t r6_core_alone(bool writes, size_t width, uint64_t rounds);
+uint8_t r6_core_agrees(size_t width, uint64_t rounds);
 uint8_t r6_core_deliver(bool writes, uint64_t requests, uint64_t rounds);
 uint8_t r6_table_rounds(uint32_t capacity, uint32_t entries, uint64_t rounds);
 uint8_t r6_core_make(size_t slots, uint64_t chunk, size_t block, uint64_t rows);
@@ -208,8 +209,21 @@ static void print_memory(void)
     empty_arena();
 }
 
+/* the core's writes leave the same blocks on the devices as those that are done alone */
+static void compare_blocks(void)
+{
+    for (size_t width = 1; width <= 64; width += 63) {
+        empty_arena();
+        if (r6_core_agrees(width, 2) != 0) {
+            fprintf(stderr, "the core's writes leave other blocks than those alone\n");
+            exit(1);
+        }
+    }
+}
+
 int main(void)
 {
+    compare_blocks();
     print_requests();
     print_completions();
     print_tables();

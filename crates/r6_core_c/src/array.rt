@@ -1,9 +1,8 @@
 //! The array of the benchmark, its devices and its callers' buffers.
 
-ghost use Rattle.std.specs.Prelude.{◌≡◌, ◌<◌, ◌^◌, length, IfOk};
+ghost use Rattle.std.specs.Prelude.{◌≡◌, ◌<◌, ◌^◌, false, length, IfOk};
 ghost use Rattle.std.specs.List.{All};
 ghost use Rattle.r6_layout.specs.Shape.{IsShape};
-ghost use Rattle.r6_core.specs.Shards.{IsWhole};
 
 use r6_core::{Core, CoreError, Op, Refusal, Reply};
 use r6_dev::{Fault, MemoryDevice};
@@ -68,8 +67,8 @@ impl From<Refusal> for Failed {
 /// The snapshot of a register with every slot in sync.
 pub(crate) fn whole(geometry: &Geometry) -> Snapshot
     requires { IsShape geometry.now }
-    ensures whole { IsWhole result }
     ensures no_attach { result.attaches ≡ 0 }
+    ensures unfailed { result.failed ≡ false }
 {
     Snapshot::start(geometry, 0)
 }
@@ -82,8 +81,8 @@ pub(crate) fn core_of(
 ) -> Result<Core, Failed>
     requires limits { IsShape geometry.now }
     requires one { geometry.now.shards ≡ 1 }
-    requires whole { IsWhole snapshot.now }
     requires no_attach { snapshot.now.attaches ≡ 0 }
+    requires unfailed { snapshot.now.failed ≡ false }
 {
     Ok(Core::new(alloc, *geometry, 0, 1, snapshot)?)
 }

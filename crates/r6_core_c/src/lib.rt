@@ -6,6 +6,7 @@
 
 ghost use Rattle.std.specs.Prelude.{◌≤◌};
 
+mod agree;
 mod alone;
 mod array;
 mod deliver;
@@ -35,6 +36,19 @@ pub extern "C" fn r6_core_alone(alloc: Global, writes: bool, width: usize, round
 {
     match alone::alone(alloc, writes, width, rounds) {
         Ok(_) => 0,
+        Err(Failed) => 1,
+    }
+}
+
+/// Answers 0 if `rounds` rounds of `width` writes, 1 to 64, leave the same blocks on the devices, served by the core and done
+/// alone.
+#[unsafe(no_mangle)]
+pub extern "C" fn r6_core_agrees(alloc: Global, width: usize, rounds: u64) -> u8
+    ensures { result ≤ 1 }
+{
+    match agree::agree(alloc, width, rounds) {
+        Ok(true) => 0,
+        Ok(false) => 1,
         Err(Failed) => 1,
     }
 }
@@ -83,6 +97,3 @@ fn make(alloc: Global, slots: usize, chunk: u64, block: usize, rows: u64) -> Res
     let geometry = Geometry::new(slots, chunk, block, rows, 1)?;
     array::core_of(alloc, &geometry, &array::whole(&geometry))
 }
-
-#[cfg(test)]
-mod tests;

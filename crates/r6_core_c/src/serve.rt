@@ -1,7 +1,5 @@
 //! Requests are served by the core, over devices in memory.
 
-ghost use Rattle.r6_core.specs.Shards.{IsWhole};
-
 use crate::array::{
     BLOCK, Failed, ROWS, SLOTS, buffer_of, buffers_of, core_of, devices_of, request, whole,
 };
