@@ -144,6 +144,7 @@ accepted_core s o core right sized =
           counted = more.counted ∙ ap (λ n. n + 1) sound.requests.counted;
           few = omega (arith, few);
           waiting = all-append (IsRequestOf s.frames) s.waiting.items (r ∷ []) sound.requests.waiting (request_of s o right sized s.accepted, tt);
+          sized = sound.requests.sized;
         };
         room = record {
           waiting = sound.room.waiting;

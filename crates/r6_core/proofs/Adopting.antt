@@ -6,10 +6,9 @@ use Rattle.std.specs.Map.{keys_of}
 use Rattle.std.proofs.lemmas.Bool.{cases_lt, ne_eqb, eq-eqb}
 use Rattle.r6_tables.specs.Table.{next_of}
 use Rattle.r6_world.specs.Tables.{put}
-use Rattle.r6_world.specs.Geometries.{layout_of}
 use Rattle.r6_world.specs.Registers.{Snapshot, status_of}
 use Rattle.r6_world.specs.ShardStates.{Shard}
-use Rattle.r6_world.specs.Changes.{Change, Adopt, adopted, differs, taken_out, after}
+use Rattle.r6_world.specs.Changes.{Adopt, adopted, differs, taken_out, after}
 use Rattle.r6_world.specs.Steps.{TakesOver, Through}
 use Rattle.r6_frames.specs.declared.frames.Frames.{Frames}
 use Rattle.r6_frames.specs.declared.slots.Device.{Device}
@@ -24,9 +23,9 @@ use Rattle.r6_core.specs.declared.state.State.{State}
 use Rattle.r6_core.specs.Shards.{state_of, rest_of, layout_in, requests_of, waiting_request, finished_request, released_request, core_of}
 use Rattle.r6_core.specs.Refusals.{limit, most_unanswered}
 use Rattle.r6_core.specs.Order.{Agrees, SameReplies}
-use Rattle.r6_core.specs.Inside.{SameFrames, NoCalls, IsSound, bound, count_untold, SameCalls, Seen}
+use Rattle.r6_core.specs.Inside.{SameFrames, NoCalls, IsSound, bound, count_untold, SameCalls, Seen, ended_requests}
 use Rattle.r6_core.proofs.Throughs.{through_both, through_in, through_one}
-use Rattle.r6_core.proofs.Kept.{requests_kept}
+use Rattle.r6_core.proofs.Kept.{requests_kept, sizes_kept}
 
 -- the first slots are as the look has them, the others as they were
 pub record IsAdopting (s new : State) (seen : Snapshot) (count : ℕ) (went_out : Bool) : Type 0 where
@@ -96,6 +95,7 @@ sound_taken s slot device fs sound told takes is next owes requests =
         counted = ap length same ∙ sound.requests.counted;
         few = sound.requests.few;
         waiting = requests_kept s.frames fs s.waiting.items takes.0 takes.1 sound.requests.waiting;
+        sized = sizes_kept s.frames.geometry fs.geometry (ended_requests s) takes.0 sound.requests.sized;
       };
       room = record {
         waiting = sound.room.waiting;

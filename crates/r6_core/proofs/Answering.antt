@@ -3,8 +3,7 @@ use Rattle.std.proofs.Common.{◌≡◌, ℕ, ◌+◌, ◌≤◌, List, refl, sy
 use Rattle.std.proofs.lemmas.Bool.{cases_eq, cases_lt}
 use Rattle.r6_tables.specs.Table.{next_of}
 use Rattle.r6_world.specs.ShardStates.{Shard}
-use Rattle.r6_world.specs.Changes.{Change, after, Allowed}
-use Rattle.r6_world.specs.Steps.{Completion, Receipt, GoesOn, Through, Takes, Good, Taken}
+use Rattle.r6_world.specs.Steps.{GoesOn, Through, Good, Taken}
 use Rattle.r6_frames.specs.declared.frames.Frames.{Frames}
 use Rattle.r6_frames.specs.Views.{row_in, hold_at, held_requests, outstanding, AreLive}
 use Rattle.r6_frames.specs.Calls.{Answers, Drives, IsAwaited, KeepsOthers}

@@ -1,6 +1,6 @@
 -- What callers see of the calls of a state.
-use Rattle.std.proofs.Common.{◌≡◌, ◌≢◌, ℕ, ◌+◌, ◌<◌, true, List, [], ◌∷◌, ◌++◌, map, refl, sym, ap, ◌∙◌, inl, inr, Option, Some, None, MatchOption, IfSome, Result, Ok, Err, IfOk, IfErr}
-use Rattle.std.specs.Prelude.{nat_lt, option_map}
+use Rattle.std.proofs.Common.{◌≡◌, ◌≢◌, ℕ, ◌+◌, List, [], ◌∷◌, ◌++◌, map, refl, sym, ap, ◌∙◌, inl, inr, Option, Some, None, MatchOption, IfSome, Result, Ok, Err, IfOk, IfErr, length}
+use Rattle.std.specs.Prelude.{option_map}
 use Rattle.std.proofs.lemmas.Bool.{lt-ltb, ltb-true}
 use Rattle.r6_world.specs.Registers.{Snapshot, Told}
 use Rattle.r6_world.specs.Changes.{Accept, after}
@@ -19,9 +19,9 @@ use Rattle.r6_core.specs.declared.reply.Reply.{Reply}
 use Rattle.r6_core.specs.declared.refusal.DeviceFault.{DeviceFault}
 use Rattle.r6_core.specs.declared.refusal.Receipt.{Receipt}
 use Rattle.r6_core.specs.declared.refusal.Refusal.{Refusal}
-use Rattle.r6_core.specs.declared.refusal.Refusal.TheVariants.{UntoldFirst, UnknownCall}
+use Rattle.r6_core.specs.declared.refusal.Refusal.TheVariants.{UnknownCall}
 use Rattle.r6_core.specs.declared.state.State.{State}
-use Rattle.r6_core.specs.Shards.{core_of, call_of, state_of, layout_in, Step, completion_of, receipt_of, buffer_in, reply_of}
+use Rattle.r6_core.specs.Shards.{core_of, call_of, state_of, layout_in, Step, completion_of, receipt_of, buffer_in, reply_of, buffer_back}
 use Rattle.r6_core.specs.Refusals.{HasSubmitFault, submit_faults, IsOut, HasDeliverFault, deliver_faults, IsFirstFault, HasNone, AllTold}
 use Rattle.r6_core.specs.Order.{BringsBack, SameReplies, FinishesBy, LooksOn, TakesFirst, HasNoReply, HaveTurns, HaveTurnsBehind, HaveTurnsAfter}
 use Rattle.r6_core.specs.Effects.{Accepts, Receives, LooksAt, IsCommandOf, Hears, RefusesAnswer, HandsReply, HandsNoReply}
@@ -156,10 +156,11 @@ pub hands_reply : {I : Type 0} (number : I → ℕ) (result : Option (I × Reply
     → MatchOption result (Step (core_of s) steps.No_reply (core_of new)) (λ r. Step (core_of s) (steps.Take_reply (number r.0) (reply_of r.1)) (core_of new))
     → MatchOption result (HasNoReply (core_of s) × (new ≡ s)) (λ r. TakesFirst (core_of s) (number r.0) r.1 (core_of new))
     → IfSome result (λ r. BringsBack ((state_of s).request (number r.0)) r.1)
+    → IfSome result (λ r. length (buffer_back r.1) ≡ s.frames.geometry.block)
     → IfSome result (λ _. new.unanswered + 1 ≡ s.unanswered)
     → new.waiting ≡ s.waiting
     → MatchOption result (HandsNoReply (core_of s) (core_of new)) (λ r. HandsReply (core_of s) (number r.0) r.1 (core_of new))
-hands_reply number None s new step first brings unanswered waiting =
+hands_reply number None s new step first brings sized unanswered waiting =
     record { step = step; none = first.0; same = ap core_of first.1 }
-hands_reply number (Some r) s new step first brings unanswered waiting =
-    record { step = step; first = first; brings = brings; unanswered = unanswered; waiting = ap (λ b. b.items) waiting }
+hands_reply number (Some r) s new step first brings sized unanswered waiting =
+    record { step = step; first = first; brings = brings; sized = sized; unanswered = unanswered; waiting = ap (λ b. b.items) waiting }

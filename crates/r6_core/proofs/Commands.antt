@@ -19,9 +19,9 @@ use Rattle.r6_frames.specs.Slots.{count_out}
 use Rattle.r6_frames.specs.Sound as held
 use Rattle.r6_core.specs.Shards.{Step, layout_in, state_of, rest_of, requests_of, waiting_request, finished_request, released_request, core_of}
 use Rattle.r6_core.specs.Effects.{HandsCommand}
-use Rattle.r6_core.specs.Inside.{IsCore}
+use Rattle.r6_core.specs.Inside.{IsCore, ended_requests}
 use Rattle.r6_frames.proofs.Lists.{table}
-use Rattle.r6_core.proofs.Kept.{requests_kept}
+use Rattle.r6_core.proofs.Kept.{requests_kept, sizes_kept}
 
 -- a frame that has what it had
 pub rested_kept : (old new : Frames) (frame : ℕ) → hold_at new.held.items frame ≡ hold_at old.held.items frame → IsDriven old frame × (IsOver old frame → ⊥) → IsDriven new frame × (IsOver new frame → ⊥)
@@ -56,6 +56,7 @@ taken_core s new core is =
           counted = ap length same ∙ sound.requests.counted;
           few = sound.requests.few;
           waiting = requests_kept s.frames new s.waiting.items is.geometry is.shard sound.requests.waiting;
+          sized = sizes_kept s.frames.geometry new.geometry (ended_requests s) is.geometry sound.requests.sized;
         };
         room = record {
           waiting = sound.room.waiting;

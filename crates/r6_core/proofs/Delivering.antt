@@ -23,15 +23,15 @@ use Rattle.r6_frames.specs.declared.frames.HeldRow.{HeldRow}
 use Rattle.r6_frames.specs.declared.frames.Frames.{Frames}
 use Rattle.r6_core.specs.declared.state.State.{State}
 use Rattle.r6_frames.specs.Views.{op_of, outcome_of, task_for, task_by, kind_in, held_requests, hold_at, hold_of, AreLive}
-use Rattle.r6_frames.specs.Calls.{entry_of, Ends, IsElsewhere}
+use Rattle.r6_frames.specs.Calls.{entry_of, Ends, IsElsewhere, HasOneBlock}
 use Rattle.r6_frames.specs.Owed.{owed, IsDriven, IsOver}
 use Rattle.r6_frames.specs.Sound as held
 use Rattle.r6_core.specs.Shards.{answer_of, state_of, rest_of, layout_in, requests_of, waiting_request, finished_request, released_request}
-use Rattle.r6_core.specs.Inside.{IsSound}
+use Rattle.r6_core.specs.Inside.{IsSound, ended_requests}
 use Rattle.r6_frames.proofs.Lists.{Entries, table, looked_up, same_put, other}
 use Rattle.r6_core.proofs.Passed.{Passed, passed, all-append}
 use Rattle.r6_core.proofs.Throughs.{through_one}
-use Rattle.r6_core.proofs.Kept.{requests_kept}
+use Rattle.r6_core.proofs.Kept.{requests_kept, sizes_kept}
 use Rattle.r6_core.proofs.Going.{no_rest, SlotsStay}
 use Rattle.r6_core.proofs.SlotsKept.{out_same}
 
@@ -188,6 +188,14 @@ module _ (s : State) (frame : ℕ) (r : Request) (fs : Frames) (done : Buffer Re
       ends.shard.2 (rest_of ended) ∙ ap (λ request. record old { frame = put old.frame frame None; request = request }) requests_finished in
       through_one (layout_in s) s.frames.shard GoesOn old (state_of ended) (Finish frame h outcome) (record {}) (ends.may.2 (rest_of s)) (new ∙ sym after_finish)
 
+  -- the request's buffer is one block, as are those of the others
+  sizes_ended : AllByRecursion (HasOneBlock s.frames.geometry) (ended_requests ended)
+  sizes_ended =
+      let One = HasOneBlock s.frames.geometry in
+      let now : ended_requests ended ≡ ended_requests s ++ r ∷ [] =
+      ap (λ (rs : List Request). s.released.items ++ rs) last ∙ sym (append_assoc s.released.items s.finished.items (r ∷ [])) in
+      subst (AllByRecursion One) (sym now) (all-append One (ended_requests s) (r ∷ []) sound.requests.sized (ends.sized, tt))
+
   pub ended_sound : held.IsSound fs → owed fs ≤ owed s.frames → next_of fs.commands ≡ next_of s.frames.commands → done.capacity ≡ s.finished.capacity → IsSound ended
   ended_sound frames fewer next capacity =
       let one = one_finished in
@@ -200,6 +208,7 @@ module _ (s : State) (frame : ℕ) (r : Request) (fs : Frames) (done : Buffer Re
           counted = one.count ∙ sound.requests.counted;
           few = sound.requests.few;
           waiting = requests_kept s.frames fs s.waiting.items ends.shard.0 ends.shard.1 sound.requests.waiting;
+          sized = sizes_kept s.frames.geometry fs.geometry (ended_requests ended) ends.shard.0 sizes_ended;
         };
         room = record {
           waiting = sound.room.waiting;

@@ -11,6 +11,7 @@ use Rattle.r6_core.specs.declared.state.State.{State}
 use Rattle.r6_core.specs.Order.{IsRising}
 use Rattle.r6_core.specs.Inside.{SameCalls, inserted}
 use Rattle.r6_core.proofs.Gathering.{entry_in}
+use Rattle.r6_frames.specs.Calls.{HasOneBlock}
 
 -- ---- the numbers of a list, in any order
 
@@ -66,7 +67,7 @@ distinct_permuted ks ls same distinct =
 
 -- ---- a request goes where its number belongs
 
-all_inserted : (P : Request → Type 0) (r : Request) (rs : List Request) → P r → AllByRecursion P rs → AllByRecursion P (inserted r rs)
+pub all_inserted : (P : Request → Type 0) (r : Request) (rs : List Request) → P r → AllByRecursion P rs → AllByRecursion P (inserted r rs)
 all_inserted P r [] p all = (p, tt)
 all_inserted P r (o ∷ newer) p all =
     elim (nat_lt o.id r.id) as (λ b. AllByRecursion P (cond b (o ∷ inserted r newer) (r ∷ inserted o newer))) [
@@ -108,6 +109,8 @@ inserted_permutes r (o ∷ newer) =
 pub record IsFailing (s new : State) : Type 0 where
   pub all : IsPermutation (map entry_in s.waiting.items) (map entry_in (new.waiting.items ++ new.finished.items))
   pub rising : IsRising new.finished.items
+  pub waiting_sized : AllByRecursion (HasOneBlock s.frames.geometry) new.waiting.items
+  pub finished_sized : AllByRecursion (HasOneBlock s.frames.geometry) new.finished.items
   pub room : new.finished.capacity ≡ s.finished.capacity
   pub frames : new.frames ≡ s.frames
   pub accepted : new.accepted ≡ s.accepted
@@ -116,12 +119,14 @@ pub record IsFailing (s new : State) : Type 0 where
   pub waiting_room : new.waiting.capacity ≡ s.waiting.capacity
   pub calls : SameCalls s new
 
-pub failing_none : (s : State) → s.finished.items ≡ [] → IsFailing s s
-failing_none s none =
+pub failing_none : (s : State) → s.finished.items ≡ [] → AllByRecursion (HasOneBlock s.frames.geometry) s.waiting.items → IsFailing s s
+failing_none s none sized =
     record {
       all = subst (λ rs. IsPermutation (map entry_in s.waiting.items) (map entry_in (s.waiting.items ++ rs))) (sym none)
           (subst (λ rs. IsPermutation (map entry_in s.waiting.items) (map entry_in rs)) (sym (append-nil s.waiting.items)) (IsPermutation-refl (map entry_in s.waiting.items)));
       rising = subst IsRising (sym none) tt;
+      waiting_sized = sized;
+      finished_sized = subst (λ rs. AllByRecursion (HasOneBlock s.frames.geometry) rs) (sym none) tt;
       room = refl;
       frames = refl;
       accepted = refl;

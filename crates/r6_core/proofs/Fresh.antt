@@ -17,12 +17,12 @@ use Rattle.r6_frames.specs.Slots.{states_of, slot_before}
 use Rattle.r6_world.specs.ShardStates.{Synced}
 use Rattle.r6_core.specs.declared.state.State.{State}
 use Rattle.r6_frames.specs.Views.{use_at, row_in, hold_of, frame_of, command_of}
-use Rattle.r6_frames.specs.Calls.{IsAtStart, IsRequestOf}
+use Rattle.r6_frames.specs.Calls.{HasOneBlock, IsAtStart, IsRequestOf}
 use Rattle.r6_frames.specs.Owed.{owed_in}
 use Rattle.r6_frames.specs.Sound as held
 use Rattle.r6_core.specs.Shards.{call_of, devices_state, state_of, requests_of, waiting_request, finished_request, released_request}
 use Rattle.r6_core.specs.Refusals.{most_unanswered}
-use Rattle.r6_core.specs.Inside.{IsCore, IsFresh, count_untold}
+use Rattle.r6_core.specs.Inside.{IsCore, IsFresh, count_untold, ended_requests}
 use Rattle.r6_frames.proofs.Lists.{table}
 
 distinct-none : IsDistinct nat_eq []
@@ -50,6 +50,9 @@ fresh_core s accepted unanswered waiting finished released calls untold sound st
           counted = ap length none ∙ sym unanswered;
           few = omega (arith, unanswered);
           waiting = subst (λ rs. AllByRecursion (IsRequestOf s.frames) rs) (sym nobody) tt;
+          sized =
+              let nothing : ended_requests s ≡ [] = λ i. (released i).items ++ (finished i).items in
+              subst (λ rs. AllByRecursion (HasOneBlock s.frames.geometry) rs) (sym nothing) tt;
         };
         room = record {
           waiting = ap (λ b. b.capacity) waiting;

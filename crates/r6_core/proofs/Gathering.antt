@@ -16,12 +16,16 @@ use Rattle.r6_frames.specs.declared.frames.Frames.{Frames}
 use Rattle.r6_frames.specs.declared.frames.FrameUse.{FrameUse}
 use Rattle.r6_frames.specs.declared.frames.FrameUse.TheVariants as uses
 use Rattle.r6_frames.specs.Views.{op_of, held_requests, hold_at, hold_of, use_at, row_in, shard_with, AreLive}
-use Rattle.r6_frames.specs.Calls.{entry_of, Between, GivesUp, IsWith, KeepsOthers}
+use Rattle.r6_frames.specs.Calls.{entry_of, Between, GivesUp, IsWith, KeepsOthers, HasOneBlock}
 use Rattle.r6_frames.specs.Owed.{owed}
 use Rattle.r6_frames.specs.Sound as held
 use Rattle.r6_core.specs.declared.state.State.{State}
 use Rattle.r6_core.specs.Shards.{waiting_request, finished_request, released_request}
 use Rattle.r6_core.specs.Inside.{IsSound, Gathers, SameCalls, held_op, unreleased}
+use Rattle.std.specs.List.{AllByRecursion}
+use Rattle.r6_layout.specs.Shape.{Shape}
+use Rattle.r6_core.proofs.Kept.{sizes_kept, waiting_sized}
+use Rattle.r6_core.proofs.Passed.{all-append, all-parts}
 
 abbrev pub entry_in : Request → ℕ × world.Op
 entry_in r = (r.id, op_of r.op)
@@ -67,6 +71,8 @@ pub record IsGathering (s new : State) (count : ℕ) : Type 0 where
   pub stopped : AreLive new.frames → ⊥
   pub none_held : (frame : ℕ) → frame < count → hold_at new.frames.held.items frame ≡ None
   pub all : IsPermutation (unreleased s) (unreleased new)
+  pub waiting_sized : AllByRecursion (HasOneBlock s.frames.geometry) new.waiting.items
+  pub finished_sized : AllByRecursion (HasOneBlock s.frames.geometry) new.finished.items
   pub tokens : owed new.frames ≤ owed s.frames
   pub shard : Between (λ l n x x'. x' ≡ record x { frame = x'.frame }) s.frames new.frames
   pub waiting_room : new.waiting.capacity ≡ s.waiting.capacity
@@ -76,6 +82,10 @@ pub record IsGathering (s new : State) (count : ℕ) : Type 0 where
   pub released : new.released ≡ s.released
   pub calls : SameCalls s new
 
+-- one more is as the others
+all_put : (P : Request → Type 0) (more few : List Request) (r : Request) → more ≡ few ++ r ∷ [] → AllByRecursion P few → P r → AllByRecursion P more
+all_put P more few r is all own = subst (λ (rs : List Request). AllByRecursion P rs) (sym is) (all-append P few (r ∷ []) all (own, tt))
+
 pub gathering_none : (s : State) → IsSound s → (AreLive s.frames → ⊥) → IsGathering s s 0
 gathering_none s sound stopped =
     record {
@@ -83,6 +93,8 @@ gathering_none s sound stopped =
       stopped = stopped;
       none_held = λ frame lt. absurd (omega arith);
       all = IsPermutation-refl (unreleased s);
+      waiting_sized = waiting_sized s.frames s.waiting.items sound.requests.waiting;
+      finished_sized = (all-parts (HasOneBlock s.frames.geometry) s.released.items s.finished.items sound.requests.sized).1;
       tokens = omega arith;
       shard = (refl, refl, λ rest. refl);
       waiting_room = refl;
@@ -99,11 +111,14 @@ with_queues s waiting finished = record s { waiting = waiting; finished = finish
 pub gathering_finished : (s mid : State) (r : Request) (rest : List Request) (waiting finished : Buffer Request) → IsGathering s mid 0 → mid.finished.items ≡ r ∷ rest → finished.items ≡ rest
     → waiting.items ≡ mid.waiting.items ++ r ∷ [] → waiting.capacity ≡ mid.waiting.capacity → finished.capacity ≡ mid.finished.capacity → IsGathering s (with_queues mid waiting finished) 0
 gathering_finished s mid r rest waiting finished is first left last wide long =
+    let sizes = subst (λ (rs : List Request). AllByRecursion (HasOneBlock s.frames.geometry) rs) first is.finished_sized in
     record {
       frames = is.frames;
       stopped = is.stopped;
       none_held = λ frame lt. absurd (omega arith);
       all = IsPermutation-trans (unreleased s) (unreleased mid) (unreleased (with_queues mid waiting finished)) is.all (finished_waits mid (with_queues mid waiting finished) r rest first left last refl);
+      waiting_sized = all_put (HasOneBlock s.frames.geometry) waiting.items mid.waiting.items r last is.waiting_sized sizes.0;
+      finished_sized = subst (λ (rs : List Request). AllByRecursion (HasOneBlock s.frames.geometry) rs) (sym left) sizes.1;
       tokens = is.tokens;
       shard = is.shard;
       waiting_room = wide ∙ is.waiting_room;
@@ -136,6 +151,8 @@ gathering_held s mid count r fs waiting is sound stopped gives others none owes 
         | inr higher ↦ let same : count ≡ frame = omega arith in subst (λ f. hold_at fs.held.items f ≡ None) same none
       ];
       all = IsPermutation-trans (unreleased s) (unreleased mid) (unreleased new) is.all (held_waits mid new count r gives.requests refl last);
+      waiting_sized = all_put (HasOneBlock s.frames.geometry) waiting.items mid.waiting.items r last is.waiting_sized (gives.sized ∙ ap (λ (g : Shape). g.block) is.shard.0);
+      finished_sized = is.finished_sized;
       tokens = omega (arith, owes, fewer);
       shard = (
         gives.shard.0 ∙ is.shard.0,
@@ -163,6 +180,8 @@ gathering_skips s mid count is none =
         | inr higher ↦ let same : count ≡ frame = omega arith in subst (λ f. hold_at mid.frames.held.items f ≡ None) same none
       ];
       all = is.all;
+      waiting_sized = is.waiting_sized;
+      finished_sized = is.finished_sized;
       tokens = is.tokens;
       shard = is.shard;
       waiting_room = is.waiting_room;
@@ -189,6 +208,7 @@ gathered s new count is past none =
       none_held = no_row;
       none_finished = none;
       all = is.all;
+      sized = sizes_kept s.frames.geometry new.frames.geometry new.waiting.items is.shard.0 is.waiting_sized;
       tokens = is.tokens;
       shard = (is.shard.0, is.shard.1, λ rest. is.shard.2 rest ∙ ap (λ f. record (shard_with rest s.frames) { frame = f }) (fun_ext (λ frame. ap (option_map hold_of) (no_row frame))));
       room = (is.waiting_room, is.finished_room);

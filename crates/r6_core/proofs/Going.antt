@@ -10,7 +10,7 @@ use Rattle.r6_world.specs.Layouts.{Layout}
 use Rattle.r6_world.specs.Geometries.{layout_of}
 use Rattle.r6_world.specs.ShardStates.{Shard}
 use Rattle.r6_world.specs.Changes.{Change, Ask, Prepare, Send, Learn, Confirm, after}
-use Rattle.r6_world.specs.Steps.{GoesOn, Through, Takes, Good, Taken}
+use Rattle.r6_world.specs.Steps.{GoesOn, Takes, Good, Taken}
 use Rattle.r6_frames.specs.declared.frames.Frames.{Frames}
 use Rattle.r6_frames.specs.Slots.{states_of, count_out}
 use Rattle.r6_frames.specs.Views.{Rest, AreLive, held_requests, shard_with}
@@ -20,8 +20,8 @@ use Rattle.r6_frames.specs.Sound as held
 use Rattle.r6_core.specs.declared.call.Call.{Call}
 use Rattle.r6_core.specs.declared.state.State.{State}
 use Rattle.r6_core.specs.Shards.{state_of, layout_in, rest_of, requests_of, call_of, waiting_request, finished_request, released_request, table}
-use Rattle.r6_core.specs.Inside.{IsSound, count_untold}
-use Rattle.r6_core.proofs.Kept.{requests_kept}
+use Rattle.r6_core.specs.Inside.{IsSound, count_untold, ended_requests}
+use Rattle.r6_core.proofs.Kept.{requests_kept, sizes_kept}
 use Rattle.r6_core.proofs.SlotsKept.{drives_keep, out_same}
 
 -- ---- lists of changes of another shape
@@ -89,6 +89,7 @@ gone_sound s fs calls sound goes =
         counted = ap length same ∙ sound.requests.counted;
         few = sound.requests.few;
         waiting = requests_kept s.frames fs s.waiting.items goes.geometry goes.shard sound.requests.waiting;
+        sized = sizes_kept s.frames.geometry fs.geometry (ended_requests s) goes.geometry sound.requests.sized;
       };
       room = record {
         waiting = sound.room.waiting;

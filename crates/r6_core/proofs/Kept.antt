@@ -1,9 +1,10 @@
 -- What depends on the geometry and the shard alone.
-use Rattle.std.proofs.Common.{◌≡◌, List, [], ◌∷◌}
+use Rattle.std.proofs.Common.{◌≡◌, List, [], ◌∷◌, sym, subst}
 use Rattle.std.specs.List.{AllByRecursion}
+use Rattle.r6_layout.specs.Shape.{Shape}
 use Rattle.r6_frames.specs.declared.op.Request.{Request}
 use Rattle.r6_frames.specs.declared.frames.Frames.{Frames}
-use Rattle.r6_frames.specs.Calls.{IsRequestOf}
+use Rattle.r6_frames.specs.Calls.{HasOneBlock, IsRequestOf}
 
 pub request_kept : (old new : Frames) (request : Request) → new.geometry ≡ old.geometry → new.shard ≡ old.shard → IsRequestOf old request → IsRequestOf new request
 request_kept old new request geometry shard is =
@@ -18,3 +19,10 @@ pub requests_kept : (old new : Frames) (requests : List Request) → new.geometr
 requests_kept old new [] geometry shard all = tt
 requests_kept old new (request ∷ requests) geometry shard all =
     (request_kept old new request geometry shard all.0, requests_kept old new requests geometry shard all.1)
+
+pub sizes_kept : (old new : Shape) (requests : List Request) → new ≡ old → AllByRecursion (HasOneBlock old) requests → AllByRecursion (HasOneBlock new) requests
+sizes_kept old new requests same all = subst (λ (shape : Shape). AllByRecursion (HasOneBlock shape) requests) (sym same) all
+
+pub waiting_sized : (fs : Frames) (requests : List Request) → AllByRecursion (IsRequestOf fs) requests → AllByRecursion (HasOneBlock fs.geometry) requests
+waiting_sized fs [] all = tt
+waiting_sized fs (request ∷ requests) all = (all.0.sized.length_is, waiting_sized fs requests all.1)

@@ -40,3 +40,7 @@ map-append f (x ∷ xs) ys = ap (λ zs. f x ∷ zs) (map-append f xs ys)
 pub all-append : {X : Type 0} (Fact : X → Type 0) (xs ys : List X) → AllByRecursion Fact xs → AllByRecursion Fact ys → AllByRecursion Fact (xs ++ ys)
 all-append Fact [] ys a b = b
 all-append Fact (x ∷ xs) ys a b = (a.0, all-append Fact xs ys a.1 b)
+
+pub all-parts : {X : Type 0} (Fact : X → Type 0) (xs ys : List X) → AllByRecursion Fact (xs ++ ys) → AllByRecursion Fact xs × AllByRecursion Fact ys
+all-parts Fact [] ys all = (tt, all)
+all-parts Fact (x ∷ xs) ys all = let parts = all-parts Fact xs ys all.1 in ((all.0, parts.0), parts.1)

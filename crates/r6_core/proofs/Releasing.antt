@@ -3,7 +3,7 @@ use Rattle.std.proofs.Common.{◌≡◌, ℕ, true, false, cond, ◌+◌, ◌<�
 use mathlib.Core.Path.{fun_ext}
 use Rattle.std.proofs.lemmas.List.{length-map, map-append}
 use Rattle.std.specs.Prelude.{nat_eq, option_map}
-use Rattle.std.specs.List.{IsDistinct}
+use Rattle.std.specs.List.{IsDistinct, AllByRecursion}
 use Rattle.std.specs.Map.{keys_of}
 use Rattle.circular_buffer.specs.Buffer.{Buffer}
 use Rattle.r6_world.specs.ShardStates as shards
@@ -14,8 +14,9 @@ use Rattle.r6_frames.specs.declared.frames.FrameUse.{FrameUse}
 use Rattle.r6_frames.specs.declared.frames.FrameUse.TheVariants as uses
 use Rattle.r6_core.specs.declared.state.State.{State}
 use Rattle.r6_frames.specs.Views.{held_requests, requests_from, held_request, shard_with}
+use Rattle.r6_frames.specs.Calls.{HasOneBlock}
 use Rattle.r6_core.specs.Shards.{state_of, layout_in, call_of, requests_of, waiting_request, finished_request, released_request}
-use Rattle.r6_core.specs.Inside.{IsSound, IsCore, SameCalls}
+use Rattle.r6_core.specs.Inside.{IsSound, IsCore, SameCalls, ended_requests}
 use Rattle.r6_frames.proofs.Lists.{Entries, table}
 use Rattle.r6_core.proofs.Passed.{Passed, passed}
 use Rattle.r6_core.proofs.Swapped.{or_else, table-append, swapped, distinct_behind}
@@ -44,6 +45,12 @@ one_passed s r finished released sound unfailed first last =
     let same : (w ++ h) ++ (f ++ d) ≡ (w ++ (h ++ (f ++ d))) ++ [] = append_assoc w h (f ++ d) ∙ sym (append-nil (w ++ (h ++ (f ++ d)))) in
     passed (w ++ h) (f ++ d) (w ++ (h ++ (f ++ d))) [] r.id (finished_request false r).1 (released_request r).1 _ _ old new same sound.requests.distinct
 
+-- they are answered in the order of before
+same_answers : (s : State) (r : Request) (finished released : Buffer Request) → s.finished.items ≡ r ∷ finished.items → released.items ≡ s.released.items ++ r ∷ []
+    → ended_requests (with_released s finished released) ≡ ended_requests s
+same_answers s r finished released first last =
+    ap (λ (rs : List Request). rs ++ finished.items) last ∙ append_assoc s.released.items (r ∷ []) finished.items ∙ ap (λ (rs : List Request). s.released.items ++ rs) (sym first)
+
 pub one_released : (s : State) (r : Request) (finished released : Buffer Request) → IsCore s → s.frames.saw_failed ≡ false → s.finished.items ≡ r ∷ finished.items → released.items ≡ s.released.items ++ r ∷ []
     → finished.capacity ≡ s.finished.capacity → released.capacity ≡ s.released.capacity → IsCore (record s { finished = finished; released = released })
 one_released s r finished released core unfailed first last finished_capacity released_capacity =
@@ -58,6 +65,7 @@ one_released s r finished released core unfailed first last finished_capacity re
           counted = one.count ∙ sound.requests.counted;
           few = sound.requests.few;
           waiting = sound.requests.waiting;
+          sized = subst (λ (rs : List Request). AllByRecursion (HasOneBlock s.frames.geometry) rs) (sym (same_answers s r finished released first last)) sound.requests.sized;
         };
         room = record {
           waiting = sound.room.waiting;

@@ -17,9 +17,10 @@ use Rattle.r6_frames.specs.declared.op.Op.{Op as Entered}
 use Rattle.r6_frames.specs.declared.op.Op.TheVariants as op
 use Rattle.r6_core.specs.declared.reply.Reply.TheVariants as back
 use Rattle.r6_frames.specs.Views.{op_of, buffer_of, held_requests, requests_from}
-use Rattle.r6_core.specs.Shards.{Step, reply_of, answer_of, state_of, requests_of, waiting_request, finished_request, released_request, core_of}
+use Rattle.r6_frames.specs.Calls.{HasOneBlock}
+use Rattle.r6_core.specs.Shards.{Step, reply_of, buffer_back, answer_of, state_of, requests_of, waiting_request, finished_request, released_request, core_of}
 use Rattle.r6_core.specs.Order.{HasNoReply, BringsBack, reply_to}
-use Rattle.r6_core.specs.Inside.{IsSound, IsCore}
+use Rattle.r6_core.specs.Inside.{IsSound, IsCore, ended_requests}
 use Rattle.r6_frames.proofs.Lists.{Entries, table, gone, own, apart, all_parts, distinct_without, looked_up}
 use Rattle.r6_core.proofs.Passed.{all-append}
 
@@ -122,6 +123,11 @@ reply_step s r rest sound is =
     let taken = is_taken s r rest sound.requests.distinct is in
     ((refl, refl), (op_of r.op, taken.was, ap (λ requests. record (state_of s) { request = requests }) taken.now))
 
+-- the reply's buffer, and those of the others
+pub reply_sized : (s : State) (r : Request) (rest : Buffer Request) → s.released.items ≡ r ∷ rest.items → AllByRecursion (HasOneBlock s.frames.geometry) (ended_requests s)
+    → HasOneBlock s.frames.geometry r × AllByRecursion (HasOneBlock s.frames.geometry) (ended_requests (without_first s rest))
+reply_sized s r rest is all = subst (λ (rs : List Request). AllByRecursion (HasOneBlock s.frames.geometry) (rs ++ s.finished.items)) is all
+
 -- a reply is counted
 pub reply_counted : (s : State) (r : Request) (rest : Buffer Request) → IsSound s → s.released.items ≡ r ∷ rest.items → 0 < s.unanswered
 reply_counted s r rest sound is = let one = (is_taken s r rest sound.requests.distinct is).count in omega (arith, one, sound.requests.counted)
@@ -139,6 +145,7 @@ reply_core s r rest core is capacity =
           counted = let one = taken.count in omega (arith, one, sound.requests.counted);
           few = omega (arith, sound.requests.few);
           waiting = sound.requests.waiting;
+          sized = (reply_sized s r rest is sound.requests.sized).1;
         };
         room = record {
           waiting = sound.room.waiting;
@@ -205,6 +212,14 @@ module _ (s : State) (r : Request) (rest : Buffer Request) (failed : s.frames.sa
       let taken = is_failed s r rest sound.requests.distinct failed none is in
       ((refl, refl), (op_of r.op, taken.was, ap (λ requests. record (state_of s) { request = requests }) taken.now))
 
+  pub failed_sized : AllByRecursion (HasOneBlock s.frames.geometry) (ended_requests s)
+      → HasOneBlock s.frames.geometry r × AllByRecursion (HasOneBlock s.frames.geometry) (ended_requests (without_failed s rest))
+  failed_sized all =
+      let now : ended_requests (without_failed s rest) ≡ rest.items = ap (λ (rs : List Request). rs ++ rest.items) none in
+      let was : ended_requests s ≡ r ∷ rest.items = (λ i. none i ++ is i) in
+      let both = subst (λ (rs : List Request). AllByRecursion (HasOneBlock s.frames.geometry) rs) was all in
+      (both.0, subst (λ (rs : List Request). AllByRecursion (HasOneBlock s.frames.geometry) rs) (sym now) both.1)
+
   pub failed_core : IsCore s → rest.capacity ≡ s.finished.capacity → IsCore (without_failed s rest)
   failed_core core capacity =
       let sound = core.sound in
@@ -218,6 +233,7 @@ module _ (s : State) (r : Request) (rest : Buffer Request) (failed : s.frames.sa
             counted = let one = taken.count in omega (arith, one, sound.requests.counted);
             few = omega (arith, sound.requests.few);
             waiting = sound.requests.waiting;
+            sized = (failed_sized sound.requests.sized).1;
           };
           room = record {
             waiting = sound.room.waiting;
@@ -237,6 +253,10 @@ module _ (s : State) (r : Request) (rest : Buffer Request) (failed : s.frames.sa
 pub reply_as : (o : Entered) → reply_of (reply_to o) ≡ answer_of o
 reply_as (op.Read block buffer) = refl
 reply_as (op.Write block buffer) = refl
+
+pub buffer_answered : (o : Entered) → buffer_back (reply_to o) ≡ buffer_of o
+buffer_answered (op.Read block buffer) = refl
+buffer_answered (op.Write block buffer) = refl
 
 pub brings_answer : (r : Option shards.Request) (o : Entered) (stage : Stage) → r ≡ Some (record { op = op_of o; stage = stage }) → BringsBack r (reply_to o)
 brings_answer r (op.Read block buffer) stage is = subst (λ (x : Option shards.Request). BringsBack x (reply_to (op.Read block buffer))) (sym is) (block, refl)

@@ -25,7 +25,7 @@ use Rattle.r6_frames.specs.declared.frames.FrameUse.{FrameUse}
 use Rattle.r6_frames.specs.declared.frames.FrameUse.TheVariants as uses
 use Rattle.r6_frames.specs.Slots.{states_of}
 use Rattle.r6_frames.specs.Views.{held_request, held_requests, requests_from, hold_at, Rest, shard_with, AreLive}
-use Rattle.r6_frames.specs.Calls.{SeesFailure, IsRequestOf}
+use Rattle.r6_frames.specs.Calls.{SeesFailure, IsRequestOf, HasOneBlock}
 use Rattle.r6_frames.specs.Owed.{owed}
 use Rattle.r6_frames.specs.Sound as held
 use Rattle.r6_frames.proofs.Lists.{Entries, table}
@@ -33,11 +33,12 @@ use Rattle.r6_core.specs.declared.state.State.{State}
 use Rattle.r6_core.specs.Shards.{state_of, rest_of, layout_in, requests_of, waiting_request, finished_request, released_request, call_of}
 use Rattle.r6_core.specs.Refusals.{limit, most_unanswered}
 use Rattle.r6_core.specs.Order.{IsRising}
-use Rattle.r6_core.specs.Inside.{IsSound, IsCore, Gathers, inserted, held_op, unreleased, count_untold}
-use Rattle.r6_core.proofs.Kept.{requests_kept}
+use Rattle.r6_core.specs.Inside.{IsSound, IsCore, Gathers, inserted, held_op, unreleased, count_untold, ended_requests}
+use Rattle.r6_core.proofs.Kept.{requests_kept, sizes_kept}
 use Rattle.r6_core.proofs.SlotsKept.{out_same}
 use Rattle.r6_core.proofs.Gathering.{entry_in}
-use Rattle.r6_core.proofs.Failing.{IsFailing, distinct_permuted, inserted_rises, inserted_permutes}
+use Rattle.r6_core.proofs.Failing.{IsFailing, distinct_permuted, inserted_rises, inserted_permutes, all_inserted}
+use Rattle.r6_core.proofs.Passed.{all-append, all-parts}
 
 -- ---- a look-up doesn't depend on the order
 
@@ -161,6 +162,7 @@ module _ (s : State) (fs : Frames) (sound : IsSound s) (sees : SeesFailure s.fra
           counted = sym (length-map (requests_of (record s { frames = fs })) (λ e. e.0)) ∙ ap length keys_seen ∙ length-map (requests_of s) (λ e. e.0) ∙ sound.requests.counted;
           few = sound.requests.few;
           waiting = requests_kept s.frames fs s.waiting.items sees.0 sees.1 sound.requests.waiting;
+          sized = sizes_kept s.frames.geometry fs.geometry (ended_requests s) sees.0 sound.requests.sized;
         };
         room = record {
           waiting = sound.room.waiting;
@@ -213,11 +215,16 @@ failing_on mid self r rest waiting finished distinct is first left last wide lon
     IsPermutation-trans (map entry_in mid.waiting.items) (map entry_in (r ∷ (rest ++ fin))) (map entry_in (rest ++ inserted r fin)) from (IsPermutation-map entry_in (r ∷ (rest ++ fin)) (rest ++ inserted r fin) step) in
     let differ = distinct_permuted (numbers (map entry_in mid.waiting.items)) (numbers (map entry_in (r ∷ (rest ++ fin))))
     (IsPermutation-map (λ e. e.0) (map entry_in mid.waiting.items) (map entry_in (r ∷ (rest ++ fin))) from) distinct in
+    let sizes = subst (AllByRecursion (HasOneBlock mid.frames.geometry)) first is.waiting_sized in
     let apart = others_apart r rest fin (IsDistinct-head nat_eq r.id (numbers (map entry_in (rest ++ fin))) differ) in
     record {
       all = subst (λ ws. IsPermutation (map entry_in mid.waiting.items) (map entry_in (ws ++ finished.items))) (sym left)
           (subst (λ fs. IsPermutation (map entry_in mid.waiting.items) (map entry_in (rest ++ fs))) (sym last) here);
       rising = subst IsRising (sym last) (inserted_rises r fin apart is.rising);
+      waiting_sized = subst (AllByRecursion (HasOneBlock mid.frames.geometry)) (sym left) sizes.1;
+      finished_sized =
+          subst (AllByRecursion (HasOneBlock mid.frames.geometry)) (sym last)
+          (all_inserted (HasOneBlock mid.frames.geometry) r fin sizes.0 is.finished_sized);
       room = long ∙ is.room;
       frames = is.frames;
       accepted = is.accepted;
@@ -352,6 +359,13 @@ module _ (s : State) (fs : Frames) (mid : State) (sound : IsSound s) (sees : See
               counted = ap length new_requests ∙ length_permutation (before ++ others) (now ++ others) whole ∙ sym (ap length (all_fail s)) ∙ length-map (requests_of s) failed ∙ sound.requests.counted ∙ sym unanswered;
               few = subst (λ (n : ℕ). n ≤ most_unanswered) (sym unanswered) sound.requests.few;
               waiting = subst (λ (rs : List Request). AllByRecursion (IsRequestOf new.frames) rs) (sym done) tt;
+              sized =
+                  let One = HasOneBlock s.frames.geometry in
+                  let before = sizes_kept mid.frames.geometry s.frames.geometry new.finished.items (sym (gathers.shard.0 ∙ sees.0)) is.finished_sized in
+                  let released = (all-parts One s.released.items s.finished.items sound.requests.sized).0 in
+                  let both = all-append One s.released.items new.finished.items released before in
+                  let ended = subst (λ (b : Buffer Request). AllByRecursion One (b.items ++ new.finished.items)) (sym released_same) both in
+                  sizes_kept s.frames.geometry new.frames.geometry (ended_requests new) geometry ended;
             };
             room = record {
               waiting = is.waiting_room ∙ gathers.room.0 ∙ sound.room.waiting;

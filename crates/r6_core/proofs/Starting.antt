@@ -18,24 +18,24 @@ use Rattle.r6_world.specs.Geometries.{layout_of}
 use Rattle.r6_world.specs.Tasks.{Hold}
 use Rattle.r6_world.specs.ShardStates.{Shard, Request, Stage, Waiting, Held, NotHeld, begun}
 use Rattle.r6_world.specs.Changes.{Change, Start, Ask, Prepare, Send, after, MayStart, staged}
-use Rattle.r6_world.specs.Steps.{Leads, Through, Scans, IsRequest}
+use Rattle.r6_world.specs.Steps.{Through, Scans, IsRequest}
 use Rattle.r6_frames.specs.declared.op.Op.{Op}
 use Rattle.r6_frames.specs.declared.op.Op.TheVariants as op
 use Rattle.r6_frames.specs.declared.op.Request.{Request as Entered}
 use Rattle.r6_frames.specs.declared.frames.Frames.{Frames}
 use Rattle.r6_core.specs.declared.state.State.{State}
 use Rattle.r6_frames.specs.Views.{op_of, task_for, hold_at, use_at, row_in, frame_of, held_requests, Rest, shard_with, AreLive}
-use Rattle.r6_frames.specs.Calls.{begun_for, entry_of, Begins, Drives, PutsOut, IsFreeFrame, IsHeldFrame, NotHeldBy, IsRequestOf, KeepsOthers}
+use Rattle.r6_frames.specs.Calls.{begun_for, Begins, Drives, PutsOut, IsFreeFrame, IsHeldFrame, NotHeldBy, IsRequestOf, KeepsOthers}
 use Rattle.r6_frames.specs.Owed.{owed, IsDriven, IsOver}
 use Rattle.r6_frames.specs.Slots.{states_of, count_out}
 use Rattle.r6_frames.specs.Sound as held
 use Rattle.r6_core.specs.Shards.{state_of, rest_of, layout_in, requests_of, waiting_request, finished_request, released_request, table}
 use Rattle.r6_core.specs.Refusals.{limit, most_unanswered}
 use Rattle.r6_core.specs.Order.{start_of, Starts}
-use Rattle.r6_core.specs.Inside.{CanStart, IsSound, IsCore, IsRestedFrame, Advances, count_untold, bound}
+use Rattle.r6_core.specs.Inside.{CanStart, IsSound, IsCore, IsRestedFrame, Advances, count_untold, bound, ended_requests}
 use Rattle.r6_frames.proofs.Lists.{Entries, same_put}
 use Rattle.r6_frames.proofs.Held.{put_own}
-use Rattle.r6_core.proofs.Kept.{requests_kept}
+use Rattle.r6_core.proofs.Kept.{requests_kept, sizes_kept}
 use Rattle.r6_core.proofs.Passed.{Passed, passed, all-append}
 use Rattle.r6_core.proofs.Throughs.{through_in, through_of}
 use Rattle.r6_frames.proofs.Resting.{frame-held, free_is}
@@ -249,6 +249,7 @@ module _ (s : State) (request : Entered) (rest : List Entered) (frame : ℕ) (mi
             counted = requests.count ∙ sound.requests.counted;
             few = sound.requests.few;
             waiting = requests_kept s.frames new rest geometry_same shard_same (subst (λ rs. AllByRecursion (IsRequestOf s.frames) rs) is.items sound.requests.waiting).1;
+            sized = sizes_kept s.frames.geometry new.geometry (ended_requests s) geometry_same sound.requests.sized;
           };
           room = record {
             waiting = sound.room.waiting;
@@ -321,6 +322,7 @@ module _ (s : State) (request : Entered) (rest : List Entered) (items : s.waitin
             counted = requests.count ∙ sound.requests.counted;
             few = sound.requests.few;
             waiting = all-append (IsRequestOf s.frames) rest (request ∷ []) all.1 (all.0, tt);
+            sized = sound.requests.sized;
           };
           room = record {
             waiting = sound.room.waiting;

@@ -16,7 +16,7 @@ use Rattle.r6_core.specs.declared.refusal.DeviceFault.{DeviceFault}
 use Rattle.r6_core.specs.declared.refusal.Receipt.{Receipt}
 use Rattle.r6_core.specs.declared.refusal.Refusal.{Refusal}
 use Rattle.r6_core.specs.declared.refusal.Refusal.TheVariants.{UntoldFirst, UnknownCall}
-use Rattle.r6_core.specs.Shards.{CoreView, Step, world_shard, core_layout, completion_of, receipt_of, buffer_in, reply_of, call_of}
+use Rattle.r6_core.specs.Shards.{CoreView, Step, world_shard, core_layout, completion_of, receipt_of, buffer_in, reply_of, buffer_back, call_of}
 use Rattle.r6_core.specs.Refusals.{HasSubmitFault, submit_faults, HasDeliverFault, deliver_faults, IsFirstFault, HasNone, AllTold}
 use Rattle.r6_core.specs.Order.{BringsBack, NoReplies, SameReplies, KeepsReplies, FinishesBy, LooksOn, TakesFirst, HasNoReply, HaveTurns, HaveTurnsBehind, HaveTurnsAfter}
 
@@ -113,6 +113,7 @@ pub record HandsReply (old : CoreView) (id : ℕ) (reply : Reply) (new : CoreVie
   pub step : Step old (steps.Take_reply id (reply_of reply)) new
   pub first : TakesFirst old id reply new
   pub brings : BringsBack ((world_shard old).request id) reply
+  pub sized : length (buffer_back reply) ≡ old.shape.block
   pub unanswered : new.unanswered + 1 ≡ old.unanswered
   pub waiting : new.waiting ≡ old.waiting
 

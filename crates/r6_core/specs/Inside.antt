@@ -18,7 +18,7 @@ use Rattle.r6_frames.specs.declared.frames.Frames.{Frames}
 use Rattle.r6_frames.specs.declared.frames.HeldRow.{HeldRow}
 use Rattle.r6_frames.specs.Slots.{count_out}
 use Rattle.r6_frames.specs.Views.{op_of, held_requests, hold_at, AreLive}
-use Rattle.r6_frames.specs.Calls.{Between, IsAwaited, IsFreeFrame, IsRequestOf, NotHeldBy}
+use Rattle.r6_frames.specs.Calls.{Between, HasOneBlock, IsAwaited, IsFreeFrame, IsRequestOf, NotHeldBy}
 use Rattle.r6_frames.specs.Owed.{owed, IsDriven, IsOver}
 use Rattle.r6_frames.specs.Calls as frames
 use Rattle.r6_frames.specs.Sound as held
@@ -37,12 +37,17 @@ SameFrames old new = Seen SameShard old new
 
 -- ---- between calls
 
+-- the requests that have ended, in the order in which they are answered
+abbrev pub ended_requests : State → List Request
+ended_requests s = s.released.items ++ s.finished.items
+
 pub record AreRequests (s : State) : Type 0 where
   pub distinct : IsDistinct nat_eq (keys_of (requests_of s))
   pub numbered : AllByRecursion (λ id. id < s.accepted) (keys_of (requests_of s))
   pub counted : length (requests_of s) ≡ s.unanswered
   pub few : s.unanswered ≤ most_unanswered
   pub waiting : AllByRecursion (IsRequestOf s.frames) s.waiting.items
+  pub sized : AllByRecursion (HasOneBlock s.frames.geometry) (ended_requests s)
 
 -- whether a call was taken whose answer isn't told
 abbrev pub count_untold : Option Call → ℕ
@@ -140,6 +145,7 @@ pub record Gathers (old new : State) : Type 0 where
   pub none_held : (frame : ℕ) → hold_at new.frames.held.items frame ≡ None
   pub none_finished : new.finished.items ≡ []
   pub all : IsPermutation (unreleased old) (unreleased new)
+  pub sized : AllByRecursion (HasOneBlock new.frames.geometry) new.waiting.items
   pub tokens : owed new.frames ≤ owed old.frames
   pub shard : Between (λ l n s s'. s' ≡ record s { frame = λ frame. None }) old.frames new.frames
   pub room : (new.waiting.capacity ≡ old.waiting.capacity) × (new.finished.capacity ≡ old.finished.capacity)

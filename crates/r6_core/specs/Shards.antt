@@ -149,6 +149,12 @@ reply_of (reply.Data buffer) = world.Reply.Data buffer
 reply_of (reply.Done buffer) = world.Reply.Done
 reply_of (reply.ArrayFailed buffer) = world.Reply.ArrayFailed
 
+-- the caller's buffer
+abbrev pub buffer_back : Reply → List ℕ
+buffer_back (reply.Data buffer) = buffer
+buffer_back (reply.Done buffer) = buffer
+buffer_back (reply.ArrayFailed buffer) = buffer
+
 -- ---- slots
 
 -- the generation with which a slot is in sync

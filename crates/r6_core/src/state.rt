@@ -8,7 +8,7 @@ ghost use Rattle.r6_world.specs.Changes.{Accept, after, Allowed};
 ghost use Rattle.r6_frames.specs.Views.{op_of, buffer_of};
 ghost use Rattle.r6_frames.specs.Calls as frames;
 ghost use Rattle.r6_frames.specs.Slots.{slot_before};
-ghost use Rattle.r6_core.specs.Shards.{Step, core_of, state_of, layout_in, reply_of};
+ghost use Rattle.r6_core.specs.Shards.{Step, core_of, state_of, layout_in, reply_of, buffer_back};
 ghost use Rattle.r6_core.specs.Refusals.{HasSubmitFault, IsFirstFault, HasNone, submit_faults};
 ghost use Rattle.r6_core.specs.Order.{NoReplies, SameReplies, BringsBack, TakesFirst, HasNoReply, HaveTurns, reply_to};
 ghost use Rattle.r6_core.specs.Effects.{KeepsRequests, HandsCommand};
@@ -177,6 +177,7 @@ impl State {
             (HasNoReply (core_of self.old) × (self.new ≡ self.old))
             (λ r. TakesFirst (core_of self.old) (r.0).0 r.1 (core_of self.new)) }
         ensures buffer { IfSome result (λ r. BringsBack ((state_of self.old).request (r.0).0) r.1) }
+        ensures sized { IfSome result (λ r. length (buffer_back r.1) ≡ self.old.frames.geometry.block) }
         ensures unanswered { IfSome result (λ _. self.new.unanswered + 1 ≡ self.old.unanswered) }
         ensures waiting { self.new.waiting ≡ self.old.waiting }
         ensures same { SameCalls self.old self.new }
@@ -200,6 +201,7 @@ impl State {
             (HasNoReply (core_of self.old) × (self.new ≡ self.old))
             (λ r. TakesFirst (core_of self.old) (r.0).0 r.1 (core_of self.new)) }
         ensures buffer { IfSome result (λ r. BringsBack ((state_of self.old).request (r.0).0) r.1) }
+        ensures sized { IfSome result (λ r. length (buffer_back r.1) ≡ self.old.frames.geometry.block) }
         ensures unanswered { IfSome result (λ _. self.new.unanswered + 1 ≡ self.old.unanswered) }
         ensures waiting { self.new.waiting ≡ self.old.waiting }
         ensures same { SameCalls self.old self.new }

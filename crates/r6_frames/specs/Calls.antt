@@ -1,5 +1,5 @@
 -- What each call of the frames does to the shard.
-use Rattle.std.specs.Prelude.{◌≡◌, ◌≢◌, ℕ, ◌+◌, ◌<◌, ◌≤◌, Bool, true, false, List, [], ◌∷◌, ◌++◌, length, map, slice_set, Option, MatchOption, Some, None, option_map}
+use Rattle.std.specs.Prelude.{◌≡◌, ◌≢◌, ℕ, ◌<◌, ◌≤◌, Bool, true, false, List, [], ◌∷◌, ◌++◌, length, map, slice_set, Option, MatchOption, Some, None, option_map}
 use Rattle.std.specs.Global.{Vec}
 use Rattle.std.specs.List.{AllByRecursion}
 use Rattle.r6_kernels.specs.Blocks.{IsBlock}
@@ -153,6 +153,10 @@ pub record IsRequestOf (fs : Frames) (request : Request) : Type 0 where
   pub own : layout.shard_of fs.geometry (layout.row_of fs.geometry (world.block_of (op_of request.op))) ≡ fs.shard
   pub sized : IsBlock fs.geometry.block (buffer_of request.op)
 
+-- the request's buffer is one block
+abbrev pub HasOneBlock : Shape → Request → Type 0
+HasOneBlock shape request = length (buffer_of request.op) ≡ shape.block
+
 -- the list has one more entry, whose frame no other has
 abbrev pub IsElsewhere : ℕ → ℕ × shards.Request → Type 0
 IsElsewhere frame entry = entry.1.stage ≢ Held frame
@@ -185,11 +189,13 @@ pub record Ends (old : Frames) (frame : ℕ) (request : Request) (new : Frames) 
   pub task : hold.task ≡ task_for request.id request.op
   pub may : Between (λ l n s s'. Allowed l n s (Finish frame hold (outcome_of request.op))) old new
   pub shard : Between (λ l n s s'. s' ≡ record s { frame = put s.frame frame None }) old new
+  pub sized : HasOneBlock old.geometry request
 
 -- the frame's hold ends as it stands, and its request with it
 pub record GivesUp (old : Frames) (frame : ℕ) (request : Request) (new : Frames) : Type 0 where
   pub requests : IsWith (held_requests new) frame (entry_of frame request) (held_requests old)
   pub shard : Between (λ l n s s'. s' ≡ record s { frame = put s.frame frame None }) old new
+  pub sized : HasOneBlock old.geometry request
 
 -- ---- what a call leaves
 

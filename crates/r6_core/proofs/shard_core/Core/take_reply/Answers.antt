@@ -10,5 +10,5 @@ returns c =
     let new = core_of c.take_reply.new.self in
     record {
       reply = subst (λ old. MatchOption c.take_reply.result (HandsNoReply old new) (λ r. HandsReply old (r.0).0 r.1 new)) c.self.view_is
-          (hands_reply (λ id. id.0) c.take_reply.result c.self.inside.state c.take_reply.new.self done.step done.first done.buffer done.unanswered done.waiting);
+          (hands_reply (λ id. id.0) c.take_reply.result c.self.inside.state c.take_reply.new.self done.step done.first done.buffer done.sized done.unanswered done.waiting);
     }

@@ -2,9 +2,12 @@ use Rattle.std.proofs.Common.{◌≡◌, ◌+◌, ◌≤◌, drop, length, sym, 
 use Rattle.r6_core.specs.declared.state.State.{State}
 use Rattle.r6_frames.specs.declared.frames.Frames.{Frames}
 use Rattle.r6_core.proofs.Inserting.{first_of}
-use Rattle.r6_core.proofs.Gathering.{IsGathering, gathering_finished, gathering_held, gathering_skips, gathered, waiting_room, some_finished, some_held}
+use Rattle.r6_core.proofs.Gathering.{IsGathering, gathering_none, gathering_finished, gathering_held, gathering_skips, gathered, waiting_room, some_finished, some_held}
 use Rattle.r6_core.proofs.state.State.gather.Goals as goal
 use Rattle.r6_core.proofs.state.State.gather.Goals.{in-Some-give_up+in-Ok-try_push_back, in_default-give_up}
+
+pub loop-request-init : goal.loop-request-init
+loop-request-init c = gathering_none c.args.self.now c.requires.sound c.requires.stopped
 
 pub loop-request-preserved : goal.loop-request-preserved
 loop-request-preserved c =

@@ -1,14 +1,14 @@
-use Rattle.std.proofs.Common.{◌≡◌, ◌∷◌, ℕ, sym, ap, subst, ◌∙◌}
+use Rattle.std.proofs.Common.{◌≡◌, ◌∷◌, ℕ, length, sym, ap, subst, ◌∙◌}
 use Rattle.circular_buffer.specs.Buffer.{Buffer}
 use Rattle.r6_frames.specs.declared.op.Request.{Request}
 use Rattle.r6_world.specs.Steps.{No_reply}
 use Rattle.r6_world.specs.PlainArray.{ArrayFailed}
 use Rattle.r6_world.specs.ShardStates.{Released}
-use Rattle.r6_core.specs.Shards.{Step, reply_of, requests_of, table, core_of}
+use Rattle.r6_core.specs.Shards.{Step, buffer_back, reply_of, requests_of, table, core_of}
 use Rattle.r6_core.specs.Order.{BringsBack}
 use Rattle.r6_core.specs.declared.reply.Reply.{Reply}
 use Rattle.r6_core.proofs.Known.{at_none}
-use Rattle.r6_core.proofs.Replies.{some_popped, none_popped, unpopped, no_reply, failed_core, failed_step, failed_request, brings_failure}
+use Rattle.r6_core.proofs.Replies.{some_popped, none_popped, unpopped, no_reply, failed_core, failed_sized, failed_step, failed_request, brings_failure}
 use Rattle.r6_core.proofs.state.State.take_failure.Goals as goal
 
 -- src/state.rt:187:13
@@ -52,3 +52,9 @@ returns-clause-buffer c =
     let brings = brings_failure (s_table c.in_ok-request.request.id) c.in_ok-request.request.op (Released ArrayFailed) was in
     subst (λ (id : ℕ). BringsBack (s_table id) c.failed.result.1) (sym c.failed.ensures.0)
     (subst (λ (reply : Reply). BringsBack (s_table c.in_ok-request.request.id) reply) (sym c.failed.ensures.1) brings)
+
+pub returns-clause-sized : goal.returns-clause-sized
+returns-clause-sized c =
+    let s = c.args.self.now in
+    ap length (ap buffer_back c.failed.ensures.1)
+    ∙ (failed_sized s c.in_ok-request.request c.pop_front.new.self c.if-not-self.false c.requires.last (is_first c) c.requires.core.sound.requests.sized).0

@@ -1,10 +1,10 @@
-use Rattle.std.proofs.Common.{◌≡◌, ◌∷◌, ℕ, sym, ap, subst, ◌∙◌}
+use Rattle.std.proofs.Common.{◌≡◌, ◌∷◌, ℕ, length, sym, ap, subst, ◌∙◌}
 use Rattle.circular_buffer.specs.Buffer.{Buffer}
 use Rattle.r6_world.specs.ShardStates.{Released}
-use Rattle.r6_core.specs.Shards.{answer_of, reply_of, requests_of, table}
+use Rattle.r6_core.specs.Shards.{answer_of, buffer_back, reply_of, requests_of, table}
 use Rattle.r6_core.specs.Order.{BringsBack}
 use Rattle.r6_core.specs.declared.reply.Reply.{Reply}
-use Rattle.r6_core.proofs.Replies.{some_popped, reply_core, reply_step, reply_request, reply_as, brings_answer}
+use Rattle.r6_core.proofs.Replies.{some_popped, reply_core, reply_step, reply_request, reply_as, reply_sized, brings_answer, buffer_answered}
 use Rattle.r6_core.proofs.state.State.take_reply.Goals as goal
 
 is_first : (c : goal.After-answered) → c.args.self.now.released.items ≡ c.in-Some.request ∷ c.pop_front.new.self.items
@@ -28,3 +28,8 @@ returns-clause-buffer c =
     let brings = brings_answer (s_table c.in-Some.request.id) c.in-Some.request.op (Released (answer_of c.in-Some.request.op)) was in
     subst (λ (id : ℕ). BringsBack (s_table id) c.answered.result.1) (sym c.answered.ensures.0)
     (subst (λ (reply : Reply). BringsBack (s_table c.in-Some.request.id) reply) (sym c.answered.ensures.1) brings)
+
+pub returns-clause-sized : goal.returns-clause-sized
+returns-clause-sized c =
+    ap length (ap buffer_back c.answered.ensures.1 ∙ buffer_answered c.in-Some.request.op)
+    ∙ (reply_sized c.args.self.now c.in-Some.request c.pop_front.new.self (is_first c) c.requires.sound.requests.sized).0
