@@ -10,9 +10,9 @@ use std::mem;
 
 /// A table that gives each entry the next number, from 0 on, and no number twice.
 ///
-/// Its room is made once, by [`Table::with_capacity`]; no later call takes memory. A look-up takes the logarithm of the
-/// capacity. [`Table::push`] takes constant time, but for a sweep of the whole table that comes at most once in as many
-/// pushes as the capacity.
+/// Its room is made once, by [`Table::with_capacity`]; no later call takes memory. [`Table::push`] takes constant time, but
+/// for a sweep of the whole table that comes at most once in as many pushes as the capacity. A look-up takes constant time
+/// for an entry that was pushed since the last sweep, and else the logarithm of the capacity.
 #[derive(Drop)]
 pub struct Table<V> {
     // by number; an entry that was taken out keeps its place until the next sweep
@@ -88,7 +88,7 @@ impl<V: Drop> Table<V> {
     pub fn get(&self, number: u64) -> Option<&V>
         ensures { option_copied result ≡ map.get (entries_of self.now) number }
     {
-        match index_of(&self.places, number) {
+        match index_of(&self.places, self.next, number) {
             Some(index) => value(&self.places, number, index),
             None => None,
         }
@@ -124,7 +124,7 @@ impl<V: Drop> Table<V> {
         ensures absent { IfErr result (λ back. (map.get (entries_of self.old) number ≡ None) × (back ≡ value)
             × (self.new ≡ self.old)) }
     {
-        let index = match index_of(&self.places, number) {
+        let index = match index_of(&self.places, self.next, number) {
             Some(index) => index,
             None => return Err(value),
         };
@@ -142,7 +142,7 @@ impl<V: Drop> Table<V> {
         ensures entry { result ≡ map.get (entries_of self.old) number }
         ensures rest { self.new ≡ (capacity_of self.old, (next_of self.old, map.remove (entries_of self.old) number)) }
     {
-        let index = match index_of(&self.places, number) {
+        let index = match index_of(&self.places, self.next, number) {
             Some(index) => index,
             None => return None,
         };
@@ -156,8 +156,31 @@ impl<V: Drop> Table<V> {
     }
 }
 
-// Where the place of the number stands.
-fn index_of<V>(places: &[(u64, Option<V>)], number: u64) -> Option<usize>
+// Where the place of the number stands. Of the numbers below `next` the lately pushed ones are found at once.
+fn index_of<V>(places: &[(u64, Option<V>)], next: u64, number: u64) -> Option<usize>
+    requires { (high : ℕ) × IsRising 0 high places.now }
+    ensures at { IfSome result (IsAt number places.now) }
+    ensures absent { IfNone result (IsAbsent number places.now) }
+{
+    match index_from_end(places, next, number) {
+        Some(index) => Some(index),
+        None => index_by_search(places, number),
+    }
+}
+
+// Where the place stands as far from the end as its number from the next one: if no place behind it was swept away.
+fn index_from_end<V>(places: &[(u64, Option<V>)], next: u64, number: u64) -> Option<usize>
+    ensures { IfSome result (IsAt number places.now) }
+{
+    let behind = next.checked_sub(number)? as usize;
+    let index = places.len().checked_sub(behind)?;
+    if places.get(index)?.0 != number {
+        return None;
+    }
+    Some(index)
+}
+
+fn index_by_search<V>(places: &[(u64, Option<V>)], number: u64) -> Option<usize>
     requires { (high : ℕ) × IsRising 0 high places.now }
     ensures at { IfSome result (IsAt number places.now) }
     ensures absent { IfNone result (IsAbsent number places.now) }

@@ -4,7 +4,7 @@ use Rattle.std.proofs.lemmas.List.Sorted.{answers_always}
 use Rattle.std.specs.Result.{result_ok}
 use Rattle.r6_tables.specs.Places.{IsAt, IsAbsent}
 use Rattle.r6_tables.proofs.Places.{searched}
-use Rattle.r6_tables.proofs.table.index_of.Goals as goal
+use Rattle.r6_tables.proofs.table.index_by_search.Goals as goal
 
 pub returns-clause-at : goal.returns-clause-at
 returns-clause-at g c =
