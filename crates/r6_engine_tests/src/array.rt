@@ -1,0 +1,123 @@
+//! An array over devices in memory, with blocks that aren't zeros and devices that fail.
+
+ghost use Rattle.std.specs.Prelude.{◌≡◌, ◌*◌, ◌<◌, length, IfOk};
+
+use r6_dev::{BlockDevice, Fault, Faulty, MemoryDevice};
+use r6_kernels::Buffer;
+use r6_layout::{Geometry, GeometryError};
+use std::alloc::{AllocError, Global};
+use std::test::Fail;
+
+pub(crate) const SLOTS: usize = 4;
+
+pub(crate) const ROWS: u64 = 4;
+
+/// Bytes of a block.
+const BLOCK: usize = 16;
+
+/// A device of zeros, or of what was written, that may fail.
+pub(crate) type Part = Faulty<MemoryDevice>;
+
+/// A block that has this byte throughout.
+#[derive(Clone, Copy)]
+pub(crate) struct Filled {
+    pub(crate) row: u64,
+    pub(crate) slot: usize,
+    pub(crate) byte: u8,
+}
+
+/// The device of a slot that fails at the command for this row: at this one alone, or, if it is gone, from it on.
+#[derive(Clone, Copy)]
+pub(crate) struct Broken {
+    pub(crate) slot: usize,
+    pub(crate) row: u64,
+    pub(crate) is_gone: bool,
+}
+
+/// An array of 4 slots, with chunks of 1 block of 16 bytes and 4 rows.
+#[derive(Clone, Copy)]
+pub(crate) struct Array<'a> {
+    pub(crate) shards: usize,
+    pub(crate) filled: &'a [Filled],
+    pub(crate) lost: &'a [usize],
+    pub(crate) broken: Option<Broken>,
+}
+
+/// All zeros.
+pub(crate) fn zeros(shards: usize) -> Array<'static> {
+    Array {
+        shards,
+        filled: &[],
+        lost: &[],
+        broken: None,
+    }
+}
+
+/// A block with one byte throughout.
+pub(crate) fn block_of(alloc: Global, byte: u8) -> Result<Buffer, AllocError> {
+    let bytes = vec![in alloc; byte; BLOCK]?;
+    let mut block = Buffer::new(alloc, BLOCK)?;
+    block.copy_from_slice(bytes.as_slice());
+    Ok(block)
+}
+
+impl Array<'_> {
+    pub(crate) fn geometry(&self) -> Result<Geometry, GeometryError> {
+        Geometry::new(SLOTS, 1, BLOCK, ROWS, self.shards)
+    }
+
+    /// The part of a shard and a slot.
+    pub(crate) fn part(
+        &self,
+        alloc: Global,
+        geometry: &Geometry,
+        shard: usize,
+        slot: usize,
+    ) -> Result<Part, Fail>
+        requires { shard < geometry.now.shards }
+    {
+        let rows = geometry.shard_rows(shard);
+        let mut device = MemoryDevice::new(alloc, rows.start..rows.end, geometry.block())?;
+        for block in self.filled {
+            if block.slot == slot && rows.start <= block.row && block.row < rows.end {
+                device.write(block.row, &block_of(alloc, block.byte)?)?;
+            }
+        }
+        let (mut failing, mut gone_from) = (Vec::new(alloc), None);
+        if let Some(broken) = self.broken
+            && broken.slot == slot
+            && rows.start <= broken.row
+            && broken.row < rows.end
+        {
+            let command = broken.row - rows.start;
+            if broken.is_gone {
+                gone_from = Some(command);
+            } else {
+                failing.push(command)?;
+            }
+        }
+        Ok(Faulty::new(device, failing, gone_from))
+    }
+
+    /// All parts, by shard and slot.
+    pub(crate) fn parts(
+        &self,
+        alloc: Global,
+        geometry: &Geometry,
+    ) -> Result<Vec<Option<Part>>, Fail>
+        ensures { IfOk result (λ parts. length parts.items ≡ geometry.now.shards * geometry.now.slots) }
+    {
+        let count = geometry.shards() * geometry.slots();
+        let mut parts = Vec::new(alloc);
+        for number in 0..count {
+            let (shard, slot) = (number / geometry.slots(), number % geometry.slots());
+            let part = if self.lost.contains(&slot) {
+                None
+            } else {
+                Some(self.part(alloc, geometry, shard, slot)?)
+            };
+            parts.push(part)?;
+        }
+        Ok(parts)
+    }
+}

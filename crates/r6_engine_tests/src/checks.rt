@@ -1,0 +1,183 @@
+//! Every row of an array, classified.
+
+use crate::array::{Array, Broken, Filled, ROWS, SLOTS, zeros};
+use r6_dev::Fault;
+use r6_engine::{Counts, Report, RowFault, Unwatched, Watch, WrongRow, check_all, verify};
+use r6_recover::RowClass;
+use std::alloc::Global;
+use std::process::Abort;
+use std::test::Fail;
+
+/// Both passes have to report this.
+fn reports<R: Abort>(
+    rt: &R,
+    alloc: Global,
+    array: &Array<'_>,
+    wanted: &Report,
+) -> Result<(), Fail> {
+    let geometry = array.geometry()?;
+    let mut parts = array.parts(alloc, &geometry)?;
+    let checked = check_all(alloc, &geometry, parts.as_mut_slice())?;
+    assert_eq!(rt; checked, *wanted);
+    let mut parts = array.parts(alloc, &geometry)?;
+    let verified = verify(alloc, &geometry, parts.as_mut_slice(), &mut Unwatched)?;
+    assert_eq!(rt; verified, *wanted);
+    Ok(())
+}
+
+/// So many rows, all consistent.
+fn consistent(rows: u64) -> Report {
+    Report {
+        counts: Counts {
+            consistent: rows,
+            ..Counts::new()
+        },
+        first: None,
+        fault: None,
+    }
+}
+
+/// The rows of another class than `Consistent`, the first of which is this.
+fn with_wrong(row: u64, class: RowClass, counts: Counts) -> Report {
+    Report {
+        counts,
+        first: Some(WrongRow { row, class }),
+        fault: None,
+    }
+}
+
+#[test]
+fn zeros_are_consistent(rt: HostRuntime) -> Result<(), Fail> {
+    for shards in [1usize, 2, 3, 4] {
+        reports(&rt, rt.alloc(), &zeros(shards), &consistent(ROWS))?;
+    }
+    Ok(())
+}
+
+// Row 0 has Q in slot 0, its data in slots 1 and 2 and P in slot 3; each further row begins one slot to the left.
+#[test]
+fn a_wrong_block_is_named_by_its_place(rt: HostRuntime) -> Result<(), Fail> {
+    let places = [
+        (0, 1, RowClass::WrongData(0)),
+        (0, 2, RowClass::WrongData(1)),
+        (1, 2, RowClass::WrongP),
+        (2, 2, RowClass::WrongQ),
+        (3, 3, RowClass::WrongData(1)),
+    ];
+    for (row, slot, class) in places {
+        let filled = [Filled { row, slot, byte: 1 }];
+        for shards in [1usize, 2, 4] {
+            let array = Array {
+                filled: &filled,
+                ..zeros(shards)
+            };
+            let mut counts = consistent(ROWS - 1).counts;
+            match class {
+                RowClass::WrongP => counts.wrong_p = 1,
+                RowClass::WrongQ => counts.wrong_q = 1,
+                _ => counts.wrong_data = 1,
+            }
+            reports(&rt, rt.alloc(), &array, &with_wrong(row, class, counts))?;
+        }
+    }
+    Ok(())
+}
+
+// Both data blocks of row 1 are wrong, then P of row 2 and Q of row 3. Of row 1 P misses 03, Q 01 + 02 * 02 = 05.
+#[test]
+fn each_row_is_counted_by_its_class(rt: HostRuntime) -> Result<(), Fail> {
+    let filled = [(1, 0, 1), (1, 1, 2), (2, 1, 7), (3, 1, 7)].map(|(row, slot, byte)| Filled {
+        row,
+        slot,
+        byte,
+    });
+    let counts = Counts {
+        consistent: 1,
+        many: 1,
+        wrong_p: 1,
+        wrong_q: 1,
+        ..Counts::new()
+    };
+    for shards in [1usize, 3] {
+        let array = Array {
+            filled: &filled,
+            ..zeros(shards)
+        };
+        reports(
+            &rt,
+            rt.alloc(),
+            &array,
+            &with_wrong(1, RowClass::Many, counts),
+        )?;
+    }
+    Ok(())
+}
+
+#[test]
+fn rows_of_a_lost_slot_are_skipped(rt: HostRuntime) -> Result<(), Fail> {
+    let lost: [&[usize]; 3] = [&[0], &[2], &[1, 3]];
+    for lost in lost {
+        let wanted = Report {
+            counts: Counts {
+                skipped: ROWS,
+                ..Counts::new()
+            },
+            first: None,
+            fault: None,
+        };
+        reports(&rt, rt.alloc(), &Array { lost, ..zeros(2) }, &wanted)?;
+    }
+    Ok(())
+}
+
+// Each device is read once a row, so the command of a row is the one with its number within the shard.
+#[test]
+fn a_fault_at_any_command_ends_the_check_at_its_row(rt: HostRuntime) -> Result<(), Fail> {
+    for (is_gone, fault) in [(false, Fault::ReadFault), (true, Fault::Gone)] {
+        for slot in 0..SLOTS {
+            for row in 0..ROWS {
+                let array = Array {
+                    broken: Some(Broken { slot, row, is_gone }),
+                    ..zeros(2)
+                };
+                let wanted = Report {
+                    fault: Some(RowFault { row, slot, fault }),
+                    ..consistent(row)
+                };
+                reports(&rt, rt.alloc(), &array, &wanted)?;
+            }
+        }
+    }
+    Ok(())
+}
+
+/// Counts what it hears.
+#[derive(Drop)]
+struct Heard {
+    passed: u64,
+    ended: u64,
+}
+
+impl Watch for Heard {
+    fn passed(&mut self, _rows: u64, _of: u64) {
+        self.passed = self.passed.wrapping_add(1);
+    }
+
+    fn ended(&mut self) {
+        self.ended = self.ended.wrapping_add(1);
+    }
+}
+
+#[test]
+fn a_watch_hears_of_a_pass_and_of_its_end(rt: HostRuntime) -> Result<(), Fail> {
+    let array = zeros(1);
+    let geometry = array.geometry()?;
+    let mut parts = array.parts(rt.alloc(), &geometry)?;
+    let mut heard = Heard {
+        passed: 0,
+        ended: 0,
+    };
+    verify(rt.alloc(), &geometry, parts.as_mut_slice(), &mut heard)?;
+    assert_eq!(rt; (heard.passed, heard.ended), (1, 1));
+    Ok(())
+}

@@ -1,0 +1,159 @@
+//! A lost slot, rebuilt.
+
+ghost use Rattle.std.specs.Prelude.{◌≡◌, length, IfOk};
+
+use crate::array::{Array, Broken, Filled, Part, ROWS, SLOTS, block_of, zeros};
+use r6_dev::{BlockDevice, Fault};
+use r6_engine::{Rebuilt, RowFault, rebuild_all};
+use r6_kernels::Buffer;
+use r6_layout::Geometry;
+use std::alloc::Global;
+use std::test::Fail;
+
+/// New parts for a slot, of this array.
+fn targets(
+    alloc: Global,
+    array: &Array<'_>,
+    geometry: &Geometry,
+    slot: usize,
+) -> Result<Vec<Part>, Fail>
+    ensures { IfOk result (λ targets. length targets.items ≡ geometry.now.shards) }
+{
+    let mut targets = Vec::new(alloc);
+    for shard in 0..geometry.shards() {
+        targets.push(array.part(alloc, geometry, shard, slot)?)?;
+    }
+    Ok(targets)
+}
+
+/// Rebuilds slot 1 of an array, onto new parts of another one.
+fn rebuilt(
+    alloc: Global,
+    array: &Array<'_>,
+    new: &Array<'_>,
+) -> Result<(Rebuilt, Vec<Part>), Fail> {
+    let geometry = array.geometry()?;
+    let mut parts = array.parts(alloc, &geometry)?;
+    let new = Array {
+        shards: array.shards,
+        ..*new
+    };
+    let mut targets = targets(alloc, &new, &geometry, 1)?;
+    let done = rebuild_all(
+        alloc,
+        &geometry,
+        parts.as_mut_slice(),
+        1,
+        targets.as_mut_slice(),
+    )?;
+    Ok((done, targets))
+}
+
+const ALL: Rebuilt = Rebuilt {
+    rows: ROWS,
+    fault: None,
+};
+
+#[test]
+fn a_slot_of_zeros_is_rebuilt(rt: HostRuntime) -> Result<(), Fail> {
+    for shards in [1usize, 2, 4] {
+        let array = Array {
+            lost: &[1],
+            ..zeros(shards)
+        };
+        let (done, _) = rebuilt(rt.alloc(), &array, &zeros(shards))?;
+        assert_eq!(rt; done, ALL, "{shards} shards");
+    }
+    Ok(())
+}
+
+// Rows 0 to 3 have in slot 1 the data blocks 0 and 1, P and Q. The other block of data is zeros in rows 0 and 1; where it
+// is 5a, in rows 2 and 3, P and Q are 5a too, as it is block 0 there.
+#[test]
+fn each_row_gets_its_block(rt: HostRuntime) -> Result<(), Fail> {
+    let filled = [
+        (0, 3, 0x5a),
+        (0, 0, 0x5a),
+        (1, 2, 0x5a),
+        (1, 3, 0xb4),
+        (2, 3, 0x5a),
+        (2, 2, 0x5a),
+        (3, 2, 0x5a),
+        (3, 0, 0x5a),
+    ]
+    .map(|(row, slot, byte)| Filled { row, slot, byte });
+    for lost in [[1usize].as_slice(), &[1, 2], &[1, 3]] {
+        for shards in [1usize, 2, 3] {
+            let array = Array {
+                filled: &filled,
+                lost,
+                ..zeros(shards)
+            };
+            let (done, mut targets) = rebuilt(rt.alloc(), &array, &zeros(shards))?;
+            assert_eq!(rt; done, ALL, "{lost:?} lost, {shards} shards");
+            let geometry = array.geometry()?;
+            let mut block = Buffer::new(rt.alloc(), geometry.block())?;
+            for row in 0..ROWS.min(geometry.rows()) {
+                let part = targets
+                    .get_mut(geometry.shard_of(row))
+                    .ok_or("no such part")?;
+                part.read(row, &mut block)?;
+                assert_eq!(rt;
+                    block.as_slice(),
+                    block_of(rt.alloc(), 0x5a)?.as_slice(),
+                    "row {row}, {lost:?} lost, {shards} shards"
+                );
+            }
+        }
+    }
+    Ok(())
+}
+
+#[test]
+fn a_fault_at_any_command_ends_the_rebuild_at_its_row(rt: HostRuntime) -> Result<(), Fail> {
+    for slot in 0..SLOTS {
+        for row in 0..ROWS {
+            for is_gone in [false, true] {
+                let broken = Array {
+                    broken: Some(Broken { slot, row, is_gone }),
+                    ..zeros(2)
+                };
+                let array = Array {
+                    lost: &[1],
+                    ..broken
+                };
+                let (done, _) = rebuilt(rt.alloc(), &array, &broken)?;
+                let fault = match (is_gone, slot) {
+                    (true, _) => Fault::Gone,
+                    (false, 1) => Fault::WriteFault,
+                    (false, _) => Fault::ReadFault,
+                };
+                let wanted = Rebuilt {
+                    rows: row,
+                    fault: Some(RowFault { row, slot, fault }),
+                };
+                assert_eq!(rt; done, wanted);
+            }
+        }
+    }
+    Ok(())
+}
+
+#[test]
+fn a_row_with_three_slots_lost_is_not_made_up(rt: HostRuntime) -> Result<(), Fail> {
+    let array = Array {
+        lost: &[0, 1, 2],
+        ..zeros(1)
+    };
+    let (done, _) = rebuilt(rt.alloc(), &array, &zeros(1))?;
+    let wanted = Rebuilt {
+        rows: 0,
+        fault: Some(RowFault {
+            row: 0,
+            slot: 1,
+            fault: Fault::Gone,
+        }),
+    };
+    assert_eq!(rt; done, wanted);
+    Ok(())
+}
