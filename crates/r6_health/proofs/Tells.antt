@@ -199,9 +199,6 @@ refused-grows v w call GenerationsSpent told = told.0.grows
 pub attach_gives : (v w : View) (slot : ℕ) (reply : Answer) → Extends v (Attach slot) reply w → IsGeneration reply
 attach_gives v w slot reply made = let t = attach_answers v w slot reply made in subst IsGeneration t.1 tt
 
-pub seen_after_refusal : (v w : View) (call : Call) (refusal : Refusal) → Refused v call refusal w → StartsWith w.seen v.seen
-seen_after_refusal v w call refusal told = (refused-grows v w call refusal told).seen
-
 -- a call is one more of one's own, unless it is refused
 pub own_after : (v w : View) (call : Call) (result : Result Answer Refusal) → Answered v call result w → w.mine ≡ v.mine ++ made_by call result
 own_after v w call (Ok reply) told = told.mine
@@ -222,5 +219,3 @@ seen_after v w call (Err refusal) told = (refused-grows v w call refusal told).s
 pub seen_after_attach : (v w : View) (slot : ℕ) (result : Result ℕ Refusal) → Attached v slot result w → StartsWith w.seen v.seen
 seen_after_attach v w slot (Ok generation) told = longer v w (Attach slot) (Generation generation) told
 seen_after_attach v w slot (Err refusal) told = (refused-grows v w (Attach slot) refusal told).seen
-
-pub ruleset attach_steps = (own_after_attach, seen_after_attach, seen_after_refusal, attach_gives)

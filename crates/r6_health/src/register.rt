@@ -171,7 +171,6 @@ impl Register {
         Ok(self.exchange(rt, pass, words, next))
     }
 
-    #[tactic(auto, using(crate::proofs::Tells::misses_after))]
     fn make<R: Wait>(&self, rt: &R, pass: &mut Pass, call: Call) -> Result<Answer, Refusal>
         requires { IsPassOf self.now pass.old }
         ensures pass { IsPassOf self.now pass.new }
@@ -225,7 +224,6 @@ impl Register {
     ///
     /// Refused, in this order: no such slot, the array has failed, the slot isn't lost, the generations are spent,
     /// contended.
-    #[tactic(auto, using(crate::proofs::Tells::attach_steps))]
     pub fn attach<R: Wait>(&self, rt: &R, pass: &mut Pass, slot: usize) -> Result<u32, Refusal>
         requires { IsPassOf self.now pass.old }
         ensures pass { IsPassOf self.now pass.new }
