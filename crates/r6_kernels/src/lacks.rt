@@ -26,7 +26,7 @@ pub(crate) fn lacks_of<R: Reach>(row: &[Buffer], at: usize, len: usize) -> Lacks
     ensures { AreLacks result at len (take (length row.now - 2) row.now) row.now }
 {
     let m = row.len() - 2;
-    let sums = Sums::none().with_all::<R>(&row[..m], at, len);
+    let sums = Sums::of_all::<R>(&row[..m], at, len);
     lacks_beside::<R>(sums, &row[m], &row[m + 1], at)
 }
 
@@ -99,8 +99,7 @@ fn sums_without<R: Reach>(blocks: &[Buffer], x: usize, y: usize, at: usize, len:
     requires reach { R.reaches at len }
     ensures { AreSums result at len (without len y (without len x blocks.now)) }
 {
-    Sums::none()
-        .with_all::<R>(&blocks[y + 1..], at, len)
+    Sums::of_all::<R>(&blocks[y + 1..], at, len)
         .with_zeros()
         .with_all::<R>(&blocks[x + 1..y], at, len)
         .with_zeros()
@@ -115,8 +114,7 @@ fn sums_without_one<R: Reach>(blocks: &[Buffer], x: usize, at: usize, len: usize
     requires reach { R.reaches at len }
     ensures { AreSums result at len (without len x blocks.now) }
 {
-    Sums::none()
-        .with_all::<R>(&blocks[x + 1..], at, len)
+    Sums::of_all::<R>(&blocks[x + 1..], at, len)
         .with_zeros()
         .with_all::<R>(&blocks[..x], at, len)
 }

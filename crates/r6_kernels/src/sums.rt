@@ -19,13 +19,31 @@ pub(crate) struct Sums {
 impl Sums {
     /// The sums of no block.
     #[inline(always)]
-    pub(crate) fn none() -> Sums
+    fn none() -> Sums
         ensures { (at len : ℕ) → AreSums result at len [] }
     {
         Sums {
             p: Lanes::splat(0),
             shifted_q: Lanes::splat(0x0b),
         }
+    }
+
+    /// The sums of blocks of `len` bytes.
+    #[inline(always)]
+    pub(crate) fn of_all<R: Reach>(blocks: &[Buffer], at: usize, len: usize) -> Sums
+        requires long { All (λ block. length block ≡ len) blocks.now }
+        requires reach { R.reaches at len }
+        ensures { AreSums result at len blocks.now }
+    {
+        let count = blocks.len();
+        if count == 0 {
+            return Sums::none();
+        }
+        // Apart from the others, the last block is only loaded: the compiler knows its sum with zeros.
+        let last = R::load(blocks[count - 1].as_slice(), at);
+        Sums::none()
+            .with(last)
+            .with_all::<R>(&blocks[..count - 1], at, len)
     }
 
     /// With one more block before these.
