@@ -1,4 +1,5 @@
-//! The recovery of blocks of a row, in place. Each call has room for two sums.
+//! The recovery of blocks of a row, in place. Each call has room for two sums, and a sum and the block that it restores
+//! exchange their buffers.
 
 ghost use Rattle.std.specs.Prelude.{◌≡◌, ◌+◌, ◌-◌, ◌<◌, ◌≤◌, ◌↔◌, length, OnOk, OnErr, IsErr};
 ghost use Rattle.std.specs.List.{All};
@@ -8,6 +9,7 @@ ghost use Rattle.r6_recover.specs.Restores.{RestoresBlock, Restores, AgreeAtKnow
 use crate::apart::{restore_from_p_into, restore_from_q_into, restore_two_into};
 use crate::known::{Known, Missing, POSITIONS, TooManyLost, missing_among};
 use r6_kernels::{Buffer, parity};
+use std::mem;
 
 /// P, from the data.
 pub(crate) fn restore_p(blocks: &mut [Buffer], sum: &mut Buffer, weighted: &mut Buffer)
@@ -20,7 +22,7 @@ pub(crate) fn restore_p(blocks: &mut [Buffer], sum: &mut Buffer, weighted: &mut 
 {
     let m = blocks.len() - 2;
     parity(&blocks[..m], sum, weighted);
-    blocks[m].copy_from(sum);
+    mem::swap(&mut blocks[m], sum);
 }
 
 /// Q, from the data.
@@ -34,7 +36,7 @@ pub(crate) fn restore_q(blocks: &mut [Buffer], sum: &mut Buffer, weighted: &mut 
 {
     let m = blocks.len() - 2;
     parity(&blocks[..m], sum, weighted);
-    blocks[m + 1].copy_from(weighted);
+    mem::swap(&mut blocks[m + 1], weighted);
 }
 
 /// A data block, from P and the other data.
@@ -45,7 +47,7 @@ pub(crate) fn restore_from_p(blocks: &mut [Buffer], x: usize, sum: &mut Buffer)
     ensures sum_length { length sum.new ≡ length sum.old }
 {
     restore_from_p_into(blocks, x, sum);
-    blocks[x].copy_from(sum);
+    mem::swap(&mut blocks[x], sum);
 }
 
 /// A data block, from Q and the other data.
@@ -57,7 +59,7 @@ pub(crate) fn restore_from_q(blocks: &mut [Buffer], x: usize, sum: &mut Buffer)
     ensures sum_length { length sum.new ≡ length sum.old }
 {
     restore_from_q_into(blocks, x, sum);
-    blocks[x].copy_from(sum);
+    mem::swap(&mut blocks[x], sum);
 }
 
 /// Two data blocks, from P, Q and the other data.
@@ -78,8 +80,8 @@ pub(crate) fn restore_two(
     ensures weighted_length { length weighted.new ≡ length weighted.old }
 {
     restore_two_into(blocks, x, y, sum, weighted);
-    blocks[x].copy_from(sum);
-    blocks[y].copy_from(weighted);
+    mem::swap(&mut blocks[x], sum);
+    mem::swap(&mut blocks[y], weighted);
 }
 
 /// One block, whichever it is.

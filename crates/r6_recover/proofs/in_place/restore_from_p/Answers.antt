@@ -7,7 +7,7 @@ returns-clause-restores c =
     let blocks : List (List ℕ) = c.args.blocks.now in
     let m : ℕ = length blocks - 2 in
     let within : c.args.x + 2 < length blocks = c.requires.within in
-    RestoresBlock-set m (length c.args.sum.now) c.args.x (m + 1) blocks c.copy_from.new.self c.requires.long
-    (ap length c.copy_from.ensures.copied ∙ c.restore_from_p_into.ensures.same_length)
+    RestoresBlock-set m (length c.args.sum.now) c.args.x (m + 1) blocks c.swap.new.x c.requires.long
+    (ap length c.swap.ensures.x_after ∙ c.restore_from_p_into.ensures.same_length)
     (omega arith)
-    (λ full is agree. c.copy_from.ensures.copied ∙ c.restore_from_p_into.ensures.restored full is agree)
+    (λ full is agree. c.swap.ensures.x_after ∙ c.restore_from_p_into.ensures.restored full is agree)

@@ -9,7 +9,7 @@ returns-clause-restores c =
     let len : ℕ = length c.args.sum.now in
     let least = c.requires.count in
     let count : length blocks ≡ m + 2 = omega arith in
-    RestoresBlock-set m len m (m + 1) blocks c.copy_from.new.self c.requires.long
-    (ap length c.copy_from.ensures.copied ∙ c.parity.ensures.p_length)
+    RestoresBlock-set m len m (m + 1) blocks c.swap.new.x c.requires.long
+    (ap length c.swap.ensures.x_after ∙ c.parity.ensures.p_length)
     (omega arith)
-    (λ full is agree. c.copy_from.ensures.copied ∙ c.parity.ensures.p ∙ value_of_p m len blocks full count is agree)
+    (λ full is agree. c.swap.ensures.x_after ∙ c.parity.ensures.p ∙ value_of_p m len blocks full count is agree)

@@ -9,7 +9,7 @@ returns-clause-restores c =
     let len : ℕ = length c.args.sum.now in
     let least = c.requires.count in
     let count : length blocks ≡ m + 2 = omega arith in
-    RestoresBlock-set m len (m + 1) m blocks c.copy_from.new.self c.requires.long
-    (ap length c.copy_from.ensures.copied ∙ c.parity.ensures.q_length ∙ c.requires.same)
+    RestoresBlock-set m len (m + 1) m blocks c.swap.new.x c.requires.long
+    (ap length c.swap.ensures.x_after ∙ c.parity.ensures.q_length ∙ c.requires.same)
     (omega arith)
-    (λ full is agree. c.copy_from.ensures.copied ∙ c.parity.ensures.q ∙ value_of_q m len blocks full count is agree)
+    (λ full is agree. c.swap.ensures.x_after ∙ c.parity.ensures.q ∙ value_of_q m len blocks full count is agree)
