@@ -3,6 +3,7 @@ pub mod Failures
 pub mod Histories
 pub mod Keeps
 pub mod Outs
+pub mod Passes
 pub mod Reports
 pub mod Runs
 pub mod Sets

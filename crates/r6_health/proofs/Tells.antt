@@ -13,11 +13,9 @@ use Rattle.r6_health.specs.Slots.{has_shard, with_shard, has_all, is_lost}
 use Rattle.r6_health.specs.Registers.{state_at, is_stale, report_answer, answer, after}
 use Rattle.r6_health.specs.declared.history.Entry.{Entry}
 use Rattle.r6_health.specs.declared.history.Made.{Made}
+use Rattle.r6_health.specs.declared.history.Start.{Start}
 use Rattle.r6_health.specs.declared.history.Stage.TheVariants.{Begun}
 use Rattle.r6_health.specs.declared.history.View.{View}
-use Rattle.r6_health.specs.declared.register.Register.{Register}
-use Rattle.r6_health.specs.declared.pass.Pass.{Pass}
-use Rattle.r6_health.specs.Passes.{IsPassOf, view_of}
 use Rattle.r6_health.specs.Words.{snapshot_of, turn_of, last_call}
 use Rattle.r6_health.specs.Histories.{made, entry, answer_in, held, held_after, IsLegal, IsLegalAfter, StartsWith}
 use Rattle.r6_health.specs.Views.{IsGeneration, Grows, Looks, Extends, Misses, Refused, Answered, Attached, made_by, attached_by}
@@ -37,6 +35,10 @@ looked v w words told = ⊎_elim
 
 ok_same : (result : Result Answer Refusal) (reply reply' : Answer) → result ≡ Ok reply → result ≡ Ok reply' → reply ≡ reply'
 ok_same result reply reply' e f = cc
+
+-- the call that makes the words is the one that they name
+pub follows_named : (s : Start) (words : List ℕ) (call : Call) (reply : Answer) (next : List ℕ) → Follows s words call reply next → Follows s words (last_call next) reply next
+follows_named s words call reply next step = subst (λ (c : Call). Follows s words c reply next) (sym step.names) step
 
 -- a step that writes a new turn is the call that the words name
 pub called : (v w : View) (before current new : List ℕ) (call : Call) (reply : Answer) → before ≡ current → Follows v.start current call reply new
@@ -78,13 +80,6 @@ extends-after v u w call reply a b = record {
   heard = b.heard ∙ a.heard;
   told = b.told;
 }
-
--- a pass stays one of its register's
-pub pass_kept : (r : Register) (p q : Pass) → IsPassOf r p → q.seat.table_id ≡ p.seat.table_id → Grows (view_of p) (view_of q) → IsPassOf r q
-pass_kept r p q own same grows = record { same_cell = same ∙ own.same_cell; begun = grows.begun; same_start = grows.same_start ∙ own.same_start }
-
-pub pass_kept_called : (r : Register) (p q : Pass) (call : Call) (reply : Answer) → IsPassOf r p → q.seat.table_id ≡ p.seat.table_id → Extends (view_of p) call reply (view_of q) → IsPassOf r q
-pass_kept_called r p q call reply own same made = record { same_cell = same ∙ own.same_cell; begun = made.begun; same_start = made.same_start ∙ own.same_start }
 
 -- what was missed since a later view was missed since an earlier one
 pub misses_after : (v u w : View) (call : Call) → Grows v u → Misses u call w → Misses v call w

@@ -6,6 +6,7 @@
 #![tactic(auto)]
 
 pub mod call;
+mod cell;
 pub mod history;
 pub mod laws;
 mod object;

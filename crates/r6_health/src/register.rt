@@ -6,21 +6,17 @@
 ghost use Rattle.std.specs.Prelude.{◌≡◌, ◌≤◌, ◌<◌, ◌^◌, count_ones, IfOk, ◌++◌};
 
 use crate::call::{Answer, Call};
-use crate::history::View;
+use crate::cell::{self, Cell};
 use crate::pass::Pass;
 use crate::refusal::{Refusal, RegisterError};
-use crate::rule::{Beginning, Called, InOneHistory, Told};
 use crate::snapshot::Snapshot;
 use crate::words::{WORDS, next_turn, pack, unpack};
-use crossbeam_utils::atomic::seq_cell::RuledSeqCell;
 use r6_layout::Geometry;
-use std::alloc::{AllocError, Global};
+use std::alloc::Global;
 use std::sync::Wait;
 
 /// How often a call is tried.
 const MOST_TRIES: usize = 64;
-
-type Cell = RuledSeqCell<[u64; WORDS], View, InOneHistory, WORDS>;
 
 /// Which slots are in sync, lost or rebuilding, for all threads.
 #[derive(Drop)]
@@ -36,8 +32,7 @@ pub struct Register {
 impl Register {
     ghost use Rattle.r6_health.specs.Histories.{start_losing, held, StartsWith};
     ghost use Rattle.r6_health.specs.Views.{newcomer, first_of, joined, Looks, Attached, attached_by};
-    ghost use Rattle.r6_health.specs.Rule.{Tried, Follows, Steps, Exchanged, start_in};
-    ghost use Rattle.r6_health.specs.Words.{snapshot_of, last_call};
+    ghost use Rattle.r6_health.specs.Rule.{Tried, Steps};
     ghost use Rattle.r6_health.specs.Passes.{IsPassOf, Tells, Adds, view_of, start_of};
 
     /// Makes a register at whose start the slots are lost whose bits are set, and its first pass.
@@ -57,7 +52,7 @@ impl Register {
         let shards = geometry.shards();
         let snapshot = Snapshot::start(geometry, lost);
         let words = pack(slots, shards, &snapshot, Call::Fail(0), 0);
-        let (cell, pass) = Register::begin(rt, alloc, words)?;
+        let (cell, pass) = cell::begin(rt, alloc, words)?;
         let register = Register {
             cell,
             slots,
@@ -65,20 +60,6 @@ impl Register {
             lost,
         };
         Ok((register, pass))
-    }
-
-    // A cell that begins with these words, and its first pass.
-    fn begin<R: Wait>(
-        rt: &R,
-        alloc: Global,
-        words: [u64; WORDS],
-    ) -> Result<(Cell, Pass), AllocError>
-        ensures cell { IfOk result (λ r. r.1.seat.table_id ≡ r.0.table.shared.table_id) }
-        ensures first { IfOk result (λ r. view_of r.1 ≡ first_of (start_in words)) }
-    {
-        let (cell, mut seat) = Cell::ruled(alloc, [0; WORDS])?;
-        cell.swap_as::<Beginning, R>(rt, &mut seat, words);
-        Ok((cell, Pass { seat }))
     }
 
     /// A pass for another thread. It has seen as much, and has made no call.
@@ -89,19 +70,17 @@ impl Register {
         ensures new { IsPassOf self.now result }
         ensures newcomer { view_of result ≡ newcomer (view_of pass.old) }
     {
-        let seat = self.cell.split_pass::<Told>(&mut pass.seat);
-        Pass { seat }
+        cell::split(&self.cell, pass)
     }
 
     /// Takes a pass back. What it had seen is in each history that is read from then on.
-    pub fn join(&self, pass: &mut Pass, mut other: Pass)
+    pub fn join(&self, pass: &mut Pass, other: Pass)
         requires pass { IsPassOf self.now pass.old }
         requires other { IsPassOf self.now other }
         ensures pass { IsPassOf self.now pass.new }
         ensures joined { view_of pass.new ≡ joined (view_of pass.old) (view_of other) }
     {
-        let told = self.cell.split_pass::<Told>(&mut other.seat);
-        self.cell.join_pass::<Told>(&mut pass.seat, told);
+        cell::join(&self.cell, pass, other);
     }
 
     /// What the register holds. It is one load, which is never refused.
@@ -111,16 +90,7 @@ impl Register {
         ensures looks { Looks (view_of pass.old) (view_of pass.new) }
         ensures snapshot { result ≡ held (view_of pass.new).start (view_of pass.new).seen }
     {
-        unpack(&self.load(rt, pass))
-    }
-
-    fn load<R: Wait>(&self, rt: &R, pass: &mut Pass) -> [u64; WORDS]
-        requires { IsPassOf self.now pass.old }
-        ensures pass { IsPassOf self.now pass.new }
-        ensures looks { Looks (view_of pass.old) (view_of pass.new) }
-        ensures words { held (view_of pass.new).start (view_of pass.new).seen ≡ snapshot_of result }
-    {
-        self.cell.load_as::<Called, R>(rt, &mut pass.seat)
+        unpack(&cell::load(&self.cell, rt, pass))
     }
 
     // The words that a call makes of these, and its answer.
@@ -130,29 +100,6 @@ impl Register {
         let (answer, next) = unpack(words).apply(self.slots, self.shards, call)?;
         let turn = next_turn(words);
         Ok((answer, pack(self.slots, self.shards, &next, call, turn)))
-    }
-
-    // Exchanges the words that were loaded for the next ones. `None`: another thread's call came between.
-    fn exchange<R: Wait>(
-        &self,
-        rt: &R,
-        pass: &mut Pass,
-        loaded: [u64; WORDS],
-        next: (Answer, [u64; WORDS]),
-    ) -> Option<Answer>
-        requires pass { IsPassOf self.now pass.old }
-        requires step { Follows (start_of self.now) loaded (last_call next.1) next.0 next.1 }
-        ensures pass { IsPassOf self.now pass.new }
-        ensures exchanged { Exchanged (view_of pass.old) (last_call next.1) result (view_of pass.new) }
-    {
-        let (answer, words) = next;
-        match self
-            .cell
-            .compare_exchange_as::<Called, R>(rt, &mut pass.seat, loaded, words)
-        {
-            Ok(_) => Some(answer),
-            Err(_) => None,
-        }
     }
 
     // Loads, computes and exchanges once. `None`: another thread's call came between.
@@ -166,9 +113,9 @@ impl Register {
         ensures pass { IsPassOf self.now pass.new }
         ensures tried { Tried (view_of pass.old) call result (view_of pass.new) }
     {
-        let words = self.load(rt, pass);
+        let words = cell::load(&self.cell, rt, pass);
         let next = self.next(&words, call)?;
-        Ok(self.exchange(rt, pass, words, next))
+        Ok(cell::exchange(&self.cell, rt, pass, words, next))
     }
 
     fn make<R: Wait>(&self, rt: &R, pass: &mut Pass, call: Call) -> Result<Answer, Refusal>

@@ -3,7 +3,7 @@ use Rattle.crossbeam_utils.specs.Register.{Turns}
 use Rattle.r6_health.specs.declared.history.View.{View}
 use Rattle.r6_health.specs.Rule.{Kept, Begins}
 use Rattle.r6_health.proofs.Keeps.{starts}
-use Rattle.r6_health.proofs.register.Register.begin.Goals as goal
+use Rattle.r6_health.proofs.cell.begin.Goals as goal
 
 pub swap_as-requires : goal.swap_as-requires
 swap_as-requires g c =
