@@ -30,7 +30,7 @@ impl State {
             Ok(buffer) => buffer.len(),
             Err(fault) => fault.buffer.len(),
         };
-        if len != self.frames.geometry.block() {
+        if len != self.frames.geometry().block() {
             return Some(Refusal::WrongLength);
         }
         None

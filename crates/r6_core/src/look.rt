@@ -16,7 +16,7 @@ ghost use Rattle.r6_core.specs.Inside.{IsSound, IsCore, SameFrames, SameCalls, N
 use crate::refusal::Refusal;
 use crate::state::State;
 use circular_buffer::HeapCircularBuffer;
-use r6_frames::{Device, Request};
+use r6_frames::{Device, FRAMES, Request};
 use r6_health::{SlotState, Snapshot};
 use std::mem;
 
@@ -43,7 +43,7 @@ impl State {
             self.see_failure();
             return Ok(());
         }
-        if self.frames.saw_failed {
+        if self.frames.saw_failed() {
             return Ok(());
         }
         if went_out {
@@ -72,8 +72,8 @@ impl State {
         ensures waiting { self.new.waiting ≡ self.old.waiting }
     {
         let mut went_out = false;
-        for slot in 0..self.frames.geometry.slots() {
-            if let Some(device) = renewed(self.frames.slots[slot].device, snapshot.slot(slot)) {
+        for slot in 0..self.frames.geometry().slots() {
+            if let Some(device) = renewed(self.frames.device(slot), snapshot.slot(slot)) {
                 self.frames.take_out(slot, device);
                 went_out = true;
             }
@@ -109,7 +109,7 @@ impl State {
                 unreachable!()
             };
         }
-        for frame in 0..self.frames.held.len() {
+        for frame in 0..FRAMES {
             if let Some(request) = self.frames.give_up(frame) {
                 let Ok(()) = self.waiting.try_push_back(request) else {
                     unreachable!()

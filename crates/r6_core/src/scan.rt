@@ -69,7 +69,7 @@ impl State {
         ensures { MatchOption result (CannotStart self.now.frames request.now) (CanStart self.now.frames request.now) }
     {
         let frame = self.frames.free_frame()?;
-        let place = self.frames.geometry.place(request.op.block())?;
+        let place = self.frames.geometry().place(request.op.block())?;
         if self.frames.is_held(place.row) {
             return None;
         }

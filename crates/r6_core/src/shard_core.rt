@@ -166,10 +166,10 @@ impl Core {
     pub fn in_sync(&self, slot: usize) -> Option<u32>
         ensures { result ≡ (if nat_lt slot self.now.shape.slots then synced ((world_shard self.now).slot slot) else None) }
     {
-        if slot >= self.state.frames.geometry.slots() {
+        if slot >= self.state.frames.geometry().slots() {
             return None;
         }
-        match self.state.frames.slots[slot].device {
+        match self.state.frames.device(slot) {
             Device::Synced(generation) => Some(generation),
             _ => None,
         }

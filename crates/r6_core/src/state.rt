@@ -83,16 +83,16 @@ impl State {
             (HasNone (HasSubmitFault (core_of self.now) op.now) submit_faults)
             (IsFirstFault (HasSubmitFault (core_of self.now) op.now) submit_faults) }
     {
-        let Some(place) = self.frames.geometry.place(op.block()) else {
+        let Some(place) = self.frames.geometry().place(op.block()) else {
             return Some(Refusal::NoSuchBlock);
         };
-        if place.shard != self.frames.shard {
+        if place.shard != self.frames.shard() {
             return Some(Refusal::WrongShard);
         }
-        if op.buffer().len() != self.frames.geometry.block() {
+        if op.buffer().len() != self.frames.geometry().block() {
             return Some(Refusal::WrongLength);
         }
-        if self.frames.saw_failed {
+        if self.frames.saw_failed() {
             return Some(Refusal::ArrayFailed);
         }
         if self.frames.tokens() >= LIMIT || self.accepted >= LIMIT {
@@ -206,7 +206,7 @@ impl State {
         ensures waiting { self.new.waiting ≡ self.old.waiting }
         ensures same { SameCalls self.old self.new }
     {
-        if !self.frames.saw_failed {
+        if !self.frames.saw_failed() {
             return None;
         }
         let request = self.finished.pop_front()?;

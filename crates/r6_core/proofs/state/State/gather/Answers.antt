@@ -47,7 +47,6 @@ loop-frame-preserved c =
     let inv = c.loop-frame.invariant in
     let fs = c.give_up.new.self in
     let left = c.give_up.ensures in
-    let start = c.loop-request.invariant.frames.frames.count in
     elim c.match-give_up.branch [
       | in-Some-give_up+in-Ok-try_push_back w ↦
           let gives = w.in-Some-give_up.ensures.gives in
@@ -59,7 +58,6 @@ loop-frame-preserved c =
           record {
             gathering = subst (λ (x : State). IsGathering s x (count + 1)) (sym w.self-is) is;
             none_finished = ap (λ (x : State). x.finished.items) w.self-is ∙ inv.none_finished;
-            same_length = ap (λ (x : State). length x.frames.held.items) w.self-is ∙ left.sound.frames.count ∙ sym start;
           }
       | in_default-give_up w ↦
           let gives = w.in_default-give_up.ensures.gives in
@@ -68,13 +66,11 @@ loop-frame-preserved c =
           record {
             gathering = subst (λ (x : State). IsGathering s x (count + 1)) (sym stays) is;
             none_finished = ap (λ (x : State). x.finished.items) stays ∙ inv.none_finished;
-            same_length = ap (λ (x : State). length x.frames.held.items) stays ∙ inv.same_length;
           }
     ]
 
 pub returns : goal.returns
 returns c =
     let inv = c.loop-frame.invariant in
-    let same = inv.same_length in
-    let past : length c.loop-frame.self.frames.held.items ≤ c.loop-frame.frame = omega (arith, c.len-frame-end.ensures, c.loop-frame-test.false, same) in
+    let past : length c.loop-frame.self.frames.held.items ≤ c.loop-frame.frame = omega (arith, inv.gathering.frames.frames.count, c.loop-frame-test.false) in
     record { gathers = gathered c.args.self.now c.loop-frame.self c.loop-frame.frame inv.gathering past inv.none_finished }

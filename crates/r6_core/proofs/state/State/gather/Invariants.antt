@@ -13,5 +13,4 @@ invariant-loop-frame l =
     record {
       gathering : IsGathering l.fn.self l.self l.frame;
       none_finished : l.self.finished.items ≡ [];
-      same_length : length l.self.frames.held.items ≡ length l.initial.self.frames.held.items;
     }

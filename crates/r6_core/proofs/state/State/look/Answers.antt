@@ -37,23 +37,23 @@ returns-then-failed-clause-step c =
     (record { told = told_of s (sym c.is_empty.ensures ∙ c.if-not-is_empty.false) (sym c.is_some.ensures ∙ c.if-is_some.false); takes = adopt.takes; slots = adopt.slots; same = adopt.same; order = adopt.order; waiting = adopt.waiting })
     (sym c.failed.ensures ∙ c.if-failed.true) fails.same fails.fails
 
-pub returns-then-self-clause-step : goal.returns-then-self-clause-step
-returns-then-self-clause-step c =
+pub returns-then-saw_failed-clause-step : goal.returns-then-saw_failed-clause-step
+returns-then-saw_failed-clause-step c =
     let s = c.args.self.now in
     let adopt = c.adopt-went_out.ensures in
     let mid = c.adopt-went_out.new.self in
     looked_stopped c.args.self.now mid c.args.snapshot.now
     (record { told = told_of s (sym c.is_empty.ensures ∙ c.if-not-is_empty.false) (sym c.is_some.ensures ∙ c.if-is_some.false); takes = adopt.takes; slots = adopt.slots; same = adopt.same; order = adopt.order; waiting = adopt.waiting })
-    (sym c.failed.ensures ∙ c.if-failed.false) c.if-self.true
+    (sym c.failed.ensures ∙ c.if-failed.false) (sym c.saw_failed.ensures ∙ c.if-saw_failed.true)
 
-pub returns-then-self-clause-order : goal.returns-then-self-clause-order
-returns-then-self-clause-order c =
+pub returns-then-saw_failed-clause-order : goal.returns-then-saw_failed-clause-order
+returns-then-saw_failed-clause-order c =
     let adopt = c.adopt-went_out.ensures in
     let unfailed = sym c.failed.ensures ∙ c.if-failed.false in
     let s = c.args.self.now in
     let mid = c.adopt-went_out.new.self in
     let kept : mid.frames.saw_failed ≡ s.frames.saw_failed = failed_by-takes_over c.args.snapshot.now (layout_in s) s.frames.shard (state_of s) (state_of mid) adopt.takes in
-    (λ failed. absurd (no_both _ failed unfailed), λ e was. absurd (no_both _ (sym kept ∙ c.if-self.true) was), λ e was. adopt.order)
+    (λ failed. absurd (no_both _ failed unfailed), λ e was. absurd (no_both _ (sym kept ∙ (sym c.saw_failed.ensures ∙ c.if-saw_failed.true)) was), λ e was. adopt.order)
 
 pub release-requires-clause-unfailed : goal.release-requires-clause-unfailed
 release-requires-clause-unfailed c =
@@ -61,8 +61,8 @@ release-requires-clause-unfailed c =
       | then-went_out w ↦
           let mid = c.adopt-went_out.new.self in
           let kept : w.settle.new.self.frames.saw_failed ≡ mid.frames.saw_failed = failed_by-goes_on (layout_in mid) mid.frames.shard (state_of mid) (state_of w.settle.new.self) w.settle.ensures.leads in
-          ap (λ (x : State). x.frames.saw_failed) w.self-is ∙ kept ∙ c.if-self.false
-      | else-went_out w ↦ ap (λ (x : State). x.frames.saw_failed) w.self-is ∙ c.if-self.false
+          ap (λ (x : State). x.frames.saw_failed) w.self-is ∙ kept ∙ (sym c.saw_failed.ensures ∙ c.if-saw_failed.false)
+      | else-went_out w ↦ ap (λ (x : State). x.frames.saw_failed) w.self-is ∙ (sym c.saw_failed.ensures ∙ c.if-saw_failed.false)
     ]
 
 pub returns-clause-step : goal.returns-clause-step
@@ -100,16 +100,16 @@ returns-clause-order c =
           (settled_some s mid w.settle.new.self seen (adopt.some w.if-went_out.true) settle.core settle.leads settle.same settle.order settle.unanswered settle.waiting)
       | else-went_out w ↦ subst (λ (x : State). HasSettled s mid x seen) (sym w.self-is) (settled_none s mid seen (adopt.none w.if-went_out.false).0 c.requires)
     ] in
-    (λ failed. absurd (no_both _ failed unfailed), λ e was. looked_releases s mid c.if-went_out.self c.release.new.self c.scan.new.self seen adopt.order done c.release.ensures.order c.scan.ensures.replies.0, λ e was. absurd (no_both _ was (sym kept ∙ c.if-self.false)))
+    (λ failed. absurd (no_both _ failed unfailed), λ e was. looked_releases s mid c.if-went_out.self c.release.new.self c.scan.new.self seen adopt.order done c.release.ensures.order c.scan.ensures.replies.0, λ e was. absurd (no_both _ was (sym kept ∙ (sym c.saw_failed.ensures ∙ c.if-saw_failed.false))))
 
-pub returns-then-self-clause-turns : goal.returns-then-self-clause-turns
-returns-then-self-clause-turns c =
+pub returns-then-saw_failed-clause-turns : goal.returns-then-saw_failed-clause-turns
+returns-then-saw_failed-clause-turns c =
     let adopt = c.adopt-went_out.ensures in
     let s = c.args.self.now in
     let mid = c.adopt-went_out.new.self in
     stopped_turns s mid c.args.snapshot.now
     (record { told = told_of s (sym c.is_empty.ensures ∙ c.if-not-is_empty.false) (sym c.is_some.ensures ∙ c.if-is_some.false); takes = adopt.takes; slots = adopt.slots; same = adopt.same; order = adopt.order; waiting = adopt.waiting })
-    c.if-self.true (stays s mid c.args.snapshot.now c.adopt-went_out.result adopt.some adopt.none)
+    (sym c.saw_failed.ensures ∙ c.if-saw_failed.true) (stays s mid c.args.snapshot.now c.adopt-went_out.result adopt.some adopt.none)
 
 pub returns-clause-turns : goal.returns-clause-turns
 returns-clause-turns c =

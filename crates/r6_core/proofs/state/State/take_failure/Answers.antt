@@ -12,9 +12,9 @@ use Rattle.r6_core.proofs.Replies.{some_popped, none_popped, unpopped, no_reply,
 use Rattle.r6_core.proofs.state.State.take_failure.Goals as goal
 
 -- src/state.rt:187:13
-pub returns-then-not-self-clause-step : goal.returns-then-not-self-clause-step
-returns-then-not-self-clause-step c =
-    let not = c.if-not-self.true in
+pub returns-then-not-saw_failed-clause-step : goal.returns-then-not-saw_failed-clause-step
+returns-then-not-saw_failed-clause-step c =
+    let not = sym c.saw_failed.ensures ∙ c.if-not-saw_failed.true in
     no_reply c.args.self.now (c.requires.last, λ failed. absurd (cc))
 
 -- src/state.rt:189:23
@@ -34,20 +34,20 @@ is_first c =
 -- src/state.rt:175:5
 pub returns-clause-core : goal.returns-clause-core
 returns-clause-core c =
-    failed_core c.args.self.now c.in_ok-request.request c.pop_front.new.self c.if-not-self.false c.requires.last (is_first c) c.requires.core (ap (λ (b : Buffer Request). b.capacity) c.pop_front.ensures.items)
+    failed_core c.args.self.now c.in_ok-request.request c.pop_front.new.self (sym c.saw_failed.ensures ∙ c.if-not-saw_failed.false) c.requires.last (is_first c) c.requires.core (ap (λ (b : Buffer Request). b.capacity) c.pop_front.ensures.items)
 
 -- src/state.rt:175:5
 pub returns-clause-step : goal.returns-clause-step
 returns-clause-step c =
     let s = c.args.self.now in
-    let step = failed_step s c.in_ok-request.request c.pop_front.new.self c.if-not-self.false c.requires.last (is_first c) c.requires.core.sound in
+    let step = failed_step s c.in_ok-request.request c.pop_front.new.self (sym c.saw_failed.ensures ∙ c.if-not-saw_failed.false) c.requires.last (is_first c) c.requires.core.sound in
     rw (c.failed.ensures.0, ap reply_of c.failed.ensures.1) step
 
 -- src/state.rt:175:5
 pub returns-clause-buffer : goal.returns-clause-buffer
 returns-clause-buffer c =
     let s = c.args.self.now in
-    let was = failed_request s c.in_ok-request.request c.pop_front.new.self c.if-not-self.false c.requires.last (is_first c) c.requires.core.sound in
+    let was = failed_request s c.in_ok-request.request c.pop_front.new.self (sym c.saw_failed.ensures ∙ c.if-not-saw_failed.false) c.requires.last (is_first c) c.requires.core.sound in
     let s_table = table (requests_of s) in
     let brings = brings_failure (s_table c.in_ok-request.request.id) c.in_ok-request.request.op (Released ArrayFailed) was in
     subst (λ (id : ℕ). BringsBack (s_table id) c.failed.result.1) (sym c.failed.ensures.0)
@@ -57,4 +57,4 @@ pub returns-clause-sized : goal.returns-clause-sized
 returns-clause-sized c =
     let s = c.args.self.now in
     ap length (ap buffer_back c.failed.ensures.1)
-    ∙ (failed_sized s c.in_ok-request.request c.pop_front.new.self c.if-not-self.false c.requires.last (is_first c) c.requires.core.sound.requests.sized).0
+    ∙ (failed_sized s c.in_ok-request.request c.pop_front.new.self (sym c.saw_failed.ensures ∙ c.if-not-saw_failed.false) c.requires.last (is_first c) c.requires.core.sound.requests.sized).0
