@@ -26,7 +26,7 @@ use Rattle.r6_frames.specs.Calls.{IsRequestOf}
 use Rattle.r6_frames.specs.Owed.{owed, owed_by, owed_in, is_unsent}
 use Rattle.r6_core.specs.Shards.{state_of, layout_in, requests_of, waiting_request, finished_request, released_request, core_of}
 use Rattle.r6_core.specs.Refusals.{limit, most_unanswered, HasSubmitFault, HasNone, submit_faults}
-use Rattle.r6_core.specs.Inside.{IsSound, IsCore, AreRequests, bound}
+use Rattle.r6_core.specs.Inside.{IsSound, IsSettled, AreRequests, bound}
 use Rattle.r6_core.proofs.Passed.{all-append}
 use Rattle.r6_frames.proofs.Lists.{Entries, table, came, none_of, distinct_with, all_with}
 
@@ -118,8 +118,8 @@ request_of s o right sized id =
       sized = elim (cases_eq (length (buffer_of o)) s.frames.geometry.block) [ inl e ↦ record { length_is = e; bytes = sized.bytes } | inr ne ↦ absurd (right.1.1.0 ne) ];
     }
 
-pub accepted_core : (s : State) (o : Op) → IsCore s → HasNone (HasSubmitFault (core_of s) o) submit_faults → IsBlock (length (buffer_of o)) (buffer_of o)
-    → IsCore (with_request s (record { id = s.accepted; op = o }))
+pub accepted_core : (s : State) (o : Op) → IsSettled s → HasNone (HasSubmitFault (core_of s) o) submit_faults → IsBlock (length (buffer_of o)) (buffer_of o)
+    → IsSettled (with_request s (record { id = s.accepted; op = o }))
 accepted_core s o core right sized =
     let sound = core.sound in
     let r : Entered = record { id = s.accepted; op = o } in

@@ -1,17 +1,23 @@
 -- A command is answered: its hold goes on, and may end.
-use Rattle.std.proofs.Common.{◌≡◌, ℕ, ◌+◌, ◌≤◌, List, refl, sym, ap, subst, ◌∙◌, Some, None, inl, inr, arith}
+use Rattle.std.proofs.Common.{◌≡◌, ◌⊎◌, ℕ, ◌+◌, ◌≤◌, List, refl, sym, ap, subst, ◌∙◌, Some, None, inl, inr, arith}
+use Rattle.std.specs.List.{AllByRecursion}
 use Rattle.std.proofs.lemmas.Bool.{cases_eq, cases_lt}
+use Rattle.circular_buffer.specs.Buffer.{Buffer}
 use Rattle.r6_tables.specs.Table.{next_of}
 use Rattle.r6_world.specs.ShardStates.{Shard}
 use Rattle.r6_world.specs.Steps.{GoesOn, Through, Good, Taken}
+use Rattle.r6_frames.specs.declared.op.Request.{Request}
 use Rattle.r6_frames.specs.declared.frames.Frames.{Frames}
 use Rattle.r6_frames.specs.Views.{row_in, hold_at, held_requests, outstanding, AreLive}
-use Rattle.r6_frames.specs.Calls.{Answers, Drives, IsAwaited, KeepsOthers}
+use Rattle.r6_frames.specs.Calls.{Answers, Drives, IsAwaited, IsHeldFrame, KeepsOthers}
 use Rattle.r6_frames.specs.Owed.{owed, IsDriven, IsOver}
 use Rattle.r6_frames.specs.Sound as held
 use Rattle.r6_core.specs.declared.state.State.{State}
 use Rattle.r6_core.specs.Shards.{state_of, rest_of, layout_in}
-use Rattle.r6_core.specs.Inside.{IsSound, IsCore, IsRestedFrame, TakesThrough}
+use Rattle.r6_core.specs.declared.scan.Freed.{Freed}
+use Rattle.r6_core.specs.declared.scan.Freed.TheVariants.{Nothing, OneFrame}
+use Rattle.r6_core.specs.Inside.{CannotStart, HasFreed, NoneCanStart, IsSound, IsSettled, IsRestedFrame, SameFrames, TakesThrough}
+use Rattle.r6_core.proofs.Waking.{none_more, row_stays}
 use Rattle.r6_core.proofs.Throughs.{through_both, through_in}
 use Rattle.r6_core.proofs.Going.{Goes, SlotsStay, goes_still, answers_still, gone_state, gone_sound}
 use Rattle.r6_core.proofs.SlotsKept.{out_same}
@@ -47,7 +53,7 @@ answered_goes s fs token block sound frames answers requests tokens =
     goes_still s fs sound frames answers.0 answers.1 (answers_still s.frames fs token block answers) requests (let a = tokens.0 in let b = tokens.1 in omega (arith, a, b))
 
 -- the command is answered, and its hold puts out what comes next
-module _ (s : State) (token : ℕ) (block : List ℕ) (middle driven : Frames) (core : IsCore s) (sound : held.IsSound middle) (live : AreLive middle) (answers : Answers s.frames token block middle)
+module _ (s : State) (token : ℕ) (block : List ℕ) (middle driven : Frames) (core : IsSettled s) (sound : held.IsSound middle) (live : AreLive middle) (answers : Answers s.frames token block middle)
     (requests : held_requests middle ≡ held_requests s.frames) (tokens : (owed middle ≡ owed s.frames) × (next_of middle.commands ≡ next_of s.frames.commands))
     (driven_sound : held.IsSound driven) (driven_live : AreLive driven) (drives : Drives middle driven) (driven_requests : held_requests driven ≡ held_requests middle)
     (driven_tokens : next_of driven.commands + owed driven ≤ next_of middle.commands + owed middle) where
@@ -79,7 +85,7 @@ module _ (s : State) (token : ℕ) (block : List ℕ) (middle driven : Frames) (
       (took.0, took.1, took.2, subst (λ (x : Shard). Through (layout_in s) s.frames.shard GoesOn x (state_of new)) (gone_state s middle s.calls first_goes ∙ took.3) both)
 
   pub answered_core : (new : State) (frame : ℕ) → KeepsOthers s.frames frame middle → KeepsOthers middle frame driven → KeepsOthers driven frame new.frames
-      → IsSound new → IsRestedFrame new frame → IsCore new
+      → IsSound new → IsRestedFrame new frame → IsSettled new
   answered_core new frame kept still others new_sound rests =
       record {
         sound = new_sound;
@@ -90,3 +96,34 @@ module _ (s : State) (token : ℕ) (block : List ℕ) (middle driven : Frames) (
               (core.rested (live_still s.frames middle answers.0 (answers_still s.frames middle token block answers) live) at)
         ];
       }
+
+  -- if but the frame's hold has ended, one request at most can start, and if it hasn't none can
+  pub answered_freed : (new : State) (frame : ℕ) (freed : Freed) → KeepsOthers s.frames frame middle → KeepsOthers middle frame driven → KeepsOthers driven frame new.frames
+      → NoneCanStart s → IsHeldFrame driven frame → new.waiting ≡ s.waiting → SameFrames driven_state new
+      → (freed ≡ OneFrame) ⊎ ((freed ≡ Nothing) × (new ≡ driven_state)) → HasFreed freed new
+  answered_freed new frame freed kept still others waits held waiting same by =
+      let shape : driven.geometry ≡ s.frames.geometry = drives.0 ∙ answers.0 in
+      let lives : AreLive s.frames = live_still s.frames middle answers.0 (answers_still s.frames middle token block answers) live in
+      elim by [
+        | inl one ↦
+            subst (λ f. HasFreed f new) (sym one) (
+              s.frames,
+              frame,
+              same.0 ∙ shape,
+              (λ alive. lives),
+              (λ other ne. others other ne ∙ still other ne ∙ kept other ne),
+              subst (λ (b : Buffer Request). AllByRecursion (CannotStart s.frames) b.items) (sym waiting) waits,
+            )
+        | inr none ↦
+            subst (λ f. HasFreed f new) (sym none.0)
+            (subst NoneCanStart (sym none.1)
+            (none_more s.frames driven s.waiting.items shape (λ alive. lives)
+            (λ row unheld at h is at_row.
+            let there = row_stays s.frames driven at h core.sound.frames driven_sound shape (driven_requests ∙ requests) is in
+            unheld at there.0 there.1 (there.2 ∙ at_row))
+            (λ at free. elim (cases_eq at frame) [
+              | inl e ↦ absurd (let is = ap (hold_at driven.held.items) e in let none : None ≡ Some held.0 = sym (ap row_in free.1) ∙ is ∙ held.1 in cc)
+              | inr ne ↦ (free.0, sym (still at ne ∙ kept at ne) ∙ free.1)
+            ])
+            waits))
+      ]

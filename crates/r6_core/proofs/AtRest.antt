@@ -14,7 +14,7 @@ use Rattle.r6_frames.specs.Views.{op_of, hold_of, requests_from}
 use Rattle.r6_frames.specs.Calls.{NotHeldBy}
 use Rattle.r6_core.specs.Shards.{state_of, rest_of, layout_in, waiting_request, finished_request, released_request}
 use Rattle.r6_core.specs.Order.{MustWait}
-use Rattle.r6_core.specs.Inside.{CannotStart, IsCore, NoneCanStart}
+use Rattle.r6_core.specs.Inside.{CannotStart, IsCore, IsSettled}
 use Rattle.r6_frames.proofs.Lists.{Entries, table, looked_up}
 use Rattle.r6_frames.proofs.Resting.{goes_on, nothing_next, brought_in, free_frame_is}
 
@@ -67,22 +67,22 @@ not_held_by : (s : State) (row : ℕ) → NotHeld (state_of s) row → NotHeldBy
 not_held_by s row not_held frame h is at = not_held frame (hold_of h) (ap (option_map hold_of) is) at
 
 -- what can't start in the frames of the code can't start in the shard
-pub must_wait : (s : State) → IsCore s → (r : Entered) → CannotStart s.frames r → MustWait (layout_in s) (state_of s) r
+pub must_wait : (s : State) → IsSettled s → (r : Entered) → CannotStart s.frames r → MustWait (layout_in s) (state_of s) r
 must_wait s core r cannot live not_held frame free =
     cannot live (not_held_by s _ not_held) frame (free_frame_is (rest_of s) s.frames frame core.sound.frames live free)
 
 -- ---- at rest
 
-pub at_rest : (s : State) → IsCore s → NoneCanStart s → AtRest (layout_in s) s.frames.shard (state_of s)
-at_rest s core none =
+pub at_rest : (s : State) → IsCore s → AtRest (layout_in s) s.frames.shard (state_of s)
+at_rest s core =
     record {
-      goes_on = λ live frame h is. goes_on (rest_of s) s.frames core.sound.frames live frame h (core.rested live frame).0 (core.rested live frame).1 is;
-      nothing_next = λ live frame h is. nothing_next s.frames frame h (core.rested live frame).0 is;
+      goes_on = λ live frame h is. goes_on (rest_of s) s.frames core.settled.sound.frames live frame h (core.settled.rested live frame).0 (core.settled.rested live frame).1 is;
+      nothing_next = λ live frame h is. nothing_next s.frames frame h (core.settled.rested live frame).0 is;
       none_could_start = λ live id op is free_row frame free.
           let rest : Entries Request = requests_from 0 s.frames.held.items ++ (map (finished_request s.frames.saw_failed) s.finished.items ++ map released_request s.released.items) in
           let past = held_past 0 s.frames.held.items _ (finished_past s.frames.saw_failed s.finished.items _ (released_past s.released.items)) in
-          let there = waits_at (CannotStart s.frames) s.waiting.items rest id op past none is in
+          let there = waits_at (CannotStart s.frames) s.waiting.items rest id op past core.waits is in
           let row = ap (λ o. layout.row_of s.frames.geometry (world.block_of o)) there.2 in
-          there.1 live (not_held_by s _ (λ f h held at. free_row f h held (at ∙ sym row))) frame (free_frame_is (rest_of s) s.frames frame core.sound.frames live free);
-      brought_in = λ live slot built. brought_in (rest_of s) s.frames core.sound.frames slot built;
+          there.1 live (not_held_by s _ (λ f h held at. free_row f h held (at ∙ sym row))) frame (free_frame_is (rest_of s) s.frames frame core.settled.sound.frames live free);
+      brought_in = λ live slot built. brought_in (rest_of s) s.frames core.settled.sound.frames slot built;
     }

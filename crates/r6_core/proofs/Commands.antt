@@ -12,16 +12,17 @@ use Rattle.r6_world.specs.Steps.{Take_command, No_command}
 use Rattle.r6_frames.specs.declared.command.Command.{Command}
 use Rattle.r6_frames.specs.declared.frames.Frames.{Frames}
 use Rattle.r6_core.specs.declared.state.State.{State}
-use Rattle.r6_frames.specs.Views.{world_command, held_requests, Rest, shard_with, hold_at, AreLive}
+use Rattle.r6_frames.specs.Views.{world_command, held_requests, Rest, shard_with, hold_at, use_at, AreLive}
 use Rattle.r6_frames.specs.Calls.{Steps, KeepsHolds}
 use Rattle.r6_frames.specs.Owed.{owed_in, IsDriven, IsOver}
 use Rattle.r6_frames.specs.Slots.{count_out}
 use Rattle.r6_frames.specs.Sound as held
 use Rattle.r6_core.specs.Shards.{Step, layout_in, state_of, rest_of, requests_of, waiting_request, finished_request, released_request, core_of}
 use Rattle.r6_core.specs.Effects.{HandsCommand}
-use Rattle.r6_core.specs.Inside.{IsCore, ended_requests}
+use Rattle.r6_core.specs.Inside.{IsCore, IsSettled, ended_requests}
 use Rattle.r6_frames.proofs.Lists.{table}
 use Rattle.r6_core.proofs.Kept.{requests_kept, sizes_kept}
+use Rattle.r6_core.proofs.Waking.{none_more}
 
 -- a frame that has what it had
 pub rested_kept : (old new : Frames) (frame : ℕ) → hold_at new.held.items frame ≡ hold_at old.held.items frame → IsDriven old frame × (IsOver old frame → ⊥) → IsDriven new frame × (IsOver new frame → ⊥)
@@ -42,7 +43,11 @@ same_requests s new holds failed = λ i.
     map waiting_request s.waiting.items
     ++ (held_requests (record new { held = holds i }) ++ (map (finished_request (failed i)) s.finished.items ++ map released_request s.released.items))
 
-taken_core : (s : State) (new : Frames) → IsCore s → IsTaken s.frames new → IsCore (record s { frames = new })
+live_before : (old new : Frames) → IsTaken old new → AreLive new → AreLive old
+live_before old new is live =
+    (subst (λ (shape : Shape). count_out old.slots shape.slots ≤ 2) is.geometry (subst (λ slots. count_out slots new.geometry.slots ≤ 2) is.slots live.0), sym is.saw_failed ∙ live.1)
+
+taken_core : (s : State) (new : Frames) → IsSettled s → IsTaken s.frames new → IsSettled (record s { frames = new })
 taken_core s new core is =
     let sound = core.sound in
     let same = same_requests s new is.holds is.saw_failed in
@@ -72,8 +77,7 @@ taken_core s new core is =
         accepted = sound.accepted;
       };
       rested = λ live frame.
-          let before : AreLive s.frames = (subst (λ (shape : Shape). count_out s.frames.slots shape.slots ≤ 2) is.geometry (subst (λ slots. count_out slots new.geometry.slots ≤ 2) is.slots live.0), sym is.saw_failed ∙ live.1) in
-          rested_kept s.frames new frame (ap (λ held. hold_at held.items frame) is.holds) (core.rested before frame);
+          rested_kept s.frames new frame (ap (λ held. hold_at held.items frame) is.holds) (core.rested (live_before s.frames new is live) frame);
     }
 
 step_of : (s : State) (new : Frames) (event : steps.Event) → KeepsHolds s.frames new → new.saw_failed ≡ s.frames.saw_failed → Steps s.frames event new → Step (core_of s) event (core_of (record s { frames = new }))
@@ -99,7 +103,14 @@ is_taken old new (Some c) sound holds same took =
     record { sound = sound; holds = holds; geometry = stepped.0; shard = stepped.1; tokens = ap (λ (s : Shard). s.tokens) (stepped.2 no_rest).1; slots = same.0; saw_failed = same.1 }
 
 pub taken_rests : (s : State) (new : Frames) (result : Option Command) → IsCore s → held.IsSound new → KeepsHolds s.frames new → SameSlots s.frames new → TakesCommand s.frames result new → IsCore (record s { frames = new })
-taken_rests s new result core sound holds same took = taken_core s new core (is_taken s.frames new result sound holds same took)
+taken_rests s new result core sound holds same took =
+    let is = is_taken s.frames new result sound holds same took in
+    record {
+      settled = taken_core s new core.settled is;
+      waits = none_more s.frames new s.waiting.items is.geometry (live_before s.frames new is)
+          (λ row unheld frame h there. unheld frame h (ap (λ held. hold_at held.items frame) is.holds ∙ there))
+          (λ frame free. (free.0, ap (λ held. use_at held.items frame) (sym is.holds) ∙ free.1)) core.waits;
+    }
 
 pub taken_step : (s : State) (new : Frames) (result : Option Command) → KeepsHolds s.frames new → SameSlots s.frames new → TakesCommand s.frames result new
     → MatchOption result (Step (core_of s) No_command (core_of (record s { frames = new }))) (λ c. HandsCommand (core_of s) c (core_of (record s { frames = new })))

@@ -25,7 +25,7 @@ use Rattle.r6_core.specs.declared.refusal.Receipt.{Receipt}
 use Rattle.r6_core.specs.declared.state.State.{State}
 use Rattle.r6_core.specs.Shards.{Step, completion_of, state_of, rest_of, layout_in, core_of, receipt_of}
 use Rattle.r6_core.specs.Order.{FinishesBy, HaveTurns, HaveTurnsBehind, SameReplies, KeepsFrames}
-use Rattle.r6_core.specs.Inside.{SameFrames, IsCore, Seen, TakesThrough}
+use Rattle.r6_core.specs.Inside.{HasFreedOne, NoneCanStart, SameFrames, IsSettled, Seen, TakesThrough}
 use Rattle.r6_core.proofs.Throughs.{through_in, through_none}
 use Rattle.r6_core.proofs.Scanned.{turns_in}
 use Rattle.r6_core.proofs.Going.{no_rest, Goes, SlotsStay, goes_still, gone_state, gone_sound}
@@ -53,18 +53,22 @@ rested_still old new frame keeps rested = (
 comes_still : (old new : Frames) (token : ℕ) → ComesHome old token new → SlotsStay old new
 comes_still old new token comes = let is = (comes.2 no_rest).3 in (ap (λ (x : Shard). x.slot) is, ap (λ (x : Shard). x.saw_failed) is)
 
-module _ (s : State) (token : ℕ) (fs : Frames) (core : IsCore s) (sound : held.IsSound fs) (comes : ComesHome s.frames token fs)
+module _ (s : State) (token : ℕ) (fs : Frames) (core : IsSettled s) (sound : held.IsSound fs) (comes : ComesHome s.frames token fs)
     (tokens : (owed fs ≡ owed s.frames) × (next_of fs.commands ≡ next_of s.frames.commands)) (requests : held_requests fs ≡ held_requests s.frames) where
   late_goes : Goes s fs s.calls
   late_goes =
       goes_still s fs core.sound sound comes.0 comes.1 (comes_still s.frames fs token comes) requests (let a = tokens.0 in let b = tokens.1 in omega (arith, a, b))
 
-  pub late_core : KeepsHeld s.frames fs → IsCore (record s { frames = fs })
+  pub late_core : KeepsHeld s.frames fs → IsSettled (record s { frames = fs })
   late_core keeps =
       record {
         sound = gone_sound s fs s.calls core.sound late_goes;
         rested = λ live frame. rested_still s.frames fs frame keeps (core.rested (live_still s.frames fs comes.0 (comes_still s.frames fs token comes) live) frame);
       }
+
+  -- but for one frame all is as it was
+  pub late_freed : ((frame : ℕ) × KeepsOthers s.frames frame fs) → NoneCanStart s → HasFreedOne (record s { frames = fs })
+  late_freed others waits = (s.frames, others.0, comes.0, live_still s.frames fs comes.0 (comes_still s.frames fs token comes), others.1, waits)
 
   pub late_takes : (completion : Result (List ℕ) DeviceFault) → TakesThrough s token (completion_of completion) Late (record s { frames = fs })
   late_takes completion =

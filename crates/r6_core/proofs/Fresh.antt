@@ -22,7 +22,7 @@ use Rattle.r6_frames.specs.Owed.{owed_in}
 use Rattle.r6_frames.specs.Sound as held
 use Rattle.r6_core.specs.Shards.{call_of, devices_state, state_of, requests_of, waiting_request, finished_request, released_request}
 use Rattle.r6_core.specs.Refusals.{most_unanswered}
-use Rattle.r6_core.specs.Inside.{IsCore, IsFresh, count_untold, ended_requests}
+use Rattle.r6_core.specs.Inside.{CannotStart, IsCore, IsFresh, count_untold, ended_requests}
 use Rattle.r6_frames.proofs.Lists.{table}
 
 distinct-none : IsDistinct nat_eq []
@@ -42,29 +42,32 @@ fresh_core s accepted unanswered waiting finished released calls untold sound st
     let nobody : s.waiting.items ≡ [] = ap (λ b. b.items) waiting in
     let some : 2 * s.frames.geometry.slots * length s.waiting.items ≡ 0 = ap (λ (rs : List Request). 2 * s.frames.geometry.slots * length rs) nobody ∙ (omega arith) in
     record {
-      sound = record {
-        frames = sound;
-        requests = record {
-          distinct = subst (λ es. IsDistinct nat_eq (keys_of es)) (sym none) distinct-none;
-          numbered = subst (λ es. AllByRecursion (λ id. id < s.accepted) (keys_of es)) (sym none) tt;
-          counted = ap length none ∙ sym unanswered;
-          few = omega (arith, unanswered);
-          waiting = subst (λ rs. AllByRecursion (IsRequestOf s.frames) rs) (sym nobody) tt;
-          sized =
-              let nothing : ended_requests s ≡ [] = λ i. (released i).items ++ (finished i).items in
-              subst (λ rs. AllByRecursion (HasOneBlock s.frames.geometry) rs) (sym nothing) tt;
+      settled = record {
+        sound = record {
+          frames = sound;
+          requests = record {
+            distinct = subst (λ es. IsDistinct nat_eq (keys_of es)) (sym none) distinct-none;
+            numbered = subst (λ es. AllByRecursion (λ id. id < s.accepted) (keys_of es)) (sym none) tt;
+            counted = ap length none ∙ sym unanswered;
+            few = omega (arith, unanswered);
+            waiting = subst (λ rs. AllByRecursion (IsRequestOf s.frames) rs) (sym nobody) tt;
+            sized =
+                let nothing : ended_requests s ≡ [] = λ i. (released i).items ++ (finished i).items in
+                subst (λ rs. AllByRecursion (HasOneBlock s.frames.geometry) rs) (sym nothing) tt;
+          };
+          room = record {
+            waiting = ap (λ b. b.capacity) waiting;
+            finished = ap (λ b. b.capacity) finished;
+            released = ap (λ b. b.capacity) released;
+            calls = ap (λ b. b.capacity) calls;
+            few_calls = let none : length s.calls.items + count_untold s.untold ≡ 0 = λ i. length (calls i).items + count_untold (untold i) in omega (arith, none);
+          };
+          tokens = omega (arith, some, nothing_owed s.frames.held.items start.0, start.1);
+          accepted = omega (arith, accepted);
         };
-        room = record {
-          waiting = ap (λ b. b.capacity) waiting;
-          finished = ap (λ b. b.capacity) finished;
-          released = ap (λ b. b.capacity) released;
-          calls = ap (λ b. b.capacity) calls;
-          few_calls = let none : length s.calls.items + count_untold s.untold ≡ 0 = λ i. length (calls i).items + count_untold (untold i) in omega (arith, none);
-        };
-        tokens = omega (arith, some, nothing_owed s.frames.held.items start.0, start.1);
-        accepted = omega (arith, accepted);
+        rested = λ live frame. (λ h is. let free = ap row_in (start.0 frame) in absurd (cc), λ over. let free = ap row_in (start.0 frame) in let is = over.1 in absurd (cc));
       };
-      rested = λ live frame. (λ h is. let free = ap row_in (start.0 frame) in absurd (cc), λ over. let free = ap row_in (start.0 frame) in let is = over.1 in absurd (cc));
+      waits = subst (λ rs. AllByRecursion (CannotStart s.frames) rs) (sym nobody) tt;
     }
 
 -- ---- what the slots have at the start

@@ -7,6 +7,7 @@ pub mod Callers
 pub mod Commands
 pub mod Completing
 pub mod Delivering
+pub mod Entering
 pub mod Failing
 pub mod Fresh
 pub mod Gathering
@@ -28,5 +29,7 @@ pub mod Settling
 pub mod SlotsKept
 pub mod Starting
 pub mod Swapped
+pub mod Taking
 pub mod Throughs
+pub mod Waking
 pub mod Whole

@@ -14,10 +14,10 @@ use Rattle.r6_frames.specs.Slots.{states_of}
 use Rattle.r6_core.specs.declared.state.State.{State}
 use Rattle.r6_core.specs.Shards.{Step, layout_in, state_of, call_of, core_of}
 use Rattle.r6_core.specs.Order.{SameReplies, Agrees, Finishes, IsRising, ReleasesAll, InTurn, HaveTurns, HaveTurnsAfter}
-use Rattle.r6_core.specs.Inside.{SameFrames, NoCalls, IsCore, NoneCanStart, Seen}
+use Rattle.r6_core.specs.Inside.{SameFrames, NoCalls, IsCore, IsSettled, Seen}
 use Rattle.r6_core.proofs.AtRest.{at_rest}
 use Rattle.r6_core.proofs.Releasing.{released_nothing}
-use Rattle.r6_core.proofs.Scanned.{all_wait, turns_in}
+use Rattle.r6_core.proofs.Scanned.{all_stopped, turns_in}
 use Rattle.r6_core.proofs.Throughs.{through_in, through_none}
 
 rest_in : (g g' : Shape) (n n' : ℕ) (s : Shard) → g' ≡ g → n' ≡ n → AtRest (layout_of g') n' s → AtRest (layout_of g) n s
@@ -94,7 +94,7 @@ looked_stopped s mid seen took unfailed failed =
 -- ---- holds went on, if a slot went out
 
 pub record HasSettled (s mid new : State) (seen : Snapshot) : Type 0 where
-  pub core : IsCore new
+  pub core : IsSettled new
   pub leads : Through (layout_in mid) mid.frames.shard GoesOn (state_of mid) (state_of new)
   pub same : SameFrames mid new
   pub more : List Request
@@ -106,7 +106,7 @@ pub record HasSettled (s mid new : State) (seen : Snapshot) : Type 0 where
   pub waiting : new.waiting ≡ mid.waiting
   pub stays : Agrees (core_of s) seen → state_of new ≡ state_of s
 
-pub settled_some : (s mid new : State) (seen : Snapshot) → (Agrees (core_of s) seen → ⊥) → IsCore new → Through (layout_in mid) mid.frames.shard GoesOn (state_of mid) (state_of new) → SameFrames mid new
+pub settled_some : (s mid new : State) (seen : Snapshot) → (Agrees (core_of s) seen → ⊥) → IsSettled new → Through (layout_in mid) mid.frames.shard GoesOn (state_of mid) (state_of new) → SameFrames mid new
     → Seen Finishes mid new → new.unanswered ≡ mid.unanswered → new.waiting ≡ mid.waiting → HasSettled s mid new seen
 settled_some s mid new seen other core leads same finishes unanswered waiting =
     record {
@@ -123,10 +123,10 @@ settled_some s mid new seen other core leads same finishes unanswered waiting =
       stays = λ agrees. absurd (other agrees);
     }
 
-pub settled_none : (s mid : State) (seen : Snapshot) → mid ≡ s → IsCore s → HasSettled s mid mid seen
+pub settled_none : (s mid : State) (seen : Snapshot) → mid ≡ s → IsSettled s → HasSettled s mid mid seen
 settled_none s mid seen same core =
     record {
-      core = subst IsCore (sym same) core;
+      core = subst IsSettled (sym same) core;
       leads = ([], refl);
       same = (refl, refl);
       more = [];
@@ -146,7 +146,6 @@ pub record HasReleased (mid settled released new : State) : Type 0 where
   pub leads : Through (layout_in released) released.frames.shard Scans (state_of released) (state_of new)
   pub same : SameFrames released new
   pub core : IsCore new
-  pub rested : NoneCanStart new
 
 pub looked : (s mid settled released new : State) (seen : Snapshot) → TookOver s mid seen → seen.failed ≡ false → HasSettled s mid settled seen → HasReleased mid settled released new
     → Step (core_of s) (Look seen) (core_of new)
@@ -159,7 +158,7 @@ looked s mid settled released new seen took unfailed done has =
     (state_of settled, goes, subst (λ x. Through (layout_in s) s.frames.shard Scans x (state_of new)) has.is leads) in
     step_from s mid new seen took (has.same.0 ∙ shape, has.same.1 ∙ shard)
     (subst (λ b. Looks (layout_in s) s.frames.shard b (state_of mid) (state_of new)) (sym unfailed) looks)
-    (rest_in s.frames.geometry new.frames.geometry s.frames.shard new.frames.shard (state_of new) (has.same.0 ∙ shape) (has.same.1 ∙ shard) (at_rest new has.core has.rested))
+    (rest_in s.frames.geometry new.frames.geometry s.frames.shard new.frames.shard (state_of new) (has.same.0 ∙ shape) (has.same.1 ∙ shard) (at_rest new has.core))
 
 pub looked_releases : (s mid settled released new : State) (seen : Snapshot) → Seen SameReplies s mid → HasSettled s mid settled seen
     → (released.released.items ≡ settled.released.items ++ settled.finished.items) × (released.finished.items ≡ []) → Seen SameReplies released new
@@ -199,5 +198,5 @@ stopped_turns s mid seen took failed stays = λ unfailed. (
   stays,
   subst (λ x. HaveTurns (core_of s) x s.waiting.items (core_of mid)) (released_nothing mid failed)
       (subst (λ rs. InTurn (layout_in s) s.frames.shard (state_of mid) rs (state_of mid) mid.waiting.items) (ap (λ b. b.items) took.waiting)
-      (all_wait (layout_in s) s.frames.shard (state_of mid) mid.waiting.items (λ live. let not = live.1 in absurd (cc)))),
+      (all_stopped (layout_in s) s.frames.shard (state_of mid) mid.waiting.items (λ live. let not = live.1 in absurd (cc)))),
 )

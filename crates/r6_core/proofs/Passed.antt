@@ -44,3 +44,8 @@ all-append Fact (x ∷ xs) ys a b = (a.0, all-append Fact xs ys a.1 b)
 pub all-parts : {X : Type 0} (Fact : X → Type 0) (xs ys : List X) → AllByRecursion Fact (xs ++ ys) → AllByRecursion Fact xs × AllByRecursion Fact ys
 all-parts Fact [] ys all = (tt, all)
 all-parts Fact (x ∷ xs) ys all = let parts = all-parts Fact xs ys all.1 in ((all.0, parts.0), parts.1)
+
+-- one among the others
+pub all-middle : {X : Type 0} (Fact : X → Type 0) (xs : List X) (y : X) (ys : List X) → AllByRecursion Fact (xs ++ y ∷ ys) → Fact y × AllByRecursion Fact (xs ++ ys)
+all-middle Fact [] y ys all = all
+all-middle Fact (x ∷ xs) y ys all = let rest = all-middle Fact xs y ys all.1 in (rest.0, (all.0, rest.1))

@@ -16,7 +16,7 @@ use Rattle.r6_core.specs.declared.state.State.{State}
 use Rattle.r6_frames.specs.Views.{held_requests, requests_from, held_request, shard_with}
 use Rattle.r6_frames.specs.Calls.{HasOneBlock}
 use Rattle.r6_core.specs.Shards.{state_of, layout_in, call_of, requests_of, waiting_request, finished_request, released_request}
-use Rattle.r6_core.specs.Inside.{IsSound, IsCore, SameCalls, ended_requests}
+use Rattle.r6_core.specs.Inside.{IsSound, IsSettled, SameCalls, ended_requests}
 use Rattle.r6_frames.proofs.Lists.{Entries, table}
 use Rattle.r6_core.proofs.Passed.{Passed, passed}
 use Rattle.r6_core.proofs.Swapped.{or_else, table-append, swapped, distinct_behind}
@@ -51,8 +51,8 @@ same_answers : (s : State) (r : Request) (finished released : Buffer Request) �
 same_answers s r finished released first last =
     ap (λ (rs : List Request). rs ++ finished.items) last ∙ append_assoc s.released.items (r ∷ []) finished.items ∙ ap (λ (rs : List Request). s.released.items ++ rs) (sym first)
 
-pub one_released : (s : State) (r : Request) (finished released : Buffer Request) → IsCore s → s.frames.saw_failed ≡ false → s.finished.items ≡ r ∷ finished.items → released.items ≡ s.released.items ++ r ∷ []
-    → finished.capacity ≡ s.finished.capacity → released.capacity ≡ s.released.capacity → IsCore (record s { finished = finished; released = released })
+pub one_released : (s : State) (r : Request) (finished released : Buffer Request) → IsSettled s → s.frames.saw_failed ≡ false → s.finished.items ≡ r ∷ finished.items → released.items ≡ s.released.items ++ r ∷ []
+    → finished.capacity ≡ s.finished.capacity → released.capacity ≡ s.released.capacity → IsSettled (record s { finished = finished; released = released })
 one_released s r finished released core unfailed first last finished_capacity released_capacity =
     let sound = core.sound in
     let one = one_passed s r finished released sound unfailed first last in
@@ -187,7 +187,7 @@ released_nothing s failed =
 
 -- so many were released
 pub record IsReleasing (s new : State) (count : ℕ) : Type 0 where
-  pub core : IsCore new
+  pub core : IsSettled new
   pub left : length new.finished.items + count ≡ length s.finished.items
   pub order : new.released.items ++ new.finished.items ≡ s.released.items ++ s.finished.items
   pub frames : new.frames ≡ s.frames

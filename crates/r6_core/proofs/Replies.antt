@@ -20,7 +20,7 @@ use Rattle.r6_frames.specs.Views.{op_of, buffer_of, held_requests, requests_from
 use Rattle.r6_frames.specs.Calls.{HasOneBlock}
 use Rattle.r6_core.specs.Shards.{Step, reply_of, buffer_back, answer_of, state_of, requests_of, waiting_request, finished_request, released_request, core_of}
 use Rattle.r6_core.specs.Order.{HasNoReply, BringsBack, reply_to}
-use Rattle.r6_core.specs.Inside.{IsSound, IsCore, ended_requests}
+use Rattle.r6_core.specs.Inside.{IsSound, IsSettled, ended_requests}
 use Rattle.r6_frames.proofs.Lists.{Entries, table, gone, own, apart, all_parts, distinct_without, looked_up}
 use Rattle.r6_core.proofs.Passed.{all-append}
 
@@ -132,7 +132,7 @@ reply_sized s r rest is all = subst (λ (rs : List Request). AllByRecursion (Has
 pub reply_counted : (s : State) (r : Request) (rest : Buffer Request) → IsSound s → s.released.items ≡ r ∷ rest.items → 0 < s.unanswered
 reply_counted s r rest sound is = let one = (is_taken s r rest sound.requests.distinct is).count in omega (arith, one, sound.requests.counted)
 
-pub reply_core : (s : State) (r : Request) (rest : Buffer Request) → IsCore s → s.released.items ≡ r ∷ rest.items → rest.capacity ≡ s.released.capacity → IsCore (without_first s rest)
+pub reply_core : (s : State) (r : Request) (rest : Buffer Request) → IsSettled s → s.released.items ≡ r ∷ rest.items → rest.capacity ≡ s.released.capacity → IsSettled (without_first s rest)
 reply_core s r rest core is capacity =
     let sound = core.sound in
     let taken = is_taken s r rest sound.requests.distinct is in
@@ -220,7 +220,7 @@ module _ (s : State) (r : Request) (rest : Buffer Request) (failed : s.frames.sa
       let both = subst (λ (rs : List Request). AllByRecursion (HasOneBlock s.frames.geometry) rs) was all in
       (both.0, subst (λ (rs : List Request). AllByRecursion (HasOneBlock s.frames.geometry) rs) (sym now) both.1)
 
-  pub failed_core : IsCore s → rest.capacity ≡ s.finished.capacity → IsCore (without_failed s rest)
+  pub failed_core : IsSettled s → rest.capacity ≡ s.finished.capacity → IsSettled (without_failed s rest)
   failed_core core capacity =
       let sound = core.sound in
       let taken = is_failed s r rest sound.requests.distinct failed none is in

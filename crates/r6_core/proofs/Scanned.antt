@@ -1,192 +1,228 @@
--- A scan tests each request that waits once, and what it passed over can't start after it.
-use Rattle.std.proofs.Common.{◌≡◌, ℕ, ◌+◌, ◌<◌, ◌≤◌, List, [], ◌∷◌, ◌++◌, length, refl, sym, ap, subst, ◌∙◌, inl, inr, arith, append_assoc, append-nil, length-append}
+-- What waits has its turns: one after the other starts, and what was passed over can't start behind it.
+use Rattle.std.proofs.Common.{◌≡◌, ℕ, zero, suc, ◌<◌, ◌≤◌, List, [], ◌∷◌, ◌++◌, length, take, drop, refl, sym, ap, subst, ◌∙◌, Some, inl, inr, arith, append_assoc, append-nil}
+use Rattle.std.specs.Prelude.{slice_get}
 use Rattle.std.specs.List.{AllByRecursion}
 use Rattle.r6_layout.specs.Shape.{Shape}
 use Rattle.r6_world.specs.Layouts.{Layout}
 use Rattle.r6_world.specs.Geometries.{layout_of}
 use Rattle.r6_world.specs.ShardStates.{Shard, IsLive}
+use Rattle.r6_frames.specs.Calls.{IsFreeFrame}
 use Rattle.r6_world.specs.Steps.{Through, Scans}
 use Rattle.r6_frames.specs.declared.op.Request.{Request}
 use Rattle.r6_frames.specs.declared.frames.Frames.{Frames}
 use Rattle.r6_core.specs.declared.state.State.{State}
 use Rattle.r6_core.specs.Shards.{state_of, layout_in, core_of}
-use Rattle.r6_core.specs.Order.{Starts, InTurn, HaveTurns, KeepsReplies, MustWait}
-use Rattle.r6_core.specs.Inside.{SameFrames, CannotStart, IsCore, NoneCanStart, Advances, SameCalls, Seen}
+use Rattle.r6_core.specs.Order.{Starts, InTurn, HaveTurns, KeepsReplies}
+use Rattle.r6_core.specs.Inside.{SameFrames, CannotStart, IsSettled, IsFirstToStart, StartsAt, NoMoreCanStart, NoneCanStart, SameCalls, Seen}
 use Rattle.r6_frames.specs.Views.{AreLive}
 use Rattle.r6_core.proofs.AtRest.{must_wait}
-use Rattle.r6_core.proofs.Passed.{all-append}
-use Rattle.r6_core.proofs.Throughs.{through_both, through_none}
+use Rattle.r6_core.proofs.Throughs.{through_both, through_in, through_none}
 
 -- ---- turns
 
--- after those who had their turn, the next one starts, or waits still
 module _ (l : Layout) (n : ℕ) where
-  pub in_turn_starts : (old : Shard) (done : List Request) (s : Shard) (waiting : List Request) (r : Request) (new : Shard)
-      → InTurn l n old done s waiting → Starts l n s r new → InTurn l n old (done ++ r ∷ []) new waiting
-  in_turn_starts old [] s waiting r new before starts = inl (new, subst (λ (x : Shard). Starts l n x r new) before.0 starts, (refl, before.1))
-  in_turn_starts old (d ∷ done) s waiting r new before starts = elim before [
-    | inl started ↦ inl (started.0, started.1, in_turn_starts started.0 done s waiting r new started.2 starts)
-    | inr waited ↦ inr (waited.0, waited.1, waited.2, in_turn_starts old done s waited.1 r new waited.3 starts)
+  -- some have their turns, and others behind them
+  pub turns_both : (old : Shard) (some : List Request) (mid : Shard) (waiting : List Request) (others : List Request) (new : Shard) (waiting' : List Request)
+      → InTurn l n old some mid waiting → InTurn l n mid others new waiting' → InTurn l n old (some ++ others) new (waiting ++ waiting')
+  turns_both old [] mid waiting others new waiting' first second =
+      subst (λ (x : Shard). InTurn l n x others new (waiting ++ waiting')) first.0
+      (subst (λ rs. InTurn l n mid others new (rs ++ waiting')) (sym first.1) second)
+  turns_both old (r ∷ some) mid waiting others new waiting' first second = elim first [
+    | inl started ↦ inl (started.0, started.1, turns_both started.0 some mid waiting others new waiting' started.2 second)
+    | inr waited ↦ inr (waited.0, waited.1 ++ waiting', ap (λ rs. rs ++ waiting') waited.2, turns_both old some mid waited.1 others new waiting' waited.3 second)
   ]
 
-  pub in_turn_waits : (old : Shard) (done : List Request) (s : Shard) (waiting : List Request) (r : Request)
-      → InTurn l n old done s waiting → MustWait l s r → InTurn l n old (done ++ r ∷ []) s (waiting ++ r ∷ [])
-  in_turn_waits old [] s waiting r before must =
-      inr (subst (λ (x : Shard). MustWait l x r) before.0 must, [], ap (λ rs. rs ++ r ∷ []) before.1, (before.0, refl))
-  in_turn_waits old (d ∷ done) s waiting r before must = elim before [
-    | inl started ↦ inl (started.0, started.1, in_turn_waits started.0 done s waiting r started.2 must)
-    | inr waited ↦ inr (waited.0, waited.1 ++ r ∷ [], ap (λ rs. rs ++ r ∷ []) waited.2, in_turn_waits old done s waited.1 r waited.3 must)
-  ]
+  -- one starts
+  pub turn_of : (old : Shard) (r : Request) (new : Shard) → Starts l n old r new → InTurn l n old (r ∷ []) new []
+  turn_of old r new starts = inl (new, starts, (refl, refl))
+
+-- none of these starts
+pub all_wait : (s : State) (rs : List Request) → IsSettled s → AllByRecursion (CannotStart s.frames) rs → InTurn (layout_in s) s.frames.shard (state_of s) rs (state_of s) rs
+all_wait s [] settled cannot = (refl, refl)
+all_wait s (r ∷ rs) settled cannot = inr (must_wait s settled r cannot.0, rs, refl, all_wait s rs settled cannot.1)
+
+-- in a shard that has stopped none starts
+pub all_stopped : (l : Layout) (n : ℕ) (s : Shard) (rs : List Request) → (IsLive l s → ⊥) → InTurn l n s rs s rs
+all_stopped l n s [] stopped = (refl, refl)
+all_stopped l n s (r ∷ rs) stopped = inr ((λ live. absurd (stopped live)), rs, refl, all_stopped l n s rs stopped)
 
 -- over a shape and a shard that are known to be others
-starts_in : (g g' : Shape) (n n' : ℕ) (old : Shard) (r : Request) (new : Shard) → g' ≡ g → n' ≡ n → Starts (layout_of g') n' old r new → Starts (layout_of g) n old r new
-starts_in g g' n n' old r new same_shape same_shard starts =
-    subst (λ m. Starts (layout_of g) m old r new) same_shard (subst (λ x. Starts (layout_of x) n' old r new) same_shape starts)
-
 pub turns_in : (g g' : Shape) (n n' : ℕ) (old new : Shard) (requests waiting : List Request) → g' ≡ g → n' ≡ n
     → InTurn (layout_of g') n' old requests new waiting → InTurn (layout_of g) n old requests new waiting
 turns_in g g' n n' old new requests waiting same_shape same_shard turns =
     subst (λ m. InTurn (layout_of g) m old requests new waiting) same_shard (subst (λ x. InTurn (layout_of x) n' old requests new waiting) same_shape turns)
 
--- ---- tests
+-- ---- one after the other starts
 
--- after so many tests of as many as there are to be: those that wait are not tested yet, or tested and can't start
-pub record IsScanned (old new : State) (tests all : ℕ) : Type 0 where
-  pub core : IsCore new
+-- those that waited have had their turns but for some, which are the last that wait; those before them can't start
+pub record IsScanned (old new : State) (from : ℕ) : Type 0 where
+  pub settled : IsSettled new
   pub leads : Through (layout_in old) old.frames.shard Scans (state_of old) (state_of new)
-  pub live : AreLive new.frames
   pub same : SameFrames old new
   pub calls : SameCalls old new
   pub replies : Seen KeepsReplies old new
-  pub untested : List Request
-  pub tested : List Request
-  pub items : new.waiting.items ≡ untested ++ tested
-  pub count : length untested + tests ≡ all
-  pub cannot : AllByRecursion (CannotStart new.frames) tested
   pub had_turn : List Request
+  pub tested : List Request
+  pub untested : List Request
   pub split : old.waiting.items ≡ had_turn ++ untested
+  pub items : new.waiting.items ≡ tested ++ untested
+  pub count : length tested ≡ from
+  pub cannot : AllByRecursion (CannotStart new.frames) tested
   pub turns : InTurn (layout_in old) old.frames.shard (state_of old) had_turn (state_of new) tested
 
-pub unscanned : (s : State) (all : ℕ) → IsCore s → AreLive s.frames → length s.waiting.items ≡ all → IsScanned s s 0 all
-unscanned s all core live count =
+pub unscanned : (s : State) → IsSettled s → IsScanned s s 0
+unscanned s settled =
     record {
-      core = core;
+      settled = settled;
       leads = through_none (layout_in s) s.frames.shard Scans (state_of s) (state_of s) refl;
-      live = live;
       same = (refl, refl);
       calls = (refl, refl);
       replies = ((refl, refl), refl);
-      untested = s.waiting.items;
-      tested = [];
-      items = sym (append-nil s.waiting.items);
-      count = omega (arith, count);
-      cannot = tt;
       had_turn = [];
+      tested = [];
+      untested = s.waiting.items;
       split = refl;
+      items = refl;
+      count = refl;
+      cannot = tt;
       turns = (refl, refl);
     }
 
--- the same, for other states
-all_still : (s new : Frames) (rs : List Request) → ((other : Request) → CannotStart s other → CannotStart new other) → AllByRecursion (CannotStart s) rs → AllByRecursion (CannotStart new) rs
-all_still s new [] still h = tt
-all_still s new (r ∷ rs) still h = (still r h.0, all_still s new rs still h.1)
+take_first : {X : Type 0} (xs ys : List X) → take (length xs) (xs ++ ys) ≡ xs
+take_first [] ys = refl
+take_first (x ∷ xs) ys = ap (λ rest. x ∷ rest) (take_first xs ys)
 
-pub some_waits : (old s : State) (tests all : ℕ) → IsScanned old s tests all → tests < all → 0 < length s.waiting.items
-some_waits old s tests all before below =
-    omega (arith, before.count, ap length before.items, length-append before.untested before.tested)
+-- those before the index can't start
+pub tested_cannot : (old s : State) (from : ℕ) → IsScanned old s from → AllByRecursion (CannotStart s.frames) (take from s.waiting.items)
+tested_cannot old s from before =
+    let first : take from s.waiting.items ≡ before.tested = ap (λ n. take n s.waiting.items) (sym before.count) ∙ ap (take (length before.tested)) before.items ∙ take_first before.tested before.untested in
+    subst (AllByRecursion (CannotStart s.frames)) (sym first) before.cannot
 
-module _ (old s new : State) (tests all : ℕ) (before : IsScanned old s tests all) (core : IsCore new) (live : AreLive new.frames)
-    (leads : Through (layout_in s) s.frames.shard Scans (state_of s) (state_of new)) (same : SameFrames s new) (calls : SameCalls s new) (replies : Seen KeepsReplies s new) where
-  both_lead : Through (layout_in old) old.frames.shard Scans (state_of old) (state_of new)
-  both_lead =
-      through_both (layout_in old) old.frames.shard Scans (state_of old) (state_of s) (state_of new) before.leads
-      (subst (λ (n : ℕ). Through (layout_in old) n Scans (state_of s) (state_of new)) before.same.1
-      (subst (λ g. Through (layout_of g) s.frames.shard Scans (state_of s) (state_of new)) before.same.0 leads))
+-- where the next one stands
+parted : (xs ys zs : List Request) (r : Request) (ws : List Request) → xs ++ ys ≡ zs ++ r ∷ ws → length xs ≤ length zs
+    → (ms : List Request) × (zs ≡ xs ++ ms) × (ys ≡ ms ++ r ∷ ws)
+parted [] ys zs r ws is le = (zs, refl, is)
+parted (x ∷ xs) ys [] r ws is le = absurd (omega arith)
+parted (x ∷ xs) ys (z ∷ zs) r ws is le =
+    let first : x ≡ z = cc in
+    let rest : xs ++ ys ≡ zs ++ r ∷ ws = cc in
+    let more = parted xs ys zs r ws rest (omega arith) in
+    (more.0, (λ i. (sym first) i ∷ more.1 i), more.2)
 
-  both_kept : Seen KeepsReplies old new
-  both_kept = ((replies.0.0 ∙ before.replies.0.0, replies.0.1 ∙ before.replies.0.1), replies.1 ∙ before.replies.1)
+pub all_still : (s new : State) (rs : List Request) → NoMoreCanStart s new → AllByRecursion (CannotStart s.frames) rs → AllByRecursion (CannotStart new.frames) rs
+all_still s new [] still cannot = tt
+all_still s new (r ∷ rs) still cannot = (still r cannot.0, all_still s new rs still cannot.1)
 
-  next_tested : (request : Request) (rest untested : List Request) → s.waiting.items ≡ request ∷ rest → s.waiting.items ≡ untested ++ before.tested → length untested + tests ≡ all → tests < all
-      → (us : List Request) × (untested ≡ request ∷ us) × (rest ≡ us ++ before.tested) × (length us + (tests + 1) ≡ all)
-  next_tested request rest [] is items count below = absurd (omega arith)
-  next_tested request rest (u ∷ us) is items count below =
-      let e : request ∷ rest ≡ u ∷ (us ++ before.tested) = sym is ∙ items in
-      (us, (let first : u ≡ request = cc in ap (λ r. r ∷ us) first), cc, omega arith)
+all_first : {X : Type 0} (Fact : X → Type 0) (xs ys : List X) → AllByRecursion Fact (xs ++ ys) → AllByRecursion Fact xs
+all_first Fact [] ys all = tt
+all_first Fact (x ∷ xs) ys all = (all.0, all_first Fact xs ys all.1)
 
-  had_turn_on : (request : Request) (us : List Request) → before.untested ≡ request ∷ us → old.waiting.items ≡ (before.had_turn ++ request ∷ []) ++ us
-  had_turn_on request us is =
-      before.split ∙ ap (λ rs. before.had_turn ++ rs) is ∙ sym (append_assoc before.had_turn (request ∷ []) us)
+pub all_last : {X : Type 0} (Fact : X → Type 0) (xs ys : List X) → AllByRecursion Fact (xs ++ ys) → AllByRecursion Fact ys
+all_last Fact [] ys all = all
+all_last Fact (x ∷ xs) ys all = all_last Fact xs ys all.1
 
-  pub scanned_on : Advances s new → tests < all → IsScanned old new (tests + 1) all
-  scanned_on (request, rest, is, goes, still) below =
-      let next = next_tested request rest before.untested is before.items before.count below in
-      elim goes [
-        | inl started ↦ record {
-          core = core;
-          leads = both_lead;
-          live = live;
-          same = (same.0 ∙ before.same.0, same.1 ∙ before.same.1);
-          calls = (calls.0 ∙ before.calls.0, calls.1 ∙ before.calls.1);
-          replies = both_kept;
-          untested = next.0;
-          tested = before.tested;
-          items = started.0 ∙ next.2;
-          count = next.3;
-          cannot = all_still s.frames new.frames before.tested still before.cannot;
-          had_turn = before.had_turn ++ request ∷ [];
-          split = had_turn_on request next.0 next.1;
-          turns =
-              in_turn_starts (layout_in old) old.frames.shard (state_of old) before.had_turn (state_of s) before.tested request (state_of new) before.turns
-              (starts_in old.frames.geometry s.frames.geometry old.frames.shard s.frames.shard (state_of s) request (state_of new) before.same.0 before.same.1 started.1);
-        }
-        | inr turned ↦ record {
-          core = core;
-          leads = both_lead;
-          live = live;
-          same = (same.0 ∙ before.same.0, same.1 ∙ before.same.1);
-          calls = (calls.0 ∙ before.calls.0, calls.1 ∙ before.calls.1);
-          replies = both_kept;
-          untested = next.0;
-          tested = before.tested ++ request ∷ [];
-          items = turned.0 ∙ ap (λ rs. rs ++ request ∷ []) next.2 ∙ append_assoc next.0 before.tested (request ∷ []);
-          count = next.3;
-          cannot = all-append (CannotStart new.frames) before.tested (request ∷ []) (all_still s.frames new.frames before.tested still before.cannot) (still request turned.1, tt);
-          had_turn = before.had_turn ++ request ∷ [];
-          split = had_turn_on request next.0 next.1;
-          turns =
-              subst (λ (x : Shard). InTurn (layout_in old) old.frames.shard (state_of old) (before.had_turn ++ request ∷ []) x (before.tested ++ request ∷ [])) (sym turned.3)
-              (in_turn_waits (layout_in old) old.frames.shard (state_of old) before.had_turn (state_of s) before.tested request before.turns
-              (subst (λ g. MustWait (layout_of g) (state_of s) request) before.same.0 (must_wait s before.core request turned.1)));
-        }
-      ]
+-- the next one that can start: those before it wait, and it starts
+pub record IsNext (s : State) (from index : ℕ) (new : State) : Type 0 where
+  pub before : List Request
+  pub request : Request
+  pub behind : List Request
+  pub items : s.waiting.items ≡ before ++ request ∷ behind
+  pub at : length before ≡ index
+  pub past : from ≤ index
+  pub cannot : AllByRecursion (CannotStart s.frames) before
+  pub left : new.waiting.items ≡ before ++ behind
+  pub starts : Starts (layout_in s) s.frames.shard (state_of s) request (state_of new)
 
--- ---- nothing goes on
+same_split : (xs : List Request) (x : Request) (ys zs : List Request) (z : Request) (ws : List Request) → xs ++ x ∷ ys ≡ zs ++ z ∷ ws → length xs ≡ length zs
+    → (x ≡ z) × (xs ≡ zs) × (ys ≡ ws)
+same_split [] x ys [] z ws is long = ((let e : x ≡ z = cc in e), refl, (let e : ys ≡ ws = cc in e))
+same_split [] x ys (w ∷ zs) z ws is long = absurd (omega arith)
+same_split (w ∷ xs) x ys [] z ws is long = absurd (omega arith)
+same_split (w ∷ xs) x ys (v ∷ zs) z ws is long =
+    let first : w ≡ v = cc in
+    let rest : xs ++ x ∷ ys ≡ zs ++ z ∷ ws = cc in
+    let more = same_split xs x ys zs z ws rest (omega arith) in
+    (more.0, (λ i. first i ∷ more.1 i), more.2)
 
+pub is_next : (s : State) (from index frame : ℕ) (new : State) → IsFirstToStart s from index frame → StartsAt s index new → IsNext s from index new
+is_next s from index frame new first starts =
+    let same = same_split starts.0 starts.1 starts.2 first.before first.request first.behind (sym starts.3 ∙ first.items) (starts.4 ∙ sym first.at) in
+    record {
+      before = first.before;
+      request = first.request;
+      behind = first.behind;
+      items = first.items;
+      at = first.at;
+      past = first.past;
+      cannot = first.cannot;
+      left = starts.5 ∙ (λ i. same.1 i ++ same.2 i);
+      starts = subst (λ r. Starts (layout_in s) s.frames.shard (state_of s) r (state_of new)) same.0 starts.6;
+    }
+
+module _ (old s new : State) (from index : ℕ) (before : IsScanned old s from) (next : IsNext s from index new) (settled : IsSettled new)
+    (leads : Through (layout_in s) s.frames.shard Scans (state_of s) (state_of new)) (still : NoMoreCanStart s new) (same : SameFrames s new) (calls : SameCalls s new) (replies : Seen KeepsReplies s new) where
+  pub scanned_on : IsScanned old new index
+  scanned_on =
+      let l = layout_in old in
+      let n = old.frames.shard in
+      let part = parted before.tested before.untested next.before next.request next.behind (sym before.items ∙ next.items) (omega (arith, before.count, next.at, next.past)) in
+      let passed = part.0 in
+      let waits = subst (AllByRecursion (CannotStart s.frames)) part.1 next.cannot in
+      let waited = all_wait s passed before.settled (all_last (CannotStart s.frames) before.tested passed waits) in
+      let turn = turn_of (layout_in s) s.frames.shard (state_of s) next.request (state_of new) next.starts in
+      let both = turns_both (layout_in s) s.frames.shard (state_of s) passed (state_of s) passed (next.request ∷ []) (state_of new) [] waited turn in
+      let here = turns_in old.frames.geometry s.frames.geometry n s.frames.shard (state_of s) (state_of new) (passed ++ next.request ∷ []) (passed ++ []) before.same.0 before.same.1 both in
+      let all = turns_both l n (state_of old) before.had_turn (state_of s) before.tested (passed ++ next.request ∷ []) (state_of new) (passed ++ []) before.turns here in
+      let left : before.tested ++ (passed ++ []) ≡ next.before = ap (λ rs. before.tested ++ rs) (append-nil passed) ∙ sym part.1 in
+      record {
+        settled = settled;
+        leads = through_both l n Scans (state_of old) (state_of s) (state_of new) before.leads
+            (through_in old.frames.geometry s.frames.geometry n s.frames.shard Scans (state_of s) (state_of new) before.same.0 before.same.1 leads);
+        same = (same.0 ∙ before.same.0, same.1 ∙ before.same.1);
+        calls = (calls.0 ∙ before.calls.0, calls.1 ∙ before.calls.1);
+        replies = ((replies.0.0 ∙ before.replies.0.0, replies.0.1 ∙ before.replies.0.1), replies.1 ∙ before.replies.1);
+        had_turn = before.had_turn ++ (passed ++ next.request ∷ []);
+        tested = next.before;
+        untested = next.behind;
+        split = before.split ∙ ap (λ rs. before.had_turn ++ rs) part.2 ∙ (simp append_assoc);
+        items = next.left;
+        count = next.at;
+        cannot = all_still s new next.before still next.cannot;
+        turns = subst (λ rs. InTurn l n (state_of old) (before.had_turn ++ (passed ++ next.request ∷ [])) (state_of new) rs) left all;
+      }
+
+-- ---- the end
+
+-- none of the others can start
+pub scanned_all : (old new : State) (from : ℕ) → IsScanned old new from → NoneCanStart new → HaveTurns (core_of old) (state_of old) old.waiting.items (core_of new)
+scanned_all old new from done none =
+    let l = layout_in old in
+    let n = old.frames.shard in
+    let waits = all_last (CannotStart new.frames) done.tested done.untested (subst (AllByRecursion (CannotStart new.frames)) done.items none) in
+    let last = turns_in old.frames.geometry new.frames.geometry n new.frames.shard (state_of new) (state_of new) done.untested done.untested done.same.0 done.same.1 (all_wait new done.untested done.settled waits) in
+    let all = turns_both l n (state_of old) done.had_turn (state_of new) done.tested done.untested (state_of new) done.untested done.turns last in
+    subst (λ rs. InTurn l n (state_of old) rs (state_of new) new.waiting.items) (sym done.split)
+    (subst (λ rs. InTurn l n (state_of old) (done.had_turn ++ done.untested) (state_of new) rs) (sym done.items) all)
+
+-- in a shard that has stopped none can
 pub none_starts : (fs : Frames) (rs : List Request) → (AreLive fs → ⊥) → AllByRecursion (CannotStart fs) rs
 none_starts fs [] stopped = tt
 none_starts fs (r ∷ rs) stopped = ((λ live. absurd (stopped live)), none_starts fs rs stopped)
 
--- in a shard that has stopped none starts
-pub all_wait : (l : Layout) (n : ℕ) (s : Shard) (rs : List Request) → (IsLive l s → ⊥) → InTurn l n s rs s rs
-all_wait l n s [] stopped = (refl, refl)
-all_wait l n s (r ∷ rs) stopped = inr ((λ live. absurd (stopped live)), rs, refl, all_wait l n s rs stopped)
+-- nor where no frame is free
+pub none_free : (fs : Frames) (rs : List Request) → ((frame : ℕ) → IsFreeFrame fs frame → ⊥) → AllByRecursion (CannotStart fs) rs
+none_free fs [] none = tt
+none_free fs (r ∷ rs) none = ((λ live unheld frame is. none frame is), none_free fs rs none)
 
--- ---- the end
+-- ---- where a request stands
 
-none_left : (rs : List Request) → length rs ≡ 0 → rs ≡ []
-none_left [] e = refl
-none_left (r ∷ rs) e = absurd (omega arith)
-
-pub scanned_all : (old new : State) (tests all : ℕ) → IsScanned old new tests all → all ≤ tests → NoneCanStart new
-scanned_all old new tests all done past =
-    let none = none_left done.untested (omega (arith, done.count)) in
-    subst (λ rs. AllByRecursion (CannotStart new.frames) rs) (sym (done.items ∙ ap (λ us. us ++ done.tested) none)) done.cannot
-
-pub scanned_in_turn : (old new : State) (tests all : ℕ) → IsScanned old new tests all → all ≤ tests
-    → HaveTurns (core_of old) (state_of old) old.waiting.items (core_of new)
-scanned_in_turn old new tests all done past =
-    let none = none_left done.untested (omega (arith, done.count)) in
-    let had : old.waiting.items ≡ done.had_turn = done.split ∙ ap (λ us. done.had_turn ++ us) none ∙ append-nil done.had_turn in
-    let left : new.waiting.items ≡ done.tested = done.items ∙ ap (λ us. us ++ done.tested) none in
-    subst (λ rs. InTurn (layout_in old) old.frames.shard (state_of old) rs (state_of new) new.waiting.items) (sym had)
-    (subst (λ rs. InTurn (layout_in old) old.frames.shard (state_of old) done.had_turn (state_of new) rs) (sym left) done.turns)
+-- what stands before an index, there, and behind it
+pub stands_at : {X : Type 0} (xs : List X) (i : ℕ) (x : X) → Some x ≡ slice_get xs i
+    → (xs ≡ take i xs ++ x ∷ drop (suc i) xs) × (length (take i xs) ≡ i) × (take (suc i) xs ≡ take i xs ++ x ∷ []) × (i < length xs)
+stands_at [] i x is = absurd (cc)
+stands_at (y ∷ xs) zero x is =
+    let same : y ≡ x = cc in
+    (ap (λ z. z ∷ xs) same, refl, ap (λ z. z ∷ []) same, omega arith)
+stands_at (y ∷ xs) (suc i) x is =
+    let rest = stands_at xs i x is in
+    (ap (λ zs. y ∷ zs) rest.0, omega (arith, rest.1), ap (λ zs. y ∷ zs) rest.2, omega (arith, rest.3))

@@ -33,7 +33,7 @@ use Rattle.r6_core.specs.declared.state.State.{State}
 use Rattle.r6_core.specs.Shards.{state_of, rest_of, layout_in, requests_of, waiting_request, finished_request, released_request, call_of}
 use Rattle.r6_core.specs.Refusals.{limit, most_unanswered}
 use Rattle.r6_core.specs.Order.{IsRising}
-use Rattle.r6_core.specs.Inside.{IsSound, IsCore, Gathers, inserted, held_op, unreleased, count_untold, ended_requests}
+use Rattle.r6_core.specs.Inside.{IsSound, IsSettled, Gathers, inserted, held_op, unreleased, count_untold, ended_requests}
 use Rattle.r6_core.proofs.Kept.{requests_kept, sizes_kept}
 use Rattle.r6_core.proofs.SlotsKept.{out_same}
 use Rattle.r6_core.proofs.Gathering.{entry_in}
@@ -340,7 +340,7 @@ module _ (s : State) (fs : Frames) (mid : State) (sound : IsSound s) (sees : See
           frame = λ f. None;
         })
 
-    pub failed_core : IsCore new
+    pub failed_core : IsSettled new
     failed_core =
         let unanswered : new.unanswered ≡ s.unanswered = is.unanswered ∙ gathers.rest.1 in
         let geometry : new.frames.geometry ≡ s.frames.geometry = ap (λ (x : Frames). x.geometry) is.frames ∙ gathers.shard.0 ∙ sees.0 in

@@ -20,7 +20,7 @@ use Rattle.r6_frames.specs.Sound as held
 use Rattle.r6_core.specs.declared.state.State.{State}
 use Rattle.r6_core.specs.Shards.{state_of, layout_in, requests_of, table, waiting_request, finished_request, released_request}
 use Rattle.r6_core.specs.Order.{IsRising, MayFinish}
-use Rattle.r6_core.specs.Inside.{SameFrames, IsSound, IsCore, IsRestedFrame, FinishesHeld, SameCalls, Seen}
+use Rattle.r6_core.specs.Inside.{SameFrames, IsSound, IsSettled, IsRestedFrame, FinishesHeld, SameCalls, Seen}
 use Rattle.r6_frames.proofs.Held.{held_goes}
 use Rattle.r6_frames.proofs.Lists.{own, apart}
 use Rattle.r6_core.proofs.Passed.{all-append}
@@ -190,5 +190,5 @@ module _ (old now new : State) (frame : ℕ) (before : IsSettling old now) (lowe
       omega (arith, more, few, unanswered)
 
 -- when none is over, all have rested
-pub settled : (old now : State) → IsSettling old now → ((frame : ℕ) → IsOver now.frames frame → ⊥) → IsCore now
+pub settled : (old now : State) → IsSettling old now → ((frame : ℕ) → IsOver now.frames frame → ⊥) → IsSettled now
 settled old now is none = record { sound = is.sound; rested = λ live frame. (is.driven frame, none frame) }

@@ -1,12 +1,12 @@
--- The oldest request that waits starts in a free frame, or goes behind the others.
-use Rattle.std.proofs.Common.{◌≡◌, ◌≢◌, ℕ, ◌+◌, ◌*◌, ◌^◌, ◌<◌, ◌≤◌, Bool, true, false, cond, List, [], ◌∷◌, ◌++◌, length, map, drop, refl, sym, ap, subst, ◌∙◌, Option, Some, None, inl, inr, arith, append_assoc, length-append}
+-- One of the requests that wait starts in a free frame.
+use Rattle.std.proofs.Common.{◌≡◌, ◌≢◌, ℕ, suc, ◌+◌, ◌*◌, ◌^◌, ◌<◌, ◌≤◌, Bool, true, false, cond, List, [], ◌∷◌, ◌++◌, length, map, refl, sym, ap, subst, ◌∙◌, Option, Some, None, inl, inr, arith, append_assoc, length-append}
 use mathlib.Core.Path.{fun_ext}
-use Rattle.std.specs.Prelude.{nat_eq, ◌||◌, slice_get}
+use Rattle.std.specs.Prelude.{nat_eq, ◌||◌}
 use Rattle.std.specs.List.{IsDistinct, AllByRecursion}
 use Rattle.std.specs.Map.{keys_of}
 use Rattle.std.proofs.Math.Nat.{mul-suc}
 use Rattle.std.proofs.lemmas.Bool.{cases_eq, eqb-true}
-use Rattle.std.proofs.lemmas.List.{map-append}
+use Rattle.std.proofs.lemmas.List.{map-append, length-map}
 use Rattle.r6_layout.specs.Layout.{row_of}
 use Rattle.r6_layout.proofs.Places.{row_of-lt}
 use Rattle.r6_tables.specs.Table.{next_of}
@@ -23,6 +23,7 @@ use Rattle.r6_frames.specs.declared.op.Op.{Op}
 use Rattle.r6_frames.specs.declared.op.Op.TheVariants as op
 use Rattle.r6_frames.specs.declared.op.Request.{Request as Entered}
 use Rattle.r6_frames.specs.declared.frames.Frames.{Frames}
+use Rattle.r6_frames.specs.declared.frames.HeldRow.{HeldRow}
 use Rattle.r6_core.specs.declared.state.State.{State}
 use Rattle.r6_frames.specs.Views.{op_of, task_for, hold_at, use_at, row_in, frame_of, held_requests, Rest, shard_with, AreLive}
 use Rattle.r6_frames.specs.Calls.{begun_for, Begins, Drives, PutsOut, IsFreeFrame, IsHeldFrame, NotHeldBy, IsRequestOf, KeepsOthers}
@@ -32,11 +33,12 @@ use Rattle.r6_frames.specs.Sound as held
 use Rattle.r6_core.specs.Shards.{state_of, rest_of, layout_in, requests_of, waiting_request, finished_request, released_request, table}
 use Rattle.r6_core.specs.Refusals.{limit, most_unanswered}
 use Rattle.r6_core.specs.Order.{start_of, Starts}
-use Rattle.r6_core.specs.Inside.{CanStart, IsSound, IsCore, IsRestedFrame, Advances, count_untold, bound, ended_requests}
-use Rattle.r6_frames.proofs.Lists.{Entries, same_put}
+use Rattle.r6_core.specs.Inside.{CanStart, CannotStart, HasFreedOne, IsFirstToStart, IsSound, IsSettled, IsRestedFrame, NoMoreCanStart, count_untold, bound, ended_requests}
+use Rattle.r6_core.proofs.Waking.{row_stays, one_more}
+use Rattle.r6_frames.proofs.Lists.{Entries}
 use Rattle.r6_frames.proofs.Held.{put_own}
 use Rattle.r6_core.proofs.Kept.{requests_kept, sizes_kept}
-use Rattle.r6_core.proofs.Passed.{Passed, passed, all-append}
+use Rattle.r6_core.proofs.Passed.{Passed, passed, all-middle}
 use Rattle.r6_core.proofs.Throughs.{through_in, through_of}
 use Rattle.r6_frames.proofs.Resting.{frame-held, free_is}
 use Rattle.r6_core.proofs.SlotsKept.{out_same, drives_keep}
@@ -44,10 +46,6 @@ use Rattle.r6_core.proofs.Accepting.{others}
 use Rattle.r6_core.proofs.MayBegin.{may_begin}
 
 -- ---- what a start leaves of a shard
-
-pub popped : (rs : List Entered) (r : Entered) → Some r ≡ slice_get rs 0 → rs ≡ r ∷ drop 1 rs
-popped [] r e = absurd (cc)
-popped (x ∷ rs) r e = let same : x ≡ r = cc in ap (λ (y : Entered). y ∷ rs) same
 
 or_false : (b : Bool) → (b || false) ≡ b
 or_false true = refl
@@ -114,11 +112,11 @@ module _ (old : Frames) (frame : ℕ) (request : Entered) (mid : Frames) (begins
   begun_tokens = ap (λ (s : Shard). s.tokens) begun_shard
 
   -- the tokens suffice for what may come
-  pub begun_numbers : (s : State) (rest : List Entered) → IsSound s → s.waiting.items ≡ request ∷ rest → old ≡ s.frames → owed mid ≡ owed old + 2 * old.geometry.slots
+  pub begun_numbers : (s : State) (rest : List Entered) → IsSound s → length s.waiting.items ≡ length rest + 1 → old ≡ s.frames → owed mid ≡ owed old + 2 * old.geometry.slots
       → next_of mid.commands + owed mid < 2 ^ 63
   begun_numbers s rest sound items same owes =
       let slots = s.frames.geometry.slots in
-      let all : 2 * slots * length s.waiting.items ≡ 2 * slots * length rest + 2 * slots = ap (λ rs. 2 * slots * length rs) items ∙ mul-suc (2 * slots) (length rest) in
+      let all : 2 * slots * length s.waiting.items ≡ 2 * slots * length rest + 2 * slots = ap (λ n. 2 * slots * n) (let more : length s.waiting.items ≡ suc (length rest) = omega (arith, items) in more) ∙ mul-suc (2 * slots) (length rest) in
       let tokens = begun_tokens ∙ ap (λ fs. next_of fs.commands) same in
       let more : owed mid ≡ owed s.frames + 2 * slots = owes ∙ ap (λ fs. owed fs + 2 * fs.geometry.slots) same in
       few (next_of s.frames.commands) (next_of mid.commands) (owed s.frames) (owed mid) (2 * slots) (2 * slots * length rest) (2 * slots * length s.waiting.items) tokens more all sound.tokens
@@ -126,12 +124,13 @@ module _ (old : Frames) (frame : ℕ) (request : Entered) (mid : Frames) (begins
       few : (n0 n1 o0 o1 each fewer all : ℕ) → n1 ≡ n0 → o1 ≡ o0 + each → all ≡ fewer + each → n0 + o0 + all ≤ limit + 2 * 32 * most_unanswered → n1 + o1 < 2 ^ 63
       few n0 n1 o0 o1 each fewer all a b c d = omega arith
 
--- ---- the start of the oldest request
+-- ---- the start of a request that waits
 
-pub record IsStart (s : State) (request : Entered) (rest : List Entered) (frame : ℕ) (mid new : Frames) : Type 0 where
-  pub items : s.waiting.items ≡ request ∷ rest
+pub record IsStart (s : State) (before : List Entered) (request : Entered) (behind : List Entered) (frame : ℕ) (mid new : Frames) : Type 0 where
+  pub items : s.waiting.items ≡ before ++ request ∷ behind
   pub can : CanStart s.frames request frame
   pub begins : Begins s.frames frame request mid
+  pub begun_sound : held.IsSound mid
   pub begun_others : KeepsOthers s.frames frame mid
   pub begun_owed : owed mid ≡ owed s.frames + 2 * s.frames.geometry.slots
   pub sound : held.IsSound new
@@ -147,7 +146,13 @@ pub record IsStart (s : State) (request : Entered) (rest : List Entered) (frame 
 abbrev pub with_frames : State → List Entered → Frames → State
 with_frames s rest new = record s { waiting = record { items = rest; capacity = s.waiting.capacity }; frames = new }
 
-module _ (s : State) (request : Entered) (rest : List Entered) (frame : ℕ) (mid new : Frames) (is : IsStart s request rest frame mid new) where
+pub longer : (before : List Entered) (request : Entered) (behind : List Entered) → length (before ++ request ∷ behind) ≡ length (before ++ behind) + 1
+longer before request behind = omega (arith, length-append before (request ∷ behind), length-append before behind)
+
+module _ (s : State) (before : List Entered) (request : Entered) (behind : List Entered) (frame : ℕ) (mid new : Frames) (is : IsStart s before request behind frame mid new) where
+  abbrev rest : List Entered
+  rest = before ++ behind
+
   geometry_same : new.geometry ≡ s.frames.geometry
   geometry_same = is.drives.0 ∙ is.begins.shard.0
 
@@ -166,12 +171,16 @@ module _ (s : State) (request : Entered) (rest : List Entered) (frame : ℕ) (mi
   requests_started distinct =
       let to = is.begins.requests in
       let tail : Entries Request = map (finished_request s.frames.saw_failed) s.finished.items ++ map released_request s.released.items in
+      let first : Entries Request = map waiting_request before in
+      let last : Entries Request = map waiting_request behind in
       let waiting : Entries Request = map waiting_request rest in
       let tail_same : requests_of (with_frames s rest new) ≡ waiting ++ (held_requests new ++ tail) =
       ap (λ (b : Bool). waiting ++ (held_requests new ++ (map (finished_request b) s.finished.items ++ map released_request s.released.items))) unfailed_same in
-      passed [] (waiting ++ ((to.before ++ to.behind) ++ tail)) (waiting ++ to.before) (to.behind ++ tail) request.id _ _ _ _
-      (λ i. map waiting_request (is.items i) ++ (to.without i ++ tail))
-      (tail_same ∙ ap (λ (es : Entries Request). waiting ++ (es ++ tail)) (is.requests ∙ to.with) ∙ (simp append_assoc))
+      passed first (last ++ ((to.before ++ to.behind) ++ tail)) ((first ++ last) ++ to.before) (to.behind ++ tail) request.id _ _ _ _
+      ((λ i. map waiting_request (is.items i) ++ (to.without i ++ tail))
+      ∙ ap (λ (es : Entries Request). es ++ ((to.before ++ to.behind) ++ tail)) (map-append waiting_request before (request ∷ behind)) ∙ (simp append_assoc))
+      (tail_same ∙ ap (λ (es : Entries Request). es ++ (held_requests new ++ tail)) (map-append waiting_request before behind)
+      ∙ ap (λ (es : Entries Request). (first ++ last) ++ (es ++ tail)) (is.requests ∙ to.with) ∙ (simp append_assoc))
       (simp append_assoc)
       distinct
 
@@ -193,7 +202,7 @@ module _ (s : State) (request : Entered) (rest : List Entered) (frame : ℕ) (mi
       let n = s.frames.shard in
       let row = row_of s.frames.geometry (block_of (op_of request.op)) in
       let distinct = sound.requests.distinct in
-      let own = (subst (λ rs. AllByRecursion (IsRequestOf s.frames) rs) is.items sound.requests.waiting).0 in
+      let own = (all-middle (IsRequestOf s.frames) before request behind (subst (λ rs. AllByRecursion (IsRequestOf s.frames) rs) is.items sound.requests.waiting)).0 in
       let begun_at = shard_with (rest_of (with_frames s rest new)) mid in
       let later : Through (layout_of mid.geometry) mid.shard PutsOut begun_at (state_of (with_frames s rest new)) = is.drives.2 (rest_of (with_frames s rest new)) in
       let here = through_in s.frames.geometry mid.geometry n mid.shard PutsOut begun_at (state_of (with_frames s rest new)) is.begins.shard.0 is.begins.shard.1 later in (
@@ -221,7 +230,8 @@ module _ (s : State) (request : Entered) (rest : List Entered) (frame : ℕ) (mi
   started_bound : bound (with_frames s rest new) ≤ bound s
   started_bound =
       let slots = s.frames.geometry.slots in
-      let fewer : 2 * slots * length s.waiting.items ≡ 2 * slots * length rest + 2 * slots = ap (λ rs. 2 * slots * length rs) is.items ∙ mul-suc (2 * slots) (length rest) in
+      let more : length s.waiting.items ≡ suc (length rest) = omega (arith, ap length is.items, longer before request behind) in
+      let fewer : 2 * slots * length s.waiting.items ≡ 2 * slots * length rest + 2 * slots = ap (λ n. 2 * slots * n) more ∙ mul-suc (2 * slots) (length rest) in
       let same : 2 * new.geometry.slots * length rest ≡ 2 * slots * length rest = ap (λ g. 2 * g.slots * length rest) geometry_same in
       summed (next_of s.frames.commands) (next_of mid.commands) (next_of new.commands) (owed s.frames) (owed mid) (owed new) (2 * slots)
       (2 * new.geometry.slots * length rest) (2 * slots * length rest) (2 * slots * length s.waiting.items)
@@ -236,7 +246,7 @@ module _ (s : State) (request : Entered) (rest : List Entered) (frame : ℕ) (mi
       let begun : states_of mid.slots ≡ states_of s.frames.slots = ap (λ (x : Shard). x.slot) (is.begins.shard.2 no_rest) in
       omega (arith, out_same s.frames new (drives_keep no_rest mid new is.drives ∙ begun) geometry_same, sound.room.few_calls)
 
-  pub started_core : IsCore s → IsCore (with_frames s rest new)
+  pub started_core : IsSettled s → IsSettled (with_frames s rest new)
   started_core core =
       let sound = core.sound in
       let requests = requests_started sound.requests.distinct in
@@ -248,7 +258,7 @@ module _ (s : State) (request : Entered) (rest : List Entered) (frame : ℕ) (mi
             numbered = requests.keeps (λ id. id < s.accepted) sound.requests.numbered;
             counted = requests.count ∙ sound.requests.counted;
             few = sound.requests.few;
-            waiting = requests_kept s.frames new rest geometry_same shard_same (subst (λ rs. AllByRecursion (IsRequestOf s.frames) rs) is.items sound.requests.waiting).1;
+            waiting = requests_kept s.frames new rest geometry_same shard_same (all-middle (IsRequestOf s.frames) before request behind (subst (λ rs. AllByRecursion (IsRequestOf s.frames) rs) is.items sound.requests.waiting)).1;
             sized = sizes_kept s.frames.geometry new.geometry (ended_requests s) geometry_same sound.requests.sized;
           };
           room = record {
@@ -270,69 +280,49 @@ module _ (s : State) (request : Entered) (rest : List Entered) (frame : ℕ) (mi
         ];
       }
 
-  pub started_advances : IsSound s → Advances s (with_frames s rest new)
-  started_advances sound = (
-    request,
-    rest,
-    is.items,
-    inl (refl, started sound),
-    λ other cannot live free_row f free.
-        let apart : f ≢ frame = λ e. let both : Some is.held_still.0 ≡ None = sym is.held_still.1 ∙ ap (hold_at new.held.items) (sym e) ∙ no_row new f free in absurd (cc) in
-        cannot is.can.0
-        (λ g h held_row row.
-        let other_frame : g ≢ frame = λ e. let both : Some h ≡ None = sym held_row ∙ ap (hold_at s.frames.held.items) e ∙ no_row s.frames frame is.can.1 in absurd (cc) in
-        free_row g h (ap row_in (frames_same g other_frame) ∙ held_row) (row ∙ ap (λ shape. row_of shape (block_of (op_of other.op))) (sym geometry_same)))
-        f (free.0, sym (frames_same f apart) ∙ free.1),
-  )
+  -- what could not start can't start now
+  pub started_no_more : NoMoreCanStart s (with_frames s rest new)
+  started_no_more other cannot live free_row f free =
+      let apart : f ≢ frame = λ e. let both : Some is.held_still.0 ≡ None = sym is.held_still.1 ∙ ap (hold_at new.held.items) (sym e) ∙ no_row new f free in absurd (cc) in
+      cannot is.can.0
+      (λ g h held_row row.
+      let other_frame : g ≢ frame = λ e. let both : Some h ≡ None = sym held_row ∙ ap (hold_at s.frames.held.items) e ∙ no_row s.frames frame is.can.1 in absurd (cc) in
+      free_row g h (ap row_in (frames_same g other_frame) ∙ held_row) (row ∙ ap (λ shape. row_of shape (block_of (op_of other.op))) (sym geometry_same)))
+      f (free.0, sym (frames_same f apart) ∙ free.1)
 
--- ---- the oldest request goes behind the others
+  -- the row is held in the frame
+  pub started_row : (h : HeldRow) × (hold_at new.held.items frame ≡ Some h) × (h.row ≡ row_of s.frames.geometry (block_of (op_of request.op)))
+  started_row =
+      let begun = frame-held mid frame (begun_for s.frames request) (begun_frame s.frames frame request mid is.begins) in
+      let there = row_stays mid new frame begun.0 is.begun_sound is.sound is.drives.0 is.requests begun.1 in
+      (there.0, there.1, there.2 ∙ ap (λ (h : Hold). h.row) begun.2)
 
-abbrev pub with_waiting : State → List Entered → State
-with_waiting s items = record s { waiting = record { items = items; capacity = s.waiting.capacity } }
+  -- if but for one frame all was as it was when none could start, none can
+  pub started_last : HasFreedOne s → AllByRecursion (CannotStart new) rest
+  started_last freed =
+      let all = all-middle (CannotStart freed.0) before request behind (subst (λ rs. AllByRecursion (CannotStart freed.0) rs) is.items freed.5) in
+      one_more freed.0 freed.1 s.frames frame new request freed.2 geometry_same freed.3 freed.4 is.can frames_same started_row all.0 rest all.1
 
-module _ (s : State) (request : Entered) (rest : List Entered) (items : s.waiting.items ≡ request ∷ rest) where
-  requests_turned : IsDistinct nat_eq (keys_of (requests_of s))
-      → Passed (requests_of s) (requests_of (with_waiting s (rest ++ request ∷ []))) request.id (waiting_request request).1 (waiting_request request).1
-  requests_turned distinct =
-      let waiting : Entries Request = map waiting_request rest in
-      passed [] (waiting ++ others s) waiting (others s) request.id _ _ _ _
-      (ap (λ rs. map waiting_request rs ++ others s) items)
-      (ap (λ (es : Entries Request). es ++ others s) (map-append waiting_request rest (request ∷ [])) ∙ (simp append_assoc))
-      refl
-      distinct
+-- ---- which request starts
 
-  pub turned_state : IsSound s → state_of (with_waiting s (rest ++ request ∷ [])) ≡ state_of s
-  turned_state sound =
-      let requests = requests_turned sound.requests.distinct in
-      let same = same_put (table (requests_of s)) (table (requests_of s)) request.id _ requests.was (λ q e. refl) in
-      ap (λ (request : ℕ → Option Request). shard_with (record (rest_of s) { request = request }) s.frames) (requests.now ∙ sym same)
+-- the one at the index was taken out
+module _ (s : State) (from index frame : ℕ) (first : IsFirstToStart s from index frame) where
+  pub first_there : index < length s.waiting.items
+  first_there = omega (arith, first.at, ap length first.items, longer first.before first.request first.behind, length-append first.before first.behind)
 
-  pub turned_core : IsCore s → IsCore (with_waiting s (rest ++ request ∷ []))
-  turned_core core =
-      let sound = core.sound in
-      let requests = requests_turned sound.requests.distinct in
-      let all = subst (λ rs. AllByRecursion (IsRequestOf s.frames) rs) items sound.requests.waiting in
-      let long : length (rest ++ request ∷ []) ≡ length s.waiting.items = length-append rest (request ∷ []) ∙ omega (arith, ap length items) in
-      record {
-        sound = record {
-          frames = sound.frames;
-          requests = record {
-            distinct = requests.distinct;
-            numbered = requests.keeps (λ id. id < s.accepted) sound.requests.numbered;
-            counted = requests.count ∙ sound.requests.counted;
-            few = sound.requests.few;
-            waiting = all-append (IsRequestOf s.frames) rest (request ∷ []) all.1 (all.0, tt);
-            sized = sound.requests.sized;
-          };
-          room = record {
-            waiting = sound.room.waiting;
-            finished = sound.room.finished;
-            released = sound.room.released;
-            calls = sound.room.calls;
-            few_calls = sound.room.few_calls;
-          };
-          tokens = subst (λ (n : ℕ). next_of s.frames.commands + owed s.frames + 2 * s.frames.geometry.slots * n ≤ limit + 2 * 32 * most_unanswered) (sym long) sound.tokens;
-          accepted = sound.accepted;
-        };
-        rested = core.rested;
-      }
+  pub first_items : (request : Entered) → request ≡ first.request → s.waiting.items ≡ first.before ++ request ∷ first.behind
+  first_items request is = first.items ∙ ap (λ r. first.before ++ r ∷ first.behind) (sym is)
+
+  pub first_can : (request : Entered) → request ≡ first.request → CanStart s.frames request frame
+  first_can request is = subst (λ r. CanStart s.frames r frame) (sym is) first.can
+
+  pub first_own : (request : Entered) → request ≡ first.request → IsSettled s → IsRequestOf s.frames request
+  first_own request is settled =
+      (all-middle (IsRequestOf s.frames) first.before request first.behind (subst (λ rs. AllByRecursion (IsRequestOf s.frames) rs) (first_items request is) settled.sound.requests.waiting)).0
+
+-- as many may wait as there is room for
+pub waiting_fits : (s : State) → IsSound s → length s.waiting.items ≤ s.waiting.capacity
+waiting_fits s sound =
+    let all = length-append (map waiting_request s.waiting.items) (others s) in
+    let many = length-map s.waiting.items waiting_request in
+    omega (arith, all, many, sound.requests.counted, sound.requests.few, sound.room.waiting)

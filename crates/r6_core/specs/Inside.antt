@@ -1,5 +1,5 @@
 -- What is true of a state between calls, and what internal calls do. No public clause needs it.
-use Rattle.std.specs.Prelude.{◌≡◌, ℕ, ◌+◌, ◌*◌, ◌<◌, ◌≤◌, ◌⊎◌, nat_eq, nat_lt, if◌then◌else◌, false, List, [], ◌∷◌, ◌++◌, length, map, IsPermutation, Option, Some, None, Result}
+use Rattle.std.specs.Prelude.{◌≡◌, ℕ, ◌+◌, ◌*◌, ◌<◌, ◌≤◌, nat_eq, nat_lt, if◌then◌else◌, false, List, [], ◌∷◌, ◌++◌, length, map, IsPermutation, Option, Some, None, Result}
 use Rattle.std.specs.List.{AllByRecursion, IsDistinct}
 use Rattle.std.specs.Map.{keys_of}
 use Rattle.r6_tables.specs.Table.{next_of}
@@ -13,12 +13,14 @@ use Rattle.r6_frames.specs.declared.op.Request.{Request}
 use Rattle.r6_core.specs.declared.call.Call.{Call}
 use Rattle.r6_core.specs.declared.refusal.DeviceFault.{DeviceFault}
 use Rattle.r6_core.specs.declared.refusal.Refusal.{Refusal}
+use Rattle.r6_core.specs.declared.scan.Freed.{Freed}
+use Rattle.r6_core.specs.declared.scan.Freed.TheVariants as freed
 use Rattle.r6_core.specs.declared.state.State.{State}
 use Rattle.r6_frames.specs.declared.frames.Frames.{Frames}
 use Rattle.r6_frames.specs.declared.frames.HeldRow.{HeldRow}
 use Rattle.r6_frames.specs.Slots.{count_out}
 use Rattle.r6_frames.specs.Views.{op_of, held_requests, hold_at, AreLive}
-use Rattle.r6_frames.specs.Calls.{Between, HasOneBlock, IsAwaited, IsFreeFrame, IsRequestOf, NotHeldBy}
+use Rattle.r6_frames.specs.Calls.{Between, HasOneBlock, IsAwaited, IsFreeFrame, IsRequestOf, KeepsOthers, NotHeldBy}
 use Rattle.r6_frames.specs.Owed.{owed, IsDriven, IsOver}
 use Rattle.r6_frames.specs.Calls as frames
 use Rattle.r6_frames.specs.Sound as held
@@ -80,8 +82,8 @@ IsRestedFrame s frame = IsDriven s.frames frame × (IsOver s.frames frame → �
 abbrev pub IsRested : State → Type 0
 IsRested s = (frame : ℕ) → IsRestedFrame s frame
 
--- between public calls
-pub record IsCore (s : State) : Type 0 where
+-- each hold rests; requests that wait may be able to start
+pub record IsSettled (s : State) : Type 0 where
   pub sound : IsSound s
   pub rested : AreLive s.frames → IsRested s
 
@@ -97,6 +99,35 @@ CannotStart fs request =
 
 abbrev pub NoneCanStart : State → Type 0
 NoneCanStart s = AllByRecursion (CannotStart s.frames) s.waiting.items
+
+-- between public calls: each hold rests, and no request that waits could start
+pub record IsCore (s : State) : Type 0 where
+  pub settled : IsSettled s
+  pub waits : NoneCanStart s
+
+-- ---- what may start after a change of the frames
+
+-- but for one frame, all is as it was when none could start
+abbrev pub HasFreedOne : State → Type 0
+HasFreedOne s =
+    (before : Frames) × (frame : ℕ) × (s.frames.geometry ≡ before.geometry) × (AreLive s.frames → AreLive before)
+    × KeepsOthers before frame s.frames × AllByRecursion (CannotStart before) s.waiting.items
+
+abbrev pub HasFreed : Freed → State → Type 0
+HasFreed freed.Nothing s = NoneCanStart s
+HasFreed freed.OneFrame s = HasFreedOne s
+HasFreed freed.Frames s = Unit {0}
+
+-- the oldest request that can start, from an index on, is the one at this index, in this frame
+pub record IsFirstToStart (s : State) (from index frame : ℕ) : Type 0 where
+  pub before : List Request
+  pub request : Request
+  pub behind : List Request
+  pub items : s.waiting.items ≡ before ++ request ∷ behind
+  pub at : length before ≡ index
+  pub past : from ≤ index
+  pub cannot : AllByRecursion (CannotStart s.frames) before
+  pub can : CanStart s.frames request frame
 
 -- ---- what internal calls do
 
@@ -116,13 +147,16 @@ abbrev pub inserted : Request → List Request → List Request
 inserted request [] = request ∷ []
 inserted request (other ∷ newer) = if nat_lt other.id request.id then other ∷ inserted request newer else request ∷ inserted other newer
 
--- the oldest request that waited starts, or goes behind the others where it can't
-abbrev pub Advances : State → State → Type 0
-Advances old new =
-    (request : Request) × (rest : List Request) × (old.waiting.items ≡ request ∷ rest)
-    × (((new.waiting.items ≡ rest) × Starts (layout_in old) old.frames.shard (state_of old) request (state_of new))
-    ⊎ ((new.waiting.items ≡ rest ++ request ∷ []) × CannotStart old.frames request × (new.frames ≡ old.frames) × (state_of new ≡ state_of old)))
-    × ((other : Request) → CannotStart old.frames other → CannotStart new.frames other)
+-- the request at the index starts, and the others keep their order
+abbrev pub StartsAt : State → (index : ℕ) → State → Type 0
+StartsAt old index new =
+    (before : List Request) × (request : Request) × (behind : List Request)
+    × (old.waiting.items ≡ before ++ request ∷ behind) × (length before ≡ index) × (new.waiting.items ≡ before ++ behind)
+    × Starts (layout_in old) old.frames.shard (state_of old) request (state_of new)
+
+-- what could not start can't start now
+abbrev pub NoMoreCanStart : State → State → Type 0
+NoMoreCanStart old new = (request : Request) → CannotStart old.frames request → CannotStart new.frames request
 
 -- the frame's hold was over, and its request is finished
 abbrev pub FinishesHeld : State → (frame : ℕ) → State → Type 0

@@ -1,6 +1,6 @@
 //! Completions of commands, and losses that they tell of.
 
-ghost use Rattle.std.specs.Prelude.{◌≡◌, ℕ, length, MatchOption, IfOk, IfErr};
+ghost use Rattle.std.specs.Prelude.{◌≡◌, ◌⊎◌, ℕ, length, MatchOption, IfOk, IfErr};
 ghost use Rattle.r6_world.specs.Steps.{Deliver, Good, Error, Taken, Through, GoesOn};
 ghost use Rattle.r6_frames.specs.Views.{AreLive};
 ghost use Rattle.r6_frames.specs.Calls.{IsAwaited, IsAbandoned, IsHeldFrame, KeepsOthers};
@@ -8,10 +8,11 @@ ghost use Rattle.r6_frames.specs.Owed.{IsDriven};
 ghost use Rattle.r6_core.specs.Shards.{Step, core_of, state_of, layout_in, completion_of, receipt_of};
 ghost use Rattle.r6_core.specs.Refusals.{IsFirstFault, HasNone, deliver_faults};
 ghost use Rattle.r6_core.specs.Order.{MayFinish, Finishes, FinishesBy, HaveTurnsBehind};
-ghost use Rattle.r6_core.specs.Inside.{IsSound, IsCore, IsRestedFrame, HasFault, FinishesHeld, SameCalls, SameFrames, Seen, TakesThrough};
+ghost use Rattle.r6_core.specs.Inside.{IsSound, IsSettled, IsCore, IsRestedFrame, HasFault, HasFreed, FinishesHeld, SameCalls, SameFrames, Seen, TakesThrough};
 
 use crate::call::Call;
 use crate::refusal::{DeviceFault, Receipt, Refusal, Refused};
+use crate::scan::Freed;
 use crate::state::State;
 use r6_kernels::Buffer;
 
@@ -36,7 +37,7 @@ impl State {
         None
     }
 
-    /// Takes the completion of a command, lets holds go on, and starts what can start.
+    /// Takes the completion of a command, lets holds go on, and starts what can start then.
     pub(crate) fn deliver(
         &mut self,
         token: u64,
@@ -61,17 +62,18 @@ impl State {
                 back: completion,
             });
         }
-        let receipt = self.take(token, completion);
-        self.scan();
+        let (receipt, freed) = self.take(token, completion);
+        self.start_waiting(freed);
         Ok(receipt)
     }
 
-    // The completion of a command that was taken: late, or with what it does to its hold or to all.
-    fn take(&mut self, token: u64, completion: Result<Buffer, DeviceFault>) -> Receipt
+    // The completion of a command that was taken: late, or with what it does to its hold or to all; and what it frees.
+    fn take(&mut self, token: u64, completion: Result<Buffer, DeviceFault>) -> (Receipt, Freed)
         requires core { IsCore self.old }
         requires right { HasNone (HasFault self.old token completion) deliver_faults }
-        ensures core { IsCore self.new }
-        ensures takes { TakesThrough self.old token (completion_of completion) (receipt_of result) self.new }
+        ensures settled { IsSettled self.new }
+        ensures freed { HasFreed result.1 self.new }
+        ensures takes { TakesThrough self.old token (completion_of completion) (receipt_of result.0) self.new }
         ensures same { SameFrames self.old self.new }
         ensures order { Seen (FinishesBy completion) self.old self.new }
         ensures unanswered { self.new.unanswered ≡ self.old.unanswered }
@@ -84,22 +86,25 @@ impl State {
                 Err(DeviceFault { kind: _, buffer }) => buffer,
             };
             self.frames.come_home(token, buffer);
-            return Receipt::Late;
+            return (Receipt::Late, Freed::OneFrame);
         }
         match completion {
-            Ok(buffer) => self.answer(token, buffer),
-            Err(DeviceFault { kind: _, buffer }) => self.lose(token, buffer),
+            Ok(buffer) => (Receipt::Taken, self.answer(token, buffer)),
+            Err(DeviceFault { kind: _, buffer }) => {
+                self.lose(token, buffer);
+                (Receipt::Taken, Freed::Frames)
+            }
         }
-        Receipt::Taken
     }
 
     // The command is answered; its hold goes on, and ends if it is over.
-    fn answer(&mut self, token: u64, buffer: Buffer)
+    fn answer(&mut self, token: u64, buffer: Buffer) -> Freed
         requires core { IsCore self.old }
         requires awaited { IsAwaited self.old.frames token }
         requires wanted { IsAbandoned self.old.frames token → ⊥ }
         requires size { length buffer ≡ self.old.frames.geometry.block }
-        ensures core { IsCore self.new }
+        ensures settled { IsSettled self.new }
+        ensures freed { HasFreed result self.new }
         ensures takes { TakesThrough self.old token (Good buffer) Taken self.new }
         ensures same { SameFrames self.old self.new }
         ensures order { Seen MayFinish self.old self.new }
@@ -109,16 +114,16 @@ impl State {
     {
         let frame = self.frames.answer(token, buffer);
         self.frames.drive(frame);
-        self.finish(frame);
+        self.finish(frame)
     }
 
     // The device of the command has failed: its slot is out, the loss is to be declared, and holds go on without it.
     fn lose(&mut self, token: u64, buffer: Buffer)
-        requires core { IsCore self.old }
+        requires core { IsSettled self.old }
         requires awaited { IsAwaited self.old.frames token }
         requires wanted { IsAbandoned self.old.frames token → ⊥ }
         requires size { length buffer ≡ self.old.frames.geometry.block }
-        ensures core { IsCore self.new }
+        ensures core { IsSettled self.new }
         ensures takes { TakesThrough self.old token Error Taken self.new }
         ensures same { SameFrames self.old self.new }
         ensures order { Seen Finishes self.old self.new }
@@ -138,7 +143,7 @@ impl State {
     /// Holds go on after a loss. Those that are over end, from the one with the oldest request on.
     pub(crate) fn settle(&mut self)
         requires { IsSound self.old }
-        ensures core { IsCore self.new }
+        ensures core { IsSettled self.new }
         ensures leads { Through (layout_in self.old) self.old.frames.shard GoesOn (state_of self.old) (state_of self.new) }
         ensures same { SameFrames self.old self.new }
         ensures calls { SameCalls self.old self.new }
@@ -151,12 +156,12 @@ impl State {
         }
         self.frames.drive_all();
         while let Some(frame) = self.frames.first_over() {
-            self.finish(frame);
+            let _ = self.finish(frame);
         }
     }
 
     // The frame's hold ends, if it is over, and its request is finished.
-    fn finish(&mut self, frame: usize)
+    fn finish(&mut self, frame: usize) -> Freed
         requires sound { IsSound self.old }
         requires live { AreLive self.old.frames }
         requires held { IsHeldFrame self.old.frames frame }
@@ -172,13 +177,18 @@ impl State {
         ensures calls { SameCalls self.old self.new }
         ensures order { Seen MayFinish self.old self.new }
         ensures ends { FinishesHeld self.old frame self.new }
+        ensures freed { (result ≡ Freed.OneFrame) ⊎ ((result ≡ Freed.Nothing) × (self.new ≡ self.old)) }
         ensures unanswered { self.new.unanswered ≡ self.old.unanswered }
         ensures waiting { self.new.waiting ≡ self.old.waiting }
     {
-        if let Some(request) = self.frames.finish(frame) {
-            let Ok(()) = self.finished.try_push_back(request) else {
-                unreachable!()
-            };
+        match self.frames.finish(frame) {
+            Some(request) => {
+                let Ok(()) = self.finished.try_push_back(request) else {
+                    unreachable!()
+                };
+                Freed::OneFrame
+            }
+            None => Freed::Nothing,
         }
     }
 }

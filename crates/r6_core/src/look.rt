@@ -11,9 +11,10 @@ ghost use Rattle.r6_frames.specs.Slots as slots;
 ghost use Rattle.r6_frames.specs.Slots.{states_of};
 ghost use Rattle.r6_core.specs.Shards.{Step, core_of, state_of, layout_in};
 ghost use Rattle.r6_core.specs.Order.{Agrees, SameReplies, FailsAll, LooksOn, HaveTurnsAfter};
-ghost use Rattle.r6_core.specs.Inside.{IsSound, IsCore, SameFrames, SameCalls, NoCalls, Seen, inserted, Gathers};
+ghost use Rattle.r6_core.specs.Inside.{IsSound, IsSettled, IsCore, SameFrames, SameCalls, NoCalls, Seen, inserted, Gathers};
 
 use crate::refusal::Refusal;
+use crate::scan::Freed;
 use crate::state::State;
 use circular_buffer::HeapCircularBuffer;
 use r6_frames::{Device, FRAMES, Request};
@@ -46,11 +47,14 @@ impl State {
         if self.frames.saw_failed() {
             return Ok(());
         }
-        if went_out {
+        let freed = if went_out {
             self.settle();
-        }
+            Freed::Frames
+        } else {
+            Freed::Nothing
+        };
         self.release();
-        self.scan();
+        self.start_waiting(freed);
         Ok(())
     }
 
@@ -84,7 +88,7 @@ impl State {
     // The array has failed: every request that isn't released is answered so, from the oldest to the newest.
     fn see_failure(&mut self)
         requires { IsSound self.old }
-        ensures core { IsCore self.new }
+        ensures core { IsSettled self.new }
         ensures fails { state_of self.new ≡ after (layout_in self.old) (state_of self.old) See_failed }
         ensures same { SameFrames self.old self.new }
         ensures calls { SameCalls self.old self.new }
@@ -120,9 +124,9 @@ impl State {
 
     // Releases all finished requests, in the order in which they finished.
     fn release(&mut self)
-        requires core { IsCore self.old }
+        requires core { IsSettled self.old }
         requires unfailed { self.old.frames.saw_failed ≡ false }
-        ensures core { IsCore self.new }
+        ensures core { IsSettled self.new }
         ensures released { state_of self.new ≡ after (layout_in self.old) (state_of self.old) Release }
         ensures order { (self.new.released.items ≡ self.old.released.items ++ self.old.finished.items) × (self.new.finished.items ≡ []) }
         ensures unanswered { self.new.unanswered ≡ self.old.unanswered }
@@ -136,10 +140,10 @@ impl State {
 
     // Releases the request that finished first.
     fn release_one(&mut self)
-        requires core { IsCore self.old }
+        requires core { IsSettled self.old }
         requires unfailed { self.old.frames.saw_failed ≡ false }
         requires some { 0 < length self.old.finished.items }
-        ensures core { IsCore self.new }
+        ensures core { IsSettled self.new }
         ensures finished { self.new.finished.items ≡ drop 1 self.old.finished.items }
         ensures released { self.new.released.items ++ self.new.finished.items ≡ self.old.released.items ++ self.old.finished.items }
         ensures waiting { self.new.waiting ≡ self.old.waiting }

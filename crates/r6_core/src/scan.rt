@@ -1,78 +1,172 @@
 //! Waiting requests start.
 
-ghost use Rattle.std.specs.Prelude.{◌≡◌, ◌<◌, ℕ, length, MatchOption};
+ghost use Rattle.std.specs.Prelude.{◌≡◌, ◌<◌, ◌≤◌, ◌++◌, ◌∷◌, ℕ, List, length, take, IsTrue, ◌↔◌, MatchOption};
+ghost use Rattle.std.specs.List.{AllByRecursion};
+ghost use Rattle.circular_buffer.specs.Buffer.{buffer};
+ghost use Rattle.r6_layout.specs.Layout as layout;
+ghost use Rattle.r6_world.specs.PlainArray as world;
 ghost use Rattle.r6_world.specs.Steps.{Through, Scans};
-ghost use Rattle.r6_frames.specs.Views.{AreLive};
-ghost use Rattle.r6_frames.specs.Calls.{IsFreeFrame, IsRequestOf};
+ghost use Rattle.r6_frames.specs.Views.{op_of, AreLive};
+ghost use Rattle.r6_frames.specs.Calls.{IsFreeFrame, IsRequestOf, NotHeldBy};
 ghost use Rattle.r6_frames.specs.Sound as held;
 ghost use Rattle.r6_core.specs.Shards.{core_of, state_of, layout_in};
 ghost use Rattle.r6_core.specs.Order.{HaveTurns, KeepsReplies};
-ghost use Rattle.r6_core.specs.Inside.{IsSound, IsCore, NoneCanStart, CannotStart, CanStart, Advances, SameFrames, SameCalls, Seen};
+ghost use Rattle.r6_core.specs.Inside.{IsSettled, IsCore, NoneCanStart, CannotStart, CanStart, HasFreed, HasFreedOne, IsFirstToStart, StartsAt, NoMoreCanStart, SameFrames, SameCalls, Seen};
 
 use crate::state::State;
+use circular_buffer::HeapCircularBuffer;
 use r6_frames::Request;
 
+/// What a change of the frames leaves to be started.
+#[derive(Clone, Copy)]
+pub(crate) enum Freed {
+    /// No row was let go, and no frame became free.
+    Nothing,
+    /// One frame at most let its row go or became free, so that one request at most can start.
+    OneFrame,
+    /// Any of the frames may have.
+    Frames,
+}
+
 impl State {
-    /// Starts each waiting request that can start, from the oldest to the newest. In a shard that has stopped none can.
-    pub(crate) fn scan(&mut self)
-        requires { IsCore self.old }
+    /// Starts what can start of the requests that wait, from the oldest to the newest. In a shard that has stopped none
+    /// can.
+    pub(crate) fn start_waiting(&mut self, freed: Freed)
+        requires settled { IsSettled self.old }
+        requires freed { HasFreed freed self.old }
         ensures core { IsCore self.new }
         ensures leads { Through (layout_in self.old) self.old.frames.shard Scans (state_of self.old) (state_of self.new) }
-        ensures rested { NoneCanStart self.new }
         ensures turns { HaveTurns (core_of self.old) (state_of self.old) self.old.waiting.items (core_of self.new) }
         ensures same { SameFrames self.old self.new }
         ensures calls { SameCalls self.old self.new }
         ensures replies { Seen KeepsReplies self.old self.new }
     {
-        if !self.frames.is_live() {
-            return;
-        }
-        for _ in 0..self.waiting.len() {
-            self.advance();
+        match freed {
+            Freed::Nothing => {}
+            Freed::OneFrame => self.start_one(),
+            Freed::Frames => self.start_all(),
         }
     }
 
-    // The oldest waiting request starts, if it can; else it goes behind the others.
-    fn advance(&mut self)
-        requires core { IsCore self.old }
-        requires live { AreLive self.old.frames }
-        requires some { 0 < length self.old.waiting.items }
+    // Starts the oldest waiting request that can start: no other can start behind it.
+    fn start_one(&mut self)
+        requires settled { IsSettled self.old }
+        requires freed { HasFreedOne self.old }
         ensures core { IsCore self.new }
-        ensures live { AreLive self.new.frames }
         ensures leads { Through (layout_in self.old) self.old.frames.shard Scans (state_of self.old) (state_of self.new) }
-        ensures advances { Advances self.old self.new }
+        ensures turns { HaveTurns (core_of self.old) (state_of self.old) self.old.waiting.items (core_of self.new) }
         ensures same { SameFrames self.old self.new }
         ensures calls { SameCalls self.old self.new }
         ensures replies { Seen KeepsReplies self.old self.new }
     {
-        let Some(request) = self.waiting.pop_front() else {
-            unreachable!()
-        };
-        match self.frame_for(&request) {
-            Some(frame) => {
-                self.frames.begin(frame, request);
-                self.frames.drive(frame);
-            }
-            None => {
-                let Ok(()) = self.waiting.try_push_back(request) else {
-                    unreachable!()
-                };
-            }
+        if let Some((index, frame)) = self.first_to_start(0) {
+            self.start(index, frame);
         }
     }
 
-    // A free frame, if the row of the request's block isn't held.
-    fn frame_for(&self, request: &Request) -> Option<usize>
+    // Starts each waiting request that can start, from the oldest to the newest.
+    fn start_all(&mut self)
+        requires { IsSettled self.old }
+        ensures core { IsCore self.new }
+        ensures leads { Through (layout_in self.old) self.old.frames.shard Scans (state_of self.old) (state_of self.new) }
+        ensures turns { HaveTurns (core_of self.old) (state_of self.old) self.old.waiting.items (core_of self.new) }
+        ensures same { SameFrames self.old self.new }
+        ensures calls { SameCalls self.old self.new }
+        ensures replies { Seen KeepsReplies self.old self.new }
+    {
+        let mut from = 0;
+        while let Some((index, frame)) = self.first_to_start(from) {
+            self.start(index, frame);
+            from = index;
+        }
+    }
+
+    // Of the waiting requests from an index on the oldest that can start: its index, and a free frame. Those before can't.
+    fn first_to_start(&self, from: usize) -> Option<(usize, usize)>
+        requires settled { IsSettled self.now }
+        requires before { AllByRecursion (CannotStart self.now.frames) (take from self.now.waiting.items) }
+        ensures { MatchOption result (NoneCanStart self.now) (λ first. IsFirstToStart self.now from first.0 first.1) }
+    {
+        if !self.frames.is_live() {
+            return None;
+        }
+        let Some(frame) = self.frames.free_frame() else {
+            return None;
+        };
+        for index in from..self.waiting.len() {
+            let Some(request) = self.waiting.get(index) else {
+                unreachable!()
+            };
+            if !self.is_row_held(request) {
+                return Some((index, frame));
+            }
+        }
+        None
+    }
+
+    // Whether the row of the request's block is held.
+    fn is_row_held(&self, request: &Request) -> bool
         requires sound { held.IsSound self.now.frames }
-        requires live { AreLive self.now.frames }
+        requires request { IsRequestOf self.now.frames request.now }
+        ensures { IsTrue result ↔ (NotHeldBy self.now.frames (layout.row_of self.now.frames.geometry (world.block_of (op_of request.now.op))) → ⊥) }
+    {
+        let Some(place) = self.frames.geometry().place(request.op.block()) else {
+            unreachable!()
+        };
+        self.frames.is_held(place.row)
+    }
+
+    /// A free frame, if the request can start: holds go on, and the row of its block isn't held.
+    pub(crate) fn frame_for(&self, request: &Request) -> Option<usize>
+        requires sound { held.IsSound self.now.frames }
         requires request { IsRequestOf self.now.frames request.now }
         ensures { MatchOption result (CannotStart self.now.frames request.now) (CanStart self.now.frames request.now) }
     {
-        let frame = self.frames.free_frame()?;
-        let place = self.frames.geometry().place(request.op.block())?;
-        if self.frames.is_held(place.row) {
+        if !self.frames.is_live() {
             return None;
         }
-        Some(frame)
+        if self.is_row_held(request) {
+            return None;
+        }
+        self.frames.free_frame()
     }
+
+    // The request at the index starts in the frame.
+    fn start(&mut self, index: usize, frame: usize)
+        requires settled { IsSettled self.old }
+        requires first { (from : ℕ) × IsFirstToStart self.old from index frame }
+        ensures settled { IsSettled self.new }
+        ensures leads { Through (layout_in self.old) self.old.frames.shard Scans (state_of self.old) (state_of self.new) }
+        ensures starts { StartsAt self.old index self.new }
+        ensures no_more { NoMoreCanStart self.old self.new }
+        ensures last { HasFreedOne self.old → NoneCanStart self.new }
+        ensures same { SameFrames self.old self.new }
+        ensures calls { SameCalls self.old self.new }
+        ensures replies { Seen KeepsReplies self.old self.new }
+    {
+        let request = take_at(&mut self.waiting, index);
+        self.frames.begin(frame, request);
+        self.frames.drive(frame);
+    }
+}
+
+// Takes the request at the index out. The others keep their order.
+fn take_at(queue: &mut HeapCircularBuffer<Request>, index: usize) -> Request
+    requires index { index < length queue.old.items }
+    requires room { length queue.old.items ≤ queue.old.capacity }
+    ensures { (before : List Request) (request : Request) (behind : List Request)
+        → queue.old.items ≡ before ++ request ∷ behind → length before ≡ index
+        → (result ≡ request) × (queue.new ≡ buffer (before ++ behind) queue.old.capacity) }
+{
+    let Some(first) = queue.pop_front() else {
+        unreachable!()
+    };
+    if index == 0 {
+        return first;
+    }
+    let request = take_at(queue, index - 1);
+    let Ok(()) = queue.try_push_front(first) else {
+        unreachable!()
+    };
+    request
 }

@@ -3,7 +3,7 @@
 ghost use Rattle.std.specs.Prelude.{◌≡◌, ◌+◌, ◌<◌, ◌++◌, ◌∷◌, [], length, map, MatchOption, IfOk, IfErr, IfSome};
 ghost use Rattle.r6_kernels.specs.Blocks.{IsBlock};
 ghost use Rattle.r6_layout.specs.Shape.{IsShape};
-ghost use Rattle.r6_world.specs.Steps.{Submit, No_command, Take_reply, No_reply};
+ghost use Rattle.r6_world.specs.Steps.{Submit, No_command, Take_reply, No_reply, Scans, Through};
 ghost use Rattle.r6_world.specs.Changes.{Accept, after, Allowed};
 ghost use Rattle.r6_frames.specs.Views.{op_of, buffer_of};
 ghost use Rattle.r6_frames.specs.Calls as frames;
@@ -12,7 +12,7 @@ ghost use Rattle.r6_core.specs.Shards.{Step, core_of, state_of, layout_in, reply
 ghost use Rattle.r6_core.specs.Refusals.{HasSubmitFault, IsFirstFault, HasNone, submit_faults};
 ghost use Rattle.r6_core.specs.Order.{NoReplies, SameReplies, BringsBack, TakesFirst, HasNoReply, HaveTurns, reply_to};
 ghost use Rattle.r6_core.specs.Effects.{KeepsRequests, HandsCommand};
-ghost use Rattle.r6_core.specs.Inside.{IsSound, IsCore, IsFresh, SameCalls, Seen};
+ghost use Rattle.r6_core.specs.Inside.{IsSound, IsCore, IsFresh, SameCalls, SameFrames, Seen};
 
 use crate::call::Call;
 use crate::refusal::{Refusal, Refused};
@@ -104,7 +104,7 @@ impl State {
         None
     }
 
-    /// Takes a request, and starts what can start.
+    /// Takes a request, which starts if it can.
     pub(crate) fn submit(&mut self, op: Op) -> Result<OpId, Refused<Op>>
         requires { IsCore self.old }
         ensures core { IsCore self.new }
@@ -124,31 +124,41 @@ impl State {
             return Err(Refused { refusal, back: op });
         }
         op.buffer().assure_bytes();
-        let id = self.accept(op);
-        self.scan();
-        Ok(OpId(id))
+        Ok(OpId(self.accept(op)))
     }
 
-    // Puts the request behind all that wait.
+    // Takes the request: it starts, if it can, and else it waits behind all others.
     fn accept(&mut self, op: Op) -> u64
         requires core { IsCore self.old }
         requires right { HasNone (HasSubmitFault (core_of self.old) op) submit_faults }
         requires sized { IsBlock (length (buffer_of op)) (buffer_of op) }
         ensures core { IsCore self.new }
         ensures id { result ≡ self.old.accepted }
-        ensures accepted { state_of self.new ≡ after (layout_in self.old) (state_of self.old) (Accept (op_of op)) }
         ensures allowed { Allowed (layout_in self.old) self.old.frames.shard (state_of self.old) (Accept (op_of op)) }
-        ensures same { (self.new.frames ≡ self.old.frames) × SameCalls self.old self.new }
-        ensures waiting { self.new.waiting.items ≡ self.old.waiting.items ++ (record { id = result; op = op }) ∷ [] }
+        ensures leads { Through (layout_in self.old) self.old.frames.shard Scans
+            (after (layout_in self.old) (state_of self.old) (Accept (op_of op))) (state_of self.new) }
+        ensures turns { HaveTurns (core_of self.old) (after (layout_in self.old) (state_of self.old) (Accept (op_of op)))
+            (self.old.waiting.items ++ (record { id = result; op = op }) ∷ []) (core_of self.new) }
+        ensures same { SameFrames self.old self.new }
+        ensures calls { SameCalls self.old self.new }
         ensures order { Seen SameReplies self.old self.new }
         ensures unanswered { self.new.unanswered ≡ self.old.unanswered + 1 }
     {
         let id = self.accepted;
-        let Ok(()) = self.waiting.try_push_back(Request { id, op }) else {
-            unreachable!()
-        };
+        let request = Request { id, op };
         self.accepted += 1;
         self.unanswered += 1;
+        match self.frame_for(&request) {
+            Some(frame) => {
+                self.frames.begin(frame, request);
+                self.frames.drive(frame);
+            }
+            None => {
+                let Ok(()) = self.waiting.try_push_back(request) else {
+                    unreachable!()
+                };
+            }
+        }
         id
     }
 

@@ -1,19 +1,83 @@
-use Rattle.std.proofs.Common.{◌+◌, sym, ap, subst, ◌∙◌}
+use Rattle.std.proofs.Common.{◌+◌, ◌++◌, ◌∷◌, [], refl, sym, subst, length-append}
 use Rattle.circular_buffer.specs.Buffer.{Buffer}
+use Rattle.r6_world.specs.Steps.{Through, Scans}
+use Rattle.r6_world.specs.Changes.{Accept, after}
 use Rattle.r6_frames.specs.declared.op.Request.{Request}
-use Rattle.r6_core.specs.Shards.{state_of}
+use Rattle.r6_frames.specs.Views.{op_of}
+use Rattle.r6_core.specs.Shards.{state_of, layout_in, core_of}
+use Rattle.r6_core.specs.Order.{HaveTurns}
 use Rattle.r6_core.specs.Inside.{IsCore}
-use Rattle.r6_core.proofs.Accepting.{accepted_core, accepted_state}
+use Rattle.r6_core.proofs.Accepting.{request_of}
+use Rattle.r6_core.proofs.Entering.{entered, waiting, waiting_settled, waits_core, waits_turns, waits_leads, starts_core, starts_leads, starts_turns}
+use Rattle.r6_core.proofs.Starting.{IsStart, begun_held, begun_numbers}
 use Rattle.r6_core.proofs.state.State.accept.Goals as goal
 
-pub returns-clause-core : goal.returns-clause-core
-returns-clause-core c =
+pub frame_for-requires-clause-request : goal.frame_for-requires-clause-request
+frame_for-requires-clause-request c = request_of c.args.self.now c.args.op c.requires.right c.requires.sized c.args.self.now.accepted
+
+pub begin-requires-clause-request : goal.begin-requires-clause-request
+begin-requires-clause-request c = request_of c.args.self.now c.args.op c.requires.right c.requires.sized c.args.self.now.accepted
+
+pub drive-requires-clause-held : goal.drive-requires-clause-held
+drive-requires-clause-held c = begun_held c.args.self.now.frames c.in-Some.frame (entered c.args.self.now c.args.op c.requires.core c.requires.right c.requires.sized) c.begin.new.self c.begin.ensures.begins
+
+pub drive-requires-clause-numbers : goal.drive-requires-clause-numbers
+drive-requires-clause-numbers c =
+    let s = c.args.self.now in
+    let r = entered s c.args.op c.requires.core c.requires.right c.requires.sized in
+    begun_numbers s.frames c.in-Some.frame r c.begin.new.self c.begin.ensures.begins
+    (waiting s c.args.op c.requires.core c.requires.right c.requires.sized) s.waiting.items
+    (waiting_settled s c.args.op c.requires.core c.requires.right c.requires.sized).sound
+    (length-append s.waiting.items (r ∷ [])) refl c.begin.ensures.owed
+
+start :
+    (c : goal.After-drive) → IsStart (waiting c.args.self.now c.args.op c.requires.core c.requires.right c.requires.sized) c.args.self.now.waiting.items
+    (entered c.args.self.now c.args.op c.requires.core c.requires.right c.requires.sized) [] c.in-Some.frame c.begin.new.self c.drive.new.self
+start c =
+    record {
+      items = refl;
+      can = c.in-Some.ensures;
+      begins = c.begin.ensures.begins;
+      begun_sound = c.begin.ensures.sound;
+      begun_others = c.begin.ensures.others;
+      begun_owed = c.begin.ensures.owed;
+      sound = c.drive.ensures.sound;
+      drives = c.drive.ensures.drives;
+      driven = c.drive.ensures.driven;
+      held_still = c.drive.ensures.held;
+      others_kept = c.drive.ensures.others;
+      requests = c.drive.ensures.requests;
+      all_owed = c.drive.ensures.owed;
+      live = c.drive.ensures.live;
+      goes_out = c.drive.ensures.out c.begin.ensures.owes;
+    }
+
+pub returns-in-Some-clause-core : goal.returns-in-Some-clause-core
+returns-in-Some-clause-core c = starts_core c.args.self.now c.args.op c.requires.core c.requires.right c.requires.sized _ _ _ (start c)
+
+pub returns-in-Some-clause-leads : goal.returns-in-Some-clause-leads
+returns-in-Some-clause-leads c = starts_leads c.args.self.now c.args.op c.requires.core c.requires.right c.requires.sized _ _ _ (start c)
+
+pub returns-in-Some-clause-turns : goal.returns-in-Some-clause-turns
+returns-in-Some-clause-turns c = starts_turns c.args.self.now c.args.op c.requires.core c.requires.right c.requires.sized _ _ _ (start c)
+
+pub returns-in-Ok-clause-core : goal.returns-in-Ok-clause-core
+returns-in-Ok-clause-core c =
     let s = c.args.self.now in
     subst (λ (w : Buffer Request). IsCore (record s { accepted = s.accepted + 1; unanswered = s.unanswered + 1; waiting = w })) (sym c.in-Ok.ensures.ok)
-    (accepted_core s c.args.op c.requires.core c.requires.right c.requires.sized)
+    (waits_core s c.args.op c.requires.core c.requires.right c.requires.sized c.in-None.ensures)
 
-pub returns-clause-accepted : goal.returns-clause-accepted
-returns-clause-accepted c =
+pub returns-in-Ok-clause-leads : goal.returns-in-Ok-clause-leads
+returns-in-Ok-clause-leads c =
     let s = c.args.self.now in
-    ap (λ (w : Buffer Request). state_of (record s { accepted = s.accepted + 1; unanswered = s.unanswered + 1; waiting = w })) c.in-Ok.ensures.ok
-    ∙ accepted_state s c.args.op c.requires.core.sound
+    let from = after (layout_in s) (state_of s) (Accept (op_of c.args.op)) in
+    subst (λ (w : Buffer Request). Through (layout_in s) s.frames.shard Scans from (state_of (record s { accepted = s.accepted + 1; unanswered = s.unanswered + 1; waiting = w }))) (sym c.in-Ok.ensures.ok)
+    (waits_leads s c.args.op c.requires.core c.requires.right c.requires.sized)
+
+pub returns-in-Ok-clause-turns : goal.returns-in-Ok-clause-turns
+returns-in-Ok-clause-turns c =
+    let s = c.args.self.now in
+    let r = entered s c.args.op c.requires.core c.requires.right c.requires.sized in
+    let from = after (layout_in s) (state_of s) (Accept (op_of c.args.op)) in
+    subst (λ (w : Buffer Request). HaveTurns (core_of s) from (s.waiting.items ++ r ∷ []) (core_of (record s { accepted = s.accepted + 1; unanswered = s.unanswered + 1; waiting = w }))) (sym c.in-Ok.ensures.ok)
+    (waits_turns s c.args.op c.requires.core c.requires.right c.requires.sized c.in-None.ensures)

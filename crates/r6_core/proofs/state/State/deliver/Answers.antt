@@ -6,15 +6,15 @@ use Rattle.r6_core.proofs.state.State.deliver.Goals as goal
 pub returns-clause-step : goal.returns-clause-step
 returns-clause-step c =
     let take = c.take-receipt.ensures in
-    let scan = c.scan.ensures in
-    delivered c.args.self.now c.take-receipt.new.self c.scan.new.self c.args.token (completion_of c.args.completion) (receipt_of c.take-receipt.result) take.takes take.same
-    scan.leads scan.same (at_rest c.scan.new.self scan.core scan.rested)
+    let scan = c.start_waiting.ensures in
+    delivered c.args.self.now c.take-receipt.new.self c.start_waiting.new.self c.args.token (completion_of c.args.completion) (receipt_of c.take-receipt.result.0) take.takes take.same
+    scan.leads scan.same (at_rest c.start_waiting.new.self scan.core)
 
 pub returns-clause-order : goal.returns-clause-order
-returns-clause-order c = finishes_on c.args.completion c.args.self.now c.take-receipt.new.self c.scan.new.self c.take-receipt.ensures.order c.scan.ensures.replies.0
+returns-clause-order c = finishes_on c.args.completion c.args.self.now c.take-receipt.new.self c.start_waiting.new.self c.take-receipt.ensures.order c.start_waiting.ensures.replies.0
 
 pub returns-clause-turns : goal.returns-clause-turns
 returns-clause-turns c =
     let take = c.take-receipt.ensures in
-    turns_behind c.args.completion c.args.self.now c.take-receipt.new.self c.scan.new.self c.args.token c.take-receipt.result take.takes take.same take.others take.waiting
-    c.scan.ensures.turns
+    turns_behind c.args.completion c.args.self.now c.take-receipt.new.self c.start_waiting.new.self c.args.token c.take-receipt.result.0 take.takes take.same take.others take.waiting
+    c.start_waiting.ensures.turns

@@ -30,7 +30,7 @@ returns-in-Ok-clause-ends c = λ h is over.
       freed c.args.self.now.frames c.finish.new.self c.args.frame c.in-Some.request ends,
     )
 
-pub returns-in_default-clause-leads : goal.returns-in_default-clause-leads
-returns-in_default-clause-leads c =
+pub returns-in-None-clause-leads : goal.returns-in-None-clause-leads
+returns-in-None-clause-leads c =
     through_none (layout_in c.args.self.now) c.args.self.now.frames.shard GoesOn (state_of c.args.self.now) (state_of (record c.args.self.now { frames = c.finish.new.self }))
-    (ap (λ (fs : Frames). state_of (record c.args.self.now { frames = fs })) c.in_default.ensures.ends.1)
+    (ap (λ (fs : Frames). state_of (record c.args.self.now { frames = fs })) c.in-None.ensures.ends.1)

@@ -4,7 +4,13 @@ use Rattle.std.proofs.lemmas.Bool.{eqb-true}
 use Rattle.r6_world.specs.Registers.{Snapshot}
 use Rattle.r6_core.specs.Shards.{layout_in, state_of, core_of}
 use Rattle.r6_core.specs.Order.{Agrees}
-use Rattle.r6_core.specs.Inside.{NoCalls}
+use Rattle.std.specs.List.{AllByRecursion}
+use Rattle.circular_buffer.specs.Buffer.{Buffer}
+use Rattle.r6_frames.specs.declared.op.Request.{Request}
+use Rattle.r6_frames.specs.declared.frames.Frames.{Frames}
+use Rattle.r6_frames.specs.Views.{AreLive}
+use Rattle.r6_core.specs.Inside.{CannotStart, HasFreed, NoCalls}
+use Rattle.r6_core.proofs.Scanned.{none_starts}
 use Rattle.r6_core.proofs.Releasing.{empty_of_length}
 use Rattle.r6_core.specs.declared.state.State.{State}
 use Rattle.r6_core.proofs.Looking.{HasSettled, settled_some, settled_none, failed_by-takes_over, failed_by-goes_on, looked, looked_failed, looked_stopped, looked_releases, looked_turns, stopped_turns}
@@ -72,18 +78,18 @@ returns-clause-step c =
     let mid = c.adopt-went_out.new.self in
     let seen = c.args.snapshot.now in
     let release = c.release.ensures in
-    let scan = c.scan.ensures in
+    let scan = c.start_waiting.ensures in
     let done : HasSettled s mid c.if-went_out.self seen = elim c.if-went_out.branch [
       | then-went_out w ↦
           let settle = w.settle.ensures in
           subst (λ (x : State). HasSettled s mid x seen) (sym w.self-is)
           (settled_some s mid w.settle.new.self seen (adopt.some w.if-went_out.true) settle.core settle.leads settle.same settle.order settle.unanswered settle.waiting)
-      | else-went_out w ↦ subst (λ (x : State). HasSettled s mid x seen) (sym w.self-is) (settled_none s mid seen (adopt.none w.if-went_out.false).0 c.requires)
+      | else-went_out w ↦ subst (λ (x : State). HasSettled s mid x seen) (sym w.self-is) (settled_none s mid seen (adopt.none w.if-went_out.false).0 c.requires.settled)
     ] in
-    looked s mid c.if-went_out.self c.release.new.self c.scan.new.self seen
+    looked s mid c.if-went_out.self c.release.new.self c.start_waiting.new.self seen
     (record { told = told_of s (sym c.is_empty.ensures ∙ c.if-not-is_empty.false) (sym c.is_some.ensures ∙ c.if-is_some.false); takes = adopt.takes; slots = adopt.slots; same = adopt.same; order = adopt.order; waiting = adopt.waiting })
     (sym c.failed.ensures ∙ c.if-failed.false) done
-    (record { is = release.released; frames = release.same.0; leads = scan.leads; same = scan.same; core = scan.core; rested = scan.rested })
+    (record { is = release.released; frames = release.same.0; leads = scan.leads; same = scan.same; core = scan.core })
 
 pub returns-clause-order : goal.returns-clause-order
 returns-clause-order c =
@@ -98,9 +104,9 @@ returns-clause-order c =
           let settle = w.settle.ensures in
           subst (λ (x : State). HasSettled s mid x seen) (sym w.self-is)
           (settled_some s mid w.settle.new.self seen (adopt.some w.if-went_out.true) settle.core settle.leads settle.same settle.order settle.unanswered settle.waiting)
-      | else-went_out w ↦ subst (λ (x : State). HasSettled s mid x seen) (sym w.self-is) (settled_none s mid seen (adopt.none w.if-went_out.false).0 c.requires)
+      | else-went_out w ↦ subst (λ (x : State). HasSettled s mid x seen) (sym w.self-is) (settled_none s mid seen (adopt.none w.if-went_out.false).0 c.requires.settled)
     ] in
-    (λ failed. absurd (no_both _ failed unfailed), λ e was. looked_releases s mid c.if-went_out.self c.release.new.self c.scan.new.self seen adopt.order done c.release.ensures.order c.scan.ensures.replies.0, λ e was. absurd (no_both _ was (sym kept ∙ (sym c.saw_failed.ensures ∙ c.if-saw_failed.false))))
+    (λ failed. absurd (no_both _ failed unfailed), λ e was. looked_releases s mid c.if-went_out.self c.release.new.self c.start_waiting.new.self seen adopt.order done c.release.ensures.order c.start_waiting.ensures.replies.0, λ e was. absurd (no_both _ was (sym kept ∙ (sym c.saw_failed.ensures ∙ c.if-saw_failed.false))))
 
 pub returns-then-saw_failed-clause-turns : goal.returns-then-saw_failed-clause-turns
 returns-then-saw_failed-clause-turns c =
@@ -122,11 +128,47 @@ returns-clause-turns c =
           let settle = w.settle.ensures in
           subst (λ (x : State). HasSettled s mid x seen) (sym w.self-is)
           (settled_some s mid w.settle.new.self seen (adopt.some w.if-went_out.true) settle.core settle.leads settle.same settle.order settle.unanswered settle.waiting)
-      | else-went_out w ↦ subst (λ (x : State). HasSettled s mid x seen) (sym w.self-is) (settled_none s mid seen (adopt.none w.if-went_out.false).0 c.requires)
+      | else-went_out w ↦ subst (λ (x : State). HasSettled s mid x seen) (sym w.self-is) (settled_none s mid seen (adopt.none w.if-went_out.false).0 c.requires.settled)
     ] in
     let release = c.release.ensures in
-    let scan = c.scan.ensures in
-    looked_turns s mid c.if-went_out.self c.release.new.self c.scan.new.self seen
+    let scan = c.start_waiting.ensures in
+    looked_turns s mid c.if-went_out.self c.release.new.self c.start_waiting.new.self seen
     (record { told = told_of s (sym c.is_empty.ensures ∙ c.if-not-is_empty.false) (sym c.is_some.ensures ∙ c.if-is_some.false); takes = adopt.takes; slots = adopt.slots; same = adopt.same; order = adopt.order; waiting = adopt.waiting })
-    done (record { is = release.released; frames = release.same.0; leads = scan.leads; same = scan.same; core = scan.core; rested = scan.rested })
+    done (record { is = release.released; frames = release.same.0; leads = scan.leads; same = scan.same; core = scan.core })
     release.waiting scan.turns
+
+-- in a shard that has stopped none could start
+pub returns-then-failed-clause-core : goal.returns-then-failed-clause-core
+returns-then-failed-clause-core c =
+    let fails = c.see_failure.ensures in
+    record {
+      settled = fails.core;
+      waits = subst (λ rs. AllByRecursion (CannotStart c.see_failure.new.self.frames) rs) (sym fails.order.2) tt;
+    }
+
+pub returns-then-self-clause-core : goal.returns-then-self-clause-core
+returns-then-self-clause-core c =
+    let mid = c.adopt-went_out.new.self in
+    let stopped : AreLive mid.frames → ⊥ = λ live. no_both _ (sym c.saw_failed.ensures ∙ c.if-saw_failed.true) live.1 in
+    record {
+      settled = record { sound = c.adopt-went_out.ensures.sound; rested = λ live. absurd (stopped live) };
+      waits = none_starts mid.frames mid.waiting.items stopped;
+    }
+
+-- a look that found no slot other leaves what waits where it was
+pub start_waiting-requires-clause-freed : goal.start_waiting-requires-clause-freed
+start_waiting-requires-clause-freed c =
+    let s = c.args.self.now in
+    let adopt = c.adopt-went_out.ensures in
+    let new = c.release.new.self in
+    let release = c.release.ensures in
+    elim c.if-went_out.branch [
+      | then-went_out w ↦ subst (λ f. HasFreed f new) (sym w.freed-is) tt
+      | else-went_out w ↦
+          let same : c.if-went_out.self ≡ s = w.self-is ∙ (adopt.none w.if-went_out.false).0 in
+          let frames = release.same.0 ∙ ap (λ (x : State). x.frames) same in
+          let waiting = release.waiting ∙ ap (λ (x : State). x.waiting) same in
+          subst (λ f. HasFreed f new) (sym w.freed-is)
+          (subst (λ (fs : Frames). AllByRecursion (CannotStart fs) new.waiting.items) (sym frames)
+          (subst (λ (b : Buffer Request). AllByRecursion (CannotStart s.frames) b.items) (sym waiting) c.requires.waits))
+    ]

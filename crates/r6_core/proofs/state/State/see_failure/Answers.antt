@@ -3,7 +3,7 @@ use Rattle.circular_buffer.specs.Buffer.{Buffer}
 use Rattle.r6_world.specs.Changes.{See_failed, after}
 use Rattle.r6_frames.specs.declared.op.Request.{Request}
 use Rattle.r6_core.specs.Shards.{state_of, layout_in}
-use Rattle.r6_core.specs.Inside.{IsCore}
+use Rattle.r6_core.specs.Inside.{IsSettled}
 use Rattle.r6_core.proofs.Replies.{some_popped, none_popped, unpopped}
 use Rattle.r6_core.proofs.SeenFailure.{seen_sound, waiting_distinct, has_room, failing_on, failed_core, failed_state}
 use Rattle.r6_core.proofs.state.State.see_failure.Goals as goal
@@ -44,7 +44,7 @@ none_waits c = (none_popped c.loop-request.self.waiting.items (sym c.pop_front.e
 pub returns-clause-core : goal.returns-clause-core
 returns-clause-core c =
     let seen = c.see_failure.ensures in
-    subst (λ (w : Buffer Request). IsCore (record c.loop-request.self { waiting = w })) (sym (still c))
+    subst (λ (w : Buffer Request). IsSettled (record c.loop-request.self { waiting = w })) (sym (still c))
     (failed_core c.args.self.now c.see_failure.new.self c.gather.new.self c.requires seen.sees seen.owed seen.requests c.gather.ensures.gathers c.loop-request.self c.loop-request.invariant (none_waits c))
 
 pub returns-clause-fails : goal.returns-clause-fails

@@ -1,21 +1,21 @@
 use Rattle.std.proofs.Common.{ℕ}
 use Rattle.r6_frames.specs.Calls.{KeepsOthers}
 use Rattle.r6_core.proofs.Answering.{awaited}
-use Rattle.r6_core.proofs.Completing.{late_core, late_takes, finishes_none, if_ok_all}
+use Rattle.r6_core.proofs.Completing.{late_core, late_freed, late_takes, finishes_none, if_ok_all}
 use Rattle.r6_core.proofs.state.State.take.Goals as goal
 
 pub is_abandoned-requires-clause-awaited : goal.is_abandoned-requires-clause-awaited
 is_abandoned-requires-clause-awaited c = awaited c.args.self.now.frames c.args.token c.requires.right.0
 
-pub returns-then-is_abandoned-clause-core : goal.returns-then-is_abandoned-clause-core
-returns-then-is_abandoned-clause-core c =
+pub returns-then-is_abandoned-clause-settled : goal.returns-then-is_abandoned-clause-settled
+returns-then-is_abandoned-clause-settled c =
     let home = c.come_home.ensures in
-    late_core c.args.self.now c.args.token c.come_home.new.self c.requires.core home.sound home.comes home.owed home.requests home.holds
+    late_core c.args.self.now c.args.token c.come_home.new.self c.requires.core.settled home.sound home.comes home.owed home.requests home.holds
 
 pub returns-then-is_abandoned-clause-takes : goal.returns-then-is_abandoned-clause-takes
 returns-then-is_abandoned-clause-takes c =
     let home = c.come_home.ensures in
-    late_takes c.args.self.now c.args.token c.come_home.new.self c.requires.core home.sound home.comes home.owed home.requests c.args.completion
+    late_takes c.args.self.now c.args.token c.come_home.new.self c.requires.core.settled home.sound home.comes home.owed home.requests c.args.completion
 
 pub returns-then-is_abandoned-clause-order : goal.returns-then-is_abandoned-clause-order
 returns-then-is_abandoned-clause-order c = finishes_none c.args.completion c.args.self.now c.come_home.new.self
@@ -29,3 +29,8 @@ answer-requires-clause-awaited c = awaited c.args.self.now.frames c.args.token c
 
 pub lose-requires-clause-awaited : goal.lose-requires-clause-awaited
 lose-requires-clause-awaited c = awaited c.args.self.now.frames c.args.token c.requires.right.0
+
+pub returns-then-is_abandoned-clause-freed : goal.returns-then-is_abandoned-clause-freed
+returns-then-is_abandoned-clause-freed c =
+    let home = c.come_home.ensures in
+    late_freed c.args.self.now c.args.token c.come_home.new.self c.requires.core.settled home.sound home.comes home.owed home.requests home.others c.requires.core.waits

@@ -34,20 +34,23 @@ is_first c =
 -- src/state.rt:175:5
 pub returns-clause-core : goal.returns-clause-core
 returns-clause-core c =
-    failed_core c.args.self.now c.in_ok-request.request c.pop_front.new.self (sym c.saw_failed.ensures ∙ c.if-not-saw_failed.false) c.requires.last (is_first c) c.requires.core (ap (λ (b : Buffer Request). b.capacity) c.pop_front.ensures.items)
+    record {
+      settled = failed_core c.args.self.now c.in_ok-request.request c.pop_front.new.self (sym c.saw_failed.ensures ∙ c.if-not-saw_failed.false) c.requires.last (is_first c) c.requires.core.settled (ap (λ (b : Buffer Request). b.capacity) c.pop_front.ensures.items);
+      waits = c.requires.core.waits;
+    }
 
 -- src/state.rt:175:5
 pub returns-clause-step : goal.returns-clause-step
 returns-clause-step c =
     let s = c.args.self.now in
-    let step = failed_step s c.in_ok-request.request c.pop_front.new.self (sym c.saw_failed.ensures ∙ c.if-not-saw_failed.false) c.requires.last (is_first c) c.requires.core.sound in
+    let step = failed_step s c.in_ok-request.request c.pop_front.new.self (sym c.saw_failed.ensures ∙ c.if-not-saw_failed.false) c.requires.last (is_first c) c.requires.core.settled.sound in
     rw (c.failed.ensures.0, ap reply_of c.failed.ensures.1) step
 
 -- src/state.rt:175:5
 pub returns-clause-buffer : goal.returns-clause-buffer
 returns-clause-buffer c =
     let s = c.args.self.now in
-    let was = failed_request s c.in_ok-request.request c.pop_front.new.self (sym c.saw_failed.ensures ∙ c.if-not-saw_failed.false) c.requires.last (is_first c) c.requires.core.sound in
+    let was = failed_request s c.in_ok-request.request c.pop_front.new.self (sym c.saw_failed.ensures ∙ c.if-not-saw_failed.false) c.requires.last (is_first c) c.requires.core.settled.sound in
     let s_table = table (requests_of s) in
     let brings = brings_failure (s_table c.in_ok-request.request.id) c.in_ok-request.request.op (Released ArrayFailed) was in
     subst (λ (id : ℕ). BringsBack (s_table id) c.failed.result.1) (sym c.failed.ensures.0)
@@ -57,4 +60,4 @@ pub returns-clause-sized : goal.returns-clause-sized
 returns-clause-sized c =
     let s = c.args.self.now in
     ap length (ap buffer_back c.failed.ensures.1)
-    ∙ (failed_sized s c.in_ok-request.request c.pop_front.new.self (sym c.saw_failed.ensures ∙ c.if-not-saw_failed.false) c.requires.last (is_first c) c.requires.core.sound.requests.sized).0
+    ∙ (failed_sized s c.in_ok-request.request c.pop_front.new.self (sym c.saw_failed.ensures ∙ c.if-not-saw_failed.false) c.requires.last (is_first c) c.requires.core.settled.sound.requests.sized).0

@@ -14,17 +14,20 @@ is_first c =
 
 pub returns-clause-core : goal.returns-clause-core
 returns-clause-core c =
-    reply_core c.args.self.now c.in-Some.request c.pop_front.new.self c.requires (is_first c) (ap (λ (b : Buffer _). b.capacity) c.pop_front.ensures.items)
+    record {
+      settled = reply_core c.args.self.now c.in-Some.request c.pop_front.new.self c.requires.settled (is_first c) (ap (λ (b : Buffer _). b.capacity) c.pop_front.ensures.items);
+      waits = c.requires.waits;
+    }
 
 pub returns-clause-step : goal.returns-clause-step
 returns-clause-step c =
-    let step = reply_step c.args.self.now c.in-Some.request c.pop_front.new.self c.requires.sound (is_first c) in
+    let step = reply_step c.args.self.now c.in-Some.request c.pop_front.new.self c.requires.settled.sound (is_first c) in
     rw (c.answered.ensures.0, ap reply_of c.answered.ensures.1 ∙ reply_as c.in-Some.request.op) step
 
 pub returns-clause-buffer : goal.returns-clause-buffer
 returns-clause-buffer c =
     let s_table = table (requests_of c.args.self.now) in
-    let was = reply_request c.args.self.now c.in-Some.request c.pop_front.new.self c.requires.sound (is_first c) in
+    let was = reply_request c.args.self.now c.in-Some.request c.pop_front.new.self c.requires.settled.sound (is_first c) in
     let brings = brings_answer (s_table c.in-Some.request.id) c.in-Some.request.op (Released (answer_of c.in-Some.request.op)) was in
     subst (λ (id : ℕ). BringsBack (s_table id) c.answered.result.1) (sym c.answered.ensures.0)
     (subst (λ (reply : Reply). BringsBack (s_table c.in-Some.request.id) reply) (sym c.answered.ensures.1) brings)
@@ -32,4 +35,4 @@ returns-clause-buffer c =
 pub returns-clause-sized : goal.returns-clause-sized
 returns-clause-sized c =
     ap length (ap buffer_back c.answered.ensures.1 ∙ buffer_answered c.in-Some.request.op)
-    ∙ (reply_sized c.args.self.now c.in-Some.request c.pop_front.new.self (is_first c) c.requires.sound.requests.sized).0
+    ∙ (reply_sized c.args.self.now c.in-Some.request c.pop_front.new.self (is_first c) c.requires.settled.sound.requests.sized).0

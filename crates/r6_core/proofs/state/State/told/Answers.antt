@@ -12,7 +12,7 @@ not_false false e = absurd (cc)
 pub unreachable-requires : goal.unreachable-requires
 unreachable-requires c =
     let s = c.args.self.now in
-    let fit = calls_fit s c.requires.sound in
+    let fit = calls_fit s c.requires.settled.sound in
     let taken : count_untold s.untold ≡ 1 = one_untold _ s.untold c.args.call (not_false _ (sym c.ne.ensures ∙ c.if-ne.false)) in
     let none : false ≡ true = c.in_default.ensures.variant.1 (omega arith) in
     absurd (cc)
