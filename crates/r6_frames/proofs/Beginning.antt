@@ -83,6 +83,8 @@ begun_first size in_sync kind = refl
 cells_of : (task : RowTask) (size : ℕ) (in_sync : List Bool) → (begun_held size in_sync (kind_of_task task)).planned.hold.cells ≡ (resting size (map standing_if in_sync)).cells
 cells_of (asks.Read index) size in_sync = refl
 cells_of (asks.Write index block) size in_sync = refl
+cells_of asks.Check size in_sync = refl
+cells_of asks.Repair size in_sync = refl
 
 all_unread : (standings : List Standing) → count_where (λ cell. is_unread cell.reading) (map standing_cell standings) ≡ length standings
 all_unread [] = refl

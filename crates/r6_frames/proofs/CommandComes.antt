@@ -129,7 +129,7 @@ pushed table c = (capacity_of table, (next_of table + 1, map.insert (entries_of 
 
 -- the row with its buffer away
 abbrev pub sent_off : HeldRow → Planned → ℕ → HeldRow
-sent_off h planned position = record h { hold = record { planned = planned; away = set h.hold.away position true } }
+sent_off h planned position = record h { hold = record { planned = planned; away = set h.hold.away position true; class = h.hold.class } }
 
 abbrev pub new_command : ℕ → ℕ → ℕ → ℕ → CommandKind → List ℕ → Outstanding
 new_command frame slot generation row kind buffer = record { frame = frame; slot = slot; generation = generation; row = row; kind = kind; buffer = Some buffer }

@@ -232,7 +232,7 @@ completed fs token c h block position hold commands sound out at done rest =
     let event = answer_event c.kind (place_of fs c) block in
     let a = answer_at fs.geometry fs.shard fs.slots h (place_of fs c) block c.kind out.whole out.inside out.in_sync out.away out.kind in
     let goes : hold ≡ (answered_row h (place_of fs c) event).hold =
-    done ∙ ap (λ p. answered h.hold p block) at ∙ (λ i. record { planned = a.is i; away = set h.hold.away (place_of fs c) false }) in
+    done ∙ ap (λ p. answered h.hold p block) at ∙ (λ i. record { planned = a.is i; away = set h.hold.away (place_of fs c) false; class = h.hold.class }) in
     let same : record fs { held = with_item fs.held c.frame (HeldIn (record h { hold = hold })); commands = commands } ≡ answered_of fs token c h out event =
     λ i. record fs { held = with_item fs.held c.frame (HeldIn (record h { hold = goes i })); commands = rest i } in
     record {

@@ -4,7 +4,7 @@ use Rattle.std.specs.Prelude.{◌||◌, ◌&&◌, not, if◌then◌else◌, slic
 use Rattle.std.specs.List.{list_any}
 use Rattle.std.proofs.lemmas.List.{get_or_default}
 use Rattle.r6_layout.specs.Shape.{Shape}
-use Rattle.r6_stripe.specs.Holds.{Hold, Standing, Cell, Kind, Reading, Event, cell_at, replaced, made_ready, after_event, AreNew, IsIndexOf}
+use Rattle.r6_stripe.specs.Holds.{Hold, Standing, Cell, Kind, Reading, Event, cell_at, wants_all, replaced, made_ready, after_event, AreNew, IsIndexOf}
 use Rattle.r6_stripe.specs.Holds.Standing.{InSync, Target, Out}
 use Rattle.r6_stripe.specs.Holds.Reading.{Unread, Asked, Known, Replaced}
 use Rattle.r6_stripe.specs.Holds.Writing.{Unwritten}
@@ -13,6 +13,8 @@ use Rattle.r6_stripe.specs.Plans.{Planned, is_out, is_unread, is_asked, is_unwri
 use Rattle.r6_stripe.proofs.Course.{Became, cell_after, kind_after, size_after, standing_after, width_after}
 use Rattle.r6_stripe.proofs.Steps.{step_by_rules}
 use Rattle.r6_frames.specs.declared.slots.Slot.{Slot}
+use Rattle.r6_frames.specs.declared.frames.Job.{Job}
+use Rattle.r6_frames.specs.declared.frames.Job.TheVariants as job
 use Rattle.r6_frames.specs.declared.frames.HeldRow.{HeldRow}
 use Rattle.r6_frames.specs.declared.frames.FrameUse.{FrameUse}
 use Rattle.r6_frames.specs.declared.frames.FrameUse.TheVariants.{Free, Held as HeldIn}
@@ -31,10 +33,15 @@ pub row_found : (held : List FrameUse) (frame : ℕ) (got : FrameUse) (h : HeldR
     → got ≡ slice_index_or held frame got → got ≡ HeldIn h → hold_at held frame ≡ Some h
 row_found held frame got h there value is = ap row_in (use_found held frame got (HeldIn h) (held_within held frame there.0 there.1) value is)
 
+-- what requests hold a row for is no check and no repair
+pub job_whole : (shape : Shape) (block : ℕ) (j : Job) (kind : Kind) → IsJob shape block j kind → wants_all kind ≡ false
+job_whole shape block (job.Read buffer) kind is = ap wants_all is.0
+job_whole shape block job.Write kind is = ap wants_all is.1
+
 -- ---- an event, and which buffers are away then
 
 abbrev pub gone_on : HeldRow → Event → List Bool → HeldRow
-gone_on h event away = record h { hold = record { planned = planned_after h.hold.planned event; away = away } }
+gone_on h event away = record h { hold = record { planned = planned_after h.hold.planned event; away = away; class = h.hold.class } }
 
 -- without a loss a position stands where it stood
 pub standing_stays : (hold : Hold) (event : Event) (j : ℕ) → event ≢ Loses j → (cell_at (after_event hold event).cells j).standing ≡ (cell_at hold.cells j).standing
@@ -155,7 +162,7 @@ silent_keeps (Confirms i) j silent = absurd silent
 
 -- the row with its hold prepared
 abbrev pub prepared : HeldRow → Planned → HeldRow
-prepared h planned = record h { hold = record { planned = planned; away = h.hold.away } }
+prepared h planned = record h { hold = record { planned = planned; away = h.hold.away; class = h.hold.class } }
 
 -- a row, and what its hold has made of it by itself
 pub record Prepared (shape : Shape) (shard : ℕ) (slots : List Slot) (old new : HeldRow) : Type 0 where

@@ -24,7 +24,7 @@ use Rattle.r6_frames.specs.declared.frames.FrameUse.{FrameUse}
 use Rattle.r6_frames.specs.declared.frames.FrameUse.TheVariants.{Free, Held as HeldIn, Returning}
 use Rattle.r6_frames.specs.declared.frames.Frames.{Frames}
 use Rattle.r6_frames.specs.Slots.{is_abandoned}
-use Rattle.r6_frames.specs.Views.{use_at, row_in, hold_at, hold_of, plan_in, held_requests, outstanding, command_of, shard_with, AreLive}
+use Rattle.r6_frames.specs.Views.{use_at, row_in, hold_at, hold_of, kind_in, plan_in, held_requests, outstanding, command_of, shard_with, AreLive}
 use Rattle.r6_frames.specs.Calls.{ComesHome, IsAwaited, IsAbandoned, KeepsHeld, KeepsOthers}
 use Rattle.r6_frames.specs.Owed.{owed}
 use Rattle.r6_frames.specs.Uses.{IsForRow, has_away, AwaitsBuffer, use_home, spared_home}
@@ -32,6 +32,7 @@ use Rattle.r6_frames.specs.Sound.{IsSound, IsHeld, IsReturning, is_away_from, pl
 use Rattle.r6_frames.proofs.Held.{use_within, use_held, free_at, home_at, owed_at, free_set}
 use Rattle.r6_frames.proofs.Ending.{none-away-at, some-away, count_home-all}
 use Rattle.r6_frames.proofs.Finishing.{count_free-le}
+use Rattle.r6_frames.proofs.HeldRows.{job_whole}
 use Rattle.r6_frames.proofs.AnsweredRows.{late_row, late_held, late_is}
 use Rattle.r6_frames.proofs.BuffersHome.{GoesOn, IsHome, home_back, left_of, commands_gone, commands_left, request_at, other_same, each_same, sound_left, owed_left, requests_left}
 use Rattle.r6_frames.proofs.Completions.{place_within}
@@ -181,7 +182,7 @@ module _ (fs : Frames) (token : ℕ) (c : Outstanding) (sound : IsSound fs) (lat
         → CameHome fs token (left_of fs token held spare)
     held_home position block held spare at items same room =
         let goes : answered h.hold position block ≡ (late_row h (place_of fs c)).hold =
-        ap (λ p. answered h.hold p block) at ∙ (λ i. record { planned = late_is h.hold.planned (place_of fs c) block (late.out h is) i; away = set h.hold.away (place_of fs c) false }) in
+        ap (λ p. answered h.hold p block) at ∙ (λ i. record { planned = late_is h.hold.planned (place_of fs c) block (late.out h is) i; away = set h.hold.away (place_of fs c) false; class = h.hold.class }) in
         came_home held spare (HeldIn h) (HeldIn (late_row h (place_of fs c))) held_was
         (items ∙ ap (λ (hold : StripeHold). set fs.held.items c.frame (HeldIn (record h { hold = hold }))) goes) late_home
         (record { hold = refl; plan = refl; owed = refl; requests = λ frame. refl }) (ap (λ (xs : List buffers.Shape). length xs + 0) same) room
@@ -326,7 +327,7 @@ module _ (fs : Frames) (token : ℕ) (c : Outstanding) (sound : IsSound fs) (lat
   pub awaits_buffer : (u : FrameUse) (position : ℕ) (block : Block) → use_at fs.held.items c.frame ≡ u → position ≡ place_of fs c → length block ≡ fs.geometry.block
       → AwaitsBuffer u position block
   awaits_buffer Free position block was at sized = absurd (let home = ap (λ v. is_away_from v (place_of fs c)) was in let away = late.away in cc)
-  awaits_buffer (HeldIn h) position block was at sized = (row_away h (ap row_in was) position at, sized ∙ sym (row_size h (ap row_in was)))
+  awaits_buffer (HeldIn h) position block was at sized = (row_away h (ap row_in was) position at, sized ∙ sym (row_size h (ap row_in was)), job_whole fs.geometry h.block h.job (kind_in h) (whole h (ap row_in was)).job)
   awaits_buffer (Returning r) position block was at sized =
       (returning_away r was position at, sized ∙ sym (returning_size r was), (returns r was).ended)
 

@@ -35,7 +35,7 @@ has_prepared h new puts =
       events = prepares.0;
       silent = prepares.1;
       may = prepares.2;
-      same = λ i. record h { hold = record { planned = prepares.3 i; away = (sym puts.2) i } };
+      same = λ i. record h { hold = record { planned = prepares.3 i; away = (sym puts.2) i; class = (sym puts.3) i } };
       nothing = puts.1;
     }
 

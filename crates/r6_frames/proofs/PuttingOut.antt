@@ -152,7 +152,7 @@ pub record HasPut (h : HeldRow) (position : ℕ) (kind : CommandKind) (buffer : 
   pub silent : AreSilent events
   pub may : IsPlanned h.hold.planned events
   pub follows : MayFollow (planned_at h.hold.planned events) (put_event position kind buffer)
-  pub new_is : new ≡ record { planned = planned_after (planned_at h.hold.planned events) (put_event position kind buffer); away = set h.hold.away position true }
+  pub new_is : new ≡ record { planned = planned_after (planned_at h.hold.planned events) (put_event position kind buffer); away = set h.hold.away position true; class = h.hold.class }
   pub sized : length buffer ≡ h.hold.planned.hold.size
 
 pub has_put : (h : HeldRow) (position : ℕ) (kind : CommandKind) (buffer : List ℕ) (new : Held) → PutsOutNext h.hold (Some (row_command position kind buffer)) new → HasPut h position kind buffer new
@@ -168,6 +168,6 @@ has_put h position command.Write buffer new puts =
       silent = prepares.1;
       may = prepares.2;
       follows = subst (λ (p : Planned). MayFollow p (Writes position buffer)) back follows;
-      new_is = puts.4 ∙ ap (λ (p : Planned). record { planned = planned_after p (Writes position buffer); away = set h.hold.away position true }) back;
+      new_is = puts.4 ∙ ap (λ (p : Planned). record { planned = planned_after p (Writes position buffer); away = set h.hold.away position true; class = h.hold.class }) back;
       sized = puts.5;
     }

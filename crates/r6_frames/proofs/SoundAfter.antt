@@ -74,7 +74,7 @@ module _ (fs : Frames) (frame : ℕ) (h new : HeldRow) (commands : Numbered Outs
   requests_changed same = held_stays 0 fs.held.items frame frame h new is (omega arith) same
 
 pub request_same : (frame : ℕ) (h : HeldRow) (planned : Planned) (away : List Bool) → planned.hold.kind ≡ kind_in h
-    → held_request frame (record h { hold = record { planned = planned; away = away } }) ≡ held_request frame h
+    → held_request frame (record h { hold = record { planned = planned; away = away; class = h.hold.class } }) ≡ held_request frame h
 request_same frame h planned away same = ap (λ (k : Kind). held_request frame (record h { hold = record h.hold { planned = record h.hold.planned { hold = record h.hold.planned.hold { kind = k } } } })) same
 
 -- ---- the position of a command

@@ -1,9 +1,10 @@
 -- What a frame is used for: a hold that begins in it, and buffers that come home to it.
-use Rattle.std.specs.Prelude.{◌≡◌, ℕ, if◌then◌else◌, Bool, true, List, [], ◌∷◌, length, replicate}
+use Rattle.std.specs.Prelude.{◌≡◌, ℕ, if◌then◌else◌, Bool, true, false, List, [], ◌∷◌, length, replicate}
 use Rattle.std.specs.List.{list_any}
 use Rattle.r6_layout.specs.Shape.{Shape}
 use Rattle.r6_layout.specs.Layout as layout
 use Rattle.r6_stripe.specs.Frames as buffers
+use Rattle.r6_stripe.specs.Holds.{wants_all}
 use Rattle.r6_stripe.specs.Holds.Kind.{Idle}
 use Rattle.r6_stripe.specs.Steps.{Held, begun_held, answered, is_away}
 use Rattle.r6_stripe.specs.Views.{kind_of_task}
@@ -15,7 +16,7 @@ use Rattle.r6_frames.specs.declared.frames.HeldRow.{HeldRow}
 use Rattle.r6_frames.specs.declared.frames.FrameUse.{FrameUse}
 use Rattle.r6_frames.specs.declared.frames.FrameUse.TheVariants as uses
 use Rattle.r6_frames.specs.declared.frames.Frames.{Frames}
-use Rattle.r6_frames.specs.Views.{op_of, job_for, row_task, is_synced_at}
+use Rattle.r6_frames.specs.Views.{op_of, job_for, row_task, kind_in, is_synced_at}
 
 abbrev pub none_held : ℕ → List FrameUse
 none_held n = replicate n uses.Free
@@ -70,7 +71,7 @@ spared hold = if has_away hold then [] else record { count = length hold.planned
 abbrev pub AwaitsBuffer : FrameUse → (position : ℕ) → Block → Type 0
 AwaitsBuffer uses.Free position block = ⊥
 AwaitsBuffer (uses.Held h) position block = (is_away h.hold position ≡ true)
-    × (length block ≡ h.hold.planned.hold.size)
+    × (length block ≡ h.hold.planned.hold.size) × (wants_all (kind_in h) ≡ false)
 AwaitsBuffer (uses.Returning r) position block = (is_away r position ≡ true) × (length block ≡ r.planned.hold.size)
     × (r.planned.hold.kind ≡ Idle)
 

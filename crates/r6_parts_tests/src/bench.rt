@@ -17,6 +17,8 @@ const BLOCK: usize = 16;
 pub(crate) enum Ask {
     Read(usize),
     Write(usize, u8),
+    Check,
+    Repair,
 }
 
 /// What happens next.
@@ -85,7 +87,10 @@ pub(crate) fn has_bytes(blocks: &Vec<Buffer>, bytes: &[u8], lost: &[usize]) -> b
 /// The hold of a row, of whose positions these are in sync.
 fn hold_of(alloc: Global, ask: Ask, in_sync: &[bool]) -> Result<Hold, Fail> {
     let count = in_sync.len();
-    let (Ask::Read(index) | Ask::Write(index, _)) = ask;
+    let index = match ask {
+        Ask::Read(index) | Ask::Write(index, _) => index,
+        Ask::Check | Ask::Repair => 0,
+    };
     if count < 4 || count > 32 || index >= count - 2 {
         return Err(Fail::from("no row"));
     }
@@ -93,6 +98,8 @@ fn hold_of(alloc: Global, ask: Ask, in_sync: &[bool]) -> Result<Hold, Fail> {
     let task = match ask {
         Ask::Read(index) => Task::Read(index),
         Ask::Write(index, byte) => Task::Write(index, filled(alloc, BLOCK, byte)?),
+        Ask::Check => Task::Check,
+        Ask::Repair => Task::Repair,
     };
     Ok(Hold::begin(frame, task, in_sync))
 }

@@ -25,7 +25,7 @@ pub enum RowClass {
 }
 
 /// The class of the row in these blocks.
-fn class_of(blocks: &[Buffer]) -> RowClass
+pub fn class_of(blocks: &[Buffer]) -> RowClass
     requires count { 2 ≤ length blocks.now }
     requires long { All (λ block. length block ≡ block_length blocks.now) blocks.now }
     ensures { HasClass blocks.now result }

@@ -12,7 +12,7 @@ pub mod parity;
 pub mod row;
 
 pub use apart::{restore_from_p_into, restore_from_q_into, restore_missing_into, restore_two_into};
-pub use class::{RowClass, classify};
+pub use class::{RowClass, class_of, classify};
 pub use in_place::restore_pair;
 pub use known::{Known, Missing, TooManyLost, missing_among};
 pub use parity::rewrite_parity;

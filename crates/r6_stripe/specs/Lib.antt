@@ -1,3 +1,4 @@
+pub mod Checks
 pub mod Examples
 pub mod FrameViews
 pub mod Frames

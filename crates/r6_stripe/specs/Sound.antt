@@ -1,5 +1,7 @@
 -- What is true of the fields of every hold.
 use Rattle.std.specs.Prelude.{◌≡◌, ◌≢◌, ◌⊎◌, ℕ, ◌+◌, ◌<◌, ◌≤◌, ⊤, Bool, true, false, List, [], length, slice_index_or, Option, Some, None}
+use Rattle.r6_recover.specs.declared.class.RowClass.{RowClass}
+use Rattle.r6_stripe.specs.Checks.{is_wrong}
 use Rattle.r6_stripe.specs.Places.{no_place, is_lent}
 use Rattle.r6_stripe.specs.declared.command.Task.{Task}
 use Rattle.r6_stripe.specs.declared.command.Task.TheVariants as task
@@ -16,6 +18,8 @@ abbrev pub IsTask : ℕ → ℕ → Option Task → Type 0
 IsTask count size None = ⊤
 IsTask count size (Some (task.Read index)) = index + 2 < count
 IsTask count size (Some (task.Write index block)) = (index + 2 < count) × (length block ≡ size)
+IsTask count size (Some task.Check) = ⊤
+IsTask count size (Some task.Repair) = ⊤
 
 -- the block of a position that is out was restored, and no new one was computed
 abbrev pub IsRestoredPlace : Place → Type 0
@@ -34,6 +38,12 @@ IsPut count index position = (position ≡ index) ⊎ (count ≤ position + 2)
 abbrev pub IsRenewed : Place → Type 0
 IsRenewed place = (place.write ≢ write.Unwritten) ⊎ (place.state ≡ state.Out)
 
+-- the place was read, and its block stands there still, or it is a parity and has its new block
+abbrev pub IsRepaired : ℕ → ℕ → Place → Type 0
+IsRepaired count position place =
+    ((place.read ≡ read.Known) × (place.write ≡ write.Unwritten))
+    ⊎ ((count ≤ position + 2) × (place.read ≡ read.Replaced) × (place.write ≢ write.Unwritten))
+
 -- where a place stands in the course of the plan, before or after the new blocks were computed
 abbrev pub IsInCourse : Plan → Option Task → ℕ → Bool → ℕ → Place → Type 0
 IsInCourse plan.One (Some (task.Read index)) count computed position place = (place.write ≡ write.Unwritten) × (place.read ≢ read.Replaced)
@@ -49,6 +59,11 @@ IsInCourse plan.Recover (Some (task.Read index)) count computed position place =
     (place.write ≡ write.Unwritten) × (place.read ≢ read.Replaced) × (position ≡ index → place.state ≡ state.Out)
 IsInCourse plan.Recover (Some (task.Write index block)) count false position place = (place.write ≡ write.Unwritten) × (place.read ≢ read.Replaced)
 IsInCourse plan.Recover (Some (task.Write index block)) count true position place = IsPut count index position → IsRenewed place
+IsInCourse plan.All (Some task.Check) count computed position place =
+    (place.write ≡ write.Unwritten) × (place.read ≢ read.Replaced)
+IsInCourse plan.All (Some task.Repair) count false position place =
+    (place.write ≡ write.Unwritten) × (place.read ≢ read.Replaced)
+IsInCourse plan.All (Some task.Repair) count true position place = IsRepaired count position place
 IsInCourse p None count computed position place = ⊤
 -- no plan but to recover serves both reads and writes
 IsInCourse _ _ count computed position place = ⊥
@@ -71,6 +86,24 @@ abbrev pub MayLend : Option Task → ℕ → Type 0
 MayLend None position = ⊤
 MayLend (Some (task.Read index)) position = position ≡ index
 MayLend (Some (task.Write index block)) position = ⊥
+MayLend (Some task.Check) position = ⊥
+MayLend (Some task.Repair) position = ⊥
+
+-- only a check or repair is cut short
+abbrev pub MayCut : Option Task → Bool → Type 0
+MayCut None cut = ⊤
+MayCut (Some (task.Read index)) cut = cut ≡ false
+MayCut (Some (task.Write index block)) cut = cut ≡ false
+MayCut (Some task.Check) cut = ⊤
+MayCut (Some task.Repair) cut = ⊤
+
+-- the parities that differ, as the class says, have their new blocks
+abbrev pub IsRenewedBy : Option RowClass → List Place → Type 0
+IsRenewedBy None places = ⊥
+IsRenewedBy (Some class) places =
+    (position : ℕ) → position < length places → length places ≤ position + 2
+    → is_wrong class (length places) position ≡ true
+    → (slice_index_or places position no_place).write ≢ write.Unwritten
 
 -- 4 to 32 positions, a buffer for each that is not away, and two more, of which one may be lent
 pub record IsSound (state : HoldState) : Type 0 where
@@ -82,8 +115,10 @@ pub record IsSound (state : HoldState) : Type 0 where
   pub fits : IsTask (length state.places.items) state.len state.task
   pub at_home : AreHome state.len state.places.items state.blocks.items
   pub settled : Each (λ position place. IsSettled place) state.places.items
+  pub cut : MayCut state.task state.cut_short
   pub lends : Each (λ position place. is_lent place ≡ true → MayLend state.task position) state.places.items
   pub computed : Bool
+  pub renewed : state.task ≡ Some task.Repair → computed ≡ true → IsRenewedBy state.class state.places.items
   pub course : Each (IsInCourse state.plan state.task (length state.places.items) computed) state.places.items
 
 -- a plan that serves a write
@@ -93,11 +128,14 @@ IsWritePlan plan.Reconstruct = ⊤
 IsWritePlan plan.Modify = ⊤
 IsWritePlan plan.Overwrite = ⊤
 IsWritePlan plan.Recover = ⊤
+IsWritePlan plan.All = ⊥
 
 -- a plan that serves the task
 abbrev pub Suits : Plan → Option Task → Type 0
-Suits plan.Recover t = ⊤
 Suits p None = ⊤
 Suits plan.One (Some (task.Read index)) = ⊤
+Suits plan.Recover (Some (task.Read index)) = ⊤
 Suits p (Some (task.Write index block)) = IsWritePlan p
+Suits plan.All (Some task.Check) = ⊤
+Suits plan.All (Some task.Repair) = ⊤
 Suits _ _ = ⊥

@@ -1,5 +1,6 @@
 -- A hold as its caller sees it, and what each call does to it.
 use Rattle.std.specs.Prelude.{◌≡◌, ℕ, ◌&&◌, not, Bool, true, false, List, map, slice_set, slice_index_or, if◌then◌else◌, Option, Some, None, length}
+use Rattle.r6_recover.specs.declared.class.RowClass.{RowClass}
 use Rattle.r6_stripe.specs.Holds.{Hold, Cell, Kind, Standing, begun, resting, cell_at}
 use Rattle.r6_stripe.specs.Holds.Event.{Asks, Writes, Gives, Confirms, Loses}
 use Rattle.r6_stripe.specs.Holds.Reading.{Unread, Known}
@@ -13,6 +14,8 @@ use Rattle.r6_stripe.specs.declared.command.RowCommand.TheVariants as command
 pub record Held : Type 0 where
   pub planned : Planned
   pub away : List Bool
+  -- of a check or repair, once the whole row was read
+  pub class : Option RowClass
 
 -- ---- what stands at a position
 
@@ -48,19 +51,19 @@ standing_if false = Standing.Out
 abbrev pub begun_held : ℕ → List Bool → Kind → Held
 begun_held size in_sync kind =
     let hold = begun (resting size (map standing_if in_sync)) kind in
-    record { planned = record { hold = hold; plan = first_plan hold kind }; away = map (λ b. false) in_sync }
+    record { planned = record { hold = hold; plan = first_plan hold kind }; away = map (λ b. false) in_sync; class = None }
 
 -- ---- what calls do
 
 -- a read of the position is put out, and its buffer leaves
 abbrev pub asked : Held → ℕ → Held
 asked held position =
-    record { planned = planned_after held.planned (Asks position); away = slice_set held.away position true }
+    record held { planned = planned_after held.planned (Asks position); away = slice_set held.away position true }
 
 -- a write of the position is put out, and its buffer leaves
 abbrev pub sent : Held → ℕ → List ℕ → Held
 sent held position block =
-    record { planned = planned_after held.planned (Writes position block); away = slice_set held.away position true }
+    record held { planned = planned_after held.planned (Writes position block); away = slice_set held.away position true }
 
 -- the answer to the position's command: a read gives the block, a write is confirmed; where the position is out nothing changes
 abbrev pub with_answer : Planned → ℕ → List ℕ → Planned
@@ -71,7 +74,7 @@ with_answer planned position block =
 -- the buffer comes home, with the answer or late
 abbrev pub answered : Held → ℕ → List ℕ → Held
 answered held position block =
-    record { planned = with_answer held.planned position block; away = slice_set held.away position false }
+    record held { planned = with_answer held.planned position block; away = slice_set held.away position false }
 
 -- the position is lost, and its commands are abandoned
 abbrev pub lost : Held → ℕ → Held
@@ -95,7 +98,7 @@ can_drop Plan.All hold position = false
 
 -- what `next_command` answers and leaves: the command that comes next by the plan, and none only where the plan has none
 abbrev pub PutsOut : Held → Option RowCommand → Held → Type 0
-PutsOut old None new = Prepares old.planned new.planned × (next new.planned ≡ None) × (new.away ≡ old.away)
+PutsOut old None new = Prepares old.planned new.planned × (next new.planned ≡ None) × (new.away ≡ old.away) × (new.class ≡ old.class)
 PutsOut old (Some (command.Read position buffer)) new =
     (next old.planned ≡ Some (Next.ReadAt position)) × (new ≡ asked old position) × (length buffer ≡ old.planned.hold.size)
 PutsOut old (Some (command.Write position buffer)) new =

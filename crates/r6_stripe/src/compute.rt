@@ -2,6 +2,7 @@
 
 ghost use Rattle.std.specs.Prelude.{◌≡◌, ◌<◌, ◌≤◌, ◌+◌, ◌-◌, ◌||◌, not, true, false, None, ℕ, length, take, slice_set, All, IsTrue};
 ghost use Rattle.r6_recover.specs.Rows.{block_at};
+ghost use Rattle.r6_stripe.specs.Checks.{IsClassed};
 ghost use Rattle.r6_stripe.specs.Places.{with_ready, ready_at, renewed, modified, parities_changed, away_of};
 ghost use Rattle.r6_stripe.specs.Plans as plans;
 ghost use Rattle.r6_stripe.specs.Sound.{IsSound};
@@ -20,6 +21,7 @@ impl HoldState {
     /// have been answered, and enough is known.
     pub(crate) fn prepare(&mut self)
         requires sound { IsSound self.old }
+        requires classed { IsClassed (hold_of self.old) self.old.class }
         requires goes_on { plans.gives_up (hold_of self.old) ≡ false }
         requires read { not (plans.has_read_out (hold_of self.old) || not (plans.is_enough (plan_of self.old.plan) (hold_of self.old))) ≡ true }
         requires no_read { plans.next_read (plan_of self.old.plan) (hold_of self.old) ≡ None }
@@ -27,7 +29,9 @@ impl HoldState {
         ensures prepares { plans.Prepares (planned_of self.old) (planned_of self.new) }
         ensures then_writes { plans.next (planned_of self.new) ≡ plans.next_write (hold_of self.new) }
         ensures away { away_of self.new.places.items ≡ away_of self.old.places.items }
-        ensures same { (length self.new.places.items ≡ length self.old.places.items) × (self.new.len ≡ self.old.len) }
+        ensures classed { IsClassed (hold_of self.new) self.new.class }
+        ensures same { (length self.new.places.items ≡ length self.old.places.items) × (self.new.len ≡ self.old.len)
+            × (self.new.class ≡ self.old.class) }
     {
         if let Some(index) = self.next_restore() {
             self.restore(index);
@@ -36,10 +40,10 @@ impl HoldState {
         if self.is_computed() {
             return;
         }
-        if let Plan::Recover = self.plan {
-            self.recover();
-        } else {
-            self.compute();
+        match self.plan {
+            Plan::Recover => self.recover(),
+            Plan::All => self.repair(),
+            _ => self.compute(),
         }
     }
 
@@ -47,6 +51,7 @@ impl HoldState {
     fn compute(&mut self)
         requires sound { IsSound self.old }
         requires plan { plan_of self.old.plan ≡ plans.Plan.Recover → ⊥ }
+        requires not_all { plan_of self.old.plan ≡ plans.Plan.All → ⊥ }
         requires read { not (plans.has_read_out (hold_of self.old) || not (plans.is_enough (plan_of self.old.plan) (hold_of self.old))) ≡ true }
         requires no_read { plans.next_read (plan_of self.old.plan) (hold_of self.old) ≡ None }
         requires owed { plans.each_below (λ position. not (plans.lacks_new (hold_of self.old) position)) (length (hold_of self.old).cells) ≡ false }
@@ -54,7 +59,8 @@ impl HoldState {
         ensures prepares { plans.Prepares (planned_of self.old) (planned_of self.new) }
         ensures then_writes { plans.next (planned_of self.new) ≡ plans.next_write (hold_of self.new) }
         ensures away { away_of self.new.places.items ≡ away_of self.old.places.items }
-        ensures same { (length self.new.places.items ≡ length self.old.places.items) × (self.new.len ≡ self.old.len) }
+        ensures same { (length self.new.places.items ≡ length self.old.places.items) × (self.new.len ≡ self.old.len)
+            × (self.new.task ≡ self.old.task) × (self.new.class ≡ self.old.class) }
     {
         let Some(task) = &self.task else {
             return;

@@ -3,6 +3,7 @@
 ghost use Rattle.std.specs.Prelude.{◌≡◌, ◌<◌, ℕ, List, not, true, false, length, slice_index_or, map, if◌then◌else◌, Some, None, MatchOption, IfSome};
 ghost use Rattle.std.specs.List.{list_any};
 ghost use Rattle.r6_stripe.specs.Frames as frames;
+ghost use Rattle.r6_stripe.specs.Checks.{IsClassAfter, IsEnd};
 ghost use Rattle.r6_stripe.specs.Holds.{cell_at, MayEnd};
 ghost use Rattle.r6_stripe.specs.Holds.Kind.{Idle};
 ghost use Rattle.r6_stripe.specs.Plans.{outcome_of};
@@ -62,6 +63,8 @@ impl Hold {
         let mut state = HoldState {
             task: Some(task),
             plan: Plan::Recover,
+            cut_short: false,
+            class: None,
             len,
             places,
             blocks,
@@ -84,13 +87,16 @@ impl Hold {
         self.state.next_command()
     }
 
-    /// The buffer of a command comes home: with the answer, or late if the position was lost since.
+    /// The buffer of a command comes home: with the answer, or late if the position was lost since. With the last block
+    /// of a check or repair the row's class is found.
     pub fn done(&mut self, position: usize, buffer: Buffer)
         requires away { is_away self.old position ≡ true }
         requires size { length buffer ≡ self.old.planned.hold.size }
-        ensures { self.new ≡ answered self.old position buffer }
+        ensures answered { self.new ≡ record (answered self.old position buffer) { class = self.new.class } }
+        ensures class { IsClassAfter self.new.planned.hold self.old.class self.new.class }
     {
         self.state.answer(position, buffer);
+        self.state.classify();
     }
 
     /// The position is lost, and its commands are abandoned. A buffer that is away with one may still come home.
@@ -103,11 +109,13 @@ impl Hold {
 
     /// How the hold ends, if it is over.
     pub fn outcome(&self) -> Option<Outcome>
-        ensures over { result ≡ (if has_outcome self.now.planned then Some Outcome.Done else None) }
+        ensures over { let kind = self.now.planned.hold.kind in MatchOption result
+            (has_outcome self.now.planned ≡ false)
+            (λ end. (has_outcome self.now.planned ≡ true) × IsEnd (outcome_of self.now.planned.hold kind) self.now.class end) }
         ensures ends { let hold = self.now.planned.hold in IfSome result (λ _. MayEnd hold (outcome_of hold hold.kind)) }
     {
         if self.state.has_outcome() {
-            Some(Outcome::Done)
+            Some(self.state.end())
         } else {
             None
         }

@@ -5,6 +5,7 @@
 //! and carries on when positions are lost in its course.
 #![tactic(auto)]
 
+mod check;
 mod command;
 mod compute;
 mod frame;

@@ -1,16 +1,19 @@
 //! What a hold reads, which command comes next, and when it is over.
 
-ghost use Rattle.std.specs.Prelude.{◌≡◌, ◌≢◌, ◌⊎◌, ◌+◌, ◌<◌, ◌≤◌, ◌||◌, ◌&&◌, ℕ, length, not, option_map, false, IsTrue, List, [], ◌∷◌};
+ghost use Rattle.std.specs.Prelude.{◌≡◌, ◌≢◌, ◌⊎◌, ◌+◌, ◌<◌, ◌≤◌, ◌||◌, ◌&&◌, ℕ, length, not, option_map, false, IsTrue, List, [], ◌∷◌, true, Some, if◌then◌else◌};
+ghost use Rattle.r6_recover.specs.declared.class.RowClass.{RowClass};
+ghost use Rattle.r6_stripe.specs.Checks.{IsClassed, IsEnd, KnowsWhatDiffers};
+ghost use Rattle.r6_stripe.specs.Holds as holds;
 ghost use Rattle.r6_stripe.specs.Holds.{MayEnd, cell_at};
 ghost use Rattle.r6_stripe.specs.Holds.Kind.{Read, Write};
 ghost use Rattle.r6_stripe.specs.Places.{is_readable};
 ghost use Rattle.r6_stripe.specs.OneBlock.{plan_of_one};
 ghost use Rattle.r6_stripe.specs.Plans as plans;
 ghost use Rattle.r6_stripe.specs.Sound.{IsSound, IsTask, IsWritePlan, Suits};
-ghost use Rattle.r6_stripe.specs.Steps.{can_drop, has_outcome, is_idle};
+ghost use Rattle.r6_stripe.specs.Steps.{can_drop, has_outcome, is_idle, IsUnwritten};
 ghost use Rattle.r6_stripe.specs.Views.{hold_of, plan_of, planned_of};
 
-use crate::command::Task;
+use crate::command::{Outcome, Task};
 use crate::state::HoldState;
 
 /// Which positions a hold reads before it can end or write.
@@ -26,6 +29,8 @@ pub(crate) enum Plan {
     Overwrite,
     /// As many positions in sync as there are data.
     Recover,
+    /// Every position.
+    All,
 }
 
 impl HoldState {
@@ -67,17 +72,21 @@ impl HoldState {
             Plan::Reconstruct => !(self.is_parity(position) || self.puts_data(position)),
             Plan::Modify => self.is_parity(position) || self.puts_data(position),
             Plan::Overwrite => false,
-            Plan::Recover => true,
+            Plan::Recover | Plan::All => true,
         }
     }
 
-    /// Whether the hold writes the position.
+    /// Whether the hold writes the position, which has no new block yet.
     fn puts(&self, position: usize) -> bool
-        requires { 2 ≤ length self.now.places.items }
+        requires within { position < length self.now.places.items }
+        requires count { 2 ≤ length self.now.places.items }
+        requires differ { KnowsWhatDiffers (hold_of self.now) self.now.class }
+        requires unwritten { IsUnwritten (cell_at (hold_of self.now).cells position) }
         ensures { result ≡ plans.puts (hold_of self.now) (hold_of self.now).kind position }
     {
         match self.task {
             Some(Task::Write(index, _)) => index == position || self.is_parity(position),
+            Some(Task::Repair) => self.is_parity(position) && self.differs(position),
             _ => false,
         }
     }
@@ -86,7 +95,11 @@ impl HoldState {
     pub(crate) fn gives_up(&self) -> bool
         ensures { result ≡ plans.gives_up (hold_of self.now) }
     {
-        self.task.is_none()
+        match self.task {
+            Some(Task::Check | Task::Repair) => self.cut_short,
+            Some(Task::Read(_) | Task::Write(_, _)) => false,
+            None => true,
+        }
     }
 
     /// Whether a read is put out that is neither answered nor abandoned.
@@ -101,6 +114,14 @@ impl HoldState {
         ensures { result ≡ plans.has_write_out (hold_of self.now) }
     {
         self.places.iter().any(|place| place.has_write_out())
+    }
+
+    /// Whether no command is put out that is neither answered nor abandoned.
+    fn is_quiet(&self) -> bool
+        ensures { let hold = hold_of self.now in
+            result ≡ (not (plans.has_read_out hold) && not (plans.has_write_out hold)) }
+    {
+        !self.has_read_out() && !self.has_write_out()
     }
 
     /// Whether the new blocks were computed.
@@ -126,7 +147,7 @@ impl HoldState {
     {
         match self.plan {
             Plan::Modify => self.is_parity(position),
-            Plan::One | Plan::Reconstruct | Plan::Overwrite | Plan::Recover => false,
+            Plan::One | Plan::Reconstruct | Plan::Overwrite | Plan::Recover | Plan::All => false,
         }
     }
 
@@ -161,7 +182,7 @@ impl HoldState {
     {
         match self.plan {
             Plan::Recover => self.coming_count() < self.places.len() - 2,
-            Plan::One | Plan::Reconstruct | Plan::Modify | Plan::Overwrite => true,
+            Plan::One | Plan::Reconstruct | Plan::Modify | Plan::Overwrite | Plan::All => true,
         }
     }
 
@@ -173,6 +194,7 @@ impl HoldState {
         match self.plan {
             Plan::Recover => self.places.len() - 2 <= self.known_count(),
             Plan::One | Plan::Reconstruct | Plan::Modify | Plan::Overwrite => self.is_all_served(),
+            Plan::All => self.is_all_known(),
         }
     }
 
@@ -180,6 +202,7 @@ impl HoldState {
     fn is_all_served(&self) -> bool
         requires count { 2 ≤ length self.now.places.items }
         requires plan { plan_of self.now.plan ≢ plans.Plan.Recover }
+        requires not_all { plan_of self.now.plan ≢ plans.Plan.All }
         ensures { result ≡ plans.is_enough (plan_of self.now.plan) (hold_of self.now) }
     {
         for position in 0..self.places.len() {
@@ -251,6 +274,7 @@ impl HoldState {
     fn lacks_new(&self, position: usize) -> bool
         requires within { position < length self.now.places.items }
         requires count { 2 ≤ length self.now.places.items }
+        requires differ { KnowsWhatDiffers (hold_of self.now) self.now.class }
         ensures { result ≡ plans.lacks_new (hold_of self.now) position }
     {
         self.places[position].is_unwritten() && self.puts(position)
@@ -258,7 +282,8 @@ impl HoldState {
 
     /// Whether no position is still to get its new block.
     pub(crate) fn is_computed(&self) -> bool
-        requires { 2 ≤ length self.now.places.items }
+        requires count { 2 ≤ length self.now.places.items }
+        requires differ { KnowsWhatDiffers (hold_of self.now) self.now.class }
         ensures { let hold = hold_of self.now in
             result ≡ plans.each_below (λ position. not (plans.lacks_new hold position)) (length hold.cells) }
     {
@@ -289,9 +314,12 @@ impl HoldState {
     /// Whether nothing is put out, and nothing comes next.
     pub(crate) fn is_over(&self) -> bool
         requires sound { IsSound self.now }
-        requires kind { plans.gives_up (hold_of self.now) ≡ false }
+        requires classed { IsClassed (hold_of self.now) self.now.class }
         ensures { result ≡ plans.is_over (planned_of self.now) }
     {
+        if self.gives_up() {
+            return self.is_quiet();
+        }
         if !self.has_read() || self.has_write_out() {
             return false;
         }
@@ -317,7 +345,11 @@ impl HoldState {
         requires count { 2 ≤ length self.now.places.items }
         ensures plan { plan_of result ≡ plans.after_loss (plan_of self.now.plan) (hold_of self.now) position }
         ensures same { (result ≡ self.now.plan) ⊎ (result ≡ Plan.Recover) }
+        ensures all { self.now.plan ≡ Plan.All → result ≡ Plan.All }
     {
+        if let Plan::All = self.plan {
+            return self.plan;
+        }
         if self.is_served(position) {
             return self.plan;
         }
@@ -387,6 +419,7 @@ impl HoldState {
         match task {
             Task::Read(index) => self.plan_of_read(*index),
             Task::Write(index, _) => self.plan_of_write(*index),
+            Task::Check | Task::Repair => Plan::All,
         }
     }
 
@@ -417,17 +450,42 @@ impl HoldState {
         plan_of_fewest_reads(self.can_reconstruct(), is_in_sync, data, parities)
     }
 
+    /// How the hold ends, once it is over.
+    pub(crate) fn end(&self) -> Outcome
+        requires sound { IsSound self.now }
+        requires classed { IsClassed (hold_of self.now) self.now.class }
+        requires over { has_outcome (planned_of self.now) ≡ true }
+        ensures { IsEnd (plans.outcome_of (hold_of self.now) (hold_of self.now).kind) self.now.class result }
+    {
+        match self.task {
+            Some(Task::Check | Task::Repair) => self.end_of_check(),
+            _ => Outcome::Done,
+        }
+    }
+
+    fn end_of_check(&self) -> Outcome
+        requires { (self.now.cut_short ≡ false) → (class : RowClass) × (self.now.class ≡ Some class) }
+        ensures { let outcome = if self.now.cut_short then holds.Outcome.GivenUp else holds.Outcome.Classed in
+            IsEnd outcome self.now.class result }
+    {
+        if self.cut_short {
+            return Outcome::GivenUp;
+        }
+        let Some(class) = self.class else {
+            unreachable!()
+        };
+        Outcome::Classed(class)
+    }
+
     /// Whether the hold is over, and may end.
     pub(crate) fn has_outcome(&self) -> bool
-        requires { IsSound self.now }
+        requires sound { IsSound self.now }
+        requires classed { IsClassed (hold_of self.now) self.now.class }
         ensures over { result ≡ has_outcome (planned_of self.now) }
         ensures ends { let hold = hold_of self.now in
             IsTrue result → MayEnd hold (plans.outcome_of hold hold.kind) }
     {
-        if self.gives_up() {
-            return false;
-        }
-        self.is_over()
+        self.task.is_some() && self.is_over()
     }
 }
 

@@ -47,7 +47,8 @@ impl HoldState {
         ensures prepares { plans.Prepares (planned_of self.old) (planned_of self.new) }
         ensures then_writes { plans.next (planned_of self.new) ≡ plans.next_write (hold_of self.new) }
         ensures away { away_of self.new.places.items ≡ away_of self.old.places.items }
-        ensures same { (length self.new.places.items ≡ length self.old.places.items) × (self.new.len ≡ self.old.len) }
+        ensures same { (length self.new.places.items ≡ length self.old.places.items) × (self.new.len ≡ self.old.len)
+            × (self.new.task ≡ self.old.task) × (self.new.class ≡ self.old.class) }
     {
         let missing = self.missing();
         restore_one(
@@ -73,7 +74,8 @@ impl HoldState {
         ensures prepares { plans.Prepares (planned_of self.old) (planned_of self.new) }
         ensures then_writes { plans.next (planned_of self.new) ≡ plans.next_write (hold_of self.new) }
         ensures away { away_of self.new.places.items ≡ away_of self.old.places.items }
-        ensures same { (length self.new.places.items ≡ length self.old.places.items) × (self.new.len ≡ self.old.len) }
+        ensures same { (length self.new.places.items ≡ length self.old.places.items) × (self.new.len ≡ self.old.len)
+            × (self.new.task ≡ self.old.task) × (self.new.class ≡ self.old.class) }
     {
         let missing = self.missing();
         let Some(task) = &self.task else {

@@ -2,6 +2,7 @@
 
 ghost use Rattle.std.specs.Prelude.{◌≡◌, ◌<◌, ℕ, List, length, slice_index_or, true, false, not, MatchOption};
 ghost use Rattle.std.specs.List.{list_any};
+ghost use Rattle.r6_stripe.specs.Checks.{IsClassed};
 ghost use Rattle.r6_stripe.specs.Holds.{cell_at};
 ghost use Rattle.r6_stripe.specs.Places.{no_place};
 ghost use Rattle.r6_stripe.specs.Plans as plans;
@@ -14,6 +15,7 @@ use crate::frame::Frame;
 use crate::place::{Place, ReadState, State, WriteState};
 use crate::plan::Plan;
 use r6_kernels::Buffer;
+use r6_recover::RowClass;
 use std::alloc::Global;
 use std::mem;
 
@@ -23,6 +25,10 @@ pub(crate) struct HoldState {
     /// None once the task was taken back.
     pub(crate) task: Option<Task>,
     pub(crate) plan: Plan,
+    /// A check or repair lost a position before it had read the whole row.
+    pub(crate) cut_short: bool,
+    /// Of a check or repair, once it has read the whole row.
+    pub(crate) class: Option<RowClass>,
     /// The length of a block.
     pub(crate) len: usize,
     /// In row order.
@@ -96,14 +102,17 @@ impl HoldState {
         ensures sound { IsSound self.new }
     {
         self.plan = self.plan_after_loss(position);
+        self.cut_short = self.cut_after_loss();
         self.places[position].state = State::Out;
     }
 
     /// Puts out the command that comes next.
     pub(crate) fn next_command(&mut self) -> Option<RowCommand>
-        requires { IsSound self.old }
+        requires sound { IsSound self.old }
+        requires classed { IsClassed (hold_of self.old) self.old.class }
         ensures puts_out { PutsOut (held_of self.old) result (held_of self.new) }
         ensures sound { IsSound self.new }
+        ensures classed { IsClassed (hold_of self.new) self.new.class }
     {
         if self.gives_up() {
             return None;
@@ -183,6 +192,8 @@ impl HoldState {
         let HoldState {
             task: _,
             plan: _,
+            cut_short: _,
+            class: _,
             len: _,
             places,
             blocks,

@@ -2,7 +2,10 @@ use Rattle.std.proofs.Common.{arith, sym, ap, ◌∙◌}
 use Rattle.std.specs.Vec.{with_item}
 use Rattle.r6_stripe.specs.Steps.{is_away}
 use Rattle.r6_frames.specs.declared.frames.FrameUse.TheVariants.{Held}
+use Rattle.r6_stripe.proofs.Checks.{answered_same}
+use Rattle.r6_frames.specs.Views.{kind_in}
 use Rattle.r6_frames.proofs.Held.{held_within}
+use Rattle.r6_frames.proofs.HeldRows.{job_whole}
 use Rattle.r6_frames.proofs.Completions.{Completed, out_of, out_there, out_row, completed}
 use Rattle.r6_frames.proofs.frames.Frames.answer.Goals as goal
 
@@ -46,7 +49,9 @@ done c =
     let command = c.in-Some.command in
     let h = c.in-Held.held in
     let out = out_row fs c.args.token command h c.index_mut.result.now c.requires.sound c.requires.awaited c.requires.wanted (sym c.remove.ensures.entry ∙ c.in-Some.is) c.index_mut.ensures.value c.in-Held.is in
-    completed fs c.args.token command h c.args.buffer c.position_at-position.result c.done.new.self c.remove.new.self c.requires.sound out c.position_at-position.ensures.value c.done.ensures c.remove.ensures.rest
+    completed fs c.args.token command h c.args.buffer c.position_at-position.result c.done.new.self c.remove.new.self c.requires.sound out c.position_at-position.ensures.value
+    (answered_same h.hold c.done.new.self c.position_at-position.result c.args.buffer c.done.ensures.answered c.done.ensures.class (job_whole fs.geometry h.block h.job (kind_in h) out.whole.job))
+    c.remove.ensures.rest
 
 pub returns-clause-sound : goal.returns-clause-sound
 returns-clause-sound c = (done c).sound

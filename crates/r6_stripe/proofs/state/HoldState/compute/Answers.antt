@@ -1,14 +1,17 @@
-use Rattle.std.proofs.Common.{◌≡◌, inl, ◌<◌, ◌+◌, ◌-◌, Bool, ℕ, true, List, [], length, get_or, set, take, sym, ◌∙◌, ap, subst, arith, Some}
+use Rattle.std.proofs.Common.{◌≡◌, inl, ◌<◌, ◌+◌, ◌-◌, Bool, ℕ, true, false, List, [], length, get_or, set, take, sym, ◌∙◌, ap, subst, arith, Some}
 use Rattle.std.proofs.lemmas.List.{length-set}
 use Rattle.r6_recover.specs.Rows.{row_of}
 use Rattle.r6_stripe.specs.Holds.{Kind, is_known}
 use Rattle.r6_stripe.specs.Plans as plans
 use Rattle.r6_stripe.specs.Places.{reading_of, no_place, renewed, modified}
-use Rattle.r6_stripe.specs.Sound.{AreHome, IsTask}
+use Rattle.r6_stripe.specs.Sound.{AreHome, IsTask, MayCut}
 use Rattle.r6_stripe.specs.Views.{hold_of, kind_of}
+use Rattle.r6_stripe.specs.declared.command.Task.{Task}
 use Rattle.r6_stripe.specs.declared.command.Task.TheVariants as task
 use Rattle.r6_stripe.specs.declared.place.Place.{Place}
 use Rattle.r6_stripe.proofs.Places.{any_default}
+use Rattle.std.specs.Prelude.{Option}
+use Rattle.r6_stripe.proofs.Checks.{writes_none, prepares_cut, then_writes_cut}
 use Rattle.r6_stripe.proofs.Computed.{none_owed}
 use Rattle.r6_stripe.proofs.Prepared.{owes_of, AwaitsNew, awaits_new, IsModified, IsPrepared, all_home, reconstructs, otherwise_modifies, p_home, q_home, modified_renews, lengths_kept, prepared}
 use Rattle.r6_stripe.proofs.Renewals.{length-ready_at, away-ready_at, length-modified}
@@ -19,8 +22,8 @@ use Rattle.r6_stripe.proofs.state.HoldState.compute.Goals.{In-Write, After-make_
 
 pub returns-in_default-task-clause-then_writes : goal.returns-in_default-task-clause-then_writes
 returns-in_default-task-clause-then_writes c =
-    let kind = ap kind_of (c.in-Some.is ∙ ap Some c.in_default-task.is) in
-    absurd (let e = sym c.requires.owed ∙ none_owed (hold_of c.args.self.now) (λ position. ap (λ (k : Kind). plans.puts (hold_of c.args.self.now) k position) kind) in cc)
+    let s = c.args.self.now in
+    absurd (writes_none s.plan s.task s.len s.cut_short c.requires.sound.computed s.places.items s.blocks.items (omega (arith, c.requires.sound.four_or_more)) c.requires.sound.course c.requires.not_all c.requires.owed c.in-Some.task c.in-Some.is c.in_default-task.not-Write)
 
 pub returns-in_default-clause-then_writes : goal.returns-in_default-clause-then_writes
 returns-in_default-clause-then_writes c =
@@ -30,8 +33,11 @@ returns-in_default-clause-then_writes c =
 is_write : (c : In-Write) → c.args.self.now.task ≡ Some (task.Write c.in-Write.index c.in-Write.block)
 is_write c = c.in-Some.is ∙ ap Some c.in-Write.is
 
+uncut : (c : In-Write) → c.args.self.now.cut_short ≡ false
+uncut c = subst (λ (t : Option Task). MayCut t c.args.self.now.cut_short) (is_write c) c.requires.sound.cut
+
 awaits : (c : In-Write) → AwaitsNew c.args.self.now.plan c.args.self.now.len c.in-Write.index c.in-Write.block c.args.self.now.places.items c.args.self.now.blocks.items
-awaits c = awaits_new c.args.self.now.plan c.args.self.now.task c.args.self.now.len c.in-Write.index c.in-Write.block c.args.self.now.places.items c.args.self.now.blocks.items (is_write c) (owes_of c.args.self.now c.requires.sound c.requires.read c.requires.no_read c.requires.owed)
+awaits c = awaits_new c.args.self.now.plan c.args.self.now.task c.args.self.now.len c.in-Write.index c.in-Write.block c.args.self.now.places.items c.args.self.now.blocks.items (is_write c) (owes_of c.args.self.now c.requires.sound (uncut c) c.requires.read c.requires.no_read c.requires.owed)
 
 -- ---- by the plan to reconstruct
 
@@ -71,19 +77,21 @@ returns-in-Reconstruct-clause-sound c =
       at_home = λ j below home. c.rewrite_row.ensures.long j [] (omega (arith, below, later_count, c.rewrite_row.ensures.count, sound.wide)) ∙ waits.sized;
       settled = done.settled;
       lends = λ j h lent. absurd (let f = sym (done.unlent j h) ∙ lent in cc);
+      cut = sound.cut;
       computed = true;
+      renewed = λ repairs. absurd (let e = sym (is_write at.In-Write) ∙ repairs in cc);
       course = done.course;
     }
 
 pub returns-in-Reconstruct-clause-prepares : goal.returns-in-Reconstruct-clause-prepares
 returns-in-Reconstruct-clause-prepares c =
     let at = goal.at.returns-in-Reconstruct-clause-prepares c in
-    (reconstructed at.After-make_ready (is_write at.In-Write) (awaits at.In-Write)).prepares
+    prepares_cut c.args.self.now.plan c.args.self.now.task c.args.self.now.len _ _ c.args.self.now.cut_short (uncut at.In-Write) (reconstructed at.After-make_ready (is_write at.In-Write) (awaits at.In-Write)).prepares
 
 pub returns-in-Reconstruct-clause-then_writes : goal.returns-in-Reconstruct-clause-then_writes
 returns-in-Reconstruct-clause-then_writes c =
     let at = goal.at.returns-in-Reconstruct-clause-then_writes c in
-    (reconstructed at.After-make_ready (is_write at.In-Write) (awaits at.In-Write)).then_writes
+    then_writes_cut c.args.self.now.plan c.args.self.now.task c.args.self.now.len _ c.args.self.now.cut_short (uncut at.In-Write) (reconstructed at.After-make_ready (is_write at.In-Write) (awaits at.In-Write)).then_writes
 
 pub returns-in-Reconstruct-clause-away : goal.returns-in-Reconstruct-clause-away
 returns-in-Reconstruct-clause-away c = rw c.make_ready.ensures (away-ready_at c.args.self.now.places.items (renewed (length c.args.self.now.places.items) c.in-Write.index true true))
@@ -156,7 +164,9 @@ returns-clause-sound c =
       at_home = subst (λ (xs : List Place). AreHome s.len xs new) (sym c.make_ready-2.ensures) (lengths_kept c.args.self.now.plan c.args.self.now.len c.in-Write.index c.in-Write.block c.args.self.now.places.items c.args.self.now.blocks.items waits p q modified new c.modify.ensures.modified sound.at_home);
       settled = done.settled;
       lends = λ j h lent. absurd (let f = sym (done.unlent j h) ∙ lent in cc);
+      cut = sound.cut;
       computed = true;
+      renewed = λ repairs. absurd (let e = sym (is_write at.In-Write) ∙ repairs in cc);
       course = done.course;
     }
 
@@ -164,13 +174,13 @@ pub returns-clause-prepares : goal.returns-clause-prepares
 returns-clause-prepares c =
     let at = goal.at.returns-clause-prepares c in
     let waits = awaits at.In-Write in
-    (otherwise at.After-make_ready-2 (is_write at.In-Write) waits (modifies at.After-is_known-q waits)).prepares
+    prepares_cut c.args.self.now.plan c.args.self.now.task c.args.self.now.len _ _ c.args.self.now.cut_short (uncut at.In-Write) (otherwise at.After-make_ready-2 (is_write at.In-Write) waits (modifies at.After-is_known-q waits)).prepares
 
 pub returns-clause-then_writes : goal.returns-clause-then_writes
 returns-clause-then_writes c =
     let at = goal.at.returns-clause-then_writes c in
     let waits = awaits at.In-Write in
-    (otherwise at.After-make_ready-2 (is_write at.In-Write) waits (modifies at.After-is_known-q waits)).then_writes
+    then_writes_cut c.args.self.now.plan c.args.self.now.task c.args.self.now.len _ c.args.self.now.cut_short (uncut at.In-Write) (otherwise at.After-make_ready-2 (is_write at.In-Write) waits (modifies at.After-is_known-q waits)).then_writes
 
 pub returns-clause-away : goal.returns-clause-away
 returns-clause-away c = rw c.make_ready-2.ensures (away-ready_at c.args.self.now.places.items (renewed (length c.args.self.now.places.items) c.in-Write.index c.is_known-p.result c.is_known-q.result))
