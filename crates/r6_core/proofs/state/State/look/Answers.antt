@@ -146,8 +146,8 @@ returns-then-failed-clause-core c =
       waits = subst (λ rs. AllByRecursion (CannotStart c.see_failure.new.self.frames) rs) (sym fails.order.2) tt;
     }
 
-pub returns-then-self-clause-core : goal.returns-then-self-clause-core
-returns-then-self-clause-core c =
+pub returns-then-saw_failed-clause-core : goal.returns-then-saw_failed-clause-core
+returns-then-saw_failed-clause-core c =
     let mid = c.adopt-went_out.new.self in
     let stopped : AreLive mid.frames → ⊥ = λ live. no_both _ (sym c.saw_failed.ensures ∙ c.if-saw_failed.true) live.1 in
     record {
