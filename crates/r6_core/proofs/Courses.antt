@@ -1,11 +1,14 @@
--- A run of the core of the smallest array goes on, call by call.
-use Rattle.std.proofs.Common.{◌≡◌, ◌≢◌, ℕ, List, [], ◌∷◌, ◌++◌, map, Bool, true, false, if◌then◌else◌, inl, refl, sym, ap, subst, ◌∙◌, arith, Option, Some, None, Result, Ok, Err}
+-- Runs of cores go on, call by call.
+use Rattle.std.proofs.Common.{◌≡◌, ◌≢◌, ℕ, zero, suc, ◌<◌, List, [], ◌∷◌, ◌++◌, map, Bool, true, false, if◌then◌else◌, inl, inr, refl, sym, ap, subst, ◌∙◌, arith, Option, Some, None, Result, Ok, Err}
 use Rattle.std.specs.Prelude.{IfOk}
 use Rattle.std.specs.Result.{result_ok}
+use Rattle.std.proofs.lemmas.Bool.{cases_eq}
 use Rattle.r6_layout.specs.Shape.{Shape, IsShape}
 use Rattle.r6_health.specs.Registers.{starting, without}
+use Rattle.r6_world.specs.Tables.{put}
 use Rattle.r6_world.specs.PlainArray.{Block, Array, Read, Data}
 use Rattle.r6_world.specs.Layouts.{Layout}
+use Rattle.r6_world.specs.Geometries.{layout_of}
 use Rattle.r6_world.specs.Registers.{Snapshot, RegisterCall, Degraded, DeclareLost, answer_to, register_after}
 use Rattle.r6_world.specs.ShardStates.{Shard, Command, Transfer, Fetch, LossOf}
 use Rattle.r6_world.specs.Steps as steps
@@ -13,18 +16,18 @@ use Rattle.r6_world.specs.Steps.{Event, Submit, Deliver, Good, Error, Taken, Loo
 use Rattle.r6_world.specs.Worlds as worlds
 use Rattle.r6_world.specs.Worlds.{World, Devices, MayCome, happened, next, started, given, performed_on, IsBrought}
 use Rattle.r6_world.specs.Claims.{IsLawfulStart}
-use Rattle.r6_world.specs.Laws.{IsByAnyone}
+use Rattle.r6_world.specs.Laws.{IsOfOutside, IsByAnyone}
 use Rattle.r6_world.specs.Witness.{smallest, small, after_all}
-use Rattle.r6_world.proofs.Tables.{put-same, None-not_Some, Some-inj}
+use Rattle.r6_world.proofs.Tables.{put-same, put-other, None-not_Some, Some-inj}
 use Rattle.r6_world.proofs.Geometries.{layouts}
-use Rattle.r6_world.proofs.Laws.Along.{unperformed}
 use Rattle.r6_core.specs.declared.refusal.DeviceFault.{DeviceFault}
 use Rattle.r6_core.specs.declared.refusal.Receipt.{Receipt}
 use Rattle.r6_core.specs.Shards.{CoreView, Step, world_shard, completion_of, receipt_of}
 use Rattle.r6_core.specs.Effects.{IsMade, Receives}
-use Rattle.r6_core.specs.Runs.{Happening, Call, Perform, Tell, Moment, in_world, moment_of, cores_after, MayHappen, CoresRun, IsThis, AreShards, StayShards}
-use Rattle.r6_core.specs.Courses.{events_in, events_of, cores_behind, HasRun, Fails, Reads, Declares, RunsThroughLoss}
-use Rattle.r6_core.proofs.Runs.{runs_of_one_core, own_moments}
+use Rattle.r6_core.specs.Runs.{Happening, Call, Perform, Tell, Moment, in_world, moment_of, cores_after, MayHappen, CoresRun, AreMade, IsShard, IsThis, AreShards, StayShards}
+use Rattle.r6_core.specs.Courses.{events_in, events_of, cores_behind, HasRun, Fails, Reads, Declares, RunsThroughLoss, two_shards, both, RunsBesideLoss}
+use Rattle.r6_core.proofs.Runs.{are_runs}
+use Rattle.r6_core.proofs.Unperformed.{unperformed}
 
 -- what a call that is accepted ensures of its answer
 pub of_ok : {A E : Type 0} (r : Result A E) (P : A → Type 0) (a : A) → result_ok r ≡ Some a → IfOk r P → P a
@@ -37,9 +40,9 @@ pub received : {E : Type 0} (completion : Result (List ℕ) DeviceFault) (r : Re
 received completion (Ok x) receipt old new token e p = subst (λ y. Step old (Deliver token (completion_of completion) (receipt_of y)) new) (Some-inj x receipt e) p.step
 received completion (Err x) receipt old new token e p = absurd (None-not_Some receipt e)
 
-both : {A : Type 0} (b : Bool) (x : A) → (if b then x else x) ≡ x
-both true x = refl
-both false x = refl
+unwrapped : {A : Type 0} (b : Bool) (x : A) → (if b then x else x) ≡ x
+unwrapped true x = refl
+unwrapped false x = refl
 
 -- ---- two runs, one behind the other
 
@@ -47,7 +50,7 @@ map-append : (a b : List Moment) → map moment_of (a ++ b) ≡ map moment_of a 
 map-append [] b = refl
 map-append (m ∷ a) b = ap (λ x. moment_of m ∷ x) (map-append a b)
 
-append-assoc : (a b c : List Event) → (a ++ b) ++ c ≡ a ++ (b ++ c)
+append-assoc : (a b c : List (ℕ × Event)) → (a ++ b) ++ c ≡ a ++ (b ++ c)
 append-assoc [] b c = refl
 append-assoc (e ∷ a) b c = ap (λ x. e ∷ x) (append-assoc a b c)
 
@@ -74,92 +77,122 @@ shards-behind : (l : Layout) (Ours : ℕ → Type 0) (w : World) (cores : ℕ �
 shards-behind l Ours w cores [] x = x
 shards-behind l Ours w cores (m ∷ moments) x = shards-behind l Ours (next l w (moment_of m)) (cores_after cores m.happening) moments x.1
 
--- ---- of the core of the smallest array, with no slot lost at the start
+-- ---- of cores made at a register with no slot lost
 
-module _ (limits : IsShape smallest) (device : Devices) (array : Array) (lawful : IsLawfulStart small (starting 0) device array) where
+-- one core has gone on, and the others are as they were
+record Becomes (Ours : ℕ → Type 0) (old : ℕ → CoreView) (n : ℕ) (core : CoreView) (new : ℕ → CoreView) : Type 0 where
+  own : new n ≡ core
+  others : (m : ℕ) → Ours m → m ≢ n → new m ≡ old m
+
+module _ (shape : Shape) (limits : IsShape shape) (Ours : ℕ → Type 0) (Comes : RegisterCall → Type 0) (below : (n : ℕ) → Ours n → n < shape.shards)
+    (device : Devices) (array : Array) (lawful : IsLawfulStart (layout_of shape) (starting 0) device array) where
+  abbrev l : Layout
+  l = layout_of shape
+
   abbrev begins : World
-  begins = started small (starting 0) device
+  begins = started l (starting 0) device
 
   -- a run, the world to which it leads, and what stands there
-  record Leads (events : List Event) (core : CoreView) (w : World) : Type 0 where
-    first : CoreView
-    made : IsMade smallest (starting 0) 0 first
+  record Leads (events : List (ℕ × Event)) (cores : ℕ → CoreView) (w : World) : Type 0 where
+    first : ℕ → CoreView
+    made : AreMade shape Ours (starting 0) first
     moments : List Moment
-    run : CoresRun small (IsThis 0) IsByAnyone begins (λ m. first) moments
+    run : CoresRun l Ours Comes begins first moments
     events_are : events_of moments ≡ events
-    core_is : cores_behind (λ m. first) moments 0 ≡ core
-    world_is : after_all small begins (map moment_of moments) ≡ w
+    cores_are : (n : ℕ) → Ours n → cores_behind first moments n ≡ cores n
+    world_is : after_all l begins (map moment_of moments) ≡ w
     device_is : (slot g row : ℕ) → w.device slot g row ≡ device slot g row
 
   -- what stands on a part that has answered an error stays there
   abbrev later : World → Happening → World
-  later w h = next small w (moment_of (record { happening = h; noise = (happened small w (in_world h)).device }))
+  later w h = next l w (moment_of (record { happening = h; noise = (happened l w (in_world h)).device }))
 
   -- one more thing happens, and no device changes
-  go_on : (events : List Event) (core : CoreView) (w : World) → (x : Leads events core w) → (h : Happening) (new : CoreView)
-      → MayHappen small (IsThis 0) IsByAnyone w (cores_behind (λ m. x.first) x.moments) h
-      → cores_after (cores_behind (λ m. x.first) x.moments) h 0 ≡ new
-      → ((slot g row : ℕ) → (happened small w (in_world h)).device slot g row ≡ device slot g row)
+  go_on : (events : List (ℕ × Event)) (cores : ℕ → CoreView) (w : World) → (x : Leads events cores w) → (h : Happening) (new : ℕ → CoreView)
+      → MayHappen l Ours Comes w (cores_behind x.first x.moments) h
+      → ((n : ℕ) → Ours n → cores_after (cores_behind x.first x.moments) h n ≡ new n)
+      → ((slot g row : ℕ) → (happened l w (in_world h)).device slot g row ≡ device slot g row)
       → Leads (events ++ events_in h) new (later w h)
-  go_on events core w x h new may becomes calm =
-      let m : Moment = record { happening = h; noise = (happened small w (in_world h)).device } in
-      let cores = cores_behind (λ m. x.first) x.moments in
+  go_on events cores w x h new may becomes calm =
+      let m : Moment = record { happening = h; noise = (happened l w (in_world h)).device } in
+      let behind = cores_behind x.first x.moments in
       record {
         first = x.first;
         made = x.made;
         moments = x.moments ++ m ∷ [];
-        run = run-append small (IsThis 0) IsByAnyone begins (λ m. x.first) x.moments (m ∷ []) x.run
-            (subst (λ (y : World). MayHappen small (IsThis 0) IsByAnyone y cores h) (sym x.world_is) may, record {});
+        run = run-append l Ours Comes begins x.first x.moments (m ∷ []) x.run
+            (subst (λ (y : World). MayHappen l Ours Comes y behind h) (sym x.world_is) may, record {});
         events_are = events-append x.moments (m ∷ []) ∙ ap (λ y. y ++ (events_in h ++ [])) x.events_are ∙ ap (λ y. events ++ y) (none-behind (events_in h));
-        core_is = ap (λ (y : ℕ → CoreView). y 0) (cores-append (λ m. x.first) x.moments (m ∷ [])) ∙ becomes;
-        world_is = world-append small begins x.moments (m ∷ []) ∙ ap (λ (y : World). next small y (moment_of m)) x.world_is;
-        device_is = λ slot g row. both _ _ ∙ calm slot g row;
+        cores_are = λ n ours. ap (λ (y : ℕ → CoreView). y n) (cores-append x.first x.moments (m ∷ [])) ∙ becomes n ours;
+        world_is = world-append l begins x.moments (m ∷ []) ∙ ap (λ (y : World). next l y (moment_of m)) x.world_is;
+        device_is = λ slot g row. unwrapped _ _ ∙ calm slot g row;
       }
     where
-      none-behind : (es : List Event) → es ++ [] ≡ es
+      none-behind : (es : List (ℕ × Event)) → es ++ [] ≡ es
       none-behind [] = refl
       none-behind (e ∷ es) = ap (λ y. e ∷ y) (none-behind es)
 
-  -- a call of the core
-  calls : (events : List Event) (core : CoreView) (w : World) → Leads events core w → (event : Event) (new : CoreView) → MayCome w 0 event → Step core event new
-      → Leads (events ++ event ∷ []) new (later w (Call 0 event new))
-  calls events core w x event new comes step =
-      go_on events core w x (Call 0 event new) new (refl, comes, subst (λ (y : CoreView). Step y event new) (sym x.core_is) step) refl x.device_is
+  -- the cores behind a run, of which one goes on
+  put-behind : (behind cores new : ℕ → CoreView) → ((m : ℕ) → Ours m → behind m ≡ cores m) → (n : ℕ) (core : CoreView) → Becomes Ours cores n core new
+      → (m : ℕ) → Ours m → put behind n core m ≡ new m
+  put-behind behind cores new same n core b m ours =
+      elim (cases_eq m n) [
+        | inl e ↦ put-same behind n core m e ∙ sym b.own ∙ ap new (sym e)
+        | inr ne ↦ put-other behind n core m ne ∙ same m ours ∙ sym (b.others m ours ne)
+      ]
+
+  -- a call of a core
+  calls : (events : List (ℕ × Event)) (cores : ℕ → CoreView) (w : World) → Leads events cores w → (n : ℕ) → Ours n → (core : CoreView) → cores n ≡ core
+      → (event : Event) (new : CoreView) (news : ℕ → CoreView) → Becomes Ours cores n new news → MayCome w n event → Step core event new
+      → Leads (events ++ (n, event) ∷ []) news (later w (Call n event new))
+  calls events cores w x n ours core is event new news b comes step =
+      go_on events cores w x (Call n event new) news
+      (ours, comes, subst (λ (y : CoreView). Step y event new) (sym (x.cores_are n ours ∙ is)) step)
+      (put-behind (cores_behind x.first x.moments) cores news x.cores_are n new b) x.device_is
 
   -- the world's shard is the core
-  shard-is : (events : List Event) (core : CoreView) (w : World) → (x : Leads events core w) → w.shard 0 ≡ world_shard core
-  shard-is events core w x =
-      let stays = (runs_of_one_core smallest limits 0 (omega arith) (starting 0) device (λ m. x.first) (made-of x.first x.made) x.moments x.run).1 in
-      ap (λ (y : World). y.shard 0) (sym x.world_is)
-      ∙ shards-behind small (IsThis 0) begins (λ m. x.first) x.moments stays 0 refl
-      ∙ ap world_shard x.core_is
-    where
-      made-of : (first : CoreView) → IsMade smallest (starting 0) 0 first → (n : ℕ) → n ≡ 0 → IsMade smallest (starting 0) n first
-      made-of first made n same = subst (λ k. IsMade smallest (starting 0) k first) (sym same) made
+  shard-is : (events : List (ℕ × Event)) (cores : ℕ → CoreView) (w : World) → (x : Leads events cores w) → (n : ℕ) → Ours n → w.shard n ≡ world_shard (cores n)
+  shard-is events cores w x n ours =
+      let stays = (are_runs shape Ours Comes below (starting 0) device x.first x.made x.moments x.run).1 in
+      ap (λ (y : World). y.shard n) (sym x.world_is)
+      ∙ shards-behind l Ours begins x.first x.moments stays n ours
+      ∙ ap world_shard (x.cores_are n ours)
 
   -- a command that is there to be taken was not performed
-  fresh : (events : List Event) (core : CoreView) (w : World) → (x : Leads events core w) → (token : ℕ) (c : Command)
-      → (world_shard core).command token ≡ Some c → c.taken ≡ false → w.performed 0 token ≡ None
-  fresh events core w x token c there untaken =
-      let made : (n : ℕ) → n ≡ 0 → IsMade smallest (starting 0) n x.first = (λ n same. subst (λ k. IsMade smallest (starting 0) k x.first) (sym same) x.made) in
-      let as_world = (runs_of_one_core smallest limits 0 (omega arith) (starting 0) device (λ m. x.first) made x.moments x.run).0 in
-      subst (λ (y : World). y.performed 0 token ≡ None) x.world_is
-      (unperformed small IsByAnyone 0 (layouts smallest limits) (starting 0) device array lawful (map moment_of x.moments)
-      (own_moments small 0 IsByAnyone begins (λ m. x.first) x.moments x.run) as_world token c
-      (ap (λ (y : World). (y.shard 0).command token) x.world_is ∙ ap (λ (s : Shard). s.command token) (shard-is events core w x) ∙ there)
+  fresh : (events : List (ℕ × Event)) (cores : ℕ → CoreView) (w : World) → (x : Leads events cores w) → (n : ℕ) → Ours n → (token : ℕ) (c : Command)
+      → (world_shard (cores n)).command token ≡ Some c → c.taken ≡ false → w.performed n token ≡ None
+  fresh events cores w x n ours token c there untaken =
+      let as_world = (are_runs shape Ours Comes below (starting 0) device x.first x.made x.moments x.run).0 in
+      subst (λ (y : World). y.performed n token ≡ None) x.world_is
+      (unperformed l Ours Comes (layouts shape limits) (starting 0) device array lawful x.first x.moments x.run as_world n ours token c
+      (ap (λ (y : World). (y.shard n).command token) x.world_is ∙ ap (λ (s : Shard). s.command token) (shard-is events cores w x n ours) ∙ there)
       untaken)
 
+  -- one core goes on, to where another call leads it
+  put-first : (cores : ℕ → CoreView) (n : ℕ) (middle : CoreView) → Becomes Ours cores n middle (put cores n middle)
+  put-first cores n middle = record { own = put-same cores n middle n refl; others = λ m ours ne. put-other cores n middle m ne }
+
+  put-then : (cores : ℕ → CoreView) (n : ℕ) (middle new : CoreView) (news : ℕ → CoreView) → Becomes Ours cores n new news → Becomes Ours (put cores n middle) n new news
+  put-then cores n middle new news b = record { own = b.own; others = λ m ours ne. b.others m ours ne ∙ sym (put-other cores n middle m ne) }
+
+  -- where a run leads
+  abbrev Onward : World → List (ℕ × Event) → (ℕ → CoreView) → Type 0
+  Onward w events news = (w' : World) × (w'.register ≡ w.register) × Leads events news w'
+
   -- a command is answered by an error
-  fails : (events : List Event) (core : CoreView) (w : World) → Leads events core w → (new : CoreView) → (f : Fails core new)
-      → (w' : World) × (w'.register ≡ w.register) × Leads (events ++ Take_command f.token f.command ∷ Deliver f.token Error Taken ∷ []) new w'
-  fails events core w x new f =
-      let taken = calls events core w x (Take_command f.token f.command) f.middle (record {}) f.taken in
-      let w1 = later w (Call 0 (Take_command f.token f.command) f.middle) in
-      let done = calls (events ++ Take_command f.token f.command ∷ []) f.middle w1 taken (Deliver f.token Error Taken) new (record {}) f.delivered in (
-        later w1 (Call 0 (Deliver f.token Error Taken) new),
+  fails : (events : List (ℕ × Event)) (cores : ℕ → CoreView) (w : World) → Leads events cores w → (n : ℕ) → Ours n → (core : CoreView) → cores n ≡ core
+      → (new : CoreView) (news : ℕ → CoreView) → Becomes Ours cores n new news → (f : Fails core new)
+      → Onward w (events ++ (n, Take_command f.token f.command) ∷ (n, Deliver f.token Error Taken) ∷ []) news
+  fails events cores w x n ours core is new news b f =
+      let mid = put cores n f.middle in
+      let taken = calls events cores w x n ours core is (Take_command f.token f.command) f.middle mid (put-first cores n f.middle) (record {}) f.taken in
+      let w1 = later w (Call n (Take_command f.token f.command) f.middle) in
+      let done = calls (events ++ (n, Take_command f.token f.command) ∷ []) mid w1 taken n ours f.middle (put-same cores n f.middle n refl)
+      (Deliver f.token Error Taken) new news (put-then cores n f.middle new news b) (record {}) f.delivered in (
+        later w1 (Call n (Deliver f.token Error Taken) new),
         refl,
-        subst (λ es. Leads es new (later w1 (Call 0 (Deliver f.token Error Taken) new)))
-            (append-assoc events (Take_command f.token f.command ∷ []) (Deliver f.token Error Taken ∷ [])) done,
+        subst (λ es. Leads es news (later w1 (Call n (Deliver f.token Error Taken) new)))
+            (append-assoc events ((n, Take_command f.token f.command) ∷ []) ((n, Deliver f.token Error Taken) ∷ [])) done,
       )
 
   fetched : (c : Command) (transfer : Transfer) → transfer ≡ Fetch → (now : Devices) → given now c transfer ≡ now c.slot c.generation c.row
@@ -173,94 +206,161 @@ module _ (limits : IsShape smallest) (device : Devices) (array : Array) (lawful 
       subst (λ o. IsBrought o gave block) (sym flies) (subst (λ y. worlds.Brings y gave block) (sym is) same)
 
   -- a read is performed, and answered with what stands on its slot
-  reads : (events : List Event) (core : CoreView) (w : World) → Leads events core w → (slot : ℕ) (block : Block) (new : CoreView) → device slot 0 0 ≡ block → (r : Reads slot block core new)
-      → (w' : World) × (w'.register ≡ w.register) × Leads (events ++ Take_command r.token r.command ∷ Deliver r.token (Good block) Taken ∷ []) new w'
-  reads events core w x slot block new stands r =
+  reads : (events : List (ℕ × Event)) (cores : ℕ → CoreView) (w : World) → Leads events cores w → (n : ℕ) → Ours n → (core : CoreView) → cores n ≡ core
+      → (slot row : ℕ) (block : Block) (new : CoreView) (news : ℕ → CoreView) → Becomes Ours cores n new news → device slot 0 row ≡ block → (r : Reads slot row block core new)
+      → Onward w (events ++ (n, Take_command r.token r.command) ∷ (n, Deliver r.token (Good block) Taken) ∷ []) news
+  reads events cores w x n ours core is slot row block new news b stands r =
       let t = r.token in
       let c = r.command in
-      let taken = calls events core w x (Take_command t c) r.middle (record {}) r.taken in
-      let w1 = later w (Call 0 (Take_command t c) r.middle) in
-      let flies : w1.flight 0 t ≡ Some c = put-same (w.flight 0) t (Some c) t refl in
-      let out : (w1.shard 0).command t ≢ None =
-      (λ none. None-not_Some _ (sym none ∙ ap (λ (s : Shard). s.command t) r.taken.1.1 ∙ put-same (world_shard core).command t _ t refl)) in
-      let before : w1.performed 0 t ≡ None = fresh events core w x t c r.taken.1.0.0 r.taken.1.0.1 in
+      let mid = put cores n r.middle in
+      let taken = calls events cores w x n ours core is (Take_command t c) r.middle mid (put-first cores n r.middle) (record {}) r.taken in
+      let w1 = later w (Call n (Take_command t c) r.middle) in
+      let flies : w1.flight n t ≡ Some c =
+      ap (λ (f : ℕ → Option Command). f t) (put-same w.flight n (put (w.flight n) t (Some c)) n refl) ∙ put-same (w.flight n) t (Some c) t refl in
+      let here : w1.shard n ≡ world_shard r.middle = put-same w.shard n (world_shard r.middle) n refl in
+      let out : (w1.shard n).command t ≢ None =
+      (λ none. None-not_Some _ (sym none ∙ ap (λ (s : Shard). s.command t) (here ∙ r.taken.1.1) ∙ put-same (world_shard core).command t _ t refl)) in
+      let there : (world_shard (cores n)).command t ≡ Some c = ap (λ (y : CoreView). (world_shard y).command t) is ∙ r.taken.1.0.0 in
+      let before : w1.performed n t ≡ None = fresh events cores w x n ours t c there r.taken.1.0.1 in
       let calm : (slot g row : ℕ) → performed_on w1.device c c.transfer slot g row ≡ device slot g row =
       (λ slot g row. ap (λ (y : Devices). y slot g row) (unchanged c c.transfer r.is_read w1.device) ∙ taken.device_is slot g row) in
-      let done = go_on (events ++ Take_command t c ∷ []) r.middle w1 taken (Perform 0 t c) r.middle (refl, (omega arith, flies, out, before)) taken.core_is calm in
-      let w2 = later w1 (Perform 0 t c) in
-      let gave : w2.performed 0 t ≡ Some block =
-      put-same (w1.performed 0) t (Some (given w1.device c c.transfer)) t refl
+      let done = go_on (events ++ (n, Take_command t c) ∷ []) mid w1 taken (Perform n t c) mid (ours, (below n ours, flies, out, before)) taken.cores_are calm in
+      let w2 = later w1 (Perform n t c) in
+      let gave : w2.performed n t ≡ Some block =
+      ap (λ (f : ℕ → Option Block). f t) (put-same w1.performed n (put (w1.performed n) t (Some (given w1.device c c.transfer))) n refl)
+      ∙ put-same (w1.performed n) t (Some (given w1.device c c.transfer)) t refl
       ∙ ap (λ b. Some b) (fetched c c.transfer r.is_read w1.device ∙ taken.device_is c.slot c.generation c.row
       ∙ ap (λ y. device y c.generation c.row) r.of_slot ∙ ap (λ y. device slot y c.row) r.of_generation ∙ ap (device slot 0) r.of_row ∙ stands) in
-      let answered = calls ((events ++ Take_command t c ∷ []) ++ []) r.middle w2 done (Deliver t (Good block) Taken) new (brings-block (w2.flight 0 t) (w2.performed 0 t) block c flies r.is_read gave) r.delivered in (
-        later w2 (Call 0 (Deliver t (Good block) Taken) new),
+      let answered = calls ((events ++ (n, Take_command t c) ∷ []) ++ []) mid w2 done n ours r.middle (put-same cores n r.middle n refl)
+      (Deliver t (Good block) Taken) new news (put-then cores n r.middle new news b)
+      (brings-block (w2.flight n t) (w2.performed n t) block c flies r.is_read gave) r.delivered in (
+        later w2 (Call n (Deliver t (Good block) Taken) new),
         refl,
-        subst (λ es. Leads es new (later w2 (Call 0 (Deliver t (Good block) Taken) new)))
-            (append-assoc (events ++ Take_command t c ∷ []) [] (Deliver t (Good block) Taken ∷ []) ∙ append-assoc events (Take_command t c ∷ []) (Deliver t (Good block) Taken ∷ [])) answered,
+        subst (λ es. Leads es news (later w2 (Call n (Deliver t (Good block) Taken) new)))
+            (append-assoc (events ++ (n, Take_command t c) ∷ []) [] ((n, Deliver t (Good block) Taken) ∷ [])
+            ∙ append-assoc events ((n, Take_command t c) ∷ []) ((n, Deliver t (Good block) Taken) ∷ [])) answered,
       )
 
   -- the loss of slot 1 is declared at the register
-  declares : (events : List Event) (core : CoreView) (w : World) → Leads events core w → w.register ≡ starting 0 → (new : CoreView) → (d : Declares core new)
-      → (w' : World) × (w'.register ≡ without (starting 0) 1) × Leads (events ++ Take_call (LossOf 1 0) ∷ steps.Told (LossOf 1 0) (Ok Degraded) ∷ []) new w'
-  declares events core w x now new d =
-      let h = Tell 0 (LossOf 1 0) (Ok Degraded) d.middle new in (
+  declares : (events : List (ℕ × Event)) (cores : ℕ → CoreView) (w : World) → Leads events cores w → (n : ℕ) → Ours n → (core : CoreView) → cores n ≡ core
+      → w.register ≡ starting 0 → answer_to l (starting 0) (DeclareLost 1 0) ≡ Ok Degraded
+      → (new : CoreView) (news : ℕ → CoreView) → Becomes Ours cores n new news → (d : Declares core new)
+      → (w' : World) × (w'.register ≡ without (starting 0) 1) × Leads (events ++ (n, Take_call (LossOf 1 0)) ∷ (n, steps.Told (LossOf 1 0) (Ok Degraded)) ∷ []) news w'
+  declares events cores w x n ours core is now answers new news b d =
+      let h = Tell n (LossOf 1 0) (Ok Degraded) d.middle new in (
         later w h,
-        ap (λ (y : Snapshot). register_after small y (DeclareLost 1 0) (Ok Degraded)) now,
-        go_on events core w x h new (
-          refl,
-          inl (answered ∙ ap (λ (y : Snapshot). answer_to small y (DeclareLost 1 0)) (sym now)),
-          subst (λ (y : CoreView). Step y (Take_call (LossOf 1 0)) d.middle) (sym x.core_is) d.taken,
+        ap (λ (y : Snapshot). register_after l y (DeclareLost 1 0) (Ok Degraded)) now,
+        go_on events cores w x h news (
+          ours,
+          inl (sym answers ∙ ap (λ (y : Snapshot). answer_to l y (DeclareLost 1 0)) (sym now)),
+          subst (λ (y : CoreView). Step y (Take_call (LossOf 1 0)) d.middle) (sym (x.cores_are n ours ∙ is)) d.taken,
           d.told,
-        ) refl x.device_is,
+        ) (put-behind (cores_behind x.first x.moments) cores news x.cores_are n new b) x.device_is,
       )
-    where
-      answered : Ok Degraded ≡ answer_to small (starting 0) (DeclareLost 1 0)
-      answered = refl
 
-  -- all of them, one behind the other
-  pub loss : (c0 c1 c2 c3 c4 c5 c6 c7 : CoreView) (other parity block : Block) → device 2 0 0 ≡ other → device 3 0 0 ≡ parity → IsMade smallest (starting 0) 0 c0
-      → Step c0 (Submit (Read 0) 0) c1 → (f : Fails c1 c2) → Declares c2 c3 → (second : Reads 2 other c3 c4) → (third : Reads 3 parity c4 c5)
-      → Step c5 (Look (without (starting 0) 1)) c6 → Step c6 (Take_reply 0 (Data block)) c7
-      → HasRun smallest 0 (starting 0) device
-      (Submit (Read 0) 0
-      ∷ Take_command f.token f.command ∷ Deliver f.token Error Taken
-      ∷ Take_call (LossOf 1 0) ∷ steps.Told (LossOf 1 0) (Ok Degraded)
-      ∷ Take_command second.token second.command ∷ Deliver second.token (Good other) Taken
-      ∷ Take_command third.token third.command ∷ Deliver third.token (Good parity) Taken
-      ∷ Look (without (starting 0) 1)
-      ∷ Take_reply 0 (Data block) ∷ [])
-      c7 (without (starting 0) 1)
-  loss c0 c1 c2 c3 c4 c5 c6 c7 other parity block on2 on3 made submitted f declared second third looked replied =
-      let x0 : Leads [] c0 begins = record { first = c0; made = made; moments = []; run = record {}; events_are = refl; core_is = refl; world_is = refl; device_is = λ slot g row. refl } in
-      let x1 = calls [] c0 begins x0 (Submit (Read 0) 0) c1 (record {}) submitted in
-      let x2 = fails _ c1 _ x1 c2 f in
-      let x3 = declares _ c2 x2.0 x2.2 x2.1 c3 declared in
-      let x4 = reads _ c3 x3.0 x3.2 2 other c4 on2 second in
-      let x5 = reads _ c4 x4.0 x4.2 3 parity c5 on3 third in
-      let register : x5.0.register ≡ without (starting 0) 1 = x5.1 ∙ x4.1 ∙ x3.1 in
-      let x6 = calls _ c5 x5.0 x5.2 (Look (without (starting 0) 1)) c6 (sym register) looked in
-      let x7 = calls _ c6 _ x6 (Take_reply 0 (Data block)) c7 (record {}) replied in
+  -- at the start
+  starts : (first : ℕ → CoreView) → AreMade shape Ours (starting 0) first → Leads [] first begins
+  starts first made = record { first = first; made = made; moments = []; run = record {}; events_are = refl; cores_are = λ n ours. refl; world_is = refl; device_is = λ slot g row. refl }
+
+  -- and at the end
+  ends : (events : List (ℕ × Event)) (cores : ℕ → CoreView) (w : World) → Leads events cores w → (register : Snapshot) → w.register ≡ register
+      → HasRun shape Ours Comes (starting 0) device events cores register
+  ends events cores w x register is =
       record {
-        first = x7.first;
-        made = x7.made;
-        moments = x7.moments;
-        run = x7.run;
-        events_are = x7.events_are;
-        core_is = x7.core_is;
-        register_is = ap (λ (y : World). y.register) x7.world_is ∙ register;
+        first = x.first;
+        made = x.made;
+        moments = x.moments;
+        run = x.run;
+        events_are = x.events_are;
+        cores_are = x.cores_are;
+        register_is = ap (λ (y : World). y.register) x.world_is ∙ is;
       }
 
--- a core that was made for the smallest array with no slot lost
-pub made_smallest : (shape : Shape) (r : Snapshot) (core : CoreView) → shape ≡ smallest → r ≡ starting 0 → IsMade shape r 0 core → IsMade smallest (starting 0) 0 core
-made_smallest shape r core is start made =
-    subst (λ (y : Snapshot). IsMade smallest y 0 core) start (subst (λ (x : Shape). IsMade x r 0 core) is made)
+-- ---- one core
+
+-- a core that was made for this array with no slot lost
+pub made_at : (shape here : Shape) (r : Snapshot) (n : ℕ) (core : CoreView) → shape ≡ here → r ≡ starting 0 → IsMade shape r n core → IsMade here (starting 0) n core
+made_at shape here r n core is start made =
+    subst (λ (y : Snapshot). IsMade here y n core) start (subst (λ (x : Shape). IsMade x r n core) is made)
+
+alone : (old new : CoreView) → Becomes (IsThis 0) (λ m. old) 0 new (λ m. new)
+alone old new = record { own = refl; others = λ m same ne. absurd (ne same) }
+
+declared-small : answer_to small (starting 0) (DeclareLost 1 0) ≡ Ok Degraded
+declared-small = refl
 
 pub through_loss : IsShape smallest → (c0 c1 c2 c3 c4 c5 c6 c7 : CoreView) (other parity block : Block) → IsMade smallest (starting 0) 0 c0
-    → Step c0 (Submit (Read 0) 0) c1 → Fails c1 c2 → Declares c2 c3 → Reads 2 other c3 c4 → Reads 3 parity c4 c5
+    → Step c0 (Submit (Read 0) 0) c1 → Fails c1 c2 → Declares c2 c3 → Reads 2 0 other c3 c4 → Reads 3 0 parity c4 c5
     → Step c5 (Look (without (starting 0) 1)) c6 → Step c6 (Take_reply 0 (Data block)) c7 → RunsThroughLoss other parity block c7
-through_loss limits c0 c1 c2 c3 c4 c5 c6 c7 other parity block made submitted f declared second third looked replied device array lawful on2 on3 = (
-  (f.token, f.command),
-  (second.token, second.command),
-  (third.token, third.command),
-  loss limits device array lawful c0 c1 c2 c3 c4 c5 c6 c7 other parity block on2 on3 made submitted f declared second third looked replied,
-)
+through_loss limits c0 c1 c2 c3 c4 c5 c6 c7 other parity block made submitted f declared second third looked replied device array lawful on2 on3 =
+    let Ours = IsThis 0 in
+    let Comes = IsByAnyone in
+    let below : (n : ℕ) → n ≡ 0 → n < smallest.shards = λ n same. omega (arith, same) in
+    let x0 = starts smallest limits Ours Comes below device array lawful (λ m. c0) (λ n same. subst (λ k. IsMade smallest (starting 0) k c0) (sym same) made) in
+    let x1 = calls smallest limits Ours Comes below device array lawful _ (λ m. c0) _ x0 0 refl c0 refl (Submit (Read 0) 0) c1 (λ m. c1) (alone c0 c1) (record {}) submitted in
+    let x2 = fails smallest limits Ours Comes below device array lawful _ (λ m. c1) _ x1 0 refl c1 refl c2 (λ m. c2) (alone c1 c2) f in
+    let x3 = declares smallest limits Ours Comes below device array lawful _ (λ m. c2) x2.0 x2.2 0 refl c2 refl x2.1 declared-small c3 (λ m. c3) (alone c2 c3) declared in
+    let x4 = reads smallest limits Ours Comes below device array lawful _ (λ m. c3) x3.0 x3.2 0 refl c3 refl 2 0 other c4 (λ m. c4) (alone c3 c4) on2 second in
+    let x5 = reads smallest limits Ours Comes below device array lawful _ (λ m. c4) x4.0 x4.2 0 refl c4 refl 3 0 parity c5 (λ m. c5) (alone c4 c5) on3 third in
+    let register : x5.0.register ≡ without (starting 0) 1 = x5.1 ∙ x4.1 ∙ x3.1 in
+    let x6 = calls smallest limits Ours Comes below device array lawful _ (λ m. c5) x5.0 x5.2 0 refl c5 refl (Look (without (starting 0) 1)) c6 (λ m. c6) (alone c5 c6) (sym register) looked in
+    let x7 = calls smallest limits Ours Comes below device array lawful _ (λ m. c6) _ x6 0 refl c6 refl (Take_reply 0 (Data block)) c7 (λ m. c7) (alone c6 c7) (record {}) replied in (
+      (f.token, f.command),
+      (second.token, second.command),
+      (third.token, third.command),
+      ends smallest limits Ours Comes below device array lawful _ (λ m. c7) _ x7 (without (starting 0) 1) register,
+    )
+
+-- ---- two cores
+
+first_goes : (a a' b : CoreView) → Becomes (IsShard two_shards) (both a b) 0 a' (both a' b)
+first_goes a a' b = record { own = refl; others = rest }
+  where
+    rest : (m : ℕ) → m < 2 → m ≢ 0 → both a' b m ≡ both a b m
+    rest zero below ne = absurd (ne refl)
+    rest (suc m) below ne = refl
+
+second_goes : (a b b' : CoreView) → Becomes (IsShard two_shards) (both a b) 1 b' (both a b')
+second_goes a b b' = record { own = refl; others = rest }
+  where
+    rest : (m : ℕ) → m < 2 → m ≢ 1 → both a b' m ≡ both a b m
+    rest zero below ne = refl
+    rest (suc m) below ne = absurd (omega (arith, below, ne))
+
+declared-two : answer_to (layout_of two_shards) (starting 0) (DeclareLost 1 0) ≡ Ok Degraded
+declared-two = refl
+
+made-both : (a b : CoreView) → IsMade two_shards (starting 0) 0 a → IsMade two_shards (starting 0) 1 b → AreMade two_shards (IsShard two_shards) (starting 0) (both a b)
+made-both a b first second zero below = first
+made-both a b first second (suc m) below =
+    let one : suc m ≡ 1 = omega (arith, below) in
+    subst (λ k. IsMade two_shards (starting 0) k b) (sym one) second
+
+pub beside_loss : IsShape two_shards → (a0 a1 a2 a3 b0 b1 b2 b3 b4 b5 b6 : CoreView) (other parity block : Block)
+    → IsMade two_shards (starting 0) 0 a0 → IsMade two_shards (starting 0) 1 b0
+    → Step a0 (Submit (Read 0) 0) a1 → Fails a1 a2 → Declares a2 a3
+    → Step b0 (Look (without (starting 0) 1)) b1 → Step b1 (Submit (Read 3) 0) b2 → Reads 0 1 other b2 b3 → Reads 2 1 parity b3 b4
+    → Step b4 (Look (without (starting 0) 1)) b5 → Step b5 (Take_reply 0 (Data block)) b6 → RunsBesideLoss other parity block a3 b6
+beside_loss limits a0 a1 a2 a3 b0 b1 b2 b3 b4 b5 b6 other parity block first second submitted f declared saw asked here there looked replied device array lawful on0 on2 =
+    let Ours = IsShard two_shards in
+    let Comes = IsOfOutside in
+    let below : (n : ℕ) → n < 2 → n < two_shards.shards = λ n lt. lt in
+    let zeroth : 0 < 2 = omega arith in
+    let one : 1 < 2 = omega arith in
+    let seen = without (starting 0) 1 in
+    let x0 = starts two_shards limits Ours Comes below device array lawful (both a0 b0) (made-both a0 b0 first second) in
+    let x1 = calls two_shards limits Ours Comes below device array lawful _ (both a0 b0) _ x0 0 zeroth a0 refl (Submit (Read 0) 0) a1 (both a1 b0) (first_goes a0 a1 b0) (record {}) submitted in
+    let x2 = fails two_shards limits Ours Comes below device array lawful _ (both a1 b0) _ x1 0 zeroth a1 refl a2 (both a2 b0) (first_goes a1 a2 b0) f in
+    let x3 = declares two_shards limits Ours Comes below device array lawful _ (both a2 b0) x2.0 x2.2 0 zeroth a2 refl x2.1 declared-two a3 (both a3 b0) (first_goes a2 a3 b0) declared in
+    let x4 = calls two_shards limits Ours Comes below device array lawful _ (both a3 b0) x3.0 x3.2 1 one b0 refl (Look seen) b1 (both a3 b1) (second_goes a3 b0 b1) (sym x3.1) saw in
+    let x5 = calls two_shards limits Ours Comes below device array lawful _ (both a3 b1) _ x4 1 one b1 refl (Submit (Read 3) 0) b2 (both a3 b2) (second_goes a3 b1 b2) (record {}) asked in
+    let x6 = reads two_shards limits Ours Comes below device array lawful _ (both a3 b2) _ x5 1 one b2 refl 0 1 other b3 (both a3 b3) (second_goes a3 b2 b3) on0 here in
+    let x7 = reads two_shards limits Ours Comes below device array lawful _ (both a3 b3) x6.0 x6.2 1 one b3 refl 2 1 parity b4 (both a3 b4) (second_goes a3 b3 b4) on2 there in
+    let register : x7.0.register ≡ seen = x7.1 ∙ x6.1 ∙ x3.1 in
+    let x8 = calls two_shards limits Ours Comes below device array lawful _ (both a3 b4) x7.0 x7.2 1 one b4 refl (Look seen) b5 (both a3 b5) (second_goes a3 b4 b5) (sym register) looked in
+    let x9 = calls two_shards limits Ours Comes below device array lawful _ (both a3 b5) _ x8 1 one b5 refl (Take_reply 0 (Data block)) b6 (both a3 b6) (second_goes a3 b5 b6) (record {}) replied in (
+      (f.token, f.command),
+      (here.token, here.command),
+      (there.token, there.command),
+      ends two_shards limits Ours Comes below device array lawful _ (both a3 b6) _ x9 seen register,
+    )

@@ -31,5 +31,6 @@ pub mod Starting
 pub mod Swapped
 pub mod Taking
 pub mod Throughs
+pub mod Unperformed
 pub mod Waking
 pub mod Whole

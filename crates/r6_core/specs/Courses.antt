@@ -1,46 +1,48 @@
--- A run of one core, as its calls have made it.
-use Rattle.std.specs.Prelude.{◌≡◌, ℕ, List, [], ◌∷◌, ◌++◌, map, Ok}
-use Rattle.r6_layout.specs.Shape.{Shape}
+-- Runs of cores, as their calls have made them.
+use Rattle.std.specs.Prelude.{◌≡◌, ℕ, zero, suc, List, [], ◌∷◌, ◌++◌, map, Ok}
+use Rattle.r6_layout.specs.Shape.{Shape, shape_of}
 use Rattle.r6_health.specs.Registers.{starting, without}
 use Rattle.r6_world.specs.PlainArray.{Block, Array, Read, Data}
 use Rattle.r6_world.specs.Geometries.{layout_of}
-use Rattle.r6_world.specs.Registers.{Snapshot, Degraded}
+use Rattle.r6_world.specs.Registers.{Snapshot, RegisterCall, Degraded}
 use Rattle.r6_world.specs.ShardStates.{Command, Fetch, LossOf}
 use Rattle.r6_world.specs.Steps as steps
 use Rattle.r6_world.specs.Steps.{Event, Submit, Deliver, Good, Error, Taken, Look, Take_command, Take_call, Take_reply}
 use Rattle.r6_world.specs.Worlds.{Devices, started}
 use Rattle.r6_world.specs.Claims.{IsLawfulStart}
-use Rattle.r6_world.specs.Laws.{IsByAnyone}
+use Rattle.r6_world.specs.Laws.{IsOfOutside, IsByAnyone}
 use Rattle.r6_world.specs.Witness.{smallest, small, after_all}
 use Rattle.r6_core.specs.Shards.{CoreView, Step}
-use Rattle.r6_core.specs.Effects.{IsMade}
-use Rattle.r6_core.specs.Runs.{Happening, Call, Perform, Tell, Outside, Moment, moment_of, cores_after, IsThis, CoresRun}
+use Rattle.r6_core.specs.Runs.{Happening, Call, Perform, Tell, Outside, Moment, moment_of, cores_after, AreMade, IsShard, IsThis, CoresRun}
 
--- the calls of the core in what happened, with their answers
-abbrev pub events_in : Happening → List Event
-events_in (Call n event new) = event ∷ []
+-- the calls of cores in what happened, each with its shard and its answer
+abbrev pub events_in : Happening → List (ℕ × Event)
+events_in (Call n event new) = (n, event) ∷ []
 events_in (Perform n token c) = []
-events_in (Tell n call answer middle new) = Take_call call ∷ steps.Told call answer ∷ []
+events_in (Tell n call answer middle new) = (n, Take_call call) ∷ (n, steps.Told call answer) ∷ []
 events_in (Outside call) = []
 
-abbrev pub events_of : List Moment → List Event
+abbrev pub events_of : List Moment → List (ℕ × Event)
 events_of [] = []
 events_of (m ∷ moments) = events_in m.happening ++ events_of moments
+
+abbrev pub of_core : ℕ → List Event → List (ℕ × Event)
+of_core n events = map (λ event. (n, event)) events
 
 -- the cores behind a run
 abbrev pub cores_behind : (ℕ → CoreView) → List Moment → ℕ → CoreView
 cores_behind cores [] = cores
 cores_behind cores (m ∷ moments) = cores_behind (cores_after cores m.happening) moments
 
--- A run of the core of shard n from where it was made, beside a register and devices: these were its calls and their
--- answers, and they have led to this core and this register.
-pub record HasRun (shape : Shape) (n : ℕ) (r : Snapshot) (device : Devices) (events : List Event) (core : CoreView) (register : Snapshot) : Type 0 where
-  pub first : CoreView
-  pub made : IsMade shape r n first
+-- A run of these cores from where they were made, beside devices and a register at which such calls come from outside:
+-- these were their calls and their answers, and they have led to these cores and this register.
+pub record HasRun (shape : Shape) (Ours : ℕ → Type 0) (Comes : RegisterCall → Type 0) (r : Snapshot) (device : Devices) (events : List (ℕ × Event)) (cores : ℕ → CoreView) (register : Snapshot) : Type 0 where
+  pub first : ℕ → CoreView
+  pub made : AreMade shape Ours r first
   pub moments : List Moment
-  pub run : CoresRun (layout_of shape) (IsThis n) IsByAnyone (started (layout_of shape) r device) (λ m. first) moments
+  pub run : CoresRun (layout_of shape) Ours Comes (started (layout_of shape) r device) first moments
   pub events_are : events_of moments ≡ events
-  pub core_is : cores_behind (λ m. first) moments n ≡ core
+  pub cores_are : (n : ℕ) → Ours n → cores_behind first moments n ≡ cores n
   pub register_is : (after_all (layout_of shape) (started (layout_of shape) r device) (map moment_of moments)).register ≡ register
 
 -- ---- the calls of such a run
@@ -53,8 +55,8 @@ pub record Fails (old new : CoreView) : Type 0 where
   pub taken : Step old (Take_command token command) middle
   pub delivered : Step middle (Deliver token Error Taken) new
 
--- the read of a slot's first block is taken, and answered with this block
-pub record Reads (slot : ℕ) (block : Block) (old new : CoreView) : Type 0 where
+-- the read of a slot's block in a row is taken, and answered with this block
+pub record Reads (slot row : ℕ) (block : Block) (old new : CoreView) : Type 0 where
   pub token : ℕ
   pub command : Command
   pub middle : CoreView
@@ -63,13 +65,15 @@ pub record Reads (slot : ℕ) (block : Block) (old new : CoreView) : Type 0 wher
   pub is_read : command.transfer ≡ Fetch
   pub of_slot : command.slot ≡ slot
   pub of_generation : command.generation ≡ 0
-  pub of_row : command.row ≡ 0
+  pub of_row : command.row ≡ row
 
 -- the loss of slot 1 is declared at the register, which goes on without it
 pub record Declares (old new : CoreView) : Type 0 where
   pub middle : CoreView
   pub taken : Step old (Take_call (LossOf 1 0)) middle
   pub told : Step middle (steps.Told (LossOf 1 0) (Ok Degraded)) new
+
+-- ---- one core
 
 -- A read of block 0 of the smallest array, whose device fails: its block stands on slot 1, the other data block of the row on
 -- slot 2 and P on slot 3. The core takes the slot out and reads the two others, its caller declares the loss, and after a
@@ -78,12 +82,41 @@ abbrev pub RunsThroughLoss : (other parity block : Block) → CoreView → Type 
 RunsThroughLoss other parity block core =
     (device : Devices) (array : Array) → IsLawfulStart small (starting 0) device array → device 2 0 0 ≡ other → device 3 0 0 ≡ parity
     → (failed second third : ℕ × Command)
-    × HasRun smallest 0 (starting 0) device
-    (Submit (Read 0) 0
+    × HasRun smallest (IsThis 0) IsByAnyone (starting 0) device
+    (of_core 0 (Submit (Read 0) 0
     ∷ Take_command failed.0 failed.1 ∷ Deliver failed.0 Error Taken
     ∷ Take_call (LossOf 1 0) ∷ steps.Told (LossOf 1 0) (Ok Degraded)
     ∷ Take_command second.0 second.1 ∷ Deliver second.0 (Good other) Taken
     ∷ Take_command third.0 third.1 ∷ Deliver third.0 (Good parity) Taken
     ∷ Look (without (starting 0) 1)
-    ∷ Take_reply 0 (Data block) ∷ [])
-    core (without (starting 0) 1)
+    ∷ Take_reply 0 (Data block) ∷ []))
+    (λ n. core) (without (starting 0) 1)
+
+-- ---- two cores
+
+-- four devices of two rows, in two shards of one row each
+abbrev pub two_shards : Shape
+two_shards = shape_of 4 1 16 2 2
+
+abbrev pub both : (first second : CoreView) → ℕ → CoreView
+both first second zero = first
+both first second (suc n) = second
+
+-- Two cores at one register. The first reads block 0, whose device answers an error on slot 1, and declares the loss. The
+-- second sees it at a look. Block 3 stands on the lost slot, in the second's row, whose other data block is on slot 0 and P
+-- on slot 2: those it reads, and after a look its read is answered with this block.
+abbrev pub RunsBesideLoss : (other parity block : Block) → (first second : CoreView) → Type 0
+RunsBesideLoss other parity block first second =
+    (device : Devices) (array : Array) → IsLawfulStart (layout_of two_shards) (starting 0) device array → device 0 0 1 ≡ other → device 2 0 1 ≡ parity
+    → (failed here there : ℕ × Command)
+    × HasRun two_shards (IsShard two_shards) IsOfOutside (starting 0) device
+    (of_core 0 (Submit (Read 0) 0
+    ∷ Take_command failed.0 failed.1 ∷ Deliver failed.0 Error Taken
+    ∷ Take_call (LossOf 1 0) ∷ steps.Told (LossOf 1 0) (Ok Degraded) ∷ [])
+    ++ of_core 1 (Look (without (starting 0) 1)
+    ∷ Submit (Read 3) 0
+    ∷ Take_command here.0 here.1 ∷ Deliver here.0 (Good other) Taken
+    ∷ Take_command there.0 there.1 ∷ Deliver there.0 (Good parity) Taken
+    ∷ Look (without (starting 0) 1)
+    ∷ Take_reply 0 (Data block) ∷ []))
+    (both first second) (without (starting 0) 1)

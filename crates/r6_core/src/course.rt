@@ -1,9 +1,9 @@
-//! A run of a core through the loss of a device, as its caller's calls make it.
+//! Runs of cores through the loss of a device, as their callers' calls make them.
 
 ghost use Rattle.std.specs.Prelude.{IfSome};
 ghost use Rattle.r6_world.specs.PlainArray.{Read, Data};
 ghost use Rattle.r6_world.specs.Steps.{Submit, Take_reply};
-ghost use Rattle.r6_core.specs.Courses.{Fails, Reads, Declares, RunsThroughLoss};
+ghost use Rattle.r6_core.specs.Courses.{Fails, Reads, Declares, RunsThroughLoss, RunsBesideLoss};
 ghost use Rattle.r6_core.specs.Shards.{Step};
 
 use crate::call::Call;
@@ -34,20 +34,54 @@ pub fn read_through_a_loss(
     let geometry = Geometry::new(4, 1, 16, 1, 1).ok()?;
     let register = Snapshot::start(&geometry, 0);
     let mut core = Core::new(alloc, geometry, 0, 1, &register).ok()?;
-    submit_read(&mut core, room)?;
+    submit_read(&mut core, 0, room)?;
     fail_command(&mut core)?;
     declare_loss(&mut core)?;
-    answer_read(&mut core, 2, other)?;
-    answer_read(&mut core, 3, parity)?;
+    answer_read(&mut core, 2, 0, other)?;
+    answer_read(&mut core, 3, 0, parity)?;
     core.look(&register.lose(1)).ok()?;
     let block = take_block(&mut core)?;
     Some((core, block))
 }
 
-fn submit_read(core: &mut Core, room: Buffer) -> Option<()>
-    ensures { IfSome result (λ _. Step core.old (Submit (Read 0) 0) core.new) }
+/// Reads block 3 of the smallest array of two shards, whose device was lost by the other shard, and answers both cores with
+/// the block: the core of shard 0 is handed a read of block 0, whose command is answered by an error, and declares the loss
+/// at the register; the core of shard 1 sees it at a look, reads the other data block of its row and P, and after another
+/// look its reply is taken. `None` as of [`read_through_a_loss`].
+///
+/// The contract carries the run (`run`): whatever array has these two blocks on slots 0 and 2 of row 1, the calls are a run
+/// of both cores beside their devices and the one register, such as the laws of [`array_law`](crate::array_law) speak of.
+pub fn read_beside_a_loss(
+    alloc: Global,
+    lost: Buffer,
+    room: Buffer,
+    other: Buffer,
+    parity: Buffer,
+) -> Option<(Core, Core, Buffer)>
+    ensures run { IfSome result (λ r. RunsBesideLoss other parity r.2 r.0 r.1) }
 {
-    match core.submit(Op::Read(0, room)) {
+    let geometry = Geometry::new(4, 1, 16, 2, 2).ok()?;
+    let register = Snapshot::start(&geometry, 0);
+    let mut first = Core::new(alloc, geometry, 0, 1, &register).ok()?;
+    let mut second = Core::new(alloc, geometry, 1, 1, &register).ok()?;
+    submit_read(&mut first, 0, lost)?;
+    fail_command(&mut first)?;
+    declare_loss(&mut first)?;
+    let without = register.lose(1);
+    second.look(&without).ok()?;
+    submit_read(&mut second, 3, room)?;
+    answer_read(&mut second, 0, 1, other)?;
+    answer_read(&mut second, 2, 1, parity)?;
+    second.look(&without).ok()?;
+    let block = take_block(&mut second)?;
+    Some((first, second, block))
+}
+
+// The core's first request is the read of this block.
+fn submit_read(core: &mut Core, block: u64, room: Buffer) -> Option<()>
+    ensures { IfSome result (λ _. Step core.old (Submit (Read block) 0) core.new) }
+{
+    match core.submit(Op::Read(block, room)) {
         Ok(OpId(0)) => Some(()),
         _ => None,
     }
@@ -68,12 +102,12 @@ fn fail_command(core: &mut Core) -> Option<()>
     }
 }
 
-// The next command is the read of this slot, and is answered with this block.
-fn answer_read(core: &mut Core, slot: usize, block: Buffer) -> Option<()>
-    ensures { IfSome result (λ _. Reads slot block core.old core.new) }
+// The next command is the read of this slot in this row, and is answered with this block.
+fn answer_read(core: &mut Core, slot: usize, row: u64, block: Buffer) -> Option<()>
+    ensures { IfSome result (λ _. Reads slot row block core.old core.new) }
 {
     let command = core.take_command()?;
-    if command.slot != slot || command.generation != 0 || command.row != 0 {
+    if command.slot != slot || command.generation != 0 || command.row != row {
         return None;
     }
     match command.kind {

@@ -14,7 +14,7 @@ mod state;
 mod tell;
 
 pub use call::Call;
-pub use course::read_through_a_loss;
+pub use course::{read_beside_a_loss, read_through_a_loss};
 pub use laws::array_law;
 pub use r6_frames::{Command, CommandKind, Op};
 pub use refusal::{CoreError, DeviceFault, FaultKind, Receipt, Refusal, Refused};

@@ -20,5 +20,5 @@ returns-in-Taken c =
       is_read = ap (λ kind. given_transfer kind command.buffer) c.in-Read.is;
       of_slot = c.if-command-slot.false;
       of_generation = c.if-command-ne0.false;
-      of_row = c.if-command-ne0-2.false;
+      of_row = c.if-command-row.false;
     }

@@ -6,7 +6,7 @@ use Rattle.r6_world.specs.Steps.{Look}
 use Rattle.r6_world.specs.Witness.{smallest}
 use Rattle.r6_core.specs.Shards.{Step}
 use Rattle.r6_core.specs.Effects.{IsMade, LooksAt}
-use Rattle.r6_core.proofs.Courses.{of_ok, made_smallest, through_loss}
+use Rattle.r6_core.proofs.Courses.{of_ok, made_at, through_loss}
 use Rattle.r6_core.proofs.course.read_through_a_loss.Goals as goal
 
 pub returns : goal.returns
@@ -25,7 +25,7 @@ returns c =
     record {
       run = through_loss limits first c.submit_read.new.core c.fail_command.new.core c.declare_loss.new.core c.answer_read.new.core c.answer_read-2.new.core c.look.new.self c.take_block.new.core
           c.args.other c.args.parity c.in_ok-block.block
-          (made_smallest geometry c.start-register.result first is start made)
+          (made_at geometry smallest c.start-register.result 0 first is start made)
           c.in_ok-submit_read.ensures c.in_ok-fail_command.ensures c.in_ok-declare_loss.ensures c.in_ok-answer_read.ensures c.in_ok-answer_read-2.ensures
           (subst (λ (r : Snapshot). Step c.answer_read-2.new.core (Look r) c.look.new.self) lost looked)
           c.in_ok-block.ensures;
