@@ -9,11 +9,10 @@ use std::test::Fail;
 fn blocks_are_zeros_until_they_are_written(rt: HostRuntime) -> Result<(), Fail> {
     let mut device = MemoryDevice::new(rt.alloc(), 4..8, 16)?;
     let mut block = filled(rt.alloc(), 16, 0x5a)?;
-    assert_eq!(rt; device.write(5, &block), Ok(()));
+    assert!(rt; device.write(5, &block) == Ok(()));
     for row in 4..8 {
-        assert_eq!(rt; device.read(row, &mut block), Ok(()));
         let byte = if row == 5 { 0x5a } else { 0 };
-        assert!(rt; is_filled(&block, byte), "row {row}");
+        assert!(rt; device.read(row, &mut block) == Ok(()) && is_filled(&block, byte));
     }
     Ok(())
 }
@@ -23,9 +22,9 @@ fn another_row_and_another_length_are_refused(rt: HostRuntime) -> Result<(), Fai
     let mut device = MemoryDevice::new(rt.alloc(), 4..8, 16)?;
     for (row, len) in [(3, 16), (8, 16), (4, 15)] {
         let mut block = Buffer::new(rt.alloc(), len)?;
-        assert_eq!(rt; device.read(row, &mut block), Err(Fault::Length));
-        assert_eq!(rt; device.write(row, &block), Err(Fault::Length));
+        let refused = (device.read(row, &mut block), device.write(row, &block));
+        assert!(rt; refused == (Err(Fault::Length), Err(Fault::Length)));
     }
-    assert_eq!(rt; Fault::Length.number(), 4);
+    assert!(rt; Fault::Length.number() == 4);
     Ok(())
 }

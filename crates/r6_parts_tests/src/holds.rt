@@ -53,17 +53,28 @@ fn write_over_zeros_reads_one_block(rt: HostRuntime) -> Result<(), Fail> {
     Ok(())
 }
 
+/// A write over zeros loses a position after so many commands. Then it has to be over, and the others are full.
+fn loses<R: Abort>(rt: &R, alloc: Global, position: usize, commands: usize) -> Result<(), Fail> {
+    let mut bench = write_over_zeros(alloc)?;
+    bench.play(
+        rt,
+        &[
+            (Step::Drive(commands), Seen::Commands(commands)),
+            (Step::Lose(position), Seen::Lost),
+        ],
+    )?;
+    bench.drive(9);
+    bench.play(rt, &[(Step::IsOver, Seen::Is(true))])?;
+    assert!(rt; has_bytes(&bench.devices, &WRITTEN, &[position]));
+    Ok(())
+}
+
 // The read and some of the writes are performed before the position is lost.
 #[test]
 fn losses_while_writing_leave_the_others_full(rt: HostRuntime) -> Result<(), Fail> {
     for position in 0..4usize {
-        for confirmed in 0..4usize {
-            let mut bench = write_over_zeros(rt.alloc())?;
-            assert_eq!(rt; bench.drive(1 + confirmed), 1 + confirmed);
-            bench.lose(position);
-            bench.drive(9);
-            bench.play(&rt, &[(Step::IsOver, Seen::Is(true))])?;
-            assert!(rt; has_bytes(&bench.devices, &WRITTEN, &[position]));
+        for commands in 1..5usize {
+            loses(&rt, rt.alloc(), position, commands)?;
         }
     }
     Ok(())
@@ -159,39 +170,34 @@ fn is_changed(alloc: Global, bench: &Bench, lost: &[usize]) -> Result<bool, Allo
     Ok(has_bytes(&bench.devices, after.as_slice(), lost))
 }
 
-/// A write has to read at these positions, and to do so many writes, and then the row but for the lost positions is changed.
-fn reads<R: Abort>(
+/// A write of 5a as data block 1, of whose row these positions are in sync, has to take this course. Then the row is changed
+/// but at the lost positions.
+fn changes<R: Abort>(
     rt: &R,
     alloc: Global,
     in_sync: &[bool],
-    positions: &[usize],
-    writes: usize,
+    course: &[(Step, Seen)],
     lost: &[usize],
 ) -> Result<(), Fail> {
     let mut bench = write_second(alloc, in_sync)?;
-    for position in positions {
-        bench.play(
-            rt,
-            &[
-                (Step::Next, Seen::Read(*position)),
-                (Step::Answer(*position), Seen::Home),
-            ],
-        )?;
-    }
-    bench.play(
-        rt,
-        &[
-            (Step::Drive(9), Seen::Commands(writes)),
-            (Step::IsOver, Seen::Is(true)),
-        ],
-    )?;
+    bench.play(rt, course)?;
     assert!(rt; is_changed(alloc, &bench, lost)?);
     Ok(())
 }
 
 #[test]
 fn eight_positions_in_sync_are_modified(rt: HostRuntime) -> Result<(), Fail> {
-    reads(&rt, rt.alloc(), &[true; 8], &[1, 6, 7], 3, &[])
+    let course = [
+        (Step::Next, Seen::Read(1)),
+        (Step::Answer(1), Seen::Home),
+        (Step::Next, Seen::Read(6)),
+        (Step::Answer(6), Seen::Home),
+        (Step::Next, Seen::Read(7)),
+        (Step::Answer(7), Seen::Home),
+        (Step::Drive(9), Seen::Commands(3)),
+        (Step::IsOver, Seen::Is(true)),
+    ];
+    changes(&rt, rt.alloc(), &[true; 8], &course, &[])
 }
 
 // P and Q of the bytes 0 and da alone: da, and x times da, 1b4 + 11d.
@@ -207,41 +213,59 @@ fn a_changed_block_changes_p_and_q(rt: HostRuntime) -> Result<(), Fail> {
 
 #[test]
 fn six_positions_in_sync_are_reconstructed(rt: HostRuntime) -> Result<(), Fail> {
-    reads(&rt, rt.alloc(), &[true; 6], &[0, 2, 3], 3, &[])
+    let course = [
+        (Step::Next, Seen::Read(0)),
+        (Step::Answer(0), Seen::Home),
+        (Step::Next, Seen::Read(2)),
+        (Step::Answer(2), Seen::Home),
+        (Step::Next, Seen::Read(3)),
+        (Step::Answer(3), Seen::Home),
+        (Step::Drive(9), Seen::Commands(3)),
+        (Step::IsOver, Seen::Is(true)),
+    ];
+    changes(&rt, rt.alloc(), &[true; 6], &course, &[])
 }
 
 #[test]
 fn data_alone_are_overwritten(rt: HostRuntime) -> Result<(), Fail> {
     let in_sync = [true, true, true, true, false, false];
-    reads(&rt, rt.alloc(), &in_sync, &[], 1, &[4, 5])
+    let course = [
+        (Step::Drive(9), Seen::Commands(1)),
+        (Step::IsOver, Seen::Is(true)),
+    ];
+    changes(&rt, rt.alloc(), &in_sync, &course, &[4, 5])
 }
 
 #[test]
 fn modify_without_p_reads_two(rt: HostRuntime) -> Result<(), Fail> {
     let in_sync = [true, true, true, true, true, true, false, true];
-    reads(&rt, rt.alloc(), &in_sync, &[1, 7], 2, &[6])
+    let course = [
+        (Step::Next, Seen::Read(1)),
+        (Step::Answer(1), Seen::Home),
+        (Step::Next, Seen::Read(7)),
+        (Step::Answer(7), Seen::Home),
+        (Step::Drive(9), Seen::Commands(2)),
+        (Step::IsOver, Seen::Is(true)),
+    ];
+    changes(&rt, rt.alloc(), &in_sync, &course, &[6])
 }
 
 // All three reads are out when the parity is lost. The block and the other parity are written while its buffer is away.
 #[test]
 fn modify_goes_on_without_a_lost_parity(rt: HostRuntime) -> Result<(), Fail> {
     for (lost, other) in [(6usize, 7usize), (7, 6)] {
-        let mut bench = write_second(rt.alloc(), &[true; 8])?;
-        bench.play(
-            &rt,
-            &[
-                (Step::NextAll, Seen::Commands(3)),
-                (Step::Lose(lost), Seen::Lost),
-                (Step::Answer(1), Seen::Home),
-                (Step::Answer(other), Seen::Home),
-                (Step::Drive(9), Seen::Commands(2)),
-                (Step::IsOver, Seen::Is(true)),
-                (Step::IsHome, Seen::Is(false)),
-                (Step::Answer(lost), Seen::Home),
-                (Step::IsHome, Seen::Is(true)),
-            ],
-        )?;
-        assert!(rt; is_changed(rt.alloc(), &bench, &[lost])?);
+        let course = [
+            (Step::NextAll, Seen::Commands(3)),
+            (Step::Lose(lost), Seen::Lost),
+            (Step::Answer(1), Seen::Home),
+            (Step::Answer(other), Seen::Home),
+            (Step::Drive(9), Seen::Commands(2)),
+            (Step::IsOver, Seen::Is(true)),
+            (Step::IsHome, Seen::Is(false)),
+            (Step::Answer(lost), Seen::Home),
+            (Step::IsHome, Seen::Is(true)),
+        ];
+        changes(&rt, rt.alloc(), &[true; 8], &course, &[lost])?;
     }
     Ok(())
 }
@@ -249,16 +273,11 @@ fn modify_goes_on_without_a_lost_parity(rt: HostRuntime) -> Result<(), Fail> {
 // Its block has come before it is lost: two reads and two writes are left.
 #[test]
 fn parities_take_a_block_whose_device_was_lost(rt: HostRuntime) -> Result<(), Fail> {
-    let mut bench = write_second(rt.alloc(), &[true; 8])?;
-    bench.play(
-        &rt,
-        &[
-            (Step::Drive(1), Seen::Commands(1)),
-            (Step::Lose(1), Seen::Lost),
-            (Step::Drive(9), Seen::Commands(4)),
-            (Step::IsOver, Seen::Is(true)),
-        ],
-    )?;
-    assert!(rt; is_changed(rt.alloc(), &bench, &[1])?);
-    Ok(())
+    let course = [
+        (Step::Drive(1), Seen::Commands(1)),
+        (Step::Lose(1), Seen::Lost),
+        (Step::Drive(9), Seen::Commands(4)),
+        (Step::IsOver, Seen::Is(true)),
+    ];
+    changes(&rt, rt.alloc(), &[true; 8], &course, &[1])
 }

@@ -8,15 +8,15 @@ use std::test::Fail;
 #[test]
 fn parity_of_two(rt: HostRuntime) -> Result<(), Fail> {
     for len in [0, 1, 31, 33, 48, 80, 4096] {
-        let mut p = Buffer::new(rt.alloc(), len)?;
-        let mut q = Buffer::new(rt.alloc(), len)?;
-        let sources = [
+        let (d0, d1) = (
             filled(rt.alloc(), len, 0x01)?,
             filled(rt.alloc(), len, 0x80)?,
-        ];
+        );
+        let sources = [d0, d1];
+        let mut p = Buffer::new(rt.alloc(), len)?;
+        let mut q = Buffer::new(rt.alloc(), len)?;
         parity(&sources, &mut p, &mut q);
-        assert!(rt; is_filled(&p, 0x81), "length {len}");
-        assert!(rt; is_filled(&q, 0x1c), "length {len}");
+        assert!(rt; is_filled(&p, 0x81) && is_filled(&q, 0x1c), "length {len}");
     }
     Ok(())
 }
@@ -26,8 +26,7 @@ fn parity_of_no_source(rt: HostRuntime) -> Result<(), Fail> {
     let mut p = filled(rt.alloc(), 33, 0x81)?;
     let mut q = filled(rt.alloc(), 33, 0x1c)?;
     parity(&[], &mut p, &mut q);
-    assert!(rt; is_filled(&p, 0x00));
-    assert!(rt; is_filled(&q, 0x00));
+    assert!(rt; is_filled(&p, 0x00) && is_filled(&q, 0x00));
     Ok(())
 }
 
@@ -52,8 +51,7 @@ fn parity_goes_on_with_a_changed_block(rt: HostRuntime) -> Result<(), Fail> {
     let old = filled(rt.alloc(), 33, 0x80)?;
     let new = filled(rt.alloc(), 33, 0x01)?;
     delta(&mut p, &mut q, &old, &new, 1);
-    assert!(rt; is_filled(&p, 0x00));
-    assert!(rt; is_filled(&q, 0x03));
+    assert!(rt; is_filled(&p, 0x00) && is_filled(&q, 0x03));
     Ok(())
 }
 

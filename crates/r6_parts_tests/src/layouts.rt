@@ -14,7 +14,7 @@ fn parity_turns_left_by_one_slot_a_chunk_row(rt: HostRuntime) -> Result<(), Fail
     ];
     for (row, roles) in rows {
         for slot in 0..4 {
-            assert_eq!(rt; geometry.role(row, slot), roles[slot]);
+            assert!(rt; geometry.role(row, slot) == roles[slot]);
         }
     }
     Ok(())
@@ -29,11 +29,9 @@ fn a_block_stands_at_its_offset_in_the_row_of_its_chunk(rt: HostRuntime) -> Resu
         index: 0,
         slot: 0,
     };
-    assert_eq!(rt; geometry.place(5), Some(place));
-    assert_eq!(rt; geometry.block_of(3, 0), 5);
-    assert_eq!(rt; geometry.slot_at(3, 0), 0);
-    assert_eq!(rt; geometry.position_at(3, 0), 0);
-    assert_eq!(rt; geometry.place(16), None);
+    assert!(rt; geometry.place(5) == Some(place) && geometry.place(16) == None);
+    assert!(rt; geometry.block_of(3, 0) == 5);
+    assert!(rt; geometry.slot_at(3, 0) == 0 && geometry.position_at(3, 0) == 0);
     Ok(())
 }
 
@@ -51,10 +49,7 @@ fn the_first_limit_that_is_not_kept_is_named(rt: HostRuntime) {
         ((3, 1, 24, 4, 1), GeometryError::Slots),
     ];
     for ((slots, chunk, block, rows, shards), error) in cases {
-        assert_eq!(rt;
-            Geometry::new(slots, chunk, block, rows, shards),
-            Err(error)
-        );
+        assert!(rt; Geometry::new(slots, chunk, block, rows, shards) == Err(error));
     }
 }
 
@@ -68,17 +63,17 @@ fn errors_have_the_numbers_of_their_arguments(rt: HostRuntime) {
         (GeometryError::Shards, 5),
     ];
     for (error, number) in errors {
-        assert_eq!(rt; error.number(), number);
+        assert!(rt; error.number() == number);
     }
 }
 
 #[test]
 fn the_largest_shape_is_accepted(rt: HostRuntime) -> Result<(), Fail> {
     let geometry = Geometry::new(32, 128, 4096, 16_777_216, 16)?;
-    assert_eq!(rt; (geometry.slots(), geometry.data_slots()), (32, 30));
-    assert_eq!(rt; (geometry.chunk(), geometry.block()), (128, 4096));
-    assert_eq!(rt; (geometry.rows(), geometry.shards()), (16_777_216, 16));
-    assert_eq!(rt; geometry.blocks(), 503_316_480);
+    assert!(rt; geometry.slots() == 32 && geometry.data_slots() == 30);
+    assert!(rt; geometry.chunk() == 128 && geometry.block() == 4096);
+    assert!(rt; geometry.rows() == 16_777_216 && geometry.shards() == 16);
+    assert!(rt; geometry.blocks() == 503_316_480);
     Ok(())
 }
 
@@ -87,8 +82,8 @@ fn the_largest_shape_is_accepted(rt: HostRuntime) -> Result<(), Fail> {
 fn shards_begin_at_their_share_of_the_chunk_rows_rounded_down(rt: HostRuntime) -> Result<(), Fail> {
     let geometry = Geometry::new(6, 2, 16, 10, 2)?;
     let (first, second) = (geometry.shard_rows(0), geometry.shard_rows(1));
-    assert_eq!(rt; (first.start, first.end), (0, 4));
-    assert_eq!(rt; (second.start, second.end), (4, 10));
-    assert_eq!(rt; (geometry.shard_of(3), geometry.shard_of(4)), (0, 1));
+    assert!(rt; first.start == 0 && first.end == 4);
+    assert!(rt; second.start == 4 && second.end == 10);
+    assert!(rt; geometry.shard_of(3) == 0 && geometry.shard_of(4) == 1);
     Ok(())
 }

@@ -58,53 +58,80 @@ fn all_but(x: usize, y: usize) -> Known {
     known
 }
 
+/// Whether two blocks of a full row come back after they have these bytes.
+fn come_back(row: &mut RowBuf, x: usize, y: usize, bytes: &[u8], full: &RowBuf) -> bool {
+    set(row, x, bytes);
+    set(row, y, bytes);
+    !are_same(row, full) && restore(row, all_but(x, y)).is_ok() && are_same(row, full)
+}
+
+/// Whether any two blocks of a full row of a length come back.
+fn all_come_back(alloc: Global, len: usize) -> Result<bool, AllocError> {
+    let full = full_row(alloc, len)?;
+    let other = pattern(alloc, len, 100)?;
+    let mut row = full_row(alloc, len)?;
+    for y in 0..6 {
+        for x in 0..y {
+            if !come_back(&mut row, x, y, other.as_slice(), &full) {
+                return Ok(false);
+            }
+        }
+    }
+    Ok(true)
+}
+
 #[test]
 fn any_two_blocks_come_back(rt: HostRuntime) -> Result<(), Fail> {
     for len in LENGTHS {
-        let full = full_row(rt.alloc(), len)?;
-        let other = pattern(rt.alloc(), len, 100)?;
-        for y in 0..6 {
-            for x in 0..y {
-                let mut row = full_row(rt.alloc(), len)?;
-                set(&mut row, x, other.as_slice());
-                set(&mut row, y, other.as_slice());
-                assert!(rt; !are_same(&row, &full));
-                assert_eq!(rt; restore(&mut row, all_but(x, y)), Ok(()));
-                assert!(rt; are_same(&row, &full));
-            }
-        }
+        assert!(rt; all_come_back(rt.alloc(), len)?, "length {len}");
     }
     Ok(())
 }
 
-/// The class of a full row after the last byte of one block has changed.
+/// The bytes of the block at a position, of which the last is changed.
+fn with_wrong_last_byte(
+    alloc: Global,
+    row: &RowBuf,
+    position: usize,
+) -> Result<Vec<u8>, AllocError> {
+    if position >= row.positions() {
+        return Ok(Vec::new(alloc));
+    }
+    let mut bytes = row.block(position).as_slice().to_vec(alloc)?;
+    if let Some(last) = bytes.last_mut() {
+        *last ^= 1;
+    }
+    Ok(bytes)
+}
+
+/// The class of a full row after the last byte of the block at a position, if there is one, has changed.
 fn class_with_wrong(alloc: Global, len: usize, position: usize) -> Result<RowClass, AllocError> {
     let mut row = full_row(alloc, len)?;
-    let mut bytes = vec![in alloc; 0u8; len]?;
-    if position < row.positions() && row.block(position).len() == bytes.len() {
-        bytes
-            .as_mut_slice()
-            .copy_from_slice(row.block(position).as_slice());
-    }
-    if len > 0 && bytes.len() == len {
-        bytes[len - 1] ^= 1;
-    }
+    let bytes = with_wrong_last_byte(alloc, &row, position)?;
     set(&mut row, position, bytes.as_slice());
     Ok(classify(&row))
 }
 
+/// The classes of a full row after a byte of the block at each position has changed, and, last, of a row of which none has.
+const CLASSES: [RowClass; 7] = [
+    RowClass::WrongData(0),
+    RowClass::WrongData(1),
+    RowClass::WrongData(2),
+    RowClass::WrongData(3),
+    RowClass::WrongP,
+    RowClass::WrongQ,
+    RowClass::Consistent,
+];
+
 #[test]
 fn a_wrong_last_byte_is_seen(rt: HostRuntime) -> Result<(), Fail> {
     for len in LENGTHS {
-        assert_eq!(rt; classify(&full_row(rt.alloc(), len)?), RowClass::Consistent);
-        for position in 0..4 {
+        for position in 0..7 {
             assert_eq!(rt;
                 class_with_wrong(rt.alloc(), len, position)?,
-                RowClass::WrongData(position)
+                CLASSES[position]
             );
         }
-        assert_eq!(rt; class_with_wrong(rt.alloc(), len, 4)?, RowClass::WrongP);
-        assert_eq!(rt; class_with_wrong(rt.alloc(), len, 5)?, RowClass::WrongQ);
     }
     Ok(())
 }

@@ -1,29 +1,33 @@
 //! Texts of settings.
 
-use r6_settings::{Key, SettingsFault, settings};
+use r6_settings::{Config, Key, SettingsFault, settings};
 use std::test::Fail;
 
 const FOUR_SLOTS: &str = "slots = 4\nchunk = 1\nblock = 16\nrows = 4\nshards = 2\n";
 
+const EVERY_KEY: &str =
+    "slots = 4\nchunk = 1\nblock = 16\nrows = 4\nshards = 2\nwindow = 8\nworkers = 2\nlost = [3, 0]\ndevices = [\"a\", \"b\", \"c\", \"d\"]\n";
+
+/// Whether each key has the value of that text.
+fn has_every_key(config: &Config) -> bool {
+    config.geometry.shards() == 2
+        && (config.window, config.workers) == (8, 2)
+        && config.lost.as_slice() == [3, 0].as_slice()
+        && config.devices.len() == 4
+        && config.devices[3].as_str() == "d"
+}
+
+/// Whether each key that may be left out has the value that it then has.
+fn has_what_is_left_out(config: &Config) -> bool {
+    (config.window, config.workers) == (1, 1) && config.lost.is_empty() && config.devices.is_empty()
+}
+
 #[test]
-fn reads_every_key(rt: HostRuntime) -> Result<(), Fail> {
-    let alloc = rt.alloc();
-    let text =
-        "slots = 4\nchunk = 1\nblock = 16\nrows = 4\nshards = 2\nwindow = 8\nworkers = 2\nlost = [3, 0]\ndevices = [\"a\", \"b\", \"c\", \"d\"]\n";
-    let Ok(config) = settings(alloc, text, true) else {
-        return Err(Fail::from("settings"));
-    };
-    assert_eq!(rt; config.geometry.shards(), 2);
-    assert_eq!(rt; (config.window, config.workers), (8, 2));
-    assert_eq!(rt; config.lost.as_slice(), [3, 0].as_slice());
-    assert_eq!(rt; config.devices.len(), 4);
-    assert_eq!(rt; config.devices[3].as_str(), "d");
-    let Ok(plain) = settings(alloc, FOUR_SLOTS, false) else {
-        return Err(Fail::from("settings"));
-    };
-    assert_eq!(rt; (plain.window, plain.workers), (1, 1));
-    assert!(rt; plain.lost.is_empty() && plain.devices.is_empty());
-    Ok(())
+fn reads_every_key(rt: HostRuntime) {
+    let full = settings(rt.alloc(), EVERY_KEY, true);
+    assert!(rt; matches!(&full, Ok(config) if has_every_key(config)));
+    let short = settings(rt.alloc(), FOUR_SLOTS, false);
+    assert!(rt; matches!(&short, Ok(config) if has_what_is_left_out(config)));
 }
 
 #[test]

@@ -12,31 +12,67 @@ fn put(table: &mut Table<u32>, value: u32) -> Option<u64> {
     }
 }
 
+/// What is done to a table.
+#[derive(Clone, Copy)]
+enum Step {
+    Put(u32),
+    Remove(u64),
+    /// The entry of a number gets this value.
+    Replace(u64, u32),
+    Get(u64),
+}
+
+/// What a step answers: a number or a value, or else what was handed in.
+fn answer(table: &mut Table<u32>, step: Step) -> Result<u64, u64> {
+    match step {
+        Step::Put(value) => put(table, value).ok_or(u64::from(value)),
+        Step::Remove(number) => table.remove(number).map(u64::from).ok_or(number),
+        Step::Replace(number, value) => match table.replace(number, value) {
+            Ok(old) => Ok(u64::from(old)),
+            Err(back) => Err(u64::from(back)),
+        },
+        Step::Get(number) => table.get(number).copied().map(u64::from).ok_or(number),
+    }
+}
+
 #[test]
 fn numbers_rise_and_are_never_given_twice(rt: HostRuntime) -> Result<(), Fail> {
     let mut table = Table::with_capacity(rt.alloc(), 2)?;
-    assert_eq!(rt; put(&mut table, 10), Some(0));
-    assert_eq!(rt; put(&mut table, 11), Some(1));
-    assert_eq!(rt; put(&mut table, 12), None);
-    assert_eq!(rt; table.remove(0), Some(10));
-    assert_eq!(rt; table.remove(0), None);
-    assert_eq!(rt; put(&mut table, 12), Some(2));
-    assert_eq!(rt; table.replace(1, 13), Ok(11));
-    assert_eq!(rt; table.replace(0, 14), Err(14));
-    assert_eq!(rt; table.get(1).copied(), Some(13));
+    let steps = [
+        (Step::Put(10), Ok(0)),
+        (Step::Put(11), Ok(1)),
+        (Step::Put(12), Err(12)),
+        (Step::Remove(0), Ok(10)),
+        (Step::Remove(0), Err(0)),
+        (Step::Put(12), Ok(2)),
+        (Step::Replace(1, 13), Ok(11)),
+        (Step::Replace(0, 14), Err(14)),
+        (Step::Get(1), Ok(13)),
+    ];
+    for (step, answered) in steps {
+        assert_eq!(rt; answer(&mut table, step), answered);
+    }
     assert_eq!(rt; (table.len(), table.capacity(), table.next()), (2, 2, 3));
     Ok(())
+}
+
+/// Whether many entries can come and go.
+fn is_passed_through(table: &mut Table<u32>) -> bool {
+    for round in 1..101_u32 {
+        let number = u64::from(round);
+        if put(table, round) != Some(number) || table.remove(number) != Some(round) {
+            return false;
+        }
+    }
+    true
 }
 
 #[test]
 fn one_entry_stays_while_many_come_and_go(rt: HostRuntime) -> Result<(), Fail> {
     let mut table = Table::with_capacity(rt.alloc(), 3)?;
-    assert_eq!(rt; put(&mut table, 7), Some(0));
-    for round in 1..101_u32 {
-        assert_eq!(rt; put(&mut table, round), Some(u64::from(round)));
-        assert_eq!(rt; table.remove(u64::from(round)), Some(round));
-    }
-    assert_eq!(rt; table.get(0).copied(), Some(7));
-    assert_eq!(rt; table.is_empty(), false);
+    let is_kept = put(&mut table, 7) == Some(0)
+        && is_passed_through(&mut table)
+        && table.get(0).copied() == Some(7);
+    assert!(rt; is_kept && !table.is_empty());
     Ok(())
 }

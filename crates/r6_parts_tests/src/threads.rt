@@ -85,7 +85,6 @@ fn four_threads_are_given_each_generation_once(rt: HostRuntime) -> Result<(), Fa
     given.sort()?;
     let attaches = register.read(&rt, &mut pass).attaches();
     let wanted: Vec<u32> = (1..=attaches).collect(rt.alloc())?;
-    assert_eq!(rt; given.as_slice(), wanted.as_slice());
-    assert!(rt; attaches > 0);
+    assert!(rt; attaches > 0 && given.as_slice() == wanted.as_slice());
     Ok(())
 }
