@@ -1,1 +1,4 @@
+pub mod Passing
+pub mod Performing
+pub mod PutOut
 pub mod WholeLemmas

@@ -10,6 +10,7 @@ use Rattle.r6_core.specs.Refusals.{number_of, name_of}
 use Rattle.r6_core.specs.declared.call.Call.{Call}
 use Rattle.r6_core.specs.declared.call.Call.TheVariants as call
 use Rattle.r6_core.specs.declared.refusal.Receipt.TheVariants.{Taken, Late}
+use Rattle.r6_core.specs.declared.reply.OpId.{OpId}
 use Rattle.r6_core.specs.declared.reply.Reply.{Reply}
 use Rattle.r6_core.specs.declared.reply.Reply.TheVariants as reply
 use Rattle.r6_core.specs.declared.Command.{Command}
@@ -35,6 +36,11 @@ answer_text (Ok (answer.Generation generation)) = codes "generation " ++ decimal
 answer_text (Ok answer.More) = codes "more"
 answer_text (Ok answer.Complete) = codes "complete"
 answer_text (Err refusal) = codes "refused " ++ decimal (register.refusal_number refusal) ++ 32 ∷ register.refusal_name refusal
+
+-- to an attach it answers a generation
+abbrev pub attach_answer : Result ℕ register_refusal.Refusal → Result Answer register_refusal.Refusal
+attach_answer (Ok generation) = Ok (answer.Generation generation)
+attach_answer (Err refusal) = Err refusal
 
 -- what became of an event
 abbrev pub outcome_text : Outcome → Text
@@ -85,3 +91,10 @@ command_text shard command = codes " | " ++ join_with_byte 32 (
     command_word shard command.token ∷ kind_word command.kind ∷ codes "slot" ∷ decimal command.slot
     ∷ codes "gen" ∷ decimal command.generation ∷ codes "row" ∷ decimal command.row
     ∷ block_words command.kind command.buffer)
+
+-- what a shard puts out
+abbrev pub replies_text : (shard : ℕ) → List (OpId × Reply) → Text
+replies_text shard replies = flat_map (λ r. reply_text shard (r.0).0 r.1) replies
+
+abbrev pub commands_text : (shard : ℕ) → List Command → Text
+commands_text shard commands = flat_map (command_text shard) commands

@@ -1,42 +1,60 @@
 //! The devices of an array in memory.
 
-ghost use Rattle.std.specs.Prelude.{◌≡◌, ◌<◌, replicate, IfOk};
-ghost use Rattle.r6_layout.specs.Shape.{IsShape};
+ghost use Rattle.std.specs.Prelude.{◌≡◌, ◌++◌, ◌∷◌, [], ◌<◌, ◌≤◌, length, replicate, IfOk, IfSome, OnOk};
+ghost use Rattle.r6_simulate.specs.Devices.{place_of, PerformsOn};
 
 use crate::fault::SimulationFault;
-use indexmap::IndexMap;
 use r6_core::{Command, CommandKind};
 use r6_dev::{BlockDevice, Fault as DeviceFault, MemoryDevice};
+use r6_health::Refusal;
 use r6_kernels::Buffer;
 use r6_layout::Geometry;
 use std::alloc::{AllocError, Global};
 
-/// A block of which every byte is this one.
-pub fn block_of(alloc: Global, len: usize, byte: u8) -> Result<Buffer, AllocError>
-    ensures { IfOk result (λ block. block ≡ replicate len byte) }
-{
-    let bytes = vec![in alloc; byte; len]?;
-    let mut block = Buffer::new(alloc, len)?;
-    block.copy_from_slice(bytes.as_slice());
-    Ok(block)
+/// Makes the blocks of an array.
+#[derive(Clone, Copy)]
+pub struct Blocks {
+    pub alloc: Global,
+    /// The bytes of a block.
+    pub len: usize,
 }
 
-/// The devices of an array, by slot and generation, each with a part for every shard. A device that another has
-/// replaced stays, since late commands still reach it.
+impl Blocks {
+    /// A block of which every byte is this one.
+    pub fn of(&self, byte: u8) -> Result<Buffer, AllocError>
+        ensures { IfOk result (λ block. block ≡ replicate self.now.len byte) }
+    {
+        let bytes = vec![in self.alloc; byte; self.len]?;
+        let mut block = Buffer::new(self.alloc, self.len)?;
+        block.copy_from_slice(bytes.as_slice());
+        Ok(block)
+    }
+}
+
+/// A device that stands in a slot, or stood there.
+#[derive(Drop)]
+pub struct Attached {
+    pub slot: usize,
+    pub generation: u32,
+    pub device: MemoryDevice,
+}
+
+/// The devices of an array in the order in which they came. One that another has replaced stays, since late commands
+/// still reach it.
 #[derive(Drop)]
 pub struct Devices {
-    alloc: Global,
-    geometry: Geometry,
-    parts: IndexMap<(usize, u32), Vec<MemoryDevice>>,
+    pub blocks: Blocks,
+    pub rows: u64,
+    pub attached: Vec<Attached>,
 }
 
 impl Devices {
     /// In every slot a device of zeros, of generation 0.
-    pub fn new(alloc: Global, geometry: Geometry) -> Result<Devices, SimulationFault> {
+    pub fn new(blocks: Blocks, geometry: &Geometry) -> Result<Devices, SimulationFault> {
         let mut devices = Devices {
-            alloc,
-            geometry,
-            parts: IndexMap::new(alloc),
+            blocks,
+            rows: geometry.rows(),
+            attached: Vec::new(blocks.alloc),
         };
         for slot in 0..geometry.slots() {
             devices.add(slot, 0, 0)?;
@@ -44,44 +62,63 @@ impl Devices {
         Ok(devices)
     }
 
-    /// A device of which every byte is this one stands in the slot, with this generation.
-    pub fn add(&mut self, slot: usize, generation: u32, byte: u8) -> Result<(), SimulationFault> {
-        let mut parts = Vec::with_capacity(self.alloc, self.geometry.shards())?;
-        for shard in 0..self.geometry.shards() {
-            parts.push(self.part(slot, shard, byte)?)?;
-        }
-        self.parts.insert((slot, generation), parts)?;
+    // A device of which every byte is this one stands in the slot, with this generation.
+    fn add(&mut self, slot: usize, generation: u32, byte: u8) -> Result<(), SimulationFault> {
+        let device = self.device_of(slot, byte)?;
+        self.attached.push(Attached {
+            slot,
+            generation,
+            device,
+        })?;
         Ok(())
     }
 
-    // The part of a device that serves a shard's rows.
-    fn part(&self, slot: usize, shard: usize, byte: u8) -> Result<MemoryDevice, SimulationFault>
-        requires { shard < self.now.geometry.shards }
-    {
-        let rows = self.geometry.shard_rows(shard);
-        let mut part = MemoryDevice::new(self.alloc, rows, self.geometry.block())?;
+    /// A device of which every byte is this one stands in the slot, if the register has answered a generation for it.
+    pub fn attach(
+        &mut self,
+        slot: usize,
+        answer: Result<u32, Refusal>,
+        byte: u8,
+    ) -> Result<(), SimulationFault> {
+        match answer {
+            Ok(generation) => self.add(slot, generation, byte),
+            Err(_) => Ok(()),
+        }
+    }
+
+    // A device of which every byte is this one.
+    fn device_of(&self, slot: usize, byte: u8) -> Result<MemoryDevice, SimulationFault> {
+        let mut device = MemoryDevice::new(self.blocks.alloc, 0..self.rows, self.blocks.len)?;
         if byte != 0 {
-            let block = block_of(self.alloc, self.geometry.block(), byte)?;
-            for row in self.geometry.shard_rows(shard) {
-                part.write(row, &block)
+            let block = self.blocks.of(byte)?;
+            for row in 0..self.rows {
+                device
+                    .write(row, &block)
                     .map_err(|fault| SimulationFault::Device(slot, fault))?;
             }
         }
-        Ok(part)
+        Ok(device)
     }
 
-    /// The device that a command of a shard names performs it.
-    pub fn perform(&mut self, shard: usize, command: &mut Command) -> Result<(), SimulationFault> {
-        let Some(part) = self
-            .parts
-            .get_mut(&(command.slot, command.generation))
-            .and_then(|parts| parts.get_mut(shard))
-        else {
+    // Where the device stands that a slot has or had with this generation.
+    fn place_of(&self, slot: usize, generation: u32) -> Option<usize>
+        ensures { result ≡ place_of slot generation self.now.attached.items }
+    {
+        self.attached.iter().position(|attached| attached.slot == slot
+            && attached.generation == generation)
+    }
+
+    /// The device that a command names performs it.
+    pub fn perform(&mut self, command: &mut Command) -> Result<(), SimulationFault>
+        ensures { OnOk result (PerformsOn self.old command.old self.new command.new) }
+    {
+        let Some(place) = self.place_of(command.slot, command.generation) else {
             return Err(SimulationFault::Device(command.slot, DeviceFault::Gone));
         };
+        let device = &mut self.attached[place].device;
         let answer = match command.kind {
-            CommandKind::Read => part.read(command.row, &mut command.buffer),
-            CommandKind::Write => part.write(command.row, &command.buffer),
+            CommandKind::Read => device.read(command.row, &mut command.buffer),
+            CommandKind::Write => device.write(command.row, &command.buffer),
         };
         answer.map_err(|fault| SimulationFault::Device(command.slot, fault))
     }

@@ -2,10 +2,12 @@
 //! each event gets a line.
 #![tactic(auto)]
 
+mod array;
 mod devices;
 mod fault;
 mod lines;
 mod register;
+mod shard;
 mod simulation;
 
 pub use fault::SimulationFault;

@@ -34,6 +34,20 @@ impl fmt::Display for Made {
 #[derive(Clone, Copy)]
 pub struct Answered(pub Result<Answer, RegisterRefusal>);
 
+impl Answered {
+    ghost use Rattle.r6_simulate.specs.Lines.{attach_answer};
+
+    /// The answer to an attach.
+    pub fn of_attach(answer: Result<u32, RegisterRefusal>) -> Answered
+        ensures { result.0 ≡ attach_answer answer }
+    {
+        match answer {
+            Ok(generation) => Answered(Ok(Answer::Generation(generation))),
+            Err(refusal) => Answered(Err(refusal)),
+        }
+    }
+}
+
 impl fmt::Display for Answered {
     ghost use Rattle.std.specs.Prelude.{Some};
     ghost use Rattle.r6_simulate.specs.Lines.{answer_text};

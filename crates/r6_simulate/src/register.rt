@@ -1,6 +1,11 @@
 //! The register of the array, and the one thread that calls it.
 
-ghost use Rattle.r6_health.specs.Passes.{IsPassOf};
+ghost use Rattle.std.specs.Prelude.{◌≡◌};
+ghost use Rattle.r6_health.specs.Passes.{IsPassOf, Tells, view_of};
+ghost use Rattle.r6_health.specs.Views.{Attached, Looks};
+ghost use Rattle.r6_core.specs.Shards.{call_of};
+ghost use Rattle.r6_world.specs.Worlds.{as_made};
+ghost use Rattle.r6_health.specs.declared.call.Call.TheVariants.{Fail};
 
 use crate::fault::SimulationFault;
 use r6_core::Call;
@@ -18,6 +23,8 @@ pub struct OwnRegister {
 }
 
 impl OwnRegister {
+    ghost use Rattle.r6_simulate.specs.AtShards.{held_by};
+
     /// The register of an array with all slots in sync.
     pub fn new<R: Wait>(
         rt: &R,
@@ -31,22 +38,31 @@ impl OwnRegister {
     }
 
     /// What the register holds.
-    pub fn read<R: Wait>(&mut self, rt: &R) -> Snapshot {
+    pub fn read<R: Wait>(&mut self, rt: &R) -> Snapshot
+        ensures looks { Looks (view_of self.old.pass) (view_of self.new.pass) }
+        ensures held { result ≡ held_by self.new }
+    {
         self.register.read(rt, &mut self.pass)
     }
 
     /// A slot is failed.
-    pub fn fail<R: Wait>(&mut self, rt: &R, slot: usize) -> Result<Answer, Refusal> {
+    pub fn fail<R: Wait>(&mut self, rt: &R, slot: usize) -> Result<Answer, Refusal>
+        ensures { Tells self.old.pass (Fail slot) result self.new.pass }
+    {
         self.register.fail(rt, &mut self.pass, slot)
     }
 
     /// A new device stands in a lost slot: its generation.
-    pub fn attach<R: Wait>(&mut self, rt: &R, slot: usize) -> Result<u32, Refusal> {
+    pub fn attach<R: Wait>(&mut self, rt: &R, slot: usize) -> Result<u32, Refusal>
+        ensures { Attached (view_of self.old.pass) slot result (view_of self.new.pass) }
+    {
         self.register.attach(rt, &mut self.pass, slot)
     }
 
     /// A shard's call is made.
-    pub fn make<R: Wait>(&mut self, rt: &R, shard: usize, call: Call) -> Result<Answer, Refusal> {
+    pub fn make<R: Wait>(&mut self, rt: &R, shard: usize, call: Call) -> Result<Answer, Refusal>
+        ensures { Tells self.old.pass (as_made shard (call_of call)) result self.new.pass }
+    {
         match call {
             Call::DeclareLost(slot, generation) => {
                 self.register

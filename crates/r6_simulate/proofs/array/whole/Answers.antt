@@ -2,7 +2,7 @@ use Rattle.std.proofs.Common.{ap, ◌∙◌}
 use Rattle.r6_health.specs.Registers.{state_at}
 use Rattle.r6_health.specs.declared.snapshot.Snapshot.{Snapshot}
 use Rattle.r6_simulate.proofs.WholeLemmas.{none_lost}
-use Rattle.r6_simulate.proofs.simulation.whole.Goals as goal
+use Rattle.r6_simulate.proofs.array.whole.Goals as goal
 
 pub returns-clause-whole : goal.returns-clause-whole
 returns-clause-whole c = record {

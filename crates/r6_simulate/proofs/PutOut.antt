@@ -1,0 +1,56 @@
+-- One more reply or command that a shard puts out.
+use Rattle.std.proofs.Common.{◌≡◌, ℕ, List, [], ◌∷◌, ◌++◌, map, refl, sym, ap, subst, ◌∙◌, append_assoc}
+use Rattle.std.specs.List.{flat_map}
+use Rattle.std.proofs.lemmas.List.{flat_map_more, map-append}
+use Rattle.r6_core.specs.Effects.{HandsCommand, HandsReply}
+use Rattle.r6_core.specs.Shards.{CoreView}
+use Rattle.r6_core.specs.declared.Command.{Command}
+use Rattle.r6_core.specs.declared.reply.OpId.{OpId}
+use Rattle.r6_core.specs.declared.reply.Reply.{Reply}
+use Rattle.r6_simulate.specs.declared.shard.InFlight.{InFlight}
+use Rattle.r6_simulate.specs.declared.shard.Shard.{Shard}
+use Rattle.r6_simulate.specs.AtShards.{KeepsFlight, HandsReplies, HandsCommands, PutsReplies, TakesCommands, taken}
+use Rattle.r6_simulate.specs.Lines.{reply_text, command_text}
+
+one_more_reply : (old middle new : CoreView) (replies : List (OpId × Reply)) (r : OpId × Reply) → HandsReplies old replies middle → HandsReply middle (r.0).0 r.1 new
+    → HandsReplies old (replies ++ r ∷ []) new
+one_more_reply old middle new [] r handed step = (new, subst (λ (core : CoreView). HandsReply core (r.0).0 r.1 new) handed step, refl)
+one_more_reply old middle new (q ∷ replies) r handed step = (handed.0, handed.1, one_more_reply handed.0 middle new replies r handed.2 step)
+
+one_more_command : (old middle new : CoreView) (commands : List Command) (c : Command) → HandsCommands old commands middle → HandsCommand middle c new
+    → HandsCommands old (commands ++ c ∷ []) new
+one_more_command old middle new [] c handed step = (new, subst (λ (core : CoreView). HandsCommand core c new) handed step, refl)
+one_more_command old middle new (d ∷ commands) c handed step = (handed.0, handed.1, one_more_command handed.0 middle new commands c handed.2 step)
+
+-- what was printed, with one more text
+printed_more : {A : Type 0} (text_of : A → List ℕ) (items : List A) (item : A) (text before after : List ℕ)
+    → before ≡ text ++ flat_map text_of items → after ≡ before ++ text_of item
+    → after ≡ text ++ flat_map text_of (items ++ item ∷ [])
+printed_more text_of items item text before after was now =
+    now ∙ ap (λ t. t ++ text_of item) was ∙ flat_map_more text_of text items item
+
+pub puts_reply : (old middle new : Shard) (text before after : List ℕ) (r : OpId × Reply) → PutsReplies old text middle before
+    → HandsReply middle.core (r.0).0 r.1 new.core → KeepsFlight middle new → after ≡ before ++ reply_text middle.number (r.0).0 r.1
+    → PutsReplies old text new after
+puts_reply old middle new text before after r puts step kept printed =
+    record {
+      replies = puts.replies ++ r ∷ [];
+      handed = one_more_reply old.core middle.core new.core puts.replies r puts.handed step;
+      printed = printed_more (λ (q : OpId × Reply). reply_text old.number (q.0).0 q.1) puts.replies r text before after puts.printed
+          (printed ∙ ap (λ n. before ++ reply_text n (r.0).0 r.1) puts.kept.0);
+      kept = (kept.0 ∙ puts.kept.0, kept.1 ∙ puts.kept.1);
+    }
+
+pub puts_command : (old middle new : Shard) (text before after : List ℕ) (c : Command) → TakesCommands old text middle before
+    → HandsCommand middle.core c new.core → new.number ≡ middle.number → new.in_flight.items ≡ middle.in_flight.items ++ taken c ∷ []
+    → after ≡ before ++ command_text middle.number c → TakesCommands old text new after
+puts_command old middle new text before after c puts step number flight printed =
+    record {
+      commands = puts.commands ++ c ∷ [];
+      handed = one_more_command old.core middle.core new.core puts.commands c puts.handed step;
+      printed = printed_more (command_text old.number) puts.commands c text before after puts.printed
+          (printed ∙ ap (λ n. before ++ command_text n c) puts.number);
+      number = number ∙ puts.number;
+      flight = flight ∙ ap (λ (items : List InFlight). items ++ taken c ∷ []) puts.flight ∙ append_assoc old.in_flight.items (map taken puts.commands) (taken c ∷ [])
+          ∙ ap (λ (items : List InFlight). old.in_flight.items ++ items) (sym (map-append taken puts.commands (c ∷ [])));
+    }

@@ -1,0 +1,224 @@
+-- What an event does at a shard of an array in memory: which call of its core was made, and what came of it. This is the
+-- project's own.
+use Rattle.std.specs.Prelude.{◌≡◌, ◌≢◌, ℕ, ◌==◌, ◌&&◌, not, ◌++◌, ◌⊎◌, Bool, true, false, List, [], ◌∷◌, map, remove, replicate, slice_set, Option, Some, None, Result, Ok, Err}
+use Rattle.std.specs.List.{list_any, position}
+use Rattle.r6_core.specs.Effects.{Accepts, RefusesOp, Receives, RefusesCompletion, LooksAt, RefusesLook, HandsCommand, HandsCall, Hears, RefusesAnswer, HandsReply}
+use Rattle.r6_core.specs.Shards.{CoreView, Step, call_of}
+use Rattle.r6_core.specs.declared.call.Call.{Call as RegisterCall}
+use Rattle.r6_core.specs.declared.reply.OpId.{OpId}
+use Rattle.r6_core.specs.declared.reply.Reply.{Reply}
+use Rattle.r6_health.specs.Histories.{held}
+use Rattle.r6_health.specs.Passes.{view_of, Tells as TellsPass}
+use Rattle.r6_health.specs.Views.{Looks as LooksPass}
+use Rattle.r6_health.specs.declared.snapshot.Snapshot.{Snapshot}
+use Rattle.r6_world.specs.Registers.{Told as Answer}
+use Rattle.r6_world.specs.Steps.{No_call, No_command}
+use Rattle.r6_world.specs.Worlds.{as_made}
+use Rattle.r6_core.specs.declared.Command.{Command}
+use Rattle.r6_core.specs.declared.CommandKind.{CommandKind}
+use Rattle.r6_core.specs.declared.CommandKind.TheVariants as kind
+use Rattle.r6_core.specs.declared.Op.{Op}
+use Rattle.r6_core.specs.declared.refusal.DeviceFault.{DeviceFault}
+use Rattle.r6_core.specs.declared.refusal.FaultKind.{FaultKind}
+use Rattle.r6_core.specs.declared.refusal.FaultKind.TheVariants.{ReadFault, WriteFault}
+use Rattle.r6_script.specs.declared.script.Call.{Call}
+use Rattle.r6_script.specs.declared.script.Call.TheVariants as call
+use Rattle.r6_script.specs.declared.script.Completion.{Completion}
+use Rattle.r6_script.specs.declared.script.Completion.TheVariants as completion
+use Rattle.r6_simulate.specs.declared.lines.Outcome.{Outcome}
+use Rattle.r6_simulate.specs.declared.lines.Outcome.TheVariants.{Accepted, Performed, PerformedAlready, NoSuchCommand, NotPerformed, Received, Looked, Refused, Told, Nothing}
+use Rattle.r6_simulate.specs.declared.devices.Blocks.{Blocks}
+use Rattle.r6_simulate.specs.declared.devices.Devices.{Devices}
+use Rattle.r6_simulate.specs.declared.register.OwnRegister.{OwnRegister}
+use Rattle.r6_simulate.specs.declared.shard.InFlight.{InFlight}
+use Rattle.r6_simulate.specs.declared.shard.Shard.{Shard}
+use Rattle.r6_simulate.specs.Devices.{IsAt, PerformsOn}
+use Rattle.r6_simulate.specs.Lines.{outcome_text, replies_text, commands_text}
+
+-- where the command of a token stands among those in flight
+abbrev pub place_of : (token : ℕ) → List InFlight → Option ℕ
+place_of token in_flight = position (λ f. f.command.token == token) in_flight
+
+-- a shard stays the one that it is; what is in flight stays so
+abbrev pub KeepsFlight : Shard → Shard → Type 0
+KeepsFlight old new = (new.number ≡ old.number) × (new.in_flight.items ≡ old.in_flight.items)
+
+-- and its core too
+abbrev pub IsSame : Shard → Shard → Type 0
+IsSame old new = (new.core ≡ old.core) × KeepsFlight old new
+
+-- ---- requests and completions
+
+-- the core takes a request, or refuses it
+abbrev pub SubmitsTo : CoreView → (number : ℕ) → Op → Outcome → CoreView → Type 0
+SubmitsTo old number op (Accepted shard id) new = (shard ≡ number) × Accepts old op id.0 new
+SubmitsTo old number op (Refused refusal) new = (back : Op) × RefusesOp old op refusal back new
+SubmitsTo old number op _ new = ⊥
+
+pub record Submits (op : Op) (old : Shard) (outcome : Outcome) (new : Shard) : Type 0 where
+  pub core : SubmitsTo old.core old.number op outcome new.core
+  pub kept : KeepsFlight old new
+
+-- the core takes a completion, or refuses it
+abbrev pub DeliversTo : CoreView → (token : ℕ) → Result (List ℕ) DeviceFault → Outcome → CoreView → Type 0
+DeliversTo old token done (Received receipt) new = Receives old token done receipt new
+DeliversTo old token done (Refused refusal) new = (back : Result (List ℕ) DeviceFault) × RefusesCompletion old token done refusal back new
+DeliversTo old token done _ new = ⊥
+
+pub record Delivers (token : ℕ) (done : Result (List ℕ) DeviceFault) (old : Shard) (outcome : Outcome) (new : Shard) : Type 0 where
+  pub core : DeliversTo old.core token done outcome new.core
+  pub kept : KeepsFlight old new
+
+-- how the device of a command fails
+abbrev pub fault_of : CommandKind → FaultKind
+fault_of kind.Read = ReadFault
+fault_of kind.Write = WriteFault
+
+-- the command of a token is in flight no more. Its buffer goes back, with the fault of its device, should it have failed;
+-- for a token that no command in flight has a block of zeros goes back
+abbrev pub TakesBackAt : Blocks → Option ℕ → Shard → DeviceFault → Shard → Type 0
+TakesBackAt blocks None old fault new =
+    (fault.kind ≡ ReadFault) × (fault.buffer ≡ replicate blocks.len 0) × (new.in_flight.items ≡ old.in_flight.items)
+TakesBackAt blocks (Some place) old fault new =
+    (f : InFlight) × IsAt old.in_flight.items place f × (fault.kind ≡ fault_of f.command.kind) × (fault.buffer ≡ f.command.buffer)
+    × (new.in_flight.items ≡ remove old.in_flight.items place)
+
+pub record TakesBack (blocks : Blocks) (token : ℕ) (old : Shard) (fault : DeviceFault) (new : Shard) : Type 0 where
+  pub flight : TakesBackAt blocks (place_of token old.in_flight.items) old fault new
+  pub number : new.number ≡ old.number
+  pub core : new.core ≡ old.core
+
+-- a command is in flight no more, and its completion is delivered
+pub record Completes (blocks : Blocks) (token : ℕ) (completion_by : DeviceFault → Result (List ℕ) DeviceFault) (old : Shard) (outcome : Outcome) (new : Shard) : Type 0 where
+  pub fault : DeviceFault
+  pub middle : Shard
+  pub taken : TakesBack blocks token old fault middle
+  pub delivered : Delivers token (completion_by fault) middle outcome new
+
+-- a good completion brings the buffer
+abbrev pub good : DeviceFault → Result (List ℕ) DeviceFault
+good fault = Ok fault.buffer
+
+-- the command of a token is in flight, and its device has yet to perform it
+abbrev pub is_unperformed : (token : ℕ) → List InFlight → Bool
+is_unperformed token in_flight = list_any (λ f. (f.command.token == token) && not f.performed) in_flight
+
+-- a good completion is delivered, but of a command that is yet to be performed
+abbrev pub AnswersGood : Blocks → (token : ℕ) → Shard → Outcome → Shard → Type 0
+AnswersGood blocks token old outcome new =
+    ((is_unperformed token old.in_flight.items ≡ true) × (outcome ≡ NotPerformed) × (new ≡ old))
+    ⊎ ((is_unperformed token old.in_flight.items ≡ false) × Completes blocks token good old outcome new)
+
+abbrev pub Answers : Blocks → (token : ℕ) → Completion → Shard → Outcome → Shard → Type 0
+Answers blocks token completion.Good old outcome new = AnswersGood blocks token old outcome new
+Answers blocks token completion.Error old outcome new = Completes blocks token Err old outcome new
+
+-- ---- devices
+
+-- the device of a command in flight performs it, once
+abbrev pub PerformsAt : Option ℕ → Shard → Devices → Outcome → Shard → Devices → Type 0
+PerformsAt None old devices NoSuchCommand new devices' = IsSame old new × (devices' ≡ devices)
+PerformsAt (Some place) old devices PerformedAlready new devices' =
+    (f : InFlight) × IsAt old.in_flight.items place f × (f.performed ≡ true) × IsSame old new × (devices' ≡ devices)
+PerformsAt (Some place) old devices Performed new devices' =
+    (f : InFlight) × IsAt old.in_flight.items place f × (f.performed ≡ false)
+    × (done : Command) × PerformsOn devices f.command devices' done
+    × (new.in_flight.items ≡ slice_set old.in_flight.items place (record { command = done; performed = true }))
+    × (new.number ≡ old.number) × (new.core ≡ old.core)
+PerformsAt place old devices outcome new devices' = ⊥
+
+abbrev pub Performs : (token : ℕ) → Shard → Devices → Outcome → Shard → Devices → Type 0
+Performs token old devices outcome new devices' = PerformsAt (place_of token old.in_flight.items) old devices outcome new devices'
+
+-- the device performs a command, and then its good completion is delivered
+abbrev pub Does : Blocks → (token : ℕ) → Shard → Devices → Outcome → Shard → Devices → Type 0
+Does blocks token old devices outcome new devices' =
+    ((middle : Shard) × Performs token old devices Performed middle devices' × AnswersGood blocks token middle outcome new)
+    ⊎ ((outcome ≢ Performed) × Performs token old devices outcome new devices')
+
+-- ---- the register
+
+-- what the register holds, as its one pass has seen it
+abbrev pub held_by : OwnRegister → Snapshot
+held_by register = held (view_of register.pass).start (view_of register.pass).seen
+
+-- the core's next call is made at the register, and it hears the answer
+abbrev pub TellsOf : Shard → OwnRegister → Outcome → CoreView → OwnRegister → Type 0
+TellsOf old register (Told made answered) new register' =
+    (middle : CoreView) × HandsCall old.core made.0 middle
+    × TellsPass register.pass (as_made old.number (call_of made.0)) answered.0 register'.pass × Hears middle made.0 answered.0 new
+TellsOf old register Nothing new register' = Step old.core No_call new × (register' ≡ register)
+TellsOf old register (Refused refusal) new register' =
+    (made : RegisterCall) × (answer : Answer) × (middle : CoreView) × HandsCall old.core made middle
+    × TellsPass register.pass (as_made old.number (call_of made)) answer register'.pass × RefusesAnswer middle made refusal new
+TellsOf old register _ new register' = ⊥
+
+pub record Tells (old : Shard) (register : OwnRegister) (outcome : Outcome) (new : Shard) (register' : OwnRegister) : Type 0 where
+  pub core : TellsOf old register outcome new.core register'
+  pub kept : KeepsFlight old new
+
+-- the core looks at the register as it is
+abbrev pub LooksAs : CoreView → Snapshot → Outcome → CoreView → Type 0
+LooksAs old seen Looked new = LooksAt old seen new
+LooksAs old seen (Refused refusal) new = RefusesLook old refusal new
+LooksAs old seen _ new = ⊥
+
+pub record Looks (old : Shard) (register : OwnRegister) (outcome : Outcome) (new : Shard) (register' : OwnRegister) : Type 0 where
+  pub read : LooksPass (view_of register.pass) (view_of register'.pass)
+  pub core : LooksAs old.core (held_by register') outcome new.core
+  pub kept : KeepsFlight old new
+
+-- a call of the script
+abbrev pub Makes : Call → Blocks → (old : Shard) (register : OwnRegister) (devices : Devices) → Outcome → (new : Shard) (register' : OwnRegister) (devices' : Devices) → Type 0
+Makes (call.Perform token) blocks old register devices outcome new register' devices' =
+    Performs token old devices outcome new devices' × (register' ≡ register)
+Makes (call.Answer token completion) blocks old register devices outcome new register' devices' =
+    Answers blocks token completion old outcome new × (register' ≡ register) × (devices' ≡ devices)
+Makes (call.Do token) blocks old register devices outcome new register' devices' =
+    Does blocks token old devices outcome new devices' × (register' ≡ register)
+Makes call.Tell blocks old register devices outcome new register' devices' = Tells old register outcome new register' × (devices' ≡ devices)
+Makes call.Look blocks old register devices outcome new register' devices' = Looks old register outcome new register' × (devices' ≡ devices)
+
+-- ---- what a shard puts out
+
+-- replies that a core hands out, one after another
+abbrev pub HandsReplies : CoreView → List (OpId × Reply) → CoreView → Type 0
+HandsReplies old [] new = new ≡ old
+HandsReplies old (r ∷ replies) new = (next : CoreView) × HandsReply old (r.0).0 r.1 next × HandsReplies next replies new
+
+-- commands that a core hands out, one after another
+abbrev pub HandsCommands : CoreView → List Command → CoreView → Type 0
+HandsCommands old [] new = new ≡ old
+HandsCommands old (c ∷ commands) new = (next : CoreView) × HandsCommand old c next × HandsCommands next commands new
+
+-- a command that was taken now
+abbrev pub taken : Command → InFlight
+taken command = record { command = command; performed = false }
+
+pub record PutsReplies (old : Shard) (text : List ℕ) (new : Shard) (text' : List ℕ) : Type 0 where
+  pub replies : List (OpId × Reply)
+  pub handed : HandsReplies old.core replies new.core
+  pub printed : text' ≡ text ++ replies_text old.number replies
+  pub kept : KeepsFlight old new
+
+-- the core hands out these commands, which are printed, and are in flight from then on
+pub record TakesCommands (old : Shard) (text : List ℕ) (new : Shard) (text' : List ℕ) : Type 0 where
+  pub commands : List Command
+  pub handed : HandsCommands old.core commands new.core
+  pub printed : text' ≡ text ++ commands_text old.number commands
+  pub number : new.number ≡ old.number
+  pub flight : new.in_flight.items ≡ old.in_flight.items ++ map taken commands
+
+-- and then it has none
+pub record PutsCommands (old : Shard) (text : List ℕ) (new : Shard) (text' : List ℕ) : Type 0 where
+  pub last : Shard
+  pub takes : TakesCommands old text last text'
+  pub ends : Step last.core No_command new.core ⊎ (new.core ≡ last.core)
+  pub kept : KeepsFlight last new
+
+-- the line of an event: what became of it, and what its shard puts out then, replies first
+pub record Reports (outcome : Outcome) (old : Shard) (text : List ℕ) (new : Shard) (text' : List ℕ) : Type 0 where
+  pub middle : Shard
+  pub middle_text : List ℕ
+  pub replies : PutsReplies old (text ++ outcome_text outcome) middle middle_text
+  pub commands : PutsCommands middle middle_text new text'

@@ -1,0 +1,82 @@
+-- A script played on an array in memory: what each event did, and its line. This is the project's own.
+use Rattle.std.specs.Prelude.{◌≡◌, ℕ, ◌≤◌, ◌++◌, ◌⊎◌, [], ◌∷◌, length, replicate, slice_set, Option, Result}
+use Rattle.std.specs.Io.KnownBytes.{Appends}
+use Rattle.r6_core.specs.declared.Op.{Op}
+use Rattle.r6_core.specs.declared.Op.TheVariants as op
+use Rattle.r6_health.specs.Passes.{Tells as TellsPass, view_of}
+use Rattle.r6_health.specs.Views.{Attached}
+use Rattle.r6_health.specs.declared.call.Answer.{Answer}
+use Rattle.r6_health.specs.declared.call.Call.TheVariants as register
+use Rattle.r6_health.specs.declared.refusal.Refusal.{Refusal}
+use Rattle.r6_script.specs.declared.script.Call.{Call}
+use Rattle.r6_script.specs.declared.script.Event.{Event}
+use Rattle.r6_script.specs.declared.script.Event.TheVariants as event
+use Rattle.r6_simulate.specs.AtShards.{Submits, Makes, Reports}
+use Rattle.r6_simulate.specs.Devices.{IsAt}
+use Rattle.r6_simulate.specs.Lines.{Text, answer_text, attach_answer, outcome_text}
+use Rattle.r6_simulate.specs.Shards.{shard_of_block}
+use Rattle.r6_simulate.specs.declared.lines.Outcome.{Outcome}
+use Rattle.r6_simulate.specs.declared.lines.Outcome.TheVariants.{NoSuchShard}
+use Rattle.r6_simulate.specs.declared.shard.Shard.{Shard}
+use Rattle.r6_simulate.specs.declared.array.Simulation.{Simulation}
+
+-- something happens at the shard of a number, which then puts out what it has: its line goes on with both. The other
+-- shards stay as they are
+pub record AtShard (Happens : Shard → Outcome → Shard → Type 0) (old : Simulation) (number : ℕ) (text : Text) (new : Simulation) (text' : Text) : Type 0 where
+  pub before : Shard
+  pub there : IsAt old.shards.items number before
+  pub outcome : Outcome
+  pub middle : Shard
+  pub happens : Happens before outcome middle
+  pub after : Shard
+  pub reports : Reports outcome middle text after text'
+  pub others : new.shards.items ≡ slice_set old.shards.items number after
+  pub geometry : new.geometry ≡ old.geometry
+  pub blocks : new.blocks ≡ old.blocks
+
+-- a request is submitted to the shard of its block
+pub record Requests (o : Op) (block : ℕ) (old : Simulation) (text : Text) (new : Simulation) (text' : Text) : Type 0 where
+  pub shard : AtShard (Submits o) old (shard_of_block old.geometry block) text new text'
+  pub register : new.register ≡ old.register
+  pub devices : new.devices ≡ old.devices
+
+-- a call of the script is made at a shard, if the array has it
+pub record MakesAt (call : Call) (old : Simulation) (number : ℕ) (text : Text) (new : Simulation) (text' : Text) : Type 0 where
+  pub shard : AtShard (λ before outcome after. Makes call old.blocks before old.register old.devices outcome after new.register new.devices) old number text new text'
+
+abbrev pub Calls : (number : ℕ) → Call → (old : Simulation) (text : Text) (new : Simulation) (text' : Text) → Type 0
+Calls number call old text new text' =
+    MakesAt call old number text new text'
+    ⊎ ((length old.shards.items ≤ number) × (text' ≡ text ++ outcome_text NoSuchShard) × (new ≡ old))
+
+-- a call from outside is answered so: that is printed, and no shard goes on
+pub record IsToldOutside (answer : Result Answer Refusal) (old : Simulation) (text : Text) (new : Simulation) (text' : Text) : Type 0 where
+  pub printed : text' ≡ text ++ answer_text answer
+  pub shards : new.shards.items ≡ old.shards.items
+  pub geometry : new.geometry ≡ old.geometry
+  pub blocks : new.blocks ≡ old.blocks
+
+pub record Fails (slot : ℕ) (old : Simulation) (text : Text) (new : Simulation) (text' : Text) : Type 0 where
+  pub answer : Result Answer Refusal
+  pub told : TellsPass old.register.pass (register.Fail slot) answer new.register.pass
+  pub printed : IsToldOutside answer old text new text'
+  pub devices : new.devices ≡ old.devices
+
+pub record Attaches (slot : ℕ) (old : Simulation) (text : Text) (new : Simulation) (text' : Text) : Type 0 where
+  pub answer : Result ℕ Refusal
+  pub told : Attached (view_of old.register.pass) slot answer (view_of new.register.pass)
+  pub printed : IsToldOutside (attach_answer answer) old text new text'
+
+-- what an event does, and its line, behind the text that stands there
+abbrev pub Plays : Event → (old : Simulation) (text : Text) (new : Simulation) (text' : Text) → Type 0
+Plays (event.Read block) old text new text' = Requests (op.Read block (replicate old.blocks.len 0)) block old text new text'
+Plays (event.Write block byte) old text new text' = Requests (op.Write block (replicate old.blocks.len byte)) block old text new text'
+Plays (event.At number call) old text new text' = Calls number call old text new text'
+Plays (event.Fail slot) old text new text' = Fails slot old text new text'
+Plays (event.Attach slot) old text new text' = Attaches slot old text new text'
+
+-- an event is played and its line is printed
+pub record PlaysAndPrints (e : Event) (old : Simulation) (printed : Option Text) (new : Simulation) (printed' : Option Text) : Type 0 where
+  pub line : Text
+  pub plays : Plays e old [] new line
+  pub writes : Appends printed printed' (line ++ 10 ∷ [])

@@ -1,0 +1,246 @@
+//! A shard of an array in memory: its core, and what events do there.
+
+ghost use Rattle.std.specs.Prelude.{◌≡◌, ◌<◌, length, IfOk, IfSome, OnOk, string_bytes};
+ghost use Rattle.r6_simulate.specs.AtShards.{place_of, fault_of, Submits, Delivers, TakesBack, Performs, Answers, AnswersGood, Does, is_unperformed, Tells, Looks, Makes, PutsReplies, PutsCommands, Reports};
+
+use crate::devices::{Blocks, Devices};
+use crate::fault::SimulationFault;
+use crate::lines::{Answered, Made, Outcome, write_command, write_reply};
+use crate::register::OwnRegister;
+use r6_core::{Command, CommandKind, Core, DeviceFault, FaultKind, Op};
+use r6_kernels::Buffer;
+use r6_script::{Call, Completion};
+use std::fmt::Write as _;
+use std::sync::Wait;
+
+/// A command that was taken and isn't answered, and whether its device performed it.
+#[derive(Drop)]
+pub struct InFlight {
+    pub command: Command,
+    pub performed: bool,
+}
+
+/// A core, with its commands that were taken and aren't answered.
+#[derive(Drop)]
+pub struct Shard {
+    pub number: usize,
+    pub core: Core,
+    pub in_flight: Vec<InFlight>,
+}
+
+impl Shard {
+    // Where the command of this token stands among those in flight.
+    fn place_of(&self, token: u64) -> Option<usize>
+        ensures place { result ≡ place_of token self.now.in_flight.items }
+        ensures within { IfSome result (λ place. place < length self.now.in_flight.items) }
+    {
+        self.in_flight
+            .iter()
+            .position(|in_flight| in_flight.command.token == token)
+    }
+
+    /// Submits a request.
+    pub fn submit(&mut self, op: Op) -> Outcome
+        ensures { Submits op self.old result self.new }
+    {
+        match self.core.submit(op) {
+            Ok(id) => Outcome::Accepted(self.number, id),
+            Err(refused) => Outcome::Refused(refused.refusal),
+        }
+    }
+
+    // Delivers a completion.
+    fn deliver(&mut self, token: u64, completion: Result<Buffer, DeviceFault>) -> Outcome
+        ensures { Delivers token completion self.old result self.new }
+    {
+        match self.core.deliver(token, completion) {
+            Ok(receipt) => Outcome::Received(receipt),
+            Err(refused) => Outcome::Refused(refused.refusal),
+        }
+    }
+
+    /// The device of a command in flight performs it, once.
+    pub fn perform(&mut self, devices: &mut Devices, token: u64) -> Result<Outcome, SimulationFault>
+        ensures { IfOk result (λ outcome. Performs token self.old devices.old outcome self.new devices.new) }
+    {
+        let Some(place) = self.place_of(token) else {
+            return Ok(Outcome::NoSuchCommand);
+        };
+        let in_flight = &mut self.in_flight[place];
+        if in_flight.performed {
+            return Ok(Outcome::PerformedAlready);
+        }
+        devices.perform(&mut in_flight.command)?;
+        in_flight.performed = true;
+        Ok(Outcome::Performed)
+    }
+
+    // Whether the command of this token is in flight, and its device has yet to perform it.
+    fn is_unperformed(&self, token: u64) -> bool
+        ensures { result ≡ is_unperformed token self.now.in_flight.items }
+    {
+        self.in_flight.iter().any(|in_flight| in_flight.command.token == token
+            && !in_flight.performed)
+    }
+
+    // The buffer of a command, which is in flight no more, and how its device fails; of one that isn't in flight a
+    // block of zeros, so that its refusal shows.
+    fn take_back_or_zeros(
+        &mut self,
+        blocks: &Blocks,
+        token: u64,
+    ) -> Result<DeviceFault, SimulationFault>
+        ensures { IfOk result (λ fault. TakesBack blocks.now token self.old fault self.new) }
+    {
+        let Some(place) = self.place_of(token) else {
+            return Ok(DeviceFault {
+                kind: FaultKind::ReadFault,
+                buffer: blocks.of(0)?,
+            });
+        };
+        let command = self.in_flight.remove(place).command;
+        Ok(DeviceFault {
+            kind: fault_of(command.kind),
+            buffer: command.buffer,
+        })
+    }
+
+    /// Delivers the completion of a command: a good one if it was performed, an error in any case.
+    pub fn answer(
+        &mut self,
+        blocks: &Blocks,
+        token: u64,
+        completion: Completion,
+    ) -> Result<Outcome, SimulationFault>
+        ensures { IfOk result (λ outcome. Answers blocks.now token completion self.old outcome self.new) }
+    {
+        match completion {
+            Completion::Good => self.answer_good(blocks, token),
+            Completion::Error => {
+                let fault = self.take_back_or_zeros(blocks, token)?;
+                Ok(self.deliver(token, Err(fault)))
+            }
+        }
+    }
+
+    // Delivers the good completion of a command.
+    fn answer_good(&mut self, blocks: &Blocks, token: u64) -> Result<Outcome, SimulationFault>
+        ensures { IfOk result (λ outcome. AnswersGood blocks.now token self.old outcome self.new) }
+    {
+        if self.is_unperformed(token) {
+            return Ok(Outcome::NotPerformed);
+        }
+        let fault = self.take_back_or_zeros(blocks, token)?;
+        Ok(self.deliver(token, Ok(fault.buffer)))
+    }
+
+    /// The device of a command performs it, and then its good completion is delivered.
+    pub fn perform_and_answer(
+        &mut self,
+        devices: &mut Devices,
+        blocks: &Blocks,
+        token: u64,
+    ) -> Result<Outcome, SimulationFault>
+        ensures { IfOk result (λ outcome. Does blocks.now token self.old devices.old outcome self.new devices.new) }
+    {
+        let performed = self.perform(devices, token)?;
+        match performed {
+            Outcome::Performed => self.answer_good(blocks, token),
+            other => Ok(other),
+        }
+    }
+
+    /// Makes the shard's next call at the register, and tells the shard the answer.
+    pub fn tell<R: Wait>(&mut self, rt: &R, register: &mut OwnRegister) -> Outcome
+        ensures { Tells self.old register.old result self.new register.new }
+    {
+        let Some(call) = self.core.take_call() else {
+            return Outcome::Nothing;
+        };
+        let answer = register.make(rt, self.number, call);
+        match self.core.told(call, answer) {
+            Ok(()) => Outcome::Told(Made(call), Answered(answer)),
+            Err(refusal) => Outcome::Refused(refusal),
+        }
+    }
+
+    /// Hands the register as it is to the shard.
+    pub fn look<R: Wait>(&mut self, rt: &R, register: &mut OwnRegister) -> Outcome
+        ensures { Looks self.old register.old result self.new register.new }
+    {
+        let snapshot = register.read(rt);
+        match self.core.look(&snapshot) {
+            Ok(()) => Outcome::Looked,
+            Err(refusal) => Outcome::Refused(refusal),
+        }
+    }
+
+    /// Does at the shard what a call of the script says.
+    pub fn make<R: Wait>(
+        &mut self,
+        rt: &R,
+        call: Call,
+        register: &mut OwnRegister,
+        devices: &mut Devices,
+        blocks: &Blocks,
+    ) -> Result<Outcome, SimulationFault>
+        ensures { IfOk result (λ outcome. Makes call blocks.now self.old register.old devices.old outcome self.new register.new devices.new) }
+    {
+        match call {
+            Call::Perform(token) => self.perform(devices, token),
+            Call::Answer(token, completion) => self.answer(blocks, token, completion),
+            Call::Do(token) => self.perform_and_answer(devices, blocks, token),
+            Call::Tell => Ok(self.tell(rt, register)),
+            Call::Look => Ok(self.look(rt, register)),
+        }
+    }
+
+    // Writes the replies that the shard puts out.
+    fn put_out_replies(&mut self, line: &mut String) -> Result<(), SimulationFault>
+        ensures { OnOk result (PutsReplies self.old (string_bytes line.old) self.new (string_bytes line.new)) }
+    {
+        for _ in 0..u64::MAX {
+            let Some((id, reply)) = self.core.take_reply() else {
+                break;
+            };
+            write_reply(line, self.number, id, &reply)?;
+        }
+        Ok(())
+    }
+
+    // Writes the commands that the shard puts out, and keeps them.
+    fn put_out_commands(&mut self, line: &mut String) -> Result<(), SimulationFault>
+        ensures { OnOk result (PutsCommands self.old (string_bytes line.old) self.new (string_bytes line.new)) }
+    {
+        for _ in 0..u64::MAX {
+            let Some(command) = self.core.take_command() else {
+                break;
+            };
+            write_command(line, self.number, &command)?;
+            self.in_flight.push(InFlight {
+                command,
+                performed: false,
+            })?;
+        }
+        Ok(())
+    }
+
+    /// Writes what became of an event, and then what the shard puts out, replies first.
+    pub fn report(&mut self, outcome: Outcome, line: &mut String) -> Result<(), SimulationFault>
+        ensures { OnOk result (Reports outcome self.old (string_bytes line.old) self.new (string_bytes line.new)) }
+    {
+        write!(line, "{outcome}")?;
+        self.put_out_replies(line)?;
+        self.put_out_commands(line)
+    }
+}
+
+// How the device of a command of this kind fails.
+fn fault_of(kind: CommandKind) -> FaultKind
+    ensures { result ≡ fault_of kind }
+{
+    match kind {
+        CommandKind::Read => FaultKind::ReadFault,
+        CommandKind::Write => FaultKind::WriteFault,
+    }
+}
