@@ -81,7 +81,8 @@ impl State {
         }
     }
 
-    // Of the waiting requests from an index on the oldest that can start: its index, and a free frame. Those before can't.
+    // Of the waiting requests from an index on the oldest that can start: its index, and a free frame. Those before it
+    // can't.
     fn first_to_start(&self, from: usize) -> Option<(usize, usize)>
         requires settled { IsSettled self.now }
         requires before { AllByRecursion (CannotStart self.now.frames) (take from self.now.waiting.items) }
@@ -108,7 +109,8 @@ impl State {
     fn is_row_held(&self, request: &Request) -> bool
         requires sound { held.IsSound self.now.frames }
         requires request { IsRequestOf self.now.frames request.now }
-        ensures { IsTrue result ↔ (NotHeldBy self.now.frames (layout.row_of self.now.frames.geometry (world.block_of (op_of request.now.op))) → ⊥) }
+        ensures { let row = layout.row_of self.now.frames.geometry (world.block_of (op_of request.now.op)) in
+            IsTrue result ↔ (NotHeldBy self.now.frames row → ⊥) }
     {
         let Some(place) = self.frames.geometry().place(request.op.block()) else {
             unreachable!()
