@@ -15,7 +15,6 @@ use Rattle.r6_stripe.specs.Steps.{Held, standing_if, begun_held, is_away}
 use Rattle.r6_stripe.specs.Views.{kind_of_task}
 use Rattle.r6_stripe.specs.Sound.{IsTask}
 use Rattle.r6_stripe.specs.declared.command.Task.{Task as RowTask}
-use Rattle.r6_stripe.specs.declared.command.Task.TheVariants as asks
 use Rattle.r6_world.specs.Tables.{put}
 use Rattle.r6_world.specs.PlainArray.{block_of}
 use Rattle.r6_world.specs.Layouts.{first}
@@ -80,11 +79,9 @@ found_is fs row =
 pub begun_first : (size : ℕ) (in_sync : List Bool) (kind : Kind) → (begun_held size in_sync kind).planned ≡ planned_first (resting size (map standing_if in_sync)) kind
 begun_first size in_sync kind = refl
 
-cells_of : (task : RowTask) (size : ℕ) (in_sync : List Bool) → (begun_held size in_sync (kind_of_task task)).planned.hold.cells ≡ (resting size (map standing_if in_sync)).cells
-cells_of (asks.Read index) size in_sync = refl
-cells_of (asks.Write index block) size in_sync = refl
-cells_of asks.Check size in_sync = refl
-cells_of asks.Repair size in_sync = refl
+cells_of : (index : ℕ) (o : Op) (size : ℕ) (in_sync : List Bool) → (begun_held size in_sync (kind_of_task (row_task index o))).planned.hold.cells ≡ (resting size (map standing_if in_sync)).cells
+cells_of index (op.Read block buffer) size in_sync = refl
+cells_of index (op.Write block buffer) size in_sync = refl
 
 all_unread : (standings : List Standing) → count_where (λ cell. is_unread cell.reading) (map standing_cell standings) ≡ length standings
 all_unread [] = refl
@@ -175,7 +172,7 @@ entry_is fs frame request =
 
 cells_in : (fs : Frames) (request : Request) → (begun_row fs request).hold.planned.hold.cells ≡ (found_in fs (row_of fs request)).cells
 cells_in fs request =
-    cells_of (task_in fs.geometry request) fs.geometry.block (synced fs (row_of fs request)) ∙ ap (λ (hold : Hold). hold.cells) (found_is fs (row_of fs request))
+    cells_of (layout.index_of fs.geometry (block_in request)) request.op fs.geometry.block (synced fs (row_of fs request)) ∙ ap (λ (hold : Hold). hold.cells) (found_is fs (row_of fs request))
 
 cell_in : (fs : Frames) (request : Request) (position : ℕ) → position < fs.geometry.slots
     → cell_at (begun_row fs request).hold.planned.hold.cells position
@@ -195,7 +192,7 @@ home_in_row fs request = all_home (synced fs (row_of fs request)) ∙ wide_in fs
 all_owed : (fs : Frames) (request : Request) → owed_by (begun_row fs request) ≡ 2 * fs.geometry.slots
 all_owed fs request =
     let standings = map standing_if (synced fs (row_of fs request)) in
-    let cells = cells_of (task_in fs.geometry request) fs.geometry.block (synced fs (row_of fs request)) in
+    let cells = cells_of (layout.index_of fs.geometry (block_in request)) request.op fs.geometry.block (synced fs (row_of fs request)) in
     let wide = length-map (synced fs (row_of fs request)) standing_if ∙ wide_in fs request in
     let reads = ap (count_where (λ cell. is_unread cell.reading)) cells ∙ all_unread standings in
     let writes = ap (count_where is_unsent) cells ∙ all_unsent standings in

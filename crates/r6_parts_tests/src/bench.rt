@@ -12,11 +12,12 @@ use std::test::Fail;
 /// The bytes of a block.
 const BLOCK: usize = 16;
 
-/// What a hold is asked: the index of a data block, and the byte that is written throughout.
+/// What a hold is asked: the index of a data block, and the byte that is written throughout; the position of the target.
 #[derive(Clone, Copy)]
 pub(crate) enum Ask {
     Read(usize),
     Write(usize, u8),
+    Rebuild(usize),
     Check,
     Repair,
 }
@@ -87,17 +88,19 @@ pub(crate) fn has_bytes(blocks: &Vec<Buffer>, bytes: &[u8], lost: &[usize]) -> b
 /// The hold of a row, of whose positions these are in sync.
 fn hold_of(alloc: Global, ask: Ask, in_sync: &[bool]) -> Result<Hold, Fail> {
     let count = in_sync.len();
-    let index = match ask {
-        Ask::Read(index) | Ask::Write(index, _) => index,
-        Ask::Check | Ask::Repair => 0,
+    let (index, target) = match ask {
+        Ask::Read(index) | Ask::Write(index, _) => (index, 0),
+        Ask::Rebuild(target) => (0, target),
+        Ask::Check | Ask::Repair => (0, 0),
     };
-    if count < 4 || count > 32 || index >= count - 2 {
+    if count < 4 || count > 32 || index >= count - 2 || target >= count {
         return Err(Fail::from("no row"));
     }
     let frame = Frame::new(alloc, count, BLOCK)?;
     let task = match ask {
         Ask::Read(index) => Task::Read(index),
         Ask::Write(index, byte) => Task::Write(index, filled(alloc, BLOCK, byte)?),
+        Ask::Rebuild(target) => Task::Rebuild(target),
         Ask::Check => Task::Check,
         Ask::Repair => Task::Repair,
     };

@@ -28,7 +28,7 @@ fn end(mut hold: Hold) -> Option<Task> {
 fn is_write_of(task: &Task, index: usize, byte: u8) -> bool {
     match task {
         Task::Write(at, block) => *at == index && block.len() == 16 && is_filled(block, byte),
-        Task::Read(_) | Task::Check | Task::Repair => false,
+        Task::Read(_) | Task::Rebuild(_) | Task::Check | Task::Repair => false,
     }
 }
 

@@ -32,6 +32,8 @@ mod losses;
 #[cfg(test)]
 mod register_caller;
 #[cfg(test)]
+mod rebuilds;
+#[cfg(test)]
 mod registers;
 #[cfg(test)]
 mod row_lengths;

@@ -92,6 +92,6 @@ repaired len blocks p q =
 abbrev pub IsEnd : Outcome → Option RowClass → End → Type 0
 IsEnd (Outcome.Data block) class e = e ≡ end.Done
 IsEnd Outcome.Done class e = e ≡ end.Done
-IsEnd Outcome.Rebuilt class e = ⊥
+IsEnd Outcome.Rebuilt class e = e ≡ end.Rebuilt
 IsEnd Outcome.Classed class e = (c : RowClass) × (class ≡ Some c) × (e ≡ end.Classed c)
 IsEnd Outcome.GivenUp class e = e ≡ end.GivenUp

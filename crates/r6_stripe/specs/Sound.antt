@@ -18,6 +18,7 @@ abbrev pub IsTask : ℕ → ℕ → Option Task → Type 0
 IsTask count size None = ⊤
 IsTask count size (Some (task.Read index)) = index + 2 < count
 IsTask count size (Some (task.Write index block)) = (index + 2 < count) × (length block ≡ size)
+IsTask count size (Some (task.Rebuild target)) = target < count
 IsTask count size (Some task.Check) = ⊤
 IsTask count size (Some task.Repair) = ⊤
 
@@ -44,6 +45,16 @@ IsRepaired count position place =
     ((place.read ≡ read.Known) × (place.write ≡ write.Unwritten))
     ⊎ ((count ≤ position + 2) × (place.read ≡ read.Replaced) × (place.write ≢ write.Unwritten))
 
+-- the target is out or being written anew, and is never read; of the others none gets a new block
+abbrev pub IsNewIf : Bool → Place → Type 0
+IsNewIf false place = place.write ≡ write.Unwritten
+IsNewIf true place = place.write ≢ write.Unwritten
+
+abbrev pub IsRebuilding : ℕ → Bool → ℕ → Place → Type 0
+IsRebuilding target computed position place =
+    (position ≢ target → (place.write ≡ write.Unwritten) × (place.read ≢ read.Replaced))
+    × (position ≡ target → (place.read ≡ read.Unread) × (place.state ≢ state.InSync) × IsNewIf computed place)
+
 -- where a place stands in the course of the plan, before or after the new blocks were computed
 abbrev pub IsInCourse : Plan → Option Task → ℕ → Bool → ℕ → Place → Type 0
 IsInCourse plan.One (Some (task.Read index)) count computed position place = (place.write ≡ write.Unwritten) × (place.read ≢ read.Replaced)
@@ -59,6 +70,8 @@ IsInCourse plan.Recover (Some (task.Read index)) count computed position place =
     (place.write ≡ write.Unwritten) × (place.read ≢ read.Replaced) × (position ≡ index → place.state ≡ state.Out)
 IsInCourse plan.Recover (Some (task.Write index block)) count false position place = (place.write ≡ write.Unwritten) × (place.read ≢ read.Replaced)
 IsInCourse plan.Recover (Some (task.Write index block)) count true position place = IsPut count index position → IsRenewed place
+IsInCourse plan.Recover (Some (task.Rebuild target)) count computed position place =
+    IsRebuilding target computed position place
 IsInCourse plan.All (Some task.Check) count computed position place =
     (place.write ≡ write.Unwritten) × (place.read ≢ read.Replaced)
 IsInCourse plan.All (Some task.Repair) count false position place =
@@ -86,14 +99,28 @@ abbrev pub MayLend : Option Task → ℕ → Type 0
 MayLend None position = ⊤
 MayLend (Some (task.Read index)) position = position ≡ index
 MayLend (Some (task.Write index block)) position = ⊥
+MayLend (Some (task.Rebuild target)) position = ⊥
 MayLend (Some task.Check) position = ⊥
 MayLend (Some task.Repair) position = ⊥
+
+-- only the position that a rebuild writes is its target
+abbrev pub MayTarget : Option Task → ℕ → Type 0
+MayTarget None position = ⊤
+MayTarget (Some (task.Read index)) position = ⊥
+MayTarget (Some (task.Write index block)) position = ⊥
+MayTarget (Some (task.Rebuild target)) position = position ≡ target
+MayTarget (Some task.Check) position = ⊥
+MayTarget (Some task.Repair) position = ⊥
+
+abbrev pub IsTargetOf : Option Task → ℕ → Place → Type 0
+IsTargetOf t position place = place.state ≡ state.Target → MayTarget t position
 
 -- only a check or repair is cut short
 abbrev pub MayCut : Option Task → Bool → Type 0
 MayCut None cut = ⊤
 MayCut (Some (task.Read index)) cut = cut ≡ false
 MayCut (Some (task.Write index block)) cut = cut ≡ false
+MayCut (Some (task.Rebuild target)) cut = cut ≡ false
 MayCut (Some task.Check) cut = ⊤
 MayCut (Some task.Repair) cut = ⊤
 
@@ -116,6 +143,7 @@ pub record IsSound (state : HoldState) : Type 0 where
   pub at_home : AreHome state.len state.places.items state.blocks.items
   pub settled : Each (λ position place. IsSettled place) state.places.items
   pub cut : MayCut state.task state.cut_short
+  pub targets : Each (IsTargetOf state.task) state.places.items
   pub lends : Each (λ position place. is_lent place ≡ true → MayLend state.task position) state.places.items
   pub computed : Bool
   pub renewed : state.task ≡ Some task.Repair → computed ≡ true → IsRenewedBy state.class state.places.items
@@ -136,6 +164,7 @@ Suits p None = ⊤
 Suits plan.One (Some (task.Read index)) = ⊤
 Suits plan.Recover (Some (task.Read index)) = ⊤
 Suits p (Some (task.Write index block)) = IsWritePlan p
+Suits plan.Recover (Some (task.Rebuild target)) = ⊤
 Suits plan.All (Some task.Check) = ⊤
 Suits plan.All (Some task.Repair) = ⊤
 Suits _ _ = ⊥

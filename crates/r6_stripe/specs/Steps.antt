@@ -19,6 +19,9 @@ pub record Held : Type 0 where
 
 -- ---- what stands at a position
 
+abbrev pub IsInSync : Cell → Type 0
+IsInSync cell = cell.standing ≡ Standing.InSync
+
 abbrev pub IsUnread : Cell → Type 0
 IsUnread cell = cell.reading ≡ Unread
 

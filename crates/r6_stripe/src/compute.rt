@@ -41,7 +41,13 @@ impl HoldState {
             return;
         }
         match self.plan {
-            Plan::Recover => self.recover(),
+            Plan::Recover => {
+                if let Some(Task::Rebuild(target)) = self.task {
+                    self.rebuild(target);
+                } else {
+                    self.recover();
+                }
+            }
             Plan::All => self.repair(),
             _ => self.compute(),
         }

@@ -59,7 +59,7 @@ impl Hold {
             len,
             alloc,
         } = frame;
-        settle(&mut places, in_sync);
+        settle(&mut places, in_sync, &task);
         let mut state = HoldState {
             task: Some(task),
             plan: Plan::Recover,

@@ -86,16 +86,26 @@ impl HoldState {
     {
         match self.task {
             Some(Task::Write(index, _)) => index == position || self.is_parity(position),
+            Some(Task::Rebuild(target)) => target == position,
             Some(Task::Repair) => self.is_parity(position) && self.differs(position),
             _ => false,
         }
     }
 
+    fn is_lost(&self, position: usize) -> bool
+        requires { position < length self.now.places.items }
+        ensures { result ≡ plans.is_out (cell_at (hold_of self.now).cells position).standing }
+    {
+        self.places[position].is_out()
+    }
+
     /// Whether nothing more is put out: the hold has ended.
     pub(crate) fn gives_up(&self) -> bool
+        requires { IsTask (length self.now.places.items) self.now.len self.now.task }
         ensures { result ≡ plans.gives_up (hold_of self.now) }
     {
         match self.task {
+            Some(Task::Rebuild(target)) => self.is_lost(target),
             Some(Task::Check | Task::Repair) => self.cut_short,
             Some(Task::Read(_) | Task::Write(_, _)) => false,
             None => true,
@@ -158,7 +168,7 @@ impl HoldState {
         ensures { let hold = hold_of self.now in
             result ≡ (can_drop (plan_of self.now.plan) hold position && plans.is_out (cell_at hold.cells position).standing) }
     {
-        self.can_drop(position) && !self.places[position].is_in_sync()
+        self.can_drop(position) && self.places[position].is_out()
     }
 
     /// How many blocks are known.
@@ -260,7 +270,7 @@ impl HoldState {
         match self.task {
             Some(Task::Read(index)) => {
                 let place = self.places[index];
-                if place.is_in_sync() || place.is_known() {
+                if !place.is_out() || place.is_known() {
                     None
                 } else {
                     Some(index)
@@ -419,6 +429,7 @@ impl HoldState {
         match task {
             Task::Read(index) => self.plan_of_read(*index),
             Task::Write(index, _) => self.plan_of_write(*index),
+            Task::Rebuild(_) => Plan::Recover,
             Task::Check | Task::Repair => Plan::All,
         }
     }
@@ -458,8 +469,21 @@ impl HoldState {
         ensures { IsEnd (plans.outcome_of (hold_of self.now) (hold_of self.now).kind) self.now.class result }
     {
         match self.task {
+            Some(Task::Rebuild(target)) => self.end_of_rebuild(target),
             Some(Task::Check | Task::Repair) => self.end_of_check(),
             _ => Outcome::Done,
+        }
+    }
+
+    fn end_of_rebuild(&self, target: usize) -> Outcome
+        requires { target < length self.now.places.items }
+        ensures { let out = plans.is_out (cell_at (hold_of self.now).cells target).standing in
+            IsEnd (if out then holds.Outcome.GivenUp else holds.Outcome.Rebuilt) self.now.class result }
+    {
+        if self.is_lost(target) {
+            Outcome::GivenUp
+        } else {
+            Outcome::Rebuilt
         }
     }
 

@@ -12,6 +12,7 @@ ghost use Rattle.r6_stripe.specs.Plans as plans;
 ghost use Rattle.r6_stripe.specs.Recovery.{IsAmongMissing, IsBlockOfFull};
 ghost use Rattle.r6_stripe.specs.Sound.{IsSound};
 ghost use Rattle.r6_stripe.specs.Views.{hold_of, plan_of, planned_of};
+ghost use Rattle.r6_stripe.specs.declared.command.Task.TheVariants as task;
 
 use crate::command::Task;
 use crate::compute::mark;
@@ -23,7 +24,7 @@ use std::mem;
 
 impl HoldState {
     /// The positions whose blocks aren't known.
-    fn missing(&self) -> Missing
+    pub(crate) fn missing(&self) -> Missing
         requires { length self.now.places.items ≤ 32 }
         ensures { IsMissing (known_of self.now.places.items) (length self.now.places.items) result }
     {
@@ -69,6 +70,7 @@ impl HoldState {
         requires plan { plan_of self.old.plan ≡ plans.Plan.Recover }
         requires read { not (plans.has_read_out (hold_of self.old) || not (plans.is_enough (plan_of self.old.plan) (hold_of self.old))) ≡ true }
         requires no_read { plans.next_read (plan_of self.old.plan) (hold_of self.old) ≡ None }
+        requires apart { (target : ℕ) → self.old.task ≡ Some (task.Rebuild target) → ⊥ }
         requires owed { plans.each_below (λ position. not (plans.lacks_new (hold_of self.old) position)) (length (hold_of self.old).cells) ≡ false }
         ensures sound { IsSound self.new }
         ensures prepares { plans.Prepares (planned_of self.old) (planned_of self.new) }
@@ -100,7 +102,7 @@ impl HoldState {
 }
 
 /// The data block of the index, which is among the missing, into `sum`. What stands at missing positions is of no account.
-fn restore_one(
+pub(crate) fn restore_one(
     blocks: &[Buffer],
     missing: Missing,
     index: usize,
@@ -139,7 +141,7 @@ fn kept(places: &[Place], index: usize, position: Option<usize>) -> Option<usize
 }
 
 /// Exchanges the buffer of the position, if there is one, for the buffer apart.
-fn exchange(blocks: &mut Vec<Buffer>, position: Option<usize>, apart: &mut Buffer)
+pub(crate) fn exchange(blocks: &mut Vec<Buffer>, position: Option<usize>, apart: &mut Buffer)
     requires { IfSome position (λ i. i < length blocks.old.items) }
     ensures blocks { blocks.new.items ≡ put_at position blocks.old.items apart.old }
     ensures apart { apart.new ≡ taken_at position blocks.old.items apart.old }

@@ -7,7 +7,7 @@ ghost use Rattle.r6_stripe.specs.Holds.{cell_at};
 ghost use Rattle.r6_stripe.specs.Places.{no_place};
 ghost use Rattle.r6_stripe.specs.Plans as plans;
 ghost use Rattle.r6_stripe.specs.Sound.{IsSound};
-ghost use Rattle.r6_stripe.specs.Steps.{asked, sent, answered, lost, closed, PutsOut, IsUnread, IsUnwritten, IsReady, IsUnknown, IsKnownAs, is_away};
+ghost use Rattle.r6_stripe.specs.Steps.{asked, sent, answered, lost, closed, PutsOut, IsInSync, IsUnread, IsUnwritten, IsReady, IsUnknown, IsKnownAs, is_away};
 ghost use Rattle.r6_stripe.specs.Views.{hold_of, held_of, plan_of, kind_of};
 
 use crate::command::{RowCommand, Task};
@@ -47,6 +47,7 @@ impl HoldState {
     pub(crate) fn ask(&mut self, position: usize) -> Buffer
         requires sound { IsSound self.old }
         requires place { position < length self.old.places.items }
+        requires in_sync { IsInSync (cell_at (hold_of self.old).cells position) }
         requires unread { IsUnread (cell_at (hold_of self.old).cells position) }
         requires unwritten { IsUnwritten (cell_at (hold_of self.old).cells position) }
         requires wanted { plans.wants (plan_of self.old.plan) (hold_of self.old) position ≡ true }

@@ -11,7 +11,7 @@ use Rattle.r6_stripe.specs.declared.command.Task.TheVariants as task
 use Rattle.r6_stripe.specs.declared.place.Place.{Place}
 use Rattle.r6_stripe.proofs.Places.{any_default}
 use Rattle.std.specs.Prelude.{Option}
-use Rattle.r6_stripe.proofs.Checks.{writes_none, prepares_cut, then_writes_cut}
+use Rattle.r6_stripe.proofs.Checks.{rebuilds, targets_later, writes_none, prepares_cut, then_writes_cut}
 use Rattle.r6_stripe.proofs.Computed.{none_owed}
 use Rattle.r6_stripe.proofs.Prepared.{owes_of, AwaitsNew, awaits_new, IsModified, IsPrepared, all_home, reconstructs, otherwise_modifies, p_home, q_home, modified_renews, lengths_kept, prepared}
 use Rattle.r6_stripe.proofs.Renewals.{length-ready_at, away-ready_at, length-modified}
@@ -23,7 +23,7 @@ use Rattle.r6_stripe.proofs.state.HoldState.compute.Goals.{In-Write, After-make_
 pub returns-in_default-task-clause-then_writes : goal.returns-in_default-task-clause-then_writes
 returns-in_default-task-clause-then_writes c =
     let s = c.args.self.now in
-    absurd (writes_none s.plan s.task s.len s.cut_short c.requires.sound.computed s.places.items s.blocks.items (omega (arith, c.requires.sound.four_or_more)) c.requires.sound.course c.requires.not_all c.requires.owed c.in-Some.task c.in-Some.is c.in_default-task.not-Write)
+    absurd (writes_none s.plan s.task s.len s.cut_short c.requires.sound.computed s.places.items s.blocks.items (omega (arith, c.requires.sound.four_or_more)) c.requires.sound.course c.requires.not_all c.requires.owed (λ target is. c.requires.plan (rebuilds s.plan s.task s.cut_short c.requires.sound.computed s.places.items (omega (arith, c.requires.sound.four_or_more)) c.requires.sound.course target is)) c.in-Some.task c.in-Some.is c.in_default-task.not-Write)
 
 pub returns-in_default-clause-then_writes : goal.returns-in_default-clause-then_writes
 returns-in_default-clause-then_writes c =
@@ -78,6 +78,7 @@ returns-in-Reconstruct-clause-sound c =
       settled = done.settled;
       lends = λ j h lent. absurd (let f = sym (done.unlent j h) ∙ lent in cc);
       cut = sound.cut;
+      targets = targets_later s.task s.places.items c.make_ready.new.places.items (renewed (length s.places.items) c.in-Write.index true true) c.make_ready.ensures sound.targets;
       computed = true;
       renewed = λ repairs. absurd (let e = sym (is_write at.In-Write) ∙ repairs in cc);
       course = done.course;
@@ -165,6 +166,7 @@ returns-clause-sound c =
       settled = done.settled;
       lends = λ j h lent. absurd (let f = sym (done.unlent j h) ∙ lent in cc);
       cut = sound.cut;
+      targets = targets_later s.task s.places.items later (renewed (length s.places.items) c.in-Write.index p q) c.make_ready-2.ensures sound.targets;
       computed = true;
       renewed = λ repairs. absurd (let e = sym (is_write at.In-Write) ∙ repairs in cc);
       course = done.course;

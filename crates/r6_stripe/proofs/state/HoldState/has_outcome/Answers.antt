@@ -11,6 +11,7 @@ busy : (t : Option Task) → is_some t ≡ true → is_idle (kind_of t) ≡ fals
 busy None some = absurd (cc)
 busy (Some (task.Read index)) some = refl
 busy (Some (task.Write index block)) some = refl
+busy (Some (task.Rebuild target)) some = refl
 busy (Some task.Check) some = refl
 busy (Some task.Repair) some = refl
 
@@ -19,4 +20,4 @@ returns-then-is_some-clause-ends c t =
     let s = c.args.self.now in
     let sound = c.requires.sound in
     let has : is_some s.task ≡ true = let is = c.is_some.ensures in let then = c.if-is_some.true in cc in
-    ends s.plan s.task s.len s.cut_short sound.computed s.places.items s.blocks.items sound.four_or_more sound.fits sound.cut sound.course (busy s.task has) (sym c.is_over.ensures ∙ t)
+    ends s.plan s.task s.len s.cut_short sound.computed s.places.items s.blocks.items sound.four_or_more sound.fits sound.cut sound.course sound.targets (busy s.task has) (sym c.is_over.ensures ∙ t)
