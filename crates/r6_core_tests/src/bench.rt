@@ -172,6 +172,19 @@ pub(crate) fn register_without(geometry: &Geometry, lost: &[usize]) -> Snapshot 
     register
 }
 
+/// Plays a course on a new array, which is made as [`Bench::new`] says: each step has to answer so.
+pub(crate) fn play<R: Abort>(
+    rt: &R,
+    alloc: Global,
+    rows: u64,
+    shards: usize,
+    lost: &[usize],
+    course: &[(Step, Answer)],
+) -> Result<(), Fail> {
+    let mut bench = Bench::new(alloc, rows, shards, lost)?;
+    bench.play(rt, course)
+}
+
 impl Bench {
     /// An array of four slots, chunks of one block and blocks of 16 bytes, at whose start these slots are lost.
     pub(crate) fn new(
@@ -193,11 +206,7 @@ impl Bench {
     }
 
     /// Plays a course: each step has to answer so.
-    pub(crate) fn play<R: Abort>(
-        &mut self,
-        rt: &R,
-        course: &[(Step, Answer)],
-    ) -> Result<(), AllocError> {
+    pub(crate) fn play<R: Abort>(&mut self, rt: &R, course: &[(Step, Answer)]) -> Result<(), Fail> {
         for (index, (step, answer)) in course.iter().enumerate() {
             let found = self.answer(*step)?;
             assert_eq!(rt; found, *answer, "at step {index}");

@@ -1,6 +1,6 @@
 //! Losses in the middle of requests, by errors and by looks, step by step.
 
-use crate::bench::{Answer, Bench, Step, Told};
+use crate::bench::{Answer, Bench, Step, Told, play};
 use r6_health::{Answer as RegisterAnswer, Refusal as RegisterRefusal};
 use std::test::Fail;
 
@@ -10,176 +10,157 @@ const CONTENDED: Told = Err(RegisterRefusal::Contended);
 
 #[test]
 fn a_block_is_read_whose_device_was_lost_in_its_write(rt: HostRuntime) -> Result<(), Fail> {
-    let mut bench = Bench::new(rt.alloc(), 4, 1, &[])?;
-    bench.play(
-        &rt,
-        &[
-            (Step::Write(0, 0x5a), Answer::Accepted(0)),
-            // a read, and the write to slot 1, which has the block
-            (Step::Take, Answer::Command(0, 2, 0)),
-            (Step::Do(0), Answer::Taken),
-            (Step::Take, Answer::Command(1, 1, 0)),
-            (Step::Do(1), Answer::Taken),
-            (Step::Lose(1), Answer::Lost),
-            (Step::Look, Answer::Looked),
-            (Step::Drive(9), Answer::Driven(2, 0)),
-            (Step::Look, Answer::Looked),
-            (Step::Reply, Answer::Done(0, 0x5a)),
-            (Step::Read(0), Answer::Accepted(1)),
-            (Step::Take, Answer::Command(4, 2, 0)),
-            (Step::Do(4), Answer::Taken),
-            (Step::Take, Answer::Command(5, 3, 0)),
-            (Step::Do(5), Answer::Taken),
-            (Step::Look, Answer::Looked),
-            (Step::Reply, Answer::Data(1, 0x5a)),
-        ],
-    )?;
-    Ok(())
+    let course = [
+        (Step::Write(0, 0x5a), Answer::Accepted(0)),
+        // a read, and the write to slot 1, which has the block
+        (Step::Take, Answer::Command(0, 2, 0)),
+        (Step::Do(0), Answer::Taken),
+        (Step::Take, Answer::Command(1, 1, 0)),
+        (Step::Do(1), Answer::Taken),
+        (Step::Lose(1), Answer::Lost),
+        (Step::Look, Answer::Looked),
+        (Step::Drive(9), Answer::Driven(2, 0)),
+        (Step::Look, Answer::Looked),
+        (Step::Reply, Answer::Done(0, 0x5a)),
+        (Step::Read(0), Answer::Accepted(1)),
+        (Step::Take, Answer::Command(4, 2, 0)),
+        (Step::Do(4), Answer::Taken),
+        (Step::Take, Answer::Command(5, 3, 0)),
+        (Step::Do(5), Answer::Taken),
+        (Step::Look, Answer::Looked),
+        (Step::Reply, Answer::Data(1, 0x5a)),
+    ];
+    play(&rt, rt.alloc(), 4, 1, &[], &course)
+}
+
+/// The course of a call that declares a slot lost, which is answered so; no look and no other call comes before.
+fn declared(slot: usize, told: Told) -> [(Step, Answer); 6] {
+    [
+        (Step::Look, Answer::Refused(8)),
+        (Step::TakeCall, Answer::Loss(slot, 0)),
+        (Step::TakeCall, Answer::Nothing),
+        (Step::Look, Answer::Refused(8)),
+        (Step::Tell(3, told), Answer::Refused(11)),
+        (Step::Tell(slot, told), Answer::Heard),
+    ]
 }
 
 // Block 0 stands in slot 1; without it slots 2 and 3 are read.
 #[test]
 fn losses_are_declared_in_turn_before_a_look(rt: HostRuntime) -> Result<(), Fail> {
+    let first = [
+        (Step::Read(0), Answer::Accepted(0)),
+        (Step::Take, Answer::Command(0, 1, 0)),
+        (Step::Fail(0), Answer::Taken),
+        (Step::InSync(1), Answer::Generation(None)),
+        (Step::Take, Answer::Command(1, 2, 0)),
+        (Step::Fail(1), Answer::Taken),
+        (Step::InSync(2), Answer::Generation(None)),
+        (Step::Tell(1, DEGRADED), Answer::Refused(11)),
+    ];
+    let last = [
+        (Step::Tell(2, DEGRADED), Answer::Refused(11)),
+        (Step::TakeCall, Answer::Nothing),
+        (Step::Lose(1), Answer::Lost),
+        (Step::Lose(2), Answer::Lost),
+        (Step::Look, Answer::Looked),
+    ];
     let mut bench = Bench::new(rt.alloc(), 4, 1, &[])?;
-    bench.play(
-        &rt,
-        &[
-            (Step::Read(0), Answer::Accepted(0)),
-            (Step::Take, Answer::Command(0, 1, 0)),
-            (Step::Fail(0), Answer::Taken),
-            (Step::InSync(1), Answer::Generation(None)),
-            (Step::Take, Answer::Command(1, 2, 0)),
-            (Step::Fail(1), Answer::Taken),
-            (Step::InSync(2), Answer::Generation(None)),
-            (Step::Tell(1, DEGRADED), Answer::Refused(11)),
-        ],
-    )?;
+    bench.play(&rt, &first)?;
     // the call that was answered Contended is made again, before the other
-    for (slot, told) in [(1usize, CONTENDED), (1, DEGRADED), (2, DEGRADED)] {
-        bench.play(
-            &rt,
-            &[
-                (Step::Look, Answer::Refused(8)),
-                (Step::TakeCall, Answer::Loss(slot, 0)),
-                (Step::TakeCall, Answer::Nothing),
-                (Step::Look, Answer::Refused(8)),
-                (Step::Tell(3, told), Answer::Refused(11)),
-                (Step::Tell(slot, told), Answer::Heard),
-            ],
-        )?;
+    for (slot, told) in [(1, CONTENDED), (1, DEGRADED), (2, DEGRADED)] {
+        bench.play(&rt, &declared(slot, told))?;
     }
-    bench.play(
-        &rt,
-        &[
-            (Step::Tell(2, DEGRADED), Answer::Refused(11)),
-            (Step::TakeCall, Answer::Nothing),
-            (Step::Lose(1), Answer::Lost),
-            (Step::Lose(2), Answer::Lost),
-            (Step::Look, Answer::Looked),
-        ],
-    )?;
-    Ok(())
+    bench.play(&rt, &last)
 }
 
 // Requests in rows 2, 1, 3 and 0, and one that waits for the last; the first finishes.
 #[test]
 fn a_third_loss_fails_all_that_is_not_answered(rt: HostRuntime) -> Result<(), Fail> {
-    let mut bench = Bench::new(rt.alloc(), 4, 1, &[])?;
-    bench.play(
-        &rt,
-        &[
-            (Step::Read(4), Answer::Accepted(0)),
-            (Step::Read(2), Answer::Accepted(1)),
-            (Step::Read(6), Answer::Accepted(2)),
-            (Step::Read(0), Answer::Accepted(3)),
-            (Step::Read(1), Answer::Accepted(4)),
-            (Step::Drive(1), Answer::Driven(1, 0)),
-            (Step::Take, Answer::Command(1, 0, 1)),
-            // row 1 is read in slots 1 and 2
-            (Step::Fail(1), Answer::Taken),
-            (Step::Take, Answer::Command(2, 2, 3)),
-            // row 1 is read in slot 3 in place of slot 2, and row 3 in slots 3 and 1
-            (Step::Fail(2), Answer::Taken),
-            (Step::Take, Answer::Command(3, 1, 0)),
-            (Step::Fail(3), Answer::Taken),
-            // all five commands that were put out are abandoned
-            (Step::Drive(99), Answer::Driven(0, 5)),
-            (Step::TellAll, Answer::Told(3, true)),
-            (Step::Look, Answer::Looked),
-            (Step::Reply, Answer::Failed(0)),
-            (Step::Reply, Answer::Failed(1)),
-            (Step::Reply, Answer::Failed(2)),
-            (Step::Reply, Answer::Failed(3)),
-            (Step::Reply, Answer::Failed(4)),
-            (Step::Read(0), Answer::Refused(5)),
-        ],
-    )?;
-    Ok(())
+    let course = [
+        (Step::Read(4), Answer::Accepted(0)),
+        (Step::Read(2), Answer::Accepted(1)),
+        (Step::Read(6), Answer::Accepted(2)),
+        (Step::Read(0), Answer::Accepted(3)),
+        (Step::Read(1), Answer::Accepted(4)),
+        (Step::Drive(1), Answer::Driven(1, 0)),
+        (Step::Take, Answer::Command(1, 0, 1)),
+        // row 1 is read in slots 1 and 2
+        (Step::Fail(1), Answer::Taken),
+        (Step::Take, Answer::Command(2, 2, 3)),
+        // row 1 is read in slot 3 in place of slot 2, and row 3 in slots 3 and 1
+        (Step::Fail(2), Answer::Taken),
+        (Step::Take, Answer::Command(3, 1, 0)),
+        (Step::Fail(3), Answer::Taken),
+        // all five commands that were put out are abandoned
+        (Step::Drive(99), Answer::Driven(0, 5)),
+        (Step::TellAll, Answer::Told(3, true)),
+        (Step::Look, Answer::Looked),
+        (Step::Reply, Answer::Failed(0)),
+        (Step::Reply, Answer::Failed(1)),
+        (Step::Reply, Answer::Failed(2)),
+        (Step::Reply, Answer::Failed(3)),
+        (Step::Reply, Answer::Failed(4)),
+        (Step::Read(0), Answer::Refused(5)),
+    ];
+    play(&rt, rt.alloc(), 4, 1, &[], &course)
 }
 
 // Both blocks stand in slot 1.
 #[test]
 fn late_completions_bring_only_their_buffers_home(rt: HostRuntime) -> Result<(), Fail> {
-    let mut bench = Bench::new(rt.alloc(), 4, 1, &[])?;
-    bench.play(
-        &rt,
-        &[
-            (Step::Read(0), Answer::Accepted(0)),
-            (Step::Read(3), Answer::Accepted(1)),
-            (Step::Take, Answer::Command(0, 1, 0)),
-            (Step::Take, Answer::Command(1, 1, 1)),
-            (Step::Lose(1), Answer::Lost),
-            (Step::Look, Answer::Looked),
-            (Step::Deliver(0, 15, 0), Answer::Refused(3)),
-            // its block is not the row's
-            (Step::Deliver(0, 16, 0xee), Answer::Late),
-            (Step::Fail(1), Answer::Late),
-            (Step::TakeCall, Answer::Nothing),
-            (Step::Deliver(0, 16, 0), Answer::Refused(7)),
-            (Step::Drive(9), Answer::Driven(4, 0)),
-            (Step::Look, Answer::Looked),
-            (Step::Reply, Answer::Data(0, 0)),
-            (Step::Reply, Answer::Data(1, 0)),
-        ],
-    )?;
-    Ok(())
+    let course = [
+        (Step::Read(0), Answer::Accepted(0)),
+        (Step::Read(3), Answer::Accepted(1)),
+        (Step::Take, Answer::Command(0, 1, 0)),
+        (Step::Take, Answer::Command(1, 1, 1)),
+        (Step::Lose(1), Answer::Lost),
+        (Step::Look, Answer::Looked),
+        (Step::Deliver(0, 15, 0), Answer::Refused(3)),
+        // its block is not the row's
+        (Step::Deliver(0, 16, 0xee), Answer::Late),
+        (Step::Fail(1), Answer::Late),
+        (Step::TakeCall, Answer::Nothing),
+        (Step::Deliver(0, 16, 0), Answer::Refused(7)),
+        (Step::Drive(9), Answer::Driven(4, 0)),
+        (Step::Look, Answer::Looked),
+        (Step::Reply, Answer::Data(0, 0)),
+        (Step::Reply, Answer::Data(1, 0)),
+    ];
+    play(&rt, rt.alloc(), 4, 1, &[], &course)
 }
 
 // The second takes over the frame of the first, before that of the one between. All is done but their writes to slot 3,
 // which has P of row 0 and the block of row 2.
 #[test]
 fn what_one_loss_finishes_is_answered_by_number(rt: HostRuntime) -> Result<(), Fail> {
-    let mut bench = Bench::new(rt.alloc(), 4, 1, &[])?;
-    bench.play(
-        &rt,
-        &[
-            (Step::Read(2), Answer::Accepted(0)),
-            (Step::Write(0, 0x5a), Answer::Accepted(1)),
-            (Step::Drive(1), Answer::Driven(1, 0)),
-            (Step::Write(4, 0xa5), Answer::Accepted(2)),
-            (Step::Take, Answer::Command(1, 2, 0)),
-            (Step::Do(1), Answer::Taken),
-            (Step::Take, Answer::Command(2, 0, 2)),
-            (Step::Do(2), Answer::Taken),
-            (Step::Take, Answer::Command(3, 1, 0)),
-            (Step::Do(3), Answer::Taken),
-            (Step::Take, Answer::Command(4, 3, 0)),
-            (Step::Take, Answer::Command(5, 0, 0)),
-            (Step::Do(5), Answer::Taken),
-            (Step::Take, Answer::Command(6, 3, 2)),
-            (Step::Take, Answer::Command(7, 1, 2)),
-            (Step::Do(7), Answer::Taken),
-            (Step::Take, Answer::Command(8, 2, 2)),
-            (Step::Do(8), Answer::Taken),
-            (Step::Fail(6), Answer::Taken),
-            (Step::TellAll, Answer::Told(1, false)),
-            (Step::Look, Answer::Looked),
-            (Step::Reply, Answer::Data(0, 0)),
-            (Step::Reply, Answer::Done(1, 0x5a)),
-            (Step::Reply, Answer::Done(2, 0xa5)),
-        ],
-    )?;
-    Ok(())
+    let course = [
+        (Step::Read(2), Answer::Accepted(0)),
+        (Step::Write(0, 0x5a), Answer::Accepted(1)),
+        (Step::Drive(1), Answer::Driven(1, 0)),
+        (Step::Write(4, 0xa5), Answer::Accepted(2)),
+        (Step::Take, Answer::Command(1, 2, 0)),
+        (Step::Do(1), Answer::Taken),
+        (Step::Take, Answer::Command(2, 0, 2)),
+        (Step::Do(2), Answer::Taken),
+        (Step::Take, Answer::Command(3, 1, 0)),
+        (Step::Do(3), Answer::Taken),
+        (Step::Take, Answer::Command(4, 3, 0)),
+        (Step::Take, Answer::Command(5, 0, 0)),
+        (Step::Do(5), Answer::Taken),
+        (Step::Take, Answer::Command(6, 3, 2)),
+        (Step::Take, Answer::Command(7, 1, 2)),
+        (Step::Do(7), Answer::Taken),
+        (Step::Take, Answer::Command(8, 2, 2)),
+        (Step::Do(8), Answer::Taken),
+        (Step::Fail(6), Answer::Taken),
+        (Step::TellAll, Answer::Told(1, false)),
+        (Step::Look, Answer::Looked),
+        (Step::Reply, Answer::Data(0, 0)),
+        (Step::Reply, Answer::Done(1, 0x5a)),
+        (Step::Reply, Answer::Done(2, 0xa5)),
+    ];
+    play(&rt, rt.alloc(), 4, 1, &[], &course)
 }
 
 // Both blocks stand in slot 1. The error is the answer of the second one's command.
@@ -187,29 +168,35 @@ fn what_one_loss_finishes_is_answered_by_number(rt: HostRuntime) -> Result<(), F
 fn holds_that_hear_of_one_loss_go_on_in_the_order_of_their_frames(
     rt: HostRuntime,
 ) -> Result<(), Fail> {
-    let mut bench = Bench::new(rt.alloc(), 4, 1, &[])?;
-    bench.play(
-        &rt,
-        &[
-            (Step::Read(3), Answer::Accepted(0)),
-            (Step::Read(0), Answer::Accepted(1)),
-            (Step::Take, Answer::Command(0, 1, 1)),
-            (Step::Take, Answer::Command(1, 1, 0)),
-            (Step::Fail(1), Answer::Taken),
-            (Step::Take, Answer::Command(2, 0, 1)),
-            (Step::Take, Answer::Command(3, 2, 1)),
-            (Step::Take, Answer::Command(4, 2, 0)),
-            (Step::Take, Answer::Command(5, 3, 0)),
-            (Step::Take, Answer::Nothing),
-        ],
-    )?;
-    Ok(())
+    let course = [
+        (Step::Read(3), Answer::Accepted(0)),
+        (Step::Read(0), Answer::Accepted(1)),
+        (Step::Take, Answer::Command(0, 1, 1)),
+        (Step::Take, Answer::Command(1, 1, 0)),
+        (Step::Fail(1), Answer::Taken),
+        (Step::Take, Answer::Command(2, 0, 1)),
+        (Step::Take, Answer::Command(3, 2, 1)),
+        (Step::Take, Answer::Command(4, 2, 0)),
+        (Step::Take, Answer::Command(5, 3, 0)),
+        (Step::Take, Answer::Nothing),
+    ];
+    play(&rt, rt.alloc(), 4, 1, &[], &course)
 }
 
 // Of rows 0, 1, 4, 5, 8 and so on the block in slot 1 is read, and then, without it, from two other slots each, while the
 // first commands are out.
 #[test]
 fn frames_are_free_when_late_buffers_are_home(rt: HostRuntime) -> Result<(), Fail> {
+    let course = [
+        (Step::TakeAll, Answer::Commands(64)),
+        (Step::Lose(1), Answer::Lost),
+        (Step::Look, Answer::Looked),
+        (Step::Drive(999), Answer::Driven(128, 0)),
+        (Step::Read(2), Answer::Accepted(64)),
+        (Step::Take, Answer::Nothing),
+        (Step::Deliver(7, 16, 0), Answer::Late),
+        (Step::Take, Answer::Command(192, 0, 1)),
+    ];
     let mut bench = Bench::new(rt.alloc(), 132, 1, &[])?;
     for pair in 0..32u64 {
         bench.play(
@@ -220,18 +207,5 @@ fn frames_are_free_when_late_buffers_are_home(rt: HostRuntime) -> Result<(), Fai
             ],
         )?;
     }
-    bench.play(
-        &rt,
-        &[
-            (Step::TakeAll, Answer::Commands(64)),
-            (Step::Lose(1), Answer::Lost),
-            (Step::Look, Answer::Looked),
-            (Step::Drive(999), Answer::Driven(128, 0)),
-            (Step::Read(2), Answer::Accepted(64)),
-            (Step::Take, Answer::Nothing),
-            (Step::Deliver(7, 16, 0), Answer::Late),
-            (Step::Take, Answer::Command(192, 0, 1)),
-        ],
-    )?;
-    Ok(())
+    bench.play(&rt, &course)
 }

@@ -1,164 +1,156 @@
 //! Requests and completions, with no slot lost.
 
-use crate::bench::{Answer, Bench, Step};
+ghost use Rattle.std.specs.Prelude.{◌<◌};
+
+use crate::bench::{Answer, Bench, Step, play};
+use std::alloc::AllocError;
 use std::test::Fail;
 
 // The array has 8 blocks, of which shard 0 has those of rows 0 and 1.
 #[test]
 fn requests_are_refused_in_order(rt: HostRuntime) -> Result<(), Fail> {
-    let mut bench = Bench::new(rt.alloc(), 4, 2, &[])?;
-    bench.play(
-        &rt,
-        &[
-            (Step::ReadInto(8, 16), Answer::Refused(1)),
-            (Step::ReadInto(8, 15), Answer::Refused(1)),
-            (Step::ReadInto(4, 16), Answer::Refused(2)),
-            (Step::ReadInto(4, 15), Answer::Refused(2)),
-            (Step::ReadInto(3, 15), Answer::Refused(3)),
-            (Step::ReadInto(3, 16), Answer::Accepted(0)),
-        ],
-    )?;
-    Ok(())
+    let course = [
+        (Step::ReadInto(8, 16), Answer::Refused(1)),
+        (Step::ReadInto(8, 15), Answer::Refused(1)),
+        (Step::ReadInto(4, 16), Answer::Refused(2)),
+        (Step::ReadInto(4, 15), Answer::Refused(2)),
+        (Step::ReadInto(3, 15), Answer::Refused(3)),
+        (Step::ReadInto(3, 16), Answer::Accepted(0)),
+    ];
+    play(&rt, rt.alloc(), 4, 2, &[], &course)
+}
+
+/// Whether so many requests to read are accepted: of blocks at this distance, which begin again at the count of blocks.
+fn accepts_reads(
+    bench: &mut Bench,
+    requests: u64,
+    distance: u64,
+    blocks: u64,
+) -> Result<bool, AllocError>
+    requires { 0 < blocks }
+{
+    let mut block: u64 = 0;
+    for id in 0..requests {
+        if bench.answer(Step::Read(block))? != Answer::Accepted(id) {
+            return Ok(false);
+        }
+        block = block.saturating_add(distance) % blocks;
+    }
+    Ok(true)
 }
 
 // What the request itself has wrong comes first.
 #[test]
 fn the_257th_unanswered_request_is_refused(rt: HostRuntime) -> Result<(), Fail> {
+    let course = [
+        (Step::Read(0), Answer::Refused(4)),
+        (Step::Read(8), Answer::Refused(1)),
+        (Step::Drive(1000), Answer::Driven(256, 0)),
+        (Step::Look, Answer::Looked),
+        (Step::Read(0), Answer::Refused(4)),
+        (Step::Reply, Answer::Data(0, 0)),
+        (Step::Read(0), Answer::Accepted(256)),
+    ];
     let mut bench = Bench::new(rt.alloc(), 4, 1, &[])?;
-    for id in 0..256u64 {
-        bench.play(&rt, &[(Step::Read(id % 8), Answer::Accepted(id))])?;
-    }
-    bench.play(
-        &rt,
-        &[
-            (Step::Read(0), Answer::Refused(4)),
-            (Step::Read(8), Answer::Refused(1)),
-            (Step::Drive(1000), Answer::Driven(256, 0)),
-            (Step::Look, Answer::Looked),
-            (Step::Read(0), Answer::Refused(4)),
-            (Step::Reply, Answer::Data(0, 0)),
-            (Step::Read(0), Answer::Accepted(256)),
-        ],
-    )?;
-    Ok(())
+    assert!(rt; accepts_reads(&mut bench, 256, 1, 8)?);
+    bench.play(&rt, &course)
 }
 
 #[test]
 fn completions_are_refused_in_order(rt: HostRuntime) -> Result<(), Fail> {
-    let mut bench = Bench::new(rt.alloc(), 4, 1, &[])?;
-    bench.play(
-        &rt,
-        &[
-            (Step::Read(0), Answer::Accepted(0)),
-            // token 0 was put out and not taken
-            (Step::Deliver(0, 16, 0), Answer::Refused(7)),
-            (Step::Deliver(0, 15, 0), Answer::Refused(7)),
-            (Step::Deliver(1, 16, 0), Answer::Refused(7)),
-            (Step::Take, Answer::Command(0, 1, 0)),
-            (Step::Deliver(0, 15, 0), Answer::Refused(3)),
-            (Step::Do(0), Answer::Taken),
-            // it is answered
-            (Step::Deliver(0, 16, 0), Answer::Refused(7)),
-        ],
-    )?;
-    Ok(())
+    let course = [
+        (Step::Read(0), Answer::Accepted(0)),
+        // token 0 was put out and not taken
+        (Step::Deliver(0, 16, 0), Answer::Refused(7)),
+        (Step::Deliver(0, 15, 0), Answer::Refused(7)),
+        (Step::Deliver(1, 16, 0), Answer::Refused(7)),
+        (Step::Take, Answer::Command(0, 1, 0)),
+        (Step::Deliver(0, 15, 0), Answer::Refused(3)),
+        (Step::Do(0), Answer::Taken),
+        // it is answered
+        (Step::Deliver(0, 16, 0), Answer::Refused(7)),
+    ];
+    play(&rt, rt.alloc(), 4, 1, &[], &course)
 }
 
 // A write has a read, and then three writes together. There is no reply before a look.
 #[test]
 fn a_write_and_a_read_of_it(rt: HostRuntime) -> Result<(), Fail> {
-    let mut bench = Bench::new(rt.alloc(), 4, 1, &[])?;
-    bench.play(
-        &rt,
-        &[
-            (Step::Write(0, 0x5a), Answer::Accepted(0)),
-            (Step::Drive(1), Answer::Driven(1, 0)),
-            (Step::Drive(9), Answer::Driven(3, 0)),
-            (Step::Reply, Answer::Nothing),
-            (Step::Look, Answer::Looked),
-            (Step::Reply, Answer::Done(0, 0x5a)),
-            (Step::Read(0), Answer::Accepted(1)),
-            (Step::Drive(9), Answer::Driven(1, 0)),
-            (Step::Look, Answer::Looked),
-            (Step::Reply, Answer::Data(1, 0x5a)),
-            (Step::Reply, Answer::Nothing),
-        ],
-    )?;
-    Ok(())
+    let course = [
+        (Step::Write(0, 0x5a), Answer::Accepted(0)),
+        (Step::Drive(1), Answer::Driven(1, 0)),
+        (Step::Drive(9), Answer::Driven(3, 0)),
+        (Step::Reply, Answer::Nothing),
+        (Step::Look, Answer::Looked),
+        (Step::Reply, Answer::Done(0, 0x5a)),
+        (Step::Read(0), Answer::Accepted(1)),
+        (Step::Drive(9), Answer::Driven(1, 0)),
+        (Step::Look, Answer::Looked),
+        (Step::Reply, Answer::Data(1, 0x5a)),
+        (Step::Reply, Answer::Nothing),
+    ];
+    play(&rt, rt.alloc(), 4, 1, &[], &course)
 }
 
 // Both put out a read first: row 0 of its second data block, which stands in slot 2, and row 1 of that in slot 1.
 #[test]
 fn rows_go_on_side_by_side(rt: HostRuntime) -> Result<(), Fail> {
-    let mut bench = Bench::new(rt.alloc(), 4, 1, &[])?;
-    bench.play(
-        &rt,
-        &[
-            (Step::Write(0, 0x5a), Answer::Accepted(0)),
-            (Step::Write(2, 0xa5), Answer::Accepted(1)),
-            (Step::Take, Answer::Command(0, 2, 0)),
-            (Step::Take, Answer::Command(1, 1, 1)),
-            (Step::Do(1), Answer::Taken),
-            (Step::Drive(9), Answer::Driven(3, 0)),
-            (Step::Do(0), Answer::Taken),
-            (Step::Look, Answer::Looked),
-            (Step::Reply, Answer::Done(1, 0xa5)),
-            (Step::Reply, Answer::Nothing),
-            (Step::Drive(9), Answer::Driven(3, 0)),
-            (Step::Look, Answer::Looked),
-            (Step::Reply, Answer::Done(0, 0x5a)),
-        ],
-    )?;
-    Ok(())
+    let course = [
+        (Step::Write(0, 0x5a), Answer::Accepted(0)),
+        (Step::Write(2, 0xa5), Answer::Accepted(1)),
+        (Step::Take, Answer::Command(0, 2, 0)),
+        (Step::Take, Answer::Command(1, 1, 1)),
+        (Step::Do(1), Answer::Taken),
+        (Step::Drive(9), Answer::Driven(3, 0)),
+        (Step::Do(0), Answer::Taken),
+        (Step::Look, Answer::Looked),
+        (Step::Reply, Answer::Done(1, 0xa5)),
+        (Step::Reply, Answer::Nothing),
+        (Step::Drive(9), Answer::Driven(3, 0)),
+        (Step::Look, Answer::Looked),
+        (Step::Reply, Answer::Done(0, 0x5a)),
+    ];
+    play(&rt, rt.alloc(), 4, 1, &[], &course)
 }
 
 // One block is read of each row. When a row is let go of, the oldest that waits has its turn.
 #[test]
 fn sixty_four_rows_are_held_at_once(rt: HostRuntime) -> Result<(), Fail> {
+    let course = [
+        (Step::Take, Answer::Command(0, 1, 0)),
+        (Step::TakeAll, Answer::Commands(63)),
+        (Step::Do(0), Answer::Taken),
+        (Step::Take, Answer::Command(64, 1, 64)),
+        (Step::Take, Answer::Nothing),
+    ];
     let mut bench = Bench::new(rt.alloc(), 70, 1, &[])?;
-    for row in 0..66u64 {
-        bench.play(&rt, &[(Step::Read(2 * row), Answer::Accepted(row))])?;
-    }
-    bench.play(
-        &rt,
-        &[
-            (Step::Take, Answer::Command(0, 1, 0)),
-            (Step::TakeAll, Answer::Commands(63)),
-            (Step::Do(0), Answer::Taken),
-            (Step::Take, Answer::Command(64, 1, 64)),
-            (Step::Take, Answer::Nothing),
-        ],
-    )?;
-    Ok(())
+    assert!(rt; accepts_reads(&mut bench, 66, 2, 140)?);
+    bench.play(&rt, &course)
 }
 
 // Row 0 has blocks 0 and 1; row 1 has block 2.
 #[test]
 fn requests_to_one_row_wait_for_each_other(rt: HostRuntime) -> Result<(), Fail> {
-    let mut bench = Bench::new(rt.alloc(), 4, 1, &[])?;
-    bench.play(
-        &rt,
-        &[
-            (Step::Write(0, 0x11), Answer::Accepted(0)),
-            (Step::Write(0, 0x22), Answer::Accepted(1)),
-            (Step::Write(0, 0x33), Answer::Accepted(2)),
-            (Step::Read(0), Answer::Accepted(3)),
-            (Step::Read(2), Answer::Accepted(4)),
-            // the oldest of row 0, and the one of row 1
-            (Step::Take, Answer::Command(0, 2, 0)),
-            (Step::Take, Answer::Command(1, 0, 1)),
-            (Step::Take, Answer::Nothing),
-            (Step::Do(0), Answer::Taken),
-            (Step::Do(1), Answer::Taken),
-            // three writes, a read and three writes twice, and a read
-            (Step::Drive(99), Answer::Driven(12, 0)),
-            (Step::Look, Answer::Looked),
-            (Step::Reply, Answer::Data(4, 0)),
-            (Step::Reply, Answer::Done(0, 0x11)),
-            (Step::Reply, Answer::Done(1, 0x22)),
-            (Step::Reply, Answer::Done(2, 0x33)),
-            (Step::Reply, Answer::Data(3, 0x33)),
-        ],
-    )?;
-    Ok(())
+    let course = [
+        (Step::Write(0, 0x11), Answer::Accepted(0)),
+        (Step::Write(0, 0x22), Answer::Accepted(1)),
+        (Step::Write(0, 0x33), Answer::Accepted(2)),
+        (Step::Read(0), Answer::Accepted(3)),
+        (Step::Read(2), Answer::Accepted(4)),
+        // the oldest of row 0, and the one of row 1
+        (Step::Take, Answer::Command(0, 2, 0)),
+        (Step::Take, Answer::Command(1, 0, 1)),
+        (Step::Take, Answer::Nothing),
+        (Step::Do(0), Answer::Taken),
+        (Step::Do(1), Answer::Taken),
+        // three writes, a read and three writes twice, and a read
+        (Step::Drive(99), Answer::Driven(12, 0)),
+        (Step::Look, Answer::Looked),
+        (Step::Reply, Answer::Data(4, 0)),
+        (Step::Reply, Answer::Done(0, 0x11)),
+        (Step::Reply, Answer::Done(1, 0x22)),
+        (Step::Reply, Answer::Done(2, 0x33)),
+        (Step::Reply, Answer::Data(3, 0x33)),
+    ];
+    play(&rt, rt.alloc(), 4, 1, &[], &course)
 }

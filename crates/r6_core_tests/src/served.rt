@@ -1,12 +1,15 @@
 //! Requests served by the caller.
 
+ghost use Rattle.r6_health.specs.Passes.{IsPassOf};
+
 use crate::caller::serve;
 use r6_core::{Core, Op, OpId, Reply};
 use r6_dev::MemoryDevice;
-use r6_health::{Register, SlotState, Snapshot};
+use r6_health::{Pass, Register, Snapshot};
 use r6_kernels::Buffer;
 use r6_layout::Geometry;
 use std::alloc::{AllocError, Global};
+use std::sync::Wait;
 use std::test::Fail;
 
 /// Devices of zeros, of which that of slot 1 has no rows.
@@ -18,19 +21,34 @@ fn devices_of(alloc: Global) -> Result<Vec<MemoryDevice>, AllocError> {
     Ok(devices)
 }
 
+/// Whether a request to read block 0 is served, as that of this number.
+fn is_read<R: Wait>(
+    rt: &R,
+    core: &mut Core,
+    devices: &mut Vec<MemoryDevice>,
+    register: &Register,
+    pass: &mut Pass,
+    op: Op,
+    id: u64,
+) -> bool
+    requires { IsPassOf register.now pass.old }
+    ensures { IsPassOf register.now pass.new }
+{
+    let reply = serve(rt, core, devices, register, pass, op);
+    matches!(&reply, Some((OpId(number), Reply::Data(_))) if *number == id)
+}
+
 // Block 0 stands in slot 1, whose device is lost at the first command.
 #[test]
 fn requests_are_served_without_a_device(rt: HostRuntime) -> Result<(), Fail> {
     let geometry = Geometry::new(4, 1, 16, 4, 1)?;
-    let (register, mut pass) = Register::new(&rt, rt.alloc(), &geometry, 0)?;
-    let mut core = Core::new(rt.alloc(), geometry, 0, 1, &Snapshot::start(&geometry, 0))?;
     let mut devices = devices_of(rt.alloc())?;
+    let mut core = Core::new(rt.alloc(), geometry, 0, 1, &Snapshot::start(&geometry, 0))?;
+    let (register, mut pass) = Register::new(&rt, rt.alloc(), &geometry, 0)?;
     for id in 0..2u64 {
         let op = Op::Read(0, Buffer::new(rt.alloc(), 16)?);
-        let reply = serve(&rt, &mut core, &mut devices, &register, &mut pass, op);
-        let is_read = matches!(&reply, Some((OpId(number), Reply::Data(_))) if *number == id);
-        assert!(rt; is_read, "request {id}");
+        assert!(rt; is_read(&rt, &mut core, &mut devices, &register, &mut pass, op, id));
     }
-    assert_eq!(rt; register.read(&rt, &mut pass).slot(1), SlotState::Lost);
+    assert!(rt; register.read(&rt, &mut pass).slot(1).is_lost());
     Ok(())
 }

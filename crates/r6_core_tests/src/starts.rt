@@ -1,6 +1,6 @@
 //! Cores that begin with slots lost, or that look at a slot under rebuild.
 
-use crate::bench::{Answer, Bench, Step};
+use crate::bench::{Answer, Bench, Step, play};
 use r6_health::{Answer as RegisterAnswer, Register, ShardSet, SlotState, Snapshot};
 use r6_layout::Geometry;
 use std::alloc::Global;
@@ -20,27 +20,23 @@ fn slots_are_in_sync_with_generation_0(rt: HostRuntime) -> Result<(), Fail> {
 // Slots 1 and 2 have the data of row 0.
 #[test]
 fn a_core_begins_with_two_slots_lost(rt: HostRuntime) -> Result<(), Fail> {
-    let mut bench = Bench::new(rt.alloc(), 4, 1, &[1, 2])?;
-    bench.play(
-        &rt,
-        &[
-            (Step::InSync(0), Answer::Generation(Some(0))),
-            (Step::InSync(1), Answer::Generation(None)),
-            (Step::InSync(2), Answer::Generation(None)),
-            (Step::InSync(3), Answer::Generation(Some(0))),
-            // P and Q are read, and written
-            (Step::Write(0, 0x5a), Answer::Accepted(0)),
-            (Step::Drive(9), Answer::Driven(4, 0)),
-            (Step::Read(0), Answer::Accepted(1)),
-            (Step::Read(1), Answer::Accepted(2)),
-            (Step::Drive(9), Answer::Driven(4, 0)),
-            (Step::Look, Answer::Looked),
-            (Step::Reply, Answer::Done(0, 0x5a)),
-            (Step::Reply, Answer::Data(1, 0x5a)),
-            (Step::Reply, Answer::Data(2, 0)),
-        ],
-    )?;
-    Ok(())
+    let course = [
+        (Step::InSync(0), Answer::Generation(Some(0))),
+        (Step::InSync(1), Answer::Generation(None)),
+        (Step::InSync(2), Answer::Generation(None)),
+        (Step::InSync(3), Answer::Generation(Some(0))),
+        // P and Q are read, and written
+        (Step::Write(0, 0x5a), Answer::Accepted(0)),
+        (Step::Drive(9), Answer::Driven(4, 0)),
+        (Step::Read(0), Answer::Accepted(1)),
+        (Step::Read(1), Answer::Accepted(2)),
+        (Step::Drive(9), Answer::Driven(4, 0)),
+        (Step::Look, Answer::Looked),
+        (Step::Reply, Answer::Done(0, 0x5a)),
+        (Step::Reply, Answer::Data(1, 0x5a)),
+        (Step::Reply, Answer::Data(2, 0)),
+    ];
+    play(&rt, rt.alloc(), 4, 1, &[1, 2], &course)
 }
 
 /// What a register holds when a device is attached in place of that of slot 1.
@@ -50,47 +46,39 @@ fn rebuilding<R: Wait + Abort>(
     geometry: &Geometry,
 ) -> Result<Snapshot, Fail> {
     let (register, mut pass) = Register::new(rt, alloc, geometry, 0)?;
-    assert_eq!(rt;
-        register.fail(rt, &mut pass, 1),
-        Ok(RegisterAnswer::Degraded)
-    );
-    assert_eq!(rt; register.attach(rt, &mut pass, 1), Ok(1));
+    assert!(rt; register.fail(rt, &mut pass, 1) == Ok(RegisterAnswer::Degraded));
+    assert!(rt; register.attach(rt, &mut pass, 1) == Ok(1));
     Ok(register.read(rt, &mut pass))
 }
 
 // Its blocks are computed from the others', and nothing is written to it.
 #[test]
 fn a_rebuilding_slot_counts_as_out(rt: HostRuntime) -> Result<(), Fail> {
+    let course = [
+        (Step::InSync(1), Answer::Generation(Some(0))),
+        (Step::Look, Answer::Looked),
+        (Step::InSync(1), Answer::Generation(None)),
+        // block 0 stands in slot 1; the row's other block of data is read, P and Q are written
+        (Step::Write(0, 0x5a), Answer::Accepted(0)),
+        (Step::Take, Answer::Command(0, 2, 0)),
+        (Step::Do(0), Answer::Taken),
+        (Step::Take, Answer::Command(1, 3, 0)),
+        (Step::Take, Answer::Command(2, 0, 0)),
+        (Step::Take, Answer::Nothing),
+        (Step::Do(1), Answer::Taken),
+        (Step::Do(2), Answer::Taken),
+        (Step::Read(0), Answer::Accepted(1)),
+        (Step::Take, Answer::Command(3, 2, 0)),
+        (Step::Take, Answer::Command(4, 3, 0)),
+        (Step::Do(3), Answer::Taken),
+        (Step::Do(4), Answer::Taken),
+        (Step::Look, Answer::Looked),
+        (Step::Reply, Answer::Done(0, 0x5a)),
+        (Step::Reply, Answer::Data(1, 0x5a)),
+    ];
     let mut bench = Bench::new(rt.alloc(), 4, 1, &[])?;
     bench.register = rebuilding(&rt, rt.alloc(), &Geometry::new(4, 1, 16, 4, 1)?)?;
-    assert_eq!(rt;
-        bench.register.slot(1),
-        SlotState::Rebuilding(1, ShardSet::empty())
-    );
-    bench.play(
-        &rt,
-        &[
-            (Step::InSync(1), Answer::Generation(Some(0))),
-            (Step::Look, Answer::Looked),
-            (Step::InSync(1), Answer::Generation(None)),
-            // block 0 stands in slot 1; the row's other block of data is read, P and Q are written
-            (Step::Write(0, 0x5a), Answer::Accepted(0)),
-            (Step::Take, Answer::Command(0, 2, 0)),
-            (Step::Do(0), Answer::Taken),
-            (Step::Take, Answer::Command(1, 3, 0)),
-            (Step::Take, Answer::Command(2, 0, 0)),
-            (Step::Take, Answer::Nothing),
-            (Step::Do(1), Answer::Taken),
-            (Step::Do(2), Answer::Taken),
-            (Step::Read(0), Answer::Accepted(1)),
-            (Step::Take, Answer::Command(3, 2, 0)),
-            (Step::Take, Answer::Command(4, 3, 0)),
-            (Step::Do(3), Answer::Taken),
-            (Step::Do(4), Answer::Taken),
-            (Step::Look, Answer::Looked),
-            (Step::Reply, Answer::Done(0, 0x5a)),
-            (Step::Reply, Answer::Data(1, 0x5a)),
-        ],
-    )?;
-    Ok(())
+    let is_empty = bench.register.slot(1) == SlotState::Rebuilding(1, ShardSet::empty());
+    assert!(rt; is_empty);
+    bench.play(&rt, &course)
 }
