@@ -30,9 +30,9 @@ mod layouts;
 #[cfg(test)]
 mod losses;
 #[cfg(test)]
-mod register_caller;
-#[cfg(test)]
 mod rebuilds;
+#[cfg(test)]
+mod register_caller;
 #[cfg(test)]
 mod registers;
 #[cfg(test)]

@@ -184,9 +184,9 @@ module _ (size target : ℕ) (cut : Bool) (places : List Place) (blocks new : Li
   rebuild_settled j h =
       elim (cases_eq j target) [
         | inl e ↦ subst (λ (k : ℕ). IsSettled (get_or (ready_at places ks) k no_place)) (sym e) (record {
-            away = λ gone. absurd (let f = sym (ap (λ (place : Place). place.away) place_target ∙ home) ∙ gone in cc);
-            one_block = λ w known. (let f = sym unread_now ∙ known in cc);
-          })
+          away = λ gone. absurd (let f = sym (ap (λ (place : Place). place.away) place_target ∙ home) ∙ gone in cc);
+          one_block = λ w known. (let f = sym unread_now ∙ known in cc);
+        })
         | inr other ↦ subst IsSettled (sym (place_beside j other)) (builds.settled j (omega (arith, h, length-ready_at places ks)))
       ]
 
@@ -201,13 +201,13 @@ module _ (size target : ℕ) (cut : Bool) (places : List Place) (blocks new : Li
   rebuild_course j h =
       elim (cases_eq j target) [
         | inl e ↦ subst (λ (k : ℕ). IsRebuilding target true k (get_or (ready_at places ks) k no_place)) (sym e) (
-            λ other. absurd (other refl),
-            λ same. (unread_now, subst (λ (place : Place). place.state ≢ state.InSync) (sym place_target) ((builds.course target builds.below).1 refl).1, (λ w. let f = sym (ap (λ (place : Place). place.write) place_target) ∙ w in cc)),
-          )
+          λ other. absurd (other refl),
+          λ same. (unread_now, subst (λ (place : Place). place.state ≢ state.InSync) (sym place_target) ((builds.course target builds.below).1 refl).1, (λ w. let f = sym (ap (λ (place : Place). place.write) place_target) ∙ w in cc)),
+        )
         | inr other ↦ subst (λ (place : Place). IsRebuilding target true j place) (sym (place_beside j other)) (
-            (builds.course j (omega (arith, h, length-ready_at places ks))).0,
-            λ same. absurd (other same),
-          )
+          (builds.course j (omega (arith, h, length-ready_at places ks))).0,
+          λ same. absurd (other same),
+        )
       ]
 
 -- ---- of a hold's fields
