@@ -1,2 +1,3 @@
 pub mod Writes
 mod Played
+mod Verified

@@ -1,28 +1,35 @@
 -- How a command ends, over the text of its settings file and that of its script where these are known. The
 -- commands are this project's own.
-use Rattle.std.specs.Prelude.{◌≡◌, ◌≢◌, ◌⊎◌, ℕ, false, List, codes, Option, None, Ok, Err, IfSome}
+use Rattle.std.specs.Prelude.{◌≡◌, ◌≢◌, ◌⊎◌, ℕ, Bool, true, false, List, codes, Option, None, Ok, Err, IfSome}
 use Rattle.std.specs.Io.KnownBytes.{Appends, Keeps}
 use Rattle.r6_command.specs.CommandLine.{Asked, geometry, create, verify, simulate, run}
+use Rattle.r6_dev.specs.declared.fault.Fault.TheVariants.{WriteFault}
+use Rattle.r6_engine.specs.Parts.{Parts}
+use Rattle.r6_engine.specs.Reports.{IsReport}
+use Rattle.r6_engine.specs.declared.report.Report.{Report}
+use Rattle.r6_layout.specs.Shape.{Shape}
 use Rattle.r6_script.specs.Script.{Explains, Said, Say, lines_of}
 use Rattle.r6_settings.specs.declared.fault.SettingsFault.TheVariants as settings
 use Rattle.r6_settings.specs.Settings.{Values, settings_in}
 use Rattle.r6_execute.specs.declared.ending.Ending.{Ending}
 use Rattle.r6_execute.specs.declared.ending.Ending.TheVariants as ending
 use Rattle.r6_execute.specs.declared.fault.Fault.{Fault}
-use Rattle.r6_execute.specs.declared.fault.Fault.TheVariants.{NotBuilt, Unreadable, Settings, Script, Device, Output, Memory}
+use Rattle.r6_execute.specs.declared.fault.Fault.TheVariants.{NotBuilt, Unreadable, Settings, Script, Device, Output, Memory, Thread}
 use Rattle.r6_execute.specs.declared.fault.Input.TheVariants as input
 use Rattle.r6_execute.specs.Layouts.{layout_text}
+use Rattle.r6_execute.specs.Reports.{created_text, report_text}
+use Rattle.r6_execute.specs.Status.{ending_of_report}
 
 abbrev pub Text : Type 0
 Text = List ℕ
 
 -- ---- the faults of a file
 
-abbrev pub IsSettingsFault : Option Text → Fault → Type 0
-IsSettingsFault text (Unreadable file) = file ≡ input.Settings
-IsSettingsFault text (Settings fault) = IfSome text (λ t. fault ≢ settings.Memory → settings_in false t ≡ Err fault)
-IsSettingsFault text Memory = Unit {0}
-IsSettingsFault text _ = ⊥
+abbrev pub IsSettingsFault : (with_devices : Bool) → Option Text → Fault → Type 0
+IsSettingsFault with_devices text (Unreadable file) = file ≡ input.Settings
+IsSettingsFault with_devices text (Settings fault) = IfSome text (λ t. fault ≢ settings.Memory → settings_in with_devices t ≡ Err fault)
+IsSettingsFault with_devices text Memory = Unit {0}
+IsSettingsFault with_devices text _ = ⊥
 
 abbrev pub IsScriptFault : Option Text → Fault → Type 0
 IsScriptFault text (Unreadable file) = file ≡ input.Script
@@ -37,6 +44,19 @@ IsRunFault (Device slot fault) = Unit {0}
 IsRunFault Output = Unit {0}
 IsRunFault Memory = Unit {0}
 IsRunFault _ = ⊥
+
+-- a device file is there already, or can't be made
+abbrev pub IsMakingFault : Fault → Type 0
+IsMakingFault (Device slot fault) = fault ≡ WriteFault
+IsMakingFault Memory = Unit {0}
+IsMakingFault _ = ⊥
+
+-- a device file can't be opened or read
+abbrev pub IsReadingFault : Fault → Type 0
+IsReadingFault (Device slot fault) = Unit {0}
+IsReadingFault Memory = Unit {0}
+IsReadingFault Thread = Unit {0}
+IsReadingFault _ = ⊥
 
 -- the fault says that the command of this name is not built
 abbrev pub IsNotBuilt : (name : Text) → Fault → Type 0
@@ -56,29 +76,63 @@ HasPlayed script_text old new ending.Good = (said : Said)
     × IfSome script_text (λ text. Say (lines_of text) said) × (said ≡ None → Keeps old new)
 HasPlayed script_text old new ending.Failed = (said : Said)
     × IfSome script_text (λ text. Say (lines_of text) said) × (said ≢ None)
+HasPlayed script_text old new ending.Wrong = ⊥
+
+-- the device files of the settings were made
+abbrev pub HasCreated : (settings_text old new : Option Text) → Type 0
+HasCreated settings_text old new = (values : Values)
+    × IfSome settings_text (λ text. settings_in true text ≡ Ok values) × Appends old new (created_text values.shape)
+
+-- a report was printed
+abbrev pub HasReported : Shape → Report → (old new : Option Text) → Ending → Type 0
+HasReported shape report old new end = Appends old new (report_text shape report) × (end ≡ ending_of_report report)
+
+-- every row was gone over and is counted, and the report was printed
+abbrev pub HasVerified : (settings_text old new : Option Text) → Ending → Type 0
+HasVerified settings_text old new end = (values : Values) × (parts : Parts) × (report : Report)
+    × IfSome settings_text (λ text. settings_in true text ≡ Ok values)
+    × IsReport values.shape parts report × (report.fault ≡ None) × HasReported values.shape report old new end
 
 abbrev pub EndsAs : Asked → (settings_text script_text old new : Option Text) → Ending → Type 0
 EndsAs (geometry path) settings_text script_text old new ending.Good = HasPrinted settings_text old new
+EndsAs (create path) settings_text script_text old new ending.Good = HasCreated settings_text old new
+EndsAs (verify path) settings_text script_text old new end = HasVerified settings_text old new end
 EndsAs (simulate path) settings_text script_text old new end = HasPlayed script_text old new end
 EndsAs _ settings_text script_text old new _ = ⊥
 
 abbrev pub IsDone : Asked → (settings_text script_text old new : Option Text) → Type 0
 IsDone asked settings_text script_text old new = EndsAs asked settings_text script_text old new ending.Good
 
--- only the array of a script may have failed
-abbrev pub IsFailed : Asked → (settings_text script_text old new : Option Text) → Type 0
-IsFailed asked settings_text script_text old new = EndsAs asked settings_text script_text old new ending.Failed
+-- the array of a script has failed, or a row that was read isn't consistent
+abbrev pub IsAmiss : Asked → (settings_text script_text old new : Option Text) → Type 0
+IsAmiss asked settings_text script_text old new = EndsAs asked settings_text script_text old new ending.Failed
+    ⊎ EndsAs asked settings_text script_text old new ending.Wrong
 
 -- a fault of a file, and of a command that is not built, comes before anything is printed
 abbrev pub StopsGeometry : (settings_text old new : Option Text) → Fault → Type 0
-StopsGeometry settings_text old new fault = (IsSettingsFault settings_text fault × Keeps old new) ⊎ IsRunFault fault
+StopsGeometry settings_text old new fault = (IsSettingsFault false settings_text fault × Keeps old new) ⊎ IsRunFault fault
 
 abbrev pub StopsPlay : (script_text old new : Option Text) → Fault → Type 0
 StopsPlay script_text old new fault = (IsScriptFault script_text fault × Keeps old new) ⊎ IsRunFault fault
 
+-- a fault of the settings or of a device comes before anything is printed
+abbrev pub StopsOnDevices : (IsOf : Fault → Type 0) → (settings_text old new : Option Text) → Fault → Type 0
+StopsOnDevices IsOf settings_text old new fault =
+    (IsSettingsFault true settings_text fault × Keeps old new) ⊎ (IsOf fault × Keeps old new) ⊎ (fault ≡ Output)
+
+abbrev pub StopsCreate : (settings_text old new : Option Text) → Fault → Type 0
+StopsCreate settings_text old new fault = StopsOnDevices IsMakingFault settings_text old new fault
+
+-- the report was not printed, or not whole
+abbrev pub StopsReport : (old new : Option Text) → Fault → Type 0
+StopsReport old new fault = ((fault ≡ Memory) × Keeps old new) ⊎ (fault ≡ Output)
+
+abbrev pub StopsVerify : (settings_text old new : Option Text) → Fault → Type 0
+StopsVerify settings_text old new fault = StopsOnDevices IsReadingFault settings_text old new fault
+
 abbrev pub EndsBy : Asked → (settings_text script_text old new : Option Text) → Fault → Type 0
 EndsBy (geometry path) settings_text script_text old new fault = StopsGeometry settings_text old new fault
 EndsBy (simulate path) settings_text script_text old new fault = StopsPlay script_text old new fault
-EndsBy (create path) settings_text script_text old new fault = IsNotBuilt (codes "create") fault × Keeps old new
-EndsBy (verify path) settings_text script_text old new fault = IsNotBuilt (codes "verify") fault × Keeps old new
+EndsBy (create path) settings_text script_text old new fault = StopsCreate settings_text old new fault
+EndsBy (verify path) settings_text script_text old new fault = StopsVerify settings_text old new fault
 EndsBy (run config script) settings_text script_text old new fault = IsNotBuilt (codes "run") fault × Keeps old new

@@ -1,12 +1,14 @@
 -- What the program says of a fault. The lines are this project's own.
 use Rattle.std.specs.Prelude.{ℕ, List, ◌++◌, codes, decimal}
 use Rattle.r6_dev.specs.Faults.{number_of}
+use Rattle.r6_engine.specs.declared.error.EngineError.{EngineError}
+use Rattle.r6_engine.specs.declared.error.EngineError.TheVariants as pass
 use Rattle.r6_script.specs.Script as script
 use Rattle.r6_settings.specs.Faults as settings
 use Rattle.r6_simulate.specs.declared.fault.SimulationFault.{SimulationFault}
 use Rattle.r6_simulate.specs.declared.fault.SimulationFault.TheVariants as simulation
 use Rattle.r6_execute.specs.declared.fault.Fault.{Fault}
-use Rattle.r6_execute.specs.declared.fault.Fault.TheVariants.{NotText, NotBuilt, Unreadable, Settings, Script, Device, Output, Memory}
+use Rattle.r6_execute.specs.declared.fault.Fault.TheVariants.{NotText, NotBuilt, Unreadable, Settings, Script, Device, Output, Memory, Thread}
 use Rattle.r6_execute.specs.declared.fault.Input.{Input}
 use Rattle.r6_execute.specs.declared.fault.Input.TheVariants as input
 
@@ -25,9 +27,16 @@ fault_text (Script fault) = script.fault_text fault
 fault_text (Device slot fault) = codes "device " ++ decimal slot ++ codes " fault " ++ decimal (number_of fault)
 fault_text Output = codes "output"
 fault_text Memory = codes "memory"
+fault_text Thread = codes "thread"
 
 -- the program's fault, where a script isn't played to its end
 abbrev pub fault_of : SimulationFault → Fault
 fault_of (simulation.Device slot fault) = Device slot fault
 fault_of simulation.Output = Output
 fault_of simulation.Memory = Memory
+
+-- the program's fault, where a pass over the devices isn't made
+abbrev pub fault_of_pass : EngineError → Fault
+fault_of_pass (pass.Device slot fault) = Device slot fault
+fault_of_pass pass.NoMemory = Memory
+fault_of_pass pass.ThreadRefused = Thread

@@ -1,4 +1,5 @@
 pub mod Commands
 pub mod Faults
 pub mod Layouts
+pub mod Reports
 pub mod Status

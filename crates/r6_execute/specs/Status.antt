@@ -1,15 +1,17 @@
 -- The statuses with which the program ends. They are this project's own.
-use Rattle.std.specs.Prelude.{ℕ}
+use Rattle.std.specs.Prelude.{ℕ, Option, None, Some}
+use Rattle.r6_engine.specs.declared.report.Report.{Report}
+use Rattle.r6_engine.specs.declared.report.WrongRow.{WrongRow}
 use Rattle.r6_execute.specs.declared.fault.Fault.{Fault}
-use Rattle.r6_execute.specs.declared.fault.Fault.TheVariants.{NotText, NotBuilt, Unreadable, Settings, Script, Device, Output, Memory}
+use Rattle.r6_execute.specs.declared.fault.Fault.TheVariants.{NotText, NotBuilt, Unreadable, Settings, Script, Device, Output, Memory, Thread}
 use Rattle.r6_execute.specs.declared.ending.Ending.{Ending}
-use Rattle.r6_execute.specs.declared.ending.Ending.TheVariants.{Good, Failed}
+use Rattle.r6_execute.specs.declared.ending.Ending.TheVariants.{Good, Failed, Wrong}
 use Rattle.r6_simulate.specs.declared.simulation.Ending as play
 use Rattle.r6_simulate.specs.declared.simulation.Ending.TheVariants as played
 use Rattle.r6_settings.specs.declared.fault.SettingsFault.TheVariants as settings
 use Rattle.r6_script.specs.declared.script.ScriptFault.TheVariants as script
 
--- the status of a fault: use, settings and scripts, output and devices, memory
+-- the status of a fault: use, settings and scripts, output and devices, memory and threads
 abbrev pub status_of : Fault → ℕ
 status_of NotText = 2
 status_of (NotBuilt name) = 2
@@ -21,13 +23,23 @@ status_of (Script fault) = 3
 status_of (Device slot fault) = 4
 status_of Output = 4
 status_of Memory = 5
+status_of Thread = 5
 
 -- the status of a command that met no fault
 abbrev pub status_of_ending : Ending → ℕ
 status_of_ending Good = 0
 status_of_ending Failed = 1
+status_of_ending Wrong = 1
 
 -- a script that was played
 abbrev pub ending_of : play.Ending → Ending
 ending_of played.InService = Good
 ending_of played.Failed = Failed
+
+-- a check: whether a row was found that isn't consistent
+abbrev pub ending_of_first : Option WrongRow → Ending
+ending_of_first None = Good
+ending_of_first (Some wrong) = Wrong
+
+abbrev pub ending_of_report : Report → Ending
+ending_of_report report = ending_of_first report.first

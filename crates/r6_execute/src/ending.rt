@@ -1,8 +1,9 @@
 //! How a command ends that met no fault.
 
 ghost use Rattle.std.specs.Prelude.{◌≡◌};
-ghost use Rattle.r6_execute.specs.Status.{status_of_ending};
+ghost use Rattle.r6_execute.specs.Status.{ending_of_report, status_of_ending};
 
+use r6_engine::Report;
 use r6_simulate::Ending as SimulationEnding;
 
 /// How a command ends that met no fault.
@@ -12,6 +13,8 @@ pub enum Ending {
     Good,
     /// The array has failed.
     Failed,
+    /// A row isn't consistent.
+    Wrong,
 }
 
 impl Ending {
@@ -21,7 +24,17 @@ impl Ending {
     {
         match self {
             Ending::Good => 0,
-            Ending::Failed => 1,
+            Ending::Failed | Ending::Wrong => 1,
+        }
+    }
+
+    /// That of a check that met no fault.
+    pub(crate) fn of_report(report: &Report) -> Ending
+        ensures { result ≡ ending_of_report report.now }
+    {
+        match report.first {
+            None => Ending::Good,
+            Some(_) => Ending::Wrong,
         }
     }
 }

@@ -2,6 +2,7 @@
 ghost use Rattle.std.specs.Prelude.{◌≡◌};
 
 use r6_dev::Fault as DeviceFault;
+use r6_engine::EngineError;
 use r6_script::ScriptFault;
 use r6_settings::SettingsFault;
 use r6_simulate::SimulationFault;
@@ -34,13 +35,15 @@ pub enum Fault {
     Output,
     /// An allocation failed.
     Memory,
+    /// The system started no thread.
+    Thread,
 }
 
 impl Fault {
     ghost use Rattle.r6_execute.specs.Status.{status_of};
 
     /// The status with which the program ends: 2 for a use that it does not have, 3 for settings and scripts,
-    /// 4 for output and devices, and 5 for memory.
+    /// 4 for output and devices, and 5 for memory and threads.
     pub fn status(&self) -> u8
         ensures { result ≡ status_of self.now }
     {
@@ -53,7 +56,7 @@ impl Fault {
             Fault::Script(_) => 3,
             Fault::Device(..) => 4,
             Fault::Output => 4,
-            Fault::Memory => 5,
+            Fault::Memory | Fault::Thread => 5,
         }
     }
 }
@@ -75,6 +78,7 @@ impl fmt::Display for Fault {
             Fault::Device(slot, fault) => write!(f, "device {slot} fault {}", fault.number()),
             Fault::Output => write!(f, "output"),
             Fault::Memory => write!(f, "memory"),
+            Fault::Thread => write!(f, "thread"),
         }
     }
 }
@@ -109,6 +113,20 @@ impl From<SimulationFault> for Fault {
             SimulationFault::Device(slot, fault) => Fault::Device(slot, fault),
             SimulationFault::Output => Fault::Output,
             SimulationFault::Memory => Fault::Memory,
+        }
+    }
+}
+
+impl From<EngineError> for Fault {
+    ghost use Rattle.r6_execute.specs.Faults.{fault_of_pass};
+
+    ghost from_gives = { λ error told. told ≡ fault_of_pass error };
+
+    fn from(error: EngineError) -> Fault {
+        match error {
+            EngineError::Device { slot, fault } => Fault::Device(slot, fault),
+            EngineError::NoMemory => Fault::Memory,
+            EngineError::ThreadRefused => Fault::Thread,
         }
     }
 }

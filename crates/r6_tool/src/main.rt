@@ -8,10 +8,11 @@ ghost use Rattle.r6_execute.specs.Status.{status_of};
 
 use clap::Error;
 use r6_command::{CommandFault, Invocation, command};
-use r6_execute::{Fault, execute};
+use r6_execute::{ErrorOutput, Fault, execute};
 use std::fs::{self, File};
-use std::io::{self, ErrorKind, Read};
+use std::io::{self, ErrorKind, IsTerminal, Read};
 use std::process::ExitCode;
+use std::rt::Files;
 use std::sync::Wait;
 
 /// A file that a command reads. One that can't be opened fails at every read, and so does one that the
@@ -74,10 +75,17 @@ fn explained(rt: &HostRuntime, error: &Error) -> u8
 }
 
 // `waits` is the right to wait, which `main` has.
-fn perform<R: Wait>(rt: &HostRuntime, waits: &R, invocation: &Invocation<'_>) -> u8 {
+fn perform<R: Wait + Files<File = File>>(
+    rt: &HostRuntime,
+    waits: &R,
+    invocation: &Invocation<'_>,
+) -> u8 {
     let mut settings = Source::open(rt, invocation.config());
     let mut script = Source::open(rt, invocation.script());
-    let (mut out, mut err) = (rt.stdout(), rt.stderr());
+    let mut out = rt.stdout();
+    let stderr = rt.stderr();
+    let is_terminal = stderr.is_terminal();
+    let mut err = ErrorOutput::new(stderr, is_terminal);
     execute(
         waits,
         rt.alloc(),
@@ -89,7 +97,7 @@ fn perform<R: Wait>(rt: &HostRuntime, waits: &R, invocation: &Invocation<'_>) ->
     )
 }
 
-fn status<R: Wait>(rt: &HostRuntime, waits: &R) -> u8 {
+fn status<R: Wait + Files<File = File>>(rt: &HostRuntime, waits: &R) -> u8 {
     let words: Vec<String> = match std::env::args(rt) {
         Ok(words) => match words.collect(rt.alloc()) {
             Ok(words) => words,
@@ -109,6 +117,8 @@ fn main(rt: HostRuntime) -> ExitCode {
     ExitCode::from(status(&rt, &rt))
 }
 
+#[cfg(test)]
+mod device_tests;
 #[cfg(test)]
 mod runs;
 #[cfg(test)]

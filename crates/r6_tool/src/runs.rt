@@ -1,10 +1,12 @@
 //! Commands carried out over texts, and over files and outputs that fail.
 
 use r6_command::Invocation;
-use r6_execute::execute;
+use r6_execute::{ErrorOutput, execute};
 use std::alloc::Global;
-use std::io::{self, ErrorKind, Read, Write};
+use std::io::{self, ErrorKind, Read, Seek, Write};
+use std::os::unix::fs::FileExt;
 use std::process::Abort;
+use std::rt::Files;
 use std::sync::Wait;
 
 /// What a command prints, what it says of a fault, and its status.
@@ -54,7 +56,7 @@ impl Write for Full {
 }
 
 /// A command whose file has this text has to end so.
-pub(crate) fn ends<R: Abort + Wait>(
+pub(crate) fn ends<F: FileExt + Seek + Drop, R: Abort + Wait + Files<File = F>>(
     rt: &R,
     alloc: Global,
     invocation: &Invocation<'_>,
@@ -62,7 +64,8 @@ pub(crate) fn ends<R: Abort + Wait>(
     wanted: Ended<'_>,
 ) {
     let (mut settings, mut script) = (text, text);
-    let (mut out, mut err) = (Vec::new(alloc), Vec::new(alloc));
+    let mut out = Vec::new(alloc);
+    let mut err = ErrorOutput::new(Vec::new(alloc), false);
     let status = execute(
         rt,
         alloc,
@@ -73,12 +76,12 @@ pub(crate) fn ends<R: Abort + Wait>(
         &mut err,
     );
     assert_eq!(rt; out.as_slice(), wanted.0.as_bytes(), "at {text:?}");
-    assert_eq!(rt; err.as_slice(), wanted.1.as_bytes(), "at {text:?}");
+    assert_eq!(rt; err.writer.as_slice(), wanted.1.as_bytes(), "at {text:?}");
     assert_eq!(rt; status, wanted.2, "at {text:?}");
 }
 
 /// A command whose file fails behind this text has to print nothing, and to end so.
-pub(crate) fn ends_unread<R: Abort + Wait>(
+pub(crate) fn ends_unread<F: FileExt + Seek + Drop, R: Abort + Wait + Files<File = F>>(
     rt: &R,
     alloc: Global,
     invocation: &Invocation<'_>,
@@ -87,7 +90,8 @@ pub(crate) fn ends_unread<R: Abort + Wait>(
     wanted: (&str, u8),
 ) {
     let (mut settings, mut script) = (Torn { text, kind }, Torn { text, kind });
-    let (mut out, mut err) = (Vec::new(alloc), Vec::new(alloc));
+    let mut out = Vec::new(alloc);
+    let mut err = ErrorOutput::new(Vec::new(alloc), false);
     let status = execute(
         rt,
         alloc,
@@ -98,12 +102,12 @@ pub(crate) fn ends_unread<R: Abort + Wait>(
         &mut err,
     );
     assert!(rt; out.is_empty());
-    assert_eq!(rt; err.as_slice(), wanted.0.as_bytes());
+    assert_eq!(rt; err.writer.as_slice(), wanted.0.as_bytes());
     assert_eq!(rt; status, wanted.1);
 }
 
 /// A command whose output takes so many bytes has to say so, and to end with 4, where standard error refuses too.
-pub(crate) fn ends_unwritten<R: Abort + Wait>(
+pub(crate) fn ends_unwritten<F: FileExt + Seek + Drop, R: Abort + Wait + Files<File = F>>(
     rt: &R,
     alloc: Global,
     invocation: &Invocation<'_>,
@@ -111,7 +115,8 @@ pub(crate) fn ends_unwritten<R: Abort + Wait>(
     room: usize,
 ) {
     let (mut settings, mut script) = (text, text);
-    let (mut out, mut err) = (Full { room }, Vec::new(alloc));
+    let mut out = Full { room };
+    let mut err = ErrorOutput::new(Vec::new(alloc), false);
     let status = execute(
         rt,
         alloc,
@@ -121,10 +126,15 @@ pub(crate) fn ends_unwritten<R: Abort + Wait>(
         &mut out,
         &mut err,
     );
-    assert_eq!(rt; err.as_slice(), b"output\n".as_slice(), "room {room}");
+    assert_eq!(rt;
+        err.writer.as_slice(),
+        b"output\n".as_slice(),
+        "room {room}"
+    );
     assert_eq!(rt; status, 4, "room {room}");
     let (mut settings, mut script) = (text, text);
-    let (mut out, mut err) = (Full { room }, Full { room: 0 });
+    let mut out = Full { room };
+    let mut err = ErrorOutput::new(Full { room: 0 }, false);
     let status = execute(
         rt,
         alloc,

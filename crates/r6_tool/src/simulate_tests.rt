@@ -4,8 +4,10 @@ use crate::runs::{ends, ends_unread, ends_unwritten};
 use r6_command::Invocation;
 use std::alloc::{AllocError, Global};
 use std::fmt::Write as _;
-use std::io::ErrorKind;
+use std::io::{ErrorKind, Seek};
+use std::os::unix::fs::FileExt;
 use std::process::Abort;
+use std::rt::Files;
 use std::sync::Wait;
 use std::test::Fail;
 
@@ -14,7 +16,7 @@ const SIMULATE: Invocation<'static> = Invocation::Simulate { script: "script" };
 const FOUR_SLOTS: &str = "array 4 1 16 4 1\n";
 
 /// Each event of a script has to print its line, and the array not to have failed.
-fn plays<R: Abort + Wait>(
+fn plays<F: FileExt + Seek + Drop, R: Abort + Wait + Files<File = F>>(
     rt: &R,
     alloc: Global,
     transcript: &[(&str, &str)],
@@ -23,7 +25,7 @@ fn plays<R: Abort + Wait>(
 }
 
 /// Each event of a script has to print its line, and the script to end with this status.
-fn plays_to<R: Abort + Wait>(
+fn plays_to<F: FileExt + Seek + Drop, R: Abort + Wait + Files<File = F>>(
     rt: &R,
     alloc: Global,
     transcript: &[(&str, &str)],
@@ -45,7 +47,7 @@ fn plays_to<R: Abort + Wait>(
 }
 
 /// A script has to be refused at this line.
-fn is_refused_at<R: Abort + Wait>(
+fn is_refused_at<F: FileExt + Seek + Drop, R: Abort + Wait + Files<File = F>>(
     rt: &R,
     alloc: Global,
     text: &str,

@@ -1,8 +1,8 @@
-//! The command `geometry`, and the commands to come.
+//! The command `geometry`, and the command to come.
 
 use crate::runs::{ends, ends_unread, ends_unwritten};
 use r6_command::Invocation;
-use r6_execute::execute;
+use r6_execute::{ErrorOutput, execute};
 use std::io::ErrorKind;
 use std::test::Fail;
 
@@ -62,7 +62,8 @@ fn prints_the_largest_array(rt: HostRuntime) -> Result<(), Fail> {
     let mut settings: &[u8] =
         b"slots = 32\nchunk = 128\nblock = 4096\nrows = 16777216\nshards = 16\n";
     let mut script: &[u8] = b"";
-    let (mut out, mut err) = (Vec::new(rt.alloc()), Vec::new(rt.alloc()));
+    let mut out = Vec::new(rt.alloc());
+    let mut err = ErrorOutput::new(Vec::new(rt.alloc()), false);
     execute(
         &rt,
         rt.alloc(),
@@ -218,23 +219,11 @@ fn an_output_that_refuses_is_reported(rt: HostRuntime) {
 }
 
 #[test]
-fn commands_to_come_say_so(rt: HostRuntime) {
-    let (config, script) = ("config", "script");
-    let commands = [
-        (
-            Invocation::Create { config },
-            "raid6: create is not built yet\n",
-        ),
-        (
-            Invocation::Verify { config },
-            "raid6: verify is not built yet\n",
-        ),
-        (
-            Invocation::Run { config, script },
-            "raid6: run is not built yet\n",
-        ),
-    ];
-    for (invocation, line) in commands {
-        ends(&rt, rt.alloc(), &invocation, b"", ("", line, 2));
-    }
+fn a_command_to_come_says_so(rt: HostRuntime) {
+    let run = Invocation::Run {
+        config: "config",
+        script: "script",
+    };
+    let line = "raid6: run is not built yet\n";
+    ends(&rt, rt.alloc(), &run, b"", ("", line, 2));
 }

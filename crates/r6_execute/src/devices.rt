@@ -1,0 +1,91 @@
+//! The commands `create` and `verify`, on the files of an array's devices.
+
+ghost use Rattle.std.specs.Prelude.{◌≡◌, IfErr, IfOk, OnOk, string_bytes};
+ghost use Rattle.r6_execute.specs.Commands.{HasCreated, HasReported, HasVerified, StopsCreate, StopsReport, StopsVerify};
+ghost use Rattle.r6_execute.specs.Reports.{created_text};
+
+use crate::ending::Ending;
+use crate::errors::ErrorOutput;
+use crate::fault::Fault;
+use crate::output::{finish, print};
+use crate::read::read_settings;
+use crate::report::reported;
+use r6_dev::Access;
+use r6_engine::{Report, create_files, open_parts};
+use r6_layout::Geometry;
+use std::alloc::{AllocError, Global};
+use std::fmt::Write as _;
+use std::io::{Read, Seek, Write};
+use std::os::unix::fs::FileExt;
+use std::rt::Files;
+
+// What `create` prints.
+fn created(alloc: Global, geometry: &Geometry) -> Result<String, AllocError>
+    ensures { IfOk result (λ text. string_bytes text ≡ created_text geometry.now) }
+{
+    let mut text = String::new(alloc);
+    let slots = geometry.slots();
+    writeln!(text, "created {slots}")?;
+    Ok(text)
+}
+
+/// Makes the device files of the settings, of zeros, and prints how many.
+pub(crate) fn create<R: Files, S: Read, W: Write>(
+    files: &R,
+    alloc: Global,
+    settings: &mut S,
+    out: &mut W,
+) -> Result<(), Fault>
+    ensures ok { OnOk result (HasCreated (S.remaining settings.old) (W.contents out.old) (W.contents out.new)) }
+    ensures err { IfErr result (StopsCreate (S.remaining settings.old) (W.contents out.old) (W.contents out.new)) }
+{
+    let config = read_settings(alloc, settings, true)?;
+    let text = created(alloc, &config.geometry)?;
+    create_files(files, &config.geometry, config.devices.as_slice())?;
+    print(out, text.as_str())?;
+    finish(out)
+}
+
+// Prints what a check found.
+fn print_report<W: Write>(
+    alloc: Global,
+    geometry: &Geometry,
+    report: &Report,
+    out: &mut W,
+) -> Result<Ending, Fault>
+    ensures ok { IfOk result (HasReported geometry.now report.now (W.contents out.old) (W.contents out.new)) }
+    ensures err { IfErr result (StopsReport (W.contents out.old) (W.contents out.new)) }
+{
+    let text = reported(alloc, geometry, report)?;
+    print(out, text.as_str())?;
+    finish(out)?;
+    Ok(Ending::of_report(report))
+}
+
+/// Reads every row of the devices of the settings, and prints how many rows have each class. The devices are opened for
+/// reading alone.
+pub(crate) fn verify<F: FileExt + Seek + Drop, R: Files<File = F>, S: Read, W: Write, E: Write>(
+    files: &R,
+    alloc: Global,
+    settings: &mut S,
+    out: &mut W,
+    err: &mut ErrorOutput<E>,
+) -> Result<Ending, Fault>
+    ensures ok { IfOk result (HasVerified (S.remaining settings.old) (W.contents out.old) (W.contents out.new)) }
+    ensures err { IfErr result (StopsVerify (S.remaining settings.old) (W.contents out.old) (W.contents out.new)) }
+{
+    let config = read_settings(alloc, settings, true)?;
+    let mut parts = open_parts(
+        files,
+        alloc,
+        &config.geometry,
+        config.devices.as_slice(),
+        config.lost.as_slice(),
+        Access::Read,
+    )?;
+    let report = r6_engine::verify(alloc, &config.geometry, parts.as_mut_slice(), err)?;
+    match report.fault {
+        Some(met) => Err(Fault::Device(met.slot, met.fault)),
+        None => print_report(alloc, &config.geometry, &report, out),
+    }
+}

@@ -1,0 +1,55 @@
+//! Standard error: the line of a fault, and word of how far a command has come.
+
+ghost use Rattle.std.specs.Prelude.{◌≡◌, ◌∷◌, ◌++◌, [], OnOk, false};
+ghost use Rattle.std.specs.Io.KnownBytes.{Appends};
+ghost use Rattle.r6_execute.specs.Faults.{fault_text};
+
+use crate::fault::Fault;
+use r6_engine::Watch;
+use std::io::{self, Write};
+
+/// Standard error. Where it is a terminal, long work shows on it how far it has come.
+#[derive(Drop)]
+pub struct ErrorOutput<W> {
+    pub writer: W,
+    is_terminal: bool,
+    // A line of progress stands on it.
+    has_progress: bool,
+}
+
+impl<W: Write> ErrorOutput<W> {
+    pub fn new(writer: W, is_terminal: bool) -> ErrorOutput<W>
+        ensures { result ≡ record { writer = writer; is_terminal = is_terminal; has_progress = false } }
+    {
+        ErrorOutput {
+            writer,
+            is_terminal,
+            has_progress: false,
+        }
+    }
+
+    /// Writes the line of a fault.
+    pub(crate) fn report(&mut self, fault: Fault) -> io::Result<()>
+        ensures { OnOk result (Appends (W.contents self.old.writer) (W.contents self.new.writer) (fault_text fault ++ 10 ∷ [])) }
+    {
+        writeln!(self.writer, "{fault}")
+    }
+}
+
+// A write that standard error refuses is lost.
+impl<W: Write> Watch for ErrorOutput<W> {
+    fn passed(&mut self, rows: u64, of: u64) {
+        if self.is_terminal && rows > 0 {
+            self.has_progress = true;
+            let _ = write!(self.writer, "\r{rows} of {of} rows");
+        }
+    }
+
+    fn ended(&mut self) {
+        if self.has_progress {
+            self.has_progress = false;
+            // to the line's begin, and what stands on it is erased
+            let _ = write!(self.writer, "\r\x1b[K");
+        }
+    }
+}
