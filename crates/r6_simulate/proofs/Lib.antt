@@ -1,3 +1,4 @@
+pub mod Courses
 pub mod Passing
 pub mod Performing
 pub mod PutOut

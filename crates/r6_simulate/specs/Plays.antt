@@ -1,6 +1,7 @@
 -- A script played on an array in memory: what each event did, and its line. This is the project's own.
-use Rattle.std.specs.Prelude.{◌≡◌, ℕ, ◌≤◌, ◌++◌, ◌⊎◌, [], ◌∷◌, length, replicate, slice_set, Option, Result}
+use Rattle.std.specs.Prelude.{◌≡◌, ℕ, ◌≤◌, ◌++◌, ◌⊎◌, Bool, true, false, List, [], ◌∷◌, length, replicate, slice_set, codes, Option, Result}
 use Rattle.std.specs.Io.KnownBytes.{Appends}
+use Rattle.r6_layout.specs.Shape.{Shape}
 use Rattle.r6_core.specs.declared.Op.{Op}
 use Rattle.r6_core.specs.declared.Op.TheVariants as op
 use Rattle.r6_health.specs.Passes.{Tells as TellsPass, view_of}
@@ -75,8 +76,23 @@ Plays (event.At number call) old text new text' = Calls number call old text new
 Plays (event.Fail slot) old text new text' = Fails slot old text new text'
 Plays (event.Attach slot) old text new text' = Attaches slot old text new text'
 
+-- the events of a script, one after another, each with its line
+abbrev pub Course : Simulation → List Event → (printed : Text) → Simulation → Type 0
+Course old [] printed new = (printed ≡ []) × (new ≡ old)
+Course old (e ∷ events) printed new =
+    (next : Simulation) × (line : Text) × (rest : Text) × Plays e old [] next line × (printed ≡ line ++ 10 ∷ rest) × Course next events rest new
+
 -- an event is played and its line is printed
 pub record PlaysAndPrints (e : Event) (old : Simulation) (printed : Option Text) (new : Simulation) (printed' : Option Text) : Type 0 where
   pub line : Text
   pub plays : Plays e old [] new line
   pub writes : Appends printed printed' (line ++ 10 ∷ [])
+
+-- a script was played on an array of this shape: `array` is printed, and then the line of each event
+pub record HasPlayed (shape : Shape) (events : List Event) (printed printed' : Option Text) : Type 0 where
+  pub first : Simulation
+  pub shape_is : first.geometry ≡ shape
+  pub last : Simulation
+  pub lines : Text
+  pub course : Course first events lines last
+  pub writes : Appends printed printed' (codes "array\n" ++ lines)

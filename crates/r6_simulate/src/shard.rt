@@ -184,7 +184,8 @@ impl Shard {
         devices: &mut Devices,
         blocks: &Blocks,
     ) -> Result<Outcome, SimulationFault>
-        ensures { IfOk result (λ outcome. Makes call blocks.now self.old register.old devices.old outcome self.new register.new devices.new) }
+        ensures { IfOk result
+            (λ outcome. Makes call blocks.now self.old register.old devices.old outcome self.new register.new devices.new) }
     {
         match call {
             Call::Perform(token) => self.perform(devices, token),

@@ -2,7 +2,7 @@
 
 ghost use Rattle.std.specs.Prelude.{◌≡◌, IfErr, OnOk};
 ghost use Rattle.std.specs.Io.KnownBytes.{Appends};
-ghost use Rattle.r6_simulate.specs.Plays.{PlaysAndPrints};
+ghost use Rattle.r6_simulate.specs.Plays.{HasPlayed, PlaysAndPrints};
 
 use crate::array::Simulation;
 use crate::fault::SimulationFault;
@@ -37,7 +37,8 @@ fn play_and_print<R: Wait, W: Write>(
     line: &mut String,
     out: &mut W,
 ) -> Result<(), SimulationFault>
-    ensures { OnOk result (PlaysAndPrints event simulation.old (W.contents out.old) simulation.new (W.contents out.new)) }
+    ensures { OnOk result
+        (PlaysAndPrints event simulation.old (W.contents out.old) simulation.new (W.contents out.new)) }
 {
     line.clear();
     simulation.play(rt, event, line)?;
@@ -55,7 +56,10 @@ pub fn simulate<R: Wait, W: Write>(
     alloc: Global,
     script: &Script,
     out: &mut W,
-) -> Result<Ending, SimulationFault> {
+) -> Result<Ending, SimulationFault>
+    ensures { OnOk result
+        (HasPlayed script.now.geometry script.now.events.items (W.contents out.old) (W.contents out.new)) }
+{
     let mut simulation = Simulation::new(rt, alloc, script.geometry)?;
     print(out, "array\n")?;
     let mut line = String::new(alloc);
