@@ -154,8 +154,20 @@ fn grammar<'a>(alloc: Global) -> Result<Command<'a>, AllocError>
         Paths::Config,
         "Print the array's layout",
     )?;
-    let program = with_hidden(alloc, program, "create", Paths::Config)?;
-    let program = with_hidden(alloc, program, "verify", Paths::Config)?;
+    let program = with_shown(
+        alloc,
+        program,
+        "create",
+        Paths::Config,
+        "Make the array's device files, of zeros",
+    )?;
+    let program = with_shown(
+        alloc,
+        program,
+        "verify",
+        Paths::Config,
+        "Read every row of the device files, and count the rows by class",
+    )?;
     let program = with_shown(
         alloc,
         program,
