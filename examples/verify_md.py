@@ -211,10 +211,14 @@ def verify_part(slots, folder, first_row, rows, map_them):
         write_settings(settings, first, rows, devices, lost)
         if first_row:
             print(f"from row {first_row} on:", flush=True)
-        return subprocess.run([RAID6, "verify", settings]).returncode
+        status = subprocess.run([RAID6, "verify", settings]).returncode
+        if status < 0:
+            raise Unfit(f"verify was ended by signal {-status}")
+        return status
     finally:
         for loop in loops:
-            subprocess.run(["losetup", "--detach", loop], check=True)
+            if subprocess.run(["losetup", "--detach", loop]).returncode:
+                print(f"verify_md: {loop} is attached still", file=sys.stderr)
 
 
 def verify(paths, folder, map_them):
@@ -222,6 +226,8 @@ def verify(paths, folder, map_them):
     first = next(member for member in slots if member)
     chunk = first.chunk * SECTOR // BLOCK
     rows = first.size // first.chunk * chunk
+    if not rows:
+        raise Unfit(f"{first.path}: its data are less than one chunk")
     # the layout begins again after as many chunk rows as there are slots
     step = MOST_ROWS // (chunk * first.slots) * chunk * first.slots
     os.mkdir(folder, 0o700)
@@ -266,6 +272,8 @@ def superblock(slots, chunk, size, data_offset, number, set_uuid):
 
 def make(folder, slots, chunk_kib, rows):
     chunk = chunk_kib * 1024 // BLOCK
+    if chunk_kib * 1024 % BLOCK or not 1 <= chunk <= MOST_CHUNK or not 4 <= slots <= 32 or rows < chunk:
+        raise Unfit("chunks are of 4 to 512 KiB, slots 4 to 32, and rows a chunk at least")
     rows = rows // chunk * chunk
     data_offset, set_uuid, source = 2048, uuid.uuid4().bytes, random.Random(6)
     os.mkdir(folder, 0o700)
