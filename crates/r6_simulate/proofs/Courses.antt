@@ -9,10 +9,14 @@ pub one_more_event : (old middle new : Simulation) (events : List Event) (e : Ev
     → Course old (events ++ e ∷ []) (printed ++ (line ++ 10 ∷ [])) new
 one_more_event old middle new [] e printed line course plays =
     (new, line, [], subst (λ (s : Simulation). Plays e s [] new line) course.1 plays, ap (λ text. text ++ (line ++ 10 ∷ [])) course.0, (refl, refl))
-one_more_event old middle new (d ∷ events) e printed line course plays =
-    (course.0, course.1, course.2 ++ (line ++ 10 ∷ []), course.3,
-    ap (λ text. text ++ (line ++ 10 ∷ [])) course.4 ∙ append_assoc course.1 (10 ∷ course.2) (line ++ 10 ∷ []),
-    one_more_event course.0 middle new events e course.2 line course.5 plays)
+one_more_event old middle new (d ∷ events) e printed line course plays = (
+  course.0,
+  course.1,
+  course.2 ++ (line ++ 10 ∷ []),
+  course.3,
+  ap (λ text. text ++ (line ++ 10 ∷ [])) course.4 ∙ append_assoc course.1 (10 ∷ course.2) (line ++ 10 ∷ []),
+  one_more_event course.0 middle new events e course.2 line course.5 plays,
+)
 
 -- the event at the index is played
 pub one_more_taken : (old middle new : Simulation) (events : List Event) (index : ℕ) (e d : Event) (printed line : List ℕ) → index < length events

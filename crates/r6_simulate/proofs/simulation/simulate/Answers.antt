@@ -13,12 +13,13 @@ loop-event-init g c = ([], (refl, refl), Appends-nil _)
 pub loop-event-preserved : goal.loop-event-preserved
 loop-event-preserved g c =
     let i = c.loop-event.invariant in
-    let p = c.in_ok-play_and_print.ensures in
-    (i.0 ++ (p.line ++ 10 ∷ []),
-    one_more_taken _ _ _ c.args.script.now.events.items c.loop-event.event-index _ (Read 0) i.0 p.line
-        (subst (λ events. c.loop-event.event-index < length events) c.deref-event-items.ensures.value c.loop-event-test.true) i.1 p.plays
-        (ap (λ (events : List Event). get_or events c.loop-event.event-index (Read 0)) c.deref-event-items.ensures.value),
-    Appends-trans _ _ _ _ _ i.2 p.writes)
+    let p = c.in_ok-play_and_print.ensures in (
+      i.0 ++ (p.line ++ 10 ∷ []),
+      one_more_taken _ _ _ c.args.script.now.events.items c.loop-event.event-index _ (Read 0) i.0 p.line
+          (subst (λ events. c.loop-event.event-index < length events) c.deref-event-items.ensures.value c.loop-event-test.true) i.1 p.plays
+          (ap (λ (events : List Event). get_or events c.loop-event.event-index (Read 0)) c.deref-event-items.ensures.value),
+      Appends-trans _ _ _ _ _ i.2 p.writes,
+    )
 
 pub returns-then-failed : goal.returns-then-failed
 returns-then-failed g c =
