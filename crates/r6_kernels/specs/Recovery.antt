@@ -25,6 +25,18 @@ lower_of_two len x y a b row = block_sum (scale a (p_lack_of len (data_without l
 abbrev pub upper_of_two : ℕ → ℕ → ℕ → ℕ → ℕ → List (List ℕ) → List ℕ
 upper_of_two len x y a b row = block_sum (p_lack_of len (data_without len x y row) row) (lower_of_two len x y a b row)
 
+-- a lost data block x from P: what P lacks without it
+abbrev pub lost_from_p : ℕ → ℕ → List (List ℕ) → List ℕ
+lost_from_p len x row = p_lack_of len (without len x (take (length row - 2) row)) row
+
+-- and from Q: what Q lacks without it, weighed back
+abbrev pub lost_from_q : ℕ → ℕ → ℕ → List (List ℕ) → List ℕ
+lost_from_q len x back row = scale back (q_lack_of len (without len x (take (length row - 2) row)) row)
+
+-- P, where it is lost with the data block x: P of the other data, and that block from Q
+abbrev pub p_with_lost : ℕ → ℕ → ℕ → List (List ℕ) → List ℕ
+p_with_lost len x back row = block_sum (p_of len (without len x (take (length row - 2) row))) (lost_from_q len x back row)
+
 -- at a step, what P and Q of the row lack beside these data
 pub record AreLacks (lacks : Lacks) (at len : ℕ) (data' row : List (List ℕ)) : Type 0 where
   pub p : Holds lacks.p at (slice_index (p_lack_of len data' row))

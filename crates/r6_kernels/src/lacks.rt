@@ -63,17 +63,21 @@ pub(crate) fn p_lack_without<R: Reach>(row: &[Buffer], x: usize, at: usize, len:
     sums.p.plus(R::load(row[m].as_slice(), at))
 }
 
-/// What Q lacks beside the data without the block `x`. Neither that block nor P is looked at.
+/// P of the data without the block `x`, and what Q lacks beside them. Neither that block nor P is looked at.
 #[inline(always)]
-pub(crate) fn q_lack_without<R: Reach>(row: &[Buffer], x: usize, at: usize, len: usize) -> Lanes
+pub(crate) fn q_lack_without<R: Reach>(row: &[Buffer], x: usize, at: usize, len: usize) -> Lacks
     requires within { x + 2 < length row.now }
     requires long { AreLongBut len x (length row.now - 2) row.now }
     requires reach { R.reaches at len }
-    ensures { Holds result at (slice_index (q_lack_of len (without len x (take (length row.now - 2) row.now)) row.now)) }
+    ensures p { Holds result.p at (slice_index (p_of len (without len x (take (length row.now - 2) row.now)))) }
+    ensures q { Holds result.q at (slice_index (q_lack_of len (without len x (take (length row.now - 2) row.now)) row.now)) }
 {
     let m = row.len() - 2;
     let sums = sums_without_one::<R>(&row[..m], x, at, len);
-    sums.q().plus(R::load(row[m + 1].as_slice(), at))
+    Lacks {
+        p: sums.p,
+        q: sums.q().plus(R::load(row[m + 1].as_slice(), at)),
+    }
 }
 
 /// Beside the data that have these sums.

@@ -1,13 +1,14 @@
 //! Lost data blocks of a row, in one pass over the row. A row is the data, then P, then Q.
 
-ghost use Rattle.std.specs.Prelude.{◌≡◌, ◌+◌, ◌-◌, ◌<◌, length, take};
-ghost use Rattle.r6_kernels.specs.Blocks.{scale, without, AreLongBut};
+ghost use Rattle.std.specs.Prelude.{◌≡◌, ◌+◌, ◌-◌, ◌<◌, length};
+ghost use Rattle.r6_kernels.specs.Blocks.{AreLongBut};
 ghost use Rattle.r6_kernels.specs.Lanes.{HoldsBetween};
-ghost use Rattle.r6_kernels.specs.Recovery.{p_lack_of, q_lack_of, lower_of_two, upper_of_two};
+ghost use Rattle.r6_kernels.specs.Recovery.{lost_from_p, lost_from_q, p_with_lost, lower_of_two, upper_of_two};
 
 use crate::buffer::Buffer;
-use crate::lacks::{lacks_without, p_lack_without, q_lack_without};
+use crate::lacks::{p_lack_without, q_lack_without};
 use crate::lanes::STEP;
+use crate::pairs::{DataAndP, TwoOfData, write_pair};
 use crate::reach::{Part, Reach, Whole};
 use r6_field::ConstMul;
 
@@ -31,69 +32,46 @@ pub fn recover_two(
     ensures first_length { length first.new ≡ length first.old }
     ensures second_length { length second.new ≡ length second.old }
 {
-    let lower = first.bytes.as_mut_slice();
-    write_two(row, x, y, a, b, lower, second.bytes.as_mut_slice());
+    let lost = TwoOfData { x, y, a, b };
+    write_pair(
+        row,
+        &lost,
+        first.bytes.as_mut_slice(),
+        second.bytes.as_mut_slice(),
+    );
 }
 
-fn write_two(
+/// The lost data block `x` into `target`, as `recover_from_q` gives it, and P of the whole data into `p`. What stands at `x` and
+/// in P's place isn't looked at, and may have any length.
+pub fn recover_with_p(
     row: &[Buffer],
     x: usize,
-    y: usize,
-    a: &ConstMul,
-    b: &ConstMul,
-    first: &mut [u8],
-    second: &mut [u8],
+    back: &ConstMul,
+    target: &mut Buffer,
+    p: &mut Buffer,
 )
-    requires order { x < y }
-    requires within { y + 2 < length row.now }
-    requires long { AreLongBut (length first.old) x y row.now }
-    requires same { length second.old ≡ length first.old }
-    ensures first { first.new ≡ lower_of_two (length first.old) x y a.now b.now row.now }
-    ensures second { second.new ≡ upper_of_two (length first.old) x y a.now b.now row.now }
-    ensures first_length { length first.new ≡ length first.old }
-    ensures second_length { length second.new ≡ length second.old }
+    requires within { x + 2 < length row.now }
+    requires long { AreLongBut (length target.old) x (length row.now - 2) row.now }
+    requires same { length p.old ≡ length target.old }
+    ensures lost { target.new ≡ lost_from_q (length target.old) x back.now row.now }
+    ensures p { p.new ≡ p_with_lost (length target.old) x back.now row.now }
+    ensures same_length { length target.new ≡ length target.old }
+    ensures p_length { length p.new ≡ length p.old }
 {
-    let len = first.len();
-    let mut at = 0;
-    while len - at >= STEP {
-        write_two_step::<Whole>(row, x, y, a, b, first, second, at);
-        at += STEP;
-    }
-    if at < len {
-        write_two_step::<Part>(row, x, y, a, b, first, second, at);
-    }
-}
-
-#[inline(always)]
-fn write_two_step<R: Reach>(
-    row: &[Buffer],
-    x: usize,
-    y: usize,
-    a: &ConstMul,
-    b: &ConstMul,
-    first: &mut [u8],
-    second: &mut [u8],
-    at: usize,
-)
-    requires order { x < y }
-    requires within { y + 2 < length row.now }
-    requires long { AreLongBut (length first.old) x y row.now }
-    requires same { length second.old ≡ length first.old }
-    requires reach { R.reaches at (length first.old) }
-    ensures first { HoldsBetween at (at + 128) (lower_of_two (length first.old) x y a.now b.now row.now) first.old first.new }
-    ensures second { HoldsBetween at (at + 128) (upper_of_two (length first.old) x y a.now b.now row.now) second.old second.new }
-{
-    let lacks = lacks_without::<R>(row, x, y, at, first.len());
-    let lower = lacks.p.times(a).plus(lacks.q.times(b));
-    R::store(lower, first, at);
-    R::store(lacks.p.plus(lower), second, at);
+    let lost = DataAndP { x, back };
+    write_pair(
+        row,
+        &lost,
+        target.bytes.as_mut_slice(),
+        p.bytes.as_mut_slice(),
+    );
 }
 
 /// The lost data block `x`, from P and the other data. What stands at `x` and Q isn't looked at.
 pub fn recover_from_p(row: &[Buffer], x: usize, target: &mut Buffer)
     requires within { x + 2 < length row.now }
     requires long { AreLongBut (length target.old) x (length row.now - 2 + 1) row.now }
-    ensures lost { target.new ≡ p_lack_of (length target.old) (without (length target.old) x (take (length row.now - 2) row.now)) row.now }
+    ensures lost { target.new ≡ lost_from_p (length target.old) x row.now }
     ensures same_length { length target.new ≡ length target.old }
 {
     write_from_p(row, x, target.bytes.as_mut_slice());
@@ -102,7 +80,7 @@ pub fn recover_from_p(row: &[Buffer], x: usize, target: &mut Buffer)
 fn write_from_p(row: &[Buffer], x: usize, target: &mut [u8])
     requires within { x + 2 < length row.now }
     requires long { AreLongBut (length target.old) x (length row.now - 2 + 1) row.now }
-    ensures lost { target.new ≡ p_lack_of (length target.old) (without (length target.old) x (take (length row.now - 2) row.now)) row.now }
+    ensures lost { target.new ≡ lost_from_p (length target.old) x row.now }
     ensures same_length { length target.new ≡ length target.old }
 {
     let len = target.len();
@@ -121,7 +99,7 @@ fn write_from_p_step<R: Reach>(row: &[Buffer], x: usize, target: &mut [u8], at: 
     requires within { x + 2 < length row.now }
     requires long { AreLongBut (length target.old) x (length row.now - 2 + 1) row.now }
     requires reach { R.reaches at (length target.old) }
-    ensures { HoldsBetween at (at + 128) (p_lack_of (length target.old) (without (length target.old) x (take (length row.now - 2) row.now)) row.now) target.old target.new }
+    ensures { HoldsBetween at (at + 128) (lost_from_p (length target.old) x row.now) target.old target.new }
 {
     let lack = p_lack_without::<R>(row, x, at, target.len());
     R::store(lack, target, at);
@@ -131,7 +109,7 @@ fn write_from_p_step<R: Reach>(row: &[Buffer], x: usize, target: &mut [u8], at: 
 pub fn recover_from_q(row: &[Buffer], x: usize, back: &ConstMul, target: &mut Buffer)
     requires within { x + 2 < length row.now }
     requires long { AreLongBut (length target.old) x (length row.now - 2) row.now }
-    ensures lost { target.new ≡ scale back.now (q_lack_of (length target.old) (without (length target.old) x (take (length row.now - 2) row.now)) row.now) }
+    ensures lost { target.new ≡ lost_from_q (length target.old) x back.now row.now }
     ensures same_length { length target.new ≡ length target.old }
 {
     write_from_q(row, x, back, target.bytes.as_mut_slice());
@@ -140,7 +118,7 @@ pub fn recover_from_q(row: &[Buffer], x: usize, back: &ConstMul, target: &mut Bu
 fn write_from_q(row: &[Buffer], x: usize, back: &ConstMul, target: &mut [u8])
     requires within { x + 2 < length row.now }
     requires long { AreLongBut (length target.old) x (length row.now - 2) row.now }
-    ensures lost { target.new ≡ scale back.now (q_lack_of (length target.old) (without (length target.old) x (take (length row.now - 2) row.now)) row.now) }
+    ensures lost { target.new ≡ lost_from_q (length target.old) x back.now row.now }
     ensures same_length { length target.new ≡ length target.old }
 {
     let len = target.len();
@@ -165,8 +143,8 @@ fn write_from_q_step<R: Reach>(
     requires within { x + 2 < length row.now }
     requires long { AreLongBut (length target.old) x (length row.now - 2) row.now }
     requires reach { R.reaches at (length target.old) }
-    ensures { HoldsBetween at (at + 128) (scale back.now (q_lack_of (length target.old) (without (length target.old) x (take (length row.now - 2) row.now)) row.now)) target.old target.new }
+    ensures { HoldsBetween at (at + 128) (lost_from_q (length target.old) x back.now row.now) target.old target.new }
 {
     let lack = q_lack_without::<R>(row, x, at, target.len());
-    R::store(lack.times(back), target, at);
+    R::store(lack.q.times(back), target, at);
 }

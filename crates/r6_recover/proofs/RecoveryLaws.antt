@@ -159,3 +159,11 @@ second_from_p len x y data' apart all hx hy =
     let second : List ℕ = get_or data' y [] in
     ap (λ (sum : List ℕ). block_sum sum first) (two_from_p len x y data' apart all hx hy ∙ block_sum_comm first second)
     ∙ block_sum_twice len second first (All-get_or (IsBlock len) data' y [] hy all).length_is (All-get_or (IsBlock len) data' x [] hx all).length_is
+
+-- P is the sum of the other data and the lost block
+pub p_from_block : (len x : ℕ) (data' : List (List ℕ)) → All (IsBlock len) data' → x < length data'
+    → block_sum (p_of len (without len x data')) (get_or data' x []) ≡ p_of len data'
+p_from_block len x data' all h =
+    let lost : List ℕ = get_or data' x [] in
+    ap (λ (sum : List ℕ). block_sum sum lost) (p_of-without len x data' all h)
+    ∙ block_sum_twice len (p_of len data') lost (IsBlock-p_of len data' all).length_is (All-get_or (IsBlock len) data' x [] h all).length_is

@@ -9,7 +9,7 @@ use Rattle.r6_kernels.specs.Blocks.{zeros, block_sum, scale, p_of, q_of, without
 use Rattle.r6_recover.specs.Rows.{block_at, IsFullRow, AgreeBut}
 use Rattle.r6_recover.specs.Factors.{AreFactors}
 use Rattle.r6_recover.specs.Restores.{IsRestored, RestoresBlock, Restores}
-use Rattle.r6_recover.proofs.RecoveryLaws.{block_from_p, block_from_q, block_from_both, second_from_p}
+use Rattle.r6_recover.proofs.RecoveryLaws.{block_from_p, block_from_q, block_from_both, second_from_p, p_from_block}
 use Rattle.r6_recover.proofs.RowLaws.{length-row_data, All-row_data, block_at-p, block_at-q, same_without}
 
 -- ---- blocks that may be away
@@ -76,6 +76,14 @@ module _ (m len : ℕ) (old full : List (List ℕ)) (count : length old ≡ m + 
       (λ i. scale (power generator (255 - x)) (block_sum (q_of len (gone i)) (q i)))
       ∙ block_from_q len x (take m full) (omega arith) (All-row_data m len full is) (omega (arith, full_data_count))
       ∙ get_or-take m full x [] h
+
+  -- P of the other data and Dx
+  pub value_with_lost : (x : ℕ) → x < m → AgreeBut x m old full → (lost : List ℕ) → lost ≡ block_at full x → block_sum (p_of len (without len x (take m old))) lost ≡ block_at full m
+  value_with_lost x h agree lost lost_is =
+      let gone : without len x (take m old) ≡ without len x (take m full) = same_data_without x m (omega arith) agree in
+      (λ i. block_sum (p_of len (gone i)) ((lost_is ∙ sym (get_or-take m full x [] h)) i))
+      ∙ p_from_block len x (take m full) (All-row_data m len full is) (omega (arith, full_data_count))
+      ∙ sym (block_at-p m len full is)
 
   pub value_of_p : AgreeBut m (m + 1) old full → p_of len (take m old) ≡ block_at full m
   value_of_p agree = ap (p_of len) (same_data m (m + 1) (omega arith) (omega arith) agree) ∙ sym (block_at-p m len full is)

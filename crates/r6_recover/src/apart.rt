@@ -8,10 +8,10 @@ ghost use Rattle.std.specs.Prelude.{◌≡◌, ◌+◌, ◌-◌, ◌<◌, ◌≤
 ghost use Rattle.r6_kernels.specs.Blocks.{AreLongBut};
 ghost use Rattle.r6_recover.specs.Restores.{AreLongButMissing, AreRestored, IsRestored, MayMiss};
 
-use crate::factors::factors;
+use crate::factors::{factors, weight_back};
 use crate::known::Missing;
-use r6_field::{ConstMul, Gf};
-use r6_kernels::{Buffer, recover_from_p, recover_from_q, recover_two};
+use r6_field::ConstMul;
+use r6_kernels::{Buffer, recover_from_p, recover_from_q, recover_two, recover_with_p};
 
 /// The data block at `x`, from P and the other data: `Dx = P + Px`.
 pub fn restore_from_p_into(blocks: &[Buffer], x: usize, target: &mut Buffer)
@@ -31,8 +31,23 @@ pub fn restore_from_q_into(blocks: &[Buffer], x: usize, target: &mut Buffer)
     ensures restored { let m = length blocks.now - 2 in IsRestored m (length target.old) x m blocks.now target.new }
     ensures same_length { length target.new ≡ length target.old }
 {
-    let back = Gf::exp(255 - x as u32);
-    recover_from_q(blocks, x, &ConstMul::new(back), target);
+    let back = ConstMul::new(weight_back(x));
+    recover_from_q(blocks, x, &back, target);
+}
+
+/// The data block at `x` and P, from Q and the other data: `Dx = (Q + Qx) g^(-x)`, `P = Px + Dx`.
+pub(crate) fn restore_with_p_into(blocks: &[Buffer], x: usize, target: &mut Buffer, p: &mut Buffer)
+    requires within { x + 2 < length blocks.now }
+    requires few { length blocks.now ≤ 32 }
+    requires long { AreLongBut (length target.old) x (length blocks.now - 2) blocks.now }
+    requires same { length p.old ≡ length target.old }
+    ensures target { let m = length blocks.now - 2 in IsRestored m (length target.old) x m blocks.now target.new }
+    ensures p { let m = length blocks.now - 2 in IsRestored m (length target.old) m x blocks.now p.new }
+    ensures same_length { length target.new ≡ length target.old }
+    ensures p_length { length p.new ≡ length p.old }
+{
+    let back = ConstMul::new(weight_back(x));
+    recover_with_p(blocks, x, &back, target, p);
 }
 
 /// Two data blocks, from P, Q and the other data: `Dx = A(P + Pxy) + B(Q + Qxy)`, `Dy = (P + Pxy) + Dx`.

@@ -1,9 +1,18 @@
-//! The two factors by which two lost data blocks are found.
+//! The factors by which lost data blocks are found.
 
-ghost use Rattle.std.specs.Prelude.{◌≡◌, ◌≢◌, ◌<◌};
+ghost use Rattle.std.specs.Prelude.{◌≡◌, ◌≢◌, ◌-◌, ◌<◌};
+ghost use Rattle.r6_field.specs.Field.{power, generator};
 ghost use Rattle.r6_recover.specs.Factors.{IsQuotient, AreFactors};
 
 use r6_field::Gf;
+
+/// `g^(-x)`, which weighs what Q lacks of the data block `x` back.
+pub(crate) fn weight_back(x: usize) -> Gf
+    requires { x < 255 }
+    ensures { result.0 ≡ power generator (255 - x) }
+{
+    Gf::exp(255 - x as u32)
+}
 
 /// What two lost data blocks are multiplied with: `A`, for the sum that P lacks, and `B`, for the one that Q lacks.
 pub(crate) fn factors(x: usize, y: usize) -> (Gf, Gf)
@@ -13,7 +22,7 @@ pub(crate) fn factors(x: usize, y: usize) -> (Gf, Gf)
 {
     let ratio = Gf::exp((y - x) as u32);
     let divisor = ratio + Gf(1);
-    let back = Gf::exp(255 - x as u32);
+    let back = weight_back(x);
     (quotient(ratio, divisor), quotient(back, divisor))
 }
 

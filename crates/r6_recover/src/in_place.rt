@@ -6,7 +6,7 @@ ghost use Rattle.std.specs.List.{All};
 ghost use Rattle.r6_recover.specs.Known.{AreTooMany};
 ghost use Rattle.r6_recover.specs.Restores.{RestoresBlock, Restores, AgreeAtKnown, BecomesFullRow, HaveSameLengths};
 
-use crate::apart::{restore_from_p_into, restore_from_q_into, restore_two_into};
+use crate::apart::{restore_from_p_into, restore_two_into, restore_with_p_into};
 use crate::known::{Known, Missing, POSITIONS, TooManyLost, missing_among};
 use r6_kernels::{Buffer, parity};
 use std::mem;
@@ -50,16 +50,25 @@ pub(crate) fn restore_from_p(blocks: &mut [Buffer], x: usize, sum: &mut Buffer)
     mem::swap(&mut blocks[x], sum);
 }
 
-/// A data block, from Q and the other data.
-pub(crate) fn restore_from_q(blocks: &mut [Buffer], x: usize, sum: &mut Buffer)
+/// A data block and P, from Q and the other data.
+pub(crate) fn restore_with_p(
+    blocks: &mut [Buffer],
+    x: usize,
+    sum: &mut Buffer,
+    weighted: &mut Buffer,
+)
     requires within { x + 2 < length blocks.old }
     requires few { length blocks.old ≤ 32 }
     requires long { All (λ block. length block ≡ length sum.old) blocks.old }
-    ensures restores { let m = length blocks.old - 2 in RestoresBlock m (length sum.old) x m blocks.old blocks.new }
+    requires same { length weighted.old ≡ length sum.old }
+    ensures restores { let m = length blocks.old - 2 in Restores m (length sum.old) x m blocks.old blocks.new }
     ensures sum_length { length sum.new ≡ length sum.old }
+    ensures weighted_length { length weighted.new ≡ length weighted.old }
 {
-    restore_from_q_into(blocks, x, sum);
+    let m = blocks.len() - 2;
+    restore_with_p_into(blocks, x, sum, weighted);
     mem::swap(&mut blocks[x], sum);
+    mem::swap(&mut blocks[m], weighted);
 }
 
 /// Two data blocks, from P, Q and the other data.
@@ -129,8 +138,7 @@ pub fn restore_pair(
         restore_p(blocks, sum, weighted);
         restore_q(blocks, sum, weighted);
     } else if y == m {
-        restore_from_q(blocks, x, sum);
-        restore_p(blocks, sum, weighted);
+        restore_with_p(blocks, x, sum, weighted);
     } else {
         restore_from_p(blocks, x, sum);
         restore_q(blocks, sum, weighted);

@@ -14,5 +14,5 @@ returns-clause-restored c =
     let count : length blocks ≡ m + 2 = omega arith in
     λ full is agree.
     c.recover_from_q.ensures.lost
-    ∙ (λ i. scale ((c.new.ensures ∙ c.exp-back.ensures) i) (block_sum (q_of len (without len x (take m blocks))) (get_or blocks (m + 1) [])))
+    ∙ (λ i. scale ((c.new-back.ensures ∙ c.weight_back.ensures) i) (block_sum (q_of len (without len x (take m blocks))) (get_or blocks (m + 1) [])))
     ∙ value_from_q m len blocks full count is x (omega arith) (omega arith) agree
