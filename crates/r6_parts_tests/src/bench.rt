@@ -37,6 +37,10 @@ pub(crate) enum Step {
     Lose(usize),
     /// Whether the hold is over.
     IsOver,
+    /// How the hold has ended.
+    End,
+    /// Commands are put out and performed until none comes; how the hold has ended then.
+    Finish,
     /// Whether all buffers are home.
     IsHome,
 }
@@ -53,6 +57,7 @@ pub(crate) enum Seen {
     Home,
     Lost,
     Is(bool),
+    End(Option<Outcome>),
 }
 
 /// A hold, the blocks of its row, and the commands that wait.
@@ -140,6 +145,24 @@ fn perform(command: RowCommand, devices: &mut Vec<Buffer>) -> (usize, Buffer) {
     }
 }
 
+/// A row of these bytes, of whose positions these are in sync, has to take this course. Then its devices have the bytes
+/// `after` but at the lost positions.
+pub(crate) fn plays<R: Abort>(
+    rt: &R,
+    alloc: Global,
+    ask: Ask,
+    bytes: &[u8],
+    in_sync: &[bool],
+    course: &[(Step, Seen)],
+    after: &[u8],
+    lost: &[usize],
+) -> Result<(), Fail> {
+    let mut bench = Bench::new(alloc, ask, bytes, in_sync)?;
+    bench.play(rt, course)?;
+    assert!(rt; has_bytes(&bench.devices, after, lost));
+    Ok(())
+}
+
 impl Bench {
     /// A row of these bytes, of whose positions these are in sync.
     pub(crate) fn new(
@@ -176,6 +199,11 @@ impl Bench {
             Step::Drive(most) => Seen::Commands(self.drive(most)),
             Step::Lose(position) => self.lose(position),
             Step::IsOver => Seen::Is(self.hold.outcome() == Some(Outcome::Done)),
+            Step::End => Seen::End(self.hold.outcome()),
+            Step::Finish => {
+                self.drive(9);
+                Seen::End(self.hold.outcome())
+            }
             Step::IsHome => Seen::Is(self.hold.is_home()),
         })
     }

@@ -12,6 +12,18 @@ fn words(alloc: Global, line: &str) -> Result<Vec<String>, Fail> {
     Ok(words)
 }
 
+/// What a line is read as; or what is printed where it is refused, with the exit status.
+fn said(alloc: Global, line: &str) -> Result<(Option<i32>, String), Fail> {
+    let words = words(alloc, line)?;
+    match command(alloc, words.as_slice()) {
+        Ok(invocation) => Ok((None, format!(in alloc; "{invocation:?}")?)),
+        Err(CommandFault::Refused(error)) => {
+            Ok((Some(error.exit_code()), format!(in alloc; "{error}")?))
+        }
+        Err(CommandFault::Memory) => Err(Fail::from("memory")),
+    }
+}
+
 #[test]
 fn reads_the_words(rt: HostRuntime) -> Result<(), Fail> {
     let alloc = rt.alloc();
@@ -27,14 +39,8 @@ fn reads_the_words(rt: HostRuntime) -> Result<(), Fail> {
         ("raid6 run a -- --", "Run { config: \"a\", script: \"--\" }"),
     ];
     for (line, asked) in lines {
-        let words = words(alloc, line)?;
-        match command(alloc, words.as_slice()) {
-            Ok(invocation) => {
-                let text = format!(in alloc; "{invocation:?}")?;
-                assert_eq!(rt; text.as_str(), asked);
-            }
-            Err(_) => return Err(Fail::from("refused")),
-        }
+        let (status, text) = said(alloc, line)?;
+        assert!(rt; status == None && text.as_str() == asked, "at {line}");
     }
     Ok(())
 }
@@ -55,14 +61,8 @@ fn refuses_other_words(rt: HostRuntime) -> Result<(), Fail> {
         ("raid6 geometry --help", 0),
     ];
     for (line, status) in lines {
-        let words = words(alloc, line)?;
-        match command(alloc, words.as_slice()) {
-            Ok(_) => return Err(Fail::from("accepted")),
-            Err(CommandFault::Refused(error)) => {
-                assert_eq!(rt; error.exit_code(), status, "at {line}")
-            }
-            Err(CommandFault::Memory) => return Err(Fail::from("memory")),
-        }
+        let (found, _) = said(alloc, line)?;
+        assert!(rt; found == Some(status), "at {line}");
     }
     Ok(())
 }
@@ -71,11 +71,7 @@ fn refuses_other_words(rt: HostRuntime) -> Result<(), Fail> {
 #[test]
 fn help_leaves_out_what_is_not_built(rt: HostRuntime) -> Result<(), Fail> {
     let alloc = rt.alloc();
-    let words = words(alloc, "raid6 --help")?;
-    let Err(CommandFault::Refused(error)) = command(alloc, words.as_slice()) else {
-        return Err(Fail::from("no help"));
-    };
-    let help = format!(in alloc; "{error}")?;
+    let (_, help) = said(alloc, "raid6 --help")?;
     for name in ["geometry", "create", "verify", "simulate"] {
         assert!(rt; help.as_str().contains(name), "at {name}");
     }
