@@ -5,4 +5,5 @@ pub mod Headline
 pub mod Starts
 pub mod ArrayLaws
 pub mod Along
+pub mod Counts
 pub mod Sequentials
