@@ -4,6 +4,5 @@ pub mod Quiet
 pub mod Headline
 pub mod Starts
 pub mod ArrayLaws
-pub mod Along
 pub mod Counts
 pub mod Sequentials
