@@ -17,11 +17,13 @@ use Rattle.r6_world.specs.Witness.{after_all}
 
 -- ---- the small changes of shard n in a run, in order
 
-abbrev pub changes_of_look : (l : Layout) (n : ℕ) (failed : Bool) (mid new : Shard) → Looks l n failed mid new → List Change
+abbrev pub changes_of_look : (l : Layout) (n : ℕ) (failed : Bool) (mid new : Shard) → Looks l n failed mid new
+    → List Change
 changes_of_look l n true mid new look = See_failed ∷ []
 changes_of_look l n false mid new look = look.1.0 ++ (Release ∷ look.2.0)
 
-abbrev pub changes_of : (l : Layout) (n : ℕ) (old : Shard) (event : Event) (new : Shard) → Step l n old event new → List Change
+abbrev pub changes_of : (l : Layout) (n : ℕ) (old : Shard) (event : Event) (new : Shard) → Step l n old event new
+    → List Change
 changes_of l n old (Submit op id) new step = Accept op ∷ step.2.0
 changes_of l n old (Deliver token completion receipt) new step = step.0 ∷ (step.4.0 ++ step.5.0)
 changes_of l n old (Look seen) new step = step.3.0 ++ changes_of_look l n seen.failed step.2 new step.5
@@ -35,16 +37,22 @@ changes_of l n old (Told call answer) new step = Hear call answer ∷ []
 changes_of l n old (Take_reply id reply) new step = Hand_reply id step.0 reply ∷ []
 changes_of l n old No_reply new step = []
 
-abbrev pub changes_at : (l : Layout) (Comes : RegisterCall → Type 0) (n : ℕ) (w : World) (h : Happening) → Possible l Comes w h → List Change
+abbrev pub changes_at : (l : Layout) (Comes : RegisterCall → Type 0) (n : ℕ) (w : World) (h : Happening)
+    → Possible l Comes w h → List Change
 changes_at l Comes n w (Core m event new) step = if m == n then changes_of l m (w.shard m) event new step.2 else []
 changes_at l Comes n w (Perform m token c) step = []
 changes_at l Comes n w (Tell m call answer middle new) step =
-    if m == n then changes_of l m (w.shard m) (Take_call call) middle step.2 ++ changes_of l m middle (Told call answer) new step.3 else []
+    if m == n then
+    changes_of l m (w.shard m) (Take_call call) middle step.2
+    ++ changes_of l m middle (Told call answer) new step.3
+    else []
 changes_at l Comes n w (Outside call) step = []
 
-abbrev pub changes_in : (l : Layout) (Comes : RegisterCall → Type 0) (n : ℕ) (w : World) (moments : List Moment) → Run l Comes w moments → List Change
+abbrev pub changes_in : (l : Layout) (Comes : RegisterCall → Type 0) (n : ℕ) (w : World) (moments : List Moment)
+    → Run l Comes w moments → List Change
 changes_in l Comes n w [] run = []
-changes_in l Comes n w (m ∷ moments) run = changes_at l Comes n w m.happening run.0 ++ changes_in l Comes n (next l w m) moments run.1
+changes_in l Comes n w (m ∷ moments) run =
+    changes_at l Comes n w m.happening run.0 ++ changes_in l Comes n (next l w m) moments run.1
 
 -- ---- turns of checks and repairs
 
@@ -111,12 +119,16 @@ class_of (Classed class) = Some class
 class_of outcome = None
 
 abbrev pub ended_by : (ℕ → Option Hold) → Change → List Ended
-ended_by read (Finish f h outcome) = if is_check h.task then record { hold = h; read = read f; class = class_of outcome } ∷ [] else []
+ended_by read (Finish f h outcome) =
+    if is_check h.task then record { hold = h; read = read f; class = class_of outcome } ∷ [] else []
 ended_by read change = []
 
 abbrev pub ended : (ℕ → Option Hold) → List Change → List Ended
 ended read [] = []
 ended read (change ∷ changes) = ended_by read change ++ ended (read_after read change) changes
+
+abbrev pub ended_in : List Change → List Ended
+ended_in changes = ended (λ f. None) changes
 
 -- one that lost a position while it was reading has no class, and any other that of the blocks of its row as they were read
 abbrev pub IsEnd : Ended → Option RowClass → Type 0
@@ -179,26 +191,30 @@ marked l s [] = []
 marked l s (change ∷ changes) = marked_by l s change ++ marked l (after l s change) changes
 
 abbrev pub IsMark : Mark → Type 0
-IsMark m = (generation : ℕ) × (built : ℕ → Bool) × (m.old ≡ Building generation built) × (m.new ≡ Building generation (put built m.row true))
+IsMark m =
+    (generation : ℕ) × (built : ℕ → Bool) × (m.old ≡ Building generation built)
+    × (m.new ≡ Building generation (put built m.row true))
 
 -- ---- the law
 
 -- of a shard, after so many turns were answered Started and Skipped, and these changes from its start
-pub record CountsHold (l : Layout) (start now : Shard) (turns_started turns_skipped : ℕ) (changes : List Change) : Type 0 where
-  pub reads : All (λ (e : Ended). IsEnd e e.class) (ended (λ f. None) changes)
-  pub consistent : now.counts.consistent ≡ count_by (λ (e : Ended). of_class is_consistent e.class) (ended (λ f. None) changes)
-  pub wrong_p : now.counts.wrong_p ≡ count_by (λ (e : Ended). of_class is_wrong_p e.class) (ended (λ f. None) changes)
-  pub wrong_q : now.counts.wrong_q ≡ count_by (λ (e : Ended). of_class is_wrong_q e.class) (ended (λ f. None) changes)
-  pub wrong_data : now.counts.wrong_data ≡ count_by (λ (e : Ended). of_class is_wrong_data e.class) (ended (λ f. None) changes)
-  pub many : now.counts.many ≡ count_by (λ (e : Ended). of_class is_many e.class) (ended (λ f. None) changes)
-  pub skipped : now.counts.skipped ≡ turns_skipped + count_by (λ (e : Ended). without_class e.class) (ended (λ f. None) changes)
-  pub repaired : now.counts.repaired ≡ count_by is_repaired (ended (λ f. None) changes)
+pub record CountsHold (l : Layout) (start now : Shard) (turns_started turns_skipped : ℕ) (changes : List Change)
+    : Type 0 where
+  pub reads : All (λ (e : Ended). IsEnd e e.class) (ended_in changes)
+  pub consistent : now.counts.consistent ≡ count_by (λ (e : Ended). of_class is_consistent e.class) (ended_in changes)
+  pub wrong_p : now.counts.wrong_p ≡ count_by (λ (e : Ended). of_class is_wrong_p e.class) (ended_in changes)
+  pub wrong_q : now.counts.wrong_q ≡ count_by (λ (e : Ended). of_class is_wrong_q e.class) (ended_in changes)
+  pub wrong_data : now.counts.wrong_data ≡ count_by (λ (e : Ended). of_class is_wrong_data e.class) (ended_in changes)
+  pub many : now.counts.many ≡ count_by (λ (e : Ended). of_class is_many e.class) (ended_in changes)
+  pub skipped : now.counts.skipped ≡ turns_skipped + count_by (λ (e : Ended). without_class e.class) (ended_in changes)
+  pub repaired : now.counts.repaired ≡ count_by is_repaired (ended_in changes)
   pub marks : All IsMark (marked l start changes)
   pub rebuilt : now.counts.rebuilt ≡ length (marked l start changes)
   -- each row that was passed is counted once, held, or was dropped; before the failure is seen none is dropped, and from
   -- then on none is held
   pub passed : turns_started + turns_skipped
-      ≡ now.counts.consistent + now.counts.wrong_p + now.counts.wrong_q + now.counts.wrong_data + now.counts.many + now.counts.skipped
+      ≡ now.counts.consistent + now.counts.wrong_p + now.counts.wrong_q + now.counts.wrong_data + now.counts.many
+      + now.counts.skipped
       + checks_held now + dropped l start changes
   pub none_dropped : now.saw_failed ≡ false → dropped l start changes ≡ 0
   pub none_held : now.saw_failed ≡ true → checks_held now ≡ 0
@@ -207,5 +223,6 @@ pub record CountsHold (l : Layout) (start now : Shard) (turns_started turns_skip
 abbrev pub CountsLaw : Type 0
 CountsLaw = OfEveryRun (λ l array start moments.
     (run : Run l IsOfOutside start moments) (n : ℕ) → n < l.shards →
-    CountsHold l (start.shard n) ((after_all l start moments).shard n) (in_all (started_by n) moments) (in_all (skipped_by n) moments)
+    CountsHold l (start.shard n) ((after_all l start moments).shard n)
+    (in_all (started_by n) moments) (in_all (skipped_by n) moments)
     (changes_in l IsOfOutside n start moments run))
