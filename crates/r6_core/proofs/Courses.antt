@@ -16,7 +16,7 @@ use Rattle.r6_world.specs.Steps.{Event, Submit, Deliver, Good, Error, Taken, Loo
 use Rattle.r6_world.specs.Worlds as worlds
 use Rattle.r6_world.specs.Worlds.{World, Devices, MayCome, happened, next, started, given, performed_on, IsBrought}
 use Rattle.r6_world.specs.Claims.{IsLawfulStart}
-use Rattle.r6_world.specs.Laws.{IsOfOutside, IsByAnyone}
+use Rattle.r6_world.specs.Laws.{IsOfOutside}
 use Rattle.r6_world.specs.Witness.{smallest, small, after_all}
 use Rattle.r6_world.proofs.Tables.{put-same, put-other, None-not_Some, Some-inj}
 use Rattle.r6_world.proofs.Geometries.{layouts}
@@ -24,7 +24,7 @@ use Rattle.r6_core.specs.declared.refusal.DeviceFault.{DeviceFault}
 use Rattle.r6_core.specs.declared.refusal.Receipt.{Receipt}
 use Rattle.r6_core.specs.Shards.{CoreView, Step, world_shard, completion_of, receipt_of}
 use Rattle.r6_core.specs.Effects.{IsMade, Receives}
-use Rattle.r6_core.specs.Runs.{Happening, Call, Perform, Tell, Moment, in_world, moment_of, cores_after, MayHappen, CoresRun, AreMade, IsShard, IsThis, AreShards, StayShards}
+use Rattle.r6_core.specs.Runs.{Happening, Call, Perform, Tell, Moment, in_world, moment_of, cores_after, MayHappen, CoresRun, AreMade, IsShard, AreShards, StayShards}
 use Rattle.r6_core.specs.Courses.{events_in, events_of, cores_behind, HasRun, Fails, Reads, Declares, RunsThroughLoss, two_shards, both, RunsBesideLoss}
 use Rattle.r6_core.proofs.Runs.{are_runs}
 use Rattle.r6_core.proofs.Unperformed.{unperformed}
@@ -264,9 +264,11 @@ module _ (shape : Shape) (limits : IsShape shape) (Ours : ℕ → Type 0) (Comes
 
   -- and at the end
   ends : (events : List (ℕ × Event)) (cores : ℕ → CoreView) (w : World) → Leads events cores w → (register : Snapshot) → w.register ≡ register
-      → HasRun shape Ours Comes (starting 0) device events cores register
+      → HasRun shape Ours Comes (starting 0) device array events cores register
   ends events cores w x register is =
       record {
+        limits = limits;
+        lawful = lawful;
         first = x.first;
         made = x.made;
         moments = x.moments;
@@ -283,8 +285,8 @@ pub made_at : (shape here : Shape) (r : Snapshot) (n : ℕ) (core : CoreView) �
 made_at shape here r n core is start made =
     subst (λ (y : Snapshot). IsMade here y n core) start (subst (λ (x : Shape). IsMade x r n core) is made)
 
-alone : (old new : CoreView) → Becomes (IsThis 0) (λ m. old) 0 new (λ m. new)
-alone old new = record { own = refl; others = λ m same ne. absurd (ne same) }
+alone : (old new : CoreView) → Becomes (IsShard smallest) (λ m. old) 0 new (λ m. new)
+alone old new = record { own = refl; others = λ m below ne. absurd (omega (arith, below, ne)) }
 
 declared-small : answer_to small (starting 0) (DeclareLost 1 0) ≡ Ok Degraded
 declared-small = refl
@@ -293,18 +295,20 @@ pub through_loss : IsShape smallest → (c0 c1 c2 c3 c4 c5 c6 c7 : CoreView) (ot
     → Step c0 (Submit (Read 0) 0) c1 → Fails c1 c2 → Declares c2 c3 → Reads 2 0 other c3 c4 → Reads 3 0 parity c4 c5
     → Step c5 (Look (without (starting 0) 1)) c6 → Step c6 (Take_reply 0 (Data block)) c7 → RunsThroughLoss other parity block c7
 through_loss limits c0 c1 c2 c3 c4 c5 c6 c7 other parity block made submitted f declared second third looked replied device array lawful on2 on3 =
-    let Ours = IsThis 0 in
-    let Comes = IsByAnyone in
-    let below : (n : ℕ) → n ≡ 0 → n < smallest.shards = λ n same. omega (arith, same) in
-    let x0 = starts smallest limits Ours Comes below device array lawful (λ m. c0) (λ n same. subst (λ k. IsMade smallest (starting 0) k c0) (sym same) made) in
-    let x1 = calls smallest limits Ours Comes below device array lawful _ (λ m. c0) _ x0 0 refl c0 refl (Submit (Read 0) 0) c1 (λ m. c1) (alone c0 c1) (record {}) submitted in
-    let x2 = fails smallest limits Ours Comes below device array lawful _ (λ m. c1) _ x1 0 refl c1 refl c2 (λ m. c2) (alone c1 c2) f in
-    let x3 = declares smallest limits Ours Comes below device array lawful _ (λ m. c2) x2.0 x2.2 0 refl c2 refl x2.1 declared-small c3 (λ m. c3) (alone c2 c3) declared in
-    let x4 = reads smallest limits Ours Comes below device array lawful _ (λ m. c3) x3.0 x3.2 0 refl c3 refl 2 0 other c4 (λ m. c4) (alone c3 c4) on2 second in
-    let x5 = reads smallest limits Ours Comes below device array lawful _ (λ m. c4) x4.0 x4.2 0 refl c4 refl 3 0 parity c5 (λ m. c5) (alone c4 c5) on3 third in
+    let Ours = IsShard smallest in
+    let Comes = IsOfOutside in
+    let below : (n : ℕ) → Ours n → n < smallest.shards = λ n own. own in
+    let zeroth : Ours 0 = omega arith in
+    let only : (n : ℕ) → Ours n → 0 ≡ n = λ n own. omega (arith, own) in
+    let x0 = starts smallest limits Ours Comes below device array lawful (λ m. c0) (λ n own. subst (λ k. IsMade smallest (starting 0) k c0) (only n own) made) in
+    let x1 = calls smallest limits Ours Comes below device array lawful _ (λ m. c0) _ x0 0 zeroth c0 refl (Submit (Read 0) 0) c1 (λ m. c1) (alone c0 c1) (record {}) submitted in
+    let x2 = fails smallest limits Ours Comes below device array lawful _ (λ m. c1) _ x1 0 zeroth c1 refl c2 (λ m. c2) (alone c1 c2) f in
+    let x3 = declares smallest limits Ours Comes below device array lawful _ (λ m. c2) x2.0 x2.2 0 zeroth c2 refl x2.1 declared-small c3 (λ m. c3) (alone c2 c3) declared in
+    let x4 = reads smallest limits Ours Comes below device array lawful _ (λ m. c3) x3.0 x3.2 0 zeroth c3 refl 2 0 other c4 (λ m. c4) (alone c3 c4) on2 second in
+    let x5 = reads smallest limits Ours Comes below device array lawful _ (λ m. c4) x4.0 x4.2 0 zeroth c4 refl 3 0 parity c5 (λ m. c5) (alone c4 c5) on3 third in
     let register : x5.0.register ≡ without (starting 0) 1 = x5.1 ∙ x4.1 ∙ x3.1 in
-    let x6 = calls smallest limits Ours Comes below device array lawful _ (λ m. c5) x5.0 x5.2 0 refl c5 refl (Look (without (starting 0) 1)) c6 (λ m. c6) (alone c5 c6) (sym register) looked in
-    let x7 = calls smallest limits Ours Comes below device array lawful _ (λ m. c6) _ x6 0 refl c6 refl (Take_reply 0 (Data block)) c7 (λ m. c7) (alone c6 c7) (record {}) replied in (
+    let x6 = calls smallest limits Ours Comes below device array lawful _ (λ m. c5) x5.0 x5.2 0 zeroth c5 refl (Look (without (starting 0) 1)) c6 (λ m. c6) (alone c5 c6) (sym register) looked in
+    let x7 = calls smallest limits Ours Comes below device array lawful _ (λ m. c6) _ x6 0 zeroth c6 refl (Take_reply 0 (Data block)) c7 (λ m. c7) (alone c6 c7) (record {}) replied in (
       (f.token, f.command),
       (second.token, second.command),
       (third.token, third.command),

@@ -14,6 +14,7 @@ use Rattle.r6_frames.specs.declared.frames.FrameUse.{FrameUse}
 use Rattle.r6_frames.specs.declared.frames.FrameUse.TheVariants as uses
 use Rattle.r6_frames.specs.declared.slots.Device.{Device}
 use Rattle.r6_frames.specs.Slots.{states_of, slot_before}
+use Rattle.r6_world.specs.ShardStates as shards
 use Rattle.r6_world.specs.ShardStates.{Synced}
 use Rattle.r6_core.specs.declared.state.State.{State}
 use Rattle.r6_frames.specs.Views.{use_at, row_in, hold_of, frame_of, command_of}
@@ -104,3 +105,11 @@ fresh_start s shape shard r fresh same_shape same_shard slots =
       check_row = (layout_of (same_shape i)).first_row (same_shard i);
       repair_row = (layout_of (same_shape i)).first_row (same_shard i);
     }
+
+none_before : (waiting : List Request) (others : List (ℕ × shards.Request)) → map waiting_request waiting ++ others ≡ [] → waiting ≡ []
+none_before [] others none = refl
+none_before (request ∷ waiting) others none = absurd (cc)
+
+-- no request waits
+pub none_waiting : (s : State) → IsFresh s → s.waiting.items ≡ []
+none_waiting s fresh = none_before s.waiting.items _ fresh.1

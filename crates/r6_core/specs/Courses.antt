@@ -1,6 +1,6 @@
 -- Runs of cores, as their calls have made them.
 use Rattle.std.specs.Prelude.{◌≡◌, ℕ, zero, suc, List, [], ◌∷◌, ◌++◌, map, Ok}
-use Rattle.r6_layout.specs.Shape.{Shape, shape_of}
+use Rattle.r6_layout.specs.Shape.{Shape, IsShape, shape_of}
 use Rattle.r6_health.specs.Registers.{starting, without}
 use Rattle.r6_world.specs.PlainArray.{Block, Array, Read, Data}
 use Rattle.r6_world.specs.Geometries.{layout_of}
@@ -10,10 +10,10 @@ use Rattle.r6_world.specs.Steps as steps
 use Rattle.r6_world.specs.Steps.{Event, Submit, Deliver, Good, Error, Taken, Look, Take_command, Take_call, Take_reply}
 use Rattle.r6_world.specs.Worlds.{Devices, started}
 use Rattle.r6_world.specs.Claims.{IsLawfulStart}
-use Rattle.r6_world.specs.Laws.{IsOfOutside, IsByAnyone}
+use Rattle.r6_world.specs.Laws.{IsOfOutside}
 use Rattle.r6_world.specs.Witness.{smallest, small, after_all}
 use Rattle.r6_core.specs.Shards.{CoreView, Step}
-use Rattle.r6_core.specs.Runs.{Happening, Call, Perform, Tell, Outside, Moment, moment_of, cores_after, AreMade, IsShard, IsThis, CoresRun}
+use Rattle.r6_core.specs.Runs.{Happening, Call, Perform, Tell, Outside, Moment, moment_of, cores_after, AreMade, IsShard, CoresRun}
 
 -- the calls of cores in what happened, each with its shard and its answer
 abbrev pub events_in : Happening → List (ℕ × Event)
@@ -34,9 +34,13 @@ abbrev pub cores_behind : (ℕ → CoreView) → List Moment → ℕ → CoreVie
 cores_behind cores [] = cores
 cores_behind cores (m ∷ moments) = cores_behind (cores_after cores m.happening) moments
 
--- A run of these cores from where they were made, beside devices and a register at which such calls come from outside:
--- these were their calls and their answers, and they have led to these cores and this register.
-pub record HasRun (shape : Shape) (Ours : ℕ → Type 0) (Comes : RegisterCall → Type 0) (r : Snapshot) (device : Devices) (events : List (ℕ × Event)) (cores : ℕ → CoreView) (register : Snapshot) : Type 0 where
+-- A run of these cores from a lawful start, at which they were made, beside devices and a register at which such calls
+-- come from outside: these were their calls and their answers, and they have led to these cores and this register. The
+-- laws of every run of cores speak of it.
+pub record HasRun (shape : Shape) (Ours : ℕ → Type 0) (Comes : RegisterCall → Type 0) (r : Snapshot) (device : Devices)
+    (array : Array) (events : List (ℕ × Event)) (cores : ℕ → CoreView) (register : Snapshot) : Type 0 where
+  pub limits : IsShape shape
+  pub lawful : IsLawfulStart (layout_of shape) r device array
   pub first : ℕ → CoreView
   pub made : AreMade shape Ours r first
   pub moments : List Moment
@@ -82,7 +86,7 @@ abbrev pub RunsThroughLoss : (other parity block : Block) → CoreView → Type 
 RunsThroughLoss other parity block core =
     (device : Devices) (array : Array) → IsLawfulStart small (starting 0) device array → device 2 0 0 ≡ other → device 3 0 0 ≡ parity
     → (failed second third : ℕ × Command)
-    × HasRun smallest (IsThis 0) IsByAnyone (starting 0) device
+    × HasRun smallest (IsShard smallest) IsOfOutside (starting 0) device array
     (of_core 0 (Submit (Read 0) 0
     ∷ Take_command failed.0 failed.1 ∷ Deliver failed.0 Error Taken
     ∷ Take_call (LossOf 1 0) ∷ steps.Told (LossOf 1 0) (Ok Degraded)
@@ -109,7 +113,7 @@ abbrev pub RunsBesideLoss : (other parity block : Block) → (first second : Cor
 RunsBesideLoss other parity block first second =
     (device : Devices) (array : Array) → IsLawfulStart (layout_of two_shards) (starting 0) device array → device 0 0 1 ≡ other → device 2 0 1 ≡ parity
     → (failed here there : ℕ × Command)
-    × HasRun two_shards (IsShard two_shards) IsOfOutside (starting 0) device
+    × HasRun two_shards (IsShard two_shards) IsOfOutside (starting 0) device array
     (of_core 0 (Submit (Read 0) 0
     ∷ Take_command failed.0 failed.1 ∷ Deliver failed.0 Error Taken
     ∷ Take_call (LossOf 1 0) ∷ steps.Told (LossOf 1 0) (Ok Degraded) ∷ [])

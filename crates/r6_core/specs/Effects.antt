@@ -31,6 +31,7 @@ pub record IsMade (shape : Shape) (snapshot : Snapshot) (shard : ℕ) (core : Co
   pub geometry : core.shape ≡ shape
   pub number : core.shard ≡ shard
   pub start : world_shard core ≡ shard_at_start (layout_of shape) snapshot shard
+  pub waiting : core.waiting ≡ []
   pub replies : NoReplies core
   pub unanswered : core.unanswered ≡ 0
 

@@ -16,13 +16,13 @@ fn a_read_is_answered_through_the_loss_of_its_device(rt: HostRuntime) -> Result<
     Ok(())
 }
 
-// The same of the second shard's block, on a slot whose loss the first shard has found: 66 = 44 + 22.
+// The same of the second shard's block, on a slot whose loss the first shard has found: 66 = 33 + 55.
 #[test]
 fn a_read_is_answered_through_a_loss_of_another_shard(rt: HostRuntime) -> Result<(), Fail> {
     let lost = Buffer::new(rt.alloc(), 16)?;
     let room = Buffer::new(rt.alloc(), 16)?;
-    let other = filled(rt.alloc(), 16, 0x44)?;
-    let parity = filled(rt.alloc(), 16, 0x22)?;
+    let other = filled(rt.alloc(), 16, 0x33)?;
+    let parity = filled(rt.alloc(), 16, 0x55)?;
     let course = read_beside_a_loss(rt.alloc(), lost, room, other, parity);
     let (_, _, block) = course.ok_or("another run")?;
     assert_eq!(rt; block.as_slice(), &[0x66u8; 16][..]);
