@@ -87,15 +87,20 @@ pub record IsSettled (s : State) : Type 0 where
   pub sound : IsSound s
   pub rested : AreLive s.frames → IsRested s
 
--- the request can start in the frame
-abbrev pub CanStart : Frames → Request → ℕ → Type 0
-CanStart fs request frame =
-    AreLive fs × IsFreeFrame fs frame × NotHeldBy fs (layout.row_of fs.geometry (world.block_of (op_of request.op)))
+-- the row can be held in the frame
+abbrev pub CanHold : Frames → (row frame : ℕ) → Type 0
+CanHold fs row frame = AreLive fs × IsFreeFrame fs frame × NotHeldBy fs row
 
--- a waiting request can't start: nothing goes on, its row is held, or no frame is free
+-- it can't be: nothing goes on, it is held, or no frame is free
+abbrev pub CannotHold : Frames → (row : ℕ) → Type 0
+CannotHold fs row = AreLive fs → NotHeldBy fs row → (frame : ℕ) → IsFreeFrame fs frame → ⊥
+
+-- a waiting request can start in the frame, or can't: so it is of the row of its block
+abbrev pub CanStart : Frames → Request → ℕ → Type 0
+CanStart fs request = CanHold fs (layout.row_of fs.geometry (world.block_of (op_of request.op)))
+
 abbrev pub CannotStart : Frames → Request → Type 0
-CannotStart fs request =
-    AreLive fs → NotHeldBy fs (layout.row_of fs.geometry (world.block_of (op_of request.op))) → (frame : ℕ) → IsFreeFrame fs frame → ⊥
+CannotStart fs request = CannotHold fs (layout.row_of fs.geometry (world.block_of (op_of request.op)))
 
 abbrev pub NoneCanStart : State → Type 0
 NoneCanStart s = AllByRecursion (CannotStart s.frames) s.waiting.items

@@ -7,15 +7,16 @@ ghost use Rattle.r6_layout.specs.Layout as layout;
 ghost use Rattle.r6_world.specs.PlainArray as world;
 ghost use Rattle.r6_world.specs.Steps.{Through, Scans};
 ghost use Rattle.r6_frames.specs.Views.{op_of, AreLive};
-ghost use Rattle.r6_frames.specs.Calls.{IsFreeFrame, IsRequestOf, NotHeldBy};
+ghost use Rattle.r6_frames.specs.Calls.{IsFreeFrame, IsRequestOf, IsPlaceOf, NotHeldBy};
 ghost use Rattle.r6_frames.specs.Sound as held;
 ghost use Rattle.r6_core.specs.Shards.{core_of, state_of, layout_in};
 ghost use Rattle.r6_core.specs.Order.{HaveTurns, KeepsReplies};
-ghost use Rattle.r6_core.specs.Inside.{IsSettled, IsCore, NoneCanStart, CannotStart, CanStart, HasFreed, HasFreedOne, IsFirstToStart, StartsAt, NoMoreCanStart, SameFrames, SameCalls, Seen};
+ghost use Rattle.r6_core.specs.Inside.{IsSettled, IsCore, NoneCanStart, CannotStart, CannotHold, CanHold, HasFreed, HasFreedOne, IsFirstToStart, StartsAt, NoMoreCanStart, SameFrames, SameCalls, Seen};
 
 use crate::state::State;
 use circular_buffer::HeapCircularBuffer;
 use r6_frames::Request;
+use r6_layout::Place;
 
 /// What a change of the frames leaves to be started.
 #[derive(Clone, Copy)]
@@ -112,22 +113,29 @@ impl State {
         ensures { let row = layout.row_of self.now.frames.geometry (world.block_of (op_of request.now.op)) in
             IsTrue result ↔ (NotHeldBy self.now.frames row → ⊥) }
     {
-        let Some(place) = self.frames.geometry().place(request.op.block()) else {
-            unreachable!()
-        };
-        self.frames.is_held(place.row)
+        self.frames.is_held(self.place(request).row)
     }
 
-    /// A free frame, if the request can start: holds go on, and the row of its block isn't held.
-    pub(crate) fn frame_for(&self, request: &Request) -> Option<usize>
-        requires sound { held.IsSound self.now.frames }
-        requires request { IsRequestOf self.now.frames request.now }
-        ensures { MatchOption result (CannotStart self.now.frames request.now) (CanStart self.now.frames request.now) }
+    // Where the block of the request stands.
+    fn place(&self, request: &Request) -> Place
+        requires { IsRequestOf self.now.frames request.now }
+        ensures { IsPlaceOf self.now.frames.geometry request.now.op result }
+    {
+        match self.frames.geometry().place(request.op.block()) {
+            Some(place) => place,
+            None => unreachable!(),
+        }
+    }
+
+    /// A free frame, if the row can be held: holds go on, and it isn't held.
+    pub(crate) fn frame_for(&self, row: u64) -> Option<usize>
+        requires { held.IsSound self.now.frames }
+        ensures { MatchOption result (CannotHold self.now.frames row) (CanHold self.now.frames row) }
     {
         if !self.frames.is_live() {
             return None;
         }
-        if self.is_row_held(request) {
+        if self.frames.is_held(row) {
             return None;
         }
         self.frames.free_frame()
@@ -147,7 +155,8 @@ impl State {
         ensures replies { Seen KeepsReplies self.old self.new }
     {
         let request = take_at(&mut self.waiting, index);
-        self.frames.begin(frame, request);
+        let place = self.place(&request);
+        self.frames.begin(frame, request, place);
         self.frames.drive(frame);
     }
 }

@@ -7,6 +7,7 @@ ghost use Rattle.r6_world.specs.Steps.{Submit, No_command, Take_reply, No_reply,
 ghost use Rattle.r6_world.specs.Changes.{Accept, after, Allowed};
 ghost use Rattle.r6_frames.specs.Views.{op_of, buffer_of};
 ghost use Rattle.r6_frames.specs.Calls as frames;
+ghost use Rattle.r6_frames.specs.Calls.{IsPlaceOf};
 ghost use Rattle.r6_frames.specs.Slots.{slot_before};
 ghost use Rattle.r6_core.specs.Shards.{Step, core_of, state_of, layout_in, reply_of, buffer_back};
 ghost use Rattle.r6_core.specs.Refusals.{HasSubmitFault, IsFirstFault, HasNone, submit_faults};
@@ -19,7 +20,7 @@ use crate::refusal::{Refusal, Refused};
 use crate::reply::{OpId, Reply};
 use circular_buffer::HeapCircularBuffer;
 use r6_frames::{Command, Device, Frames, MOST_SLOTS, Op, Request};
-use r6_layout::Geometry;
+use r6_layout::{Geometry, Place};
 use std::alloc::{AllocError, Global};
 
 /// As many accepted requests whose replies were not taken.
@@ -76,32 +77,32 @@ impl State {
         })
     }
 
-    // Why a request is refused, if it is.
-    fn refusal(&self, op: &Op) -> Option<Refusal>
+    // Where the block of a request stands, or why the request is refused.
+    fn admit(&self, op: &Op) -> Result<Place, Refusal>
         requires { IsSound self.now }
-        ensures { MatchOption result
-            (HasNone (HasSubmitFault (core_of self.now) op.now) submit_faults)
-            (IsFirstFault (HasSubmitFault (core_of self.now) op.now) submit_faults) }
+        ensures right { IfOk result (λ _. HasNone (HasSubmitFault (core_of self.now) op.now) submit_faults) }
+        ensures place { IfOk result (IsPlaceOf self.now.frames.geometry op.now) }
+        ensures refused { IfErr result (IsFirstFault (HasSubmitFault (core_of self.now) op.now) submit_faults) }
     {
         let Some(place) = self.frames.geometry().place(op.block()) else {
-            return Some(Refusal::NoSuchBlock);
+            return Err(Refusal::NoSuchBlock);
         };
         if place.shard != self.frames.shard() {
-            return Some(Refusal::WrongShard);
+            return Err(Refusal::WrongShard);
         }
         if op.buffer().len() != self.frames.geometry().block() {
-            return Some(Refusal::WrongLength);
+            return Err(Refusal::WrongLength);
         }
         if self.frames.saw_failed() {
-            return Some(Refusal::ArrayFailed);
+            return Err(Refusal::ArrayFailed);
         }
         if self.frames.tokens() >= LIMIT || self.accepted >= LIMIT {
-            return Some(Refusal::Exhausted);
+            return Err(Refusal::Exhausted);
         }
         if self.unanswered >= UNANSWERED {
-            return Some(Refusal::Busy);
+            return Err(Refusal::Busy);
         }
-        None
+        Ok(place)
     }
 
     /// Takes a request, which starts if it can.
@@ -120,18 +121,20 @@ impl State {
             (after (layout_in self.old) (state_of self.old) (Accept (op_of op)))
             (self.old.waiting.items ++ (record { id = id.0; op = op }) ∷ []) (core_of self.new)) }
     {
-        if let Some(refusal) = self.refusal(&op) {
-            return Err(Refused { refusal, back: op });
-        }
+        let place = match self.admit(&op) {
+            Ok(place) => place,
+            Err(refusal) => return Err(Refused { refusal, back: op }),
+        };
         op.buffer().assure_bytes();
-        Ok(OpId(self.accept(op)))
+        Ok(OpId(self.accept(op, place)))
     }
 
     // Takes the request: it starts, if it can, and else it waits behind all others.
-    fn accept(&mut self, op: Op) -> u64
+    fn accept(&mut self, op: Op, place: Place) -> u64
         requires core { IsCore self.old }
         requires right { HasNone (HasSubmitFault (core_of self.old) op) submit_faults }
         requires sized { IsBlock (length (buffer_of op)) (buffer_of op) }
+        requires place { IsPlaceOf self.old.frames.geometry op place }
         ensures core { IsCore self.new }
         ensures id { result ≡ self.old.accepted }
         ensures allowed { Allowed (layout_in self.old) self.old.frames.shard (state_of self.old) (Accept (op_of op)) }
@@ -148,9 +151,9 @@ impl State {
         let request = Request { id, op };
         self.accepted += 1;
         self.unanswered += 1;
-        match self.frame_for(&request) {
+        match self.frame_for(place.row) {
             Some(frame) => {
-                self.frames.begin(frame, request);
+                self.frames.begin(frame, request, place);
                 self.frames.drive(frame);
             }
             None => {

@@ -104,17 +104,18 @@ all_home (b ∷ in_sync) = omega (arith, all_home in_sync)
 
 -- the row as the code makes it
 pub begun_as :
-    (fs : Frames) (request : Request) (block row index size : ℕ) (in_sync : List Bool) (job : Job) (task : RowTask) (hold : Held)
-    → block ≡ block_in request → row ≡ layout.row_of fs.geometry block → index ≡ layout.index_of fs.geometry block → size ≡ fs.geometry.block → in_sync ≡ synced fs row
+    (fs : Frames) (request : Request) (block row first index size : ℕ) (in_sync : List Bool) (job : Job) (task : RowTask) (hold : Held)
+    → block ≡ block_in request → row ≡ layout.row_of fs.geometry block → first ≡ layout.slot_at fs.geometry row 0 → index ≡ layout.index_of fs.geometry block → size ≡ fs.geometry.block → in_sync ≡ synced fs row
     → job ≡ job_for request.op → task ≡ row_task index request.op → hold ≡ begun_held size in_sync (kind_of_task task)
-    → record { row = row; id = request.id; block = block; job = job; hold = hold } ≡ begun_row fs request
-begun_as fs request block row index size in_sync job task hold block_is row_is index_is size_is sync_is job_is task_is hold_is =
+    → record { row = row; first = first; id = request.id; block = block; job = job; hold = hold } ≡ begun_row fs request
+begun_as fs request block row first index size in_sync job task hold block_is row_is first_is index_is size_is sync_is job_is task_is hold_is =
     let same_row = row_is ∙ ap (layout.row_of fs.geometry) block_is in
     let same_task = task_is ∙ ap (λ (at : ℕ). row_task at request.op) (index_is ∙ ap (layout.index_of fs.geometry) block_is) in
     let same_sync = sync_is ∙ ap (synced fs) same_row in
     let same_hold : hold ≡ begun_held fs.geometry.block (synced fs (row_of fs request)) (kind_of_task (task_in fs.geometry request)) =
     hold_is ∙ (λ i. begun_held (size_is i) (same_sync i) (kind_of_task (same_task i))) in
-    λ i. record { row = same_row i; id = request.id; block = block_is i; job = job_is i; hold = same_hold i }
+    let same_first = first_is ∙ ap (λ (r : ℕ). layout.slot_at fs.geometry r 0) same_row in
+    λ i. record { row = same_row i; first = same_first i; id = request.id; block = block_is i; job = job_is i; hold = same_hold i }
 
 -- the hold has the task of the request
 kind_is : (shape : Shape) (row id : ℕ) (o : Op) → kind_of (layout_of shape) row (task_for id o) ≡ kind_of_task (row_task (layout.index_of shape (block_of (op_of o))) o)
@@ -204,6 +205,7 @@ begun_is_held fs request shape right =
     record {
       there = right.there;
       row_is = refl;
+      first = refl;
       own = (placed.0, right.own);
       job = job_is fs.geometry request.op right.sized;
       under_way = record {

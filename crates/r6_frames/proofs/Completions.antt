@@ -1,10 +1,10 @@
 -- What the answer to a command does to the held rows and their commands.
-use Rattle.std.proofs.Common.{◌≡◌, ◌≢◌, ℕ, ◌<◌, ◌≤◌, true, false, List, [], ◌∷◌, set, refl, sym, ap, subst, ◌∙◌, Option, Some, None, inl, inr, arith, get_or-set_same, get_or-set_other}
+use Rattle.std.proofs.Common.{◌≡◌, ◌≢◌, ℕ, ◌+◌, ◌%◌, ◌<◌, true, false, List, [], ◌∷◌, set, refl, sym, ap, subst, ◌∙◌, Option, Some, None, inl, inr, arith, get_or-set_same, get_or-set_other}
 use Rattle.std.specs.Prelude.{option_map, slice_index_or}
 use Rattle.std.specs.Vec.{with_item}
 use Rattle.std.specs.FinMap as map
 use Rattle.std.proofs.lemmas.Bool.{lt-ltb}
-use Rattle.r6_layout.specs.Shape.{Shape, IsShape}
+use Rattle.r6_layout.specs.Shape.{IsShape}
 use Rattle.r6_layout.specs.Layout.{position_at}
 use Rattle.r6_layout.proofs.Roles.{position_at-lt}
 use Rattle.r6_tables.specs.Table.{Numbered, entries_of, next_of, capacity_of}
@@ -31,6 +31,7 @@ use Rattle.r6_frames.specs.Views.{hold_at, hold_of, kind_in, op_by, held_request
 use Rattle.r6_frames.specs.Calls.{Answers, IsAwaited, IsAbandoned, KeepsOthers}
 use Rattle.r6_frames.specs.Owed.{owed}
 use Rattle.r6_frames.specs.Sound.{IsSound, IsHeld, is_away_from, is_write, place_of}
+use Rattle.r6_frames.proofs.SlotsInTurn.{some_slots, position_left}
 use Rattle.r6_frames.proofs.UnderWay.{held_standing}
 use Rattle.r6_frames.proofs.HeldRows.{use_found}
 use Rattle.r6_frames.proofs.Held.{use_at_other, use_held, held_within, hold_at_own, frame_put, free_at, home_at, owed_at}
@@ -39,11 +40,8 @@ use Rattle.r6_frames.proofs.BuffersHome.{GoesOn, IsHome, live_cases, home_back, 
 
 -- ---- a command and its row
 
-some_slots : (shape : Shape) → IsShape shape → 0 < shape.slots
-some_slots shape lawful = let four : 4 ≤ shape.slots = lawful.slots_allowed.0 in omega arith
-
 pub place_within : (fs : Frames) (c : Outstanding) → IsSound fs → place_of fs c < fs.geometry.slots
-place_within fs c sound = position_at-lt fs.geometry c.row c.slot (some_slots fs.geometry sound.shape)
+place_within fs c sound = position_at-lt fs.geometry c.row c.slot (some_slots sound.shape)
 
 -- the command was taken and not abandoned, and is one of the held row
 pub record IsOut (fs : Frames) (token : ℕ) (c : Outstanding) (h : HeldRow) : Type 0 where
@@ -115,6 +113,13 @@ out_row fs token c h read sound awaited wanted there value is =
     let out = out_there fs token c read sound awaited wanted there value in
     let same : out.0 ≡ h = let both = sym out.1 ∙ is in cc in
     subst (IsOut fs token c) same out.2
+
+-- its place, as far from the row's first slot
+pub place_left : (fs : Frames) (token : ℕ) (c : Outstanding) (h : HeldRow) (position : ℕ) → IsShape fs.geometry → IsOut fs token c h → position < fs.geometry.slots
+    → (position + h.first) % fs.geometry.slots ≡ c.slot → position ≡ place_of fs c
+place_left fs token c h position shape out below is =
+    position_left fs.geometry (some_slots shape) h.row h.first position c.slot out.whole.first below is
+    ∙ ap (λ row. position_at fs.geometry row c.slot) (sym out.row)
 
 -- ---- the state
 

@@ -57,6 +57,7 @@ held_after shape shard slots h event away held may no_loss wide are =
     record {
       there = held.there;
       row_is = held.row_is;
+      first = held.first;
       own = held.own;
       job = subst (λ (k : Kind). IsJob shape h.block h.job k) (sym (kind_after hold event)) held.job;
       under_way = under_way_after shape h.hold.planned event held.under_way may;

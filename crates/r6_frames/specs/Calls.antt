@@ -5,6 +5,7 @@ use Rattle.std.specs.List.{AllByRecursion}
 use Rattle.r6_kernels.specs.Blocks.{IsBlock}
 use Rattle.r6_layout.specs.Shape.{Shape, blocks}
 use Rattle.r6_layout.specs.Layout as layout
+use Rattle.r6_layout.specs.declared.place.Place.{Place}
 use Rattle.r6_stripe.specs.Steps.{lost}
 use Rattle.r6_tables.specs.Table.{next_of}
 use Rattle.r6_world.specs.Tables.{put}
@@ -17,6 +18,7 @@ use Rattle.r6_world.specs.ShardStates as shards
 use Rattle.r6_world.specs.ShardStates.{Shard, Held, LossOf, frames, begun}
 use Rattle.r6_world.specs.Changes.{Change, Ask, Prepare, Send, Come_home, Lose, Finish, abandoned_if, taken_out, after, Allowed}
 use Rattle.r6_world.specs.Steps.{Event, No_command, Take_command, Step, Through, Takes, Good, Taken}
+use Rattle.r6_frames.specs.declared.op.Op.{Op}
 use Rattle.r6_frames.specs.declared.op.Request.{Request}
 use Rattle.r6_frames.specs.declared.command.Command.{Command}
 use Rattle.r6_frames.specs.declared.command.Outstanding.{Outstanding}
@@ -152,6 +154,12 @@ pub record IsRequestOf (fs : Frames) (request : Request) : Type 0 where
   pub there : world.block_of (op_of request.op) < blocks fs.geometry
   pub own : layout.shard_of fs.geometry (layout.row_of fs.geometry (world.block_of (op_of request.op))) ≡ fs.shard
   pub sized : IsBlock fs.geometry.block (buffer_of request.op)
+
+-- where the block of a request stands
+pub record IsPlaceOf (shape : Shape) (o : Op) (place : Place) : Type 0 where
+  pub row : place.row ≡ layout.row_of shape (world.block_of (op_of o))
+  pub index : place.index ≡ layout.index_of shape (world.block_of (op_of o))
+  pub slot : place.slot ≡ layout.slot_at shape place.row place.index
 
 -- the request's buffer is one block
 abbrev pub HasOneBlock : Shape → Request → Type 0

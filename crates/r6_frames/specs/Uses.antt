@@ -46,6 +46,7 @@ abbrev pub begun_row : Frames → Request → HeldRow
 begun_row fs request =
     record {
       row = row_of fs request;
+      first = layout.slot_at fs.geometry (row_of fs request) 0;
       id = request.id;
       block = block_in request;
       job = job_for request.op;

@@ -4,19 +4,20 @@ use Rattle.r6_world.specs.Steps.{Through, Scans}
 use Rattle.r6_world.specs.Changes.{Accept, after}
 use Rattle.r6_frames.specs.declared.op.Request.{Request}
 use Rattle.r6_frames.specs.Views.{op_of}
+use Rattle.r6_frames.specs.Calls.{NotHeldBy}
 use Rattle.r6_core.specs.Shards.{state_of, layout_in, core_of}
 use Rattle.r6_core.specs.Order.{HaveTurns}
-use Rattle.r6_core.specs.Inside.{IsCore}
+use Rattle.r6_core.specs.Inside.{IsCore, CanHold, CannotHold}
 use Rattle.r6_core.proofs.Accepting.{request_of}
 use Rattle.r6_core.proofs.Entering.{entered, waiting, waiting_settled, waits_core, waits_turns, waits_leads, starts_core, starts_leads, starts_turns}
 use Rattle.r6_core.proofs.Starting.{IsStart, begun_held, begun_numbers}
 use Rattle.r6_core.proofs.state.State.accept.Goals as goal
 
-pub frame_for-requires-clause-request : goal.frame_for-requires-clause-request
-frame_for-requires-clause-request c = request_of c.args.self.now c.args.op c.requires.right c.requires.sized c.args.self.now.accepted
-
 pub begin-requires-clause-request : goal.begin-requires-clause-request
 begin-requires-clause-request c = request_of c.args.self.now c.args.op c.requires.right c.requires.sized c.args.self.now.accepted
+
+pub begin-requires-clause-unheld : goal.begin-requires-clause-unheld
+begin-requires-clause-unheld c = subst (NotHeldBy c.args.self.now.frames) c.requires.place.row c.in-Some.ensures.2
 
 pub drive-requires-clause-held : goal.drive-requires-clause-held
 drive-requires-clause-held c = begun_held c.args.self.now.frames c.in-Some.frame (entered c.args.self.now c.args.op c.requires.core c.requires.right c.requires.sized) c.begin.new.self c.begin.ensures.begins
@@ -36,7 +37,7 @@ start :
 start c =
     record {
       items = refl;
-      can = c.in-Some.ensures;
+      can = subst (λ row. CanHold c.args.self.now.frames row c.in-Some.frame) c.requires.place.row c.in-Some.ensures;
       begins = c.begin.ensures.begins;
       begun_sound = c.begin.ensures.sound;
       begun_others = c.begin.ensures.others;
@@ -65,7 +66,7 @@ pub returns-in-Ok-clause-core : goal.returns-in-Ok-clause-core
 returns-in-Ok-clause-core c =
     let s = c.args.self.now in
     subst (λ (w : Buffer Request). IsCore (record s { accepted = s.accepted + 1; unanswered = s.unanswered + 1; waiting = w })) (sym c.in-Ok.ensures.ok)
-    (waits_core s c.args.op c.requires.core c.requires.right c.requires.sized c.in-None.ensures)
+    (waits_core s c.args.op c.requires.core c.requires.right c.requires.sized (subst (CannotHold c.args.self.now.frames) c.requires.place.row c.in-None.ensures))
 
 pub returns-in-Ok-clause-leads : goal.returns-in-Ok-clause-leads
 returns-in-Ok-clause-leads c =
@@ -80,4 +81,4 @@ returns-in-Ok-clause-turns c =
     let r = entered s c.args.op c.requires.core c.requires.right c.requires.sized in
     let from = after (layout_in s) (state_of s) (Accept (op_of c.args.op)) in
     subst (λ (w : Buffer Request). HaveTurns (core_of s) from (s.waiting.items ++ r ∷ []) (core_of (record s { accepted = s.accepted + 1; unanswered = s.unanswered + 1; waiting = w }))) (sym c.in-Ok.ensures.ok)
-    (waits_turns s c.args.op c.requires.core c.requires.right c.requires.sized c.in-None.ensures)
+    (waits_turns s c.args.op c.requires.core c.requires.right c.requires.sized (subst (CannotHold c.args.self.now.frames) c.requires.place.row c.in-None.ensures))

@@ -24,6 +24,10 @@ taken : (s : State) (from index frame : ℕ) (first : IsFirstToStart s from inde
     → (result ≡ first.request) × (queue ≡ buffer (first.before ++ first.behind) s.waiting.capacity)
 taken s from index frame first result queue takes = takes first.before first.request first.behind first.items first.at
 
+pub place-place-requires : goal.place-place-requires
+place-place-requires c =
+    first_own c.args.self.now c.requires.first.0 c.args.index c.args.frame c.requires.first.1 c.take_at-request.result (taken c.args.self.now c.requires.first.0 c.args.index c.args.frame c.requires.first.1 c.take_at-request.result c.take_at-request.new.queue c.take_at-request.ensures).0 c.requires.settled
+
 pub begin-requires-clause-live : goal.begin-requires-clause-live
 begin-requires-clause-live c = c.requires.first.1.can.0
 

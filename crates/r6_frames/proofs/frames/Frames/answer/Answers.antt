@@ -1,4 +1,4 @@
-use Rattle.std.proofs.Common.{arith, sym, ap, ◌∙◌}
+use Rattle.std.proofs.Common.{◌+◌, ◌%◌, arith, sym, ap, ◌∙◌}
 use Rattle.std.specs.Vec.{with_item}
 use Rattle.r6_stripe.specs.Steps.{is_away}
 use Rattle.r6_frames.specs.declared.frames.FrameUse.TheVariants.{Held}
@@ -6,16 +6,9 @@ use Rattle.r6_stripe.proofs.Checks.{answered_same}
 use Rattle.r6_frames.specs.Views.{kind_in}
 use Rattle.r6_frames.proofs.Held.{held_within}
 use Rattle.r6_frames.proofs.HeldRows.{job_whole}
-use Rattle.r6_frames.proofs.Completions.{Completed, out_of, out_there, out_row, completed}
+use Rattle.r6_frames.proofs.Completions.{Completed, out_of, out_there, out_row, place_left, completed}
+use Rattle.r6_frames.proofs.SlotsInTurn.{slot_below, some_slots}
 use Rattle.r6_frames.proofs.frames.Frames.answer.Goals as goal
-
-pub position_at-position-requires-clause-row_within : goal.position_at-position-requires-clause-row_within
-position_at-position-requires-clause-row_within c =
-    (c.requires.sound.commands.lawful c.args.token c.in-Some.command (sym c.remove.ensures.entry ∙ c.in-Some.is)).1.0
-
-pub position_at-position-requires-clause-slot_within : goal.position_at-position-requires-clause-slot_within
-position_at-position-requires-clause-slot_within c =
-    (c.requires.sound.commands.lawful c.args.token c.in-Some.command (sym c.remove.ensures.entry ∙ c.in-Some.is)).0
 
 pub index_mut-requires : goal.index_mut-requires
 index_mut-requires c =
@@ -29,11 +22,30 @@ unreachable-requires-in_default-index_mut c =
     let out = out_there c.args.self.now c.args.token c.in-Some.command c.index_mut.result.now c.requires.sound c.requires.awaited c.requires.wanted (sym c.remove.ensures.entry ∙ c.in-Some.is) c.index_mut.ensures.value in
     c.in_default-index_mut.not-Held out.0 out.1
 
+pub left_of-position-requires-clause-few : goal.left_of-position-requires-clause-few
+left_of-position-requires-clause-few c = let most = c.requires.sound.shape.slots_allowed.1 in omega arith
+
+pub left_of-position-requires-clause-slot : goal.left_of-position-requires-clause-slot
+left_of-position-requires-clause-slot c =
+    let below = (c.requires.sound.commands.lawful c.args.token c.in-Some.command (sym c.remove.ensures.entry ∙ c.in-Some.is)).0 in
+    omega (arith, below)
+
+pub left_of-position-requires-clause-steps : goal.left_of-position-requires-clause-steps
+left_of-position-requires-clause-steps c =
+    let out = out_row c.args.self.now c.args.token c.in-Some.command c.in-Held.held c.index_mut.result.now c.requires.sound c.requires.awaited c.requires.wanted (sym c.remove.ensures.entry ∙ c.in-Some.is) c.index_mut.ensures.value c.in-Held.is in
+    let below = slot_below c.args.self.now.geometry (some_slots c.requires.sound.shape) c.in-Held.held.row 0 in
+    let first = out.whole.first in
+    omega (arith, below, first)
+
 pub done-requires-clause-away : goal.done-requires-clause-away
 done-requires-clause-away c =
+    let fs = c.args.self.now in
+    let command = c.in-Some.command in
     let h = c.in-Held.held in
-    let out = out_row c.args.self.now c.args.token c.in-Some.command h c.index_mut.result.now c.requires.sound c.requires.awaited c.requires.wanted (sym c.remove.ensures.entry ∙ c.in-Some.is) c.index_mut.ensures.value c.in-Held.is in
-    ap (is_away h.hold) c.position_at-position.ensures.value ∙ out.away
+    let out = out_row c.args.self.now c.args.token c.in-Some.command c.in-Held.held c.index_mut.result.now c.requires.sound c.requires.awaited c.requires.wanted (sym c.remove.ensures.entry ∙ c.in-Some.is) c.index_mut.ensures.value c.in-Held.is in
+    let place = place_left fs c.args.token command h c.left_of-position.result c.requires.sound.shape out (omega (arith, c.left_of-position.ensures.within, c.slots.ensures.value))
+    (ap (λ n. (c.left_of-position.result + h.first) % n) (sym c.slots.ensures.value) ∙ c.left_of-position.ensures.right) in
+    ap (is_away h.hold) place ∙ out.away
 
 pub done-requires-clause-size : goal.done-requires-clause-size
 done-requires-clause-size c =
@@ -49,8 +61,10 @@ done c =
     let command = c.in-Some.command in
     let h = c.in-Held.held in
     let out = out_row fs c.args.token command h c.index_mut.result.now c.requires.sound c.requires.awaited c.requires.wanted (sym c.remove.ensures.entry ∙ c.in-Some.is) c.index_mut.ensures.value c.in-Held.is in
-    completed fs c.args.token command h c.args.buffer c.position_at-position.result c.done.new.self c.remove.new.self c.requires.sound out c.position_at-position.ensures.value
-    (answered_same h.hold c.done.new.self c.position_at-position.result c.args.buffer c.done.ensures.answered c.done.ensures.class (job_whole fs.geometry h.block h.job (kind_in h) out.whole.job))
+    let place = place_left fs c.args.token command h c.left_of-position.result c.requires.sound.shape out (omega (arith, c.left_of-position.ensures.within, c.slots.ensures.value))
+    (ap (λ n. (c.left_of-position.result + h.first) % n) (sym c.slots.ensures.value) ∙ c.left_of-position.ensures.right) in
+    completed fs c.args.token command h c.args.buffer c.left_of-position.result c.done.new.self c.remove.new.self c.requires.sound out place
+    (answered_same h.hold c.done.new.self c.left_of-position.result c.args.buffer c.done.ensures.answered c.done.ensures.class (job_whole fs.geometry h.block h.job (kind_in h) out.whole.job))
     c.remove.ensures.rest
 
 pub returns-clause-sound : goal.returns-clause-sound
