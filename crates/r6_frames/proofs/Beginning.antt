@@ -332,7 +332,7 @@ module _ (fs : Frames) (frame : ℕ) (request : Request) (held : Vec FrameUse Gl
       → All (IsForRow fs.geometry) spare.items
       → IsSound (with_held fs held spare)
   begun_sound one_less same_room shapes =
-      record { shape = sound.shape; shard = sound.shard; frames = frames_sound one_less same_room shapes; commands = commands_sound }
+      record { shape = sound.shape; shard = sound.shard; live = sound.live; frames = frames_sound one_less same_room shapes; commands = commands_sound }
 
   pub begins : Begins fs frame request (with_held fs held spare)
   begins =

@@ -77,6 +77,7 @@ stopped_home fs token c commands sound awaited abandoned there stopped rest =
       sound = record {
         shape = sound.shape;
         shard = sound.shard;
+        live = sound.live;
         frames = record {
           count = sound.frames.count;
           rows = sound.frames.rows;

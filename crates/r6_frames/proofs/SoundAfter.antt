@@ -62,7 +62,7 @@ module _ (fs : Frames) (frame : ℕ) (h new : HeldRow) (commands : Numbered Outs
   }
 
   pub sound_changed : IsSound fs → IsHeld fs.geometry fs.shard fs.slots new → new.row ≡ h.row → AreCommands (changed fs frame new commands) → IsSound (changed fs frame new commands)
-  sound_changed sound held same_row are = record { shape = sound.shape; shard = sound.shard; frames = frames_changed held same_row sound.frames; commands = are }
+  sound_changed sound held same_row are = record { shape = sound.shape; shard = sound.shard; live = sound.live; frames = frames_changed held same_row sound.frames; commands = are }
 
   pub owed_changed : owed_in (set fs.held.items frame (HeldIn new)) + owed_by h ≡ owed_in fs.held.items + owed_by new
   owed_changed =

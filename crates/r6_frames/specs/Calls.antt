@@ -1,5 +1,5 @@
 -- What each call of the frames does to the shard.
-use Rattle.std.specs.Prelude.{◌≡◌, ◌≢◌, ℕ, ◌<◌, ◌≤◌, Bool, true, false, List, [], ◌∷◌, ◌++◌, length, map, slice_set, Option, MatchOption, Some, None, option_map}
+use Rattle.std.specs.Prelude.{◌≡◌, ◌≢◌, ℕ, ◌<◌, ◌≤◌, Bool, true, false, List, [], ◌∷◌, ◌++◌, length, map, slice_set, Option, MatchOption, IsTrue, ◌↔◌, Some, None, option_map}
 use Rattle.std.specs.Global.{Vec}
 use Rattle.std.specs.List.{AllByRecursion}
 use Rattle.r6_kernels.specs.Blocks.{IsBlock}
@@ -28,7 +28,7 @@ use Rattle.r6_frames.specs.declared.frames.FrameUse.TheVariants as uses
 use Rattle.r6_frames.specs.declared.slots.Device.{Device}
 use Rattle.r6_frames.specs.Slots.{state_of, states_of, is_abandoned}
 use Rattle.r6_frames.specs.declared.frames.Frames.{Frames}
-use Rattle.r6_frames.specs.Views.{op_of, buffer_of, outcome_of, task_for, plan_in, use_at, hold_at, held_requests, outstanding, world_command, Rest, shard_with}
+use Rattle.r6_frames.specs.Views.{op_of, buffer_of, outcome_of, task_for, plan_in, use_at, hold_at, held_requests, outstanding, world_command, Rest, shard_with, AreLive}
 use Rattle.r6_frames.specs.Owed.{owed}
 
 -- a relation of two shards, whatever they have beside their frames
@@ -125,13 +125,19 @@ abbrev pub heard : (out : Bool) → Shape → (slot : ℕ) → FrameUse → Fram
 heard true shape slot u = u
 heard false shape slot u = told_use shape slot u
 
--- the slot has another device, and the held rows have heard of the loss of the one before
+-- the slot has another device, the held rows have heard of the loss of the one before, and whether holds go on is known
 pub record IsWithout (old : Frames) (slot : ℕ) (device : Device) (new : Frames) : Type 0 where
   pub held : Vec FrameUse
+  pub live : Bool
+  pub goes_on : IsTrue live ↔ AreLive new
   pub told : held.items ≡ map (heard (shards.is_away (states_of old.slots slot)) old.geometry slot) old.held.items
   pub same :
       new
-      ≡ record old { slots = slice_set old.slots slot (record { device = device; since = next_of old.commands }); held = held }
+      ≡ record old {
+        slots = slice_set old.slots slot (record { device = device; since = next_of old.commands });
+        live = live;
+        held = held;
+      }
 
 -- ---- rows are held
 

@@ -9,7 +9,7 @@ use Rattle.circular_buffer.specs.Buffer.{Buffer}
 use Rattle.r6_frames.specs.declared.op.Request.{Request}
 use Rattle.r6_frames.specs.declared.frames.Frames.{Frames}
 use Rattle.r6_frames.specs.Views.{AreLive}
-use Rattle.r6_core.specs.Inside.{CannotStart, HasFreed, NoCalls}
+use Rattle.r6_core.specs.Inside.{CannotStart, HasFreed, IsSettled, NoCalls}
 use Rattle.r6_core.proofs.Scanned.{none_starts}
 use Rattle.r6_core.proofs.Releasing.{empty_of_length}
 use Rattle.r6_core.specs.declared.state.State.{State}
@@ -60,6 +60,13 @@ returns-then-saw_failed-clause-order c =
     let mid = c.adopt-went_out.new.self in
     let kept : mid.frames.saw_failed ≡ s.frames.saw_failed = failed_by-takes_over c.args.snapshot.now (layout_in s) s.frames.shard (state_of s) (state_of mid) adopt.takes in
     (λ failed. absurd (no_both _ failed unfailed), λ e was. absurd (no_both _ (sym kept ∙ (sym c.saw_failed.ensures ∙ c.if-saw_failed.true)) was), λ e was. adopt.order)
+
+pub release-requires-clause-core : goal.release-requires-clause-core
+release-requires-clause-core c =
+    elim c.if-went_out.branch [
+      | then-went_out w ↦ subst IsSettled (sym w.self-is) w.settle.ensures.core
+      | else-went_out w ↦ subst IsSettled (sym (w.self-is ∙ (c.adopt-went_out.ensures.none w.if-went_out.false).0)) c.requires.settled
+    ]
 
 pub release-requires-clause-unfailed : goal.release-requires-clause-unfailed
 release-requires-clause-unfailed c =

@@ -7,10 +7,10 @@ tell-requires-clause-rows c = held_rows c.args.self.now c.requires.sound
 
 pub returns-then-not-was_out : goal.returns-then-not-was_out
 returns-then-not-was_out c =
-    has_told c.args.self.now c.args.slot c.args.device _ c.next-since.result c.is_out-was_out.result c.tell.new.held c.next-since.ensures c.is_out-was_out.ensures
+    has_told c.args.self.now c.args.slot c.args.device _ c.next-since.result c.is_out-was_out.result c.goes_on-self.result c.tell.new.held c.goes_on-self.ensures c.next-since.ensures c.is_out-was_out.ensures
     c.if-not-was_out.true c.tell.ensures.told refl
 
 pub returns-else-not-was_out : goal.returns-else-not-was_out
 returns-else-not-was_out c =
-    need_not_tell c.args.self.now c.args.slot c.args.device _ c.next-since.result c.is_out-was_out.result c.next-since.ensures c.is_out-was_out.ensures
+    need_not_tell c.args.self.now c.args.slot c.args.device _ c.next-since.result c.is_out-was_out.result c.goes_on-self.result c.goes_on-self.ensures c.next-since.ensures c.is_out-was_out.ensures
     c.if-not-was_out.false refl
