@@ -1,3 +1,4 @@
 mod RowLaws
 mod ReportLaws
 mod RebuildLaws
+mod FileLaws

@@ -1,11 +1,12 @@
 -- A slot that is rebuilt, row by row.
-use Rattle.std.proofs.Common.{◌≡◌, ◌≢◌, ◌⊎◌, ℕ, ◌+◌, ◌-◌, ◌<◌, ◌≤◌, Bool, true, false, cond, List, [], length, get_or, Option, Some, None, refl, sym, ap, subst, ◌∙◌, arith, ⊎_elim}
+use Rattle.std.proofs.Common.{◌≡◌, ◌≢◌, ◌⊎◌, ℕ, ◌+◌, ◌-◌, ◌<◌, ◌≤◌, Bool, true, false, cond, List, [], length, get_or, is_some, Option, Some, None, refl, sym, ap, subst, ◌∙◌, arith, ⊎_elim}
 use Rattle.std.specs.Prelude.{nat_eq, IfSome}
-use Rattle.std.proofs.lemmas.Bool.{cases_eq, cases_lt}
+use Rattle.std.proofs.lemmas.Bool.{cases_eq, cases_lt, false≢true}
 use Rattle.std.proofs.lemmas.Bool.Decides.{nat_tests}
 use Rattle.std.proofs.lemmas.List.{get_or_past}
 use Rattle.r6_dev.specs.History.{Block, Blocks, put}
 use Rattle.r6_dev.specs.declared.fault.Fault.{Fault}
+use Rattle.r6_dev.specs.declared.fault.Fault.TheVariants.{ReadFault}
 use Rattle.r6_layout.specs.Shape.{Shape, IsShape, data_slots}
 use Rattle.r6_layout.specs.Layout.{OwnsRow, shard_of, slot_at, position_at}
 use Rattle.r6_layout.proofs.Roles.{position_at-slot_at}
@@ -13,9 +14,10 @@ use Rattle.r6_layout.proofs.Shards.{OwnsRow-shard_of, OwnsRow-same}
 use Rattle.r6_recover.specs.Known.{IsKnown}
 use Rattle.r6_recover.specs.Restores.{BecomesFullRow, HaveSameLengths}
 use Rattle.r6_recover.specs.Rows.{block_at, block_length, IsFullRow}
-use Rattle.r6_engine.specs.Parts.{Parts, Devices, AllTell, OnlyRead}
-use Rattle.r6_engine.specs.Rows.{RowRead, Fits}
-use Rattle.r6_engine.specs.Rebuilds.{AreFullRows, devices_of, AreTelling, HoldsBelow, IsRestoredRow, PartWritten, RowRebuilt, IsRebuilt}
+use Rattle.r6_engine.specs.Parts.{Parts, Devices, AllTell, IsAbsent, OnlyRead, part_number}
+use Rattle.r6_engine.specs.Rows.{ReadFails, RowRead}
+use Rattle.r6_engine.specs.declared.row.SlotFault.{SlotFault}
+use Rattle.r6_engine.specs.Rebuilds.{AreFullRows, devices_of, AreTelling, HoldsBelow, IsRestoredRow, IsSpared, PartWritten, RebuildFails, RowRebuilt, IsRebuilt}
 use Rattle.r6_engine.proofs.RowLaws.{only_read_none, only_read_both, all_tell_still}
 
 pub restored_row : (shape : Shape) (old now : Parts) (row : ℕ) (known : List Bool) (before after : List Block)
@@ -49,7 +51,7 @@ pub record Rebuilding (shape : Shape) (target : ℕ) (begin' now targets targets
   pub only_read : OnlyRead begin' now
   pub holds :
       (full : ℕ → List Block) → AreFullRows shape full → AllTell shape begin' (devices_of shape full) → AreTelling shape targets
-      → HoldsBelow shape targets' row (devices_of shape full target)
+      → (shard : ℕ) → shard < shape.shards → HoldsBelow shape targets' shard row (devices_of shape full target)
 
 pub rebuilding_none : (shape : Shape) (target : ℕ) (parts targets : Parts) → Rebuilding shape target parts parts targets targets 0
 rebuilding_none shape target parts targets = record {
@@ -110,13 +112,49 @@ rebuilding_next shape target begin' now next targets before after row is within 
 
 pub rebuilt_at_end : (shape : Shape) (target : ℕ) (begin' now targets targets' : Parts) → Rebuilding shape target begin' now targets targets' shape.rows
     → IsRebuilt shape target begin' targets targets' (record { rows = shape.rows; fault = None })
-rebuilt_at_end shape target begin' now targets targets' all = record { rows = refl; fault = tt; holds = λ full are tell telling other. all.holds full are tell telling }
-
-pub rebuilt_at_fault : (shape : Shape) (target : ℕ) (begin' now targets before after : Parts) (row slot : ℕ) (fault : Fault)
-    → Rebuilding shape target begin' now targets before row → row < shape.rows → slot < shape.slots → (slot ≢ target → after ≡ before)
-    → IsRebuilt shape target begin' targets after (record { rows = row; fault = Some (record { row = row; slot = slot; fault = fault }) })
-rebuilt_at_fault shape target begin' now targets before after row slot fault so_far within in_slots unwritten = record {
+rebuilt_at_end shape target begin' now targets targets' all = record {
   rows = refl;
-  fault = (within, in_slots);
-  holds = λ full are tell telling other. subst (λ targets'. HoldsBelow shape targets' row (devices_of shape full target)) (sym (unwritten other)) (so_far.holds full are tell telling);
+  fault = tt;
+  holds = λ full are tell telling shard in_shards spared. all.holds full are tell telling shard in_shards;
+}
+
+pub rebuilt_at_fault : (shape : Shape) (target : ℕ) (begin' now next targets before after : Parts) (row : ℕ) (fault : SlotFault)
+    → Rebuilding shape target begin' now targets before row → row < shape.rows → RebuildFails shape target now next fault
+    → ((shard : ℕ) → IsSpared shape target shard row fault.slot → after shard ≡ before shard)
+    → IsRebuilt shape target begin' targets after (record { rows = row; fault = Some (record { row = row; slot = fault.slot; fault = fault.fault }) })
+rebuilt_at_fault shape target begin' now next targets before after row fault so_far within fails unwritten = record {
+  rows = refl;
+  fault = record { of_row = (within, fails.within); of_source = fails.of_source; of_target = fails.of_target };
+  holds = λ full are tell telling shard in_shards spared.
+      let held = so_far.holds full are tell telling shard in_shards in
+      (held.0, unwritten shard spared ∙ held.1, held.2);
+}
+
+-- ---- the target's own part isn't there
+
+pub absent_still : (shape : Shape) (target : ℕ) (old now : Parts) → OnlyRead old now → IsAbsent shape target old → IsAbsent shape target now
+absent_still shape target old now read is = λ shard within. read.there (part_number shape shard target) ∙ is shard within
+
+-- a part that failed is of another slot
+pub source_fails : (shape : Shape) (target row : ℕ) (old new : Parts) (fault : SlotFault) → IsShape shape → row < shape.rows
+    → IsAbsent shape target old → ReadFails shape old row fault → RebuildFails shape target old new fault
+source_fails shape target row old new fault is within away fails =
+    let in_shards = (OwnsRow-shard_of shape row is within).is_shard in
+    let apart : fault.slot ≢ target =
+    λ same. false≢true (sym (away (shard_of shape row) in_shards) ∙ ap (λ slot. is_some (old (part_number shape (shard_of shape row) slot))) (sym same) ∙ fails.is_there) in
+    record {
+      within = fails.within;
+      of_source = λ _. fails.of_read;
+      of_target = λ same. absurd (apart same);
+      only_read = λ same. absurd (apart same);
+    }
+
+-- the target itself failed
+pub target_fails : (shape : Shape) (target : ℕ) (old new : Parts) (fault : Fault) → target < shape.slots → OnlyRead old new → fault ≢ ReadFault
+    → RebuildFails shape target old new (record { slot = target; fault = fault })
+target_fails shape target old new fault within read other = record {
+  within = within;
+  of_source = λ apart. absurd (apart refl);
+  of_target = λ _. other;
+  only_read = λ _. read;
 }

@@ -5,16 +5,18 @@ use Rattle.std.proofs.lemmas.Bool.{cases_lt}
 use Rattle.std.proofs.lemmas.List.{length-append, get_or_append_left}
 use Rattle.std.proofs.lemmas.List.Sums.{sum_by_push}
 use Rattle.std.proofs.Math.Seq.{get_or-append_seam}
-use Rattle.r6_dev.specs.declared.fault.Fault.{Fault}
 use Rattle.r6_layout.specs.Shape.{Shape}
+use Rattle.r6_layout.specs.Layout.{shard_of}
 use Rattle.r6_recover.specs.declared.class.RowClass.{RowClass}
 use Rattle.r6_recover.specs.declared.class.RowClass.TheVariants.{Consistent, WrongP, WrongQ, WrongData, Many}
 use Rattle.r6_engine.specs.Parts.{Parts, OnlyRead, part_number}
-use Rattle.r6_engine.specs.Reports.{Finding, IsFinding, is_consistent, is_wrong_p, is_wrong_q, is_wrong_data, is_many, is_skipped, counts_of, total, with_finding, finding_at, is_wrong, NoneIsWrong, IsFirst, IsFirstWrong, with_row, rows_before, IsRowFault, AreFindings, IsReport}
+use Rattle.r6_engine.specs.Reports.{Finding, IsFinding, is_consistent, is_wrong_p, is_wrong_q, is_wrong_data, is_many, is_skipped, counts_of, total, with_finding, finding_at, is_wrong, NoneIsWrong, IsFirst, IsFirstWrong, with_row, rows_before, IsReadFault, AreFindings, IsReport}
+use Rattle.r6_engine.specs.Rows.{ReadFails}
+use Rattle.r6_engine.specs.declared.row.SlotFault.{SlotFault}
 use Rattle.r6_engine.specs.declared.report.Counts.{Counts}
 use Rattle.r6_engine.specs.declared.report.Report.{Report}
 use Rattle.r6_engine.specs.declared.report.WrongRow.{WrongRow}
-use Rattle.r6_engine.proofs.RowLaws.{only_read_both, all_tell_still}
+use Rattle.r6_engine.proofs.RowLaws.{all_tell_still}
 
 -- ---- counts
 
@@ -110,8 +112,11 @@ first_push findings None (Some Many) is = wrong_push findings Many refl is
 -- ---- the rows so far
 
 pub finding_since : (shape : Shape) (begin' now : Parts) (row : ℕ) (finding : Finding) → OnlyRead begin' now → IsFinding shape now row finding → IsFinding shape begin' row finding
-finding_since shape begin' now row None read is = (is.0, is.1, read.there _ is.2)
-finding_since shape begin' now row (Some class) read is = λ device tell. is device (all_tell_still shape begin' now device read tell)
+finding_since shape begin' now row None read is = (is.0, is.1, sym (read.there (part_number shape (shard_of shape row) is.0)) ∙ is.2)
+finding_since shape begin' now row (Some class) read is = (
+  λ slot within. sym (read.there (part_number shape (shard_of shape row) slot)) ∙ is.0 slot within,
+  λ device tell. is.1 device (all_tell_still shape begin' now device read tell),
+)
 
 are_push : (shape : Shape) (parts : Parts) (row : ℕ) (findings : List Finding) (finding : Finding) → AreFindings shape parts row findings → IsFinding shape parts row finding → AreFindings shape parts (row + 1) (findings ++ finding ∷ [])
 are_push shape parts row findings finding are is =
@@ -131,52 +136,50 @@ are_push shape parts row findings finding are is =
     }
 
 -- the rows below this one were gone over, without a fault
-pub record Checked (shape : Shape) (begin' now : Parts) (row : ℕ) (report : Report) : Type 0 where
-  pub only_read : OnlyRead begin' now
+pub record Checked (shape : Shape) (parts : Parts) (row : ℕ) (report : Report) : Type 0 where
   pub findings : List Finding
-  pub are : AreFindings shape begin' row findings
+  pub are : AreFindings shape parts row findings
   pub counts : report.counts ≡ counts_of findings
   pub first : IsFirstWrong findings report.first
   pub each_once : total report.counts ≡ row
   pub no_fault : report.fault ≡ None
 
-pub checked_next : (shape : Shape) (begin' now next : Parts) (row : ℕ) (report : Report) (finding : Finding)
-    → Checked shape begin' now row report → OnlyRead now next → IsFinding shape now row finding
-    → Checked shape begin' next (row + 1) (record report { counts = with_finding report.counts finding; first = with_row report.first row finding })
-checked_next shape begin' now next row report finding checked read is =
+pub checked_next : (shape : Shape) (parts : Parts) (row : ℕ) (report : Report) (finding : Finding)
+    → Checked shape parts row report → IsFinding shape parts row finding
+    → Checked shape parts (row + 1) (record report { counts = with_finding report.counts finding; first = with_row report.first row finding })
+checked_next shape parts row report finding checked is =
     let total' : total report.counts ≡ row = checked.each_once in
     let one = total_with report.counts finding in
     record {
-      only_read = only_read_both begin' now next checked.only_read read;
       findings = checked.findings ++ finding ∷ [];
-      are = are_push shape begin' row checked.findings finding checked.are (finding_since shape begin' now row finding checked.only_read is);
+      are = are_push shape parts row checked.findings finding checked.are is;
       counts = ap (λ c. with_finding c finding) checked.counts ∙ sym (counts_push checked.findings finding);
       first = subst (λ (r : ℕ). IsFirstWrong (checked.findings ++ finding ∷ []) (with_row report.first r finding)) checked.are.count (first_push checked.findings report.first finding checked.first);
       each_once = omega (arith, total', one);
       no_fault = checked.no_fault;
     }
 
-pub report_at_end : (shape : Shape) (begin' now : Parts) (report : Report) → Checked shape begin' now shape.rows report → IsReport shape begin' report
-report_at_end shape begin' now report checked =
+pub report_at_end : (shape : Shape) (parts : Parts) (report : Report) → Checked shape parts shape.rows report → IsReport shape parts report
+report_at_end shape parts report checked =
     let end : rows_before shape report.fault ≡ shape.rows = ap (rows_before shape) checked.no_fault in
     record {
       findings = checked.findings;
-      are = subst (λ (r : ℕ). AreFindings shape begin' r checked.findings) (sym end) checked.are;
+      are = subst (λ (r : ℕ). AreFindings shape parts r checked.findings) (sym end) checked.are;
       counts = checked.counts;
       first = checked.first;
       each_once = checked.each_once ∙ sym end;
-      fault = subst (λ fault. IfSome fault (IsRowFault shape)) (sym checked.no_fault) tt;
+      fault = subst (λ fault. IfSome fault (IsReadFault shape parts)) (sym checked.no_fault) tt;
     }
 
-pub report_at_fault : (shape : Shape) (begin' now : Parts) (row slot : ℕ) (fault : Fault) (report : Report)
-    → Checked shape begin' now row report → row < shape.rows → slot < shape.slots
-    → IsReport shape begin' (record report { fault = Some (record { row = row; slot = slot; fault = fault }) })
-report_at_fault shape begin' now row slot fault report checked within in_slots =
+pub report_at_fault : (shape : Shape) (parts : Parts) (row : ℕ) (fault : SlotFault) (report : Report)
+    → Checked shape parts row report → row < shape.rows → ReadFails shape parts row fault
+    → IsReport shape parts (record report { fault = Some (record { row = row; slot = fault.slot; fault = fault.fault }) })
+report_at_fault shape parts row fault report checked within fails =
     record {
       findings = checked.findings;
       are = checked.are;
       counts = checked.counts;
       first = checked.first;
       each_once = checked.each_once;
-      fault = (within, in_slots);
+      fault = record { of_row = (within, fails.within); is_there = fails.is_there; of_read = fails.of_read };
     }

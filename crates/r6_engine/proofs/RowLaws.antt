@@ -1,5 +1,5 @@
 -- One row of an array, read slot by slot.
-use Rattle.std.proofs.Common.{◌≡◌, ◌≢◌, ◌⊎◌, ℕ, ◌+◌, ◌*◌, ◌<◌, ◌≤◌, Bool, true, false, List, [], length, get_or, set, Option, Some, None, refl, sym, ap, subst, ◌∙◌, arith, ⊎_elim, replicate}
+use Rattle.std.proofs.Common.{◌≡◌, ◌≢◌, ◌⊎◌, ℕ, ◌+◌, ◌*◌, ◌<◌, ◌≤◌, Bool, true, false, List, [], length, get_or, set, is_some, Option, Some, None, refl, sym, ap, subst, ◌∙◌, arith, ⊎_elim, replicate}
 use Rattle.std.proofs.lemmas.Bool.{cases_eq, cases_lt, false≢true}
 use Rattle.std.proofs.lemmas.List.{get_or-set_same, get_or-set_other, get_or-replicate, get_or_past, length-set, length-replicate}
 use Rattle.r6_dev.specs.History.{Block}
@@ -10,15 +10,16 @@ use Rattle.r6_layout.proofs.Shards.{OwnsRow-shard_of}
 use Rattle.r6_recover.specs.Known.{IsKnown}
 use Rattle.r6_recover.specs.Rows.{block_at, block_length}
 use Rattle.r6_engine.specs.Parts.{Parts, Devices, TellsRows, AllTell, OnlyRead, PartRead, part_number}
-use Rattle.r6_engine.specs.Rows.{SlotRead, RowRead, marked}
+use Rattle.r6_engine.specs.Rows.{AreThere, IsRow, ReadFails, SlotRead, RowRead, marked}
+use Rattle.r6_engine.specs.declared.row.SlotFault.{SlotFault}
 
 pub only_read_none : (parts : Parts) → OnlyRead parts parts
-only_read_none parts = record { tells = λ number first end blocks tell. tell; there = λ number gone. gone }
+only_read_none parts = record { tells = λ number first end blocks tell. tell; there = λ number. refl }
 
 pub only_read_both : (old between new : Parts) → OnlyRead old between → OnlyRead between new → OnlyRead old new
 only_read_both old between new first second = record {
   tells = λ number from end blocks tell. second.tells number from end blocks (first.tells number from end blocks tell);
-  there = λ number gone. first.there number (second.there number gone);
+  there = λ number. second.there number ∙ first.there number;
 }
 
 pub all_tell_still : (shape : Shape) (old new : Parts) (device : Devices) → OnlyRead old new → AllTell shape old device → AllTell shape new device
@@ -50,7 +51,7 @@ slot_read shape old new row slot number position before after block is within in
           subst (λ (p : ℕ). block_at after p ≡ device slot row) place
           (subst (λ (blocks : List Block). block_at blocks position ≡ device slot row) (sym set_is)
           (get_or-set_same before position block [] below ∙ part_gives shape old new row slot number block device is within in_slots at read tell));
-      absent = λ off. absurd (false≢true (sym off));
+      is_there = read.is_there ∙ ap (λ (n : ℕ). is_some (old n)) at;
       others = λ other apart.
           subst (λ (blocks : List Block). block_at blocks other ≡ block_at before other) (sym set_is)
           (get_or-set_other before position other block [] (λ same. apart (same ∙ place)));
@@ -62,7 +63,7 @@ pub record SlotsRead (shape : Shape) (old now : Parts) (row count : ℕ) (known 
   pub room : length known ≡ 32
   pub unread : (slot : ℕ) → count ≤ slot → slot < shape.slots → get_or known (position_at shape row slot) false ≡ false
   pub gives : (device : Devices) → AllTell shape old device → (slot : ℕ) → slot < count → IsKnown known (position_at shape row slot) → block_at blocks (position_at shape row slot) ≡ device slot row
-  pub absent : (slot : ℕ) → slot < count → get_or known (position_at shape row slot) false ≡ false → old (part_number shape (shard_of shape row) slot) ≡ None
+  pub is_there : (slot : ℕ) → slot < count → get_or known (position_at shape row slot) false ≡ is_some (old (part_number shape (shard_of shape row) slot))
 
 none_known : (position : ℕ) → get_or (replicate 32 false) position false ≡ false
 none_known position =
@@ -77,7 +78,7 @@ slots_read_none shape parts row blocks = record {
   room = length-replicate 32 false;
   unread = λ slot _ _. none_known (position_at shape row slot);
   gives = λ device tell slot below. absurd (omega (arith, below));
-  absent = λ slot below. absurd (omega (arith, below));
+  is_there = λ slot below. absurd (omega (arith, below));
 }
 
 -- two slots of a row have two positions
@@ -90,6 +91,7 @@ slots_read_there : (shape : Shape) (old now next : Parts) (row slot : ℕ) (know
     → slot < shape.slots → shape.slots ≤ 32 → SlotsRead shape old now row slot known before → SlotRead shape now next row slot true before after
     → SlotsRead shape old next row (slot + 1) (set known (position_at shape row slot) true) after
 slots_read_there shape old now next row slot known before after in_slots few read one =
+    let number : ℕ → ℕ = part_number shape (shard_of shape row) in
     let at = position_at shape row slot in
     let some : 0 < shape.slots = omega (arith, in_slots) in
     let place : at < shape.slots = position_at-lt shape row slot some in
@@ -110,13 +112,15 @@ slots_read_there shape old now next row slot known before after in_slots few rea
           one.others (position_at shape row slot') (positions_apart shape row slot slot' in_slots within apart)
           ∙ read.gives device tell slot' less (sym (other slot' apart within) ∙ known'))
           (cases_eq slot' slot);
-      absent = λ slot' under unknown.
+      is_there = λ slot' under.
           ⊎_elim
-          (λ (same : slot' ≡ slot). absurd (false≢true (sym unknown ∙ ap (λ s. get_or (set known at true) (position_at shape row s) false) same ∙ get_or-set_same known at true false below)))
+          (λ (same : slot' ≡ slot).
+          ap (λ s. get_or (set known at true) (position_at shape row s) false) same ∙ get_or-set_same known at true false below
+          ∙ one.is_there ∙ read.only_read.there (number slot) ∙ ap (λ s. is_some (old (number s))) (sym same))
           (λ (apart : slot' ≢ slot).
           let within : slot' < shape.slots = omega (arith, under, in_slots) in
           let less : slot' < slot = omega (arith, under, apart) in
-          read.absent slot' less (sym (other slot' apart within) ∙ unknown))
+          other slot' apart within ∙ read.is_there slot' less)
           (cases_eq slot' slot);
     }
 
@@ -125,6 +129,7 @@ slots_read_absent : (shape : Shape) (old now next : Parts) (row slot : ℕ) (kno
     → slot < shape.slots → SlotsRead shape old now row slot known before → SlotRead shape now next row slot false before after
     → SlotsRead shape old next row (slot + 1) known after
 slots_read_absent shape old now next row slot known before after in_slots read one =
+    let number : ℕ → ℕ = part_number shape (shard_of shape row) in
     record {
       only_read = only_read_both old now next read.only_read one.only_read;
       room = read.room;
@@ -140,12 +145,12 @@ slots_read_absent shape old now next row slot known before after in_slots read o
           one.others (position_at shape row slot') (positions_apart shape row slot slot' in_slots within apart)
           ∙ read.gives device tell slot' less known')
           (cases_eq slot' slot);
-      absent = λ slot' under unknown.
+      is_there = λ slot' under.
           ⊎_elim
           (λ (same : slot' ≡ slot).
-          read.only_read.there (part_number shape (shard_of shape row) slot')
-          (ap (λ s. now (part_number shape (shard_of shape row) s)) same ∙ one.absent refl))
-          (λ (apart : slot' ≢ slot). read.absent slot' (omega (arith, under, apart)) unknown)
+          read.unread slot' (omega (arith, same)) (omega (arith, same, in_slots))
+          ∙ one.is_there ∙ read.only_read.there (number slot) ∙ ap (λ s. is_some (old (number s))) (sym same))
+          (λ (apart : slot' ≢ slot). read.is_there slot' (omega (arith, under, apart)))
           (cases_eq slot' slot);
     }
 
@@ -163,7 +168,26 @@ row_read shape old now row known blocks read = record {
       let back : position_at shape row (slot_at shape row position) ≡ position = position_at-slot_at shape row position within in
       subst (λ (p : ℕ). block_at blocks p ≡ device (slot_at shape row position) row) back
       (read.gives device tell (slot_at shape row position) (slot_at-lt shape row position (omega (arith, within))) (subst (λ (p : ℕ). IsKnown known p) (sym back) is));
-  absent = λ position within unknown.
+  is_there = λ position within.
       let back : position_at shape row (slot_at shape row position) ≡ position = position_at-slot_at shape row position within in
-      read.absent (slot_at shape row position) (slot_at-lt shape row position (omega (arith, within))) (subst (λ (p : ℕ). get_or known p false ≡ false) (sym back) unknown);
+      subst (λ (p : ℕ). get_or known p false ≡ is_some (old (part_number shape (shard_of shape row) (slot_at shape row position)))) back
+      (read.is_there (slot_at shape row position) (slot_at-lt shape row position (omega (arith, within))));
+}
+
+-- a fault of a read is that of a part which was there at first
+pub read_fails_since : (shape : Shape) (old now : Parts) (row : ℕ) (fault : SlotFault) → OnlyRead old now → ReadFails shape now row fault → ReadFails shape old row fault
+read_fails_since shape old now row fault read fails = record {
+  within = fails.within;
+  is_there = sym (read.there (part_number shape (shard_of shape row) fault.slot)) ∙ fails.is_there;
+  of_read = fails.of_read;
+}
+
+-- the whole row, of parts that are all there
+pub whole_row : (shape : Shape) (old now : Parts) (row : ℕ) (known : List Bool) (blocks : List Block) → length blocks ≡ shape.slots
+    → AreThere shape old row → RowRead shape old now row known blocks → (device : Devices) → AllTell shape old device → IsRow shape device row blocks
+whole_row shape old now row known blocks count there read device tell = record {
+  count = count;
+  each = λ position within.
+      read.gives device tell position within
+      (read.is_there position within ∙ there (slot_at shape row position) (slot_at-lt shape row position (omega (arith, within))));
 }

@@ -1,6 +1,9 @@
 -- The errors of the passes, by number (this project's own).
-use Rattle.std.specs.Prelude.{◌≡◌, ℕ, ⊤}
-use Rattle.r6_dev.specs.declared.fault.Fault.TheVariants.{ReadFault, WriteFault, Gone, Length}
+use Rattle.std.specs.Prelude.{◌≡◌, ℕ, ◌<◌, false, List, ⊤}
+use Rattle.r6_dev.specs.OpenErrors.{IsOpenError}
+use Rattle.r6_dev.specs.declared.fault.Fault.TheVariants.{WriteFault}
+use Rattle.r6_dev.specs.declared.file.OpenError.TheVariants as refused
+use Rattle.r6_engine.specs.Parts.{is_lost}
 use Rattle.r6_engine.specs.declared.error.EngineError.{EngineError}
 use Rattle.r6_engine.specs.declared.error.EngineError.TheVariants.{NoMemory, ThreadRefused, Device}
 
@@ -9,16 +12,15 @@ number_of NoMemory = 1
 number_of ThreadRefused = 2
 number_of (Device _ _) = 3
 
--- why the devices of an array are not opened, and why they are not made
-abbrev pub IsOpeningFault : EngineError → Type 0
-IsOpeningFault NoMemory = ⊤
-IsOpeningFault ThreadRefused = ⊥
-IsOpeningFault (Device slot ReadFault) = ⊥
-IsOpeningFault (Device slot WriteFault) = ⊥
-IsOpeningFault (Device slot Gone) = ⊤
-IsOpeningFault (Device slot Length) = ⊤
+-- why the devices of an array are not opened: that of a slot of the array, which isn't lost, can't be opened or measured, or
+-- has another length
+abbrev pub IsOpeningFault : (slots : ℕ) → (lost : List ℕ) → EngineError → Type 0
+IsOpeningFault slots lost NoMemory = ⊤
+IsOpeningFault slots lost ThreadRefused = ⊥
+IsOpeningFault slots lost (Device slot fault) = (slot < slots) × (is_lost lost slot ≡ false) × IsOpenError (refused.Device fault)
 
-abbrev pub IsMakingFault : EngineError → Type 0
-IsMakingFault NoMemory = ⊤
-IsMakingFault ThreadRefused = ⊥
-IsMakingFault (Device slot fault) = fault ≡ WriteFault
+-- and why they are not made
+abbrev pub IsMakingFault : (slots : ℕ) → EngineError → Type 0
+IsMakingFault slots NoMemory = ⊤
+IsMakingFault slots ThreadRefused = ⊥
+IsMakingFault slots (Device slot fault) = (slot < slots) × (fault ≡ WriteFault)

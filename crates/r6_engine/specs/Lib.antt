@@ -1,5 +1,5 @@
-pub mod Errors
 pub mod Parts
+pub mod Errors
 pub mod Rows
 pub mod Reports
 pub mod Rebuilds

@@ -1,12 +1,14 @@
 -- What a check of an array finds.
-use Rattle.std.specs.Prelude.{◌≡◌, ℕ, ◌+◌, ◌<◌, ◌≤◌, Bool, true, false, List, [], length, Option, Some, None, count_by, slice_index_or, IfSome}
+use Rattle.std.specs.Prelude.{◌≡◌, ◌≢◌, ℕ, ◌+◌, ◌<◌, ◌≤◌, Bool, true, false, List, [], length, Option, Some, None, is_some, count_by, slice_index_or, IfSome}
 use Rattle.r6_layout.specs.Shape.{Shape}
+use Rattle.r6_layout.specs.Layout.{shard_of}
 use Rattle.r6_recover.specs.Classes.{HasClass}
 use Rattle.r6_recover.specs.declared.class.RowClass.{RowClass}
 use Rattle.r6_recover.specs.declared.class.RowClass.TheVariants.{Consistent, WrongP, WrongQ, WrongData, Many}
 use Rattle.r6_dev.specs.History.{Block}
-use Rattle.r6_engine.specs.Parts.{Parts, Devices, AllTell}
-use Rattle.r6_engine.specs.Rows.{IsRow, HasAbsent}
+use Rattle.r6_dev.specs.declared.fault.Fault.TheVariants.{WriteFault}
+use Rattle.r6_engine.specs.Parts.{Parts, Devices, AllTell, part_number}
+use Rattle.r6_engine.specs.Rows.{IsRow, HasAbsent, AreThere}
 use Rattle.r6_engine.specs.declared.report.Counts.{Counts}
 use Rattle.r6_engine.specs.declared.report.Report.{Report}
 use Rattle.r6_engine.specs.declared.report.RowFault.{RowFault}
@@ -16,11 +18,12 @@ use Rattle.r6_engine.specs.declared.report.WrongRow.{WrongRow}
 abbrev pub Finding : Type 0
 Finding = Option RowClass
 
--- a row is skipped only if some part of it isn't there; else its class is that of the blocks that its devices have
+-- a row is skipped exactly if some part of it isn't there; else its class is that of the blocks that its devices have
 abbrev pub IsFinding : Shape → Parts → ℕ → Finding → Type 0
 IsFinding shape parts row None = HasAbsent shape parts row
 IsFinding shape parts row (Some class) =
-    (device : Devices) → AllTell shape parts device → (blocks : List Block) × IsRow shape device row blocks × HasClass blocks class
+    AreThere shape parts row
+    × ((device : Devices) → AllTell shape parts device → (blocks : List Block) × IsRow shape device row blocks × HasClass blocks class)
 
 -- ---- counts by class
 
@@ -116,6 +119,12 @@ rows_before shape (Some fault) = fault.row
 abbrev pub IsRowFault : Shape → RowFault → Type 0
 IsRowFault shape fault = (fault.row < shape.rows) × (fault.slot < shape.slots)
 
+-- the fault of a read: that of a part that is there
+pub record IsReadFault (shape : Shape) (parts : Parts) (fault : RowFault) : Type 0 where
+  pub of_row : IsRowFault shape fault
+  pub is_there : is_some (parts (part_number shape (shard_of shape fault.row) fault.slot)) ≡ true
+  pub of_read : fault.fault ≢ WriteFault
+
 -- the rows up to the end, each once, with what is found of it
 pub record AreFindings (shape : Shape) (parts : Parts) (end : ℕ) (findings : List Finding) : Type 0 where
   pub count : length findings ≡ end
@@ -128,4 +137,4 @@ pub record IsReport (shape : Shape) (parts : Parts) (report : Report) : Type 0 w
   pub counts : report.counts ≡ counts_of findings
   pub first : IsFirstWrong findings report.first
   pub each_once : total report.counts ≡ rows_before shape report.fault
-  pub fault : IfSome report.fault (IsRowFault shape)
+  pub fault : IfSome report.fault (IsReadFault shape parts)

@@ -1,12 +1,14 @@
 -- The rows of an array, read from its parts.
-use Rattle.std.specs.Prelude.{◌≡◌, ◌≢◌, ℕ, ◌<◌, Bool, true, false, List, length, None, slice_index_or, slice_set}
+use Rattle.std.specs.Prelude.{◌≡◌, ◌≢◌, ℕ, ◌<◌, Bool, true, false, List, length, is_some, slice_index_or, slice_set}
 use Rattle.r6_layout.specs.Shape.{Shape}
 use Rattle.r6_layout.specs.Layout.{shard_of, slot_at, position_at}
 use Rattle.r6_recover.specs.Known.{IsKnown}
 use Rattle.r6_recover.specs.Rows.{block_at, block_length}
 use Rattle.r6_dev.specs.History.{Block}
+use Rattle.r6_dev.specs.declared.fault.Fault.TheVariants.{WriteFault}
 use Rattle.r6_engine.specs.Parts.{Parts, Devices, AllTell, OnlyRead, part_number}
 use Rattle.r6_engine.specs.declared.row.RowReader.{RowReader}
+use Rattle.r6_engine.specs.declared.row.SlotFault.{SlotFault}
 
 -- the reader has room for a row of the array
 pub record Fits (shape : Shape) (reader : RowReader) : Type 0 where
@@ -23,7 +25,7 @@ pub record IsRow (shape : Shape) (device : Devices) (row : ℕ) (blocks : List B
 pub record SlotRead (shape : Shape) (old new : Parts) (row slot : ℕ) (there : Bool) (before after : List Block) : Type 0 where
   pub only_read : OnlyRead old new
   pub gives : there ≡ true → (device : Devices) → AllTell shape old device → block_at after (position_at shape row slot) ≡ device slot row
-  pub absent : there ≡ false → old (part_number shape (shard_of shape row) slot) ≡ None
+  pub is_there : there ≡ is_some (old (part_number shape (shard_of shape row) slot))
   pub others : (position : ℕ) → position ≢ position_at shape row slot → block_at after position ≡ block_at before position
 
 -- the known positions, with one more whose block is there
@@ -37,17 +39,19 @@ pub record RowRead (shape : Shape) (old new : Parts) (row : ℕ) (known : List B
   pub gives :
       (device : Devices) → AllTell shape old device
       → (position : ℕ) → position < shape.slots → IsKnown known position → block_at blocks position ≡ device (slot_at shape row position) row
-  pub absent :
-      (position : ℕ) → position < shape.slots → slice_index_or known position false ≡ false
-      → old (part_number shape (shard_of shape row) (slot_at shape row position)) ≡ None
+  pub is_there :
+      (position : ℕ) → position < shape.slots
+      → slice_index_or known position false ≡ is_some (old (part_number shape (shard_of shape row) (slot_at shape row position)))
 
--- some part of a row isn't there
+-- a part that is there answered a fault to the read of a row
+pub record ReadFails (shape : Shape) (parts : Parts) (row : ℕ) (fault : SlotFault) : Type 0 where
+  pub within : fault.slot < shape.slots
+  pub is_there : is_some (parts (part_number shape (shard_of shape row) fault.slot)) ≡ true
+  pub of_read : fault.fault ≢ WriteFault
+
+-- some part of a row isn't there; all of them are
 abbrev pub HasAbsent : Shape → Parts → ℕ → Type 0
-HasAbsent shape parts row = (slot : ℕ) × (slot < shape.slots) × (parts (part_number shape (shard_of shape row) slot) ≡ None)
+HasAbsent shape parts row = (slot : ℕ) × (slot < shape.slots) × (is_some (parts (part_number shape (shard_of shape row) slot)) ≡ false)
 
--- one of the first positions isn't known; all of them are
-abbrev pub HasUnknown : List Bool → ℕ → Type 0
-HasUnknown known count = (position : ℕ) × (position < count) × (slice_index_or known position false ≡ false)
-
-abbrev pub AreKnown : List Bool → ℕ → Type 0
-AreKnown known count = (position : ℕ) → position < count → IsKnown known position
+abbrev pub AreThere : Shape → Parts → ℕ → Type 0
+AreThere shape parts row = (slot : ℕ) → slot < shape.slots → is_some (parts (part_number shape (shard_of shape row) slot)) ≡ true

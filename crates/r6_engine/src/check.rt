@@ -1,9 +1,8 @@
 //! Every row of an array, classified.
 
 ghost use Rattle.std.specs.Prelude.{◌≡◌, ◌*◌, ◌<◌, ◌≤◌, ◌^◌, length, IfErr, IfOk, MatchBool, None};
-ghost use Rattle.std.specs.Bool.{OnTrue};
 ghost use Rattle.r6_engine.specs.Parts.{OnlyRead, parts_of};
-ghost use Rattle.r6_engine.specs.Rows.{AreKnown, Fits, HasAbsent, HasUnknown};
+ghost use Rattle.r6_engine.specs.Rows.{AreThere, Fits, HasAbsent, ReadFails};
 ghost use Rattle.r6_engine.specs.Reports.{IsFinding, IsReport};
 
 use crate::error::EngineError;
@@ -12,7 +11,7 @@ use crate::row::{RowReader, SlotFault};
 use crate::watch::{Unwatched, Watch};
 use r6_dev::BlockDevice;
 use r6_layout::Geometry;
-use r6_recover::{Known, RowClass, classify};
+use r6_recover::{RowClass, classify};
 use std::alloc::Global;
 
 // A pass tells how far it has come each time it has gone over so many rows.
@@ -99,15 +98,12 @@ fn find<D: BlockDevice>(
     ensures room { Fits geometry.now reader.new }
     ensures only_read { IfOk result (λ _. OnlyRead (parts_of D.told parts.old) (parts_of D.told parts.new)) }
     ensures found { IfOk result (IsFinding geometry.now (parts_of D.told parts.old) row) }
-    ensures within { IfErr result (λ fault. fault.slot < geometry.now.slots) }
+    ensures fails { IfErr result (ReadFails geometry.now (parts_of D.told parts.old) row) }
 {
     if has_absent(geometry, parts, row) {
         return Ok(None);
     }
-    let known = reader.read_row(geometry, parts, row)?;
-    if has_unknown(known, geometry.slots()) {
-        return Ok(None);
-    }
+    reader.read_row(geometry, parts, row)?;
     Ok(Some(classify(&reader.blocks)))
 }
 
@@ -115,24 +111,11 @@ fn find<D: BlockDevice>(
 fn has_absent<D: BlockDevice>(geometry: &Geometry, parts: &[Option<D>], row: u64) -> bool
     requires row_within { row < geometry.now.rows }
     requires parts { length parts.now ≡ geometry.now.shards * geometry.now.slots }
-    ensures { OnTrue result (HasAbsent geometry.now (parts_of D.told parts.now) row) }
+    ensures { MatchBool result (HasAbsent geometry.now (parts_of D.told parts.now) row) (AreThere geometry.now (parts_of D.told parts.now) row) }
 {
     let first = geometry.shard_of(row) * geometry.slots();
     for slot in 0..geometry.slots() {
         if parts[first + slot].is_none() {
-            return true;
-        }
-    }
-    false
-}
-
-// Whether one of the first `count` positions isn't known.
-fn has_unknown(known: Known, count: usize) -> bool
-    requires { count ≤ 32 }
-    ensures { MatchBool result (HasUnknown known count) (AreKnown known count) }
-{
-    for position in 0..count {
-        if !known.contains(position) {
             return true;
         }
     }

@@ -1,7 +1,9 @@
 //! The files of an array's devices, one for each slot.
 
-ghost use Rattle.std.specs.Prelude.{◌≡◌, ◌*◌, ◌<◌, length, IfErr, IfOk};
+ghost use Rattle.std.specs.Prelude.{◌≡◌, ◌+◌, ◌*◌, ◌%◌, ◌<◌, length, is_some, not, IfErr, IfOk};
+ghost use Rattle.r6_dev.specs.OpenErrors.{IsOpenError};
 ghost use Rattle.r6_engine.specs.Errors.{IsMakingFault, IsOpeningFault};
+ghost use Rattle.r6_engine.specs.Parts.{AreThoseNotLost, is_lost, parts_of, tells_nothing};
 
 use crate::error::EngineError;
 use r6_dev::{Access, DeviceSize, Fault, FileDevice, OpenError};
@@ -28,25 +30,13 @@ pub fn open_parts<F: FileExt + Seek + Drop, R: Files<File = F>>(
     access: Access,
 ) -> Result<Vec<Option<FileDevice<F>>>, EngineError>
     ensures parts { IfOk result (λ parts. length parts.items ≡ geometry.now.shards * geometry.now.slots) }
-    ensures err { IfErr result IsOpeningFault }
+    ensures absent { IfOk result (λ parts. AreThoseNotLost geometry.now lost.now (parts_of tells_nothing parts.items)) }
+    ensures err { IfErr result (IsOpeningFault geometry.now.slots lost.now) }
 {
     let count = part_count(geometry);
     let mut parts = Vec::new(alloc);
     for number in 0..count {
-        let slot = number % geometry.slots();
-        let part = if lost.contains(&(slot as u32)) {
-            None
-        } else {
-            let Some(path) = paths.get(slot) else {
-                return Err(EngineError::Device {
-                    slot,
-                    fault: Fault::Gone,
-                });
-            };
-            let shard = shard_of(geometry, number);
-            Some(open_part(files, alloc, geometry, shard, slot, path.as_str(), access)?)
-        };
-        parts.push(part)?;
+        parts.push(open_numbered(files, alloc, geometry, paths, lost, access, number)?)?;
     }
     Ok(parts)
 }
@@ -66,28 +56,55 @@ fn shard_of(geometry: &Geometry, number: usize) -> usize
     number / geometry.slots()
 }
 
-// Opens the part of a shard and a slot.
+// Opens the part with this number, if its slot isn't lost.
+fn open_numbered<F: FileExt + Seek + Drop, R: Files<File = F>>(
+    files: &R,
+    alloc: Global,
+    geometry: &Geometry,
+    paths: &[String],
+    lost: &[u32],
+    access: Access,
+    number: usize,
+) -> Result<Option<FileDevice<F>>, EngineError>
+    requires { number < geometry.now.shards * geometry.now.slots }
+    ensures absent { IfOk result (λ part. is_some part ≡ not (is_lost lost.now (number % geometry.now.slots))) }
+    ensures err { IfErr result (IsOpeningFault geometry.now.slots lost.now) }
+{
+    let slot = number % geometry.slots();
+    if lost.contains(&(slot as u32)) {
+        return Ok(None);
+    }
+    let Some(path) = paths.get(slot) else {
+        return Err(EngineError::Device {
+            slot,
+            fault: Fault::Gone,
+        });
+    };
+    let shard = shard_of(geometry, number);
+    match open_part(files, alloc, geometry, shard, path.as_str(), access) {
+        Ok(device) => Ok(Some(device)),
+        Err(OpenError::NoMemory) => Err(EngineError::NoMemory),
+        Err(OpenError::Device(fault)) => Err(EngineError::Device { slot, fault }),
+    }
+}
+
+// Opens the part of a shard.
 fn open_part<F: FileExt + Seek + Drop, R: Files<File = F>>(
     files: &R,
     alloc: Global,
     geometry: &Geometry,
     shard: usize,
-    slot: usize,
     path: &str,
     access: Access,
-) -> Result<FileDevice<F>, EngineError>
+) -> Result<FileDevice<F>, OpenError>
     requires { shard < geometry.now.shards }
-    ensures { IfErr result IsOpeningFault }
+    ensures { IfErr result IsOpenError }
 {
     let size = DeviceSize {
         rows: geometry.rows(),
         block: geometry.block(),
     };
-    match FileDevice::open(files, alloc, path, access, size, geometry.shard_rows(shard)) {
-        Ok(device) => Ok(device),
-        Err(OpenError::NoMemory) => Err(EngineError::NoMemory),
-        Err(OpenError::Device(fault)) => Err(EngineError::Device { slot, fault }),
-    }
+    FileDevice::open(files, alloc, path, access, size, geometry.shard_rows(shard))
 }
 
 /// Makes the files of an array's devices, of zeros, `rows * block` bytes each, in the order of the slots. The zeros take no
@@ -101,7 +118,7 @@ pub fn create_files<R: Files>(
     geometry: &Geometry,
     paths: &[String],
 ) -> Result<(), EngineError>
-    ensures { IfErr result IsMakingFault }
+    ensures { IfErr result (IsMakingFault (length paths.now)) }
 {
     let bytes = geometry.rows() * geometry.block() as u64;
     for (slot, path) in paths.iter().enumerate() {
@@ -112,7 +129,7 @@ pub fn create_files<R: Files>(
 
 // Makes a file of so many zeros.
 fn create_file<R: Files>(files: &R, path: &str, bytes: u64, slot: usize) -> Result<(), EngineError>
-    ensures { IfErr result IsMakingFault }
+    ensures { IfErr result (IsMakingFault (slot + 1)) }
 {
     let refused = EngineError::Device {
         slot,

@@ -17,6 +17,6 @@ mod watch;
 pub use check::{check_all, verify};
 pub use error::EngineError;
 pub use files::{create_files, open_parts};
-pub use rebuild::{Rebuilt, rebuild_all};
+pub use rebuild::{Rebuilt, is_absent, rebuild_all};
 pub use report::{Counts, Report, RowFault, WrongRow};
 pub use watch::{Unwatched, Watch};

@@ -1,6 +1,6 @@
 //! One part of a device.
 
-ghost use Rattle.std.specs.Prelude.{◌≡◌, ◌<◌, length, IfOk};
+ghost use Rattle.std.specs.Prelude.{◌≡◌, ◌≢◌, ◌<◌, true, length, is_some, slice_index_or, IfErr, IfOk, None};
 ghost use Rattle.r6_engine.specs.Parts.{PartRead, parts_of};
 
 use r6_dev::{BlockDevice, Fault};
@@ -15,6 +15,7 @@ pub(crate) fn read_part<D: BlockDevice>(
 ) -> Result<bool, Fault>
     requires { number < length parts.old }
     ensures same_length { length block.new ≡ length block.old }
+    ensures fails { IfErr result (λ fault. (is_some (slice_index_or parts.old number None) ≡ true) × (fault ≢ Fault.WriteFault)) }
     ensures read { IfOk result (λ there. PartRead (parts_of D.told parts.old) (parts_of D.told parts.new) number row there block.new) }
 {
     match &mut parts[number] {

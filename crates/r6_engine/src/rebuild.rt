@@ -1,9 +1,9 @@
 //! A lost slot, rebuilt onto new parts.
 
-ghost use Rattle.std.specs.Prelude.{◌≡◌, ◌≢◌, ◌*◌, ◌<◌, length, IfErr, IfOk, OnOk, Some};
-ghost use Rattle.r6_engine.specs.Parts.{OnlyRead, parts_of};
+ghost use Rattle.std.specs.Prelude.{◌≡◌, ◌≢◌, ◌*◌, ◌<◌, ℕ, length, IfErr, IfOk, IfSome, MatchBool, OnOk, Some};
+ghost use Rattle.r6_engine.specs.Parts.{IsAbsent, IsThere, OnlyRead, parts_of};
 ghost use Rattle.r6_engine.specs.Rows.{Fits};
-ghost use Rattle.r6_engine.specs.Rebuilds.{IsRebuilt, IsRestoredRow, PartWritten, RowRebuilt, targets_of};
+ghost use Rattle.r6_engine.specs.Rebuilds.{IsRebuilt, IsRestoredRow, IsSpared, PartWritten, RebuildFails, RowRebuilt, targets_of};
 
 use crate::error::EngineError;
 use crate::report::RowFault;
@@ -23,8 +23,23 @@ pub struct Rebuilt {
     pub fault: Option<RowFault>,
 }
 
+/// Whether no part of a slot is there.
+pub fn is_absent<D: BlockDevice>(geometry: &Geometry, parts: &[Option<D>], slot: usize) -> bool
+    requires parts { length parts.now ≡ geometry.now.shards * geometry.now.slots }
+    requires slot { slot < geometry.now.slots }
+    ensures { MatchBool result (IsAbsent geometry.now slot (parts_of D.told parts.now)) (IsThere geometry.now slot (parts_of D.told parts.now)) }
+{
+    for shard in 0..geometry.shards() {
+        if parts[shard * geometry.slots() + slot].is_some() {
+            return false;
+        }
+    }
+    true
+}
+
 /// Rebuilds a slot: computes each row from the parts that are there, and writes the target's block to its new parts, of
 /// which there is one for each shard. The first fault ends it; rows that are written stay.
+/// No part of the target may be there: [`is_absent`] tells.
 ///
 /// A row of which more than two parts aren't there can't be restored: it is the fault `Gone` of the target.
 /// All memory is taken before the first command.
@@ -40,9 +55,13 @@ pub fn rebuild_all<D: BlockDevice>(
 ) -> Result<Rebuilt, EngineError>
     requires parts { length parts.old ≡ geometry.now.shards * geometry.now.slots }
     requires target { target < geometry.now.slots }
+    requires absent { IsAbsent geometry.now target (parts_of D.told parts.old) }
     requires targets { length targets.old ≡ geometry.now.shards }
-    ensures { IfOk result (IsRebuilt geometry.now target (parts_of D.told parts.old)
+    ensures rebuilt { IfOk result (IsRebuilt geometry.now target (parts_of D.told parts.old)
         (targets_of D.told targets.old) (targets_of D.told targets.new)) }
+    ensures kept { IfOk result (λ rebuilt. IfSome rebuilt.fault (λ fault. fault.slot ≡ target)
+        → OnlyRead (parts_of D.told parts.old) (parts_of D.told parts.new)) }
+    ensures err { IfErr result (λ error. error ≡ EngineError.NoMemory) }
 {
     let mut reader = RowReader::new(alloc, geometry)?;
     Ok(rebuild_rows(geometry, parts, target, targets, &mut reader))
@@ -57,9 +76,11 @@ fn rebuild_rows<D: BlockDevice>(
 ) -> Rebuilt
     requires parts { length parts.old ≡ geometry.now.shards * geometry.now.slots }
     requires target { target < geometry.now.slots }
+    requires absent { IsAbsent geometry.now target (parts_of D.told parts.old) }
     requires targets { length targets.old ≡ geometry.now.shards }
     requires room { Fits geometry.now reader.old }
-    ensures { IsRebuilt geometry.now target (parts_of D.told parts.old) (targets_of D.told targets.old) (targets_of D.told targets.new) result }
+    ensures rebuilt { IsRebuilt geometry.now target (parts_of D.told parts.old) (targets_of D.told targets.old) (targets_of D.told targets.new) result }
+    ensures kept { IfSome result.fault (λ fault. fault.slot ≡ target) → OnlyRead (parts_of D.told parts.old) (parts_of D.told parts.new) }
 {
     for row in 0..geometry.rows() {
         match rebuild_row(geometry, parts, row, target, targets, reader) {
@@ -98,13 +119,15 @@ fn rebuild_row<D: BlockDevice>(
     requires row_within { row < geometry.now.rows }
     requires parts { length parts.old ≡ geometry.now.shards * geometry.now.slots }
     requires target { target < geometry.now.slots }
+    requires absent { IsAbsent geometry.now target (parts_of D.told parts.old) }
     requires targets { length targets.old ≡ geometry.now.shards }
     requires room { Fits geometry.now reader.old }
     ensures room { Fits geometry.now reader.new }
     ensures rebuilt { OnOk result (RowRebuilt geometry.now target row (parts_of D.told parts.old) (parts_of D.told parts.new)
         (targets_of D.told targets.old) (targets_of D.told targets.new)) }
-    ensures within { IfErr result (λ fault. fault.slot < geometry.now.slots) }
-    ensures unwritten { IfErr result (λ fault. fault.slot ≢ target → targets.new ≡ targets.old) }
+    ensures fails { IfErr result (RebuildFails geometry.now target (parts_of D.told parts.old) (parts_of D.told parts.new)) }
+    ensures unwritten { IfErr result (λ fault. (shard : ℕ) → IsSpared geometry.now target shard row fault.slot
+        → targets_of D.told targets.new shard ≡ targets_of D.told targets.old shard) }
 {
     if let Err(fault) = restore_row(geometry, parts, row, target, reader) {
         return Err(fault);
@@ -131,13 +154,17 @@ fn restore_row<D: BlockDevice>(
     requires row_within { row < geometry.now.rows }
     requires parts { length parts.old ≡ geometry.now.shards * geometry.now.slots }
     requires target { target < geometry.now.slots }
+    requires absent { IsAbsent geometry.now target (parts_of D.told parts.old) }
     requires room { Fits geometry.now reader.old }
     ensures room { Fits geometry.now reader.new }
     ensures only_read { OnOk result (OnlyRead (parts_of D.told parts.old) (parts_of D.told parts.new)) }
     ensures restored { OnOk result (IsRestoredRow geometry.now (parts_of D.told parts.old) row reader.new.blocks) }
-    ensures within { IfErr result (λ fault. fault.slot < geometry.now.slots) }
+    ensures fails { IfErr result (RebuildFails geometry.now target (parts_of D.told parts.old) (parts_of D.told parts.new)) }
 {
-    let known = reader.read_row(geometry, parts, row)?;
+    let known = match reader.read_row(geometry, parts, row) {
+        Ok(known) => known,
+        Err(fault) => return Err(fault),
+    };
     match restore(&mut reader.blocks, known) {
         Ok(()) => Ok(()),
         Err(_) => Err(SlotFault {
@@ -155,7 +182,9 @@ fn write_part<D: BlockDevice>(
     block: &Buffer,
 ) -> Result<(), Fault>
     requires { shard < length targets.old }
-    ensures { OnOk result (PartWritten (targets_of D.told targets.old) (targets_of D.told targets.new) shard row block.now) }
+    ensures written { OnOk result (PartWritten (targets_of D.told targets.old) (targets_of D.told targets.new) shard row block.now) }
+    ensures others { (other : ℕ) → other ≢ shard → targets_of D.told targets.new other ≡ targets_of D.told targets.old other }
+    ensures of_write { IfErr result (λ fault. fault ≢ Fault.ReadFault) }
 {
     targets[shard].write(row, block)
 }

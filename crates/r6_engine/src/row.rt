@@ -3,7 +3,7 @@
 ghost use Rattle.std.specs.Prelude.{◌≡◌, ◌*◌, ◌<◌, length, IfErr, IfOk};
 ghost use Rattle.r6_layout.specs.Shape.{IsShape};
 ghost use Rattle.r6_engine.specs.Parts.{parts_of};
-ghost use Rattle.r6_engine.specs.Rows.{Fits, RowRead, SlotRead, marked};
+ghost use Rattle.r6_engine.specs.Rows.{Fits, ReadFails, RowRead, SlotRead, marked};
 
 use crate::part::read_part;
 use r6_dev::{BlockDevice, Fault};
@@ -50,6 +50,7 @@ impl RowReader {
         ensures room { Fits geometry.now self.new }
         ensures read { IfOk result (λ there. SlotRead geometry.now (parts_of D.told parts.old) (parts_of D.told parts.new) row slot
             there self.old.blocks self.new.blocks) }
+        ensures fails { IfErr result (λ fault. ReadFails geometry.now (parts_of D.told parts.old) row (record { slot = slot; fault = fault })) }
     {
         let number = geometry.shard_of(row) * geometry.slots() + slot;
         let there = read_part(parts, number, row, &mut self.block)?;
@@ -72,7 +73,7 @@ impl RowReader {
         requires room { Fits geometry.now self.old }
         ensures room { Fits geometry.now self.new }
         ensures read { IfOk result (λ known. RowRead geometry.now (parts_of D.told parts.old) (parts_of D.told parts.new) row known self.new.blocks) }
-        ensures within { IfErr result (λ fault. fault.slot < geometry.now.slots) }
+        ensures fails { IfErr result (ReadFails geometry.now (parts_of D.told parts.old) row) }
         ensures limits { IsShape geometry.now }
     {
         let mut known = Known::none();

@@ -40,7 +40,7 @@ pub(crate) struct Array<'a> {
     pub(crate) shards: usize,
     pub(crate) filled: &'a [Filled],
     pub(crate) lost: &'a [usize],
-    pub(crate) broken: Option<Broken>,
+    pub(crate) broken: &'a [Broken],
 }
 
 /// All zeros.
@@ -49,7 +49,7 @@ pub(crate) fn zeros(shards: usize) -> Array<'static> {
         shards,
         filled: &[],
         lost: &[],
-        broken: None,
+        broken: &[],
     }
 }
 
@@ -84,16 +84,14 @@ impl Array<'_> {
             }
         }
         let (mut failing, mut gone_from) = (Vec::new(alloc), None);
-        if let Some(broken) = self.broken
-            && broken.slot == slot
-            && rows.start <= broken.row
-            && broken.row < rows.end
-        {
-            let command = broken.row - rows.start;
-            if broken.is_gone {
-                gone_from = Some(command);
-            } else {
-                failing.push(command)?;
+        for broken in self.broken {
+            if broken.slot == slot && rows.start <= broken.row && broken.row < rows.end {
+                let command = broken.row - rows.start;
+                if broken.is_gone {
+                    gone_from = Some(command);
+                } else {
+                    failing.push(command)?;
+                }
             }
         }
         Ok(Faulty::new(device, failing, gone_from))

@@ -136,8 +136,9 @@ fn a_fault_at_any_command_ends_the_check_at_its_row(rt: HostRuntime) -> Result<(
     for (is_gone, fault) in [(false, Fault::ReadFault), (true, Fault::Gone)] {
         for slot in 0..SLOTS {
             for row in 0..ROWS {
+                let broken = [Broken { slot, row, is_gone }];
                 let array = Array {
-                    broken: Some(Broken { slot, row, is_gone }),
+                    broken: &broken,
                     ..zeros(2)
                 };
                 let wanted = Report {
@@ -146,6 +147,34 @@ fn a_fault_at_any_command_ends_the_check_at_its_row(rt: HostRuntime) -> Result<(
                 };
                 reports(&rt, rt.alloc(), &array, &wanted)?;
             }
+        }
+    }
+    Ok(())
+}
+
+// Of two that fail in one row the lower slot is named. Those behind it aren't told to read that row.
+#[test]
+fn a_row_is_read_by_slot(rt: HostRuntime) -> Result<(), Fail> {
+    for (lower, upper) in [(0usize, 1usize), (0, 3), (1, 2), (2, 3)] {
+        let broken = [upper, lower].map(|slot| Broken {
+            slot,
+            row: 2,
+            is_gone: false,
+        });
+        let array = Array {
+            broken: &broken,
+            ..zeros(1)
+        };
+        let geometry = array.geometry()?;
+        let mut parts = array.parts(rt.alloc(), &geometry)?;
+        let report = check_all(rt.alloc(), &geometry, parts.as_mut_slice())?;
+        assert_eq!(rt;
+            report.fault.map(|fault| (fault.row, fault.slot)),
+            Some((2, lower))
+        );
+        for (slot, part) in parts.iter().enumerate() {
+            let told = part.as_ref().map(|part| part.next);
+            assert_eq!(rt; told, Some(if slot <= lower { 3 } else { 2 }));
         }
     }
     Ok(())

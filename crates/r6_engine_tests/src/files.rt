@@ -4,8 +4,8 @@ ghost use Rattle.std.specs.Prelude.{◌≡◌, ◌*◌, ◌<◌, length, IfOk};
 
 use r6_dev::{Access, BlockDevice, DeviceSize, Fault, FileDevice};
 use r6_engine::{
-    Counts, EngineError, Rebuilt, Report, RowFault, WrongRow, check_all, create_files, open_parts,
-    rebuild_all,
+    Counts, EngineError, Rebuilt, Report, RowFault, WrongRow, check_all, create_files, is_absent,
+    open_parts, rebuild_all,
 };
 use r6_kernels::Buffer;
 use r6_layout::Geometry;
@@ -252,6 +252,7 @@ fn a_slot_is_rebuilt_onto_its_file(rt: HostRuntime) -> Result<(), Fail> {
         targets.push(part_of(&rt, &geometry, shard, path, Access::ReadWrite)?)?;
     }
     assert!(rt; targets.len() == geometry.shards());
+    assert!(rt; is_absent(&geometry, parts.as_slice(), 1));
     let done = rebuild_all(
         rt.alloc(),
         &geometry,

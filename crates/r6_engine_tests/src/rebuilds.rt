@@ -4,10 +4,11 @@ ghost use Rattle.std.specs.Prelude.{◌≡◌, length, IfOk};
 
 use crate::array::{Array, Broken, Filled, Part, ROWS, SLOTS, block_of, zeros};
 use r6_dev::{BlockDevice, Fault};
-use r6_engine::{Rebuilt, RowFault, rebuild_all};
+use r6_engine::{Rebuilt, RowFault, is_absent, rebuild_all};
 use r6_kernels::Buffer;
 use r6_layout::Geometry;
 use std::alloc::Global;
+use std::process::Abort;
 use std::test::Fail;
 
 /// New parts for a slot, of this array.
@@ -39,6 +40,9 @@ fn rebuilt(
         ..*new
     };
     let mut targets = targets(alloc, &new, &geometry, 1)?;
+    if !is_absent(&geometry, parts.as_slice(), 1) {
+        return Err("a part of slot 1 is there".into());
+    }
     let done = rebuild_all(
         alloc,
         &geometry,
@@ -67,21 +71,47 @@ fn a_slot_of_zeros_is_rebuilt(rt: HostRuntime) -> Result<(), Fail> {
     Ok(())
 }
 
-// Rows 0 to 3 have in slot 1 the data blocks 0 and 1, P and Q. The other block of data is zeros in rows 0 and 1; where it
-// is 5a, in rows 2 and 3, P and Q are 5a too, as it is block 0 there.
+// Rows 0 to 3 have in slot 1 the data blocks 0 and 1, P and Q, each of 5a. The other block of data is zeros in rows 0 and 1;
+// where it is 5a, in rows 2 and 3, P and Q are 5a too, as it is block 0 there.
+const BLOCKS_OF_5A: [(u64, usize, u8); 8] = [
+    (0, 3, 0x5a),
+    (0, 0, 0x5a),
+    (1, 2, 0x5a),
+    (1, 3, 0xb4),
+    (2, 3, 0x5a),
+    (2, 2, 0x5a),
+    (3, 2, 0x5a),
+    (3, 0, 0x5a),
+];
+
+/// Slot 1 has to have 5a in the rows before this one, and zeros from it on.
+fn has_rows_before<R: Abort>(
+    rt: &R,
+    alloc: Global,
+    array: &Array<'_>,
+    targets: &mut [Part],
+    end: u64,
+) -> Result<(), Fail> {
+    let geometry = array.geometry()?;
+    let mut block = Buffer::new(alloc, geometry.block())?;
+    for row in 0..ROWS.min(geometry.rows()) {
+        let part = targets
+            .get_mut(geometry.shard_of(row))
+            .ok_or("no such part")?;
+        part.device.read(row, &mut block)?;
+        let wanted = block_of(alloc, if row < end { 0x5a } else { 0 })?;
+        assert_eq!(rt;
+            block.as_slice(),
+            wanted.as_slice(),
+            "row {row} of those before {end}"
+        );
+    }
+    Ok(())
+}
+
 #[test]
 fn each_row_gets_its_block(rt: HostRuntime) -> Result<(), Fail> {
-    let filled = [
-        (0, 3, 0x5a),
-        (0, 0, 0x5a),
-        (1, 2, 0x5a),
-        (1, 3, 0xb4),
-        (2, 3, 0x5a),
-        (2, 2, 0x5a),
-        (3, 2, 0x5a),
-        (3, 0, 0x5a),
-    ]
-    .map(|(row, slot, byte)| Filled { row, slot, byte });
+    let filled = BLOCKS_OF_5A.map(|(row, slot, byte)| Filled { row, slot, byte });
     for lost in [[1usize].as_slice(), &[1, 2], &[1, 3]] {
         for shards in [1usize, 2, 3] {
             let array = Array {
@@ -91,19 +121,35 @@ fn each_row_gets_its_block(rt: HostRuntime) -> Result<(), Fail> {
             };
             let (done, mut targets) = rebuilt(rt.alloc(), &array, &zeros(shards))?;
             assert_eq!(rt; done, ALL, "{lost:?} lost, {shards} shards");
-            let geometry = array.geometry()?;
-            let mut block = Buffer::new(rt.alloc(), geometry.block())?;
-            for row in 0..ROWS.min(geometry.rows()) {
-                let part = targets
-                    .get_mut(geometry.shard_of(row))
-                    .ok_or("no such part")?;
-                part.read(row, &mut block)?;
-                assert_eq!(rt;
-                    block.as_slice(),
-                    block_of(rt.alloc(), 0x5a)?.as_slice(),
-                    "row {row}, {lost:?} lost, {shards} shards"
-                );
-            }
+            has_rows_before(&rt, rt.alloc(), &array, targets.as_mut_slice(), ROWS)?;
+        }
+    }
+    Ok(())
+}
+
+// The failed part's device is looked at behind its plan.
+#[test]
+fn rows_stay_where_a_target_fails(rt: HostRuntime) -> Result<(), Fail> {
+    let filled = BLOCKS_OF_5A.map(|(row, slot, byte)| Filled { row, slot, byte });
+    for row in 0..ROWS {
+        for shards in [1usize, 2, 4] {
+            let array = Array {
+                filled: &filled,
+                lost: &[1],
+                ..zeros(shards)
+            };
+            let broken = [Broken {
+                slot: 1,
+                row,
+                is_gone: true,
+            }];
+            let new = Array {
+                broken: &broken,
+                ..zeros(shards)
+            };
+            let (done, mut targets) = rebuilt(rt.alloc(), &array, &new)?;
+            assert_eq!(rt; done.rows, row);
+            has_rows_before(&rt, rt.alloc(), &array, targets.as_mut_slice(), row)?;
         }
     }
     Ok(())
@@ -114,8 +160,9 @@ fn a_fault_at_any_command_ends_the_rebuild_at_its_row(rt: HostRuntime) -> Result
     for slot in 0..SLOTS {
         for row in 0..ROWS {
             for is_gone in [false, true] {
+                let one = [Broken { slot, row, is_gone }];
                 let broken = Array {
-                    broken: Some(Broken { slot, row, is_gone }),
+                    broken: &one,
                     ..zeros(2)
                 };
                 let array = Array {

@@ -1,6 +1,7 @@
 use Rattle.std.proofs.Common.{◌+◌, sym, subst}
 use Rattle.r6_engine.specs.Parts.{parts_of}
-use Rattle.r6_engine.proofs.ReportLaws.{Checked, checked_next}
+use Rattle.r6_engine.proofs.ReportLaws.{Checked, checked_next, finding_since}
+use Rattle.r6_engine.proofs.RowLaws.{only_read_both}
 use Rattle.r6_engine.proofs.check.check_rows.Goals as goal
 
 pub loop-row-preserved : goal.loop-row-preserved
@@ -11,8 +12,11 @@ loop-row-preserved g c =
     let started = parts_of told c.args.parts.now in
     let now = parts_of told c.loop-row.parts in
     let next = parts_of told c.find.new.parts in
+    let finding = c.in-Ok.finding in
     record {
       room = c.find.ensures.room;
-      checked = subst (λ report. Checked shape started next (row + 1) report) (sym c.note.ensures)
-          (checked_next shape started now next row c.loop-row.report c.in-Ok.finding c.loop-row.invariant.checked c.in-Ok.ensures.only_read c.in-Ok.ensures.found);
+      only_read = only_read_both started now next c.loop-row.invariant.only_read c.in-Ok.ensures.only_read;
+      checked = subst (λ report. Checked shape started (row + 1) report) (sym c.note.ensures)
+          (checked_next shape started row c.loop-row.report finding c.loop-row.invariant.checked
+          (finding_since shape started now row finding c.loop-row.invariant.only_read c.in-Ok.ensures.found));
     }

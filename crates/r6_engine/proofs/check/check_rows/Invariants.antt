@@ -1,4 +1,4 @@
-use Rattle.r6_engine.specs.Parts.{parts_of}
+use Rattle.r6_engine.specs.Parts.{OnlyRead, parts_of}
 use Rattle.r6_engine.specs.Rows.{Fits}
 use Rattle.r6_engine.proofs.ReportLaws.{Checked}
 use Rattle.r6_engine.proofs.check.check_rows.Given as goal
@@ -6,5 +6,6 @@ use Rattle.r6_engine.proofs.check.check_rows.Given as goal
 abbrev pub invariant-loop-row : goal.invariant-loop-row
 invariant-loop-row g l = record {
   room : Fits l.geometry l.reader;
-  checked : Checked l.geometry (parts_of g.D.BlockDevice.told l.fn.parts) (parts_of g.D.BlockDevice.told l.parts) l.row l.report;
+  only_read : OnlyRead (parts_of g.D.BlockDevice.told l.fn.parts) (parts_of g.D.BlockDevice.told l.parts);
+  checked : Checked l.geometry (parts_of g.D.BlockDevice.told l.fn.parts) l.row l.report;
 }

@@ -1,6 +1,8 @@
 use Rattle.std.proofs.Common.{◌≡◌, ℕ, ◌<◌, None, sym, ap, subst, arith}
+use Rattle.std.specs.Prelude.{IfSome}
 use Rattle.r6_engine.specs.Parts.{parts_of}
 use Rattle.r6_engine.specs.Rebuilds.{IsRebuilt, targets_of}
+use Rattle.r6_engine.proofs.RowLaws.{only_read_both}
 use Rattle.r6_engine.proofs.RebuildLaws.{Rebuilding, rebuilding_none, rebuilding_next, rebuilt_at_end, rebuilt_at_fault}
 use Rattle.r6_engine.proofs.rebuild.rebuild_rows.Goals as goal
 
@@ -12,8 +14,8 @@ loop-row-init g c =
       so_far = rebuilding_none c.args.geometry.now c.args.target (parts_of told c.args.parts.now) (targets_of told c.args.targets.now);
     }
 
-pub returns-in-Err : goal.returns-in-Err
-returns-in-Err g c =
+pub returns-in-Err-clause-rebuilt : goal.returns-in-Err-clause-rebuilt
+returns-in-Err-clause-rebuilt g c =
     let shape = c.args.geometry.now in
     let told = g.D.BlockDevice.told in
     let row = c.loop-row.row in
@@ -23,8 +25,16 @@ returns-in-Err g c =
     let after = targets_of told c.rebuild_row.new.targets in
     let within : row < shape.rows = omega (arith, c.loop-row-test.true, c.rows-row-end.ensures.value) in
     subst (IsRebuilt shape c.args.target started targets after) (sym c.ended.ensures)
-    (rebuilt_at_fault shape c.args.target started (parts_of told c.loop-row.parts) targets before after row c.in-Err.fault.slot c.in-Err.fault.fault
-    c.loop-row.invariant.so_far within c.in-Err.ensures.within (λ other. ap (targets_of told) (c.in-Err.ensures.unwritten other)))
+    (rebuilt_at_fault shape c.args.target started (parts_of told c.loop-row.parts) (parts_of told c.rebuild_row.new.parts) targets before after row c.in-Err.fault
+    c.loop-row.invariant.so_far within c.in-Err.ensures.fails c.in-Err.ensures.unwritten)
+
+pub returns-in-Err-clause-kept : goal.returns-in-Err-clause-kept
+returns-in-Err-clause-kept g c =
+    λ own.
+    let told = g.D.BlockDevice.told in
+    let now = parts_of told c.loop-row.parts in
+    only_read_both (parts_of told c.args.parts.now) now (parts_of told c.rebuild_row.new.parts) c.loop-row.invariant.so_far.only_read
+    (c.in-Err.ensures.fails.only_read (subst (λ rebuilt. IfSome rebuilt.fault (λ fault. fault.slot ≡ c.args.target)) c.ended.ensures own))
 
 pub loop-row-preserved : goal.loop-row-preserved
 loop-row-preserved g c =
@@ -39,8 +49,8 @@ loop-row-preserved g c =
           c.rows-row-end.ensures.limits within c.loop-row.invariant.so_far c.in-Ok.ensures.rebuilt;
     }
 
-pub returns : goal.returns
-returns g c =
+pub returns-clause-rebuilt : goal.returns-clause-rebuilt
+returns-clause-rebuilt g c =
     let shape = c.args.geometry.now in
     let told = g.D.BlockDevice.told in
     let started = parts_of told c.args.parts.now in

@@ -1,10 +1,17 @@
 use Rattle.r6_engine.specs.Parts.{parts_of}
-use Rattle.r6_engine.proofs.RebuildLaws.{restored_row}
+use Rattle.r6_engine.proofs.RebuildLaws.{restored_row, source_fails}
 use Rattle.r6_engine.proofs.rebuild.restore_row.Goals as goal
 
-pub returns-in-Ok-clause-restored : goal.returns-in-Ok-clause-restored
-returns-in-Ok-clause-restored g c =
+pub returns-in-Err-clause-fails : goal.returns-in-Err-clause-fails
+returns-in-Err-clause-fails g c =
     let told = g.D.BlockDevice.told in
-    let read = c.in_ok-known.ensures in
-    restored_row c.args.geometry.now (parts_of told c.args.parts.now) (parts_of told c.read_row.new.parts) c.args.row c.in_ok-known.known
-    c.read_row.new.self.blocks c.restore.new.row read.limits read.room.count read.room.long read.read c.in-Ok.ensures.restored
+    let read = c.in-Err.ensures in
+    source_fails c.args.geometry.now c.args.target c.args.row (parts_of told c.args.parts.now) (parts_of told c.read_row.new.parts) c.in-Err.fault
+    read.limits c.requires.row_within c.requires.absent read.fails
+
+pub returns-in-Ok-restore-clause-restored : goal.returns-in-Ok-restore-clause-restored
+returns-in-Ok-restore-clause-restored g c =
+    let told = g.D.BlockDevice.told in
+    let read = c.in-Ok.ensures in
+    restored_row c.args.geometry.now (parts_of told c.args.parts.now) (parts_of told c.read_row.new.parts) c.args.row c.in-Ok.known
+    c.read_row.new.self.blocks c.restore.new.row read.limits read.room.count read.room.long read.read c.in-Ok-restore.ensures.restored
