@@ -2,7 +2,7 @@
 """Checks a RAID-6 array of Linux md with `raid6 verify`. docs/MD.md tells what it does, and how to do it by hand.
 
     verify_md.py --folder NEW (--map | --copy) MEMBER..      checks the array of these members
-    verify_md.py --make NEW [--slots N] [--chunk KIB] [--rows N]      makes members to try it on
+    verify_md.py --make NEW [--version 1.0|1.1|1.2] [--slots N] [--chunk KIB] [--rows N]      makes members to try it on
 
 Each member is opened for reading alone, by `read_only`; all that is written goes to files that are made anew, in the
 folder NEW, which must not be there. With --map each member's data is a loop device of the system, read-only (losetup,
@@ -260,28 +260,36 @@ def places(stripe, slots):
     return p, (p + 1) % slots, [(p + 2 + index) % slots for index in range(slots - 2)]
 
 
-def superblock(slots, chunk, size, data_offset, number, set_uuid):
+# Sectors of a made member before its data and behind them, and where its superblock stands, by version.
+MADE = {"1.0": (0, 128, lambda sectors: sectors - 16 & ~7), "1.1": (2048, 0, lambda _: 0), "1.2": (2048, 0, lambda _: 8)}
+
+
+def superblock(slots, chunk, size, data_offset, at, number, set_uuid):
     values = dict.fromkeys(FIELDS, 0)
     values.update(magic=MAGIC, major=1, set_uuid=set_uuid, name=b"made:0", level=6, layout=LEFT_SYMMETRIC, size=size)
-    values.update(chunk=chunk, slots=slots, data_offset=data_offset, data_size=size, super_offset=8, number=number)
+    values.update(chunk=chunk, slots=slots, data_offset=data_offset, data_size=size, super_offset=at, number=number)
     values.update(device_uuid=uuid.uuid4().bytes, events=7, resync_offset=IN_SYNC, most=slots)
     roles = struct.pack(f"<{slots}H", *range(slots))
     values["checksum"] = checksum(HEAD.pack(*values.values()) + roles)
     return HEAD.pack(*values.values()) + roles
 
 
-def make(folder, slots, chunk_kib, rows):
+def make(folder, version, slots, chunk_kib, rows):
     chunk = chunk_kib * 1024 // BLOCK
     if chunk_kib * 1024 % BLOCK or not 1 <= chunk <= MOST_CHUNK or not 4 <= slots <= 32 or rows < chunk:
         raise Unfit("chunks are of 4 to 512 KiB, slots 4 to 32, and rows a chunk at least")
     rows = rows // chunk * chunk
-    data_offset, set_uuid, source = 2048, uuid.uuid4().bytes, random.Random(6)
+    set_uuid, source = uuid.uuid4().bytes, random.Random(6)
+    data_offset, behind, place = MADE[version]
+    size = rows * BLOCK // SECTOR
+    sectors = data_offset + size + behind
     os.mkdir(folder, 0o700)
     paths = [os.path.join(folder, f"member{number}") for number in range(slots)]
     files = [new_file(path) for path in paths]
     for number, file in enumerate(files):
-        block = superblock(slots, chunk_kib * 2, rows * BLOCK // SECTOR, data_offset, number, set_uuid)
-        os.pwrite(file, block, 8 * SECTOR)
+        os.ftruncate(file, sectors * SECTOR)
+        block = superblock(slots, chunk_kib * 2, size, data_offset, place(sectors), number, set_uuid)
+        os.pwrite(file, block, place(sectors) * SECTOR)
     for row in range(rows):
         p_slot, q_slot, data_slots = places(row // chunk, slots)
         data = [source.randbytes(BLOCK) for _ in data_slots]
@@ -302,13 +310,14 @@ def main():
     how.add_argument("--map", action="store_true")
     how.add_argument("--copy", action="store_true")
     parser.add_argument("--make", metavar="NEW")
+    parser.add_argument("--version", choices=sorted(MADE), default="1.2")
     parser.add_argument("--slots", type=int, default=6)
     parser.add_argument("--chunk", type=int, default=64, metavar="KIB")
     parser.add_argument("--rows", type=int, default=1024)
     words = parser.parse_args()
     try:
         if words.make:
-            return make(words.make, words.slots, words.chunk, words.rows)
+            return make(words.make, words.version, words.slots, words.chunk, words.rows)
         if not words.members or not words.folder or not (words.map or words.copy):
             parser.error("members, --folder and --map or --copy are needed")
         return verify(words.members, words.folder, words.map)
