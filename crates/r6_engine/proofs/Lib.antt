@@ -2,3 +2,4 @@ mod RowLaws
 mod ReportLaws
 mod RebuildLaws
 mod FileLaws
+mod CheckLaws

@@ -3,3 +3,4 @@ pub mod Errors
 pub mod Rows
 pub mod Reports
 pub mod Rebuilds
+pub mod RowChecks

@@ -1,18 +1,21 @@
 //! Every row of an array, classified.
 
-ghost use Rattle.std.specs.Prelude.{◌≡◌, ◌*◌, ◌<◌, ◌≤◌, ◌^◌, length, IfErr, IfOk, MatchBool, None};
+ghost use Rattle.std.specs.Prelude.{◌≡◌, ◌*◌, ◌+◌, ◌<◌, ◌≤◌, ◌^◌, length, IfErr, IfOk, None};
 ghost use Rattle.r6_engine.specs.Parts.{OnlyRead, parts_of};
-ghost use Rattle.r6_engine.specs.Rows.{AreThere, Fits, HasAbsent, ReadFails};
-ghost use Rattle.r6_engine.specs.Reports.{IsFinding, IsReport};
+ghost use Rattle.r6_engine.specs.Rows.{Fits};
+ghost use Rattle.r6_engine.specs.Reports.{IsReport};
+ghost use Rattle.r6_engine.specs.RowChecks.{AllFit};
 
+use crate::batch::{classify_batch, new_batch, read_batch};
 use crate::error::EngineError;
 use crate::report::{Report, RowFault};
-use crate::row::{RowReader, SlotFault};
-use crate::watch::{Unwatched, Watch};
+use crate::row::SlotFault;
+use crate::row_check::RowCheck;
+use crate::watch::Watch;
 use r6_dev::BlockDevice;
 use r6_layout::Geometry;
-use r6_recover::{RowClass, classify};
 use std::alloc::Global;
+use std::thread::Threads;
 
 // A pass tells how far it has come each time it has gone over so many rows.
 const ROWS_A_WORD: u64 = 16384;
@@ -34,14 +37,41 @@ pub fn check_all<D: BlockDevice>(
     ensures kept { IfOk result (λ report. report.fault ≡ None → OnlyRead (parts_of D.told parts.old) (parts_of D.told parts.new)) }
     ensures err { IfErr result (λ error. error ≡ EngineError.NoMemory) }
 {
-    verify(alloc, geometry, parts, &mut Unwatched)
+    let mut check = RowCheck::new(alloc, geometry)?;
+    Ok(check_rows(geometry, parts, &mut check))
 }
 
-/// As [`check_all`], and `watch` hears now and then how far it has come.
+fn check_rows<D: BlockDevice>(
+    geometry: &Geometry,
+    parts: &mut [Option<D>],
+    check: &mut RowCheck,
+) -> Report
+    requires parts { length parts.old ≡ geometry.now.shards * geometry.now.slots }
+    requires room { Fits geometry.now check.old.reader }
+    ensures report { IsReport geometry.now (parts_of D.told parts.old) result }
+    ensures kept { result.fault ≡ None → OnlyRead (parts_of D.told parts.old) (parts_of D.told parts.new) }
+{
+    let mut report = Report::new();
+    for row in 0..geometry.rows() {
+        if let Err(SlotFault { slot, fault }) = check.read(geometry, parts, row) {
+            report.fault = Some(RowFault { row, slot, fault });
+            return report;
+        }
+        check.classify();
+        report.note(row, check.finding);
+    }
+    report
+}
+
+/// As [`check_all`], with the same answer: rows are read in their order by the calling thread, a batch of them before each
+/// is classified, which several threads do. `watch` hears now and then how far it has come.
+///
+/// Where no thread can be started the calling one classifies alone.
 ///
 /// # Errors
 /// `NoMemory`.
-pub fn verify<D: BlockDevice, W: Watch>(
+pub fn verify<R: Threads + Sync, D: BlockDevice, W: Watch>(
+    rt: &R,
     alloc: Global,
     geometry: &Geometry,
     parts: &mut [Option<D>],
@@ -52,72 +82,55 @@ pub fn verify<D: BlockDevice, W: Watch>(
     ensures kept { IfOk result (λ report. report.fault ≡ None → OnlyRead (parts_of D.told parts.old) (parts_of D.told parts.new)) }
     ensures err { IfErr result (λ error. error ≡ EngineError.NoMemory) }
 {
-    let mut reader = RowReader::new(alloc, geometry)?;
-    let report = check_rows(geometry, parts, &mut reader, watch);
+    let mut batch = new_batch(alloc, geometry)?;
+    let report = verify_rows(rt, geometry, parts, batch.as_mut_slice(), watch);
     watch.ended();
     Ok(report)
 }
 
-fn check_rows<D: BlockDevice, W: Watch>(
+fn verify_rows<R: Threads + Sync, D: BlockDevice, W: Watch>(
+    rt: &R,
     geometry: &Geometry,
     parts: &mut [Option<D>],
-    reader: &mut RowReader,
+    batch: &mut [RowCheck],
     watch: &mut W,
 ) -> Report
     requires parts { length parts.old ≡ geometry.now.shards * geometry.now.slots }
-    requires room { Fits geometry.now reader.old }
+    requires some { 0 < length batch.old }
+    requires room { AllFit geometry.now batch.old }
     ensures report { IsReport geometry.now (parts_of D.told parts.old) result }
     ensures kept { result.fault ≡ None → OnlyRead (parts_of D.told parts.old) (parts_of D.told parts.new) }
 {
     let mut report = Report::new();
-    for row in 0..geometry.rows() {
+    let mut row = 0;
+    while row < geometry.rows() {
         if row % ROWS_A_WORD == 0 {
             watch.passed(row, geometry.rows());
         }
-        match find(geometry, parts, row, reader) {
-            Ok(finding) => report.note(row, finding),
-            Err(SlotFault { slot, fault }) => {
-                report.fault = Some(RowFault { row, slot, fault });
-                return report;
-            }
+        let count = count_of_rows(geometry, row, batch.len());
+        let read = read_batch(geometry, parts, row, count, batch);
+        classify_batch(rt, batch);
+        for index in 0..read.rows {
+            report.note(row + index as u64, batch[index].finding);
+        }
+        row += read.rows as u64;
+        if let Some(SlotFault { slot, fault }) = read.fault {
+            report.fault = Some(RowFault { row, slot, fault });
+            return report;
         }
     }
     report
 }
 
-// The class of a row, or none if it is skipped.
-fn find<D: BlockDevice>(
-    geometry: &Geometry,
-    parts: &mut [Option<D>],
-    row: u64,
-    reader: &mut RowReader,
-) -> Result<Option<RowClass>, SlotFault>
-    requires row_within { row < geometry.now.rows }
-    requires parts { length parts.old ≡ geometry.now.shards * geometry.now.slots }
-    requires room { Fits geometry.now reader.old }
-    ensures room { Fits geometry.now reader.new }
-    ensures only_read { IfOk result (λ _. OnlyRead (parts_of D.told parts.old) (parts_of D.told parts.new)) }
-    ensures found { IfOk result (IsFinding geometry.now (parts_of D.told parts.old) row) }
-    ensures fails { IfErr result (ReadFails geometry.now (parts_of D.told parts.old) row) }
+// How many rows the batch has that begins at this one: as many as there is room for, up to the next word.
+fn count_of_rows(geometry: &Geometry, row: u64, room: usize) -> usize
+    requires within { row < geometry.now.rows }
+    requires some { 0 < room }
+    ensures some { 0 < result }
+    ensures room { result ≤ room }
+    ensures within { row + result ≤ geometry.now.rows }
 {
-    if has_absent(geometry, parts, row) {
-        return Ok(None);
-    }
-    reader.read_row(geometry, parts, row)?;
-    Ok(Some(classify(&reader.blocks)))
-}
-
-// Whether some part of the row isn't there.
-fn has_absent<D: BlockDevice>(geometry: &Geometry, parts: &[Option<D>], row: u64) -> bool
-    requires row_within { row < geometry.now.rows }
-    requires parts { length parts.now ≡ geometry.now.shards * geometry.now.slots }
-    ensures { MatchBool result (HasAbsent geometry.now (parts_of D.told parts.now) row) (AreThere geometry.now (parts_of D.told parts.now) row) }
-{
-    let first = geometry.shard_of(row) * geometry.slots();
-    for slot in 0..geometry.slots() {
-        if parts[first + slot].is_none() {
-            return true;
-        }
-    }
-    false
+    let left = geometry.rows() - row;
+    let to_word = ROWS_A_WORD - row % ROWS_A_WORD;
+    left.min(to_word).min(room as u64) as usize
 }

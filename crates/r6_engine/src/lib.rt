@@ -5,6 +5,7 @@
 //! `shard * slots + slot`; one that isn't there stands for a lost slot.
 #![tactic(auto)]
 
+mod batch;
 mod check;
 mod error;
 mod files;
@@ -12,6 +13,7 @@ mod part;
 mod rebuild;
 mod report;
 mod row;
+mod row_check;
 mod watch;
 
 pub use check::{check_all, verify};

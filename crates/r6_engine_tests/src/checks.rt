@@ -7,9 +7,10 @@ use r6_recover::RowClass;
 use std::alloc::Global;
 use std::process::Abort;
 use std::test::Fail;
+use std::thread::Threads;
 
 /// Both passes have to report this.
-fn reports<R: Abort>(
+fn reports<R: Abort + Threads + Sync>(
     rt: &R,
     alloc: Global,
     array: &Array<'_>,
@@ -20,7 +21,7 @@ fn reports<R: Abort>(
     let checked = check_all(alloc, &geometry, parts.as_mut_slice())?;
     assert_eq!(rt; checked, *wanted);
     let mut parts = array.parts(alloc, &geometry)?;
-    let verified = verify(alloc, &geometry, parts.as_mut_slice(), &mut Unwatched)?;
+    let verified = verify(rt, alloc, &geometry, parts.as_mut_slice(), &mut Unwatched)?;
     assert_eq!(rt; verified, *wanted);
     Ok(())
 }
@@ -206,7 +207,13 @@ fn a_watch_hears_of_a_pass_and_of_its_end(rt: HostRuntime) -> Result<(), Fail> {
         passed: 0,
         ended: 0,
     };
-    verify(rt.alloc(), &geometry, parts.as_mut_slice(), &mut heard)?;
+    verify(
+        &rt,
+        rt.alloc(),
+        &geometry,
+        parts.as_mut_slice(),
+        &mut heard,
+    )?;
     assert_eq!(rt; (heard.passed, heard.ended), (1, 1));
     Ok(())
 }

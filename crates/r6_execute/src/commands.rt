@@ -19,6 +19,7 @@ use std::io::{Read, Seek, Write};
 use std::os::unix::fs::FileExt;
 use std::rt::Files;
 use std::sync::Wait;
+use std::thread::Threads;
 
 // Prints the layout of an array.
 fn print_geometry<S: Read, W: Write>(
@@ -64,7 +65,7 @@ fn carry_out<F, R, S, T, W, E>(
 ) -> Result<Ending, Fault>
 where
     F: FileExt + Seek + Drop,
-    R: Wait + Files<File = F>,
+    R: Wait + Threads + Files<File = F> + Sync,
     S: Read,
     T: Read,
     W: Write,
@@ -105,7 +106,7 @@ pub fn execute<F, R, S, T, W, E>(
 ) -> u8
 where
     F: FileExt + Seek + Drop,
-    R: Wait + Files<File = F>,
+    R: Wait + Threads + Files<File = F> + Sync,
     S: Read,
     T: Read,
     W: Write,

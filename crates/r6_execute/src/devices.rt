@@ -18,6 +18,7 @@ use std::fmt::Write as _;
 use std::io::{Read, Seek, Write};
 use std::os::unix::fs::FileExt;
 use std::rt::Files;
+use std::thread::Threads;
 
 // What `create` prints.
 fn created(alloc: Global, geometry: &Geometry) -> Result<String, AllocError>
@@ -62,28 +63,34 @@ fn print_report<W: Write>(
     Ok(Ending::of_report(report))
 }
 
-/// Reads every row of the devices of the settings, and prints how many rows have each class. The devices are opened for
-/// reading alone.
-pub(crate) fn verify<F: FileExt + Seek + Drop, R: Files<File = F>, S: Read, W: Write, E: Write>(
-    files: &R,
+/// Reads every row of the devices of the settings, classifies it in one of several threads, and prints how many rows have
+/// each class. The devices are opened for reading alone.
+pub(crate) fn verify<F, R, S, W, E>(
+    rt: &R,
     alloc: Global,
     settings: &mut S,
     out: &mut W,
     err: &mut ErrorOutput<E>,
 ) -> Result<Ending, Fault>
+where
+    F: FileExt + Seek + Drop,
+    R: Files<File = F> + Threads + Sync,
+    S: Read,
+    W: Write,
+    E: Write,
     ensures ok { IfOk result (HasVerified (S.remaining settings.old) (W.contents out.old) (W.contents out.new)) }
     ensures err { IfErr result (StopsVerify (S.remaining settings.old) (W.contents out.old) (W.contents out.new)) }
 {
     let config = read_settings(alloc, settings, true)?;
     let mut parts = open_parts(
-        files,
+        rt,
         alloc,
         &config.geometry,
         config.devices.as_slice(),
         config.lost.as_slice(),
         Access::Read,
     )?;
-    let report = r6_engine::verify(alloc, &config.geometry, parts.as_mut_slice(), err)?;
+    let report = r6_engine::verify(rt, alloc, &config.geometry, parts.as_mut_slice(), err)?;
     match report.fault {
         Some(met) => Err(Fault::Device(met.slot, met.fault)),
         None => print_report(alloc, &config.geometry, &report, out),

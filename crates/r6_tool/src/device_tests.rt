@@ -129,7 +129,8 @@ fn files_that_do_not_serve_are_refused(rt: HostRuntime) -> Result<(), Fail> {
         text,
         ("", "device 0 fault 2\n", 4),
     );
-    for (length, line) in [(0usize, "device 3 fault 4\n"), (63, "device 3 fault 4\n")] {
+    let line = "device 3 fault 4\n";
+    for length in [0usize, 63, 65] {
         let bytes = vec![in rt.alloc(); 0u8; length]?;
         fs::write(&rt, path_of(&rt, "refused", 3)?.as_str(), bytes.as_slice())?;
         ends(&rt, rt.alloc(), &VERIFY, text, ("", line, 4));

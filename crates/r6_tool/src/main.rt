@@ -14,6 +14,7 @@ use std::io::{self, ErrorKind, IsTerminal, Read};
 use std::process::ExitCode;
 use std::rt::Files;
 use std::sync::Wait;
+use std::thread::Threads;
 
 /// A file that a command reads. One that can't be opened fails at every read, and so does one that the
 /// command does not name.
@@ -74,8 +75,8 @@ fn explained(rt: &HostRuntime, error: &Error) -> u8
     }
 }
 
-// `waits` is the right to wait, which `main` has.
-fn perform<R: Wait + Files<File = File>>(
+// `waits` is the right to wait and to start threads, which `main` has.
+fn perform<R: Wait + Threads + Files<File = File> + Sync>(
     rt: &HostRuntime,
     waits: &R,
     invocation: &Invocation<'_>,
@@ -97,7 +98,7 @@ fn perform<R: Wait + Files<File = File>>(
     )
 }
 
-fn status<R: Wait + Files<File = File>>(rt: &HostRuntime, waits: &R) -> u8 {
+fn status<R: Wait + Threads + Files<File = File> + Sync>(rt: &HostRuntime, waits: &R) -> u8 {
     let words: Vec<String> = match std::env::args(rt) {
         Ok(words) => match words.collect(rt.alloc()) {
             Ok(words) => words,

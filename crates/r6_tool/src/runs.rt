@@ -8,6 +8,7 @@ use std::os::unix::fs::FileExt;
 use std::process::Abort;
 use std::rt::Files;
 use std::sync::Wait;
+use std::thread::Threads;
 
 /// What a command prints, what it says of a fault, and its status.
 pub(crate) type Ended<'a> = (&'a str, &'a str, u8);
@@ -56,7 +57,7 @@ impl Write for Full {
 }
 
 /// A command whose file has this text has to end so.
-pub(crate) fn ends<F: FileExt + Seek + Drop, R: Abort + Wait + Files<File = F>>(
+pub(crate) fn ends<F: FileExt + Seek + Drop, R: Abort + Wait + Threads + Files<File = F> + Sync>(
     rt: &R,
     alloc: Global,
     invocation: &Invocation<'_>,
@@ -81,7 +82,7 @@ pub(crate) fn ends<F: FileExt + Seek + Drop, R: Abort + Wait + Files<File = F>>(
 }
 
 /// A command whose file fails behind this text has to print nothing, and to end so.
-pub(crate) fn ends_unread<F: FileExt + Seek + Drop, R: Abort + Wait + Files<File = F>>(
+pub(crate) fn ends_unread<F: FileExt + Seek + Drop, R: Abort + Wait + Threads + Files<File = F> + Sync>(
     rt: &R,
     alloc: Global,
     invocation: &Invocation<'_>,
@@ -107,7 +108,7 @@ pub(crate) fn ends_unread<F: FileExt + Seek + Drop, R: Abort + Wait + Files<File
 }
 
 /// A command whose output takes so many bytes has to say so, and to end with 4, where standard error refuses too.
-pub(crate) fn ends_unwritten<F: FileExt + Seek + Drop, R: Abort + Wait + Files<File = F>>(
+pub(crate) fn ends_unwritten<F: FileExt + Seek + Drop, R: Abort + Wait + Threads + Files<File = F> + Sync>(
     rt: &R,
     alloc: Global,
     invocation: &Invocation<'_>,

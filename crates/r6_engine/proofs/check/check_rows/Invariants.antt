@@ -5,7 +5,7 @@ use Rattle.r6_engine.proofs.check.check_rows.Given as goal
 
 abbrev pub invariant-loop-row : goal.invariant-loop-row
 invariant-loop-row g l = record {
-  room : Fits l.geometry l.reader;
+  room : Fits l.geometry l.check.reader;
   only_read : OnlyRead (parts_of g.D.BlockDevice.told l.fn.parts) (parts_of g.D.BlockDevice.told l.parts);
   checked : Checked l.geometry (parts_of g.D.BlockDevice.told l.fn.parts) l.row l.report;
 }

@@ -1,7 +1,7 @@
 use Rattle.std.proofs.Common.{◌≡◌, ℕ, ◌<◌, true, is_some}
 use Rattle.r6_layout.specs.Layout.{shard_of}
 use Rattle.r6_engine.specs.Parts.{part_number, parts_of}
-use Rattle.r6_engine.proofs.check.has_absent.Given as goal
+use Rattle.r6_engine.proofs.row_check.has_absent.Given as goal
 
 abbrev pub invariant-loop-slot : goal.invariant-loop-slot
 invariant-loop-slot g l =
