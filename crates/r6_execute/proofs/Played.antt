@@ -1,12 +1,20 @@
--- A script that was played.
-use Rattle.std.proofs.Common.{◌≢◌, ℕ, List, Option, None, IfSome}
-use Rattle.r6_script.specs.Script.{Said, Say, lines_of}
-use Rattle.r6_simulate.specs.declared.simulation.Ending as play
-use Rattle.r6_simulate.specs.declared.simulation.Ending.TheVariants.{InService, Failed}
-use Rattle.r6_execute.specs.Commands.{HasPlayed}
-use Rattle.r6_execute.specs.Status.{ending_of}
+-- A script that was played, while its writer keeps what it holds.
+use Rattle.std.proofs.Common.{List, ℕ, Option, refl}
+use Rattle.std.specs.Io.KnownBytes.{Keeps}
+use Rattle.r6_layout.specs.Shape.{Shape}
+use Rattle.r6_script.specs.declared.script.Event.{Event}
+use Rattle.r6_simulate.specs.Plays.{HasPlayed}
+use Rattle.r6_simulate.specs.declared.simulation.Ending.{Ending}
+use Rattle.r6_execute.proofs.Writes.{appends_kept}
 
--- one with events may end either way
-pub played : (text old new : Option (List ℕ)) (said : Said) → IfSome text (λ t. Say (lines_of t) said) → said ≢ None → (end : play.Ending) → HasPlayed text old new (ending_of end)
-played text old new said say some InService = (said, say, λ none. absurd (some none))
-played text old new said say some Failed = (said, say, some)
+pub played_kept : (shape : Shape) (events : List Event) (end : Ending) (old mid new : Option (List ℕ)) → HasPlayed shape events old end mid
+    → Keeps mid new → HasPlayed shape events old end new
+played_kept shape events end old mid new played kept = record {
+  first = played.first;
+  begins = played.begins;
+  last = played.last;
+  lines = played.lines;
+  course = played.course;
+  ends = played.ends;
+  writes = appends_kept old mid new _ _ refl played.writes kept;
+}

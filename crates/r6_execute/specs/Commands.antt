@@ -1,6 +1,6 @@
 -- How a command ends, over the text of its settings file and that of its script where these are known. The
 -- commands are this project's own.
-use Rattle.std.specs.Prelude.{◌≡◌, ◌≢◌, ◌⊎◌, ℕ, Bool, true, false, List, codes, Option, None, Ok, Err, IfSome}
+use Rattle.std.specs.Prelude.{◌≡◌, ◌≢◌, ◌⊎◌, ℕ, Bool, true, false, List, codes, Option, None, Some, Ok, Err, IfSome}
 use Rattle.std.specs.Io.KnownBytes.{Appends, Keeps}
 use Rattle.r6_command.specs.CommandLine.{Asked, geometry, create, verify, simulate, run}
 use Rattle.r6_dev.specs.declared.fault.Fault.TheVariants.{WriteFault}
@@ -18,7 +18,9 @@ use Rattle.r6_execute.specs.declared.fault.Fault.TheVariants.{NotBuilt, Unreadab
 use Rattle.r6_execute.specs.declared.fault.Input.TheVariants as input
 use Rattle.r6_execute.specs.Layouts.{layout_text}
 use Rattle.r6_execute.specs.Reports.{created_text, report_text}
-use Rattle.r6_execute.specs.Status.{ending_of_report}
+use Rattle.r6_execute.specs.Status.{ending_of, ending_of_report}
+use Rattle.r6_simulate.specs.Plays as plays
+use Rattle.r6_simulate.specs.declared.simulation.Ending as simulation
 
 abbrev pub Text : Type 0
 Text = List ℕ
@@ -70,13 +72,16 @@ abbrev pub HasPrinted : (settings_text old new : Option Text) → Type 0
 HasPrinted settings_text old new = (values : Values)
     × IfSome settings_text (λ text. settings_in false text ≡ Ok values) × Appends old new (layout_text values.shape)
 
--- the script was played; one without events prints nothing, and its array can't have failed
+-- what a script says was played, which ends as its array does; one without events prints nothing
+abbrev pub Plays : Said → (old new : Option Text) → Ending → Type 0
+Plays None old new end = (end ≡ ending.Good) × Keeps old new
+Plays (Some said) old new end =
+    (played : simulation.Ending) × (end ≡ ending_of played) × plays.HasPlayed said.0 said.1 old played new
+
+-- the script was played
 abbrev pub HasPlayed : (script_text old new : Option Text) → Ending → Type 0
-HasPlayed script_text old new ending.Good = (said : Said)
-    × IfSome script_text (λ text. Say (lines_of text) said) × (said ≡ None → Keeps old new)
-HasPlayed script_text old new ending.Failed = (said : Said)
-    × IfSome script_text (λ text. Say (lines_of text) said) × (said ≢ None)
-HasPlayed script_text old new ending.Wrong = ⊥
+HasPlayed script_text old new end =
+    (said : Said) × IfSome script_text (λ text. Say (lines_of text) said) × Plays said old new end
 
 -- the device files of the settings were made
 abbrev pub HasCreated : (settings_text old new : Option Text) → Type 0

@@ -1,5 +1,7 @@
+pub mod Adding
 pub mod Courses
+pub mod Filling
 pub mod Passing
 pub mod Performing
+pub mod Places
 pub mod PutOut
-pub mod WholeLemmas

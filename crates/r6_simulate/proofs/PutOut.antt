@@ -9,7 +9,7 @@ use Rattle.r6_core.specs.declared.reply.OpId.{OpId}
 use Rattle.r6_core.specs.declared.reply.Reply.{Reply}
 use Rattle.r6_simulate.specs.declared.shard.InFlight.{InFlight}
 use Rattle.r6_simulate.specs.declared.shard.Shard.{Shard}
-use Rattle.r6_simulate.specs.AtShards.{KeepsFlight, HandsReplies, HandsCommands, PutsReplies, TakesCommands, taken}
+use Rattle.r6_simulate.specs.AtShards.{KeepsFlight, HandsReplies, HandsCommands, TakesReplies, TakesCommands, taken}
 use Rattle.r6_simulate.specs.Lines.{reply_text, command_text}
 
 one_more_reply : (old middle new : CoreView) (replies : List (OpId × Reply)) (r : OpId × Reply) → HandsReplies old replies middle → HandsReply middle (r.0).0 r.1 new
@@ -29,9 +29,9 @@ printed_more : {A : Type 0} (text_of : A → List ℕ) (items : List A) (item : 
 printed_more text_of items item text before after was now =
     now ∙ ap (λ t. t ++ text_of item) was ∙ flat_map_more text_of text items item
 
-pub puts_reply : (old middle new : Shard) (text before after : List ℕ) (r : OpId × Reply) → PutsReplies old text middle before
+pub puts_reply : (old middle new : Shard) (text before after : List ℕ) (r : OpId × Reply) → TakesReplies old text middle before
     → HandsReply middle.core (r.0).0 r.1 new.core → KeepsFlight middle new → after ≡ before ++ reply_text middle.number (r.0).0 r.1
-    → PutsReplies old text new after
+    → TakesReplies old text new after
 puts_reply old middle new text before after r puts step kept printed =
     record {
       replies = puts.replies ++ r ∷ [];

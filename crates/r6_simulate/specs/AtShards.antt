@@ -1,8 +1,8 @@
--- What an event does at a shard of an array in memory: which call of its core was made, and what came of it. This is the
--- project's own.
+-- What an event does at a shard of an array in memory: which call of its core was made, and what came of it. This is
+-- the project's own.
 use Rattle.std.specs.Prelude.{◌≡◌, ◌≢◌, ℕ, ◌==◌, ◌&&◌, not, ◌++◌, ◌⊎◌, Bool, true, false, List, [], ◌∷◌, map, remove, replicate, slice_set, Option, Some, None, Result, Ok, Err}
 use Rattle.std.specs.List.{list_any, position}
-use Rattle.r6_core.specs.Effects.{Accepts, RefusesOp, Receives, RefusesCompletion, LooksAt, RefusesLook, HandsCommand, HandsCall, Hears, RefusesAnswer, HandsReply}
+use Rattle.r6_core.specs.Effects.{Accepts, RefusesOp, Receives, RefusesCompletion, LooksAt, RefusesLook, HandsCommand, HandsCall, Hears, RefusesAnswer, HandsReply, HandsNoReply}
 use Rattle.r6_core.specs.Shards.{CoreView, Step, call_of}
 use Rattle.r6_core.specs.declared.call.Call.{Call as RegisterCall}
 use Rattle.r6_core.specs.declared.reply.OpId.{OpId}
@@ -62,10 +62,12 @@ pub record Submits (op : Op) (old : Shard) (outcome : Outcome) (new : Shard) : T
 -- the core takes a completion, or refuses it
 abbrev pub DeliversTo : CoreView → (token : ℕ) → Result (List ℕ) DeviceFault → Outcome → CoreView → Type 0
 DeliversTo old token done (Received receipt) new = Receives old token done receipt new
-DeliversTo old token done (Refused refusal) new = (back : Result (List ℕ) DeviceFault) × RefusesCompletion old token done refusal back new
+DeliversTo old token done (Refused refusal) new =
+    (back : Result (List ℕ) DeviceFault) × RefusesCompletion old token done refusal back new
 DeliversTo old token done _ new = ⊥
 
-pub record Delivers (token : ℕ) (done : Result (List ℕ) DeviceFault) (old : Shard) (outcome : Outcome) (new : Shard) : Type 0 where
+pub record Delivers (token : ℕ) (done : Result (List ℕ) DeviceFault) (old : Shard) (outcome : Outcome) (new : Shard)
+    : Type 0 where
   pub core : DeliversTo old.core token done outcome new.core
   pub kept : KeepsFlight old new
 
@@ -74,14 +76,14 @@ abbrev pub fault_of : CommandKind → FaultKind
 fault_of kind.Read = ReadFault
 fault_of kind.Write = WriteFault
 
--- the command of a token is in flight no more. Its buffer goes back, with the fault of its device, should it have failed;
--- for a token that no command in flight has a block of zeros goes back
+-- the command of a token is in flight no more. Its buffer goes back, with the fault of its device, should it have
+-- failed; for a token that no command in flight has a block of zeros goes back
 abbrev pub TakesBackAt : Blocks → Option ℕ → Shard → DeviceFault → Shard → Type 0
 TakesBackAt blocks None old fault new =
     (fault.kind ≡ ReadFault) × (fault.buffer ≡ replicate blocks.len 0) × (new.in_flight.items ≡ old.in_flight.items)
 TakesBackAt blocks (Some place) old fault new =
-    (f : InFlight) × IsAt old.in_flight.items place f × (fault.kind ≡ fault_of f.command.kind) × (fault.buffer ≡ f.command.buffer)
-    × (new.in_flight.items ≡ remove old.in_flight.items place)
+    (f : InFlight) × IsAt old.in_flight.items place f × (fault.kind ≡ fault_of f.command.kind)
+    × (fault.buffer ≡ f.command.buffer) × (new.in_flight.items ≡ remove old.in_flight.items place)
 
 pub record TakesBack (blocks : Blocks) (token : ℕ) (old : Shard) (fault : DeviceFault) (new : Shard) : Type 0 where
   pub flight : TakesBackAt blocks (place_of token old.in_flight.items) old fault new
@@ -89,7 +91,8 @@ pub record TakesBack (blocks : Blocks) (token : ℕ) (old : Shard) (fault : Devi
   pub core : new.core ≡ old.core
 
 -- a command is in flight no more, and its completion is delivered
-pub record Completes (blocks : Blocks) (token : ℕ) (completion_by : DeviceFault → Result (List ℕ) DeviceFault) (old : Shard) (outcome : Outcome) (new : Shard) : Type 0 where
+pub record Completes (blocks : Blocks) (token : ℕ) (completion_by : DeviceFault → Result (List ℕ) DeviceFault)
+    (old : Shard) (outcome : Outcome) (new : Shard) : Type 0 where
   pub fault : DeviceFault
   pub middle : Shard
   pub taken : TakesBack blocks token old fault middle
@@ -109,9 +112,9 @@ AnswersGood blocks token old outcome new =
     ((is_unperformed token old.in_flight.items ≡ true) × (outcome ≡ NotPerformed) × (new ≡ old))
     ⊎ ((is_unperformed token old.in_flight.items ≡ false) × Completes blocks token good old outcome new)
 
-abbrev pub Answers : Blocks → (token : ℕ) → Completion → Shard → Outcome → Shard → Type 0
-Answers blocks token completion.Good old outcome new = AnswersGood blocks token old outcome new
-Answers blocks token completion.Error old outcome new = Completes blocks token Err old outcome new
+abbrev pub AnswersWith : Blocks → (token : ℕ) → Completion → Shard → Outcome → Shard → Type 0
+AnswersWith blocks token completion.Good old outcome new = AnswersGood blocks token old outcome new
+AnswersWith blocks token completion.Error old outcome new = Completes blocks token Err old outcome new
 
 -- ---- devices
 
@@ -128,12 +131,14 @@ PerformsAt (Some place) old devices Performed new devices' =
 PerformsAt place old devices outcome new devices' = ⊥
 
 abbrev pub Performs : (token : ℕ) → Shard → Devices → Outcome → Shard → Devices → Type 0
-Performs token old devices outcome new devices' = PerformsAt (place_of token old.in_flight.items) old devices outcome new devices'
+Performs token old devices outcome new devices' =
+    PerformsAt (place_of token old.in_flight.items) old devices outcome new devices'
 
 -- the device performs a command, and then its good completion is delivered
 abbrev pub Does : Blocks → (token : ℕ) → Shard → Devices → Outcome → Shard → Devices → Type 0
 Does blocks token old devices outcome new devices' =
-    ((middle : Shard) × Performs token old devices Performed middle devices' × AnswersGood blocks token middle outcome new)
+    ((middle : Shard) × Performs token old devices Performed middle devices'
+    × AnswersGood blocks token middle outcome new)
     ⊎ ((outcome ≢ Performed) × Performs token old devices outcome new devices')
 
 -- ---- the register
@@ -146,14 +151,17 @@ held_by register = held (view_of register.pass).start (view_of register.pass).se
 abbrev pub TellsOf : Shard → OwnRegister → Outcome → CoreView → OwnRegister → Type 0
 TellsOf old register (Told made answered) new register' =
     (middle : CoreView) × HandsCall old.core made.0 middle
-    × TellsPass register.pass (as_made old.number (call_of made.0)) answered.0 register'.pass × Hears middle made.0 answered.0 new
+    × TellsPass register.pass (as_made old.number (call_of made.0)) answered.0 register'.pass
+    × Hears middle made.0 answered.0 new
 TellsOf old register Nothing new register' = Step old.core No_call new × (register' ≡ register)
 TellsOf old register (Refused refusal) new register' =
     (made : RegisterCall) × (answer : Answer) × (middle : CoreView) × HandsCall old.core made middle
-    × TellsPass register.pass (as_made old.number (call_of made)) answer register'.pass × RefusesAnswer middle made refusal new
+    × TellsPass register.pass (as_made old.number (call_of made)) answer register'.pass
+    × RefusesAnswer middle made refusal new
 TellsOf old register _ new register' = ⊥
 
-pub record Tells (old : Shard) (register : OwnRegister) (outcome : Outcome) (new : Shard) (register' : OwnRegister) : Type 0 where
+pub record Tells (old : Shard) (register : OwnRegister) (outcome : Outcome) (new : Shard) (register' : OwnRegister)
+    : Type 0 where
   pub core : TellsOf old register outcome new.core register'
   pub kept : KeepsFlight old new
 
@@ -163,21 +171,25 @@ LooksAs old seen Looked new = LooksAt old seen new
 LooksAs old seen (Refused refusal) new = RefusesLook old refusal new
 LooksAs old seen _ new = ⊥
 
-pub record Looks (old : Shard) (register : OwnRegister) (outcome : Outcome) (new : Shard) (register' : OwnRegister) : Type 0 where
+pub record Looks (old : Shard) (register : OwnRegister) (outcome : Outcome) (new : Shard) (register' : OwnRegister)
+    : Type 0 where
   pub read : LooksPass (view_of register.pass) (view_of register'.pass)
   pub core : LooksAs old.core (held_by register') outcome new.core
   pub kept : KeepsFlight old new
 
 -- a call of the script
-abbrev pub Makes : Call → Blocks → (old : Shard) (register : OwnRegister) (devices : Devices) → Outcome → (new : Shard) (register' : OwnRegister) (devices' : Devices) → Type 0
+abbrev pub Makes : Call → Blocks → (old : Shard) (register : OwnRegister) (devices : Devices) → Outcome
+    → (new : Shard) (register' : OwnRegister) (devices' : Devices) → Type 0
 Makes (call.Perform token) blocks old register devices outcome new register' devices' =
     Performs token old devices outcome new devices' × (register' ≡ register)
 Makes (call.Answer token completion) blocks old register devices outcome new register' devices' =
-    Answers blocks token completion old outcome new × (register' ≡ register) × (devices' ≡ devices)
+    AnswersWith blocks token completion old outcome new × (register' ≡ register) × (devices' ≡ devices)
 Makes (call.Do token) blocks old register devices outcome new register' devices' =
     Does blocks token old devices outcome new devices' × (register' ≡ register)
-Makes call.Tell blocks old register devices outcome new register' devices' = Tells old register outcome new register' × (devices' ≡ devices)
-Makes call.Look blocks old register devices outcome new register' devices' = Looks old register outcome new register' × (devices' ≡ devices)
+Makes call.Tell blocks old register devices outcome new register' devices' =
+    Tells old register outcome new register' × (devices' ≡ devices)
+Makes call.Look blocks old register devices outcome new register' devices' =
+    Looks old register outcome new register' × (devices' ≡ devices)
 
 -- ---- what a shard puts out
 
@@ -195,11 +207,19 @@ HandsCommands old (c ∷ commands) new = (next : CoreView) × HandsCommand old c
 abbrev pub taken : Command → InFlight
 taken command = record { command = command; performed = false }
 
-pub record PutsReplies (old : Shard) (text : List ℕ) (new : Shard) (text' : List ℕ) : Type 0 where
+-- the core hands out these replies, which are printed
+pub record TakesReplies (old : Shard) (text : List ℕ) (new : Shard) (text' : List ℕ) : Type 0 where
   pub replies : List (OpId × Reply)
   pub handed : HandsReplies old.core replies new.core
   pub printed : text' ≡ text ++ replies_text old.number replies
   pub kept : KeepsFlight old new
+
+-- and then none is ready
+pub record PutsReplies (old : Shard) (text : List ℕ) (new : Shard) (text' : List ℕ) : Type 0 where
+  pub last : Shard
+  pub takes : TakesReplies old text last text'
+  pub ends : HandsNoReply last.core new.core
+  pub kept : KeepsFlight last new
 
 -- the core hands out these commands, which are printed, and are in flight from then on
 pub record TakesCommands (old : Shard) (text : List ℕ) (new : Shard) (text' : List ℕ) : Type 0 where
@@ -213,7 +233,7 @@ pub record TakesCommands (old : Shard) (text : List ℕ) (new : Shard) (text' : 
 pub record PutsCommands (old : Shard) (text : List ℕ) (new : Shard) (text' : List ℕ) : Type 0 where
   pub last : Shard
   pub takes : TakesCommands old text last text'
-  pub ends : Step last.core No_command new.core ⊎ (new.core ≡ last.core)
+  pub ends : Step last.core No_command new.core
   pub kept : KeepsFlight last new
 
 -- the line of an event: what became of it, and what its shard puts out then, replies first

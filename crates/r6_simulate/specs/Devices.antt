@@ -1,8 +1,10 @@
 -- What the devices of an array in memory do. This is the project's own.
-use Rattle.std.specs.Prelude.{◌≡◌, ℕ, ◌==◌, ◌&&◌, ◌<◌, List, length, slice_index_or, slice_set, Option, Some}
-use Rattle.std.specs.List.{position}
+use Rattle.std.specs.Prelude.{◌≡◌, ℕ, ◌==◌, ◌&&◌, ◌<◌, ◌++◌, List, [], ◌∷◌, length, map, replicate, slice_index_or, slice_set, Option, Some, Result, Ok, Err}
+use Rattle.std.specs.List.{position, range_with_len}
 use Rattle.r6_dev.specs.History.{Block, Entry, Reads, Writes, Answers}
 use Rattle.r6_dev.specs.Memory.{Memory, told_by}
+use Rattle.r6_health.specs.declared.refusal.Refusal.{Refusal}
+use Rattle.r6_layout.specs.Shape.{Shape}
 use Rattle.r6_core.specs.declared.Command.{Command}
 use Rattle.r6_core.specs.declared.CommandKind.{CommandKind}
 use Rattle.r6_core.specs.declared.CommandKind.TheVariants.{Read, Write}
@@ -12,6 +14,42 @@ use Rattle.r6_simulate.specs.declared.devices.Devices.{Devices}
 -- what stands in a list at a place
 abbrev pub IsAt : {A : Type 0} → List A → (place : ℕ) → A → Type 0
 IsAt items place item = (place < length items) × (item ≡ slice_index_or items place item)
+
+-- the rows and the length of a block that all devices have stay as they are
+abbrev pub SameRows : Devices → Devices → Type 0
+SameRows old new = (new.rows ≡ old.rows) × (new.blocks ≡ old.blocks)
+
+-- ---- devices that come
+
+-- a device of which every byte is this one
+abbrev pub device_of : (rows block byte : ℕ) → Memory
+device_of rows block byte = record { first = 0; block = block; blocks = replicate rows (replicate block byte) }
+
+abbrev pub coming : Devices → (slot generation byte : ℕ) → Attached
+coming devices slot generation byte =
+    record { slot = slot; generation = generation; device = device_of devices.rows devices.blocks.len byte }
+
+-- one more device, behind those that came before
+pub record Adds (slot generation byte : ℕ) (old new : Devices) : Type 0 where
+  pub attached : new.attached.items ≡ old.attached.items ++ coming old slot generation byte ∷ []
+  pub rows : SameRows old new
+
+-- as the register answers an attach; a refusal brings none
+abbrev pub AddsAs : (slot : ℕ) → Result ℕ Refusal → (byte : ℕ) → (old new : Devices) → Type 0
+AddsAs slot (Ok generation) byte old new = Adds slot generation byte old new
+AddsAs slot (Err refusal) byte old new = new ≡ old
+
+-- the device that a slot has at the beginning
+abbrev pub first_device : Shape → (slot : ℕ) → Attached
+first_device shape slot = record { slot = slot; generation = 0; device = device_of shape.rows shape.block 0 }
+
+-- the devices at the beginning: one in each slot
+pub record AreFirst (shape : Shape) (devices : Devices) : Type 0 where
+  pub attached : devices.attached.items ≡ map (first_device shape) (range_with_len 0 shape.slots)
+  pub rows : devices.rows ≡ shape.rows
+  pub block : devices.blocks.len ≡ shape.block
+
+-- ---- commands
 
 -- where the device stands that a slot has or had with a generation
 abbrev pub place_of : (slot generation : ℕ) → List Attached → Option ℕ
@@ -31,5 +69,6 @@ pub record PerformsOn (old : Devices) (command : Command) (new : Devices) (done 
   pub after : Memory
   pub answers : Answers (told_by before.device) (entry_of command.kind command.row done.buffer) (told_by after)
   pub others : new.attached.items ≡ slice_set old.attached.items place (record before { device = after })
+  pub rows : SameRows old new
   pub same : done ≡ record command { buffer = done.buffer }
   pub written : command.kind ≡ Write → done.buffer ≡ command.buffer

@@ -1,4 +1,5 @@
 pub mod AtShards
+pub mod Beginnings
 pub mod Devices
 pub mod Lines
 pub mod Plays

@@ -35,7 +35,8 @@ answer_text (Ok answer.Failed) = codes "failed"
 answer_text (Ok (answer.Generation generation)) = codes "generation " ++ decimal generation
 answer_text (Ok answer.More) = codes "more"
 answer_text (Ok answer.Complete) = codes "complete"
-answer_text (Err refusal) = codes "refused " ++ decimal (register.refusal_number refusal) ++ 32 ∷ register.refusal_name refusal
+answer_text (Err refusal) =
+    codes "refused " ++ decimal (register.refusal_number refusal) ++ 32 ∷ register.refusal_name refusal
 
 -- to an attach it answers a generation
 abbrev pub attach_answer : Result ℕ register_refusal.Refusal → Result Answer register_refusal.Refusal
@@ -74,7 +75,8 @@ reply_words (reply.ArrayFailed buffer) = codes "failed" ∷ []
 
 -- a reply, behind what stands in its line
 abbrev pub reply_text : (shard id : ℕ) → Reply → Text
-reply_text shard id answer = codes " | " ++ join_with_byte 32 (codes "reply" ∷ command_word shard id ∷ reply_words answer)
+reply_text shard id answer =
+    codes " | " ++ join_with_byte 32 (codes "reply" ∷ command_word shard id ∷ reply_words answer)
 
 -- the block of a write goes with it
 abbrev pub block_words : CommandKind → List ℕ → List Text

@@ -1,7 +1,7 @@
 //! An array in memory, and what the events of a script do to it.
 
 ghost use Rattle.std.specs.Prelude.{◌≡◌, ◌<◌, length, string_bytes, IfOk, OnOk};
-ghost use Rattle.r6_core.specs.Shards.{IsWhole};
+ghost use Rattle.r6_simulate.specs.Beginnings.{AreFirstShards};
 ghost use Rattle.r6_simulate.specs.Shards.{shard_of_block};
 
 use crate::devices::{Blocks, Devices};
@@ -35,20 +35,12 @@ pub struct Simulation {
     ghost some_there: { 0 < geometry.shards },
 }
 
-// A register with no slot lost, and no device attached.
-fn whole(geometry: &Geometry) -> Snapshot
-    ensures whole { IsWhole result }
-    ensures no_attach { result.attaches ≡ 0 }
-{
-    Snapshot::start(geometry, 0)
-}
-
 // The shards of an array with all slots in sync.
 fn shards_of(alloc: Global, geometry: Geometry) -> Result<Vec<Shard>, SimulationFault>
-    ensures all { IfOk result (λ shards. length shards.items ≡ geometry.shards) }
+    ensures all { IfOk result (λ shards. AreFirstShards geometry shards.items) }
     ensures some { IfOk result (λ shards. 0 < length shards.items) }
 {
-    let snapshot = whole(&geometry);
+    let snapshot = Snapshot::start(&geometry, 0);
     let mut shards = Vec::with_capacity(alloc, geometry.shards())?;
     for number in 0..geometry.shards() {
         match Core::new(alloc, geometry, number, WINDOW, &snapshot) {
@@ -64,7 +56,7 @@ fn shards_of(alloc: Global, geometry: Geometry) -> Result<Vec<Shard>, Simulation
 }
 
 impl Simulation {
-    ghost use Rattle.r6_simulate.specs.Plays.{Requests, Calls, Fails, Attaches, Plays};
+    ghost use Rattle.r6_simulate.specs.Plays.{IsFirst, Requests, Calls, Fails, Attaches, Plays};
 
     /// The array as it begins: devices of zeros, all in sync.
     pub fn new<R: Wait>(
@@ -72,7 +64,7 @@ impl Simulation {
         alloc: Global,
         geometry: Geometry,
     ) -> Result<Simulation, SimulationFault>
-        ensures { IfOk result (λ simulation. simulation.geometry ≡ geometry) }
+        ensures { IfOk result (IsFirst geometry) }
     {
         let blocks = Blocks {
             alloc,

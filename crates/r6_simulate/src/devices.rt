@@ -1,7 +1,7 @@
 //! The devices of an array in memory.
 
-ghost use Rattle.std.specs.Prelude.{◌≡◌, ◌++◌, ◌∷◌, [], ◌<◌, ◌≤◌, length, replicate, IfOk, IfSome, OnOk};
-ghost use Rattle.r6_simulate.specs.Devices.{place_of, PerformsOn};
+ghost use Rattle.std.specs.Prelude.{◌≡◌, ◌<◌, replicate, IfOk, OnOk};
+ghost use Rattle.r6_simulate.specs.Devices.{Adds, AddsAs, AreFirst, device_of, place_of, PerformsOn};
 
 use crate::fault::SimulationFault;
 use r6_core::{Command, CommandKind};
@@ -50,7 +50,10 @@ pub struct Devices {
 
 impl Devices {
     /// In every slot a device of zeros, of generation 0.
-    pub fn new(blocks: Blocks, geometry: &Geometry) -> Result<Devices, SimulationFault> {
+    pub fn new(blocks: Blocks, geometry: &Geometry) -> Result<Devices, SimulationFault>
+        requires { blocks.len ≡ geometry.now.block }
+        ensures { IfOk result (AreFirst geometry.now) }
+    {
         let mut devices = Devices {
             blocks,
             rows: geometry.rows(),
@@ -63,7 +66,9 @@ impl Devices {
     }
 
     // A device of which every byte is this one stands in the slot, with this generation.
-    fn add(&mut self, slot: usize, generation: u32, byte: u8) -> Result<(), SimulationFault> {
+    fn add(&mut self, slot: usize, generation: u32, byte: u8) -> Result<(), SimulationFault>
+        ensures { OnOk result (Adds slot generation byte self.old self.new) }
+    {
         let device = self.device_of(slot, byte)?;
         self.attached.push(Attached {
             slot,
@@ -79,7 +84,9 @@ impl Devices {
         slot: usize,
         answer: Result<u32, Refusal>,
         byte: u8,
-    ) -> Result<(), SimulationFault> {
+    ) -> Result<(), SimulationFault>
+        ensures { OnOk result (AddsAs slot answer byte self.old self.new) }
+    {
         match answer {
             Ok(generation) => self.add(slot, generation, byte),
             Err(_) => Ok(()),
@@ -87,15 +94,15 @@ impl Devices {
     }
 
     // A device of which every byte is this one.
-    fn device_of(&self, slot: usize, byte: u8) -> Result<MemoryDevice, SimulationFault> {
+    fn device_of(&self, slot: usize, byte: u8) -> Result<MemoryDevice, SimulationFault>
+        ensures { IfOk result (λ device. device ≡ device_of self.now.rows self.now.blocks.len byte) }
+    {
         let mut device = MemoryDevice::new(self.blocks.alloc, 0..self.rows, self.blocks.len)?;
-        if byte != 0 {
-            let block = self.blocks.of(byte)?;
-            for row in 0..self.rows {
-                device
-                    .write(row, &block)
-                    .map_err(|fault| SimulationFault::Device(slot, fault))?;
-            }
+        let block = self.blocks.of(byte)?;
+        for row in 0..self.rows {
+            device
+                .write(row, &block)
+                .map_err(|fault| SimulationFault::Device(slot, fault))?;
         }
         Ok(device)
     }

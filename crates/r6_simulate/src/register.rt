@@ -1,6 +1,6 @@
 //! The register of the array, and the one thread that calls it.
 
-ghost use Rattle.std.specs.Prelude.{◌≡◌};
+ghost use Rattle.std.specs.Prelude.{◌≡◌, IfOk};
 ghost use Rattle.r6_health.specs.Passes.{IsPassOf, Tells, view_of};
 ghost use Rattle.r6_health.specs.Views.{Attached, Looks};
 ghost use Rattle.r6_core.specs.Shards.{call_of};
@@ -24,13 +24,16 @@ pub struct OwnRegister {
 
 impl OwnRegister {
     ghost use Rattle.r6_simulate.specs.AtShards.{held_by};
+    ghost use Rattle.r6_simulate.specs.Beginnings.{IsFirstPass};
 
     /// The register of an array with all slots in sync.
     pub fn new<R: Wait>(
         rt: &R,
         alloc: Global,
         geometry: &Geometry,
-    ) -> Result<OwnRegister, SimulationFault> {
+    ) -> Result<OwnRegister, SimulationFault>
+        ensures { IfOk result (λ register. IsFirstPass geometry.now register.pass) }
+    {
         match Register::new(rt, alloc, geometry, 0) {
             Ok((register, pass)) => Ok(OwnRegister { register, pass }),
             Err(_) => Err(SimulationFault::Memory),

@@ -1,7 +1,7 @@
 //! A shard of an array in memory: its core, and what events do there.
 
 ghost use Rattle.std.specs.Prelude.{◌≡◌, ◌<◌, length, IfOk, IfSome, OnOk, string_bytes};
-ghost use Rattle.r6_simulate.specs.AtShards.{place_of, fault_of, Submits, Delivers, TakesBack, Performs, Answers, AnswersGood, Does, is_unperformed, Tells, Looks, Makes, PutsReplies, PutsCommands, Reports};
+ghost use Rattle.r6_simulate.specs.AtShards.{place_of, fault_of, Submits, Delivers, TakesBack, Performs, AnswersWith, AnswersGood, Does, is_unperformed, Tells, Looks, Makes, PutsReplies, PutsCommands, Reports};
 
 use crate::devices::{Blocks, Devices};
 use crate::fault::SimulationFault;
@@ -112,7 +112,7 @@ impl Shard {
         token: u64,
         completion: Completion,
     ) -> Result<Outcome, SimulationFault>
-        ensures { IfOk result (λ outcome. Answers blocks.now token completion self.old outcome self.new) }
+        ensures { IfOk result (λ outcome. AnswersWith blocks.now token completion self.old outcome self.new) }
     {
         match completion {
             Completion::Good => self.answer_good(blocks, token),
@@ -200,10 +200,7 @@ impl Shard {
     fn put_out_replies(&mut self, line: &mut String) -> Result<(), SimulationFault>
         ensures { OnOk result (PutsReplies self.old (string_bytes line.old) self.new (string_bytes line.new)) }
     {
-        for _ in 0..u64::MAX {
-            let Some((id, reply)) = self.core.take_reply() else {
-                break;
-            };
+        while let Some((id, reply)) = self.core.take_reply() {
             write_reply(line, self.number, id, &reply)?;
         }
         Ok(())
@@ -213,10 +210,7 @@ impl Shard {
     fn put_out_commands(&mut self, line: &mut String) -> Result<(), SimulationFault>
         ensures { OnOk result (PutsCommands self.old (string_bytes line.old) self.new (string_bytes line.new)) }
     {
-        for _ in 0..u64::MAX {
-            let Some(command) = self.core.take_command() else {
-                break;
-            };
+        while let Some(command) = self.core.take_command() {
             write_command(line, self.number, &command)?;
             self.in_flight.push(InFlight {
                 command,

@@ -1,11 +1,12 @@
 //! What the command `simulate` does: the events of a script, played against the cores of an array in memory.
 
-ghost use Rattle.std.specs.Prelude.{◌≡◌, IfErr, OnOk};
+ghost use Rattle.std.specs.Prelude.{◌≡◌, IfErr, IfOk, OnOk};
 ghost use Rattle.std.specs.Io.KnownBytes.{Appends};
-ghost use Rattle.r6_simulate.specs.Plays.{HasPlayed, PlaysAndPrints};
+ghost use Rattle.r6_simulate.specs.Plays.{ending_of, HasPlayed, PlaysAndPrints};
 
 use crate::array::Simulation;
 use crate::fault::SimulationFault;
+use r6_health::Snapshot;
 use r6_script::{Event, Script};
 use std::alloc::Global;
 use std::fmt::Write as _;
@@ -19,6 +20,19 @@ pub enum Ending {
     InService,
     /// A third slot was out.
     Failed,
+}
+
+impl Ending {
+    // By what the register holds.
+    fn of(snapshot: &Snapshot) -> Ending
+        ensures { result ≡ ending_of snapshot.now }
+    {
+        if snapshot.failed() {
+            Ending::Failed
+        } else {
+            Ending::InService
+        }
+    }
 }
 
 fn print<W: Write>(out: &mut W, text: &str) -> Result<(), SimulationFault>
@@ -57,8 +71,8 @@ pub fn simulate<R: Wait, W: Write>(
     script: &Script,
     out: &mut W,
 ) -> Result<Ending, SimulationFault>
-    ensures { OnOk result
-        (HasPlayed script.now.geometry script.now.events.items (W.contents out.old) (W.contents out.new)) }
+    ensures { IfOk result (λ ending.
+        HasPlayed script.now.geometry script.now.events.items (W.contents out.old) ending (W.contents out.new)) }
 {
     let mut simulation = Simulation::new(rt, alloc, script.geometry)?;
     print(out, "array\n")?;
@@ -66,9 +80,5 @@ pub fn simulate<R: Wait, W: Write>(
     for event in &script.events {
         play_and_print(rt, &mut simulation, *event, &mut line, out)?;
     }
-    if simulation.register.read(rt).failed() {
-        Ok(Ending::Failed)
-    } else {
-        Ok(Ending::InService)
-    }
+    Ok(Ending::of(&simulation.register.read(rt)))
 }

@@ -1,9 +1,9 @@
-use Rattle.std.proofs.Common.{List, [], ◌∷◌, ◌++◌, ◌<◌, ◌≤◌, length, get_or, refl, ap, subst}
+use Rattle.std.proofs.Common.{List, [], ◌∷◌, ◌++◌, ◌<◌, ◌≤◌, length, get_or, refl, ap, subst, ◌∙◌}
 use Rattle.std.proofs.KnownBytes.{Appends-nil, Appends-trans}
 use Rattle.std.proofs.lemmas.List.{take_all}
 use Rattle.r6_script.specs.declared.script.Event.{Event}
 use Rattle.r6_script.specs.declared.script.Event.TheVariants.{Read}
-use Rattle.r6_simulate.specs.Plays.{Course}
+use Rattle.r6_simulate.specs.Plays.{Course, ending_of}
 use Rattle.r6_simulate.proofs.Courses.{one_more_taken}
 use Rattle.r6_simulate.proofs.simulation.simulate.Goals as goal
 
@@ -21,28 +21,20 @@ loop-event-preserved g c =
       Appends-trans _ _ _ _ _ i.2 p.writes,
     )
 
-pub returns-then-failed : goal.returns-then-failed
-returns-then-failed g c =
-    let i = c.loop-event.invariant in
-    record {
-      first = c.in_ok-simulation.simulation;
-      shape_is = c.in_ok-simulation.ensures;
-      last = c.loop-event.simulation;
-      lines = i.0;
-      course = subst (λ events. Course c.in_ok-simulation.simulation events i.0 c.loop-event.simulation)
-          (take_all c.loop-event.event-index c.args.script.now.events.items (subst (λ events. length events ≤ c.loop-event.event-index) c.deref-event-items.ensures.value c.loop-event-test.false)) i.1;
-      writes = Appends-trans _ _ _ _ _ c.in_ok-print.ensures.written i.2;
-    }
-
 pub returns : goal.returns
 returns g c =
     let i = c.loop-event.invariant in
     record {
       first = c.in_ok-simulation.simulation;
-      shape_is = c.in_ok-simulation.ensures;
+      begins = c.in_ok-simulation.ensures;
       last = c.loop-event.simulation;
       lines = i.0;
       course = subst (λ events. Course c.in_ok-simulation.simulation events i.0 c.loop-event.simulation)
           (take_all c.loop-event.event-index c.args.script.now.events.items (subst (λ events. length events ≤ c.loop-event.event-index) c.deref-event-items.ensures.value c.loop-event-test.false)) i.1;
+      ends = record {
+        register = c.read.new.self;
+        read = c.read.ensures.looks;
+        ending_is = c.of.ensures ∙ ap ending_of c.read.ensures.held;
+      };
       writes = Appends-trans _ _ _ _ _ c.in_ok-print.ensures.written i.2;
     }

@@ -7,4 +7,5 @@ returns g c =
       answer = c.attach-answer.result;
       told = c.attach-answer.ensures;
       printed = record { printed = search rules; shards = refl; geometry = refl; blocks = refl };
+      devices = c.in_ok-attach.ensures;
     }

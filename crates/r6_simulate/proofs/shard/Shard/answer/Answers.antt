@@ -1,10 +1,10 @@
 use Rattle.std.proofs.Common.{sym, subst}
-use Rattle.r6_simulate.specs.AtShards.{Answers}
+use Rattle.r6_simulate.specs.AtShards.{AnswersWith}
 use Rattle.r6_simulate.proofs.shard.Shard.answer.Goals as goal
 
 pub returns-in_ok-fault-in-Error : goal.returns-in_ok-fault-in-Error
 returns-in_ok-fault-in-Error c =
-    subst (λ completion. Answers c.args.blocks.now c.args.token completion c.args.self.now c.deliver.result c.deliver.new.self) (sym c.in-Error.is) (record {
+    subst (λ completion. AnswersWith c.args.blocks.now c.args.token completion c.args.self.now c.deliver.result c.deliver.new.self) (sym c.in-Error.is) (record {
       fault = c.in_ok-fault-in-Error.fault;
       middle = _;
       taken = c.in_ok-fault-in-Error.ensures;
