@@ -1,6 +1,6 @@
 //! Carries a command out.
 
-ghost use Rattle.std.specs.Prelude.{◌≡◌, ◌≢◌, ◌⊎◌, IfErr, IfOk, OnOk};
+ghost use Rattle.std.specs.Prelude.{◌≡◌, ◌≢◌, IfErr, IfOk, OnOk};
 ghost use Rattle.r6_command.specs.CommandLine.{asked_of};
 ghost use Rattle.r6_execute.specs.Commands.{EndsAs, EndsBy, HasPlayed, HasPrinted, IsAmiss, IsDone, StopsGeometry, StopsPlay};
 ghost use Rattle.r6_execute.specs.Status.{status_of};

@@ -1,6 +1,6 @@
 //! What the command `geometry` prints.
 
-ghost use Rattle.std.specs.Prelude.{◌≡◌, ◌+◌, ◌≤◌, ◌<◌, ◌++◌, OnOk, IfOk, string_bytes};
+ghost use Rattle.std.specs.Prelude.{◌≡◌, ◌+◌, ◌<◌, ◌++◌, OnOk, IfOk, string_bytes};
 ghost use Rattle.r6_layout.specs.Shape.{chunk_rows};
 ghost use Rattle.r6_execute.specs.Layouts.{chunk_row_line, layout_text, role_text, shape_line, shard_line};
 
