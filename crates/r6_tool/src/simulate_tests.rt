@@ -15,26 +15,19 @@ const SIMULATE: Invocation<'static> = Invocation::Simulate { script: "script" };
 
 const FOUR_SLOTS: &str = "array 4 1 16 4 1\n";
 
-/// Each event of a script has to print its line, and the array not to have failed.
+/// A script has to print what its transcript says, and to end with this status. Each line of a transcript is an event and
+/// what it prints, with an arrow between.
 fn plays<F: FileExt + Seek + Drop, R: Abort + Wait + Files<File = F>>(
     rt: &R,
     alloc: Global,
-    transcript: &[(&str, &str)],
-) -> Result<(), AllocError> {
-    plays_to(rt, alloc, transcript, 0)
-}
-
-/// Each event of a script has to print its line, and the script to end with this status.
-fn plays_to<F: FileExt + Seek + Drop, R: Abort + Wait + Files<File = F>>(
-    rt: &R,
-    alloc: Global,
-    transcript: &[(&str, &str)],
+    transcript: &str,
     status: u8,
 ) -> Result<(), AllocError> {
     let (mut script, mut lines) = (String::new(alloc), String::new(alloc));
-    for (event, line) in transcript {
+    for line in transcript.lines() {
+        let (event, printed) = line.split_once(" -> ").unwrap_or((line, ""));
         writeln!(script, "{event}")?;
-        writeln!(lines, "{line}")?;
+        writeln!(lines, "{printed}")?;
     }
     ends(
         rt,
@@ -66,112 +59,95 @@ fn is_refused_at<F: FileExt + Seek + Drop, R: Abort + Wait + Files<File = F>>(
 
 #[test]
 fn a_write_waits_for_its_last_block_and_is_read_back(rt: HostRuntime) -> Result<(), Fail> {
-    let transcript = [
-        ("array 4 1 16 4 1", "array"),
-        ("write 0 5a", "op 0:0 | 0:0 read slot 2 gen 0 row 0"),
-        (
-            "do 0:0",
-            "taken | 0:1 write slot 1 gen 0 row 0 5a | 0:2 write slot 3 gen 0 row 0 5a | 0:3 write slot 0 gen 0 row 0 5a",
-        ),
-        ("do 0:2", "taken"),
-        ("do 0:1", "taken"),
-        ("look 0", "looked"),
-        ("do 0:3", "taken"),
-        ("look 0", "looked | reply 0:0 done"),
-        ("read 0", "op 0:1 | 0:4 read slot 1 gen 0 row 0"),
-        ("do 0:4", "taken"),
-        ("look 0", "looked | reply 0:1 data 5a"),
-    ];
-    plays(&rt, rt.alloc(), &transcript)?;
+    let transcript = "array 4 1 16 4 1 -> array
+write 0 5a -> op 0:0 | 0:0 read slot 2 gen 0 row 0
+do 0:0 -> taken | 0:1 write slot 1 gen 0 row 0 5a | 0:2 write slot 3 gen 0 row 0 5a | 0:3 write slot 0 gen 0 row 0 5a
+do 0:2 -> taken
+do 0:1 -> taken
+look 0 -> looked
+do 0:3 -> taken
+look 0 -> looked | reply 0:0 done
+read 0 -> op 0:1 | 0:4 read slot 1 gen 0 row 0
+do 0:4 -> taken
+look 0 -> looked | reply 0:1 data 5a
+";
+    plays(&rt, rt.alloc(), transcript, 0)?;
     Ok(())
 }
 
 #[test]
 fn a_later_row_may_end_first(rt: HostRuntime) -> Result<(), Fail> {
-    let transcript = [
-        ("array 4 1 16 4 1", "array"),
-        ("write 0 5a", "op 0:0 | 0:0 read slot 2 gen 0 row 0"),
-        ("write 2 a5", "op 0:1 | 0:1 read slot 1 gen 0 row 1"),
-        (
-            "do 0:1",
-            "taken | 0:2 write slot 0 gen 0 row 1 a5 | 0:3 write slot 2 gen 0 row 1 a5 | 0:4 write slot 3 gen 0 row 1 a5",
-        ),
-        ("do 0:2", "taken"),
-        ("do 0:3", "taken"),
-        ("do 0:4", "taken"),
-        ("look 0", "looked | reply 0:1 done"),
-        (
-            "do 0:0",
-            "taken | 0:5 write slot 1 gen 0 row 0 5a | 0:6 write slot 3 gen 0 row 0 5a | 0:7 write slot 0 gen 0 row 0 5a",
-        ),
-        ("do 0:5", "taken"),
-        ("do 0:6", "taken"),
-        ("do 0:7", "taken"),
-        ("look 0", "looked | reply 0:0 done"),
-    ];
-    plays(&rt, rt.alloc(), &transcript)?;
+    let transcript = "array 4 1 16 4 1 -> array
+write 0 5a -> op 0:0 | 0:0 read slot 2 gen 0 row 0
+write 2 a5 -> op 0:1 | 0:1 read slot 1 gen 0 row 1
+do 0:1 -> taken | 0:2 write slot 0 gen 0 row 1 a5 | 0:3 write slot 2 gen 0 row 1 a5 | 0:4 write slot 3 gen 0 row 1 a5
+do 0:2 -> taken
+do 0:3 -> taken
+do 0:4 -> taken
+look 0 -> looked | reply 0:1 done
+do 0:0 -> taken | 0:5 write slot 1 gen 0 row 0 5a | 0:6 write slot 3 gen 0 row 0 5a | 0:7 write slot 0 gen 0 row 0 5a
+do 0:5 -> taken
+do 0:6 -> taken
+do 0:7 -> taken
+look 0 -> looked | reply 0:0 done
+";
+    plays(&rt, rt.alloc(), transcript, 0)?;
     Ok(())
 }
 
 #[test]
 fn a_command_is_performed_once_and_answered_once(rt: HostRuntime) -> Result<(), Fail> {
-    let transcript = [
-        ("array 4 1 16 4 1", "array"),
-        ("read 0", "op 0:0 | 0:0 read slot 1 gen 0 row 0"),
-        ("answer 0:0 ok", "not performed"),
-        ("perform 0:0", "performed"),
-        ("perform 0:0", "performed already"),
-        ("do 0:0", "performed already"),
-        ("answer 0:0 ok", "taken"),
-        ("perform 0:0", "no such command"),
-        ("do 0:0", "no such command"),
-        ("answer 0:0 ok", "refused 7 UnknownToken"),
-        ("answer 0:18446744073709551615 ok", "refused 7 UnknownToken"),
-        ("look 0", "looked | reply 0:0 data 00"),
-        ("look 0", "looked"),
-    ];
-    plays(&rt, rt.alloc(), &transcript)?;
+    let transcript = "array 4 1 16 4 1 -> array
+read 0 -> op 0:0 | 0:0 read slot 1 gen 0 row 0
+answer 0:0 ok -> not performed
+perform 0:0 -> performed
+perform 0:0 -> performed already
+do 0:0 -> performed already
+answer 0:0 ok -> taken
+perform 0:0 -> no such command
+do 0:0 -> no such command
+answer 0:0 ok -> refused 7 UnknownToken
+answer 0:18446744073709551615 ok -> refused 7 UnknownToken
+look 0 -> looked | reply 0:0 data 00
+look 0 -> looked
+";
+    plays(&rt, rt.alloc(), transcript, 0)?;
     Ok(())
 }
 
+// What was refused got no number.
 #[test]
 fn what_is_not_there_is_named(rt: HostRuntime) -> Result<(), Fail> {
-    let transcript = [
-        ("array 4 1 16 4 1", "array"),
-        ("look 1", "no such shard"),
-        ("perform 1:0", "no such shard"),
-        ("do 18446744073709551615:0", "no such shard"),
-        ("answer 1:0 ok", "no such shard"),
-        ("read 8", "refused 1 NoSuchBlock"),
-        ("write 18446744073709551615 ff", "refused 1 NoSuchBlock"),
-        // What was refused got no number.
-        ("read 7", "op 0:0 | 0:0 read slot 3 gen 0 row 3"),
-    ];
-    plays(&rt, rt.alloc(), &transcript)?;
+    let transcript = "array 4 1 16 4 1 -> array
+look 1 -> no such shard
+perform 1:0 -> no such shard
+do 18446744073709551615:0 -> no such shard
+answer 1:0 ok -> no such shard
+read 8 -> refused 1 NoSuchBlock
+write 18446744073709551615 ff -> refused 1 NoSuchBlock
+read 7 -> op 0:0 | 0:0 read slot 3 gen 0 row 3
+";
+    plays(&rt, rt.alloc(), transcript, 0)?;
     Ok(())
 }
 
 // Blocks 0 to 3 stand in the rows of shard 0, blocks 4 to 7 in those of shard 1.
+// The second data block goes into Q times 2.
 #[test]
 fn each_shard_has_its_own_numbers(rt: HostRuntime) -> Result<(), Fail> {
-    let transcript = [
-        ("array 4 1 16 4 2", "array"),
-        ("read 0", "op 0:0 | 0:0 read slot 1 gen 0 row 0"),
-        ("read 4", "op 1:0 | 1:0 read slot 3 gen 0 row 2"),
-        ("do 1:0", "taken"),
-        ("look 0", "looked"),
-        ("look 1", "looked | reply 1:0 data 00"),
-        ("do 1:0", "no such command"),
-        ("do 0:0", "taken"),
-        ("look 0", "looked | reply 0:0 data 00"),
-        ("write 5 5a", "op 1:1 | 1:1 read slot 3 gen 0 row 2"),
-        // The second data block goes into Q times 2.
-        (
-            "do 1:1",
-            "taken | 1:2 write slot 0 gen 0 row 2 5a | 1:3 write slot 1 gen 0 row 2 5a | 1:4 write slot 2 gen 0 row 2 b4",
-        ),
-    ];
-    plays(&rt, rt.alloc(), &transcript)?;
+    let transcript = "array 4 1 16 4 2 -> array
+read 0 -> op 0:0 | 0:0 read slot 1 gen 0 row 0
+read 4 -> op 1:0 | 1:0 read slot 3 gen 0 row 2
+do 1:0 -> taken
+look 0 -> looked
+look 1 -> looked | reply 1:0 data 00
+do 1:0 -> no such command
+do 0:0 -> taken
+look 0 -> looked | reply 0:0 data 00
+write 5 5a -> op 1:1 | 1:1 read slot 3 gen 0 row 2
+do 1:1 -> taken | 1:2 write slot 0 gen 0 row 2 5a | 1:3 write slot 1 gen 0 row 2 5a | 1:4 write slot 2 gen 0 row 2 b4
+";
+    plays(&rt, rt.alloc(), transcript, 0)?;
     Ok(())
 }
 
@@ -199,177 +175,318 @@ fn a_shard_takes_256_requests_at_a_time(rt: HostRuntime) -> Result<(), Fail> {
 // The device of block 0 confirms the new block and is failed; P and Q then have it. `examples/loss.script` is this course.
 #[test]
 fn a_write_outlives_the_device_that_confirmed_it(rt: HostRuntime) -> Result<(), Fail> {
-    let transcript = [
-        ("array 4 1 16 4 1", "array"),
-        ("write 0 5a", "op 0:0 | 0:0 read slot 2 gen 0 row 0"),
-        (
-            "do 0:0",
-            "taken | 0:1 write slot 1 gen 0 row 0 5a | 0:2 write slot 3 gen 0 row 0 5a | 0:3 write slot 0 gen 0 row 0 5a",
-        ),
-        ("do 0:1", "taken"),
-        ("fail 1", "degraded"),
-        ("look 0", "looked"),
-        ("do 0:2", "taken"),
-        ("do 0:3", "taken"),
-        ("look 0", "looked | reply 0:0 done"),
-        (
-            "read 0",
-            "op 0:1 | 0:4 read slot 2 gen 0 row 0 | 0:5 read slot 3 gen 0 row 0",
-        ),
-        ("do 0:4", "taken"),
-        ("do 0:5", "taken"),
-        ("look 0", "looked | reply 0:1 data 5a"),
-    ];
-    plays(&rt, rt.alloc(), &transcript)?;
+    let transcript = "array 4 1 16 4 1 -> array
+write 0 5a -> op 0:0 | 0:0 read slot 2 gen 0 row 0
+do 0:0 -> taken | 0:1 write slot 1 gen 0 row 0 5a | 0:2 write slot 3 gen 0 row 0 5a | 0:3 write slot 0 gen 0 row 0 5a
+do 0:1 -> taken
+fail 1 -> degraded
+look 0 -> looked
+do 0:2 -> taken
+do 0:3 -> taken
+look 0 -> looked | reply 0:0 done
+read 0 -> op 0:1 | 0:4 read slot 2 gen 0 row 0 | 0:5 read slot 3 gen 0 row 0
+do 0:4 -> taken
+do 0:5 -> taken
+look 0 -> looked | reply 0:1 data 5a
+";
+    plays(&rt, rt.alloc(), transcript, 0)?;
     Ok(())
 }
 
 // Both data blocks of a row are lost, and P and Q hold it alone. `examples/two_losses.script` is this course.
+// P is 5a + a5, and Q 5a + 02 a5, where 02 a5 is 57.
 #[test]
 fn two_errors_lose_no_block(rt: HostRuntime) -> Result<(), Fail> {
-    let transcript = [
-        ("array 4 1 16 4 1", "array"),
-        ("write 0 5a", "op 0:0 | 0:0 read slot 2 gen 0 row 0"),
-        (
-            "do 0:0",
-            "taken | 0:1 write slot 1 gen 0 row 0 5a | 0:2 write slot 3 gen 0 row 0 5a | 0:3 write slot 0 gen 0 row 0 5a",
-        ),
-        ("do 0:1", "taken"),
-        ("do 0:2", "taken"),
-        ("do 0:3", "taken"),
-        ("look 0", "looked | reply 0:0 done"),
-        ("read 0", "op 0:1 | 0:4 read slot 1 gen 0 row 0"),
-        (
-            "answer 0:4 error",
-            "taken | 0:5 read slot 2 gen 0 row 0 | 0:6 read slot 3 gen 0 row 0",
-        ),
-        ("answer 0:5 error", "taken | 0:7 read slot 0 gen 0 row 0"),
-        ("look 0", "refused 8 UntoldFirst"),
-        ("tell 0", "declare_lost 1 0: degraded"),
-        ("tell 0", "declare_lost 2 0: degraded"),
-        ("tell 0", "nothing"),
-        ("do 0:6", "taken"),
-        ("do 0:7", "taken"),
-        ("look 0", "looked | reply 0:1 data 5a"),
-        (
-            "write 1 a5",
-            "op 0:2 | 0:8 read slot 3 gen 0 row 0 | 0:9 read slot 0 gen 0 row 0",
-        ),
-        ("do 0:8", "taken"),
-        // P is 5a + a5, and Q 5a + 02 a5, where 02 a5 is 57.
-        (
-            "do 0:9",
-            "taken | 0:10 write slot 3 gen 0 row 0 ff | 0:11 write slot 0 gen 0 row 0 0d",
-        ),
-        ("do 0:10", "taken"),
-        ("do 0:11", "taken"),
-        ("look 0", "looked | reply 0:2 done"),
-        (
-            "read 1",
-            "op 0:3 | 0:12 read slot 3 gen 0 row 0 | 0:13 read slot 0 gen 0 row 0",
-        ),
-        ("do 0:12", "taken"),
-        ("do 0:13", "taken"),
-        ("look 0", "looked | reply 0:3 data a5"),
-    ];
-    plays(&rt, rt.alloc(), &transcript)?;
+    let transcript = "array 4 1 16 4 1 -> array
+write 0 5a -> op 0:0 | 0:0 read slot 2 gen 0 row 0
+do 0:0 -> taken | 0:1 write slot 1 gen 0 row 0 5a | 0:2 write slot 3 gen 0 row 0 5a | 0:3 write slot 0 gen 0 row 0 5a
+do 0:1 -> taken
+do 0:2 -> taken
+do 0:3 -> taken
+look 0 -> looked | reply 0:0 done
+read 0 -> op 0:1 | 0:4 read slot 1 gen 0 row 0
+answer 0:4 error -> taken | 0:5 read slot 2 gen 0 row 0 | 0:6 read slot 3 gen 0 row 0
+answer 0:5 error -> taken | 0:7 read slot 0 gen 0 row 0
+look 0 -> refused 8 UntoldFirst
+tell 0 -> declare_lost 1 0: degraded
+tell 0 -> declare_lost 2 0: degraded
+tell 0 -> nothing
+do 0:6 -> taken
+do 0:7 -> taken
+look 0 -> looked | reply 0:1 data 5a
+write 1 a5 -> op 0:2 | 0:8 read slot 3 gen 0 row 0 | 0:9 read slot 0 gen 0 row 0
+do 0:8 -> taken
+do 0:9 -> taken | 0:10 write slot 3 gen 0 row 0 ff | 0:11 write slot 0 gen 0 row 0 0d
+do 0:10 -> taken
+do 0:11 -> taken
+look 0 -> looked | reply 0:2 done
+read 1 -> op 0:3 | 0:12 read slot 3 gen 0 row 0 | 0:13 read slot 0 gen 0 row 0
+do 0:12 -> taken
+do 0:13 -> taken
+look 0 -> looked | reply 0:3 data a5
+";
+    plays(&rt, rt.alloc(), transcript, 0)?;
     Ok(())
 }
 
 // `examples/third_loss.script` is this course.
 #[test]
 fn three_losses_found_by_two_shards_fail_the_array(rt: HostRuntime) -> Result<(), Fail> {
-    let transcript = [
-        ("array 4 1 16 4 2", "array"),
-        ("read 0", "op 0:0 | 0:0 read slot 1 gen 0 row 0"),
-        (
-            "answer 0:0 error",
-            "taken | 0:1 read slot 2 gen 0 row 0 | 0:2 read slot 3 gen 0 row 0",
-        ),
-        ("answer 0:1 error", "taken | 0:3 read slot 0 gen 0 row 0"),
-        ("read 4", "op 1:0 | 1:0 read slot 3 gen 0 row 2"),
-        (
-            "answer 1:0 error",
-            "taken | 1:1 read slot 0 gen 0 row 2 | 1:2 read slot 1 gen 0 row 2",
-        ),
-        ("look 0", "refused 8 UntoldFirst"),
-        ("tell 0", "declare_lost 1 0: degraded"),
-        ("tell 0", "declare_lost 2 0: degraded"),
-        ("tell 1", "declare_lost 3 0: failed"),
-        ("look 0", "looked | reply 0:0 failed"),
-        ("look 1", "looked | reply 1:0 failed"),
-        ("read 0", "refused 5 ArrayFailed"),
-    ];
-    plays_to(&rt, rt.alloc(), &transcript, 1)?;
+    let transcript = "array 4 1 16 4 2 -> array
+read 0 -> op 0:0 | 0:0 read slot 1 gen 0 row 0
+answer 0:0 error -> taken | 0:1 read slot 2 gen 0 row 0 | 0:2 read slot 3 gen 0 row 0
+answer 0:1 error -> taken | 0:3 read slot 0 gen 0 row 0
+read 4 -> op 1:0 | 1:0 read slot 3 gen 0 row 2
+answer 1:0 error -> taken | 1:1 read slot 0 gen 0 row 2 | 1:2 read slot 1 gen 0 row 2
+look 0 -> refused 8 UntoldFirst
+tell 0 -> declare_lost 1 0: degraded
+tell 0 -> declare_lost 2 0: degraded
+tell 1 -> declare_lost 3 0: failed
+look 0 -> looked | reply 0:0 failed
+look 1 -> looked | reply 1:0 failed
+read 0 -> refused 5 ArrayFailed
+";
+    plays(&rt, rt.alloc(), transcript, 1)?;
     Ok(())
 }
 
 // A read whose slot a look finds lost starts again, and what the lost device answers then is late.
 #[test]
 fn completions_are_late_doubled_or_of_no_command(rt: HostRuntime) -> Result<(), Fail> {
-    let transcript = [
-        ("array 4 1 16 4 1", "array"),
-        ("read 0", "op 0:0 | 0:0 read slot 1 gen 0 row 0"),
-        ("do 0:0", "taken"),
-        ("answer 0:0 ok", "refused 7 UnknownToken"),
-        ("answer 0:0 error", "refused 7 UnknownToken"),
-        ("answer 0:999999 ok", "refused 7 UnknownToken"),
-        ("answer 0:999999 error", "refused 7 UnknownToken"),
-        ("read 0", "op 0:1 | 0:1 read slot 1 gen 0 row 0"),
-        ("perform 0:1", "performed"),
-        ("fail 1", "degraded"),
-        (
-            "look 0",
-            "looked | reply 0:0 data 00 | 0:2 read slot 2 gen 0 row 0 | 0:3 read slot 3 gen 0 row 0",
-        ),
-        ("answer 0:1 ok", "late"),
-        ("answer 0:2 error", "taken | 0:4 read slot 0 gen 0 row 0"),
-        ("fail 3", "degraded"),
-        ("tell 0", "declare_lost 2 0: failed"),
-        ("answer 0:3 error", "taken"),
-        ("tell 0", "declare_lost 3 0: refused 5 ArrayFailed"),
-        ("answer 0:4 error", "late"),
-        ("look 0", "looked | reply 0:1 failed"),
-    ];
-    plays_to(&rt, rt.alloc(), &transcript, 1)?;
+    let transcript = "array 4 1 16 4 1 -> array
+read 0 -> op 0:0 | 0:0 read slot 1 gen 0 row 0
+do 0:0 -> taken
+answer 0:0 ok -> refused 7 UnknownToken
+answer 0:0 error -> refused 7 UnknownToken
+answer 0:999999 ok -> refused 7 UnknownToken
+answer 0:999999 error -> refused 7 UnknownToken
+read 0 -> op 0:1 | 0:1 read slot 1 gen 0 row 0
+perform 0:1 -> performed
+fail 1 -> degraded
+look 0 -> looked | reply 0:0 data 00 | 0:2 read slot 2 gen 0 row 0 | 0:3 read slot 3 gen 0 row 0
+answer 0:1 ok -> late
+answer 0:2 error -> taken | 0:4 read slot 0 gen 0 row 0
+fail 3 -> degraded
+tell 0 -> declare_lost 2 0: failed
+answer 0:3 error -> taken
+tell 0 -> declare_lost 3 0: refused 5 ArrayFailed
+answer 0:4 error -> late
+look 0 -> looked | reply 0:1 failed
+";
+    plays(&rt, rt.alloc(), transcript, 1)?;
+    Ok(())
+}
+
+// The shard lost the device that has been replaced since.
+// A slot with a new device counts as out until it is rebuilt.
+// Two writes and the reads of their blocks, each run to its reply; 57 is a5 times 2. What is out at one time is answered
+// in reverse order, and every completion comes twice.
+#[test]
+fn completions_that_come_in_reverse_and_twice_change_no_reply(rt: HostRuntime) -> Result<(), Fail> {
+    let transcript = "array 4 1 16 4 1 -> array
+write 0 5a -> op 0:0 | 0:0 read slot 2 gen 0 row 0
+do 0:0 -> taken | 0:1 write slot 1 gen 0 row 0 5a | 0:2 write slot 3 gen 0 row 0 5a | 0:3 write slot 0 gen 0 row 0 5a
+answer 0:0 ok -> refused 7 UnknownToken
+do 0:3 -> taken
+answer 0:3 ok -> refused 7 UnknownToken
+do 0:2 -> taken
+answer 0:2 error -> refused 7 UnknownToken
+do 0:1 -> taken
+answer 0:1 ok -> refused 7 UnknownToken
+tell 0 -> nothing
+look 0 -> looked | reply 0:0 done
+write 5 a5 -> op 0:1 | 0:4 read slot 3 gen 0 row 2
+do 0:4 -> taken | 0:5 write slot 0 gen 0 row 2 a5 | 0:6 write slot 1 gen 0 row 2 a5 | 0:7 write slot 2 gen 0 row 2 57
+answer 0:4 error -> refused 7 UnknownToken
+do 0:7 -> taken
+answer 0:7 ok -> refused 7 UnknownToken
+do 0:6 -> taken
+answer 0:6 ok -> refused 7 UnknownToken
+do 0:5 -> taken
+answer 0:5 error -> refused 7 UnknownToken
+tell 0 -> nothing
+look 0 -> looked | reply 0:1 done
+read 0 -> op 0:2 | 0:8 read slot 1 gen 0 row 0
+do 0:8 -> taken
+answer 0:8 ok -> refused 7 UnknownToken
+tell 0 -> nothing
+look 0 -> looked | reply 0:2 data 5a
+read 5 -> op 0:3 | 0:9 read slot 0 gen 0 row 2
+do 0:9 -> taken
+answer 0:9 error -> refused 7 UnknownToken
+tell 0 -> nothing
+look 0 -> looked | reply 0:3 data a5
+";
+    plays(&rt, rt.alloc(), transcript, 0)?;
+    Ok(())
+}
+
+// The last block of the first write is never answered, and the read of its row waits.
+#[test]
+fn a_completion_that_stays_away_keeps_back_its_row_alone(rt: HostRuntime) -> Result<(), Fail> {
+    let transcript = "array 4 1 16 4 1 -> array
+write 0 5a -> op 0:0 | 0:0 read slot 2 gen 0 row 0
+do 0:0 -> taken | 0:1 write slot 1 gen 0 row 0 5a | 0:2 write slot 3 gen 0 row 0 5a | 0:3 write slot 0 gen 0 row 0 5a
+do 0:1 -> taken
+do 0:2 -> taken
+perform 0:3 -> performed
+look 0 -> looked
+write 5 a5 -> op 0:1 | 0:4 read slot 3 gen 0 row 2
+do 0:4 -> taken | 0:5 write slot 0 gen 0 row 2 a5 | 0:6 write slot 1 gen 0 row 2 a5 | 0:7 write slot 2 gen 0 row 2 57
+do 0:7 -> taken
+do 0:6 -> taken
+do 0:5 -> taken
+look 0 -> looked | reply 0:1 done
+read 0 -> op 0:2
+look 0 -> looked
+read 5 -> op 0:3 | 0:8 read slot 0 gen 0 row 2
+do 0:8 -> taken
+look 0 -> looked | reply 0:3 data a5
+tell 0 -> nothing
+look 0 -> looked
+";
+    plays(&rt, rt.alloc(), transcript, 0)?;
+    Ok(())
+}
+
+// A read whose completion stays away has no reply, and the others have theirs.
+#[test]
+fn a_read_without_its_completion_has_no_reply(rt: HostRuntime) -> Result<(), Fail> {
+    let transcript = "array 4 1 16 4 1 -> array
+read 0 -> op 0:0 | 0:0 read slot 1 gen 0 row 0
+read 5 -> op 0:1 | 0:1 read slot 0 gen 0 row 2
+write 2 a5 -> op 0:2 | 0:2 read slot 1 gen 0 row 1
+do 0:2 -> taken | 0:3 write slot 0 gen 0 row 1 a5 | 0:4 write slot 2 gen 0 row 1 a5 | 0:5 write slot 3 gen 0 row 1 a5
+do 0:5 -> taken
+do 0:4 -> taken
+do 0:3 -> taken
+perform 0:0 -> performed
+do 0:1 -> taken
+look 0 -> looked | reply 0:2 done | reply 0:1 data 00
+look 0 -> looked
+";
+    plays(&rt, rt.alloc(), transcript, 0)?;
+    Ok(())
+}
+
+// One error in the first write, one in the second and one in a read. The second write restores the block of slot 3 from
+// the other data block and Q.
+#[test]
+fn three_errors_in_three_requests_fail_the_last(rt: HostRuntime) -> Result<(), Fail> {
+    let transcript = "array 4 1 16 4 1 -> array
+write 0 5a -> op 0:0 | 0:0 read slot 2 gen 0 row 0
+do 0:0 -> taken | 0:1 write slot 1 gen 0 row 0 5a | 0:2 write slot 3 gen 0 row 0 5a | 0:3 write slot 0 gen 0 row 0 5a
+answer 0:1 error -> taken
+do 0:2 -> taken
+do 0:3 -> taken
+look 0 -> refused 8 UntoldFirst
+tell 0 -> declare_lost 1 0: degraded
+look 0 -> looked | reply 0:0 done
+write 5 a5 -> op 0:1 | 0:4 read slot 3 gen 0 row 2
+answer 0:4 error -> taken | 0:5 read slot 0 gen 0 row 2 | 0:6 read slot 2 gen 0 row 2
+do 0:6 -> taken
+do 0:5 -> taken | 0:7 write slot 0 gen 0 row 2 a5 | 0:8 write slot 2 gen 0 row 2 57
+do 0:8 -> taken
+do 0:7 -> taken
+tell 0 -> declare_lost 3 0: degraded
+look 0 -> looked | reply 0:1 done
+read 0 -> op 0:2 | 0:9 read slot 2 gen 0 row 0 | 0:10 read slot 0 gen 0 row 0
+answer 0:9 error -> taken
+do 0:10 -> late
+tell 0 -> declare_lost 2 0: failed
+look 0 -> looked | reply 0:2 failed
+read 5 -> refused 5 ArrayFailed
+write 0 5a -> refused 5 ArrayFailed
+look 0 -> looked
+";
+    plays(&rt, rt.alloc(), transcript, 1)?;
+    Ok(())
+}
+
+#[test]
+fn three_errors_in_one_write_fail_it(rt: HostRuntime) -> Result<(), Fail> {
+    let transcript = "array 4 1 16 4 1 -> array
+write 0 5a -> op 0:0 | 0:0 read slot 2 gen 0 row 0
+do 0:0 -> taken | 0:1 write slot 1 gen 0 row 0 5a | 0:2 write slot 3 gen 0 row 0 5a | 0:3 write slot 0 gen 0 row 0 5a
+answer 0:3 error -> taken
+answer 0:2 error -> taken
+answer 0:1 error -> taken
+read 5 -> op 0:1
+tell 0 -> declare_lost 0 0: degraded
+tell 0 -> declare_lost 3 0: degraded
+tell 0 -> declare_lost 1 0: failed
+tell 0 -> nothing
+look 0 -> looked | reply 0:0 failed | reply 0:1 failed
+write 5 a5 -> refused 5 ArrayFailed
+";
+    plays(&rt, rt.alloc(), transcript, 1)?;
+    Ok(())
+}
+
+// Both writes and the first read are answered; two errors find the second read, whose data block and P are lost by then.
+#[test]
+fn three_errors_in_two_reads_fail_the_second(rt: HostRuntime) -> Result<(), Fail> {
+    let transcript = "array 4 1 16 4 1 -> array
+write 0 5a -> op 0:0 | 0:0 read slot 2 gen 0 row 0
+do 0:0 -> taken | 0:1 write slot 1 gen 0 row 0 5a | 0:2 write slot 3 gen 0 row 0 5a | 0:3 write slot 0 gen 0 row 0 5a
+do 0:1 -> taken
+do 0:2 -> taken
+do 0:3 -> taken
+look 0 -> looked | reply 0:0 done
+write 5 a5 -> op 0:1 | 0:4 read slot 3 gen 0 row 2
+do 0:4 -> taken | 0:5 write slot 0 gen 0 row 2 a5 | 0:6 write slot 1 gen 0 row 2 a5 | 0:7 write slot 2 gen 0 row 2 57
+do 0:5 -> taken
+do 0:6 -> taken
+do 0:7 -> taken
+look 0 -> looked | reply 0:1 done
+read 0 -> op 0:2 | 0:8 read slot 1 gen 0 row 0
+answer 0:8 error -> taken | 0:9 read slot 2 gen 0 row 0 | 0:10 read slot 3 gen 0 row 0
+do 0:9 -> taken
+do 0:10 -> taken
+tell 0 -> declare_lost 1 0: degraded
+look 0 -> looked | reply 0:2 data 5a
+read 5 -> op 0:3 | 0:11 read slot 0 gen 0 row 2
+answer 0:11 error -> taken | 0:12 read slot 3 gen 0 row 2 | 0:13 read slot 2 gen 0 row 2
+answer 0:12 error -> taken
+tell 0 -> declare_lost 0 0: degraded
+tell 0 -> declare_lost 3 0: failed
+do 0:13 -> late
+look 0 -> looked | reply 0:3 failed
+write 0 5a -> refused 5 ArrayFailed
+";
+    plays(&rt, rt.alloc(), transcript, 1)?;
     Ok(())
 }
 
 #[test]
 fn the_register_answers_each_call(rt: HostRuntime) -> Result<(), Fail> {
-    let transcript = [
-        ("array 4 1 16 4 1", "array"),
-        ("fail 4", "refused 1 NoSuchSlot"),
-        ("attach 18446744073709551615", "refused 1 NoSuchSlot"),
-        ("attach 0", "refused 4 NotLost"),
-        ("read 0", "op 0:0 | 0:0 read slot 1 gen 0 row 0"),
-        (
-            "answer 0:0 error",
-            "taken | 0:1 read slot 2 gen 0 row 0 | 0:2 read slot 3 gen 0 row 0",
-        ),
-        ("fail 1", "degraded"),
-        ("fail 1", "refused 2 AlreadyLost"),
-        ("attach 1", "generation 1"),
-        ("attach 1", "refused 4 NotLost"),
-        // The shard lost the device that has been replaced since.
-        ("tell 0", "declare_lost 1 0: refused 3 Stale"),
-        ("tell 0", "nothing"),
-        ("tell 1", "no such shard"),
-        ("fail 1", "degraded"),
-        ("attach 1", "generation 2"),
-        ("answer 0:1 error", "taken | 0:3 read slot 0 gen 0 row 0"),
-        ("fail 2", "degraded"),
-        ("tell 0", "declare_lost 2 0: refused 2 AlreadyLost"),
-        ("look 0", "looked"),
-        ("do 0:2", "taken"),
-        ("do 0:3", "taken"),
-        ("look 0", "looked | reply 0:0 data 00"),
-        // A slot with a new device counts as out until it is rebuilt.
-        ("fail 0", "failed"),
-        ("fail 3", "refused 5 ArrayFailed"),
-        ("attach 0", "refused 5 ArrayFailed"),
-    ];
-    plays_to(&rt, rt.alloc(), &transcript, 1)?;
+    let transcript = "array 4 1 16 4 1 -> array
+fail 4 -> refused 1 NoSuchSlot
+attach 18446744073709551615 -> refused 1 NoSuchSlot
+attach 0 -> refused 4 NotLost
+read 0 -> op 0:0 | 0:0 read slot 1 gen 0 row 0
+answer 0:0 error -> taken | 0:1 read slot 2 gen 0 row 0 | 0:2 read slot 3 gen 0 row 0
+fail 1 -> degraded
+fail 1 -> refused 2 AlreadyLost
+attach 1 -> generation 1
+attach 1 -> refused 4 NotLost
+tell 0 -> declare_lost 1 0: refused 3 Stale
+tell 0 -> nothing
+tell 1 -> no such shard
+fail 1 -> degraded
+attach 1 -> generation 2
+answer 0:1 error -> taken | 0:3 read slot 0 gen 0 row 0
+fail 2 -> degraded
+tell 0 -> declare_lost 2 0: refused 2 AlreadyLost
+look 0 -> looked
+do 0:2 -> taken
+do 0:3 -> taken
+look 0 -> looked | reply 0:0 data 00
+fail 0 -> failed
+fail 3 -> refused 5 ArrayFailed
+attach 0 -> refused 5 ArrayFailed
+";
+    plays(&rt, rt.alloc(), transcript, 1)?;
     Ok(())
 }
 
