@@ -11,12 +11,14 @@
 #include <string.h>
 #include <time.h>
 
-enum { ARENA = 64 << 20, LINE = 64, TRIES = 9 };
+enum { ARENA = 64 << 20, LINE = 64, TRIES = 40 };
 
-uint8_t r6_core_serve(bool writes, size_t width, uint64_t rounds);
-uint8_t r6_core_alone(bool writes, size_t width, uint64_t rounds);
-uint8_t r6_core_agrees(size_t width, uint64_t rounds);
-uint8_t r6_core_deliver(bool writes, uint64_t requests, uint64_t rounds);
+enum rows { APART, ONE_ROW, DEGRADED };
+
+uint8_t r6_core_serve(size_t slots, uint8_t rows, bool writes, size_t width, uint64_t rounds);
+uint8_t r6_core_alone(size_t slots, uint8_t rows, bool writes, size_t width, uint64_t rounds);
+uint8_t r6_core_agrees(size_t slots, uint8_t rows, size_t width, uint64_t rounds);
+uint8_t r6_core_deliver(bool one_row, bool writes, uint64_t requests, uint64_t rounds);
 uint8_t r6_table_rounds(uint32_t capacity, uint32_t entries, uint64_t rounds);
 uint8_t r6_core_make(size_t slots, uint64_t chunk, size_t block, uint64_t rows);
 
@@ -82,19 +84,21 @@ static void check(uint8_t answer)
     }
 }
 
+/* the time of this thread alone */
 static double seconds(void)
 {
     struct timespec now;
-    clock_gettime(CLOCK_MONOTONIC, &now);
+    clock_gettime(CLOCK_THREAD_CPUTIME_ID, &now);
     return (double)now.tv_sec + (double)now.tv_nsec * 1e-9;
 }
 
 /* what is measured */
 struct work {
     enum { SERVE, ALONE, DELIVER, TABLE } kind;
+    enum rows rows;
     bool writes;
+    uint32_t slots; /* or a table's room */
     uint32_t count; /* requests, or entries */
-    uint32_t capacity;
     uint64_t rounds;
 };
 
@@ -102,27 +106,33 @@ static void do_rounds(const struct work *work, uint64_t rounds)
 {
     switch (work->kind) {
     case SERVE:
-        check(r6_core_serve(work->writes, work->count, rounds));
+        check(r6_core_serve(work->slots, work->rows, work->writes, work->count, rounds));
         break;
     case ALONE:
-        check(r6_core_alone(work->writes, work->count, rounds));
+        check(r6_core_alone(work->slots, work->rows, work->writes, work->count, rounds));
         break;
     case DELIVER:
-        check(r6_core_deliver(work->writes, work->count, rounds));
+        check(r6_core_deliver(work->rows == ONE_ROW, work->writes, work->count, rounds));
         break;
     case TABLE:
-        check(r6_table_rounds(work->capacity, work->count, rounds));
+        check(r6_table_rounds(work->slots, work->count, rounds));
         break;
     }
 }
 
-/* the time of so many rounds, with all that is made before the first */
-static double seconds_of(const struct work *work, uint64_t rounds)
+/* the least time of so many rounds, with all that is made before the first */
+static double least_seconds_of(const struct work *work, uint64_t rounds)
 {
-    empty_arena();
-    double begun = seconds();
-    do_rounds(work, rounds);
-    return seconds() - begun;
+    double least = 1e9;
+    for (int i = 0; i < TRIES; i++) {
+        empty_arena();
+        double begun = seconds();
+        do_rounds(work, rounds);
+        double time = seconds() - begun;
+        if (time < least)
+            least = time;
+    }
+    return least;
 }
 
 /* how many blocks the heap hands out for so many rounds */
@@ -133,40 +143,41 @@ static uint64_t blocks_of(const struct work *work, uint64_t rounds)
     return blocks_handed_out;
 }
 
-static int compare(const void *a, const void *b)
-{
-    double x = *(const double *)a, y = *(const double *)b;
-    return (x > y) - (x < y);
-}
-
-/* the median time of a round, without that of making the array */
+/* the least time of a round, without that of making the array */
 static double seconds_a_round(const struct work *work)
 {
     /* the first rounds may take room for a queue, and later ones nothing */
-    if (blocks_of(work, 1000) != blocks_of(work, 3000)) {
+    if (blocks_of(work, 300) != blocks_of(work, 600)) {
         fprintf(stderr, "a round took memory\n");
         exit(1);
     }
-    double times[TRIES];
-    for (int i = 0; i < TRIES; i++)
-        times[i] = (seconds_of(work, work->rounds) - seconds_of(work, 0)) / (double)work->rounds;
-    qsort(times, TRIES, sizeof times[0], compare);
-    return times[TRIES / 2];
+    return (least_seconds_of(work, work->rounds) - least_seconds_of(work, 0)) / (double)work->rounds;
 }
+
+static const struct {
+    uint32_t slots;
+    enum rows rows;
+    uint32_t width;
+} arrays[] = {
+    {6, APART, 1}, {6, APART, 64}, {6, APART, 256}, {6, ONE_ROW, 64}, {6, ONE_ROW, 256},
+    {6, DEGRADED, 1}, {8, APART, 1}, {8, APART, 64}, {32, APART, 1}, {32, APART, 64}};
+
+enum { ARRAYS = sizeof arrays / sizeof arrays[0] };
+
+static const char *const words[] = {"apart", "one row", "degraded"};
 
 static void print_requests(void)
 {
-    static const uint32_t widths[] = {1, 64};
-    printf("%-8s %6s %14s %14s %12s\n", "requests", "width", "core /s", "alone /s", "alone/core");
+    printf("%-8s %6s %10s %6s %10s %10s %10s\n", "requests", "slots", "rows", "width", "core ns", "alone ns", "beside ns");
     for (int writes = 1; writes >= 0; writes--) {
-        for (int i = 0; i < 2; i++) {
-            uint64_t rounds = (writes ? 100000 : 400000) / widths[i];
-            struct work served = {SERVE, writes, widths[i], 0, rounds};
-            struct work alone = {ALONE, writes, widths[i], 0, rounds};
-            double core_rate = widths[i] / seconds_a_round(&served);
-            double alone_rate = widths[i] / seconds_a_round(&alone);
-            printf("%-8s %6u %14.0f %14.0f %12.2f\n", writes ? "writes" : "reads", widths[i], core_rate, alone_rate,
-                   alone_rate / core_rate);
+        for (int i = 0; i < ARRAYS; i++) {
+            uint32_t width = arrays[i].width;
+            struct work work = {SERVE, arrays[i].rows, writes, arrays[i].slots, width, (writes ? 2048 : 8192) / width};
+            double served = seconds_a_round(&work) / width * 1e9;
+            work.kind = ALONE;
+            double alone = seconds_a_round(&work) / width * 1e9;
+            printf("%-8s %6u %10s %6u %10.0f %10.0f %10.0f\n", writes ? "writes" : "reads", work.slots, words[work.rows],
+                   width, served, alone, served - alone);
         }
     }
 }
@@ -174,13 +185,14 @@ static void print_requests(void)
 static void print_completions(void)
 {
     static const uint32_t requests[] = {1, 64, 256};
-    printf("\n%-8s %8s %8s %8s %12s\n", "requests", "of them", "waiting", "commands", "completion");
+    printf("\n%-8s %10s %8s %12s\n", "requests", "rows", "of them", "completion");
     for (int writes = 0; writes <= 1; writes++) {
-        for (int i = 0; i < 3; i++) {
-            uint32_t held = requests[i] < 64 ? requests[i] : 64;
-            struct work work = {DELIVER, writes, requests[i], 0, 400000};
-            printf("%-8s %8u %8u %8u %9.0f ns\n", writes ? "writes" : "reads", requests[i], requests[i] - held,
-                   writes ? 3 * held : held, seconds_a_round(&work) * 1e9);
+        for (int rows = APART; rows <= ONE_ROW; rows++) {
+            for (int i = 0; i < 3; i++) {
+                struct work work = {DELIVER, rows, writes, 6, requests[i], 10000};
+                printf("%-8s %10s %8u %9.0f ns\n", writes ? "writes" : "reads", words[rows], requests[i],
+                       seconds_a_round(&work) * 1e9);
+            }
         }
     }
 }
@@ -191,8 +203,8 @@ static void print_tables(void)
         {384, 1}, {384, 64}, {384, 192}, {2048, 1}, {2048, 64}, {2048, 192}, {2048, 2000}};
     printf("\n%-8s %8s %12s\n", "room", "entries", "round");
     for (int i = 0; i < 7; i++) {
-        struct work work = {TABLE, false, room_and_entries[i][1], room_and_entries[i][0], 4000000};
-        printf("%-8u %8u %9.1f ns\n", work.capacity, work.count, seconds_a_round(&work) * 1e9);
+        struct work work = {TABLE, APART, false, room_and_entries[i][0], room_and_entries[i][1], 100000};
+        printf("%-8u %8u %9.1f ns\n", work.slots, work.count, seconds_a_round(&work) * 1e9);
     }
 }
 
@@ -212,9 +224,9 @@ static void print_memory(void)
 /* the core's writes leave the same blocks on the devices as those that are done alone */
 static void compare_blocks(void)
 {
-    for (size_t width = 1; width <= 64; width += 63) {
+    for (int i = 0; i < ARRAYS; i++) {
         empty_arena();
-        if (r6_core_agrees(width, 2) != 0) {
+        if (r6_core_agrees(arrays[i].slots, arrays[i].rows, arrays[i].width, 2) != 0) {
             fprintf(stderr, "the core's writes leave other blocks than those alone\n");
             exit(1);
         }

@@ -1,28 +1,30 @@
 //! Whether the core's writes leave what the same writes leave that are done alone.
 
 use crate::alone::alone;
-use crate::array::{BLOCK, Failed, ROWS, SLOTS};
+use crate::array::{BLOCK, Failed, Work};
 use crate::serve::serve;
 use r6_dev::{BlockDevice, MemoryDevice};
 use r6_kernels::Buffer;
 use std::alloc::Global;
 
-/// Does `rounds` rounds of `width` writes both ways, and says whether the devices have the same blocks then.
-pub(crate) fn agree(alloc: Global, width: usize, rounds: u64) -> Result<bool, Failed> {
-    let mut served = serve(alloc, true, width, rounds)?;
-    let mut alone = alone(alloc, true, width, rounds)?;
-    have_same_blocks(alloc, &mut served, &mut alone)
+/// Does the writes both ways, and says whether the devices have the same blocks then.
+pub(crate) fn agree(alloc: Global, work: &Work) -> Result<bool, Failed> {
+    let rows = work.geometry()?.rows();
+    let mut served = serve(alloc, work)?;
+    let mut alone = alone(alloc, work)?;
+    have_same_blocks(alloc, rows, &mut served, &mut alone)
 }
 
 fn have_same_blocks(
     alloc: Global,
+    rows: u64,
     some: &mut Vec<MemoryDevice>,
     others: &mut Vec<MemoryDevice>,
 ) -> Result<bool, Failed> {
     let mut block = Buffer::new(alloc, BLOCK)?;
     let mut other = Buffer::new(alloc, BLOCK)?;
-    for slot in 0..SLOTS {
-        for row in 0..ROWS {
+    for slot in 0..some.len() {
+        for row in 0..rows {
             some.get_mut(slot).ok_or(Failed)?.read(row, &mut block)?;
             others.get_mut(slot).ok_or(Failed)?.read(row, &mut other)?;
             if block.as_slice() != other.as_slice() {

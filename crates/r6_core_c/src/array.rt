@@ -1,6 +1,6 @@
 //! The array of the benchmark, its devices and its callers' buffers.
 
-ghost use Rattle.std.specs.Prelude.{◌≡◌, ◌<◌, ◌^◌, false, length, IfOk};
+ghost use Rattle.std.specs.Prelude.{◌≡◌, ◌+◌, ◌<◌, ◌≤◌, false, length, IfOk};
 ghost use Rattle.std.specs.List.{All};
 ghost use Rattle.r6_layout.specs.Shape.{IsShape};
 
@@ -12,17 +12,61 @@ use r6_layout::{Geometry, GeometryError};
 use std::alloc::{AllocError, AllocFailed, Global};
 use std::collections::VecDeque;
 
-/// P, Q and four blocks of data.
-pub(crate) const SLOTS: usize = 6;
-
 /// Requests are served in blocks of so many bytes.
 pub(crate) const BLOCK: usize = 4096;
 
-/// As many rows as a core holds at one time.
-pub(crate) const ROWS: u64 = 64;
+/// Which rows the requests of a round go to. Each asks for the first block of data of its row.
+#[derive(Drop)]
+pub(crate) enum Rows {
+    /// Each to a row of its own.
+    Apart,
+    /// All to one row.
+    One,
+    /// Each to a row of its own, whose first block of data stands in slot 0, which is lost.
+    Degraded,
+}
 
-/// The blocks of data of a row. With chunks of one block, row `r` has those from `r * DATA` on.
-pub(crate) const DATA: usize = SLOTS - 2;
+/// What is measured: the rounds of requests, and the array that they go to, with chunks of one block and one shard.
+#[derive(Drop)]
+pub(crate) struct Work {
+    pub slots: usize,
+    pub rows: Rows,
+    pub writes: bool,
+    /// The requests of a round.
+    pub width: usize,
+    pub rounds: u64,
+}
+
+impl Work {
+    /// The array, with as many rows as the requests of a round need.
+    pub(crate) fn geometry(&self) -> Result<Geometry, Failed>
+        ensures { IfOk result (λ shape. IsShape shape × (shape.shards ≡ 1) × (shape.slots ≡ self.now.slots)) }
+    {
+        let rows = self.row(self.width as u64).wrapping_add(1);
+        Ok(Geometry::new(self.slots, 1, BLOCK, rows, 1)?)
+    }
+
+    /// The register's snapshot.
+    pub(crate) fn snapshot(&self, geometry: &Geometry) -> Snapshot
+        requires { IsShape geometry.now }
+        ensures no_attach { result.attaches ≡ 0 }
+        ensures unfailed { result.failed ≡ false }
+    {
+        match self.rows {
+            Rows::Degraded => without_slot_0(geometry),
+            _ => whole(geometry),
+        }
+    }
+
+    /// The row that request `number` of a round goes to. Row 1 is the first whose first block of data stands in slot 0.
+    pub(crate) fn row(&self, number: u64) -> u64 {
+        match self.rows {
+            Rows::Apart => number,
+            Rows::One => 0,
+            Rows::Degraded => number.wrapping_mul(self.slots as u64).wrapping_add(1),
+        }
+    }
+}
 
 /// Nothing was measured: there was no memory, there can't be such an array, or a request was not answered.
 #[derive(Drop)]
@@ -73,6 +117,15 @@ pub(crate) fn whole(geometry: &Geometry) -> Snapshot
     Snapshot::start(geometry, 0)
 }
 
+// And with slot 0 lost.
+fn without_slot_0(geometry: &Geometry) -> Snapshot
+    requires { IsShape geometry.now }
+    ensures no_attach { result.attaches ≡ 0 }
+    ensures unfailed { result.failed ≡ false }
+{
+    Snapshot::start(geometry, 1)
+}
+
 /// The core of an array in one shard.
 pub(crate) fn core_of(
     alloc: Global,
@@ -121,11 +174,10 @@ pub(crate) fn buffers_of(
     Ok(buffers)
 }
 
-/// The request for the first block of data of a row.
-pub(crate) fn request(row: u64, buffer: Buffer, writes: bool) -> Op
-    requires { row < 2 ^ 32 }
-{
-    let block = row * DATA as u64;
+/// The request for the first block of data of a row, in an array of so many slots. With chunks of one block, the row has
+/// those from `row * (slots - 2)` on.
+pub(crate) fn request(slots: usize, row: u64, buffer: Buffer, writes: bool) -> Op {
+    let block = row.wrapping_mul(slots.wrapping_sub(2) as u64);
     if writes {
         Op::Write(block, buffer)
     } else {

@@ -1,6 +1,6 @@
 //! Completions, with many commands out.
 
-use crate::array::{Failed, SLOTS, buffer_of, core_of, request, whole};
+use crate::array::{Failed, buffer_of, core_of, request, whole};
 use r6_core::{Command, Core};
 use r6_kernels::Buffer;
 use r6_layout::Geometry;
@@ -10,13 +10,17 @@ use std::collections::VecDeque;
 /// As many rows as a core takes requests.
 const ROWS: u64 = 256;
 
+/// P, Q and four blocks of data.
+const SLOTS: usize = 6;
+
 /// The shortest blocks, so that little is copied.
 const SHORTEST: usize = 16;
 
-/// Keeps so many requests in a core, each to a row of its own, and answers `rounds` commands, the oldest first. A command's
-/// buffer comes back as it is; the place of a request that was done is taken by the next.
+/// Keeps so many requests in a core, each to a row of its own or all to one, and answers `rounds` commands, the oldest first.
+/// A command's buffer comes back as it is; the place of a request that was done is taken by the next.
 pub(crate) fn deliver(
     alloc: Global,
+    one_row: bool,
     writes: bool,
     requests: u64,
     rounds: u64,
@@ -24,8 +28,10 @@ pub(crate) fn deliver(
     let geometry = Geometry::new(SLOTS, 1, SHORTEST, ROWS, 1)?;
     let snapshot = whole(&geometry);
     let mut core = core_of(alloc, &geometry, &snapshot)?;
-    for row in 0..requests {
-        submit(&mut core, row, Buffer::new(alloc, SHORTEST)?, writes)?;
+    let rows = if one_row { 1 } else { ROWS };
+    for number in 0..requests {
+        let buffer = Buffer::new(alloc, SHORTEST)?;
+        submit(&mut core, number % rows, buffer, writes)?;
     }
     let mut commands = VecDeque::new(alloc);
     take_commands(&mut core, &mut commands)?;
@@ -33,21 +39,16 @@ pub(crate) fn deliver(
         answer_one(&mut core, &mut commands)?;
         core.look(&snapshot)?;
         if let Some((id, reply)) = core.take_reply() {
-            submit(
-                &mut core,
-                id.0.wrapping_add(requests),
-                buffer_of(reply)?,
-                writes,
-            )?;
+            let number = id.0.wrapping_add(requests);
+            submit(&mut core, number % rows, buffer_of(reply)?, writes)?;
         }
         take_commands(&mut core, &mut commands)?;
     }
     Ok(())
 }
 
-// Submits the request of this number, to a row that no other request has.
-fn submit(core: &mut Core, number: u64, buffer: Buffer, writes: bool) -> Result<(), Failed> {
-    match core.submit(request(number % ROWS, buffer, writes)) {
+fn submit(core: &mut Core, row: u64, buffer: Buffer, writes: bool) -> Result<(), Failed> {
+    match core.submit(request(SLOTS, row, buffer, writes)) {
         Ok(_) => Ok(()),
         Err(_) => Err(Failed),
     }

@@ -4,7 +4,7 @@
 //! where a request was not answered.
 #![tactic(auto)]
 
-ghost use Rattle.std.specs.Prelude.{◌≤◌};
+ghost use Rattle.std.specs.Prelude.{◌≡◌, ◌≤◌};
 
 mod agree;
 mod alone;
@@ -13,17 +13,25 @@ mod deliver;
 mod serve;
 mod table;
 
-use array::Failed;
+use array::{Failed, Rows, Work};
 use r6_core::Core;
 use r6_layout::Geometry;
 use std::alloc::Global;
 
-/// Has `rounds` rounds of `width` requests, 1 to 64, served by the core of an array of six slots, from submit to reply.
+/// Has `rounds` rounds of `width` requests, 1 to 256, served by the core of an array of `slots` slots, from submit to reply:
+/// for `rows` 0 each to a row of its own, for 1 all to one row, for 2 each to a block whose slot is lost.
 #[unsafe(no_mangle)]
-pub extern "C" fn r6_core_serve(alloc: Global, writes: bool, width: usize, rounds: u64) -> u8
+pub extern "C" fn r6_core_serve(
+    alloc: Global,
+    slots: usize,
+    rows: u8,
+    writes: bool,
+    width: usize,
+    rounds: u64,
+) -> u8
     ensures { result ≤ 1 }
 {
-    match serve::serve(alloc, writes, width, rounds) {
+    match serve::serve(alloc, &work(slots, rows, writes, width, rounds)) {
         Ok(_) => 0,
         Err(Failed) => 1,
     }
@@ -31,34 +39,70 @@ pub extern "C" fn r6_core_serve(alloc: Global, writes: bool, width: usize, round
 
 /// Does the copies and the parities of the same requests, on the same devices, without a core.
 #[unsafe(no_mangle)]
-pub extern "C" fn r6_core_alone(alloc: Global, writes: bool, width: usize, rounds: u64) -> u8
+pub extern "C" fn r6_core_alone(
+    alloc: Global,
+    slots: usize,
+    rows: u8,
+    writes: bool,
+    width: usize,
+    rounds: u64,
+) -> u8
     ensures { result ≤ 1 }
 {
-    match alone::alone(alloc, writes, width, rounds) {
+    match alone::alone(alloc, &work(slots, rows, writes, width, rounds)) {
         Ok(_) => 0,
         Err(Failed) => 1,
     }
 }
 
-/// Answers 0 if `rounds` rounds of `width` writes, 1 to 64, leave the same blocks on the devices, served by the core and done
-/// alone.
+/// Answers 0 if `rounds` rounds of `width` writes leave the same blocks on the devices, served by the core and done alone.
 #[unsafe(no_mangle)]
-pub extern "C" fn r6_core_agrees(alloc: Global, width: usize, rounds: u64) -> u8
+pub extern "C" fn r6_core_agrees(
+    alloc: Global,
+    slots: usize,
+    rows: u8,
+    width: usize,
+    rounds: u64,
+) -> u8
     ensures { result ≤ 1 }
 {
-    match agree::agree(alloc, width, rounds) {
+    match agree::agree(alloc, &work(slots, rows, true, width, rounds)) {
         Ok(true) => 0,
         Ok(false) => 1,
         Err(Failed) => 1,
     }
 }
 
-/// Keeps `requests` requests, 1 to 256, in a core, and answers `rounds` of their commands, the oldest first.
+fn work(slots: usize, rows: u8, writes: bool, width: usize, rounds: u64) -> Work
+    ensures { result.slots ≡ slots }
+{
+    let rows = match rows {
+        0 => Rows::Apart,
+        1 => Rows::One,
+        _ => Rows::Degraded,
+    };
+    Work {
+        slots,
+        rows,
+        writes,
+        width,
+        rounds,
+    }
+}
+
+/// Keeps `requests` requests, 1 to 256, in a core, each to a row of its own or all to one, and answers `rounds` of their
+/// commands, the oldest first.
 #[unsafe(no_mangle)]
-pub extern "C" fn r6_core_deliver(alloc: Global, writes: bool, requests: u64, rounds: u64) -> u8
+pub extern "C" fn r6_core_deliver(
+    alloc: Global,
+    one_row: bool,
+    writes: bool,
+    requests: u64,
+    rounds: u64,
+) -> u8
     ensures { result ≤ 1 }
 {
-    match deliver::deliver(alloc, writes, requests, rounds) {
+    match deliver::deliver(alloc, one_row, writes, requests, rounds) {
         Ok(()) => 0,
         Err(Failed) => 1,
     }

@@ -1,47 +1,39 @@
 //! Requests are served by the core, over devices in memory.
 
-use crate::array::{
-    BLOCK, Failed, ROWS, SLOTS, buffer_of, buffers_of, core_of, devices_of, request, whole,
-};
+use crate::array::{BLOCK, Failed, Work, buffer_of, buffers_of, core_of, devices_of, request};
 use r6_core::{Command, CommandKind, Core};
 use r6_dev::{BlockDevice, MemoryDevice};
-use r6_health::Snapshot;
 use r6_kernels::Buffer;
-use r6_layout::Geometry;
 use std::alloc::Global;
 use std::collections::VecDeque;
 
-/// Serves `rounds` rounds of `width` requests, and answers the devices as they are then.
-pub(crate) fn serve(
-    alloc: Global,
-    writes: bool,
-    width: usize,
-    rounds: u64,
-) -> Result<Vec<MemoryDevice>, Failed> {
-    let geometry = Geometry::new(SLOTS, 1, BLOCK, ROWS, 1)?;
-    let snapshot = whole(&geometry);
+/// Serves the rounds of requests, and answers the devices as they are then.
+pub(crate) fn serve(alloc: Global, work: &Work) -> Result<Vec<MemoryDevice>, Failed> {
+    let geometry = work.geometry()?;
+    let snapshot = work.snapshot(&geometry);
     let mut core = core_of(alloc, &geometry, &snapshot)?;
     let mut devices = devices_of(alloc, &geometry)?;
-    let mut buffers = buffers_of(alloc, BLOCK, width)?;
-    for _ in 0..rounds {
-        submit_all(&mut core, &mut buffers, writes);
+    let mut buffers = buffers_of(alloc, BLOCK, work.width)?;
+    for _ in 0..work.rounds {
+        submit_all(&mut core, &mut buffers, work);
         drive(&mut core, &mut devices);
         core.look(&snapshot)?;
-        take_replies(&mut core, &mut buffers)?;
+        take_replies(&mut core, &mut buffers, work)?;
     }
-    if buffers.len() != width {
+    if buffers.len() != work.width {
         return Err(Failed);
     }
     Ok(devices)
 }
 
-// Submits a request with each buffer, to a row of its own.
-fn submit_all(core: &mut Core, buffers: &mut VecDeque<Buffer>, writes: bool) {
-    for row in 0..ROWS {
+// Submits a request with each buffer.
+fn submit_all(core: &mut Core, buffers: &mut VecDeque<Buffer>, work: &Work) {
+    for number in 0..work.width {
         let Some(buffer) = buffers.pop_front() else {
             return;
         };
-        let _ = core.submit(request(row, buffer, writes));
+        let row = work.row(number as u64);
+        let _ = core.submit(request(work.slots, row, buffer, work.writes));
     }
 }
 
@@ -77,8 +69,12 @@ fn perform(command: Command, devices: &mut Vec<MemoryDevice>) -> Option<(u64, Bu
 }
 
 // Takes every reply, and its caller's buffer back.
-fn take_replies(core: &mut Core, buffers: &mut VecDeque<Buffer>) -> Result<(), Failed> {
-    for _ in 0..ROWS {
+fn take_replies(
+    core: &mut Core,
+    buffers: &mut VecDeque<Buffer>,
+    work: &Work,
+) -> Result<(), Failed> {
+    for _ in 0..work.width {
         let Some((_, reply)) = core.take_reply() else {
             return Ok(());
         };

@@ -3,8 +3,8 @@ use Rattle.std.specs.List.{All}
 use Rattle.r6_core_c.specs.Alone.{IsSized}
 use Rattle.r6_core_c.proofs.alone.alone.Given as goal
 
-abbrev pub invariant-loop-row : goal.invariant-loop-row
-invariant-loop-row l =
+abbrev pub invariant-loop-number : goal.invariant-loop-number
+invariant-loop-number l =
     record {
       room : IsSized l.room;
       buffers : All (λ block. length block ≡ 4096) l.buffers.items;
