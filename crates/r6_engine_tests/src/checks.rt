@@ -207,13 +207,7 @@ fn a_watch_hears_of_a_pass_and_of_its_end(rt: HostRuntime) -> Result<(), Fail> {
         passed: 0,
         ended: 0,
     };
-    verify(
-        &rt,
-        rt.alloc(),
-        &geometry,
-        parts.as_mut_slice(),
-        &mut heard,
-    )?;
+    verify(&rt, rt.alloc(), &geometry, parts.as_mut_slice(), &mut heard)?;
     assert_eq!(rt; (heard.passed, heard.ended), (1, 1));
     Ok(())
 }

@@ -82,7 +82,10 @@ pub(crate) fn ends<F: FileExt + Seek + Drop, R: Abort + Wait + Threads + Files<F
 }
 
 /// A command whose file fails behind this text has to print nothing, and to end so.
-pub(crate) fn ends_unread<F: FileExt + Seek + Drop, R: Abort + Wait + Threads + Files<File = F> + Sync>(
+pub(crate) fn ends_unread<
+    F: FileExt + Seek + Drop,
+    R: Abort + Wait + Threads + Files<File = F> + Sync,
+>(
     rt: &R,
     alloc: Global,
     invocation: &Invocation<'_>,
@@ -108,13 +111,10 @@ pub(crate) fn ends_unread<F: FileExt + Seek + Drop, R: Abort + Wait + Threads + 
 }
 
 /// A command whose output takes so many bytes has to say so, and to end with 4, where standard error refuses too.
-pub(crate) fn ends_unwritten<F: FileExt + Seek + Drop, R: Abort + Wait + Threads + Files<File = F> + Sync>(
-    rt: &R,
-    alloc: Global,
-    invocation: &Invocation<'_>,
-    text: &[u8],
-    room: usize,
-) {
+pub(crate) fn ends_unwritten<
+    F: FileExt + Seek + Drop,
+    R: Abort + Wait + Threads + Files<File = F> + Sync,
+>(rt: &R, alloc: Global, invocation: &Invocation<'_>, text: &[u8], room: usize) {
     let (mut settings, mut script) = (text, text);
     let mut out = Full { room };
     let mut err = ErrorOutput::new(Vec::new(alloc), false);
