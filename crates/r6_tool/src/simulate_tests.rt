@@ -10,6 +10,7 @@ use std::process::Abort;
 use std::rt::Files;
 use std::sync::Wait;
 use std::test::Fail;
+use std::thread::Threads;
 
 const SIMULATE: Invocation<'static> = Invocation::Simulate { script: "script" };
 
@@ -17,7 +18,7 @@ const FOUR_SLOTS: &str = "array 4 1 16 4 1\n";
 
 /// A script has to print what its transcript says, and to end with this status. Each line of a transcript is an event and
 /// what it prints, with an arrow between.
-fn plays<F: FileExt + Seek + Drop, R: Abort + Wait + Files<File = F>>(
+fn plays<F: FileExt + Seek + Drop, R: Abort + Wait + Threads + Files<File = F> + Sync>(
     rt: &R,
     alloc: Global,
     transcript: &str,
@@ -40,7 +41,7 @@ fn plays<F: FileExt + Seek + Drop, R: Abort + Wait + Files<File = F>>(
 }
 
 /// A script has to be refused at this line.
-fn is_refused_at<F: FileExt + Seek + Drop, R: Abort + Wait + Files<File = F>>(
+fn is_refused_at<F: FileExt + Seek + Drop, R: Abort + Wait + Threads + Files<File = F> + Sync>(
     rt: &R,
     alloc: Global,
     text: &str,
