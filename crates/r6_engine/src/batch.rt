@@ -14,9 +14,9 @@ use std::alloc::{AllocError, Global};
 use std::thread::Threads;
 
 // Bytes of the rows that are read before they are classified, and how many rows these are at most.
-const BATCH_BYTES: usize = 1 << 22;
+const BATCH_BYTES: usize = 1 << 24;
 
-const BATCH_ROWS: usize = 1024;
+const BATCH_ROWS: usize = 4096;
 
 /// How far a batch was read.
 #[derive(Clone, Copy, PartialEq, Eq, Debug)]
