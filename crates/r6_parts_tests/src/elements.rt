@@ -36,6 +36,7 @@ fn powers_and_exponents(rt: HostRuntime) {
         assert!(rt; Gf::exp(exponent as u32) == Gf(powers[exponent]));
     }
     assert!(rt; Gf::exp(255) == Gf(0x01));
+    assert!(rt; Gf(0x40).doubled() == Gf(0x80) && Gf(0x80).doubled() == Gf(0x1d));
     for (element, exponent) in [(0x00, None), (0x01, Some(0)), (0x1d, Some(8))] {
         assert!(rt; Gf(element).log() == exponent);
     }
