@@ -1,8 +1,7 @@
 -- A parity that is restored, while a data block that is missing too stands in the row for as long as that takes.
-use Rattle.std.proofs.Common.{◌≡◌, ◌≢◌, ◌⊎◌, inl, inr, ℕ, zero, suc, ◌+◌, ◌-◌, ◌<◌, ◌≤◌, List, [], ◌∷◌, ◌++◌, length, get_or, set, take, drop, refl, sym, ◌∙◌, ap, subst, arith, Some, None}
+use Rattle.std.proofs.Common.{◌≡◌, ◌≢◌, ◌⊎◌, inl, inr, ℕ, suc, ◌+◌, ◌-◌, ◌<◌, ◌≤◌, List, [], ◌∷◌, ◌++◌, length, get_or, set, take, drop, refl, sym, ◌∙◌, ap, subst, arith, Some, None}
 use Rattle.std.specs.Prelude.{Option, IfSome}
 use Rattle.std.specs.List.{All}
-use Rattle.std.proofs.lemmas.Bool.{cases_eq}
 use Rattle.std.proofs.lemmas.List.{get_or-take, get_or-set_same, get_or-set_other, length-set, length-take-le, ext_get_or, set_split, drop_more, get_or-append-add, get_or-drop, take-take}
 use Rattle.std.proofs.Math.Seq.{get_or-append_seam}
 use Rattle.r6_kernels.specs.Blocks.{p_of, q_of}

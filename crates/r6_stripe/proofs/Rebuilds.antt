@@ -1,16 +1,15 @@
 -- A rebuild computes its target's block, and follows its plan.
-use Rattle.std.proofs.Common.{◌≡◌, ◌≢◌, ◌⊎◌, inl, inr, Bool, true, false, ℕ, ◌+◌, ◌-◌, ◌<◌, ◌≤◌, List, [], ◌∷◌, length, get_or, set, refl, sym, ◌∙◌, ap, subst, arith, Some, None}
+use Rattle.std.proofs.Common.{◌≡◌, ◌≢◌, ◌⊎◌, inl, inr, Bool, true, false, ℕ, ◌-◌, ◌<◌, ◌≤◌, List, [], ◌∷◌, length, get_or, refl, sym, ◌∙◌, ap, subst, arith, Some, None}
 use Rattle.std.specs.Prelude.{◌&&◌, ◌||◌, ◌==◌, not, Option, if◌then◌else◌, option_map, nat_le}
 use Rattle.std.proofs.lemmas.Bool.{cases_eq, false_from_ne_true, leb-true, eq-eqb, eqb-true, ne_eqb, and_right}
-use Rattle.std.proofs.lemmas.List.{get_or-set_same, get_or-set_other}
 use Rattle.r6_recover.specs.Known.{IsMissing}
 use Rattle.r6_recover.specs.Restores.{AreLongButMissing, MayMiss}
 use Rattle.r6_recover.specs.Rows.{block_at}
 use Rattle.r6_recover.specs.declared.known.Missing.{Missing}
-use Rattle.r6_stripe.specs.Holds.{Reading, Standing, Writing, Cell, Kind, Hold, cell_at, made_ready, is_known, with_new, IsBefore, Carries}
+use Rattle.r6_stripe.specs.Holds.{Standing, Writing, Cell, Kind, Hold, cell_at, made_ready, is_known, with_new, IsBefore}
 use Rattle.r6_stripe.specs.Holds.Event.{Computes}
 use Rattle.r6_stripe.specs.Plans as plans
-use Rattle.r6_stripe.specs.Places.{known_of, reading_of, standing_of, writing_of, cell_of, cells_of, no_place, replaced_read, with_ready, ready_at, is_lent, is_read_out, is_writable, is_computed}
+use Rattle.r6_stripe.specs.Places.{known_of, reading_of, standing_of, writing_of, cells_of, no_place, replaced_read, ready_at, is_lent, is_read_out, is_writable, is_computed}
 use Rattle.r6_stripe.specs.Sound.{AreHome, Each, HasBuffer, IsInCourse, IsRebuilding, IsSettled, IsSound, IsTask, MayCut, MayLend}
 use Rattle.r6_stripe.specs.Recovery.{IsAmongMissing, RestoresAt}
 use Rattle.r6_stripe.specs.Views.{hold_of, kind_of, plan_of, planned_of}
@@ -31,7 +30,7 @@ use Rattle.r6_stripe.proofs.Missing.{agree_missing, among_missing, full_row, kno
 use Rattle.r6_stripe.proofs.Nexts.{next_is, read_parts}
 use Rattle.r6_stripe.proofs.Planned.{recover_only}
 use Rattle.r6_stripe.proofs.Places.{length-cells_of, cell_at-cells_of, any_false, any_true, any_each}
-use Rattle.r6_stripe.proofs.Renewals.{IsAmong, entries_of, length-ready_at, ready_among, ready_beside, new_among, new_beside, renewed_cells}
+use Rattle.r6_stripe.proofs.Renewals.{entries_of, length-ready_at, ready_among, ready_beside, new_among, new_beside, renewed_cells}
 use Rattle.r6_stripe.proofs.Searches.{each_true}
 use Rattle.r6_stripe.proofs.States.{not_away, not_lent}
 

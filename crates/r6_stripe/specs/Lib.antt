@@ -8,6 +8,7 @@ pub mod Places
 pub mod OneBlock
 pub mod PlanLaws
 pub mod Plans
+pub mod Preparing
 pub mod Recovery
 pub mod Refusals
 pub mod RowWorld

@@ -26,7 +26,8 @@ IsTask count size (Some task.Repair) = ⊤
 abbrev pub IsRestoredPlace : Place → Type 0
 IsRestoredPlace place = (place.state ≡ state.Out) × (place.read ≡ read.Known) × (place.write ≡ write.Unwritten)
 
--- a buffer that is away left with the position's last command, and another may stand in for it; and it holds one block at most
+-- a buffer that is away left with the position's last command, and another may stand in for it; and it holds one block
+-- at most
 pub record IsSettled (place : Place) : Type 0 where
   pub away : place.away ≡ true → ((place.read ≡ read.Asked) × (place.write ≡ write.Unwritten)) ⊎ (place.write ≡ write.Sent) ⊎ IsRestoredPlace place
   pub one_block : place.write ≢ write.Unwritten → place.read ≢ read.Known

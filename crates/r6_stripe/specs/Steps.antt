@@ -68,7 +68,8 @@ abbrev pub sent : Held → ℕ → List ℕ → Held
 sent held position block =
     record held { planned = planned_after held.planned (Writes position block); away = slice_set held.away position true }
 
--- the answer to the position's command: a read gives the block, a write is confirmed; where the position is out nothing changes
+-- the answer to the position's command: a read gives the block, a write is confirmed; where the position is out nothing
+-- changes
 abbrev pub with_answer : Planned → ℕ → List ℕ → Planned
 with_answer planned position block =
     if is_out (cell_at planned.hold.cells position).standing then planned
@@ -99,7 +100,8 @@ can_drop Plan.Overwrite hold position = false
 can_drop Plan.Recover hold position = false
 can_drop Plan.All hold position = false
 
--- what `next_command` answers and leaves: the command that comes next by the plan, and none only where the plan has none
+-- what `next_command` answers and leaves: the command that comes next by the plan, and none only where the plan has
+-- none
 abbrev pub PutsOut : Held → Option RowCommand → Held → Type 0
 PutsOut old None new = Prepares old.planned new.planned × (next new.planned ≡ None) × (new.away ≡ old.away) × (new.class ≡ old.class)
 PutsOut old (Some (command.Read position buffer)) new =

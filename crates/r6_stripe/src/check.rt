@@ -3,14 +3,14 @@
 //! The class is computed from the buffers of the positions as soon as the last of them has its block, and it is kept: a
 //! repair's new parities then take the places of those that differ.
 
-ghost use Rattle.std.specs.Prelude.{◌≡◌, ◌≢◌, ◌<◌, ◌≤◌, ◌||◌, ◌&&◌, ℕ, List, not, false, true, None, Some, length, All, IfSome};
-ghost use Rattle.r6_recover.specs.Rows.{block_length};
+ghost use Rattle.std.specs.Prelude.{◌≡◌, ◌<◌, ◌≤◌, ◌||◌, ◌&&◌, not, false, None, Some, length, All, IfSome};
 ghost use Rattle.r6_recover.specs.declared.class.RowClass.{RowClass};
 ghost use Rattle.r6_stripe.specs.Checks as checks;
 ghost use Rattle.r6_stripe.specs.Checks.{IsClassAfter, IsClassed, is_read_whole, is_wrong, repaired, repaired_at};
 ghost use Rattle.r6_stripe.specs.Holds.{all_known, wants_all};
 ghost use Rattle.r6_stripe.specs.Places.{away_of, ready_at, set_if};
 ghost use Rattle.r6_stripe.specs.Plans as plans;
+ghost use Rattle.r6_stripe.specs.Preparing.{HasReadEnough, KeepsClass, OwesNew};
 ghost use Rattle.r6_stripe.specs.Sound.{IsSound};
 ghost use Rattle.r6_stripe.specs.Views.{held_of, hold_of, plan_of, planned_of};
 
@@ -89,18 +89,15 @@ impl HoldState {
         requires classed { IsClassed (hold_of self.old) self.old.class }
         requires goes_on { plans.gives_up (hold_of self.old) ≡ false }
         requires plan { plan_of self.old.plan ≡ plans.Plan.All }
-        requires read { let hold = hold_of self.old in
-            not (plans.has_read_out hold || not (plans.is_enough (plan_of self.old.plan) hold)) ≡ true }
+        requires read { HasReadEnough (planned_of self.old) }
         requires no_read { plans.next_read (plan_of self.old.plan) (hold_of self.old) ≡ None }
-        requires owed { let hold = hold_of self.old in
-            plans.each_below (λ position. not (plans.lacks_new hold position)) (length hold.cells) ≡ false }
+        requires owed { OwesNew (hold_of self.old) }
         ensures sound { IsSound self.new }
         ensures classed { IsClassed (hold_of self.new) self.new.class }
         ensures prepares { plans.Prepares (planned_of self.old) (planned_of self.new) }
         ensures then_writes { plans.next (planned_of self.new) ≡ plans.next_write (hold_of self.new) }
         ensures away { away_of self.new.places.items ≡ away_of self.old.places.items }
-        ensures same { (length self.new.places.items ≡ length self.old.places.items) × (self.new.len ≡ self.old.len)
-            × (self.new.class ≡ self.old.class) }
+        ensures same { KeepsClass self.old self.new }
     {
         let Some(class) = self.class else {
             return;

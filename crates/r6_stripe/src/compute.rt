@@ -1,10 +1,11 @@
 //! The new blocks of a write.
 
-ghost use Rattle.std.specs.Prelude.{◌≡◌, ◌<◌, ◌≤◌, ◌+◌, ◌-◌, ◌||◌, not, true, false, None, ℕ, length, take, slice_set, All, IsTrue};
+ghost use Rattle.std.specs.Prelude.{◌≡◌, ◌<◌, ◌≤◌, ◌+◌, ◌-◌, true, false, None, length, All, IsTrue};
 ghost use Rattle.r6_recover.specs.Rows.{block_at};
 ghost use Rattle.r6_stripe.specs.Checks.{IsClassed};
 ghost use Rattle.r6_stripe.specs.Places.{with_ready, ready_at, renewed, modified, parities_changed, away_of};
 ghost use Rattle.r6_stripe.specs.Plans as plans;
+ghost use Rattle.r6_stripe.specs.Preparing.{HasReadEnough, KeepsClass, KeepsTaskAndClass, OwesNew};
 ghost use Rattle.r6_stripe.specs.Sound.{IsSound};
 ghost use Rattle.r6_stripe.specs.Views.{hold_of, plan_of, planned_of};
 
@@ -17,21 +18,20 @@ use r6_field::{ConstMul, Gf};
 use r6_kernels::{Buffer, delta, scale_add, xor_into};
 
 impl HoldState {
-    /// Restores the block that a read wants, or computes the new blocks of a write, if one is owed that isn't there. All reads
-    /// have been answered, and enough is known.
+    /// Restores the block that a read wants, or computes the new blocks of a write, if one is owed that isn't there.
+    /// All reads have been answered, and enough is known.
     pub(crate) fn prepare(&mut self)
         requires sound { IsSound self.old }
         requires classed { IsClassed (hold_of self.old) self.old.class }
         requires goes_on { plans.gives_up (hold_of self.old) ≡ false }
-        requires read { not (plans.has_read_out (hold_of self.old) || not (plans.is_enough (plan_of self.old.plan) (hold_of self.old))) ≡ true }
+        requires read { HasReadEnough (planned_of self.old) }
         requires no_read { plans.next_read (plan_of self.old.plan) (hold_of self.old) ≡ None }
         ensures sound { IsSound self.new }
         ensures prepares { plans.Prepares (planned_of self.old) (planned_of self.new) }
         ensures then_writes { plans.next (planned_of self.new) ≡ plans.next_write (hold_of self.new) }
         ensures away { away_of self.new.places.items ≡ away_of self.old.places.items }
         ensures classed { IsClassed (hold_of self.new) self.new.class }
-        ensures same { (length self.new.places.items ≡ length self.old.places.items) × (self.new.len ≡ self.old.len)
-            × (self.new.class ≡ self.old.class) }
+        ensures same { KeepsClass self.old self.new }
     {
         if let Some(index) = self.next_restore() {
             self.restore(index);
@@ -58,15 +58,14 @@ impl HoldState {
         requires sound { IsSound self.old }
         requires plan { plan_of self.old.plan ≡ plans.Plan.Recover → ⊥ }
         requires not_all { plan_of self.old.plan ≡ plans.Plan.All → ⊥ }
-        requires read { not (plans.has_read_out (hold_of self.old) || not (plans.is_enough (plan_of self.old.plan) (hold_of self.old))) ≡ true }
+        requires read { HasReadEnough (planned_of self.old) }
         requires no_read { plans.next_read (plan_of self.old.plan) (hold_of self.old) ≡ None }
-        requires owed { plans.each_below (λ position. not (plans.lacks_new (hold_of self.old) position)) (length (hold_of self.old).cells) ≡ false }
+        requires owed { OwesNew (hold_of self.old) }
         ensures sound { IsSound self.new }
         ensures prepares { plans.Prepares (planned_of self.old) (planned_of self.new) }
         ensures then_writes { plans.next (planned_of self.new) ≡ plans.next_write (hold_of self.new) }
         ensures away { away_of self.new.places.items ≡ away_of self.old.places.items }
-        ensures same { (length self.new.places.items ≡ length self.old.places.items) × (self.new.len ≡ self.old.len)
-            × (self.new.task ≡ self.old.task) × (self.new.class ≡ self.old.class) }
+        ensures same { KeepsTaskAndClass self.old self.new }
     {
         let Some(task) = &self.task else {
             return;
@@ -88,7 +87,8 @@ impl HoldState {
     }
 }
 
-/// Writes a data block, and what it changes to P and Q, each if it is `known`. Without any the old block is of no account.
+/// Writes a data block, and what it changes to P and Q, each if it is `known`. Without any the old block is of no
+/// account.
 fn modify(
     blocks: &mut Vec<Buffer>,
     index: usize,
@@ -101,8 +101,10 @@ fn modify(
     requires few { length blocks.old.items ≤ 32 }
     requires size { length new_block.now ≡ length change.old }
     requires data_length { length (block_at blocks.old.items index) ≡ length change.old }
-    requires p_length { IsTrue p_known → length (block_at blocks.old.items (length blocks.old.items - 2)) ≡ length change.old }
-    requires q_length { IsTrue q_known → length (block_at blocks.old.items (length blocks.old.items - 2 + 1)) ≡ length change.old }
+    requires p_length { IsTrue p_known
+        → length (block_at blocks.old.items (length blocks.old.items - 2)) ≡ length change.old }
+    requires q_length { IsTrue q_known
+        → length (block_at blocks.old.items (length blocks.old.items - 2 + 1)) ≡ length change.old }
     ensures modified { blocks.new.items ≡ modified blocks.old.items index new_block.now p_known q_known }
     ensures change_length { length change.new ≡ length change.old }
 {
@@ -130,8 +132,10 @@ fn change_each(
     requires few { length blocks.old.items ≤ 32 }
     requires size { length new_block.now ≡ length change.old }
     requires data_length { length (block_at blocks.old.items index) ≡ length change.old }
-    requires p_length { IsTrue p_known → length (block_at blocks.old.items (length blocks.old.items - 2)) ≡ length change.old }
-    requires q_length { IsTrue q_known → length (block_at blocks.old.items (length blocks.old.items - 2 + 1)) ≡ length change.old }
+    requires p_length { IsTrue p_known
+        → length (block_at blocks.old.items (length blocks.old.items - 2)) ≡ length change.old }
+    requires q_length { IsTrue q_known
+        → length (block_at blocks.old.items (length blocks.old.items - 2 + 1)) ≡ length change.old }
     ensures changed { blocks.new.items ≡ parities_changed blocks.old.items index new_block.now p_known q_known }
     ensures change_length { length change.new ≡ length change.old }
 {
@@ -166,7 +170,8 @@ fn change_both(blocks: &mut [Buffer], index: usize, new_block: &Buffer)
 /// The new blocks of the index, and of P and Q, each if it was computed, are there.
 fn make_ready(places: &mut Vec<Place>, index: usize, p_computed: bool, q_computed: bool)
     requires { index + 2 < length places.old.items }
-    ensures { places.new.items ≡ ready_at places.old.items (renewed (length places.old.items) index p_computed q_computed) }
+    ensures { let positions = renewed (length places.old.items) index p_computed q_computed in
+        places.new.items ≡ ready_at places.old.items positions }
 {
     let m = places.len() - 2;
     mark(places, index);

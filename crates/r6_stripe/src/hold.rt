@@ -1,8 +1,7 @@
 //! One operation that holds one row.
 
-ghost use Rattle.std.specs.Prelude.{◌≡◌, ◌<◌, ℕ, List, not, true, false, length, slice_index_or, map, if◌then◌else◌, Some, None, MatchOption, IfSome};
+ghost use Rattle.std.specs.Prelude.{◌≡◌, ◌<◌, not, true, false, length, Some, MatchOption, IfSome};
 ghost use Rattle.std.specs.List.{list_any};
-ghost use Rattle.r6_stripe.specs.Frames as frames;
 ghost use Rattle.r6_stripe.specs.Checks.{IsClassAfter, IsEnd};
 ghost use Rattle.r6_stripe.specs.Holds.{cell_at, MayEnd};
 ghost use Rattle.r6_stripe.specs.Holds.Kind.{Idle};
@@ -111,8 +110,10 @@ impl Hold {
     pub fn outcome(&self) -> Option<Outcome>
         ensures over { let kind = self.now.planned.hold.kind in MatchOption result
             (has_outcome self.now.planned ≡ false)
-            (λ end. (has_outcome self.now.planned ≡ true) × IsEnd (outcome_of self.now.planned.hold kind) self.now.class end) }
-        ensures ends { let hold = self.now.planned.hold in IfSome result (λ _. MayEnd hold (outcome_of hold hold.kind)) }
+            (λ end. (has_outcome self.now.planned ≡ true)
+            × IsEnd (outcome_of self.now.planned.hold kind) self.now.class end) }
+        ensures ends { let hold = self.now.planned.hold in
+            IfSome result (λ _. MayEnd hold (outcome_of hold hold.kind)) }
     {
         if self.state.has_outcome() {
             Some(self.state.end())
@@ -131,8 +132,8 @@ impl Hold {
         self.state.block(position)
     }
 
-    /// Ends the hold, and hands its task back, with the caller's buffer as it was handed in. From then on nothing more is
-    /// put out, and only buffers come home.
+    /// Ends the hold, and hands its task back, with the caller's buffer as it was handed in. From then on nothing more
+    /// is put out, and only buffers come home.
     pub fn take_task(&mut self) -> Option<Task>
         ensures task { kind_of result ≡ self.old.planned.hold.kind }
         ensures closed { self.new ≡ closed self.old }

@@ -166,7 +166,8 @@ impl HoldState {
         requires within { position < length self.now.places.items }
         requires count { 2 ≤ length self.now.places.items }
         ensures { let hold = hold_of self.now in
-            result ≡ (can_drop (plan_of self.now.plan) hold position && plans.is_out (cell_at hold.cells position).standing) }
+            result ≡ (can_drop (plan_of self.now.plan) hold position
+            && plans.is_out (cell_at hold.cells position).standing) }
     {
         self.can_drop(position) && self.places[position].is_out()
     }

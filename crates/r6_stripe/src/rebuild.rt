@@ -1,14 +1,15 @@
 //! The block that a rebuild writes to its target.
 //!
-//! At most one other position isn't known then. Its buffer may be away, and one of the two buffers apart stands in for it while
-//! P or Q are computed.
+//! At most one other position isn't known then. Its buffer may be away, and one of the two buffers apart stands in for
+//! it while P or Q are computed.
 
-ghost use Rattle.std.specs.Prelude.{◌≡◌, ◌<◌, ◌≤◌, ◌+◌, ◌||◌, not, true, false, None, Some, length, All};
+ghost use Rattle.std.specs.Prelude.{◌≡◌, ◌<◌, ◌≤◌, ◌+◌, false, None, Some, length, All};
 ghost use Rattle.r6_recover.specs.Rows.{data_of, block_at};
 ghost use Rattle.r6_recover.specs.Restores.{AreLongButMissing, MayMiss};
 ghost use Rattle.r6_stripe.specs.Places.{away_of};
 ghost use Rattle.r6_stripe.specs.Recovery.{IsAmongMissing, IsLostData, RestoresAt, parity_renewed};
 ghost use Rattle.r6_stripe.specs.Plans as plans;
+ghost use Rattle.r6_stripe.specs.Preparing.{HasReadEnough, KeepsTaskAndClass, OwesNew};
 ghost use Rattle.r6_stripe.specs.Sound.{IsSound};
 ghost use Rattle.r6_stripe.specs.Views.{hold_of, plan_of, planned_of};
 ghost use Rattle.r6_stripe.specs.declared.command.Task.TheVariants as task;
@@ -27,15 +28,14 @@ impl HoldState {
         requires task { self.old.task ≡ Some (task.Rebuild target) }
         requires goes_on { plans.gives_up (hold_of self.old) ≡ false }
         requires plan { plan_of self.old.plan ≡ plans.Plan.Recover }
-        requires read { not (plans.has_read_out (hold_of self.old) || not (plans.is_enough (plan_of self.old.plan) (hold_of self.old))) ≡ true }
+        requires read { HasReadEnough (planned_of self.old) }
         requires no_read { plans.next_read (plan_of self.old.plan) (hold_of self.old) ≡ None }
-        requires owed { plans.each_below (λ position. not (plans.lacks_new (hold_of self.old) position)) (length (hold_of self.old).cells) ≡ false }
+        requires owed { OwesNew (hold_of self.old) }
         ensures sound { IsSound self.new }
         ensures prepares { plans.Prepares (planned_of self.old) (planned_of self.new) }
         ensures then_writes { plans.next (planned_of self.new) ≡ plans.next_write (hold_of self.new) }
         ensures away { away_of self.new.places.items ≡ away_of self.old.places.items }
-        ensures same { (length self.new.places.items ≡ length self.old.places.items) × (self.new.len ≡ self.old.len)
-            × (self.new.task ≡ self.old.task) × (self.new.class ≡ self.old.class) }
+        ensures same { KeepsTaskAndClass self.old self.new }
     {
         let missing = self.missing();
         restore_at(

@@ -1,15 +1,16 @@
 //! What a hold computes from other blocks than its own: the block that a read wants, and the new blocks of a write.
 //!
-//! At most two positions aren't known then. Those whose reads were abandoned may be away; the two buffers apart stand in for
-//! them, for as long as they are needed.
+//! At most two positions aren't known then. Those whose reads were abandoned may be away; the two buffers apart stand
+//! in for them, for as long as they are needed.
 
-ghost use Rattle.std.specs.Prelude.{◌≡◌, ◌<◌, ◌≤◌, ◌+◌, ◌-◌, ◌||◌, ℕ, not, true, false, Some, None, length, slice_set, All, IfSome};
+ghost use Rattle.std.specs.Prelude.{◌≡◌, ◌<◌, ◌≤◌, ◌+◌, ◌-◌, ℕ, Some, None, length, slice_set, All, IfSome};
 ghost use Rattle.r6_recover.specs.Known.{IsMissing};
 ghost use Rattle.r6_recover.specs.Restores.{AreLongButMissing, MayMiss};
 ghost use Rattle.r6_recover.specs.Rows.{data_of, row_of};
 ghost use Rattle.r6_stripe.specs.Places.{away_of, known_of, put_at, ready_at, renewed_at_home, taken_at, kept_of, ready_if_home};
 ghost use Rattle.r6_stripe.specs.Plans as plans;
 ghost use Rattle.r6_stripe.specs.Recovery.{IsAmongMissing, IsBlockOfFull};
+ghost use Rattle.r6_stripe.specs.Preparing.{HasReadEnough, KeepsTaskAndClass, OwesNew};
 ghost use Rattle.r6_stripe.specs.Sound.{IsSound};
 ghost use Rattle.r6_stripe.specs.Views.{hold_of, plan_of, planned_of};
 ghost use Rattle.r6_stripe.specs.declared.command.Task.TheVariants as task;
@@ -41,15 +42,15 @@ impl HoldState {
     pub(crate) fn restore(&mut self, index: usize)
         requires sound { IsSound self.old }
         requires plan { plan_of self.old.plan ≡ plans.Plan.Recover }
-        requires read { not (plans.has_read_out (hold_of self.old) || not (plans.is_enough (plan_of self.old.plan) (hold_of self.old))) ≡ true }
+        requires read { HasReadEnough (planned_of self.old) }
         requires no_read { plans.next_read (plan_of self.old.plan) (hold_of self.old) ≡ None }
-        requires restores { plans.next_restore (hold_of self.old) (hold_of self.old).kind ≡ Some (plans.Next.RestoreAt index) }
+        requires restores { let hold = hold_of self.old in
+            plans.next_restore hold hold.kind ≡ Some (plans.Next.RestoreAt index) }
         ensures sound { IsSound self.new }
         ensures prepares { plans.Prepares (planned_of self.old) (planned_of self.new) }
         ensures then_writes { plans.next (planned_of self.new) ≡ plans.next_write (hold_of self.new) }
         ensures away { away_of self.new.places.items ≡ away_of self.old.places.items }
-        ensures same { (length self.new.places.items ≡ length self.old.places.items) × (self.new.len ≡ self.old.len)
-            × (self.new.task ≡ self.old.task) × (self.new.class ≡ self.old.class) }
+        ensures same { KeepsTaskAndClass self.old self.new }
     {
         let missing = self.missing();
         restore_one(
@@ -63,21 +64,20 @@ impl HoldState {
         self.places[index].read = ReadState::Known;
     }
 
-    /// Computes the new blocks of a write from the data that stood there before it, of which those that aren't known are
-    /// restored first, into the buffers apart. A position gets its new block if its buffer is at home.
+    /// Computes the new blocks of a write from the data that stood there before it, of which those that aren't known
+    /// are restored first, into the buffers apart. A position gets its new block if its buffer is at home.
     pub(crate) fn recover(&mut self)
         requires sound { IsSound self.old }
         requires plan { plan_of self.old.plan ≡ plans.Plan.Recover }
-        requires read { not (plans.has_read_out (hold_of self.old) || not (plans.is_enough (plan_of self.old.plan) (hold_of self.old))) ≡ true }
+        requires read { HasReadEnough (planned_of self.old) }
         requires no_read { plans.next_read (plan_of self.old.plan) (hold_of self.old) ≡ None }
         requires apart { (target : ℕ) → self.old.task ≡ Some (task.Rebuild target) → ⊥ }
-        requires owed { plans.each_below (λ position. not (plans.lacks_new (hold_of self.old) position)) (length (hold_of self.old).cells) ≡ false }
+        requires owed { OwesNew (hold_of self.old) }
         ensures sound { IsSound self.new }
         ensures prepares { plans.Prepares (planned_of self.old) (planned_of self.new) }
         ensures then_writes { plans.next (planned_of self.new) ≡ plans.next_write (hold_of self.new) }
         ensures away { away_of self.new.places.items ≡ away_of self.old.places.items }
-        ensures same { (length self.new.places.items ≡ length self.old.places.items) × (self.new.len ≡ self.old.len)
-            × (self.new.task ≡ self.old.task) × (self.new.class ≡ self.old.class) }
+        ensures same { KeepsTaskAndClass self.old self.new }
     {
         let missing = self.missing();
         let Some(task) = &self.task else {
@@ -101,7 +101,8 @@ impl HoldState {
     }
 }
 
-/// The data block of the index, which is among the missing, into `sum`. What stands at missing positions is of no account.
+/// The data block of the index, which is among the missing, into `sum`. What stands at missing positions is of no
+/// account.
 pub(crate) fn restore_one(
     blocks: &[Buffer],
     missing: Missing,

@@ -140,7 +140,8 @@ impl HoldState {
         requires sound { IsSound self.now }
         requires place { position < length self.now.places.items }
         ensures { let cell = cell_at (hold_of self.now).cells position in
-            MatchOption result (IsUnknown cell) (λ block. IsKnownAs cell block.now × (length block.now ≡ self.now.len)) }
+            MatchOption result (IsUnknown cell)
+            (λ block. IsKnownAs cell block.now × (length block.now ≡ self.now.len)) }
     {
         match self.places[position].read {
             ReadState::Known => Some(&self.blocks[position]),

@@ -1,4 +1,4 @@
-use Rattle.std.proofs.Common.{◌≡◌, ◌-◌, ℕ, List, [], length, get_or, sym, ◌∙◌, ap, subst, arith}
+use Rattle.std.proofs.Common.{◌≡◌, ◌-◌, ℕ, List, length, ◌∙◌, subst, arith}
 use Rattle.r6_recover.specs.Restores.{AreRestored}
 use Rattle.r6_stripe.specs.Places.{put_at}
 use Rattle.r6_stripe.specs.Recovery.{IsLostData, parity_renewed}

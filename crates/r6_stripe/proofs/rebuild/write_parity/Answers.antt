@@ -1,6 +1,6 @@
-use Rattle.std.proofs.Common.{◌≡◌, ◌+◌, ◌-◌, ◌<◌, ◌≤◌, ◌++◌, [], ◌∷◌, ℕ, List, length, get_or, set, take, drop, ◌∙◌, ap, sym, arith}
+use Rattle.std.proofs.Common.{◌≡◌, ◌+◌, ◌-◌, ◌++◌, ℕ, List, length, get_or, set, take, drop, ◌∙◌, ap, arith}
 use Rattle.r6_kernels.specs.Blocks.{p_of, q_of}
-use Rattle.r6_recover.specs.Rows.{block_at, data_of}
+use Rattle.r6_recover.specs.Rows.{data_of}
 use Rattle.r6_stripe.proofs.ParityRestored.{data_before, own_first, p_stands, q_stands}
 use Rattle.r6_stripe.proofs.rebuild.write_parity.Goals as goal
 

@@ -1,4 +1,4 @@
-use Rattle.std.proofs.Common.{◌≡◌, true, false, sym, ◌∙◌, ap, refl, Some, None}
+use Rattle.std.proofs.Common.{◌≡◌, true, false, sym, ◌∙◌, refl, Some, None}
 use Rattle.std.specs.Prelude.{Option, is_some}
 use Rattle.r6_stripe.specs.Steps.{is_idle}
 use Rattle.r6_stripe.specs.Views.{kind_of}

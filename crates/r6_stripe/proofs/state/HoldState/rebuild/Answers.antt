@@ -1,6 +1,5 @@
-use Rattle.std.proofs.Common.{◌≡◌, ◌<◌, ◌≤◌, ◌+◌, ℕ, true, [], ◌∷◌, List, length, refl, sym, ◌∙◌, ap, subst, arith}
+use Rattle.std.proofs.Common.{◌≡◌, ℕ, true, [], ◌∷◌, length, refl, sym, ◌∙◌, subst, arith}
 use Rattle.r6_recover.specs.Restores.{AreLongButMissing, MayMiss}
-use Rattle.r6_stripe.specs.Places.{ready_at}
 use Rattle.r6_stripe.specs.Recovery.{RestoresAt}
 use Rattle.r6_stripe.specs.Sound.{IsTask}
 use Rattle.r6_stripe.proofs.Checks.{targets_later}
