@@ -1,5 +1,5 @@
--- What P and Q of a row lack, and the lost blocks that this gives (H. Peter Anvin, "The mathematics of RAID-6", its section on recovery).
--- A row is the data, then P, then Q.
+-- What P and Q of a row lack, and the lost blocks that this gives (H. Peter Anvin, "The mathematics of RAID-6", its
+-- section on recovery). A row is the data, then P, then Q.
 use Rattle.std.specs.Prelude.{ℕ, ◌+◌, ◌-◌, List, [], length, take, slice_index, slice_index_or}
 use Rattle.r6_kernels.specs.Blocks.{block_sum, scale, p_of, q_of, without}
 use Rattle.r6_kernels.specs.Lanes.{Holds}

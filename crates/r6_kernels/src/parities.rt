@@ -1,6 +1,6 @@
 //! Both parities of blocks, step after step.
 
-ghost use Rattle.std.specs.Prelude.{◌≡◌, ◌+◌, ◌<◌, ◌≤◌, ◌↔◌, ℕ, length, slice_index, IsTrue};
+ghost use Rattle.std.specs.Prelude.{◌≡◌, ◌+◌, length};
 ghost use Rattle.std.specs.List.{All};
 ghost use Rattle.r6_kernels.specs.Blocks.{p_of, q_of};
 ghost use Rattle.r6_kernels.specs.Lanes.{HoldsBetween};
@@ -12,9 +12,10 @@ use crate::sums::Sums;
 
 /// P and Q of the sources, in their order; zeros for no source.
 ///
-/// The steps go down from the end, and the last one may go over bytes again. A processor takes a load for one that waits for a
-/// store to the same place in another page of 4,096 bytes: where blocks of one page follow each other in memory, each some
-/// bytes further into its page, and P and Q come last, a step up would load just where the one before it stored.
+/// The steps go down from the end, and the last one may go over bytes again. A processor takes a load for one that
+/// waits for a store to the same place in another page of 4,096 bytes: where blocks of one page follow each other in
+/// memory, each some bytes further into its page, and P and Q come last, a step up would load just where the one before
+/// it stored.
 pub(crate) fn write_parity(sources: &[Buffer], p: &mut [u8], q: &mut [u8])
     requires sources { All (λ source. length source ≡ length p.old) sources.now }
     requires same { length q.old ≡ length p.old }

@@ -12,8 +12,9 @@ use crate::pairs::{DataAndP, TwoOfData, write_pair};
 use crate::reach::{Part, Reach, Whole};
 use r6_field::ConstMul;
 
-/// The lost data blocks `x` and `y` into `first` and `second`: the first is `a` times what P lacks without them, and `b` times
-/// what Q lacks; the second is what P lacks still. What stands at `x` and `y` isn't looked at, and may have any length.
+/// The lost data blocks `x` and `y` into `first` and `second`: the first is `a` times what P lacks without them, and
+/// `b` times what Q lacks; the second is what P lacks still. What stands at `x` and `y` isn't looked at, and may have
+/// any length.
 pub fn recover_two(
     row: &[Buffer],
     x: usize,
@@ -41,8 +42,8 @@ pub fn recover_two(
     );
 }
 
-/// The lost data block `x` into `target`, as `recover_from_q` gives it, and P of the whole data into `p`. What stands at `x` and
-/// in P's place isn't looked at, and may have any length.
+/// The lost data block `x` into `target`, as `recover_from_q` gives it, and P of the whole data into `p`. What stands
+/// at `x` and in P's place isn't looked at, and may have any length.
 pub fn recover_with_p(
     row: &[Buffer],
     x: usize,

@@ -25,7 +25,8 @@ impl Model for Geometry {
 
     ghost invariant = { λ g. IsShape (shape_of g.slots g.chunk g.block g.rows g.shards) };
 
-    ghost inverse = { λ s. record { slots = s.slots; chunk = s.chunk; block = s.block; rows = s.rows; shards = s.shards } };
+    ghost inverse = { λ s.
+        record { slots = s.slots; chunk = s.chunk; block = s.block; rows = s.rows; shards = s.shards } };
 }
 
 /// The first limit that a shape does not keep, in the order of the arguments of [`Geometry::new`].

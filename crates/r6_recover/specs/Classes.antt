@@ -1,4 +1,5 @@
--- The class of a row, by how its P and Q differ from those of its data (H. Peter Anvin, "The mathematics of RAID-6", its section on single disk corruption).
+-- The class of a row, by how its P and Q differ from those of its data (H. Peter Anvin, "The mathematics of RAID-6",
+-- its section on single disk corruption).
 use Rattle.std.specs.Prelude.{◌≡◌, ◌≢◌, ℕ, ◌+◌, ◌-◌, ◌<◌, ◌≤◌, List, length, slice_set}
 use Rattle.std.specs.List.{All}
 use Rattle.r6_field.specs.Field.{power, generator}

@@ -1,4 +1,5 @@
--- What the recovery of two lost data blocks multiplies with (H. Peter Anvin, "The mathematics of RAID-6", its section on recovery).
+-- What the recovery of two lost data blocks multiplies with (H. Peter Anvin, "The mathematics of RAID-6", its section
+-- on recovery).
 use Rattle.std.specs.Prelude.{◌≡◌, ℕ, ◌-◌, ◌<◌, bit_xor}
 use Rattle.r6_field.specs.Field.{product, power, generator}
 

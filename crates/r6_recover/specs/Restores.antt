@@ -25,7 +25,8 @@ AreLongButMissing len (One x) row = AreLongBut len x x row
 AreLongButMissing len (Two x y) row = AreLongBut len x y row
 AreLongButMissing len Many row = ⊤
 
--- of the missing positions the data are restored: the first block is that of the lower one, the second that of the other
+-- of the missing positions the data are restored: the first block is that of the lower one, the second that of the
+-- other
 abbrev pub AreRestored : Missing → ℕ → ℕ → List (List ℕ) → List ℕ → List ℕ → Type 0
 AreRestored None m len row first second = ⊤
 AreRestored (One x) m len row first second = x < m → IsRestored m len x x row first

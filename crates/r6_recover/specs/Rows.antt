@@ -1,5 +1,5 @@
--- Rows: data blocks with the parities P and Q (H. Peter Anvin, "The mathematics of RAID-6", its sections on the two syndromes and on recovery).
--- A row is the list of its blocks in row order: the data D0, D1, .., then P, then Q.
+-- Rows: data blocks with the parities P and Q (H. Peter Anvin, "The mathematics of RAID-6", its sections on the two
+-- syndromes and on recovery). A row is the list of its blocks in row order: the data D0, D1, .., then P, then Q.
 use Rattle.std.specs.Prelude.{◌≡◌, ◌≢◌, ℕ, ◌+◌, ◌-◌, List, [], ◌∷◌, ◌++◌, length, take, slice_index_or, slice_set}
 use Rattle.std.specs.List.{All}
 use Rattle.r6_field.specs.Field.{power, generator}

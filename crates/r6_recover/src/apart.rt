@@ -2,7 +2,8 @@
 //!
 //! The buffers at the lost positions aren't looked at: they may be away, with others of any length in their place.
 //!
-//! `Px` and `Qx` are P and Q of the data with zeros in the place of block `x`, `Pxy` and `Qxy` with zeros in the places of both.
+//! `Px` and `Qx` are P and Q of the data with zeros in the place of block `x`, `Pxy` and `Qxy` with zeros in the places
+//! of both.
 
 ghost use Rattle.std.specs.Prelude.{◌≡◌, ◌+◌, ◌-◌, ◌<◌, ◌≤◌, length};
 ghost use Rattle.r6_kernels.specs.Blocks.{AreLongBut};
@@ -17,7 +18,8 @@ use r6_kernels::{Buffer, recover_from_p, recover_from_q, recover_two, recover_wi
 pub fn restore_from_p_into(blocks: &[Buffer], x: usize, target: &mut Buffer)
     requires within { x + 2 < length blocks.now }
     requires long { AreLongBut (length target.old) x (length blocks.now - 2 + 1) blocks.now }
-    ensures restored { let m = length blocks.now - 2 in IsRestored m (length target.old) x (m + 1) blocks.now target.new }
+    ensures restored { let m = length blocks.now - 2 in
+        IsRestored m (length target.old) x (m + 1) blocks.now target.new }
     ensures same_length { length target.new ≡ length target.old }
 {
     recover_from_p(blocks, x, target);
@@ -74,8 +76,8 @@ pub fn restore_two_into(
     recover_two(blocks, x, y, &a, &b, first, second);
 }
 
-/// The data among the missing positions, each into a buffer of its own: the lower into `first`, the other into `second`. The
-/// buffer of a missing parity isn't written.
+/// The data among the missing positions, each into a buffer of its own: the lower into `first`, the other into
+/// `second`. The buffer of a missing parity isn't written.
 pub fn restore_missing_into(
     blocks: &[Buffer],
     missing: Missing,

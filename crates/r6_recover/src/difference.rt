@@ -1,6 +1,6 @@
 //! How the P and Q of a row differ from those of its data, byte by byte.
 
-ghost use Rattle.std.specs.Prelude.{◌≡◌, ◌+◌, ◌-◌, ◌<◌, ◌≤◌, ◌↔◌, length, slice_index, IsTrue};
+ghost use Rattle.std.specs.Prelude.{◌≡◌, ◌<◌, ◌≤◌, ◌↔◌, length, slice_index, IsTrue};
 ghost use Rattle.std.specs.List.{All};
 ghost use Rattle.r6_recover.specs.Rows.{block_length};
 ghost use Rattle.r6_recover.specs.Classes.{p_difference, q_difference, IsZero, IsWrongAt};

@@ -16,7 +16,8 @@ pub(crate) fn restore_p(blocks: &mut [Buffer], sum: &mut Buffer, weighted: &mut 
     requires count { 2 ≤ length blocks.old }
     requires long { All (λ block. length block ≡ length sum.old) blocks.old }
     requires same { length weighted.old ≡ length sum.old }
-    ensures restores { let m = length blocks.old - 2 in RestoresBlock m (length sum.old) m (m + 1) blocks.old blocks.new }
+    ensures restores { let m = length blocks.old - 2 in
+        RestoresBlock m (length sum.old) m (m + 1) blocks.old blocks.new }
     ensures sum_length { length sum.new ≡ length sum.old }
     ensures weighted_length { length weighted.new ≡ length weighted.old }
 {
@@ -30,7 +31,8 @@ pub(crate) fn restore_q(blocks: &mut [Buffer], sum: &mut Buffer, weighted: &mut 
     requires count { 2 ≤ length blocks.old }
     requires long { All (λ block. length block ≡ length sum.old) blocks.old }
     requires same { length weighted.old ≡ length sum.old }
-    ensures restores { let m = length blocks.old - 2 in RestoresBlock m (length sum.old) (m + 1) m blocks.old blocks.new }
+    ensures restores { let m = length blocks.old - 2 in
+        RestoresBlock m (length sum.old) (m + 1) m blocks.old blocks.new }
     ensures sum_length { length sum.new ≡ length sum.old }
     ensures weighted_length { length weighted.new ≡ length weighted.old }
 {
@@ -43,7 +45,8 @@ pub(crate) fn restore_q(blocks: &mut [Buffer], sum: &mut Buffer, weighted: &mut 
 pub(crate) fn restore_from_p(blocks: &mut [Buffer], x: usize, sum: &mut Buffer)
     requires within { x + 2 < length blocks.old }
     requires long { All (λ block. length block ≡ length sum.old) blocks.old }
-    ensures restores { let m = length blocks.old - 2 in RestoresBlock m (length sum.old) x (m + 1) blocks.old blocks.new }
+    ensures restores { let m = length blocks.old - 2 in
+        RestoresBlock m (length sum.old) x (m + 1) blocks.old blocks.new }
     ensures sum_length { length sum.new ≡ length sum.old }
 {
     restore_from_p_into(blocks, x, sum);

@@ -8,7 +8,8 @@ use std::marker::Model;
 /// The most positions of a row.
 pub const POSITIONS: usize = 32;
 
-/// A set of positions of a row: those whose blocks are known. Data block `k` has the position `k`; P and Q come behind the data.
+/// A set of positions of a row: those whose blocks are known. Data block `k` has the position `k`; P and Q come behind
+/// the data.
 #[derive(Clone, Copy, Debug, PartialEq, Eq)]
 pub struct Known {
     positions: [bool; POSITIONS],

@@ -99,10 +99,11 @@ fn blocks_of_zeros(alloc: Global, count: usize, len: usize) -> Result<Vec<Buffer
     Ok(blocks)
 }
 
-/// Computes the blocks that aren't known from those that are, where at most two aren't: the row becomes the one full row
-/// that has the known blocks, wherever there is one.
+/// Computes the blocks that aren't known from those that are, where at most two aren't: the row becomes the one full
+/// row that has the known blocks, wherever there is one.
 ///
-/// Where no full row has them, the other blocks become any bytes. A known block never changes, and after an error none has.
+/// Where no full row has them, the other blocks become any bytes. A known block never changes, and after an error none
+/// has.
 pub fn restore(row: &mut RowBuf, known: Known) -> Result<(), TooManyLost>
     ensures refused { IsErr result ↔ AreTooMany known (length row.old) }
     ensures err { OnErr result (row.new ≡ row.old) }

@@ -1,6 +1,6 @@
 //! A table that numbers its entries.
 
-ghost use Rattle.std.specs.Prelude.{◌≡◌, ◌+◌, ◌<◌, ◌≤◌, ◌^◌, ℕ, ◌∷◌, [], List, length, IsTrue, IfOk, IfErr, IfSome, IfNone, option_copied, Some, None, is_some, vec_capacity, ◌↔◌};
+ghost use Rattle.std.specs.Prelude.{◌≡◌, ◌+◌, ◌<◌, ◌^◌, ℕ, length, IsTrue, IfOk, IfErr, IfSome, IfNone, option_copied, Some, None, is_some, vec_capacity, ◌↔◌};
 ghost use Rattle.std.specs.FinMap as map;
 ghost use Rattle.r6_tables.specs.Places.{live, value_at, with_value, IsRising, IsAt, IsAbsent};
 
@@ -10,9 +10,9 @@ use std::mem;
 
 /// A table that gives each entry the next number, from 0 on, and no number twice.
 ///
-/// Its room is made once, by [`Table::with_capacity`]; no later call takes memory. [`Table::push`] takes constant time, but
-/// for a sweep of the whole table that comes at most once in as many pushes as the capacity. A look-up takes constant time
-/// for an entry that was pushed since the last sweep, and else the logarithm of the capacity.
+/// Its room is made once, by [`Table::with_capacity`]; no later call takes memory. [`Table::push`] takes constant time,
+/// but for a sweep of the whole table that comes at most once in as many pushes as the capacity. A look-up takes
+/// constant time for an entry that was pushed since the last sweep, and else the logarithm of the capacity.
 #[derive(Drop)]
 pub struct Table<V> {
     // by number; an entry that was taken out keeps its place until the next sweep
