@@ -30,8 +30,8 @@ impl HoldState {
         ensures { IsMissing (known_of self.now.places.items) (length self.now.places.items) result }
     {
         let mut known = Known::none();
-        for position in 0..self.places.len() {
-            if self.places[position].is_known() {
+        for (position, place) in self.places.iter().enumerate() {
+            if place.is_known() {
                 known.insert(position);
             }
         }
