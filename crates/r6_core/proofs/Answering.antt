@@ -9,7 +9,7 @@ use Rattle.r6_world.specs.Steps.{GoesOn, Through, Good, Taken}
 use Rattle.r6_frames.specs.declared.op.Request.{Request}
 use Rattle.r6_frames.specs.declared.frames.Frames.{Frames}
 use Rattle.r6_frames.specs.Views.{row_in, hold_at, held_requests, outstanding, AreLive}
-use Rattle.r6_frames.specs.Calls.{Answers, Drives, IsAwaited, IsHeldFrame, KeepsOthers}
+use Rattle.r6_frames.specs.Calls.{Answers, Drives, IsAwaited, IsHeldFrame, KeepsOthers, KeepsRows}
 use Rattle.r6_frames.specs.Owed.{owed, IsDriven, IsOver}
 use Rattle.r6_frames.specs.Sound as held
 use Rattle.r6_core.specs.declared.state.State.{State}
@@ -99,9 +99,9 @@ module _ (s : State) (token : ℕ) (block : List ℕ) (middle driven : Frames) (
 
   -- if but the frame's hold has ended, one request at most can start, and if it hasn't none can
   pub answered_freed : (new : State) (frame : ℕ) (freed : Freed) → KeepsOthers s.frames frame middle → KeepsOthers middle frame driven → KeepsOthers driven frame new.frames
-      → NoneCanStart s → IsHeldFrame driven frame → new.waiting ≡ s.waiting → SameFrames driven_state new
+      → KeepsRows s.frames middle → KeepsRows middle driven → NoneCanStart s → IsHeldFrame driven frame → new.waiting ≡ s.waiting → SameFrames driven_state new
       → (freed ≡ OneFrame) ⊎ ((freed ≡ Nothing) × (new ≡ driven_state)) → HasFreed freed new
-  answered_freed new frame freed kept still others waits held waiting same by =
+  answered_freed new frame freed kept still others rows more_rows waits held waiting same by =
       let shape : driven.geometry ≡ s.frames.geometry = drives.0 ∙ answers.0 in
       let lives : AreLive s.frames = live_still s.frames middle answers.0 (answers_still s.frames middle token block answers) live in
       elim by [
@@ -119,7 +119,7 @@ module _ (s : State) (token : ℕ) (block : List ℕ) (middle driven : Frames) (
             (subst NoneCanStart (sym none.1)
             (none_more s.frames driven s.waiting.items shape (λ alive. lives)
             (λ row unheld at h is at_row.
-            let there = row_stays s.frames driven at h core.sound.frames driven_sound shape (driven_requests ∙ requests) is in
+            let there = row_stays s.frames driven at h (λ f. more_rows f ∙ rows f) is in
             unheld at there.0 there.1 (there.2 ∙ at_row))
             (λ at free. elim (cases_eq at frame) [
               | inl e ↦ absurd (let is = ap (hold_at driven.held.items) e in let none : None ≡ Some held.0 = sym (ap row_in free.1) ∙ is ∙ held.1 in cc)

@@ -14,6 +14,7 @@ use Rattle.r6_world.specs.Steps.{AtRest, Completion, Deliver, GoesOn, Late, Scan
 use Rattle.r6_world.specs.Steps as steps
 use Rattle.r6_frames.specs.declared.op.Request.{Request}
 use Rattle.r6_frames.specs.declared.frames.Frames.{Frames}
+use Rattle.r6_frames.specs.declared.frames.Job.{Job}
 use Rattle.r6_frames.specs.declared.frames.HeldRow.{HeldRow}
 use Rattle.r6_frames.specs.declared.frames.FrameUse.{FrameUse}
 use Rattle.r6_frames.specs.Views.{hold_at, held_requests, plan_in, hold_of, row_in}
@@ -40,7 +41,7 @@ planned_before None new h same is = absurd (let none : Some (plan_in h) ≡ None
 planned_before (Some x) new h same is =
     let plans : Some (plan_in h) ≡ Some (plan_in x) = ap (option_map plan_in) (sym is) ∙ same in
     let one : plan_in h ≡ plan_in x = cc in
-    (x, refl, ap (λ (plan : (ℕ × ℕ) × Planned). plan.1) one)
+    (x, refl, ap (λ (plan : (ℕ × Job) × Planned). plan.1) one)
 
 rested_still : (old new : Frames) (frame : ℕ) → KeepsHeld old new → IsDriven old frame × (IsOver old frame → ⊥) → IsDriven new frame × (IsOver new frame → ⊥)
 rested_still old new frame keeps rested = (

@@ -22,7 +22,7 @@ use Rattle.r6_frames.specs.declared.frames.Job.TheVariants as job
 use Rattle.r6_frames.specs.declared.frames.HeldRow.{HeldRow}
 use Rattle.r6_frames.specs.declared.frames.Frames.{Frames}
 use Rattle.r6_core.specs.declared.state.State.{State}
-use Rattle.r6_frames.specs.Views.{op_of, outcome_of, task_for, task_by, kind_in, held_requests, hold_at, hold_of, AreLive}
+use Rattle.r6_frames.specs.Views.{op_of, outcome_of, served_in, task_for, task_by, kind_in, held_requests, hold_at, hold_of, AreLive}
 use Rattle.r6_frames.specs.Calls.{entry_of, Ends, IsElsewhere, HasOneBlock}
 use Rattle.r6_frames.specs.Owed.{owed, IsDriven, IsOver}
 use Rattle.r6_frames.specs.Sound as held
@@ -101,19 +101,19 @@ id_of (ReadFor id block) = id
 id_of (WriteFor (w ∷ writes)) = w.id
 id_of _ = 0
 
-id_by : (id block : ℕ) (j : Job) (h : HeldRow) → id_of (task_by id block j (kind_in h)) ≡ id
-id_by id block (job.Read buffer) h = refl
-id_by id block job.Write h = refl
+id_by : (j : Job) (h : HeldRow) → id_of (task_by j (kind_in h)) ≡ (served_in j).id
+id_by (job.Read served buffer) h = refl
+id_by (job.Write served) h = refl
 
 id_for : (id : ℕ) (o : Op) → id_of (task_for id o) ≡ id
 id_for id (op.Read block buffer) = refl
 id_for id (op.Write block buffer) = refl
 
-pub ended_id : (old fs : Frames) (frame : ℕ) (r : Request) (h : HeldRow) → Ends old frame r fs → hold_at old.held.items frame ≡ Some h → r.id ≡ h.id
+pub ended_id : (old fs : Frames) (frame : ℕ) (r : Request) (h : HeldRow) → Ends old frame r fs → hold_at old.held.items frame ≡ Some h → r.id ≡ (served_in h.job).id
 ended_id old fs frame r h ends is =
     let there : Some (hold_of h) ≡ Some ends.hold = sym (ap (option_map hold_of) is) ∙ (ends.may.2 no_rest).0 in
     let same : hold_of h ≡ ends.hold = cc in
-    sym (id_for r.id r.op) ∙ ap id_of (sym ends.task ∙ sym (ap (λ (x : Hold). x.task) same)) ∙ id_by h.id h.block h.job h
+    sym (id_for r.id r.op) ∙ ap id_of (sym ends.task ∙ sym (ap (λ (x : Hold). x.task) same)) ∙ id_by h.job h
 
 -- ---- the state when a request is finished
 

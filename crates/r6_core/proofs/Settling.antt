@@ -13,7 +13,7 @@ use Rattle.r6_frames.specs.declared.op.Request.{Request}
 use Rattle.r6_frames.specs.declared.frames.HeldRow.{HeldRow}
 use Rattle.r6_frames.specs.declared.frames.FrameUse.TheVariants.{Free}
 use Rattle.r6_frames.specs.declared.frames.Frames.{Frames}
-use Rattle.r6_frames.specs.Views.{row_in, hold_at, held_request, held_requests, AreLive}
+use Rattle.r6_frames.specs.Views.{row_in, hold_at, served_in, held_request, held_requests, AreLive}
 use Rattle.r6_frames.specs.Calls.{KeepsOthers, Drives}
 use Rattle.r6_frames.specs.Owed.{owed, IsDriven, IsOver, IsLowestOver}
 use Rattle.r6_frames.specs.Sound as held
@@ -30,7 +30,7 @@ use Rattle.r6_core.proofs.Going.{Goes, goes_still, drives_still, between_states,
 -- ---- the numbers of the requests of held rows
 
 -- the request of a held row stands in the table
-held_there : (s : State) (frame : ℕ) (h : HeldRow) → IsSound s → hold_at s.frames.held.items frame ≡ Some h → table (requests_of s) h.id ≡ Some (held_request frame h).1
+held_there : (s : State) (frame : ℕ) (h : HeldRow) → IsSound s → hold_at s.frames.held.items frame ≡ Some h → table (requests_of s) (served_in h.job).id ≡ Some (held_request frame h).1
 held_there s frame h sound is =
     let w = map waiting_request s.waiting.items in
     let rest = map (finished_request s.frames.saw_failed) s.finished.items ++ map released_request s.released.items in
@@ -38,11 +38,11 @@ held_there s frame h sound is =
     let parts : requests_of s ≡ (w ++ place.before) ++ held_request frame h ∷ (place.behind ++ rest) =
     ap (λ es. w ++ (es ++ rest)) place.with ∙ (simp append_assoc) in
     let distinct = subst (λ es. IsDistinct nat_eq (keys_of es)) parts sound.requests.distinct in
-    ap (λ es. table es h.id) parts
-    ∙ own (w ++ place.before) h.id (held_request frame h).1 (place.behind ++ rest) (apart (w ++ place.before) h.id (held_request frame h).1 (place.behind ++ rest) distinct)
+    ap (λ es. table es (served_in h.job).id) parts
+    ∙ own (w ++ place.before) (served_in h.job).id (held_request frame h).1 (place.behind ++ rest) (apart (w ++ place.before) (served_in h.job).id (held_request frame h).1 (place.behind ++ rest) distinct)
 
 -- two held rows have two requests
-held_ids : (s : State) (frame other : ℕ) (h i : HeldRow) → IsSound s → hold_at s.frames.held.items frame ≡ Some h → hold_at s.frames.held.items other ≡ Some i → frame ≢ other → h.id ≢ i.id
+held_ids : (s : State) (frame other : ℕ) (h i : HeldRow) → IsSound s → hold_at s.frames.held.items frame ≡ Some h → hold_at s.frames.held.items other ≡ Some i → frame ≢ other → (served_in h.job).id ≢ (served_in i.job).id
 held_ids s frame other h i sound here there ne same =
     let both : Some (held_request frame h).1 ≡ Some (held_request other i).1 =
     sym (held_there s frame h sound here) ∙ ap (table (requests_of s)) same ∙ held_there s other i sound there in
@@ -90,7 +90,7 @@ pub record IsSettling (old now : State) : Type 0 where
   pub more : List Request
   pub rising : IsRising more
   pub items : now.finished.items ≡ old.finished.items ++ more
-  pub lower : (frame : ℕ) (h : HeldRow) → IsOver now.frames frame → hold_at now.frames.held.items frame ≡ Some h → AreLower more h.id
+  pub lower : (frame : ℕ) (h : HeldRow) → IsOver now.frames frame → hold_at now.frames.held.items frame ≡ Some h → AreLower more (served_in h.job).id
 
 -- all commands that come next were put out
 pub driven_goes : (s : State) (fs : Frames) → IsSound s → AreLive s.frames → held.IsSound fs → AreLive fs → Drives s.frames fs → held_requests fs ≡ held_requests s.frames
@@ -129,7 +129,7 @@ module _ (old now new : State) (frame : ℕ) (before : IsSettling old now) (lowe
   abbrev h : HeldRow
   h = lowest.0.0
 
-  pub ended : (request : Request) × (request.id ≡ h.id) × (new.finished.items ≡ now.finished.items ++ request ∷ []) × (hold_at new.frames.held.items frame ≡ None)
+  pub ended : (request : Request) × (request.id ≡ (served_in h.job).id) × (new.finished.items ≡ now.finished.items ++ request ∷ []) × (hold_at new.frames.held.items frame ≡ None)
   ended = ends h lowest.0.1 lowest.0
 
   -- a hold that is over still was over before, in another frame
@@ -143,7 +143,7 @@ module _ (old now new : State) (frame : ℕ) (before : IsSettling old now) (lowe
             (ne, (over.0, sym kept ∙ over.1, over.2), sym kept ∙ is)
       ]
 
-  lower_than : (id : ℕ) → h.id < id → AreLower before.more id → AreLower (before.more ++ ended.0 ∷ []) id
+  lower_than : (id : ℕ) → (served_in h.job).id < id → AreLower before.more id → AreLower (before.more ++ ended.0 ∷ []) id
   lower_than id lt all =
       let own : ended.0.id < id = omega (arith, ended.1) in
       all-append (λ r. r.id < id) before.more (ended.0 ∷ []) all (own, tt)
@@ -179,7 +179,7 @@ module _ (old now new : State) (frame : ℕ) (before : IsSettling old now) (lowe
             let was = still_over other i over is in
             let le = lowest.1 other h i was.1 lowest.0.1 was.2 in
             let apart = held_ids now frame other h i before.sound lowest.0.1 was.2 (λ e. was.0 (sym e)) in
-            lower_than i.id (omega arith) (before.lower other i was.1 was.2);
+            lower_than (served_in i.job).id (omega arith) (before.lower other i was.1 was.2);
       }
 
   -- as many requests are still to be finished at most

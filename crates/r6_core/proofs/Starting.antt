@@ -26,7 +26,7 @@ use Rattle.r6_frames.specs.declared.frames.Frames.{Frames}
 use Rattle.r6_frames.specs.declared.frames.HeldRow.{HeldRow}
 use Rattle.r6_core.specs.declared.state.State.{State}
 use Rattle.r6_frames.specs.Views.{op_of, task_for, hold_at, use_at, row_in, frame_of, held_requests, Rest, shard_with, AreLive}
-use Rattle.r6_frames.specs.Calls.{begun_for, Begins, Drives, PutsOut, IsFreeFrame, IsHeldFrame, NotHeldBy, IsRequestOf, KeepsOthers}
+use Rattle.r6_frames.specs.Calls.{begun_for, Begins, Drives, PutsOut, IsFreeFrame, IsHeldFrame, NotHeldBy, IsRequestOf, KeepsOthers, KeepsRows}
 use Rattle.r6_frames.specs.Owed.{owed, IsDriven, IsOver}
 use Rattle.r6_frames.specs.Slots.{states_of, count_out}
 use Rattle.r6_frames.specs.Sound as held
@@ -138,6 +138,7 @@ pub record IsStart (s : State) (before : List Entered) (request : Entered) (behi
   pub driven : IsDriven new frame
   pub held_still : IsHeldFrame new frame
   pub others_kept : KeepsOthers mid frame new
+  pub rows : KeepsRows mid new
   pub requests : held_requests new ≡ held_requests mid
   pub all_owed : next_of new.commands + owed new ≤ next_of mid.commands + owed mid
   pub live : AreLive new
@@ -294,7 +295,7 @@ module _ (s : State) (before : List Entered) (request : Entered) (behind : List 
   pub started_row : (h : HeldRow) × (hold_at new.held.items frame ≡ Some h) × (h.row ≡ row_of s.frames.geometry (block_of (op_of request.op)))
   started_row =
       let begun = frame-held mid frame (begun_for s.frames request) (begun_frame s.frames frame request mid is.begins) in
-      let there = row_stays mid new frame begun.0 is.begun_sound is.sound is.drives.0 is.requests begun.1 in
+      let there = row_stays mid new frame begun.0 is.rows begun.1 in
       (there.0, there.1, there.2 ∙ ap (λ (h : Hold). h.row) begun.2)
 
   -- if but for one frame all was as it was when none could start, none can

@@ -1,78 +1,28 @@
 -- Which requests can't start after a change of the frames.
-use Rattle.std.proofs.Common.{◌≡◌, ◌≢◌, ℕ, zero, suc, ◌+◌, ◌<◌, Bool, false, cond, List, [], ◌∷◌, refl, sym, ap, subst, ◌∙◌, Option, Some, None, inl, inr, arith}
-use Rattle.std.specs.Prelude.{option_map, nat_eq}
+use Rattle.std.proofs.Common.{◌≡◌, ◌≢◌, ℕ, List, [], ◌∷◌, refl, sym, ap, subst, ◌∙◌, Option, Some, None, inl, inr, arith}
+use Rattle.std.specs.Prelude.{option_map}
 use Rattle.std.specs.List.{AllByRecursion}
-use Rattle.std.proofs.lemmas.Bool.{cases_eq, ne_eqb, eq-eqb}
+use Rattle.std.proofs.lemmas.Bool.{cases_eq}
 use Rattle.r6_layout.specs.Shape.{Shape}
 use Rattle.r6_layout.specs.Layout.{row_of}
 use Rattle.r6_world.specs.PlainArray.{block_of}
-use Rattle.r6_world.specs.ShardStates.{Request, Stage, Waiting, Held, Finished, Released}
 use Rattle.r6_frames.specs.declared.op.Request.{Request as Entered}
 use Rattle.r6_frames.specs.declared.frames.Frames.{Frames}
 use Rattle.r6_frames.specs.declared.frames.Job.{Job}
-use Rattle.r6_frames.specs.declared.frames.Job.TheVariants as job
 use Rattle.r6_frames.specs.declared.frames.HeldRow.{HeldRow}
-use Rattle.r6_frames.specs.declared.frames.FrameUse.{FrameUse}
-use Rattle.r6_frames.specs.declared.frames.FrameUse.TheVariants as uses
-use Rattle.r6_frames.specs.Views.{op_of, op_by, kind_in, use_at, row_in, hold_at, held_request, requests_from, held_requests, AreLive}
-use Rattle.r6_frames.specs.Calls.{IsFreeFrame, NotHeldBy, KeepsOthers}
-use Rattle.r6_frames.specs.Sound.{IsSound}
-use Rattle.r6_frames.proofs.Lists.{Entries}
+use Rattle.r6_frames.specs.Views.{op_of, held_for, use_at, row_in, hold_at, AreLive}
+use Rattle.r6_frames.specs.Calls.{IsFreeFrame, NotHeldBy, KeepsOthers, KeepsRows}
 use Rattle.r6_core.specs.Inside.{CanStart, CannotStart}
 
--- ---- the same requests are held for in the same rows
+-- ---- a row that is held is held in its frame still
 
-abbrev is_in : ℕ → Stage → Bool
-is_in frame Waiting = false
-is_in frame (Held other) = nat_eq frame other
-is_in frame (Finished reply) = false
-is_in frame (Released reply) = false
+same_row : (o : Option HeldRow) (h : HeldRow) → option_map held_for o ≡ Some (held_for h) → (i : HeldRow) × (o ≡ Some i) × (i.row ≡ h.row)
+same_row None h is = absurd (cc)
+same_row (Some i) h is = (i, refl, (let same : held_for i ≡ held_for h = cc in ap (λ (x : ℕ × Job). x.0) same))
 
--- the block of the request that a row is held for in the frame
-abbrev block_in : ℕ → Entries Request → Option ℕ
-block_in frame [] = None
-block_in frame (e ∷ es) = cond (is_in frame e.1.stage) (Some (block_of e.1.op)) (block_in frame es)
-
-none_in : (frame start : ℕ) (held : List FrameUse) → frame < start → block_in frame (requests_from start held) ≡ None
-none_in frame start [] before = refl
-none_in frame start (uses.Free ∷ held) before = none_in frame (start + 1) held (omega arith)
-none_in frame start (uses.Returning r ∷ held) before = none_in frame (start + 1) held (omega arith)
-none_in frame start (uses.Held h ∷ held) before =
-    ap (λ (b : Bool). cond b (Some (block_of (held_request start h).1.op)) (block_in frame (requests_from (start + 1) held))) (ne_eqb frame start (λ e. omega arith))
-    ∙ none_in frame (start + 1) held (omega arith)
-
-block_by : (block : ℕ) (j : Job) (h : HeldRow) → block_of (op_by block j (kind_in h)) ≡ block
-block_by block (job.Read buffer) h = refl
-block_by block job.Write h = refl
-
-block_held : (start at frame : ℕ) (held : List FrameUse) → frame ≡ start + at → block_in frame (requests_from start held) ≡ option_map (λ (h : HeldRow). h.block) (hold_at held at)
-block_held start at frame [] is = refl
-block_held start zero frame (uses.Free ∷ held) is = none_in frame (start + 1) held (omega arith)
-block_held start zero frame (uses.Returning r ∷ held) is = none_in frame (start + 1) held (omega arith)
-block_held start zero frame (uses.Held h ∷ held) is =
-    ap (λ (b : Bool). cond b (Some (block_of (held_request start h).1.op)) (block_in frame (requests_from (start + 1) held))) (eq-eqb frame start (omega arith))
-    ∙ ap (λ n. Some n) (block_by h.block h.job h)
-block_held start (suc at) frame (uses.Free ∷ held) is = block_held (start + 1) at frame held (omega arith)
-block_held start (suc at) frame (uses.Returning r ∷ held) is = block_held (start + 1) at frame held (omega arith)
-block_held start (suc at) frame (uses.Held h ∷ held) is =
-    ap (λ (b : Bool). cond b (Some (block_of (held_request start h).1.op)) (block_in frame (requests_from (start + 1) held))) (ne_eqb frame start (λ e. omega arith))
-    ∙ block_held (start + 1) at frame held (omega arith)
-
-block_there : (o : Option HeldRow) (block : ℕ) → option_map (λ (h : HeldRow). h.block) o ≡ Some block → (h : HeldRow) × (o ≡ Some h) × (h.block ≡ block)
-block_there None block is = absurd (cc)
-block_there (Some h) block is = (h, refl, (let same : h.block ≡ block = cc in same))
-
-module _ (old new : Frames) (frame : ℕ) (h : HeldRow) (sound : IsSound old) (still : IsSound new) (geometry : new.geometry ≡ old.geometry) (requests : held_requests new ≡ held_requests old)
-    (is : hold_at old.held.items frame ≡ Some h) where
-  -- a row that is held is held in its frame still
-  pub row_stays : (i : HeldRow) × (hold_at new.held.items frame ≡ Some i) × (i.row ≡ h.row)
-  row_stays =
-      let before = block_held 0 frame frame old.held.items (omega arith) in
-      let after = block_held 0 frame frame new.held.items (omega arith) in
-      let there = block_there (hold_at new.held.items frame) h.block (sym after ∙ ap (block_in frame) requests ∙ before ∙ ap (option_map (λ (h : HeldRow). h.block)) is) in
-      let now = (still.frames.rows frame there.0 there.1).row_is in
-      let was = (sound.frames.rows frame h is).row_is in
-      (there.0, there.1, now ∙ ap (λ (g : Shape). row_of g there.0.block) geometry ∙ ap (row_of old.geometry) there.2 ∙ sym was)
+pub row_stays : (old new : Frames) (frame : ℕ) (h : HeldRow) → KeepsRows old new → hold_at old.held.items frame ≡ Some h
+    → (i : HeldRow) × (hold_at new.held.items frame ≡ Some i) × (i.row ≡ h.row)
+row_stays old new frame h rows is = same_row (hold_at new.held.items frame) h (rows frame ∙ ap (option_map held_for) is)
 
 -- ---- none can start where each row is held still, and no frame became free
 

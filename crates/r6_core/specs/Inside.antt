@@ -19,7 +19,7 @@ use Rattle.r6_core.specs.declared.state.State.{State}
 use Rattle.r6_frames.specs.declared.frames.Frames.{Frames}
 use Rattle.r6_frames.specs.declared.frames.HeldRow.{HeldRow}
 use Rattle.r6_frames.specs.Slots.{count_out}
-use Rattle.r6_frames.specs.Views.{op_of, held_requests, hold_at, AreLive}
+use Rattle.r6_frames.specs.Views.{op_of, served_in, held_requests, hold_at, AreLive}
 use Rattle.r6_frames.specs.Calls.{Between, HasOneBlock, IsAwaited, IsFreeFrame, IsRequestOf, KeepsOthers, NotHeldBy}
 use Rattle.r6_frames.specs.Owed.{owed, IsDriven, IsOver}
 use Rattle.r6_frames.specs.Calls as frames
@@ -167,7 +167,7 @@ NoMoreCanStart old new = (request : Request) → CannotStart old.frames request 
 abbrev pub FinishesHeld : State → (frame : ℕ) → State → Type 0
 FinishesHeld old frame new =
     (h : HeldRow) → hold_at old.frames.held.items frame ≡ Some h → IsOver old.frames frame
-    → (request : Request) × (request.id ≡ h.id) × (new.finished.items ≡ old.finished.items ++ request ∷ []) × (hold_at new.frames.held.items frame ≡ None)
+    → (request : Request) × (request.id ≡ (served_in h.job).id) × (new.finished.items ≡ old.finished.items ++ request ∷ []) × (hold_at new.frames.held.items frame ≡ None)
 
 -- the requests that aren't released, each with its number
 abbrev pub held_op : ℕ × shards.Request → ℕ × world.Op

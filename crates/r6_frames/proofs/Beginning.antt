@@ -6,7 +6,7 @@ use Rattle.std.proofs.lemmas.Bool.{cases_eq}
 use Rattle.std.proofs.lemmas.List.Elements.{All-pop}
 use Rattle.std.proofs.lemmas.List.{length-set, length-map, map-append, take_more}
 use Rattle.r6_kernels.specs.Blocks.{IsBlock}
-use Rattle.r6_layout.specs.Shape.{Shape, IsShape, data_slots}
+use Rattle.r6_layout.specs.Shape.{Shape, IsShape, blocks, data_slots}
 use Rattle.r6_layout.specs.Layout as layout
 use Rattle.r6_stripe.specs.Frames as buffers
 use Rattle.r6_stripe.specs.Holds.{Cell, Kind, Standing, Hold, Event, cell_at, standing_cell, resting, MayBegin}
@@ -36,7 +36,7 @@ use Rattle.r6_frames.specs.declared.frames.FrameUse.{FrameUse}
 use Rattle.r6_frames.specs.declared.frames.FrameUse.TheVariants.{Free, Held as HeldIn, Returning}
 use Rattle.r6_frames.specs.declared.frames.Frames.{Frames}
 use Rattle.r6_frames.specs.Slots.{state_of, slot_in, states_of}
-use Rattle.r6_frames.specs.Views.{op_of, buffer_of, job_for, row_task, task_for, task_by, op_by, use_at, row_in, hold_at, hold_of, held_request, requests_from, shard_with, is_synced_at, AreLive}
+use Rattle.r6_frames.specs.Views.{op_of, buffer_of, served_in, job_for, row_task, task_for, task_by, op_by, use_at, row_in, hold_at, hold_of, held_request, requests_from, shard_with, is_synced_at, AreLive}
 use Rattle.r6_frames.specs.Calls.{entry_of, begun_for, IsFreeFrame, NotHeldBy, IsRequestOf, Begins}
 use Rattle.r6_frames.specs.Owed.{owed_by, owed_in, is_unsent, OwesCommands}
 use Rattle.r6_frames.specs.Sound.{is_put_out, is_away_from, count_home, home_in, count_free, IsJob, IsHeld, AreApart, AreFrames, AreCommands, IsSound}
@@ -104,35 +104,37 @@ all_home (b ∷ in_sync) = omega (arith, all_home in_sync)
 
 -- the row as the code makes it
 pub begun_as :
-    (fs : Frames) (request : Request) (block row first index size : ℕ) (in_sync : List Bool) (job : Job) (task : RowTask) (hold : Held)
-    → block ≡ block_in request → row ≡ layout.row_of fs.geometry block → first ≡ layout.slot_at fs.geometry row 0 → index ≡ layout.index_of fs.geometry block → size ≡ fs.geometry.block → in_sync ≡ synced fs row
-    → job ≡ job_for request.op → task ≡ row_task index request.op → hold ≡ begun_held size in_sync (kind_of_task task)
-    → record { row = row; first = first; id = request.id; block = block; job = job; hold = hold } ≡ begun_row fs request
-begun_as fs request block row first index size in_sync job task hold block_is row_is first_is index_is size_is sync_is job_is task_is hold_is =
-    let same_row = row_is ∙ ap (layout.row_of fs.geometry) block_is in
-    let same_task = task_is ∙ ap (λ (at : ℕ). row_task at request.op) (index_is ∙ ap (layout.index_of fs.geometry) block_is) in
-    let same_sync = sync_is ∙ ap (synced fs) same_row in
+    (fs : Frames) (request : Request) (row first index size : ℕ) (in_sync : List Bool) (job : Job) (task : RowTask) (hold : Held)
+    → row ≡ row_of fs request → first ≡ layout.slot_at fs.geometry row 0 → index ≡ layout.index_of fs.geometry (block_in request) → size ≡ fs.geometry.block → in_sync ≡ synced fs row
+    → job ≡ job_for request.id request.op → task ≡ row_task index request.op → hold ≡ begun_held size in_sync (kind_of_task task)
+    → record { row = row; first = first; job = job; hold = hold } ≡ begun_row fs request
+begun_as fs request row first index size in_sync job task hold row_is first_is index_is size_is sync_is job_is task_is hold_is =
+    let same_task = task_is ∙ ap (λ (at : ℕ). row_task at request.op) index_is in
+    let same_sync = sync_is ∙ ap (synced fs) row_is in
     let same_hold : hold ≡ begun_held fs.geometry.block (synced fs (row_of fs request)) (kind_of_task (task_in fs.geometry request)) =
     hold_is ∙ (λ i. begun_held (size_is i) (same_sync i) (kind_of_task (same_task i))) in
-    let same_first = first_is ∙ ap (λ (r : ℕ). layout.slot_at fs.geometry r 0) same_row in
-    λ i. record { row = same_row i; first = same_first i; id = request.id; block = block_is i; job = job_is i; hold = same_hold i }
+    let same_first = first_is ∙ ap (λ (r : ℕ). layout.slot_at fs.geometry r 0) row_is in
+    λ i. record { row = row_is i; first = same_first i; job = job_is i; hold = same_hold i }
 
 -- the hold has the task of the request
 kind_is : (shape : Shape) (row id : ℕ) (o : Op) → kind_of (layout_of shape) row (task_for id o) ≡ kind_of_task (row_task (layout.index_of shape (block_of (op_of o))) o)
 kind_is shape row id (op.Read block buffer) = refl
 kind_is shape row id (op.Write block buffer) = refl
 
-task_is : (index id : ℕ) (o : Op) → task_by id (block_of (op_of o)) (job_for o) (kind_of_task (row_task index o)) ≡ task_for id o
+task_is : (index id : ℕ) (o : Op) → task_by (job_for id o) (kind_of_task (row_task index o)) ≡ task_for id o
 task_is index id (op.Read block buffer) = refl
 task_is index id (op.Write block buffer) = refl
 
-op_is : (index : ℕ) (o : Op) → op_by (block_of (op_of o)) (job_for o) (kind_of_task (row_task index o)) ≡ op_of o
-op_is index (op.Read block buffer) = refl
-op_is index (op.Write block buffer) = refl
+entry_by : (frame index id : ℕ) (o : Op)
+    → ◌≡◌ {A = ℕ × shards.Request} ((served_in (job_for id o)).id, record { op = op_by (job_for id o) (kind_of_task (row_task index o)); stage = shards.Held frame })
+    (id, record { op = op_of o; stage = shards.Held frame })
+entry_by frame index id (op.Read block buffer) = refl
+entry_by frame index id (op.Write block buffer) = refl
 
-job_is : (shape : Shape) (o : Op) → IsBlock shape.block (buffer_of o) → IsJob shape (block_of (op_of o)) (job_for o) (kind_of_task (row_task (layout.index_of shape (block_of (op_of o))) o))
-job_is shape (op.Read block buffer) sized = (refl, sized)
-job_is shape (op.Write block buffer) sized = (buffer, refl, sized)
+job_is : (shape : Shape) (id : ℕ) (o : Op) → block_of (op_of o) < blocks shape → IsBlock shape.block (buffer_of o)
+    → IsJob shape (layout.row_of shape (block_of (op_of o))) (job_for id o) (kind_of_task (row_task (layout.index_of shape (block_of (op_of o))) o))
+job_is shape id (op.Read block buffer) there sized = ((there, refl), refl, sized)
+job_is shape id (op.Write block buffer) there sized = ((there, refl), buffer, refl, sized)
 
 may_begin : (fs : Frames) (row index : ℕ) (o : Op) → index < data_slots fs.geometry → IsBlock fs.geometry.block (buffer_of o) → MayBegin (found_in fs row) (kind_of_task (row_task index o))
 may_begin fs row index (op.Read block buffer) below sized = let wide = found-long (layout_of fs.geometry) (states_of fs.slots) row in omega arith
@@ -167,9 +169,7 @@ hold_is fs request =
     λ i. record { row = row; task = task i; course = (first_is i).hold; plan = (first_is i).plan; class = None }
 
 entry_is : (fs : Frames) (frame : ℕ) (request : Request) → held_request frame (begun_row fs request) ≡ entry_of frame request
-entry_is fs frame request =
-    let same = op_is (layout.index_of fs.geometry (block_in request)) request.op in
-    λ i. (request.id, record { op = same i; stage = shards.Held frame })
+entry_is fs frame request = entry_by frame (layout.index_of fs.geometry (block_in request)) request.id request.op
 
 cells_in : (fs : Frames) (request : Request) → (begun_row fs request).hold.planned.hold.cells ≡ (found_in fs (row_of fs request)).cells
 cells_in fs request =
@@ -203,11 +203,9 @@ begun_is_held : (fs : Frames) (request : Request) → IsShape fs.geometry → Is
 begun_is_held fs request shape right =
     let placed = (layouts fs.geometry shape).placed (block_in request) right.there in
     record {
-      there = right.there;
-      row_is = refl;
       first = refl;
       own = (placed.0, right.own);
-      job = job_is fs.geometry request.op right.sized;
+      job = job_is fs.geometry request.id request.op right.there right.sized;
       under_way = record {
         slots = states_of fs.slots;
         row = row_of fs request;

@@ -27,16 +27,16 @@ use Rattle.r6_frames.specs.declared.frames.FrameUse.{FrameUse}
 use Rattle.r6_frames.specs.declared.frames.FrameUse.TheVariants.{Held as HeldIn}
 use Rattle.r6_frames.specs.declared.frames.Frames.{Frames}
 use Rattle.r6_frames.specs.Slots.{is_abandoned}
-use Rattle.r6_frames.specs.Views.{hold_at, hold_of, kind_in, op_by, held_requests, outstanding, command_of, transfer_of, Rest, shard_with, AreLive}
-use Rattle.r6_frames.specs.Calls.{Answers, IsAwaited, IsAbandoned, KeepsOthers}
+use Rattle.r6_frames.specs.Views.{hold_at, hold_of, kind_in, op_by, served_in, request_at, held_requests, outstanding, command_of, transfer_of, Rest, shard_with, AreLive}
+use Rattle.r6_frames.specs.Calls.{Answers, IsAwaited, IsAbandoned, KeepsOthers, KeepsRows}
 use Rattle.r6_frames.specs.Owed.{owed}
 use Rattle.r6_frames.specs.Sound.{IsSound, IsHeld, is_away_from, is_write, place_of}
 use Rattle.r6_frames.proofs.SlotsInTurn.{some_slots, position_left}
 use Rattle.r6_frames.proofs.UnderWay.{held_standing}
 use Rattle.r6_frames.proofs.HeldRows.{use_found}
-use Rattle.r6_frames.proofs.Held.{use_at_other, use_held, held_within, hold_at_own, frame_put, free_at, home_at, owed_at}
+use Rattle.r6_frames.proofs.Held.{use_at_other, use_held, held_within, hold_at_own, frame_put, rows_stay, free_at, home_at, owed_at}
 use Rattle.r6_frames.proofs.AnsweredRows.{Answered, answer_event, answer_at, answered_row, answered_held, answered_owes}
-use Rattle.r6_frames.proofs.BuffersHome.{GoesOn, IsHome, live_cases, home_back, left_of, commands_gone, request_at, sound_left, owed_left, requests_left}
+use Rattle.r6_frames.proofs.BuffersHome.{GoesOn, IsHome, live_cases, home_back, left_of, commands_gone, sound_left, owed_left, requests_left}
 
 -- ---- a command and its row
 
@@ -172,7 +172,7 @@ module _ (fs : Frames) (token : ℕ) (c : Outstanding) (h : HeldRow) (out : IsOu
     answered_requests same =
         let of_row = use_held fs.held.items c.frame h out.held in
         requests_left fs token c out.there (with_item fs.held c.frame (HeldIn h')) fs.spare (HeldIn h') refl answered_home
-        ((λ i. (h.id, record { op = op_by h.block h.job (same i); stage = Held c.frame }) ∷ []) ∙ sym (ap (request_at c.frame) of_row))
+        ((λ i. ((served_in h.job).id, record { op = op_by h.job (same i); stage = Held c.frame }) ∷ []) ∙ sym (ap (request_at c.frame) of_row))
 
   stores : (block : Option Block) → transfer_of command.Write block ≢ Fetch
   stores None e = cc
@@ -221,6 +221,7 @@ pub record Completed (fs : Frames) (token : ℕ) (block : Block) (frame : ℕ) (
   pub sound : IsSound new
   pub answers : Answers fs token block new
   pub held : hold_at new.held.items frame ≡ Some h
+  pub rows : KeepsRows fs new
   pub others : KeepsOthers fs frame new
   pub owed : owed new ≡ owed fs
   pub requests : held_requests new ≡ held_requests fs
@@ -244,6 +245,7 @@ completed fs token c h block position hold commands sound out at done rest =
       sound = subst IsSound (sym same) (answered_sound fs token c h out sound block event a);
       answers = subst (Answers fs token block) (sym same) (answers fs token c h out block);
       held = hold_at_own fs.held.items c.frame (HeldIn (record h { hold = hold })) (held_within fs.held.items c.frame h out.held);
+      rows = rows_stay fs.held.items c.frame h (record h { hold = hold }) out.held refl;
       others = λ other ne. use_at_other fs.held.items c.frame (HeldIn (record h { hold = hold })) other ne;
       owed = ap owed same ∙ answered_owed fs token c h out sound block event a;
       requests = ap held_requests same ∙ answered_requests fs token c h out sound block event a (same_kind h (place_of fs c) c.kind block);

@@ -34,9 +34,9 @@ pub row_found : (held : List FrameUse) (frame : ℕ) (got : FrameUse) (h : HeldR
 row_found held frame got h there value is = ap row_in (use_found held frame got (HeldIn h) (held_within held frame there.0 there.1) value is)
 
 -- what requests hold a row for is no check and no repair
-pub job_whole : (shape : Shape) (block : ℕ) (j : Job) (kind : Kind) → IsJob shape block j kind → wants_all kind ≡ false
-job_whole shape block (job.Read buffer) kind is = ap wants_all is.0
-job_whole shape block job.Write kind is = ap wants_all is.1
+pub job_whole : (shape : Shape) (row : ℕ) (j : Job) (kind : Kind) → IsJob shape row j kind → wants_all kind ≡ false
+job_whole shape row (job.Read served buffer) kind is = ap wants_all is.1
+job_whole shape row (job.Write served) kind is = ap wants_all is.2
 
 -- ---- an event, and which buffers are away then
 
@@ -55,11 +55,9 @@ held_after shape shard slots h event away held may no_loss wide are =
     let hold = h.hold.planned.hold in
     let stays : (j : ℕ) → (cell_at (after_event hold event).cells j).standing ≡ (cell_at hold.cells j).standing = λ j. standing_stays hold event j (no_loss j) in
     record {
-      there = held.there;
-      row_is = held.row_is;
       first = held.first;
       own = held.own;
-      job = subst (λ (k : Kind). IsJob shape h.block h.job k) (sym (kind_after hold event)) held.job;
+      job = subst (λ (k : Kind). IsJob shape h.row h.job k) (sym (kind_after hold event)) held.job;
       under_way = under_way_after shape h.hold.planned event held.under_way may;
       size = size_after hold event ∙ held.size;
       wide = width_after hold event ∙ held.wide;

@@ -24,7 +24,7 @@ use Rattle.r6_frames.specs.declared.frames.FrameUse.{FrameUse}
 use Rattle.r6_frames.specs.declared.frames.FrameUse.TheVariants.{Free, Held as HeldIn, Returning}
 use Rattle.r6_frames.specs.declared.frames.Frames.{Frames}
 use Rattle.r6_frames.specs.Slots.{is_abandoned}
-use Rattle.r6_frames.specs.Views.{use_at, row_in, hold_at, hold_of, kind_in, plan_in, held_requests, outstanding, command_of, shard_with, AreLive}
+use Rattle.r6_frames.specs.Views.{use_at, row_in, hold_at, hold_of, kind_in, plan_in, request_at, held_requests, outstanding, command_of, shard_with, AreLive}
 use Rattle.r6_frames.specs.Calls.{ComesHome, IsAwaited, IsAbandoned, KeepsHeld, KeepsOthers}
 use Rattle.r6_frames.specs.Owed.{owed}
 use Rattle.r6_frames.specs.Uses.{IsForRow, has_away, AwaitsBuffer, use_home, spared_home}
@@ -34,7 +34,7 @@ use Rattle.r6_frames.proofs.Ending.{none-away-at, some-away, count_home-all}
 use Rattle.r6_frames.proofs.Finishing.{count_free-le}
 use Rattle.r6_frames.proofs.HeldRows.{job_whole}
 use Rattle.r6_frames.proofs.AnsweredRows.{late_row, late_held, late_is}
-use Rattle.r6_frames.proofs.BuffersHome.{GoesOn, IsHome, home_back, left_of, commands_gone, commands_left, request_at, other_same, each_same, sound_left, owed_left, requests_left}
+use Rattle.r6_frames.proofs.BuffersHome.{GoesOn, IsHome, home_back, left_of, commands_gone, commands_left, other_same, each_same, sound_left, owed_left, requests_left}
 use Rattle.r6_frames.proofs.Completions.{place_within}
 
 -- what the call leaves
@@ -328,7 +328,7 @@ module _ (fs : Frames) (token : ℕ) (c : Outstanding) (sound : IsSound fs) (lat
   pub awaits_buffer : (u : FrameUse) (position : ℕ) (block : Block) → use_at fs.held.items c.frame ≡ u → position ≡ place_of fs c → length block ≡ fs.geometry.block
       → AwaitsBuffer u position block
   awaits_buffer Free position block was at sized = absurd (let home = ap (λ v. is_away_from v (place_of fs c)) was in let away = late.away in cc)
-  awaits_buffer (HeldIn h) position block was at sized = (row_away h (ap row_in was) position at, sized ∙ sym (row_size h (ap row_in was)), job_whole fs.geometry h.block h.job (kind_in h) (whole h (ap row_in was)).job)
+  awaits_buffer (HeldIn h) position block was at sized = (row_away h (ap row_in was) position at, sized ∙ sym (row_size h (ap row_in was)), job_whole fs.geometry h.row h.job (kind_in h) (whole h (ap row_in was)).job)
   awaits_buffer (Returning r) position block was at sized =
       (returning_away r was position at, sized ∙ sym (returning_size r was), (returns r was).ended)
 

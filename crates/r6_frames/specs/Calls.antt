@@ -28,7 +28,7 @@ use Rattle.r6_frames.specs.declared.frames.FrameUse.TheVariants as uses
 use Rattle.r6_frames.specs.declared.slots.Device.{Device}
 use Rattle.r6_frames.specs.Slots.{state_of, states_of, is_abandoned}
 use Rattle.r6_frames.specs.declared.frames.Frames.{Frames}
-use Rattle.r6_frames.specs.Views.{op_of, buffer_of, outcome_of, task_for, plan_in, use_at, hold_at, held_requests, outstanding, world_command, Rest, shard_with, AreLive}
+use Rattle.r6_frames.specs.Views.{op_of, buffer_of, outcome_of, task_for, held_for, plan_in, use_at, hold_at, held_requests, outstanding, world_command, Rest, shard_with, AreLive}
 use Rattle.r6_frames.specs.Owed.{owed}
 
 -- a relation of two shards, whatever they have beside their frames
@@ -220,6 +220,11 @@ KeepsOthers old frame new = (other : ℕ) → other ≢ frame → use_at new.hel
 -- all frames have what they had
 abbrev pub KeepsHolds : Frames → Frames → Type 0
 KeepsHolds old new = new.held ≡ old.held
+
+-- the rows that are held are those that were, each in its frame and for the same
+abbrev pub KeepsRows : Frames → Frames → Type 0
+KeepsRows old new = (frame : ℕ)
+    → option_map held_for (hold_at new.held.items frame) ≡ option_map held_for (hold_at old.held.items frame)
 
 -- a frame in which no row is held has none still, and each hold is as it was, its buffers aside
 abbrev pub KeepsHeld : Frames → Frames → Type 0

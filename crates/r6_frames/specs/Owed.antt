@@ -9,7 +9,7 @@ use Rattle.r6_frames.specs.declared.frames.HeldRow.{HeldRow}
 use Rattle.r6_frames.specs.declared.frames.FrameUse.{FrameUse}
 use Rattle.r6_frames.specs.declared.frames.FrameUse.TheVariants as uses
 use Rattle.r6_frames.specs.declared.frames.Frames.{Frames}
-use Rattle.r6_frames.specs.Views.{hold_at}
+use Rattle.r6_frames.specs.Views.{hold_at, served_in}
 
 -- ---- commands and ends
 
@@ -23,14 +23,14 @@ IsOver fs frame = (h : HeldRow) × (hold_at fs.held.items frame ≡ Some h) × (
 
 -- it may, and its request has this number
 abbrev pub IsOverWith : Frames → ℕ → (id : ℕ) → Type 0
-IsOverWith fs frame id = IsOver fs frame × ((h : HeldRow) → hold_at fs.held.items frame ≡ Some h → h.id ≡ id)
+IsOverWith fs frame id = IsOver fs frame × ((h : HeldRow) → hold_at fs.held.items frame ≡ Some h → (served_in h.job).id ≡ id)
 
 -- of the frames that may end, this one has the request with the lowest number
 abbrev pub IsLowestOver : Frames → ℕ → Type 0
 IsLowestOver fs frame =
     IsOver fs frame
     × ((other : ℕ) (h i : HeldRow) → IsOver fs other → hold_at fs.held.items frame ≡ Some h
-    → hold_at fs.held.items other ≡ Some i → h.id ≤ i.id)
+    → hold_at fs.held.items other ≡ Some i → (served_in h.job).id ≤ (served_in i.job).id)
 
 -- a command of the frame's hold is put out that is neither answered nor abandoned
 abbrev pub HasOut : Frames → ℕ → Type 0

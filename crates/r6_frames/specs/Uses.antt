@@ -47,9 +47,7 @@ begun_row fs request =
     record {
       row = row_of fs request;
       first = layout.slot_at fs.geometry (row_of fs request) 0;
-      id = request.id;
-      block = block_in request;
-      job = job_for request.op;
+      job = job_for request.id request.op;
       hold = begun_held fs.geometry.block (synced fs (row_of fs request)) (kind_of_task (task_in fs.geometry request));
     }
 

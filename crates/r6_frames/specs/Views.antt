@@ -1,5 +1,5 @@
 -- Which frames, commands and requests of the world's shard these are.
-use Rattle.std.specs.Prelude.{◌≡◌, ℕ, ◌+◌, ◌≤◌, nat_lt, not, Bool, false, List, [], ◌∷◌, slice_index_or, Option, Some, None, option_map}
+use Rattle.std.specs.Prelude.{◌≡◌, ℕ, ◌+◌, ◌≤◌, nat_lt, not, Bool, false, List, [], ◌∷◌, ◌++◌, slice_index_or, Option, Some, None, option_map}
 use Rattle.std.specs.FinMap as finite
 use Rattle.r6_layout.specs.Layout as layout
 use Rattle.r6_stripe.specs.Holds.{Kind}
@@ -24,6 +24,7 @@ use Rattle.r6_frames.specs.declared.command.CommandKind.TheVariants as command
 use Rattle.r6_frames.specs.declared.command.Outstanding.{Outstanding}
 use Rattle.r6_frames.specs.declared.frames.Job.{Job}
 use Rattle.r6_frames.specs.declared.frames.Job.TheVariants as job
+use Rattle.r6_frames.specs.declared.frames.Served.{Served}
 use Rattle.r6_frames.specs.declared.frames.HeldRow.{HeldRow}
 use Rattle.r6_frames.specs.declared.frames.FrameUse.{FrameUse}
 use Rattle.r6_frames.specs.declared.frames.FrameUse.TheVariants as uses
@@ -51,10 +52,10 @@ abbrev pub task_for : ℕ → Op → Task
 task_for id (op.Read block buffer) = ReadFor id block
 task_for id (op.Write block buffer) = WriteFor (record { id = id; block = block; new_data = buffer } ∷ [])
 
--- with whose buffer a row is held, and what its hold is asked to do at the index
-abbrev pub job_for : Op → Job
-job_for (op.Read block buffer) = job.Read buffer
-job_for (op.Write block buffer) = job.Write
+-- what a row is held for by a request, as the frames have it, and what its hold is asked to do at the index
+abbrev pub job_for : ℕ → Op → Job
+job_for id (op.Read block buffer) = job.Read (record { id = id; block = block }) buffer
+job_for id (op.Write block buffer) = job.Write (record { id = id; block = block })
 
 abbrev pub row_task : ℕ → Op → RowTask
 row_task index (op.Read block buffer) = asks.Read index
@@ -72,24 +73,33 @@ new_data_of (RebuildKind target) = []
 new_data_of CheckKind = []
 new_data_of RepairKind = []
 
-abbrev pub task_by : ℕ → ℕ → Job → Kind → Task
-task_by id block (job.Read buffer) kind = ReadFor id block
-task_by id block job.Write kind = WriteFor (record { id = id; block = block; new_data = new_data_of kind } ∷ [])
+abbrev pub served_in : Job → Served
+served_in (job.Read served buffer) = served
+served_in (job.Write served) = served
 
-abbrev pub op_by : ℕ → Job → Kind → world.Op
-op_by block (job.Read buffer) kind = world.Op.Read block
-op_by block job.Write kind = world.Op.Write block (new_data_of kind)
+abbrev pub task_by : Job → Kind → Task
+task_by (job.Read served buffer) kind = ReadFor served.id served.block
+task_by (job.Write served) kind =
+    WriteFor (record { id = served.id; block = served.block; new_data = new_data_of kind } ∷ [])
+
+abbrev pub op_by : Job → Kind → world.Op
+op_by (job.Read served buffer) kind = world.Op.Read served.block
+op_by (job.Write served) kind = world.Op.Write served.block (new_data_of kind)
 
 abbrev pub kind_in : HeldRow → Kind
 kind_in h = h.hold.planned.hold.kind
 
 abbrev pub hold_of : HeldRow → Hold
 hold_of h =
-    record { row = h.row; task = task_by h.id h.block h.job (kind_in h); course = h.hold.planned.hold; plan = h.hold.planned.plan; class = None }
+    record { row = h.row; task = task_by h.job (kind_in h); course = h.hold.planned.hold; plan = h.hold.planned.plan; class = h.hold.class }
 
--- the row with its hold, its buffers aside
-abbrev pub plan_in : HeldRow → (ℕ × ℕ) × plans.Planned
-plan_in h = ((h.row, h.id), h.hold.planned)
+-- the row with what it is held for
+abbrev pub held_for : HeldRow → ℕ × Job
+held_for h = (h.row, h.job)
+
+-- and with its hold, its buffers aside
+abbrev pub plan_in : HeldRow → (ℕ × Job) × plans.Planned
+plan_in h = (held_for h, h.hold.planned)
 
 abbrev pub use_at : List FrameUse → ℕ → FrameUse
 use_at held frame = slice_index_or held frame uses.Free
@@ -108,13 +118,16 @@ frame_of fs frame = option_map hold_of (hold_at fs.held.items frame)
 
 -- the requests that rows are held for, each with its number, in the order of the frames
 abbrev pub held_request : ℕ → HeldRow → ℕ × shards.Request
-held_request frame h = (h.id, record { op = op_by h.block h.job (kind_in h); stage = Held frame })
+held_request frame h = ((served_in h.job).id, record { op = op_by h.job (kind_in h); stage = Held frame })
+
+abbrev pub request_at : ℕ → FrameUse → List (ℕ × shards.Request)
+request_at frame uses.Free = []
+request_at frame (uses.Held h) = held_request frame h ∷ []
+request_at frame (uses.Returning hold) = []
 
 abbrev pub requests_from : ℕ → List FrameUse → List (ℕ × shards.Request)
 requests_from frame [] = []
-requests_from frame (uses.Free ∷ held) = requests_from (frame + 1) held
-requests_from frame (uses.Held h ∷ held) = held_request frame h ∷ requests_from (frame + 1) held
-requests_from frame (uses.Returning hold ∷ held) = requests_from (frame + 1) held
+requests_from frame (u ∷ held) = request_at frame u ++ requests_from (frame + 1) held
 
 abbrev pub held_requests : Frames → List (ℕ × shards.Request)
 held_requests fs = requests_from 0 fs.held.items

@@ -47,6 +47,7 @@ start c =
       driven = c.drive.ensures.driven;
       held_still = c.drive.ensures.held;
       others_kept = c.drive.ensures.others;
+      rows = c.drive.ensures.rows;
       requests = c.drive.ensures.requests;
       all_owed = c.drive.ensures.owed;
       live = c.drive.ensures.live;

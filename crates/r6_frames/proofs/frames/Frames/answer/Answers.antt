@@ -64,7 +64,7 @@ done c =
     let place = place_left fs c.args.token command h c.left_of-position.result c.requires.sound.shape out (omega (arith, c.left_of-position.ensures.within, c.slots.ensures.value))
     (ap (λ n. (c.left_of-position.result + h.first) % n) (sym c.slots.ensures.value) ∙ c.left_of-position.ensures.right) in
     completed fs c.args.token command h c.args.buffer c.left_of-position.result c.done.new.self c.remove.new.self c.requires.sound out place
-    (answered_same h.hold c.done.new.self c.left_of-position.result c.args.buffer c.done.ensures.answered c.done.ensures.class (job_whole fs.geometry h.block h.job (kind_in h) out.whole.job))
+    (answered_same h.hold c.done.new.self c.left_of-position.result c.args.buffer c.done.ensures.answered c.done.ensures.class (job_whole fs.geometry h.row h.job (kind_in h) out.whole.job))
     c.remove.ensures.rest
 
 pub returns-clause-sound : goal.returns-clause-sound
@@ -79,6 +79,9 @@ returns-clause-answers c = (done c).answers
 
 pub returns-clause-held : goal.returns-clause-held
 returns-clause-held c = (record c.in-Held.held { hold = c.done.new.self }, (done c).held)
+
+pub returns-clause-rows : goal.returns-clause-rows
+returns-clause-rows c = (done c).rows
 
 pub returns-clause-others : goal.returns-clause-others
 returns-clause-others c = (done c).others

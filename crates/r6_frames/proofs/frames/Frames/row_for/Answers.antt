@@ -1,5 +1,5 @@
 use Rattle.std.proofs.Common.{◌≡◌, ℕ, ◌+◌, ◌%◌, length, take, false, sym, ap, ◌∙◌, arith}
-use Rattle.r6_layout.specs.Layout.{index_of, row_of, slot_at}
+use Rattle.r6_layout.specs.Layout.{slot_at}
 use Rattle.r6_stripe.specs.Frames.{Shape}
 use Rattle.r6_frames.specs.Views.{is_synced_at}
 use Rattle.r6_frames.specs.Uses.{synced}
@@ -31,7 +31,6 @@ returns c =
     ap (λ (n : ℕ). take n c.in_sync-in_sync.result) count
     ∙ taken fs.geometry.slots c.in_sync-in_sync.result (is_synced_at fs place.row) false (omega arith)
     (λ position below. c.in_sync-in_sync.ensures place.row position (first_is c) below) in
-    begun_as fs c.args.request c.block-block.result place.row c.left_of-first.result place.index c.args.spare.size _ c.parts-job.result.0 c.parts-job.result.1 c.begin-hold.result
-    c.block-block.ensures (c.requires.place.row ∙ ap (row_of fs.geometry) (sym c.block-block.ensures)) (first_is c)
-    (c.requires.place.index ∙ ap (index_of fs.geometry) (sym c.block-block.ensures)) (ap (λ (frame : Shape). frame.size) c.requires.spare)
+    begun_as fs c.args.request place.row c.left_of-first.result place.index c.args.spare.size _ c.parts-job.result.0 c.parts-job.result.1 c.begin-hold.result
+    c.requires.place.row (first_is c) c.requires.place.index (ap (λ (frame : Shape). frame.size) c.requires.spare)
     sync c.parts-job.ensures.job c.parts-job.ensures.task c.begin-hold.ensures
