@@ -24,7 +24,7 @@ use Rattle.r6_core.specs.declared.state.State.{State}
 use Rattle.r6_frames.specs.Views.{op_of, buffer_of, hold_at, requests_from, held_requests}
 use Rattle.r6_frames.specs.Calls.{IsRequestOf}
 use Rattle.r6_frames.specs.Owed.{owed, owed_by, owed_in, is_unsent}
-use Rattle.r6_core.specs.Shards.{state_of, layout_in, requests_of, waiting_request, finished_request, released_request, core_of}
+use Rattle.r6_core.specs.Shards.{state_of, layout_in, requests_of, waiting_request, replied_requests, core_of}
 use Rattle.r6_core.specs.Refusals.{limit, most_unanswered, HasSubmitFault, HasNone, submit_faults}
 use Rattle.r6_core.specs.Inside.{IsSound, IsSettled, AreRequests, bound}
 use Rattle.r6_core.proofs.Passed.{all-append}
@@ -44,7 +44,7 @@ all_below_more n (k ∷ ks) h = (let below = h.0 in omega arith, all_below_more 
 
 -- the requests that don't wait
 abbrev pub others : State → Entries Request
-others s = held_requests s.frames ++ (map (finished_request s.frames.saw_failed) s.finished.items ++ map released_request s.released.items)
+others s = held_requests s.frames ++ replied_requests s.frames.saw_failed s.released s.replies.items
 
 pub record IsAccepted (s : State) (r : Entered) (new : Entries Request) : Type 0 where
   pub now : table new ≡ put (table (requests_of s)) r.id (Some (record { op = op_of r.op; stage = Waiting }))
@@ -128,9 +128,9 @@ accepted_core s o core right sized =
     let fresh : s.accepted < limit = lt_of_not-le (λ le. right.1.1.1.1.0 (inr le)) in
     let few : s.unanswered < most_unanswered = lt_of_not-le right.1.1.1.1.1.0 in
     let longer : length (s.waiting.items ++ r ∷ []) ≡ length s.waiting.items + 1 = length-append s.waiting.items (r ∷ []) in
-    let counted : length s.waiting.items + (length (held_requests s.frames) + length (map (finished_request s.frames.saw_failed) s.finished.items ++ map released_request s.released.items)) ≡ s.unanswered =
-    ap (λ n. n + (length (held_requests s.frames) + length (map (finished_request s.frames.saw_failed) s.finished.items ++ map released_request s.released.items))) (sym (length-map s.waiting.items waiting_request))
-    ∙ ap (λ n. length (map waiting_request s.waiting.items) + n) (sym (length-append (held_requests s.frames) (map (finished_request s.frames.saw_failed) s.finished.items ++ map released_request s.released.items)))
+    let counted : length s.waiting.items + (length (held_requests s.frames) + length (replied_requests s.frames.saw_failed s.released s.replies.items)) ≡ s.unanswered =
+    ap (λ n. n + (length (held_requests s.frames) + length (replied_requests s.frames.saw_failed s.released s.replies.items))) (sym (length-map s.waiting.items waiting_request))
+    ∙ ap (λ n. length (map waiting_request s.waiting.items) + n) (sym (length-append (held_requests s.frames) (replied_requests s.frames.saw_failed s.released s.replies.items)))
     ∙ sym (length-append (map waiting_request s.waiting.items) (others s)) ∙ sound.requests.counted in
     let owes = owed_in-le s.frames.geometry.slots 0 s.frames.held.items (λ frame h is. (sound.frames.frames.rows frame h is).wide) in
     let room = room_for s.frames.geometry.slots (length s.waiting.items) (length (held_requests s.frames)) (owed s.frames) sound.frames.shape.slots_allowed.1 owes (omega (arith, counted, few)) in
@@ -145,11 +145,11 @@ accepted_core s o core right sized =
           few = omega (arith, few);
           waiting = all-append (IsRequestOf s.frames) s.waiting.items (r ∷ []) sound.requests.waiting (request_of s o right sized s.accepted, tt);
           sized = sound.requests.sized;
+          marked = sound.requests.marked;
         };
         room = record {
           waiting = sound.room.waiting;
-          finished = sound.room.finished;
-          released = sound.room.released;
+          replies = sound.room.replies;
           calls = sound.room.calls;
           few_calls = sound.room.few_calls;
         };

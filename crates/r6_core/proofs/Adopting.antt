@@ -13,17 +13,17 @@ use Rattle.r6_world.specs.Steps.{TakesOver, Through}
 use Rattle.r6_frames.specs.declared.frames.Frames.{Frames}
 use Rattle.r6_frames.specs.declared.slots.Device.{Device}
 use Rattle.r6_frames.specs.Slots as slots
-use Rattle.r6_frames.specs.Slots.{states_of, slot_in}
+use Rattle.r6_frames.specs.Slots.{states_of}
 use Rattle.r6_frames.specs.Views.{held_requests, shard_with}
 use Rattle.r6_frames.specs.Calls.{TakesOut}
 use Rattle.r6_frames.specs.Owed.{owed}
 use Rattle.r6_frames.specs.Sound as held
 use Rattle.r6_frames.proofs.Lists.{table}
 use Rattle.r6_core.specs.declared.state.State.{State}
-use Rattle.r6_core.specs.Shards.{state_of, rest_of, layout_in, requests_of, waiting_request, finished_request, released_request, core_of}
+use Rattle.r6_core.specs.Shards.{state_of, rest_of, layout_in, requests_of, waiting_request, replied_requests, core_of}
 use Rattle.r6_core.specs.Refusals.{limit, most_unanswered}
 use Rattle.r6_core.specs.Order.{Agrees, SameReplies}
-use Rattle.r6_core.specs.Inside.{SameFrames, NoCalls, IsSound, bound, count_untold, SameCalls, Seen, ended_requests}
+use Rattle.r6_core.specs.Inside.{SameFrames, NoCalls, IsSound, bound, count_untold, SameCalls, Seen}
 use Rattle.r6_core.proofs.Throughs.{through_both, through_in, through_one}
 use Rattle.r6_core.proofs.Kept.{requests_kept, sizes_kept}
 
@@ -74,7 +74,7 @@ module _ (s : State) (slot : ℕ) (device : Device) (fs : Frames) (takes : Takes
   requests-taken : requests_of (with_frames s fs) ≡ requests_of s
   requests-taken =
       let failed : fs.saw_failed ≡ s.frames.saw_failed = ap (λ (x : Shard). x.saw_failed) (takes.2 (rest_of s)) in
-      λ i. map waiting_request s.waiting.items ++ (requests i ++ (map (finished_request (failed i)) s.finished.items ++ map released_request s.released.items))
+      λ i. map waiting_request s.waiting.items ++ (requests i ++ replied_requests (failed i) s.released s.replies.items)
 
   state-taken : state_of (with_frames s fs) ≡ taken_out (layout_in s) (state_of s) slot (slots.state_of device)
   state-taken = (λ i. shard_with (record (rest_of s) { request = table (requests-taken i) }) fs) ∙ takes.2 (rest_of s)
@@ -95,12 +95,12 @@ sound_taken s slot device fs sound told takes is next owes requests =
         counted = ap length same ∙ sound.requests.counted;
         few = sound.requests.few;
         waiting = requests_kept s.frames fs s.waiting.items takes.0 takes.1 sound.requests.waiting;
-        sized = sizes_kept s.frames.geometry fs.geometry (ended_requests s) takes.0 sound.requests.sized;
+        sized = sizes_kept s.frames.geometry fs.geometry s.replies.items takes.0 sound.requests.sized;
+        marked = sound.requests.marked;
       };
       room = record {
         waiting = sound.room.waiting;
-        finished = sound.room.finished;
-        released = sound.room.released;
+        replies = sound.room.replies;
         calls = sound.room.calls;
         few_calls = omega (arith, no_calls, no_untold);
       };

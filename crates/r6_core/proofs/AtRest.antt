@@ -12,10 +12,11 @@ use Rattle.r6_frames.specs.declared.frames.FrameUse.TheVariants as uses
 use Rattle.r6_core.specs.declared.state.State.{State}
 use Rattle.r6_frames.specs.Views.{op_of, hold_of, requests_from}
 use Rattle.r6_frames.specs.Calls.{NotHeldBy}
-use Rattle.r6_core.specs.Shards.{state_of, rest_of, layout_in, waiting_request, finished_request, released_request}
+use Rattle.r6_core.specs.Shards.{state_of, rest_of, layout_in, waiting_request, finished_request, replied_requests}
 use Rattle.r6_core.specs.Order.{MustWait}
 use Rattle.r6_core.specs.Inside.{CannotStart, IsCore, IsSettled}
 use Rattle.r6_frames.proofs.Lists.{Entries, table, looked_up}
+use Rattle.r6_core.proofs.Replied.{all_replied}
 use Rattle.r6_frames.proofs.Resting.{goes_on, nothing_next, brought_in, free_frame_is}
 
 -- ---- who waits, stands among the waiting
@@ -38,14 +39,6 @@ held_past frame (uses.Returning r ∷ held) rest h = held_past (frame + 1) held 
 ended_past : (saw_failed : Bool) (r : Entered) → IsPast (finished_request saw_failed r).1.stage
 ended_past true r = tt
 ended_past false r = tt
-
-finished_past : (saw_failed : Bool) (rs : List Entered) (rest : Entries Request) → AllPast rest → AllPast (map (finished_request saw_failed) rs ++ rest)
-finished_past saw_failed [] rest h = h
-finished_past saw_failed (r ∷ rs) rest h = (ended_past saw_failed r, finished_past saw_failed rs rest h)
-
-released_past : (rs : List Entered) → AllPast (map released_request rs)
-released_past [] = tt
-released_past (r ∷ rs) = (tt, released_past rs)
 
 abbrev asked : Option Request → world.Op → world.Op
 asked None op = op
@@ -79,8 +72,8 @@ at_rest s core =
       goes_on = λ live frame h is. goes_on (rest_of s) s.frames core.settled.sound.frames live frame h (core.settled.rested live frame).0 (core.settled.rested live frame).1 is;
       nothing_next = λ live frame h is. nothing_next s.frames frame h (core.settled.rested live frame).0 is;
       none_could_start = λ live id op is free_row frame free.
-          let rest : Entries Request = requests_from 0 s.frames.held.items ++ (map (finished_request s.frames.saw_failed) s.finished.items ++ map released_request s.released.items) in
-          let past = held_past 0 s.frames.held.items _ (finished_past s.frames.saw_failed s.finished.items _ (released_past s.released.items)) in
+          let rest : Entries Request = requests_from 0 s.frames.held.items ++ replied_requests s.frames.saw_failed s.released s.replies.items in
+          let past = held_past 0 s.frames.held.items _ (all_replied (λ e. IsPast e.1.stage) s.frames.saw_failed (λ r. tt) (ended_past s.frames.saw_failed) s.released s.replies.items) in
           let there = waits_at (CannotStart s.frames) s.waiting.items rest id op past core.waits is in
           let row = ap (λ o. layout.row_of s.frames.geometry (world.block_of o)) there.2 in
           there.1 live (not_held_by s _ (λ f h held at. free_row f h held (at ∙ sym row))) frame (free_frame_is (rest_of s) s.frames frame core.settled.sound.frames live free);

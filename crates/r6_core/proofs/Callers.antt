@@ -6,7 +6,6 @@ use Rattle.r6_world.specs.Registers.{Snapshot, Told}
 use Rattle.r6_world.specs.Changes.{Accept, after}
 use Rattle.r6_world.specs.Steps as steps
 use Rattle.r6_world.specs.ShardStates as shards
-use Rattle.r6_world.specs.ShardStates.{LossOf, RebuildOf}
 use Rattle.r6_frames.specs.declared.op.Op.{Op}
 use Rattle.r6_frames.specs.declared.command.Outstanding.{Outstanding}
 use Rattle.r6_frames.specs.declared.command.Command.{Command}

@@ -17,9 +17,9 @@ use Rattle.r6_frames.specs.Calls.{Steps, KeepsHolds}
 use Rattle.r6_frames.specs.Owed.{owed_in, IsDriven, IsOver}
 use Rattle.r6_frames.specs.Slots.{count_out}
 use Rattle.r6_frames.specs.Sound as held
-use Rattle.r6_core.specs.Shards.{Step, layout_in, state_of, rest_of, requests_of, waiting_request, finished_request, released_request, core_of}
+use Rattle.r6_core.specs.Shards.{Step, layout_in, state_of, rest_of, requests_of, waiting_request, replied_requests, core_of}
 use Rattle.r6_core.specs.Effects.{HandsCommand}
-use Rattle.r6_core.specs.Inside.{IsCore, IsSettled, ended_requests}
+use Rattle.r6_core.specs.Inside.{IsCore, IsSettled}
 use Rattle.r6_frames.proofs.Lists.{table}
 use Rattle.r6_core.proofs.Kept.{requests_kept, sizes_kept}
 use Rattle.r6_core.proofs.Waking.{none_more}
@@ -39,9 +39,7 @@ pub record IsTaken (old new : Frames) : Type 0 where
   pub saw_failed : new.saw_failed ≡ old.saw_failed
 
 same_requests : (s : State) (new : Frames) → KeepsHolds s.frames new → new.saw_failed ≡ s.frames.saw_failed → requests_of (record s { frames = new }) ≡ requests_of s
-same_requests s new holds failed = λ i.
-    map waiting_request s.waiting.items
-    ++ (held_requests (record new { held = holds i }) ++ (map (finished_request (failed i)) s.finished.items ++ map released_request s.released.items))
+same_requests s new holds failed = λ i. map waiting_request s.waiting.items ++ (held_requests (record new { held = holds i }) ++ replied_requests (failed i) s.released s.replies.items)
 
 live_before : (old new : Frames) → IsTaken old new → AreLive new → AreLive old
 live_before old new is live =
@@ -61,12 +59,12 @@ taken_core s new core is =
           counted = ap length same ∙ sound.requests.counted;
           few = sound.requests.few;
           waiting = requests_kept s.frames new s.waiting.items is.geometry is.shard sound.requests.waiting;
-          sized = sizes_kept s.frames.geometry new.geometry (ended_requests s) is.geometry sound.requests.sized;
+          sized = sizes_kept s.frames.geometry new.geometry s.replies.items is.geometry sound.requests.sized;
+          marked = sound.requests.marked;
         };
         room = record {
           waiting = sound.room.waiting;
-          finished = sound.room.finished;
-          released = sound.room.released;
+          replies = sound.room.replies;
           calls = sound.room.calls;
           few_calls = omega (arith, sound.room.few_calls, out);
         };

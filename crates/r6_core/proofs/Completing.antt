@@ -1,5 +1,5 @@
 -- A completion is taken, or comes late; with what starts behind it, it is one step of the shard.
-use Rattle.std.proofs.Common.{◌≡◌, ℕ, true, List, [], refl, sym, ap, subst, ◌∙◌, Option, Some, None, Result, Ok, Err, IfOk, arith, append-nil}
+use Rattle.std.proofs.Common.{◌≡◌, ℕ, true, List, [], drop, refl, sym, ap, subst, ◌∙◌, Option, Some, None, Result, Ok, Err, IfOk, arith, append-nil}
 use Rattle.std.specs.Prelude.{option_map}
 use Rattle.circular_buffer.specs.Buffer.{Buffer}
 use Rattle.r6_layout.specs.Shape.{Shape}
@@ -87,8 +87,8 @@ module _ (s : State) (token : ℕ) (fs : Frames) (core : IsSettled s) (sound : h
 
 -- nothing is finished
 pub finishes_none : (completion : Result (List ℕ) DeviceFault) (s : State) (fs : Frames) → Seen (FinishesBy completion) s (record s { frames = fs })
-finishes_none (Ok buffer) s fs = ([], omega arith, sym (append-nil s.finished.items), refl)
-finishes_none (Err fault) s fs = ([], tt, sym (append-nil s.finished.items), refl)
+finishes_none (Ok buffer) s fs = ([], omega arith, sym (append-nil (drop s.released s.replies.items)), refl)
+finishes_none (Err fault) s fs = ([], tt, sym (append-nil (drop s.released s.replies.items)), refl)
 
 pub if_ok_all : (completion : Result (List ℕ) DeviceFault) (P : Type 0) → P → IfOk completion (λ _. P)
 if_ok_all (Ok buffer) P p = p

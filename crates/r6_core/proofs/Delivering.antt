@@ -1,9 +1,8 @@
 -- A hold ends: its request is finished.
-use Rattle.std.proofs.Common.{◌≡◌, ◌≢◌, ℕ, Bool, false, cond, ◌*◌, ◌<◌, ◌≤◌, List, [], ◌∷◌, ◌++◌, map, refl, sym, ap, subst, ◌∙◌, Option, Some, None, length, arith, append_assoc}
+use Rattle.std.proofs.Common.{◌≡◌, ◌≢◌, ℕ, Bool, false, cond, ◌*◌, ◌<◌, ◌≤◌, List, [], ◌∷◌, ◌++◌, map, refl, sym, ap, subst, ◌∙◌, Option, Some, None, length, arith, append_assoc, append-nil, length-append}
 use Rattle.std.specs.Prelude.{nat_eq, option_map}
 use Rattle.std.specs.List.{AllByRecursion}
 use Rattle.std.proofs.lemmas.Bool.{ne_eqb, eq-eqb}
-use Rattle.std.proofs.lemmas.List.{map-append}
 use Rattle.circular_buffer.specs.Buffer.{Buffer}
 use Rattle.r6_layout.specs.Shape.{Shape}
 use Rattle.r6_tables.specs.Table.{next_of}
@@ -22,13 +21,14 @@ use Rattle.r6_frames.specs.declared.frames.Job.TheVariants as job
 use Rattle.r6_frames.specs.declared.frames.HeldRow.{HeldRow}
 use Rattle.r6_frames.specs.declared.frames.Frames.{Frames}
 use Rattle.r6_core.specs.declared.state.State.{State}
-use Rattle.r6_frames.specs.Views.{op_of, outcome_of, served_in, task_for, task_by, kind_in, held_requests, hold_at, hold_of, AreLive}
+use Rattle.r6_frames.specs.Views.{op_of, outcome_of, served_in, task_for, task_by, kind_in, hold_at, hold_of, AreLive}
 use Rattle.r6_frames.specs.Calls.{entry_of, Ends, IsElsewhere, HasOneBlock}
 use Rattle.r6_frames.specs.Owed.{owed, IsDriven, IsOver}
 use Rattle.r6_frames.specs.Sound as held
-use Rattle.r6_core.specs.Shards.{answer_of, state_of, rest_of, layout_in, requests_of, waiting_request, finished_request, released_request}
-use Rattle.r6_core.specs.Inside.{IsSound, ended_requests}
+use Rattle.r6_core.specs.Shards.{answer_of, state_of, rest_of, layout_in, requests_of, waiting_request, finished_request, replied_requests}
+use Rattle.r6_core.specs.Inside.{IsSound}
 use Rattle.r6_frames.proofs.Lists.{Entries, table, looked_up, same_put, other}
+use Rattle.r6_core.proofs.Replied.{all_replied, more_replied}
 use Rattle.r6_core.proofs.Passed.{Passed, passed, all-append}
 use Rattle.r6_core.proofs.Throughs.{through_one}
 use Rattle.r6_core.proofs.Kept.{requests_kept, sizes_kept}
@@ -53,14 +53,6 @@ unfinished_all frame outcome (Some r) h = unfinished_at frame outcome r.op r.sta
 waiting_elsewhere : (frame : ℕ) (rs : List Request) → AllByRecursion (IsElsewhere frame) (map waiting_request rs)
 waiting_elsewhere frame [] = tt
 waiting_elsewhere frame (r ∷ rs) = (λ e. (cc), waiting_elsewhere frame rs)
-
-finished_elsewhere : (frame : ℕ) (rs : List Request) → AllByRecursion (IsElsewhere frame) (map (finished_request false) rs)
-finished_elsewhere frame [] = tt
-finished_elsewhere frame (r ∷ rs) = (λ e. (cc), finished_elsewhere frame rs)
-
-released_elsewhere : (frame : ℕ) (rs : List Request) → AllByRecursion (IsElsewhere frame) (map released_request rs)
-released_elsewhere frame [] = tt
-released_elsewhere frame (r ∷ rs) = (λ e. (cc), released_elsewhere frame rs)
 
 answer_is : (o : Op) → outcome_reply (outcome_of o) (op_of o) ≡ answer_of o
 answer_is (op.Read block buffer) = refl
@@ -118,18 +110,15 @@ ended_id old fs frame r h ends is =
 -- ---- the state when a request is finished
 
 module _ (s : State) (frame : ℕ) (r : Request) (fs : Frames) (done : Buffer Request) (sound : IsSound s) (live : AreLive s.frames) (ends : Ends s.frames frame r fs)
-    (last : done.items ≡ s.finished.items ++ r ∷ []) where
+    (last : done.items ≡ s.replies.items ++ r ∷ []) where
   abbrev ended : State
-  ended = record s { frames = fs; finished = done }
+  ended = record s { frames = fs; replies = done }
 
   abbrev w : Entries shards.Request
   w = map waiting_request s.waiting.items
 
-  abbrev f : Entries shards.Request
-  f = map (finished_request false) s.finished.items
-
-  abbrev d : Entries shards.Request
-  d = map released_request s.released.items
+  abbrev p : Entries shards.Request
+  p = replied_requests false s.released s.replies.items
 
   abbrev a : Entries shards.Request
   a = ends.requests.before
@@ -138,33 +127,29 @@ module _ (s : State) (frame : ℕ) (r : Request) (fs : Frames) (done : Buffer Re
   b = ends.requests.behind
 
   -- the requests before, and behind
-  old_requests : requests_of s ≡ (w ++ a) ++ entry_of frame r ∷ (b ++ (f ++ d))
+  old_requests : requests_of s ≡ (w ++ a) ++ entry_of frame r ∷ (b ++ p)
   old_requests =
-      ap (λ (seen : Bool). w ++ (held_requests s.frames ++ (map (finished_request seen) s.finished.items ++ d))) live.1
-      ∙ ap (λ es. w ++ (es ++ (f ++ d))) ends.requests.with
+      (λ i. w ++ (ends.requests.with i ++ replied_requests (live.1 i) s.released s.replies.items))
       ∙ (simp append_assoc)
 
-  new_requests : requests_of ended ≡ (w ++ (a ++ (b ++ f))) ++ finished_request false r ∷ d
+  new_requests : requests_of ended ≡ (w ++ (a ++ (b ++ p))) ++ finished_request false r ∷ []
   new_requests =
-      ap (λ (seen : Bool). w ++ (held_requests fs ++ (map (finished_request seen) done.items ++ d))) ((ends_still s.frames fs frame r ends).1 ∙ live.1)
-      ∙ ap (λ es. w ++ (es ++ (map (finished_request false) done.items ++ d))) ends.requests.without
-      ∙ ap (λ rs. w ++ ((a ++ b) ++ (map (finished_request false) rs ++ d))) last
-      ∙ ap (λ es. w ++ ((a ++ b) ++ (es ++ d))) (map-append (finished_request false) s.finished.items (r ∷ []))
+      (λ i. w ++ (ends.requests.without i ++ replied_requests (((ends_still s.frames fs frame r ends).1 ∙ live.1) i) s.released (last i)))
+      ∙ ap (λ es. w ++ ((a ++ b) ++ es)) (more_replied false s.released s.replies.items (r ∷ []) sound.requests.marked)
       ∙ (simp append_assoc)
 
   one_finished : Passed (requests_of s) (requests_of ended) r.id (entry_of frame r).1 (finished_request false r).1
   one_finished =
-      let same : (w ++ a) ++ (b ++ (f ++ d)) ≡ (w ++ (a ++ (b ++ f))) ++ d = simp append_assoc in
-      passed (w ++ a) (b ++ (f ++ d)) (w ++ (a ++ (b ++ f))) d r.id (entry_of frame r).1 (finished_request false r).1 _ _ old_requests new_requests same sound.requests.distinct
+      let same : (w ++ a) ++ (b ++ p) ≡ (w ++ (a ++ (b ++ p))) ++ [] = append_assoc w a (b ++ p) ∙ sym (append-nil (w ++ (a ++ (b ++ p)))) in
+      passed (w ++ a) (b ++ p) (w ++ (a ++ (b ++ p))) [] r.id (entry_of frame r).1 (finished_request false r).1 _ _ old_requests new_requests same sound.requests.distinct
 
   requests_finished : table (requests_of ended) ≡ (λ q. finished frame (outcome_of r.op) (table (requests_of s) q))
   requests_finished =
       let one = one_finished in
-      let all : AllByRecursion (IsElsewhere frame) (w ++ ((a ++ b) ++ (f ++ d))) =
-      all-append (IsElsewhere frame) w ((a ++ b) ++ (f ++ d)) (waiting_elsewhere frame s.waiting.items) (
-      all-append (IsElsewhere frame) (a ++ b) (f ++ d) ends.requests.elsewhere (all-append (IsElsewhere frame) f d (finished_elsewhere frame s.finished.items) (released_elsewhere frame s.released.items))
-      ) in
-      let parts : w ++ ((a ++ b) ++ (f ++ d)) ≡ (w ++ a) ++ (b ++ (f ++ d)) = simp append_assoc in
+      let all : AllByRecursion (IsElsewhere frame) (w ++ ((a ++ b) ++ p)) =
+      all-append (IsElsewhere frame) w ((a ++ b) ++ p) (waiting_elsewhere frame s.waiting.items)
+      (all-append (IsElsewhere frame) (a ++ b) p ends.requests.elsewhere (all_replied (IsElsewhere frame) false (λ x e. (cc)) (λ x e. (cc)) s.released s.replies.items)) in
+      let parts : w ++ ((a ++ b) ++ p) ≡ (w ++ a) ++ (b ++ p) = simp append_assoc in
       let others = subst (AllByRecursion (IsElsewhere frame)) parts all in
       let here : finished frame (outcome_of r.op) (table (requests_of s) r.id) ≡ Some (finished_request false r).1 =
       ap (finished frame (outcome_of r.op)) one.was
@@ -173,7 +158,7 @@ module _ (s : State) (frame : ℕ) (r : Request) (fs : Frames) (done : Buffer Re
       one.now
       ∙ sym (same_put (table (requests_of s)) (λ q. finished frame (outcome_of r.op) (table (requests_of s) q)) r.id (Some (finished_request false r).1) here (λ q e.
       unfinished_all frame (outcome_of r.op) (table (requests_of s) q) (λ x there.
-      looked_up (λ (y : shards.Request). y.stage ≢ Held frame) q _ x others (sym (other q (w ++ a) r.id (entry_of frame r).1 (b ++ (f ++ d)) e) ∙ ap (λ es. table es q) (sym old_requests) ∙ there))))
+      looked_up (λ (y : shards.Request). y.stage ≢ Held frame) q _ x others (sym (other q (w ++ a) r.id (entry_of frame r).1 (b ++ p) e) ∙ ap (λ es. table es q) (sym old_requests) ∙ there))))
 
   -- the hold's end is one change
   pub one_ends : Through (layout_in s) s.frames.shard GoesOn (state_of s) (state_of ended)
@@ -189,14 +174,12 @@ module _ (s : State) (frame : ℕ) (r : Request) (fs : Frames) (done : Buffer Re
       through_one (layout_in s) s.frames.shard GoesOn old (state_of ended) (Finish frame h outcome) (record {}) (ends.may.2 (rest_of s)) (new ∙ sym after_finish)
 
   -- the request's buffer is one block, as are those of the others
-  sizes_ended : AllByRecursion (HasOneBlock s.frames.geometry) (ended_requests ended)
+  sizes_ended : AllByRecursion (HasOneBlock s.frames.geometry) done.items
   sizes_ended =
       let One = HasOneBlock s.frames.geometry in
-      let now : ended_requests ended ≡ ended_requests s ++ r ∷ [] =
-      ap (λ (rs : List Request). s.released.items ++ rs) last ∙ sym (append_assoc s.released.items s.finished.items (r ∷ [])) in
-      subst (AllByRecursion One) (sym now) (all-append One (ended_requests s) (r ∷ []) sound.requests.sized (ends.sized, tt))
+      subst (AllByRecursion One) (sym last) (all-append One s.replies.items (r ∷ []) sound.requests.sized (ends.sized, tt))
 
-  pub ended_sound : held.IsSound fs → owed fs ≤ owed s.frames → next_of fs.commands ≡ next_of s.frames.commands → done.capacity ≡ s.finished.capacity → IsSound ended
+  pub ended_sound : held.IsSound fs → owed fs ≤ owed s.frames → next_of fs.commands ≡ next_of s.frames.commands → done.capacity ≡ s.replies.capacity → IsSound ended
   ended_sound frames fewer next capacity =
       let one = one_finished in
       let slots = ends_still s.frames fs frame r ends in
@@ -208,12 +191,12 @@ module _ (s : State) (frame : ℕ) (r : Request) (fs : Frames) (done : Buffer Re
           counted = one.count ∙ sound.requests.counted;
           few = sound.requests.few;
           waiting = requests_kept s.frames fs s.waiting.items ends.shard.0 ends.shard.1 sound.requests.waiting;
-          sized = sizes_kept s.frames.geometry fs.geometry (ended_requests ended) ends.shard.0 sizes_ended;
+          sized = sizes_kept s.frames.geometry fs.geometry done.items ends.shard.0 sizes_ended;
+          marked = let more = ap length last ∙ length-append s.replies.items (r ∷ []) in omega (arith, more, sound.requests.marked);
         };
         room = record {
           waiting = sound.room.waiting;
-          finished = capacity ∙ sound.room.finished;
-          released = sound.room.released;
+          replies = capacity ∙ sound.room.replies;
           calls = sound.room.calls;
           few_calls = let out = out_same s.frames fs slots.0 ends.shard.0 in omega (arith, out, sound.room.few_calls);
         };

@@ -21,9 +21,9 @@ use Rattle.r6_frames.specs.Views.{use_at, row_in, hold_of, frame_of, command_of}
 use Rattle.r6_frames.specs.Calls.{HasOneBlock, IsAtStart, IsRequestOf}
 use Rattle.r6_frames.specs.Owed.{owed_in}
 use Rattle.r6_frames.specs.Sound as held
-use Rattle.r6_core.specs.Shards.{call_of, devices_state, state_of, requests_of, waiting_request, finished_request, released_request}
+use Rattle.r6_core.specs.Shards.{call_of, devices_state, state_of, requests_of, waiting_request, replied_requests}
 use Rattle.r6_core.specs.Refusals.{most_unanswered}
-use Rattle.r6_core.specs.Inside.{CannotStart, IsCore, IsFresh, count_untold, ended_requests}
+use Rattle.r6_core.specs.Inside.{CannotStart, IsCore, IsFresh, count_untold}
 use Rattle.r6_frames.proofs.Lists.{table}
 
 distinct-none : IsDistinct nat_eq []
@@ -36,10 +36,10 @@ nothing_owed (uses.Free ∷ held) free = nothing_owed held (λ frame. free (suc 
 nothing_owed (uses.Held h ∷ held) free = let bad = free 0 in absurd (cc)
 nothing_owed (uses.Returning r ∷ held) free = let bad = free 0 in absurd (cc)
 
-pub fresh_core : (s : State) → s.accepted ≡ 0 → s.unanswered ≡ 0 → s.waiting ≡ buffer [] most_unanswered → s.finished ≡ buffer [] most_unanswered → s.released ≡ buffer [] most_unanswered
+pub fresh_core : (s : State) → s.accepted ≡ 0 → s.unanswered ≡ 0 → s.waiting ≡ buffer [] most_unanswered → s.replies ≡ buffer [] most_unanswered → s.released ≡ 0
     → s.calls ≡ buffer [] 32 → s.untold ≡ None → held.IsSound s.frames → IsAtStart s.frames → IsCore s
-fresh_core s accepted unanswered waiting finished released calls untold sound start =
-    let none : requests_of s ≡ [] = λ i. map waiting_request (waiting i).items ++ (start.3 i ++ (map (finished_request s.frames.saw_failed) (finished i).items ++ map released_request (released i).items)) in
+fresh_core s accepted unanswered waiting replies released calls untold sound start =
+    let none : requests_of s ≡ [] = λ i. map waiting_request (waiting i).items ++ (start.3 i ++ replied_requests s.frames.saw_failed (released i) (replies i).items) in
     let nobody : s.waiting.items ≡ [] = ap (λ b. b.items) waiting in
     let some : 2 * s.frames.geometry.slots * length s.waiting.items ≡ 0 = ap (λ (rs : List Request). 2 * s.frames.geometry.slots * length rs) nobody ∙ (omega arith) in
     record {
@@ -53,13 +53,13 @@ fresh_core s accepted unanswered waiting finished released calls untold sound st
             few = omega (arith, unanswered);
             waiting = subst (λ rs. AllByRecursion (IsRequestOf s.frames) rs) (sym nobody) tt;
             sized =
-                let nothing : ended_requests s ≡ [] = λ i. (released i).items ++ (finished i).items in
+                let nothing : s.replies.items ≡ [] = ap (λ b. b.items) replies in
                 subst (λ rs. AllByRecursion (HasOneBlock s.frames.geometry) rs) (sym nothing) tt;
+            marked = omega (arith, released);
           };
           room = record {
             waiting = ap (λ b. b.capacity) waiting;
-            finished = ap (λ b. b.capacity) finished;
-            released = ap (λ b. b.capacity) released;
+            replies = ap (λ b. b.capacity) replies;
             calls = ap (λ b. b.capacity) calls;
             few_calls = let none : length s.calls.items + count_untold s.untold ≡ 0 = λ i. length (calls i).items + count_untold (untold i) in omega (arith, none);
           };

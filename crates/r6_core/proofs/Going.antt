@@ -1,5 +1,5 @@
 -- The frames go on, for the same requests.
-use Rattle.std.proofs.Common.{◌≡◌, ℕ, Bool, ◌+◌, ◌*◌, ◌<◌, ◌≤◌, List, [], ◌++◌, map, length, refl, ap, sym, subst, ◌∙◌, None, arith}
+use Rattle.std.proofs.Common.{◌≡◌, ℕ, ◌+◌, ◌*◌, ◌<◌, ◌≤◌, List, [], ◌++◌, map, length, refl, ap, sym, subst, ◌∙◌, None, arith}
 use Rattle.std.specs.Prelude.{nat_eq}
 use Rattle.std.specs.List.{IsDistinct, AllByRecursion}
 use Rattle.std.specs.Map.{keys_of}
@@ -19,8 +19,8 @@ use Rattle.r6_frames.specs.Owed.{owed}
 use Rattle.r6_frames.specs.Sound as held
 use Rattle.r6_core.specs.declared.call.Call.{Call}
 use Rattle.r6_core.specs.declared.state.State.{State}
-use Rattle.r6_core.specs.Shards.{state_of, layout_in, rest_of, requests_of, call_of, waiting_request, finished_request, released_request, table}
-use Rattle.r6_core.specs.Inside.{IsSound, count_untold, ended_requests}
+use Rattle.r6_core.specs.Shards.{state_of, layout_in, rest_of, requests_of, call_of, waiting_request, replied_requests, table}
+use Rattle.r6_core.specs.Inside.{IsSound, count_untold}
 use Rattle.r6_core.proofs.Kept.{requests_kept, sizes_kept}
 use Rattle.r6_core.proofs.SlotsKept.{drives_keep, out_same}
 
@@ -59,11 +59,7 @@ abbrev pub gone_on : State → Frames → Buffer Call → State
 gone_on s fs calls = record s { frames = fs; calls = calls }
 
 pub gone_requests : (s : State) (fs : Frames) (calls : Buffer Call) → Goes s fs calls → requests_of (gone_on s fs calls) ≡ requests_of s
-gone_requests s fs calls goes =
-    let w = map waiting_request s.waiting.items in
-    let d = map released_request s.released.items in
-    ap (λ es. w ++ (es ++ (map (finished_request fs.saw_failed) s.finished.items ++ d))) goes.requests
-    ∙ ap (λ (b : Bool). w ++ (held_requests s.frames ++ (map (finished_request b) s.finished.items ++ d))) goes.seen
+gone_requests s fs calls goes = λ i. map waiting_request s.waiting.items ++ (goes.requests i ++ replied_requests (goes.seen i) s.released s.replies.items)
 
 -- what the shard has beside its frames, with these calls
 abbrev pub rest_with : State → Buffer Call → Rest
@@ -89,12 +85,12 @@ gone_sound s fs calls sound goes =
         counted = ap length same ∙ sound.requests.counted;
         few = sound.requests.few;
         waiting = requests_kept s.frames fs s.waiting.items goes.geometry goes.shard sound.requests.waiting;
-        sized = sizes_kept s.frames.geometry fs.geometry (ended_requests s) goes.geometry sound.requests.sized;
+        sized = sizes_kept s.frames.geometry fs.geometry s.replies.items goes.geometry sound.requests.sized;
+        marked = sound.requests.marked;
       };
       room = record {
         waiting = sound.room.waiting;
-        finished = sound.room.finished;
-        released = sound.room.released;
+        replies = sound.room.replies;
         calls = goes.room ∙ sound.room.calls;
         few_calls = subst (λ (g : Shape). length calls.items + count_untold s.untold ≤ count_out fs.slots g.slots) (sym goes.geometry) goes.few;
       };

@@ -8,11 +8,9 @@ pub mod Commands
 pub mod Completing
 pub mod Delivering
 pub mod Entering
-pub mod Failing
 pub mod Fresh
 pub mod Gathering
 pub mod Going
-pub mod Inserting
 pub mod Kept
 pub mod Known
 pub mod Looking
@@ -20,6 +18,7 @@ pub mod Losing
 pub mod MayBegin
 pub mod Passed
 pub mod Releasing
+pub mod Replied
 pub mod Replies
 pub mod Runs
 pub mod Courses
@@ -28,7 +27,6 @@ pub mod SeenFailure
 pub mod Settling
 pub mod SlotsKept
 pub mod Starting
-pub mod Swapped
 pub mod Taking
 pub mod Throughs
 pub mod Unperformed

@@ -14,7 +14,7 @@ use Rattle.r6_frames.specs.Slots.{states_of}
 use Rattle.r6_core.specs.declared.state.State.{State}
 use Rattle.r6_core.specs.Shards.{Step, layout_in, state_of, call_of, core_of}
 use Rattle.r6_core.specs.Order.{SameReplies, Agrees, Finishes, IsRising, ReleasesAll, InTurn, HaveTurns, HaveTurnsAfter}
-use Rattle.r6_core.specs.Inside.{SameFrames, NoCalls, IsCore, IsSettled, Seen}
+use Rattle.r6_core.specs.Inside.{SameFrames, NoCalls, IsCore, IsSettled, ReleasesFinished, Seen}
 use Rattle.r6_core.proofs.AtRest.{at_rest}
 use Rattle.r6_core.proofs.Releasing.{released_nothing}
 use Rattle.r6_core.proofs.Scanned.{all_stopped, turns_in}
@@ -100,8 +100,8 @@ pub record HasSettled (s mid new : State) (seen : Snapshot) : Type 0 where
   pub more : List Request
   pub rising : IsRising more
   pub none : Agrees (core_of s) seen → more ≡ []
-  pub finished : new.finished.items ≡ mid.finished.items ++ more
-  pub released : new.released.items ≡ mid.released.items
+  pub finished : (core_of new).finished ≡ (core_of mid).finished ++ more
+  pub released : (core_of new).released ≡ (core_of mid).released
   pub unanswered : new.unanswered ≡ mid.unanswered
   pub waiting : new.waiting ≡ mid.waiting
   pub stays : Agrees (core_of s) seen → state_of new ≡ state_of s
@@ -132,7 +132,7 @@ settled_none s mid seen same core =
       more = [];
       rising = tt;
       none = λ agrees. refl;
-      finished = sym (append-nil mid.finished.items);
+      finished = sym (append-nil (core_of mid).finished);
       released = refl;
       unanswered = refl;
       waiting = refl;
@@ -161,7 +161,7 @@ looked s mid settled released new seen took unfailed done has =
     (rest_in s.frames.geometry new.frames.geometry s.frames.shard new.frames.shard (state_of new) (has.same.0 ∙ shape) (has.same.1 ∙ shard) (at_rest new has.core))
 
 pub looked_releases : (s mid settled released new : State) (seen : Snapshot) → Seen SameReplies s mid → HasSettled s mid settled seen
-    → (released.released.items ≡ settled.released.items ++ settled.finished.items) × (released.finished.items ≡ []) → Seen SameReplies released new
+    → Seen ReleasesFinished settled released → Seen SameReplies released new
     → ReleasesAll (core_of s) seen (core_of new)
 looked_releases s mid settled released new seen same done order kept = (
   done.more,

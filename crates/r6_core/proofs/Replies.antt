@@ -1,11 +1,12 @@
 -- What taking a reply does to the state.
-use Rattle.std.proofs.Common.{◌≡◌, ◌≢◌, ℕ, ◌+◌, ◌-◌, ◌<◌, Bool, true, false, List, [], ◌∷◌, ◌++◌, map, drop, refl, sym, ap, subst, ◌∙◌, Option, Some, None, length, arith, append_assoc, append-nil, length-append}
-use Rattle.std.specs.Prelude.{nat_eq, slice_get}
+use Rattle.std.proofs.Common.{◌≡◌, ◌≢◌, ◌⊎◌, inl, inr, ℕ, zero, suc, ◌+◌, ◌-◌, ◌<◌, Bool, true, false, List, [], ◌∷◌, ◌++◌, map, take, drop, refl, sym, ap, subst, ◌∙◌, Option, Some, None, length, arith, append_assoc, length-append}
+use Rattle.std.specs.Prelude.{nat_eq, nat_lt, slice_get}
 use Rattle.std.specs.List.{IsDistinct, AllByRecursion}
+use Rattle.std.proofs.lemmas.Bool.{ltb-true, ltb-false}
 use Rattle.std.specs.Map.{keys_of}
 use Rattle.circular_buffer.specs.Buffer.{Buffer, buffer}
 use Rattle.r6_world.specs.Tables.{put}
-use Rattle.r6_world.specs.PlainArray.{Op, Reply, ArrayFailed}
+use Rattle.r6_world.specs.PlainArray.{Op, Reply}
 use Rattle.r6_world.specs.ShardStates as shards
 use Rattle.r6_world.specs.ShardStates.{Stage, Waiting, Held, Finished, Released}
 use Rattle.r6_world.specs.Steps.{Take_reply, No_reply}
@@ -15,12 +16,11 @@ use Rattle.r6_frames.specs.declared.frames.FrameUse.TheVariants as uses
 use Rattle.r6_core.specs.declared.state.State.{State}
 use Rattle.r6_frames.specs.declared.op.Op.{Op as Entered}
 use Rattle.r6_frames.specs.declared.op.Op.TheVariants as op
-use Rattle.r6_core.specs.declared.reply.Reply.TheVariants as back
-use Rattle.r6_frames.specs.Views.{op_of, buffer_of, held_requests, requests_from}
+use Rattle.r6_frames.specs.Views.{op_of, held_requests, requests_from}
 use Rattle.r6_frames.specs.Calls.{HasOneBlock}
-use Rattle.r6_core.specs.Shards.{Step, reply_of, buffer_back, answer_of, state_of, requests_of, waiting_request, finished_request, released_request, core_of}
-use Rattle.r6_core.specs.Order.{HasNoReply, BringsBack, reply_to}
-use Rattle.r6_core.specs.Inside.{IsSound, IsSettled, ended_requests}
+use Rattle.r6_core.specs.Shards.{Step, reply_of, answer_of, state_of, requests_of, waiting_request, finished_request, released_request, replied_requests, core_of}
+use Rattle.r6_core.specs.Order.{HasNoReply, BringsBack, TakesFirst, reply_to}
+use Rattle.r6_core.specs.Inside.{IsSettled, reply_for}
 use Rattle.r6_frames.proofs.Lists.{Entries, table, gone, own, apart, all_parts, distinct_without, looked_up}
 use Rattle.r6_core.proofs.Passed.{all-append}
 
@@ -32,12 +32,6 @@ none_popped (x ∷ xs) e = absurd (cc)
 pub some_popped : {X : Type 0} (items : List X) (x : X) → slice_get items 0 ≡ Some x → items ≡ x ∷ drop 1 items
 some_popped [] x e = absurd (cc)
 some_popped (y ∷ ys) x e = let same : y ≡ x = cc in ap (λ z. z ∷ ys) same
-
-abbrev pub before_released : State → Entries shards.Request
-before_released s = map waiting_request s.waiting.items ++ (held_requests s.frames ++ map (finished_request s.frames.saw_failed) s.finished.items)
-
-pub released_last : (s : State) → requests_of s ≡ before_released s ++ map released_request s.released.items
-released_last s = sym (simp append_assoc)
 
 -- who isn't released
 abbrev IsUnreleased : Stage → Type 0
@@ -71,11 +65,12 @@ held_unreleased frame (uses.Returning r ∷ held) = held_unreleased (frame + 1) 
 none_released : (s : State) → HasNoReply (core_of s) → (id : ℕ) (op : Op) (reply : Reply) → table (requests_of s) id ≢ Some (record { op = op; stage = Released reply })
 none_released s empty id op reply is =
     let P = λ (r : shards.Request). IsUnreleased r.stage in
-    let all : AllUnreleased (before_released s) =
+    let finished = drop s.released s.replies.items in
+    let es = λ (released : List Request). map waiting_request s.waiting.items ++ (held_requests s.frames ++ (map released_request released ++ map (finished_request s.frames.saw_failed) finished)) in
+    let all : AllUnreleased (es []) =
     all-append (λ e. P e.1) _ _ (waiting_unreleased s.waiting.items)
-    (all-append (λ e. P e.1) _ _ (held_unreleased 0 s.frames.held.items) (ended_unreleased s.frames.saw_failed s.finished.items empty.1)) in
-    let es : requests_of s ≡ before_released s = released_last s ∙ ap (λ rs. before_released s ++ map released_request rs) empty.0 ∙ append-nil (before_released s) in
-    looked_up P id (before_released s) _ all (ap (λ xs. table xs id) (sym es) ∙ is)
+    (all-append (λ e. P e.1) _ _ (held_unreleased 0 s.frames.held.items) (ended_unreleased s.frames.saw_failed finished empty.1)) in
+    looked_up P id (es []) _ all (ap (λ rs. table (es rs) id) (sym empty.0) ∙ is)
 
 -- no reply is ready
 pub no_reply : (s : State) → HasNoReply (core_of s) → Step (core_of s) No_reply (core_of s)
@@ -85,145 +80,108 @@ no_reply s none = ((refl, refl), (none_released s none, refl))
 pub unpopped : {X : Type 0} (old new : Buffer X) → slice_get old.items 0 ≡ None → new ≡ buffer (drop 1 old.items) old.capacity → new ≡ old
 unpopped old new none popped = let empty = none_popped old.items none in popped ∙ ap (λ items. buffer items old.capacity) empty.1
 
--- the requests when the reply that was released first is taken
-record IsTaken (s : State) (r : Request) (new : Entries shards.Request) : Type 1 where
-  pub was : table (requests_of s) r.id ≡ Some (record { op = op_of r.op; stage = Released (answer_of r.op) })
+-- ---- what is handed over
+
+reply_as : (o : Entered) → reply_of (reply_to o) ≡ answer_of o
+reply_as (op.Read block buffer) = refl
+reply_as (op.Write block buffer) = refl
+
+brings : (is_released : Bool) (o : Entered) (stage : Stage) → BringsBack (Some (record { op = op_of o; stage = stage })) (reply_for is_released o)
+brings true (op.Read block buffer) stage = (block, refl)
+brings true (op.Write block buffer) stage = (block, refl)
+brings false (op.Read block buffer) stage = λ other new_data e. absurd (cc)
+brings false (op.Write block buffer) stage = λ other new_data e. let same : buffer ≡ new_data = cc in same
+
+-- ---- the first of those with a reply is taken
+
+-- the mark when the first is taken
+fewer : (count : ℕ) → suc count - 1 ≡ count
+fewer count = omega arith
+
+abbrev answered : (is_released : Bool) → Request → shards.Request
+answered is_released r = record { op = op_of r.op; stage = Released (reply_of (reply_for is_released r.op)) }
+
+-- what the mark says of the first
+pub record IsMarked (is_released : Bool) (count : ℕ) : Type 0 where
+  pub some : is_released ≡ true → 0 < count
+  pub none : is_released ≡ false → count ≡ 0
+
+pub marked_by : (count : ℕ) → IsMarked (nat_lt 0 count) count
+marked_by count = record { some = ltb-true 0 count; none = λ e. let le = ltb-false 0 count e in omega (arith, le) }
+
+-- it is released, or the array has failed
+first_replied : (seen is_released : Bool) (count : ℕ) (r : Request) (rest : List Request) → IsMarked is_released count → (is_released ≡ false → seen ≡ true)
+    → replied_requests seen count (r ∷ rest) ≡ (r.id, answered is_released r) ∷ replied_requests seen (count - 1) rest
+first_replied seen true zero r rest is failed = absurd (let some = is.some refl in omega (arith, some))
+first_replied seen false zero r rest is failed = ap (λ b. finished_request b r ∷ map (finished_request seen) rest) (failed refl)
+first_replied seen false (suc count) r rest is failed = absurd (let none = is.none refl in omega (arith, none))
+first_replied seen true (suc count) r rest is failed =
+    ap (λ reply. (r.id, record { op = op_of r.op; stage = Released reply }) ∷ replied_requests seen count rest) (sym (reply_as r.op))
+    ∙ ap (λ n. (r.id, answered true r) ∷ replied_requests seen n rest) (sym (fewer count))
+
+first_order : (is_released : Bool) (count : ℕ) (r : Request) (rest : List Request) → IsMarked is_released count
+    → ((take count (r ∷ rest) ≡ r ∷ take (count - 1) rest) × (drop (count - 1) rest ≡ drop count (r ∷ rest)) × (is_released ≡ true))
+    ⊎ ((take count (r ∷ rest) ≡ []) × (take (count - 1) rest ≡ take count (r ∷ rest)) × (drop count (r ∷ rest) ≡ r ∷ drop (count - 1) rest) × (is_released ≡ false))
+first_order true zero r rest is = absurd (let some = is.some refl in omega (arith, some))
+first_order false zero r rest is = inr (refl, refl, refl, refl)
+first_order false (suc count) r rest is = absurd (let none = is.none refl in omega (arith, none))
+first_order true (suc count) r rest is = inl (ap (λ n. r ∷ take n rest) (sym (fewer count)), ap (λ n. drop n rest) (fewer count), refl)
+
+record IsTaken (s : State) (is_released : Bool) (r : Request) (new : Entries shards.Request) : Type 1 where
+  pub was : table (requests_of s) r.id ≡ Some (answered is_released r)
   pub now : table new ≡ put (table (requests_of s)) r.id None
   pub distinct : IsDistinct nat_eq (keys_of new)
   pub count : length new + 1 ≡ length (requests_of s)
   pub keeps : (P : ℕ → Type 0) → AllByRecursion P (keys_of (requests_of s)) → AllByRecursion P (keys_of new)
 
-abbrev without_first : State → Buffer Request → State
-without_first s rest = record s { released = rest; unanswered = s.unanswered - 1 }
+module _ (s : State) (is_released : Bool) (r : Request) (rest : Buffer Request) (core : IsSettled s) (is : s.replies.items ≡ r ∷ rest.items)
+    (marked : IsMarked is_released s.released) (failed : is_released ≡ false → s.frames.saw_failed ≡ true) where
+  abbrev pub without_first : State
+  without_first = record s { replies = rest; released = s.released - 1; unanswered = s.unanswered - 1 }
 
-is_taken : (s : State) (r : Request) (rest : Buffer Request) → IsDistinct nat_eq (keys_of (requests_of s)) → s.released.items ≡ r ∷ rest.items
-    → IsTaken s r (requests_of (without_first s rest))
-is_taken s r rest distinct is =
-    let before = before_released s in
-    let behind = map released_request rest.items in
-    let x : shards.Request = record { op = op_of r.op; stage = Released (answer_of r.op) } in
-    let es : requests_of s ≡ before ++ (r.id, x) ∷ behind = released_last s ∙ ap (λ rs. before ++ map released_request rs) is in
-    let fewer : requests_of (without_first s rest) ≡ before ++ behind = released_last (without_first s rest) in
-    let h = subst (λ xs. IsDistinct nat_eq (keys_of xs)) es distinct in
-    record {
-      was = ap (λ xs. table xs r.id) es ∙ own before r.id x behind (apart before r.id x behind h);
-      now = ap (λ xs. table xs) fewer ∙ gone before r.id x behind h ∙ ap (λ xs. put (table xs) r.id None) (sym es);
-      distinct = subst (λ xs. IsDistinct nat_eq (keys_of xs)) (sym fewer) (distinct_without before r.id x behind h);
-      count = let from = ap length es ∙ length-append before ((r.id, x) ∷ behind) in let to = ap length fewer ∙ length-append before behind in omega (arith, from, to);
-      keeps = λ P all. subst (λ xs. AllByRecursion P (keys_of xs)) (sym fewer) (all_parts P before r.id x behind (subst (λ xs. AllByRecursion P (keys_of xs)) es all)).1;
-    }
+  taken : IsTaken s is_released r (requests_of without_first)
+  taken =
+      let before = map waiting_request s.waiting.items ++ held_requests s.frames in
+      let behind = replied_requests s.frames.saw_failed (s.released - 1) rest.items in
+      let x = answered is_released r in
+      let es : requests_of s ≡ before ++ (r.id, x) ∷ behind =
+      ap (λ rs. map waiting_request s.waiting.items ++ (held_requests s.frames ++ replied_requests s.frames.saw_failed s.released rs)) is
+      ∙ ap (λ rs. map waiting_request s.waiting.items ++ (held_requests s.frames ++ rs)) (first_replied s.frames.saw_failed is_released s.released r rest.items marked failed)
+      ∙ sym (append_assoc (map waiting_request s.waiting.items) (held_requests s.frames) ((r.id, x) ∷ behind)) in
+      let fewer : requests_of without_first ≡ before ++ behind = sym (append_assoc (map waiting_request s.waiting.items) (held_requests s.frames) behind) in
+      let h = subst (λ xs. IsDistinct nat_eq (keys_of xs)) es core.sound.requests.distinct in
+      record {
+        was = ap (λ xs. table xs r.id) es ∙ own before r.id x behind (apart before r.id x behind h);
+        now = ap (λ xs. table xs) fewer ∙ gone before r.id x behind h ∙ ap (λ xs. put (table xs) r.id None) (sym es);
+        distinct = subst (λ xs. IsDistinct nat_eq (keys_of xs)) (sym fewer) (distinct_without before r.id x behind h);
+        count = let from = ap length es ∙ length-append before ((r.id, x) ∷ behind) in let to = ap length fewer ∙ length-append before behind in omega (arith, from, to);
+        keeps = λ P all. subst (λ xs. AllByRecursion P (keys_of xs)) (sym fewer) (all_parts P before r.id x behind (subst (λ xs. AllByRecursion P (keys_of xs)) es all)).1;
+      }
 
-pub reply_request : (s : State) (r : Request) (rest : Buffer Request) → IsSound s → s.released.items ≡ r ∷ rest.items
-    → table (requests_of s) r.id ≡ Some (record { op = op_of r.op; stage = Released (answer_of r.op) })
-reply_request s r rest sound is = (is_taken s r rest sound.requests.distinct is).was
+  pub reply_brings : BringsBack (table (requests_of s) r.id) (reply_for is_released r.op)
+  reply_brings = subst (λ (x : Option shards.Request). BringsBack x (reply_for is_released r.op)) (sym taken.was) (brings is_released r.op (Released (reply_of (reply_for is_released r.op))))
 
-pub reply_step : (s : State) (r : Request) (rest : Buffer Request) → IsSound s → s.released.items ≡ r ∷ rest.items
-    → Step (core_of s) (Take_reply r.id (answer_of r.op)) (core_of (without_first s rest))
-reply_step s r rest sound is =
-    let taken = is_taken s r rest sound.requests.distinct is in
-    ((refl, refl), (op_of r.op, taken.was, ap (λ requests. record (state_of s) { request = requests }) taken.now))
+  pub reply_step : Step (core_of s) (Take_reply r.id (reply_of (reply_for is_released r.op))) (core_of without_first)
+  reply_step = ((refl, refl), (op_of r.op, taken.was, ap (λ requests. record (state_of s) { request = requests }) taken.now))
 
--- the reply's buffer, and those of the others
-pub reply_sized : (s : State) (r : Request) (rest : Buffer Request) → s.released.items ≡ r ∷ rest.items → AllByRecursion (HasOneBlock s.frames.geometry) (ended_requests s)
-    → HasOneBlock s.frames.geometry r × AllByRecursion (HasOneBlock s.frames.geometry) (ended_requests (without_first s rest))
-reply_sized s r rest is all = subst (λ (rs : List Request). AllByRecursion (HasOneBlock s.frames.geometry) (rs ++ s.finished.items)) is all
+  pub reply_first : TakesFirst (core_of s) r.id (reply_for is_released r.op) (core_of without_first)
+  reply_first =
+      let as_reply = λ (b : Bool). reply_for b r.op in (
+        r,
+        refl,
+        elim (first_order is_released s.released r rest.items marked) [
+          | inl e ↦ inl (ap (take s.released) is ∙ e.0, e.1 ∙ ap (drop s.released) (sym is), ap as_reply e.2)
+          | inr e ↦ inr (ap (take s.released) is ∙ e.0, e.1 ∙ ap (take s.released) (sym is), failed e.3, ap (drop s.released) is ∙ e.2, ap as_reply e.3)
+        ],
+      )
 
--- a reply is counted
-pub reply_counted : (s : State) (r : Request) (rest : Buffer Request) → IsSound s → s.released.items ≡ r ∷ rest.items → 0 < s.unanswered
-reply_counted s r rest sound is = let one = (is_taken s r rest sound.requests.distinct is).count in omega (arith, one, sound.requests.counted)
+  -- each reply is one block
+  sizes : AllByRecursion (HasOneBlock s.frames.geometry) (r ∷ rest.items)
+  sizes = subst (AllByRecursion (HasOneBlock s.frames.geometry)) is core.sound.requests.sized
 
-pub reply_core : (s : State) (r : Request) (rest : Buffer Request) → IsSettled s → s.released.items ≡ r ∷ rest.items → rest.capacity ≡ s.released.capacity → IsSettled (without_first s rest)
-reply_core s r rest core is capacity =
-    let sound = core.sound in
-    let taken = is_taken s r rest sound.requests.distinct is in
-    record {
-      sound = record {
-        frames = sound.frames;
-        requests = record {
-          distinct = taken.distinct;
-          numbered = taken.keeps (λ id. id < s.accepted) sound.requests.numbered;
-          counted = let one = taken.count in omega (arith, one, sound.requests.counted);
-          few = omega (arith, sound.requests.few);
-          waiting = sound.requests.waiting;
-          sized = (reply_sized s r rest is sound.requests.sized).1;
-        };
-        room = record {
-          waiting = sound.room.waiting;
-          finished = sound.room.finished;
-          released = capacity ∙ sound.room.released;
-          calls = sound.room.calls;
-          few_calls = sound.room.few_calls;
-        };
-        tokens = sound.tokens;
-        accepted = sound.accepted;
-      };
-      rested = core.rested;
-    }
-
--- ---- a reply that the array has failed
-
-abbrev without_failed : State → Buffer Request → State
-without_failed s rest = record s { finished = rest; unanswered = s.unanswered - 1 }
-
-abbrev pub before_finished : State → Entries shards.Request
-before_finished s = map waiting_request s.waiting.items ++ held_requests s.frames
-
-failed_last : (s : State) → s.released.items ≡ [] → requests_of s ≡ before_finished s ++ map (finished_request s.frames.saw_failed) s.finished.items
-failed_last s none =
-    ap (λ (rs : List Request). map waiting_request s.waiting.items ++ (held_requests s.frames ++ (map (finished_request s.frames.saw_failed) s.finished.items ++ map released_request rs))) none
-    ∙ ap (λ (es : Entries shards.Request). map waiting_request s.waiting.items ++ (held_requests s.frames ++ es)) (append-nil (map (finished_request s.frames.saw_failed) s.finished.items))
-    ∙ sym (append_assoc (map waiting_request s.waiting.items) (held_requests s.frames) (map (finished_request s.frames.saw_failed) s.finished.items))
-
-abbrev failed_stage : Op → shards.Request
-failed_stage o = record { op = o; stage = Released ArrayFailed }
-
-pub record IsFailed (s : State) (r : Request) (new : Entries shards.Request) : Type 1 where
-  pub was : table (requests_of s) r.id ≡ Some (failed_stage (op_of r.op))
-  pub now : table new ≡ put (table (requests_of s)) r.id None
-  pub distinct : IsDistinct nat_eq (keys_of new)
-  pub count : length new + 1 ≡ length (requests_of s)
-  pub keeps : (P : ℕ → Type 0) → AllByRecursion P (keys_of (requests_of s)) → AllByRecursion P (keys_of new)
-
-is_failed : (s : State) (r : Request) (rest : Buffer Request) → IsDistinct nat_eq (keys_of (requests_of s)) → s.frames.saw_failed ≡ true → s.released.items ≡ [] → s.finished.items ≡ r ∷ rest.items
-    → IsFailed s r (requests_of (without_failed s rest))
-is_failed s r rest distinct failed none is =
-    let before = before_finished s in
-    let behind = map (finished_request s.frames.saw_failed) rest.items in
-    let x : shards.Request = failed_stage (op_of r.op) in
-    let first : finished_request s.frames.saw_failed r ≡ (r.id, x) = ap (λ (b : Bool). finished_request b r) failed in
-    let es : requests_of s ≡ before ++ (r.id, x) ∷ behind =
-    failed_last s none ∙ ap (λ rs. before ++ map (finished_request s.frames.saw_failed) rs) is ∙ ap (λ (e : ℕ × shards.Request). before ++ e ∷ behind) first in
-    let fewer : requests_of (without_failed s rest) ≡ before ++ behind = failed_last (without_failed s rest) none in
-    let h = subst (λ xs. IsDistinct nat_eq (keys_of xs)) es distinct in
-    record {
-      was = ap (λ xs. table xs r.id) es ∙ own before r.id x behind (apart before r.id x behind h);
-      now = ap (λ xs. table xs) fewer ∙ gone before r.id x behind h ∙ ap (λ xs. put (table xs) r.id None) (sym es);
-      distinct = subst (λ xs. IsDistinct nat_eq (keys_of xs)) (sym fewer) (distinct_without before r.id x behind h);
-      count = let from = ap length es ∙ length-append before ((r.id, x) ∷ behind) in let to = ap length fewer ∙ length-append before behind in omega (arith, from, to);
-      keeps = λ P all. subst (λ xs. AllByRecursion P (keys_of xs)) (sym fewer) (all_parts P before r.id x behind (subst (λ xs. AllByRecursion P (keys_of xs)) es all)).1;
-    }
-
-module _ (s : State) (r : Request) (rest : Buffer Request) (failed : s.frames.saw_failed ≡ true) (none : s.released.items ≡ []) (is : s.finished.items ≡ r ∷ rest.items) where
-  pub failed_request : IsSound s → table (requests_of s) r.id ≡ Some (failed_stage (op_of r.op))
-  failed_request sound = (is_failed s r rest sound.requests.distinct failed none is).was
-
-  pub failed_step : IsSound s → Step (core_of s) (Take_reply r.id ArrayFailed) (core_of (without_failed s rest))
-  failed_step sound =
-      let taken = is_failed s r rest sound.requests.distinct failed none is in
-      ((refl, refl), (op_of r.op, taken.was, ap (λ requests. record (state_of s) { request = requests }) taken.now))
-
-  pub failed_sized : AllByRecursion (HasOneBlock s.frames.geometry) (ended_requests s)
-      → HasOneBlock s.frames.geometry r × AllByRecursion (HasOneBlock s.frames.geometry) (ended_requests (without_failed s rest))
-  failed_sized all =
-      let now : ended_requests (without_failed s rest) ≡ rest.items = ap (λ (rs : List Request). rs ++ rest.items) none in
-      let was : ended_requests s ≡ r ∷ rest.items = (λ i. none i ++ is i) in
-      let both = subst (λ (rs : List Request). AllByRecursion (HasOneBlock s.frames.geometry) rs) was all in
-      (both.0, subst (λ (rs : List Request). AllByRecursion (HasOneBlock s.frames.geometry) rs) (sym now) both.1)
-
-  pub failed_core : IsSettled s → rest.capacity ≡ s.finished.capacity → IsSettled (without_failed s rest)
-  failed_core core capacity =
+  pub reply_core : rest.capacity ≡ s.replies.capacity → IsSettled without_first
+  reply_core capacity =
       let sound = core.sound in
-      let taken = is_failed s r rest sound.requests.distinct failed none is in
       record {
         sound = record {
           frames = sound.frames;
@@ -233,12 +191,12 @@ module _ (s : State) (r : Request) (rest : Buffer Request) (failed : s.frames.sa
             counted = let one = taken.count in omega (arith, one, sound.requests.counted);
             few = omega (arith, sound.requests.few);
             waiting = sound.requests.waiting;
-            sized = (failed_sized sound.requests.sized).1;
+            sized = sizes.1;
+            marked = let one = ap length is in omega (arith, one, sound.requests.marked);
           };
           room = record {
             waiting = sound.room.waiting;
-            finished = capacity ∙ sound.room.finished;
-            released = sound.room.released;
+            replies = capacity ∙ sound.room.replies;
             calls = sound.room.calls;
             few_calls = sound.room.few_calls;
           };
@@ -247,23 +205,3 @@ module _ (s : State) (r : Request) (rest : Buffer Request) (failed : s.frames.sa
         };
         rested = core.rested;
       }
-
--- ---- what is handed over
-
-pub reply_as : (o : Entered) → reply_of (reply_to o) ≡ answer_of o
-reply_as (op.Read block buffer) = refl
-reply_as (op.Write block buffer) = refl
-
-pub buffer_answered : (o : Entered) → buffer_back (reply_to o) ≡ buffer_of o
-buffer_answered (op.Read block buffer) = refl
-buffer_answered (op.Write block buffer) = refl
-
-pub brings_answer : (r : Option shards.Request) (o : Entered) (stage : Stage) → r ≡ Some (record { op = op_of o; stage = stage }) → BringsBack r (reply_to o)
-brings_answer r (op.Read block buffer) stage is = subst (λ (x : Option shards.Request). BringsBack x (reply_to (op.Read block buffer))) (sym is) (block, refl)
-brings_answer r (op.Write block buffer) stage is = subst (λ (x : Option shards.Request). BringsBack x (reply_to (op.Write block buffer))) (sym is) (block, refl)
-
-pub brings_failure : (r : Option shards.Request) (o : Entered) (stage : Stage) → r ≡ Some (record { op = op_of o; stage = stage }) → BringsBack r (back.ArrayFailed (buffer_of o))
-brings_failure r (op.Read block buffer) stage is =
-    subst (λ (x : Option shards.Request). BringsBack x (back.ArrayFailed buffer)) (sym is) (λ other new_data e. absurd (cc))
-brings_failure r (op.Write block buffer) stage is =
-    subst (λ (x : Option shards.Request). BringsBack x (back.ArrayFailed buffer)) (sym is) (λ other new_data e. let same : buffer ≡ new_data = cc in same)

@@ -1,17 +1,18 @@
 -- What a shard that sees the failure of the array makes of its requests, and what it is then.
-use Rattle.std.proofs.Common.{◌≡◌, ◌≢◌, ℕ, suc, Bool, true, false, cond, ◌+◌, ◌*◌, ◌<◌, ◌≤◌, List, [], ◌∷◌, ◌++◌, map, refl, sym, ap, subst, ◌∙◌, Some, None, length, arith, append_assoc, append-nil, length-append}
+use Rattle.std.proofs.Common.{◌≡◌, ◌≢◌, ℕ, zero, suc, Bool, true, false, cond, ◌+◌, ◌*◌, ◌<◌, ◌≤◌, List, [], ◌∷◌, ◌++◌, map, take, drop, refl, sym, ap, subst, ◌∙◌, Some, None, length, get_or, arith, append_assoc, length-append}
 use mathlib.Core.Path.{fun_ext}
 use Rattle.std.specs.Prelude.{nat_eq, option_map, IsPermutation}
 use Rattle.std.specs.List.{IsDistinct, AllByRecursion}
+use Rattle.std.specs.List.Sorted.{IsNonDecreasingBy}
 use Rattle.std.specs.Map.{keys_of}
 use Rattle.std.specs.Cmp.{nat_eq_equiv}
 use Rattle.std.proofs.lemmas.Bool.{eqb-true, eq-eqb}
 use Rattle.circular_buffer.specs.Buffer.{Buffer}
-use Rattle.std.proofs.lemmas.List.{length-map, map-append}
+use Rattle.std.proofs.lemmas.List.{drop-append-le, length-map, map-append, take-append-drop, take-append-le}
 use Rattle.std.proofs.lemmas.List.Elements.{All-from_recursion, recursion_from_All}
-use Rattle.std.proofs.lemmas.List.Sorted.{IsPermutation-refl, IsPermutation-sym, IsPermutation-trans, IsPermutation-append, IsPermutation-append_right, IsPermutation-middle, IsPermutation-map, All-permutation, Contains-permutation, length_permutation}
+use Rattle.std.proofs.lemmas.List.Sorted.{IsNonDecreasingBy-drop, IsPermutation-sym, IsPermutation-trans, IsPermutation-append_comm, IsPermutation-append_right, IsPermutation-map, All-permutation, Contains-permutation, length_permutation}
 use Rattle.std.proofs.lemmas.Map.Views.{Contains-from_lookup, lookup-from_Contains}
-use Rattle.std.proofs.lemmas.Map.Keys.{IsDistinct-head, IsDistinct-tail, IsDistinct-cons}
+use Rattle.std.proofs.lemmas.Map.Keys.{IsDistinct-head, IsDistinct-tail, IsDistinct-IsPermutation}
 use Rattle.r6_layout.specs.Shape.{Shape}
 use Rattle.r6_tables.specs.Table.{next_of}
 use Rattle.r6_world.specs.PlainArray as world
@@ -24,21 +25,21 @@ use Rattle.r6_frames.specs.declared.frames.Frames.{Frames}
 use Rattle.r6_frames.specs.declared.frames.FrameUse.{FrameUse}
 use Rattle.r6_frames.specs.declared.frames.FrameUse.TheVariants as uses
 use Rattle.r6_frames.specs.Slots.{states_of}
-use Rattle.r6_frames.specs.Views.{held_request, held_requests, requests_from, hold_at, Rest, shard_with, AreLive}
+use Rattle.r6_frames.specs.Views.{held_request, held_requests, requests_from, Rest, shard_with}
 use Rattle.r6_frames.specs.Calls.{SeesFailure, IsRequestOf, HasOneBlock}
 use Rattle.r6_frames.specs.Owed.{owed}
 use Rattle.r6_frames.specs.Sound as held
 use Rattle.r6_frames.proofs.Lists.{Entries, table}
 use Rattle.r6_core.specs.declared.state.State.{State}
-use Rattle.r6_core.specs.Shards.{state_of, rest_of, layout_in, requests_of, waiting_request, finished_request, released_request, call_of}
+use Rattle.r6_core.specs.Shards.{state_of, rest_of, layout_in, requests_of, waiting_request, finished_request, released_request, replied_requests, call_of}
 use Rattle.r6_core.specs.Refusals.{limit, most_unanswered}
-use Rattle.r6_core.specs.Order.{IsRising}
-use Rattle.r6_core.specs.Inside.{IsSound, IsSettled, Gathers, inserted, held_op, unreleased, count_untold, ended_requests}
+use Rattle.r6_core.specs.Order.{IsRising, FailsAll}
+use Rattle.r6_core.specs.Inside.{IsSound, IsSettled, Gathers, Seen, held_op, numbered_op, unreplied, count_untold}
 use Rattle.r6_core.proofs.Kept.{requests_kept, sizes_kept}
 use Rattle.r6_core.proofs.SlotsKept.{out_same}
-use Rattle.r6_core.proofs.Gathering.{entry_in}
-use Rattle.r6_core.proofs.Failing.{IsFailing, distinct_permuted, inserted_rises, inserted_permutes, all_inserted}
-use Rattle.r6_core.proofs.Passed.{all-append, all-parts}
+use Rattle.r6_core.proofs.Gathering.{none_from}
+use Rattle.r6_core.proofs.Passed.{all-append}
+use Rattle.r6_core.proofs.Replied.{as_many, keys_replied, keys_requests, numbers}
 
 -- ---- a look-up doesn't depend on the order
 
@@ -79,9 +80,9 @@ keys_failed : (es : Entries shards.Request) → keys_of (map failed es) ≡ keys
 keys_failed [] = refl
 keys_failed (e ∷ es) = ap (λ ks. e.0 ∷ ks) (keys_failed es)
 
-waiting_fail : (rs : List Request) → map failed (map waiting_request rs) ≡ map answered (map entry_in rs)
+waiting_fail : (rs : List Request) → map failed (map waiting_request rs) ≡ map answered (map numbered_op rs)
 waiting_fail [] = refl
-waiting_fail (r ∷ rs) = ap (λ es. answered (entry_in r) ∷ es) (waiting_fail rs)
+waiting_fail (r ∷ rs) = ap (λ es. answered (numbered_op r) ∷ es) (waiting_fail rs)
 
 held_fail : (n : ℕ) (held : List FrameUse) → map failed (requests_from n held) ≡ map answered (map held_op (requests_from n held))
 held_fail n [] = refl
@@ -89,65 +90,49 @@ held_fail n (uses.Free ∷ held) = held_fail (n + 1) held
 held_fail n (uses.Held h ∷ held) = ap (λ es. answered (held_op (held_request n h)) ∷ es) (held_fail (n + 1) held)
 held_fail n (uses.Returning r ∷ held) = held_fail (n + 1) held
 
-ended_fails : (b : Bool) (r : Request) → failed (finished_request b r) ≡ answered (entry_in r)
+ended_fails : (seen : Bool) (r : Request) → failed (finished_request seen r) ≡ answered (numbered_op r)
 ended_fails true r = refl
 ended_fails false r = refl
 
-finished_fail : (b : Bool) (rs : List Request) → map failed (map (finished_request b) rs) ≡ map answered (map entry_in rs)
-finished_fail b [] = refl
-finished_fail b (r ∷ rs) = λ i. ended_fails b r i ∷ finished_fail b rs i
+-- those with a reply, when those that aren't released are answered so
+abbrev failed_behind : ℕ → List Request → Entries shards.Request
+failed_behind count rs = map released_request (take count rs) ++ map answered (map numbered_op (drop count rs))
 
-failed_still : (rs : List Request) → map (finished_request true) rs ≡ map answered (map entry_in rs)
-failed_still [] = refl
-failed_still (r ∷ rs) = ap (λ es. answered (entry_in r) ∷ es) (failed_still rs)
+replied_fail : (seen : Bool) (count : ℕ) (rs : List Request) → map failed (replied_requests seen count rs) ≡ failed_behind count rs
+replied_fail seen zero [] = refl
+replied_fail seen zero (r ∷ rs) = λ i. ended_fails seen r i ∷ replied_fail seen zero rs i
+replied_fail seen (suc count) [] = refl
+replied_fail seen (suc count) (r ∷ rs) = ap (λ es. released_request r ∷ es) (replied_fail seen count rs)
 
-released_stay : (rs : List Request) → map failed (map released_request rs) ≡ map released_request rs
-released_stay [] = refl
-released_stay (r ∷ rs) = ap (λ es. released_request r ∷ es) (released_stay rs)
+replied_failed : (count : ℕ) (rs : List Request) → replied_requests true count rs ≡ failed_behind count rs
+replied_failed zero [] = refl
+replied_failed zero (r ∷ rs) = ap (λ es. answered (numbered_op r) ∷ es) (replied_failed zero rs)
+replied_failed (suc count) [] = refl
+replied_failed (suc count) (r ∷ rs) = ap (λ es. released_request r ∷ es) (replied_failed count rs)
 
-all_fail : (s : State) → map failed (requests_of s) ≡ map answered (unreleased s) ++ map released_request s.released.items
+all_fail : (s : State) → map failed (requests_of s) ≡ map answered (unreplied s) ++ failed_behind s.released s.replies.items
 all_fail s =
     let w = map waiting_request s.waiting.items in
     let h = held_requests s.frames in
-    let f = map (finished_request s.frames.saw_failed) s.finished.items in
-    let r = map released_request s.released.items in
-    let w' = map answered (map entry_in s.waiting.items) in
-    let h' = map answered (map held_op h) in
-    let f' = map answered (map entry_in s.finished.items) in
-    map-append failed w (h ++ (f ++ r))
-    ∙ ap (λ es. map failed w ++ es) (map-append failed h (f ++ r) ∙ ap (λ es. map failed h ++ es) (map-append failed f r))
-    ∙ (λ i. waiting_fail s.waiting.items i ++ (held_fail 0 s.frames.held.items i ++ (finished_fail s.frames.saw_failed s.finished.items i ++ released_stay s.released.items i)))
-    ∙ ap (λ es. w' ++ es) (sym (append_assoc h' f' r))
-    ∙ sym (append_assoc w' (h' ++ f') r)
-    ∙ ap (λ es. (w' ++ es) ++ r) (sym (map-append answered (map held_op h) (map entry_in s.finished.items)))
-    ∙ ap (λ es. es ++ r) (sym (map-append answered (map entry_in s.waiting.items) (map held_op h ++ map entry_in s.finished.items)))
-
--- no row is held, and so no request
-none_from : (n : ℕ) (held : List FrameUse) → ((frame : ℕ) → hold_at held frame ≡ None) → requests_from n held ≡ []
-none_from n [] none = refl
-none_from n (uses.Free ∷ held) none = none_from (n + 1) held (λ frame. none (suc frame))
-none_from n (uses.Held h ∷ held) none = absurd (let bad = none 0 in cc)
-none_from n (uses.Returning r ∷ held) none = none_from (n + 1) held (λ frame. none (suc frame))
+    let p = replied_requests s.frames.saw_failed s.released s.replies.items in
+    let w' = map numbered_op s.waiting.items in
+    let h' = map held_op h in
+    let p' = failed_behind s.released s.replies.items in
+    map-append failed w (h ++ p)
+    ∙ ap (λ es. map failed w ++ es) (map-append failed h p)
+    ∙ (λ i. waiting_fail s.waiting.items i ++ (held_fail 0 s.frames.held.items i ++ replied_fail s.frames.saw_failed s.released s.replies.items i))
+    ∙ sym (append_assoc (map answered w') (map answered h') p')
+    ∙ ap (λ es. es ++ p') (sym (map-append answered w' h'))
 
 -- ---- the failure is seen, and nothing else
-
-keys_of_ended : (b c : Bool) (rs : List Request) (rest : Entries shards.Request) → keys_of (map (finished_request b) rs ++ rest) ≡ keys_of (map (finished_request c) rs ++ rest)
-keys_of_ended b c [] rest = refl
-keys_of_ended b c (r ∷ rs) rest = ap (λ ks. r.id ∷ ks) (keys_of_ended b c rs rest)
-
-keys_behind : (xs ys zs : Entries shards.Request) → keys_of ys ≡ keys_of zs → keys_of (xs ++ ys) ≡ keys_of (xs ++ zs)
-keys_behind [] ys zs same = same
-keys_behind (x ∷ xs) ys zs same = ap (λ ks. x.0 ∷ ks) (keys_behind xs ys zs same)
 
 module _ (s : State) (fs : Frames) (sound : IsSound s) (sees : SeesFailure s.frames fs) (commands : fs.commands ≡ s.frames.commands) (owes : owed fs ≡ owed s.frames)
     (requests : held_requests fs ≡ held_requests s.frames) where
   keys_seen : keys_of (requests_of (record s { frames = fs })) ≡ keys_of (requests_of s)
   keys_seen =
-      let r = map released_request s.released.items in
-      let ended = λ (b : Bool). map (finished_request b) s.finished.items ++ r in
-      ap (λ (h : Entries shards.Request). keys_of (map waiting_request s.waiting.items ++ (h ++ ended fs.saw_failed))) requests
-      ∙ keys_behind (map waiting_request s.waiting.items) (held_requests s.frames ++ ended fs.saw_failed) (held_requests s.frames ++ ended s.frames.saw_failed)
-      (keys_behind (held_requests s.frames) (ended fs.saw_failed) (ended s.frames.saw_failed) (keys_of_ended fs.saw_failed s.frames.saw_failed s.finished.items r))
+      keys_requests (record s { frames = fs })
+      ∙ ap (λ (h : Entries shards.Request). keys_of (map waiting_request s.waiting.items) ++ (keys_of h ++ numbers s.replies.items)) requests
+      ∙ sym (keys_requests s)
 
   slots_seen : states_of fs.slots ≡ states_of s.frames.slots
   slots_seen = ap (λ (x : Shard). x.slot) (sees.2 (rest_of s))
@@ -159,15 +144,15 @@ module _ (s : State) (fs : Frames) (sound : IsSound s) (sees : SeesFailure s.fra
         requests = record {
           distinct = subst (IsDistinct nat_eq) (sym keys_seen) sound.requests.distinct;
           numbered = subst (λ ks. AllByRecursion (λ id. id < s.accepted) ks) (sym keys_seen) sound.requests.numbered;
-          counted = sym (length-map (requests_of (record s { frames = fs })) (λ e. e.0)) ∙ ap length keys_seen ∙ length-map (requests_of s) (λ e. e.0) ∙ sound.requests.counted;
+          counted = as_many (requests_of (record s { frames = fs })) (requests_of s) keys_seen ∙ sound.requests.counted;
           few = sound.requests.few;
           waiting = requests_kept s.frames fs s.waiting.items sees.0 sees.1 sound.requests.waiting;
-          sized = sizes_kept s.frames.geometry fs.geometry (ended_requests s) sees.0 sound.requests.sized;
+          sized = sizes_kept s.frames.geometry fs.geometry s.replies.items sees.0 sound.requests.sized;
+          marked = sound.requests.marked;
         };
         room = record {
           waiting = sound.room.waiting;
-          finished = sound.room.finished;
-          released = sound.room.released;
+          replies = sound.room.replies;
           calls = sound.room.calls;
           few_calls = let same = out_same s.frames fs slots_seen sees.0 in omega (arith, same, sound.room.few_calls);
         };
@@ -178,212 +163,182 @@ module _ (s : State) (fs : Frames) (sound : IsSound s) (sees : SeesFailure s.fra
         accepted = sound.accepted;
       }
 
--- ---- one by one
+-- ---- numbers that don't fall and differ rise
 
-front_distinct : (ks ls : List ℕ) → IsDistinct nat_eq (ks ++ ls) → IsDistinct nat_eq ks
-unfolding IsDistinct
-front_distinct [] ls distinct = tt
-front_distinct (k ∷ ks) ls distinct =
-    IsDistinct-cons nat_eq k ks (front_all (λ y. nat_eq k y ≡ false) ks ls (IsDistinct-head nat_eq k (ks ++ ls) distinct)) (front_distinct ks ls (IsDistinct-tail nat_eq k (ks ++ ls) distinct))
-  where
-    front_all : (P : ℕ → Type 0) (ks ls : List ℕ) → AllByRecursion P (ks ++ ls) → AllByRecursion P ks
-    front_all P [] ls all = tt
-    front_all P (k ∷ ks) ls all = (all.0, front_all P ks ls all.1)
+above : (r : Request) (rs : List Request) → ((j : ℕ) → j < length rs → r.id ≤ (get_or rs j r).id) → AllByRecursion (λ y. nat_eq r.id y ≡ false) (numbers rs)
+    → AllByRecursion (λ other. r.id < other.id) rs
+above r [] up apart = tt
+above r (x ∷ rs) up apart =
+    let le = up 0 (omega arith) in
+    let ne : r.id ≢ x.id = λ e. let same = eq-eqb r.id x.id e in let no = apart.0 in absurd (cc) in
+    (omega (arith, le, ne), above r rs (λ j lt. up (suc j) (omega arith)) apart.1)
 
-abbrev numbers : List (ℕ × world.Op) → List ℕ
-numbers es = map (λ e. e.0) es
+rising : (rs : List Request) → IsNonDecreasingBy (λ r. r.id) rs → IsDistinct nat_eq (numbers rs) → IsRising rs
+rising [] up distinct = tt
+rising (r ∷ rs) up distinct = (
+  above r rs (λ j lt. up zero (suc j) r (omega arith) (omega arith)) (IsDistinct-head nat_eq r.id (numbers rs) distinct),
+  rising rs (IsNonDecreasingBy-drop (λ r. r.id) 1 (r ∷ rs) up) (IsDistinct-tail nat_eq r.id (numbers rs) distinct),
+)
 
--- a number that differs from all
-others_apart : (r : Request) (rest fin : List Request) → AllByRecursion (λ y. nat_eq r.id y ≡ false) (numbers (map entry_in (rest ++ fin))) → AllByRecursion (λ x. r.id ≢ x.id) fin
-others_apart r (x ∷ rest) fin all = others_apart r rest fin all.1
-others_apart r [] [] all = tt
-others_apart r [] (x ∷ fin) all = ((λ e. let same = eq-eqb r.id x.id e in let ne = all.0 in absurd (cc)), others_apart r [] fin all.1)
-
-abbrev with_queues : State → Buffer Request → Buffer Request → State
-with_queues s waiting finished = record s { waiting = waiting; finished = finished }
-
-pub failing_on : (mid self : State) (r : Request) (rest : List Request) (waiting finished : Buffer Request) → IsDistinct nat_eq (numbers (map entry_in mid.waiting.items)) → IsFailing mid self
-    → self.waiting.items ≡ r ∷ rest → waiting.items ≡ rest → finished.items ≡ inserted r self.finished.items → waiting.capacity ≡ self.waiting.capacity → finished.capacity ≡ self.finished.capacity
-    → IsFailing mid (with_queues self waiting finished)
-failing_on mid self r rest waiting finished distinct is first left last wide long =
-    let fin = self.finished.items in
-    let from : IsPermutation (map entry_in mid.waiting.items) (map entry_in (r ∷ (rest ++ fin))) = subst (λ ws. IsPermutation (map entry_in mid.waiting.items) (map entry_in (ws ++ fin))) first is.all in
-    let turned : IsPermutation (r ∷ (rest ++ fin)) (rest ++ r ∷ fin) = IsPermutation-sym (rest ++ r ∷ fin) (r ∷ (rest ++ fin)) (IsPermutation-middle rest r fin) in
-    let put : IsPermutation (rest ++ r ∷ fin) (rest ++ inserted r fin) = IsPermutation-append_right rest (r ∷ fin) (inserted r fin) (inserted_permutes r fin) in
-    let step = IsPermutation-trans (r ∷ (rest ++ fin)) (rest ++ r ∷ fin) (rest ++ inserted r fin) turned put in
-    let here : IsPermutation (map entry_in mid.waiting.items) (map entry_in (rest ++ inserted r fin)) =
-    IsPermutation-trans (map entry_in mid.waiting.items) (map entry_in (r ∷ (rest ++ fin))) (map entry_in (rest ++ inserted r fin)) from (IsPermutation-map entry_in (r ∷ (rest ++ fin)) (rest ++ inserted r fin) step) in
-    let differ = distinct_permuted (numbers (map entry_in mid.waiting.items)) (numbers (map entry_in (r ∷ (rest ++ fin))))
-    (IsPermutation-map (λ e. e.0) (map entry_in mid.waiting.items) (map entry_in (r ∷ (rest ++ fin))) from) distinct in
-    let sizes = subst (AllByRecursion (HasOneBlock mid.frames.geometry)) first is.waiting_sized in
-    let apart = others_apart r rest fin (IsDistinct-head nat_eq r.id (numbers (map entry_in (rest ++ fin))) differ) in
-    record {
-      all = subst (λ ws. IsPermutation (map entry_in mid.waiting.items) (map entry_in (ws ++ finished.items))) (sym left)
-          (subst (λ fs. IsPermutation (map entry_in mid.waiting.items) (map entry_in (rest ++ fs))) (sym last) here);
-      rising = subst IsRising (sym last) (inserted_rises r fin apart is.rising);
-      waiting_sized = subst (AllByRecursion (HasOneBlock mid.frames.geometry)) (sym left) sizes.1;
-      finished_sized =
-          subst (AllByRecursion (HasOneBlock mid.frames.geometry)) (sym last)
-          (all_inserted (HasOneBlock mid.frames.geometry) r fin sizes.0 is.finished_sized);
-      room = long ∙ is.room;
-      frames = is.frames;
-      accepted = is.accepted;
-      unanswered = is.unanswered;
-      released = is.released;
-      waiting_room = wide ∙ is.waiting_room;
-      calls = is.calls;
-    }
+distinct_behind : (xs ys : Entries shards.Request) → IsDistinct nat_eq (keys_of (xs ++ ys)) → IsDistinct nat_eq (keys_of ys)
+distinct_behind [] ys h = h
+distinct_behind (x ∷ xs) ys h = distinct_behind xs ys (IsDistinct-tail nat_eq x.0 (keys_of (xs ++ ys)) h)
 
 -- ---- the shard behind it
 
-module _ (s : State) (fs : Frames) (mid : State) (sound : IsSound s) (sees : SeesFailure s.frames fs) (owes : owed fs ≡ owed s.frames)
-    (requests : held_requests fs ≡ held_requests s.frames) (gathers : Gathers (record s { frames = fs }) mid) where
-  abbrev before : Entries shards.Request
-  before = map answered (unreleased s)
+all_permuted : {X : Type 0} (P : X → Type 0) (xs ys : List X) → IsPermutation xs ys → AllByRecursion P xs → AllByRecursion P ys
+all_permuted P xs ys same all = recursion_from_All P ys (All-permutation P xs ys same (All-from_recursion P xs all))
 
-  abbrev others : Entries shards.Request
-  others = map released_request s.released.items
+module _ (s : State) (fs : Frames) (mid : State) (sorted : Buffer Request) (sound : IsSound s) (sees : SeesFailure s.frames fs) (owes : owed fs ≡ owed s.frames)
+    (requests : held_requests fs ≡ held_requests s.frames) (gathers : Gathers (record s { frames = fs }) mid)
+    (before : take mid.released sorted.items ≡ take mid.released mid.replies.items) (same : IsPermutation (drop mid.released mid.replies.items) (drop mid.released sorted.items))
+    (up : IsNonDecreasingBy (λ r. r.id) (drop mid.released sorted.items)) (capacity : sorted.capacity ≡ mid.replies.capacity) where
+  abbrev new : State
+  new = record mid { replies = sorted }
+
+  abbrev count : ℕ
+  count = s.released
+
+  marked : mid.released ≡ count
+  marked = gathers.rest.2
+
+  abbrev finished : List Request
+  finished = drop count s.replies.items
+
+  -- what stands behind the released ones, before it was sorted and behind it
+  was_behind : drop mid.released mid.replies.items ≡ finished ++ gathers.more
+  was_behind = (λ i. drop (marked i) (gathers.replies i)) ∙ drop-append-le count s.replies.items gathers.more sound.requests.marked
+
+  still_released : take mid.released sorted.items ≡ take count s.replies.items
+  still_released = before ∙ (λ i. take (marked i) (gathers.replies i)) ∙ take-append-le count s.replies.items gathers.more sound.requests.marked
+
+  whole_queue : IsPermutation mid.replies.items sorted.items
+  whole_queue =
+      subst (λ rs. IsPermutation rs sorted.items) (take-append-drop mid.released mid.replies.items)
+      (subst (IsPermutation (take mid.released mid.replies.items ++ drop mid.released mid.replies.items)) ((λ i. sym before i ++ drop mid.released sorted.items) ∙ take-append-drop mid.released sorted.items)
+      (IsPermutation-append_right (take mid.released mid.replies.items) (drop mid.released mid.replies.items) (drop mid.released sorted.items) same))
 
   none_held : held_requests mid.frames ≡ []
   none_held = none_from 0 mid.frames.held.items gathers.none_held
 
-  gathered : IsPermutation (unreleased s) (map entry_in mid.waiting.items)
-  gathered =
-      let from : unreleased (record s { frames = fs }) ≡ unreleased s = ap (λ (h : Entries shards.Request). map entry_in s.waiting.items ++ (map held_op h ++ map entry_in s.finished.items)) requests in
-      let to : unreleased mid ≡ map entry_in mid.waiting.items =
-      (λ i. map entry_in mid.waiting.items ++ (map held_op (none_held i) ++ map entry_in (gathers.none_finished i))) ∙ append-nil (map entry_in mid.waiting.items) in
-      subst (λ es. IsPermutation (unreleased s) es) to (subst (λ es. IsPermutation es (unreleased mid)) from gathers.all)
+  shard_is : (rest : Rest) → shard_with rest mid.frames ≡ record (shard_with rest s.frames) { saw_failed = true; command = λ t. abandoned_if true ((shard_with rest s.frames).command t); frame = λ f. None }
+  shard_is rest = gathers.shard.2 rest ∙ ap (λ (x : Shard). record x { frame = λ f. None }) (sees.2 rest)
 
-  before_distinct : IsDistinct nat_eq (keys_of (before ++ others))
-  before_distinct = subst (IsDistinct nat_eq) (sym (keys_failed (requests_of s)) ∙ ap (λ (es : Entries shards.Request). keys_of es) (all_fail s)) sound.requests.distinct
+  abbrev now : Entries shards.Request
+  now = failed_behind mid.released sorted.items
 
-  keys_answered : (es : List (ℕ × world.Op)) → keys_of (map answered es) ≡ numbers es
-  keys_answered [] = refl
-  keys_answered (e ∷ es) = ap (λ ks. e.0 ∷ ks) (keys_answered es)
+  new_requests : requests_of new ≡ now
+  new_requests =
+      (λ i. map waiting_request (gathers.none_waiting i) ++ (none_held i ++ replied_requests (shard_is (rest_of s) i).saw_failed mid.released sorted.items))
+      ∙ replied_failed mid.released sorted.items
 
-  pub waiting_distinct : IsDistinct nat_eq (numbers (map entry_in mid.waiting.items))
-  waiting_distinct =
-      let whole = subst (IsDistinct nat_eq) (map-append (λ e. e.0) before others) before_distinct in
-      let own = subst (IsDistinct nat_eq) (keys_answered (unreleased s)) (front_distinct (keys_of before) (keys_of others) whole) in
-      distinct_permuted (numbers (unreleased s)) (numbers (map entry_in mid.waiting.items)) (IsPermutation-map (λ e. e.0) (unreleased s) (map entry_in mid.waiting.items) gathered) own
+  abbrev fails : ℕ × world.Op → ℕ × shards.Request
+  fails = answered
 
-  pub few_wait : length mid.waiting.items ≤ most_unanswered
-  few_wait =
-      let total : length (before ++ others) ≡ s.unanswered = sym (ap length (all_fail s)) ∙ length-map (requests_of s) failed ∙ sound.requests.counted in
-      let parts = length-append before others in
-      let own = length-map (unreleased s) answered in
-      let now = length_permutation (unreleased s) (map entry_in mid.waiting.items) gathered in
-      let same = length-map mid.waiting.items entry_in in
-      omega (arith, total, parts, own, now, same, sound.requests.few)
+  -- each request is there still, and those that aren't released are answered so
+  whole : IsPermutation (map failed (requests_of s)) now
+  whole =
+      let r = map released_request (take count s.replies.items) in
+      let f = map numbered_op finished in
+      let more = map numbered_op gathers.more in
+      let u = unreplied s in
+      let gone : IsPermutation u more = subst (λ es. IsPermutation es more) (ap (λ (h : Entries shards.Request). map numbered_op s.waiting.items ++ map held_op h) requests) gathers.all in
+      let last : IsPermutation (f ++ more) (map numbered_op (drop mid.released sorted.items)) =
+      subst (λ es. IsPermutation es (map numbered_op (drop mid.released sorted.items))) (ap (map numbered_op) was_behind ∙ map-append numbered_op finished gathers.more)
+      (IsPermutation-map numbered_op (drop mid.released mid.replies.items) (drop mid.released sorted.items) same) in
+      let ops : IsPermutation (f ++ u) (map numbered_op (drop mid.released sorted.items)) =
+      IsPermutation-trans (f ++ u) (f ++ more) (map numbered_op (drop mid.released sorted.items)) (IsPermutation-append_right f u more gone) last in
+      let turned : IsPermutation (map fails u ++ (r ++ map fails f)) (r ++ map fails (f ++ u)) =
+      subst (IsPermutation (map fails u ++ (r ++ map fails f))) (append_assoc r (map fails f) (map fails u) ∙ ap (λ es. r ++ es) (sym (map-append fails f u)))
+      (IsPermutation-append_comm (map fails u) (r ++ map fails f)) in
+      let all : IsPermutation (map fails u ++ (r ++ map fails f)) now =
+      IsPermutation-trans (map fails u ++ (r ++ map fails f)) (r ++ map fails (f ++ u)) now turned
+      (subst (λ rs. IsPermutation (r ++ map fails (f ++ u)) (map released_request rs ++ map fails (map numbered_op (drop mid.released sorted.items)))) (sym still_released)
+      (IsPermutation-append_right r (map fails (f ++ u)) (map fails (map numbered_op (drop mid.released sorted.items))) (IsPermutation-map fails (f ++ u) (map numbered_op (drop mid.released sorted.items)) ops))) in
+      subst (λ es. IsPermutation es now) (sym (all_fail s)) all
 
-  pub has_room : (self : State) (r : Request) (rest : List Request) → IsFailing mid self → self.waiting.items ≡ r ∷ rest → length self.finished.items < self.finished.capacity
-  has_room self r rest is first =
-      let all = length_permutation (map entry_in mid.waiting.items) (map entry_in (self.waiting.items ++ self.finished.items)) is.all in
-      let a = length-map mid.waiting.items entry_in in
-      let b = length-map (self.waiting.items ++ self.finished.items) entry_in in
-      let c = length-append self.waiting.items self.finished.items in
-      let d = ap length first in
-      let e = is.room ∙ gathers.room.1 ∙ sound.room.finished in
-      omega (arith, all, a, b, c, d, e, few_wait)
+  whole_keys : IsPermutation (keys_of (requests_of s)) (keys_of now)
+  whole_keys = subst (λ ks. IsPermutation ks (keys_of now)) (keys_failed (requests_of s)) (IsPermutation-map (λ e. e.0) (map failed (requests_of s)) now whole)
 
-  module _ (new : State) (is : IsFailing mid new) (done : new.waiting.items ≡ []) where
-    abbrev now : Entries shards.Request
-    now = map answered (map entry_in new.finished.items)
+  was_distinct : IsDistinct nat_eq (keys_of (map failed (requests_of s)))
+  was_distinct = subst (IsDistinct nat_eq) (sym (keys_failed (requests_of s))) sound.requests.distinct
 
-    permuted : IsPermutation (unreleased s) (map entry_in new.finished.items)
-    permuted =
-        IsPermutation-trans (unreleased s) (map entry_in mid.waiting.items) (map entry_in new.finished.items) gathered
-        (subst (λ ws. IsPermutation (map entry_in mid.waiting.items) (map entry_in (ws ++ new.finished.items))) done is.all)
+  now_distinct : IsDistinct nat_eq (keys_of now)
+  now_distinct = IsDistinct-IsPermutation nat_eq nat_eq_equiv.symm (keys_of (requests_of s)) (keys_of now) whole_keys sound.requests.distinct
 
-    whole : IsPermutation (before ++ others) (now ++ others)
-    whole = IsPermutation-append before now others others (IsPermutation-map answered (unreleased s) (map entry_in new.finished.items) permuted) (IsPermutation-refl others)
+  tables : table (requests_of new) ≡ (λ q. failed_request (table (requests_of s) q))
+  tables = fun_ext same_at
+    where
+      same_at : (q : ℕ) → table (requests_of new) q ≡ failed_request (table (requests_of s) q)
+      same_at q =
+          ap (λ (es : Entries shards.Request). table es q) new_requests
+          ∙ sym (table_permuted (map failed (requests_of s)) now q whole (IsPermutation-sym (map failed (requests_of s)) now whole) was_distinct now_distinct)
+          ∙ table_failed (requests_of s) q
 
-    whole_keys : IsPermutation (keys_of (before ++ others)) (keys_of (now ++ others))
-    whole_keys = IsPermutation-map (λ e. e.0) (before ++ others) (now ++ others) whole
+  pub failed_order : Seen FailsAll s new
+  failed_order =
+      let last = drop mid.released sorted.items in
+      let own : IsDistinct nat_eq (keys_of (replied_requests true 0 last)) =
+      distinct_behind (map released_request (take mid.released sorted.items)) (replied_requests true 0 last) (subst (λ (es : Entries shards.Request). IsDistinct nat_eq (keys_of es)) (sym (replied_failed mid.released sorted.items)) now_distinct) in
+      (rising last up (subst (IsDistinct nat_eq) (keys_replied true 0 last) own), still_released, gathers.none_waiting)
 
-    now_distinct : IsDistinct nat_eq (keys_of (now ++ others))
-    now_distinct = distinct_permuted (keys_of (before ++ others)) (keys_of (now ++ others)) whole_keys before_distinct
+  pub failed_state : state_of new ≡ after (layout_in s) (state_of s) See_failed
+  failed_state =
+      shard_is (rest_of new)
+      ∙ (λ i. record (shard_with (record { accepted = gathers.rest.0 i; request = tables i; calls = map call_of (gathers.rest.3.0 i).items; untold = option_map call_of (gathers.rest.3.1 i) }) s.frames) {
+        saw_failed = true;
+        command = λ t. abandoned_if true ((state_of s).command t);
+        frame = λ f. None;
+      })
 
-    shard_is : (rest : Rest) → shard_with rest new.frames ≡ record (shard_with rest s.frames) { saw_failed = true; command = λ t. abandoned_if true ((shard_with rest s.frames).command t); frame = λ f. None }
-    shard_is rest = ap (λ (x : Frames). shard_with rest x) is.frames ∙ gathers.shard.2 rest ∙ ap (λ (x : Shard). record x { frame = λ f. None }) (sees.2 rest)
-
-    released_same : new.released ≡ s.released
-    released_same = is.released ∙ gathers.rest.2
-
-    new_requests : requests_of new ≡ now ++ others
-    new_requests =
-        let saw : new.frames.saw_failed ≡ true = ap (λ (x : Shard). x.saw_failed) (shard_is (rest_of s)) in
-        let held : held_requests new.frames ≡ [] = ap (λ (x : Frames). held_requests x) is.frames ∙ none_held in
-        (λ i. map waiting_request (done i) ++ (held i ++ (map (finished_request (saw i)) new.finished.items ++ map released_request (released_same i).items)))
-        ∙ ap (λ es. es ++ others) (failed_still new.finished.items)
-
-    tables : table (requests_of new) ≡ (λ q. failed_request (table (requests_of s) q))
-    tables = fun_ext same_at
-      where
-        same_at : (q : ℕ) → table (requests_of new) q ≡ failed_request (table (requests_of s) q)
-        same_at q =
-            ap (λ (es : Entries shards.Request). table es q) new_requests
-            ∙ sym (table_permuted (before ++ others) (now ++ others) q whole (IsPermutation-sym (before ++ others) (now ++ others) whole) before_distinct now_distinct)
-            ∙ sym (ap (λ (es : Entries shards.Request). table es q) (all_fail s)) ∙ table_failed (requests_of s) q
-
-    accepted_same : new.accepted ≡ s.accepted
-    accepted_same = is.accepted ∙ gathers.rest.0
-
-    pub failed_state : state_of new ≡ after (layout_in s) (state_of s) See_failed
-    failed_state =
-        let calls : new.calls ≡ s.calls = is.calls.0 ∙ gathers.rest.3.0 in
-        let untold : new.untold ≡ s.untold = is.calls.1 ∙ gathers.rest.3.1 in
-        shard_is (rest_of new)
-        ∙ (λ i. record (shard_with (record { accepted = accepted_same i; request = tables i; calls = map call_of (calls i).items; untold = option_map call_of (untold i) }) s.frames) {
-          saw_failed = true;
-          command = λ t. abandoned_if true ((state_of s).command t);
-          frame = λ f. None;
-        })
-
-    pub failed_core : IsSettled new
-    failed_core =
-        let unanswered : new.unanswered ≡ s.unanswered = is.unanswered ∙ gathers.rest.1 in
-        let geometry : new.frames.geometry ≡ s.frames.geometry = ap (λ (x : Frames). x.geometry) is.frames ∙ gathers.shard.0 ∙ sees.0 in
-        let slots : states_of new.frames.slots ≡ states_of s.frames.slots = ap (λ (x : Shard). x.slot) (shard_is (rest_of s)) in
-        record {
-          sound = record {
-            frames = subst (λ (x : Frames). held.IsSound x) (sym is.frames) gathers.frames;
-            requests = record {
-              distinct = subst (λ (es : Entries shards.Request). IsDistinct nat_eq (keys_of es)) (sym new_requests) now_distinct;
-              numbered =
-                  let P : ℕ → Type 0 = λ id. id < new.accepted in
-                  let first = subst (λ (ks : List ℕ). AllByRecursion (λ id. id < s.accepted) ks) (sym (keys_failed (requests_of s)) ∙ ap (λ (es : Entries shards.Request). keys_of es) (all_fail s)) sound.requests.numbered in
-                  let then' = subst (λ (n : ℕ). AllByRecursion (λ id. id < n) (keys_of (before ++ others))) (sym accepted_same) first in
-                  let last = recursion_from_All P (keys_of (now ++ others)) (All-permutation P (keys_of (before ++ others)) (keys_of (now ++ others)) whole_keys (All-from_recursion P (keys_of (before ++ others)) then')) in
-                  subst (λ (es : Entries shards.Request). AllByRecursion P (keys_of es)) (sym new_requests) last;
-              counted = ap length new_requests ∙ length_permutation (before ++ others) (now ++ others) whole ∙ sym (ap length (all_fail s)) ∙ length-map (requests_of s) failed ∙ sound.requests.counted ∙ sym unanswered;
-              few = subst (λ (n : ℕ). n ≤ most_unanswered) (sym unanswered) sound.requests.few;
-              waiting = subst (λ (rs : List Request). AllByRecursion (IsRequestOf new.frames) rs) (sym done) tt;
-              sized =
-                  let One = HasOneBlock s.frames.geometry in
-                  let before = sizes_kept mid.frames.geometry s.frames.geometry new.finished.items (sym (gathers.shard.0 ∙ sees.0)) is.finished_sized in
-                  let released = (all-parts One s.released.items s.finished.items sound.requests.sized).0 in
-                  let both = all-append One s.released.items new.finished.items released before in
-                  let ended = subst (λ (b : Buffer Request). AllByRecursion One (b.items ++ new.finished.items)) (sym released_same) both in
-                  sizes_kept s.frames.geometry new.frames.geometry (ended_requests new) geometry ended;
-            };
-            room = record {
-              waiting = is.waiting_room ∙ gathers.room.0 ∙ sound.room.waiting;
-              finished = is.room ∙ gathers.room.1 ∙ sound.room.finished;
-              released = ap (λ (b : Buffer Request). b.capacity) released_same ∙ sound.room.released;
-              calls = ap (λ b. b.capacity) (is.calls.0 ∙ gathers.rest.3.0) ∙ sound.room.calls;
-              few_calls =
-                  let same = out_same s.frames new.frames slots geometry in
-                  let calls : length new.calls.items + count_untold new.untold ≡ length s.calls.items + count_untold s.untold = λ i. length ((is.calls.0 ∙ gathers.rest.3.0) i).items + count_untold ((is.calls.1 ∙ gathers.rest.3.1) i) in
-                  omega (arith, same, calls, sound.room.few_calls);
-            };
-            tokens =
-                let next : next_of new.frames.commands ≡ next_of s.frames.commands = ap (λ (x : Shard). x.tokens) (shard_is (rest_of s)) in
-                let fewer = gathers.tokens in
-                let same : owed new.frames ≡ owed mid.frames = ap (λ (x : Frames). owed x) is.frames in
-                let none : 2 * new.frames.geometry.slots * length new.waiting.items ≡ 0 = ap (λ (rs : List Request). 2 * new.frames.geometry.slots * length rs) done ∙ (omega arith) in
-                omega (arith, next, fewer, same, owes, none, sound.tokens);
-            accepted = subst (λ (n : ℕ). n ≤ limit) (sym accepted_same) sound.accepted;
+  pub failed_core : IsSettled new
+  failed_core =
+      let geometry : mid.frames.geometry ≡ s.frames.geometry = gathers.shard.0 ∙ sees.0 in
+      let slots : states_of mid.frames.slots ≡ states_of s.frames.slots = ap (λ (x : Shard). x.slot) (shard_is (rest_of s)) in
+      record {
+        sound = record {
+          frames = gathers.frames;
+          requests = record {
+            distinct = subst (λ (es : Entries shards.Request). IsDistinct nat_eq (keys_of es)) (sym new_requests) now_distinct;
+            numbered =
+                let P : ℕ → Type 0 = λ id. id < mid.accepted in
+                let first = subst (λ (n : ℕ). AllByRecursion (λ id. id < n) (keys_of (requests_of s))) (sym gathers.rest.0) sound.requests.numbered in
+                subst (λ (es : Entries shards.Request). AllByRecursion P (keys_of es)) (sym new_requests) (all_permuted P (keys_of (requests_of s)) (keys_of now) whole_keys first);
+            counted = ap length new_requests ∙ length_permutation (map failed (requests_of s)) now whole ∙ length-map (requests_of s) failed ∙ sound.requests.counted ∙ sym gathers.rest.1;
+            few = subst (λ (n : ℕ). n ≤ most_unanswered) (sym gathers.rest.1) sound.requests.few;
+            waiting = subst (λ (rs : List Request). AllByRecursion (IsRequestOf mid.frames) rs) (sym gathers.none_waiting) tt;
+            sized =
+                let One = HasOneBlock s.frames.geometry in
+                let more = sizes_kept fs.geometry s.frames.geometry gathers.more (sym sees.0) gathers.sized in
+                let all = subst (AllByRecursion One) (sym gathers.replies) (all-append One s.replies.items gathers.more sound.requests.sized more) in
+                sizes_kept s.frames.geometry mid.frames.geometry sorted.items geometry (all_permuted One mid.replies.items sorted.items whole_queue all);
+            marked =
+                let long = length_permutation mid.replies.items sorted.items whole_queue in
+                let parts = ap length gathers.replies ∙ length-append s.replies.items gathers.more in
+                omega (arith, long, parts, marked, sound.requests.marked);
           };
-          rested = λ live. absurd (gathers.stopped (subst (λ (x : Frames). AreLive x) is.frames live));
-        }
+          room = record {
+            waiting = gathers.room.0 ∙ sound.room.waiting;
+            replies = capacity ∙ gathers.room.1 ∙ sound.room.replies;
+            calls = ap (λ b. b.capacity) gathers.rest.3.0 ∙ sound.room.calls;
+            few_calls =
+                let same = out_same s.frames mid.frames slots geometry in
+                let calls : length mid.calls.items + count_untold mid.untold ≡ length s.calls.items + count_untold s.untold = λ i. length (gathers.rest.3.0 i).items + count_untold (gathers.rest.3.1 i) in
+                omega (arith, same, calls, sound.room.few_calls);
+          };
+          tokens =
+              let next : next_of mid.frames.commands ≡ next_of s.frames.commands = ap (λ (x : Shard). x.tokens) (shard_is (rest_of s)) in
+              let fewer = gathers.tokens in
+              let none : 2 * mid.frames.geometry.slots * length mid.waiting.items ≡ 0 = ap (λ (rs : List Request). 2 * mid.frames.geometry.slots * length rs) gathers.none_waiting ∙ (omega arith) in
+              omega (arith, next, fewer, owes, none, sound.tokens);
+          accepted = subst (λ (n : ℕ). n ≤ limit) (sym gathers.rest.0) sound.accepted;
+        };
+        rested = λ live. absurd (gathers.stopped live);
+      }
+
+-- the mark lies within the queue that is sorted
+pub marked_within : (s mid : State) (fs : Frames) → IsSound s → Gathers (record s { frames = fs }) mid → mid.released ≤ length mid.replies.items
+marked_within s mid fs sound gathers =
+    let marked = gathers.rest.2 in
+    let parts = ap length gathers.replies ∙ length-append s.replies.items gathers.more in
+    omega (arith, marked, parts, sound.requests.marked)

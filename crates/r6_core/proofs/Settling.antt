@@ -1,10 +1,10 @@
 -- Holds that are over end one by one, from the one with the oldest request on.
-use Rattle.std.proofs.Common.{◌≡◌, ◌≢◌, ℕ, ◌+◌, ◌-◌, ◌<◌, ◌≤◌, List, [], ◌∷◌, ◌++◌, map, length, refl, sym, ap, subst, ◌∙◌, Some, None, inl, inr, arith, append_assoc, append-nil, length-append}
+use Rattle.std.proofs.Common.{◌≡◌, ◌≢◌, ℕ, ◌+◌, ◌-◌, ◌<◌, ◌≤◌, List, [], ◌∷◌, ◌++◌, map, take, drop, length, refl, sym, ap, subst, ◌∙◌, Some, None, inl, inr, arith, append_assoc, append-nil, length-append}
 use Rattle.std.specs.Prelude.{nat_eq}
 use Rattle.std.specs.List.{IsDistinct, AllByRecursion}
 use Rattle.std.specs.Map.{keys_of}
 use Rattle.std.proofs.lemmas.Bool.{cases_eq}
-use Rattle.std.proofs.lemmas.List.{length-map}
+use Rattle.std.proofs.lemmas.List.{drop-append-le, take-append-le}
 use Rattle.r6_tables.specs.Table.{next_of}
 use Rattle.r6_world.specs.ShardStates as shards
 use Rattle.r6_world.specs.ShardStates.{Held}
@@ -18,12 +18,13 @@ use Rattle.r6_frames.specs.Calls.{KeepsOthers, Drives}
 use Rattle.r6_frames.specs.Owed.{owed, IsDriven, IsOver, IsLowestOver}
 use Rattle.r6_frames.specs.Sound as held
 use Rattle.r6_core.specs.declared.state.State.{State}
-use Rattle.r6_core.specs.Shards.{state_of, layout_in, requests_of, table, waiting_request, finished_request, released_request}
-use Rattle.r6_core.specs.Order.{IsRising, MayFinish}
+use Rattle.r6_core.specs.Shards.{core_of, state_of, layout_in, requests_of, table, waiting_request, replied_requests}
+use Rattle.r6_core.specs.Order.{IsRising, Finishes}
 use Rattle.r6_core.specs.Inside.{SameFrames, IsSound, IsSettled, IsRestedFrame, FinishesHeld, SameCalls, Seen}
 use Rattle.r6_frames.proofs.Held.{held_goes}
 use Rattle.r6_frames.proofs.Lists.{own, apart}
 use Rattle.r6_core.proofs.Passed.{all-append}
+use Rattle.r6_core.proofs.Replied.{length_replied}
 use Rattle.r6_core.proofs.Throughs.{through_both, through_in, through_of}
 use Rattle.r6_core.proofs.Going.{Goes, goes_still, drives_still, between_states, gone_sound, puts_out_on}
 
@@ -33,7 +34,7 @@ use Rattle.r6_core.proofs.Going.{Goes, goes_still, drives_still, between_states,
 held_there : (s : State) (frame : ℕ) (h : HeldRow) → IsSound s → hold_at s.frames.held.items frame ≡ Some h → table (requests_of s) (served_in h.job).id ≡ Some (held_request frame h).1
 held_there s frame h sound is =
     let w = map waiting_request s.waiting.items in
-    let rest = map (finished_request s.frames.saw_failed) s.finished.items ++ map released_request s.released.items in
+    let rest = replied_requests s.frames.saw_failed s.released s.replies.items in
     let place = held_goes 0 s.frames.held.items frame frame h Free is refl (omega arith) in
     let parts : requests_of s ≡ (w ++ place.before) ++ held_request frame h ∷ (place.behind ++ rest) =
     ap (λ es. w ++ (es ++ rest)) place.with ∙ (simp append_assoc) in
@@ -62,17 +63,23 @@ rising_behind [] last rising lower = (tt, tt)
 rising_behind (r ∷ rs) last rising lower =
     (all-append (λ other. r.id < other.id) rs (last ∷ []) rising.0 (lower.0, tt), rising_behind rs last rising.1 lower.1)
 
--- no more requests are finished than were accepted and not answered
-finished_few : (s : State) → IsSound s → length s.finished.items ≤ s.unanswered
-finished_few s sound =
+-- no more requests have a reply than were accepted and not answered
+replied_few : (s : State) → IsSound s → length s.replies.items ≤ s.unanswered
+replied_few s sound =
     let w = map waiting_request s.waiting.items in
-    let f = map (finished_request s.frames.saw_failed) s.finished.items in
-    let d = map released_request s.released.items in
-    let all = length-append w (held_requests s.frames ++ (f ++ d)) in
-    let held = length-append (held_requests s.frames) (f ++ d) in
-    let done = length-append f d in
-    let many = length-map s.finished.items (finished_request s.frames.saw_failed) in
-    omega (arith, all, held, done, many, sound.requests.counted)
+    let p = replied_requests s.frames.saw_failed s.released s.replies.items in
+    let all = length-append w (held_requests s.frames ++ p) in
+    let held = length-append (held_requests s.frames) p in
+    let many = length_replied s.frames.saw_failed s.released s.replies.items in
+    omega (arith, all, held, many, sound.requests.counted)
+
+-- more requests are finished, behind those that were, and none is released
+pub behind_finished : (old new : State) (more : List Request) → IsSound old → new.released ≡ old.released → new.replies.items ≡ old.replies.items ++ more
+    → ((core_of new).finished ≡ (core_of old).finished ++ more) × ((core_of new).released ≡ (core_of old).released)
+behind_finished old new more sound released items = (
+  (λ i. drop (released i) (items i)) ∙ drop-append-le old.released old.replies.items more sound.requests.marked,
+  (λ i. take (released i) (items i)) ∙ take-append-le old.released old.replies.items more sound.requests.marked,
+)
 
 -- ---- the loop
 
@@ -86,10 +93,10 @@ pub record IsSettling (old now : State) : Type 0 where
   pub calls : SameCalls old now
   pub unanswered : now.unanswered ≡ old.unanswered
   pub waiting : now.waiting ≡ old.waiting
-  pub released : now.released.items ≡ old.released.items
+  pub released : now.released ≡ old.released
   pub more : List Request
   pub rising : IsRising more
-  pub items : now.finished.items ≡ old.finished.items ++ more
+  pub items : now.replies.items ≡ old.replies.items ++ more
   pub lower : (frame : ℕ) (h : HeldRow) → IsOver now.frames frame → hold_at now.frames.held.items frame ≡ Some h → AreLower more (served_in h.job).id
 
 -- all commands that come next were put out
@@ -117,7 +124,7 @@ settling s fs goes drives sound live driven =
       released = refl;
       more = [];
       rising = tt;
-      items = sym (append-nil s.finished.items);
+      items = sym (append-nil s.replies.items);
       lower = λ frame h over is. tt;
     }
 
@@ -125,11 +132,11 @@ settling s fs goes drives sound live driven =
 module _ (old now new : State) (frame : ℕ) (before : IsSettling old now) (lowest : IsLowestOver now.frames frame)
     (sound : IsSound new) (live : AreLive new.frames) (leads : Through (layout_in now) now.frames.shard GoesOn (state_of now) (state_of new))
     (rests : IsRestedFrame new frame) (others : KeepsOthers now.frames frame new.frames) (same : SameFrames now new) (calls : SameCalls now new)
-    (order : Seen MayFinish now new) (ends : FinishesHeld now frame new) (unanswered : new.unanswered ≡ now.unanswered) (waiting : new.waiting ≡ now.waiting) where
+    (released : new.released ≡ now.released) (ends : FinishesHeld now frame new) (unanswered : new.unanswered ≡ now.unanswered) (waiting : new.waiting ≡ now.waiting) where
   abbrev h : HeldRow
   h = lowest.0.0
 
-  pub ended : (request : Request) × (request.id ≡ (served_in h.job).id) × (new.finished.items ≡ now.finished.items ++ request ∷ []) × (hold_at new.frames.held.items frame ≡ None)
+  pub ended : (request : Request) × (request.id ≡ (served_in h.job).id) × (new.replies.items ≡ now.replies.items ++ request ∷ []) × (hold_at new.frames.held.items frame ≡ None)
   ended = ends h lowest.0.1 lowest.0
 
   -- a hold that is over still was over before, in another frame
@@ -155,9 +162,6 @@ module _ (old now new : State) (frame : ℕ) (before : IsSettling old now) (lowe
         | inr ne ↦ λ i is. before.driven other i (sym (ap row_in (others other ne)) ∙ is)
       ]
 
-  released_on : new.released.items ≡ old.released.items
-  released_on = order.3 ∙ before.released
-
   pub settling_on : IsSettling old new
   settling_on =
       record {
@@ -171,10 +175,10 @@ module _ (old now new : State) (frame : ℕ) (before : IsSettling old now) (lowe
         calls = (calls.0 ∙ before.calls.0, calls.1 ∙ before.calls.1);
         unanswered = unanswered ∙ before.unanswered;
         waiting = waiting ∙ before.waiting;
-        released = released_on;
+        released = released ∙ before.released;
         more = before.more ++ ended.0 ∷ [];
         rising = rising_behind before.more ended.0 before.rising (subst (AreLower before.more) (sym ended.1) (before.lower frame h lowest.0 lowest.0.1));
-        items = ended.2 ∙ ap (λ rs. rs ++ ended.0 ∷ []) before.items ∙ append_assoc old.finished.items before.more (ended.0 ∷ []);
+        items = ended.2 ∙ ap (λ rs. rs ++ ended.0 ∷ []) before.items ∙ append_assoc old.replies.items before.more (ended.0 ∷ []);
         lower = λ other i over is.
             let was = still_over other i over is in
             let le = lowest.1 other h i was.1 lowest.0.1 was.2 in
@@ -183,11 +187,14 @@ module _ (old now new : State) (frame : ℕ) (before : IsSettling old now) (lowe
       }
 
   -- as many requests are still to be finished at most
-  pub fewer_left : new.unanswered - length new.finished.items < now.unanswered - length now.finished.items
+  pub fewer_left : new.unanswered - length new.replies.items < now.unanswered - length now.replies.items
   fewer_left =
-      let more = ap length ended.2 ∙ length-append now.finished.items (ended.0 ∷ []) in
-      let few = finished_few new sound in
+      let more = ap length ended.2 ∙ length-append now.replies.items (ended.0 ∷ []) in
+      let few = replied_few new sound in
       omega (arith, more, few, unanswered)
+
+pub settled_order : (old now : State) → IsSound old → IsSettling old now → Seen Finishes old now
+settled_order old now sound is = let both = behind_finished old now is.more sound is.released is.items in (is.more, is.rising, both.0, both.1)
 
 -- when none is over, all have rested
 pub settled : (old now : State) → IsSettling old now → ((frame : ℕ) → IsOver now.frames frame → ⊥) → IsSettled now

@@ -30,10 +30,10 @@ use Rattle.r6_frames.specs.Calls.{begun_for, Begins, Drives, PutsOut, IsFreeFram
 use Rattle.r6_frames.specs.Owed.{owed, IsDriven, IsOver}
 use Rattle.r6_frames.specs.Slots.{states_of, count_out}
 use Rattle.r6_frames.specs.Sound as held
-use Rattle.r6_core.specs.Shards.{state_of, rest_of, layout_in, requests_of, waiting_request, finished_request, released_request, table}
+use Rattle.r6_core.specs.Shards.{state_of, rest_of, layout_in, requests_of, waiting_request, replied_requests, table}
 use Rattle.r6_core.specs.Refusals.{limit, most_unanswered}
 use Rattle.r6_core.specs.Order.{start_of, Starts}
-use Rattle.r6_core.specs.Inside.{CanStart, CannotStart, HasFreedOne, IsFirstToStart, IsSound, IsSettled, IsRestedFrame, NoMoreCanStart, count_untold, bound, ended_requests}
+use Rattle.r6_core.specs.Inside.{CanStart, CannotStart, HasFreedOne, IsFirstToStart, IsSound, IsSettled, IsRestedFrame, NoMoreCanStart, count_untold, bound}
 use Rattle.r6_core.proofs.Waking.{row_stays, one_more}
 use Rattle.r6_frames.proofs.Lists.{Entries}
 use Rattle.r6_frames.proofs.Held.{put_own}
@@ -171,12 +171,12 @@ module _ (s : State) (before : List Entered) (request : Entered) (behind : List 
       → Passed (requests_of s) (requests_of (with_frames s rest new)) request.id (record { op = op_of request.op; stage = Waiting }) (record { op = op_of request.op; stage = Held frame })
   requests_started distinct =
       let to = is.begins.requests in
-      let tail : Entries Request = map (finished_request s.frames.saw_failed) s.finished.items ++ map released_request s.released.items in
+      let tail : Entries Request = replied_requests s.frames.saw_failed s.released s.replies.items in
       let first : Entries Request = map waiting_request before in
       let last : Entries Request = map waiting_request behind in
       let waiting : Entries Request = map waiting_request rest in
       let tail_same : requests_of (with_frames s rest new) ≡ waiting ++ (held_requests new ++ tail) =
-      ap (λ (b : Bool). waiting ++ (held_requests new ++ (map (finished_request b) s.finished.items ++ map released_request s.released.items))) unfailed_same in
+      ap (λ (b : Bool). waiting ++ (held_requests new ++ replied_requests b s.released s.replies.items)) unfailed_same in
       passed first (last ++ ((to.before ++ to.behind) ++ tail)) ((first ++ last) ++ to.before) (to.behind ++ tail) request.id _ _ _ _
       ((λ i. map waiting_request (is.items i) ++ (to.without i ++ tail))
       ∙ ap (λ (es : Entries Request). es ++ ((to.before ++ to.behind) ++ tail)) (map-append waiting_request before (request ∷ behind)) ∙ (simp append_assoc))
@@ -260,12 +260,12 @@ module _ (s : State) (before : List Entered) (request : Entered) (behind : List 
             counted = requests.count ∙ sound.requests.counted;
             few = sound.requests.few;
             waiting = requests_kept s.frames new rest geometry_same shard_same (all-middle (IsRequestOf s.frames) before request behind (subst (λ rs. AllByRecursion (IsRequestOf s.frames) rs) is.items sound.requests.waiting)).1;
-            sized = sizes_kept s.frames.geometry new.geometry (ended_requests s) geometry_same sound.requests.sized;
+            sized = sizes_kept s.frames.geometry new.geometry s.replies.items geometry_same sound.requests.sized;
+            marked = sound.requests.marked;
           };
           room = record {
             waiting = sound.room.waiting;
-            finished = sound.room.finished;
-            released = sound.room.released;
+            replies = sound.room.replies;
             calls = sound.room.calls;
             few_calls = few_still sound;
           };

@@ -1,5 +1,5 @@
 -- What is true of a state between calls, and what internal calls do. No public clause needs it.
-use Rattle.std.specs.Prelude.{◌≡◌, ℕ, ◌+◌, ◌*◌, ◌<◌, ◌≤◌, nat_eq, nat_lt, if◌then◌else◌, false, List, [], ◌∷◌, ◌++◌, length, map, IsPermutation, Option, Some, None, Result}
+use Rattle.std.specs.Prelude.{◌≡◌, ℕ, ◌+◌, ◌*◌, ◌<◌, ◌≤◌, nat_eq, Bool, true, false, List, [], ◌∷◌, ◌++◌, length, map, IsPermutation, Option, Some, None, Result}
 use Rattle.std.specs.List.{AllByRecursion, IsDistinct}
 use Rattle.std.specs.Map.{keys_of}
 use Rattle.r6_tables.specs.Table.{next_of}
@@ -9,8 +9,11 @@ use Rattle.r6_world.specs.ShardStates as shards
 use Rattle.r6_world.specs.Changes.{Change, after, Allowed}
 use Rattle.r6_world.specs.Steps as steps
 use Rattle.r6_world.specs.Steps.{Through, GoesOn, Takes}
+use Rattle.r6_frames.specs.declared.op.Op.{Op}
 use Rattle.r6_frames.specs.declared.op.Request.{Request}
 use Rattle.r6_core.specs.declared.call.Call.{Call}
+use Rattle.r6_core.specs.declared.reply.Reply.{Reply}
+use Rattle.r6_core.specs.declared.reply.Reply.TheVariants as reply
 use Rattle.r6_core.specs.declared.refusal.DeviceFault.{DeviceFault}
 use Rattle.r6_core.specs.declared.refusal.Refusal.{Refusal}
 use Rattle.r6_core.specs.declared.scan.Freed.{Freed}
@@ -19,14 +22,14 @@ use Rattle.r6_core.specs.declared.state.State.{State}
 use Rattle.r6_frames.specs.declared.frames.Frames.{Frames}
 use Rattle.r6_frames.specs.declared.frames.HeldRow.{HeldRow}
 use Rattle.r6_frames.specs.Slots.{count_out}
-use Rattle.r6_frames.specs.Views.{op_of, served_in, held_requests, hold_at, AreLive}
+use Rattle.r6_frames.specs.Views.{op_of, buffer_of, served_in, held_requests, hold_at, AreLive}
 use Rattle.r6_frames.specs.Calls.{Between, HasOneBlock, IsAwaited, IsFreeFrame, IsRequestOf, KeepsOthers, NotHeldBy}
 use Rattle.r6_frames.specs.Owed.{owed, IsDriven, IsOver}
 use Rattle.r6_frames.specs.Calls as frames
 use Rattle.r6_frames.specs.Sound as held
 use Rattle.r6_core.specs.Shards.{CoreView, SameShard, buffer_in, core_of, layout_in, requests_of, state_of}
 use Rattle.r6_core.specs.Refusals.{most_unanswered, limit, HasCompletionFault}
-use Rattle.r6_core.specs.Order.{Starts}
+use Rattle.r6_core.specs.Order.{Starts, reply_to}
 
 -- ---- a state, as callers see it
 
@@ -39,17 +42,14 @@ SameFrames old new = Seen SameShard old new
 
 -- ---- between calls
 
--- the requests that have ended, in the order in which they are answered
-abbrev pub ended_requests : State → List Request
-ended_requests s = s.released.items ++ s.finished.items
-
 pub record AreRequests (s : State) : Type 0 where
   pub distinct : IsDistinct nat_eq (keys_of (requests_of s))
   pub numbered : AllByRecursion (λ id. id < s.accepted) (keys_of (requests_of s))
   pub counted : length (requests_of s) ≡ s.unanswered
   pub few : s.unanswered ≤ most_unanswered
   pub waiting : AllByRecursion (IsRequestOf s.frames) s.waiting.items
-  pub sized : AllByRecursion (HasOneBlock s.frames.geometry) (ended_requests s)
+  pub sized : AllByRecursion (HasOneBlock s.frames.geometry) s.replies.items
+  pub marked : s.released ≤ length s.replies.items
 
 -- whether a call was taken whose answer isn't told
 abbrev pub count_untold : Option Call → ℕ
@@ -58,8 +58,7 @@ count_untold (Some taken) = 1
 
 pub record HasRoom (s : State) : Type 0 where
   pub waiting : s.waiting.capacity ≡ most_unanswered
-  pub finished : s.finished.capacity ≡ most_unanswered
-  pub released : s.released.capacity ≡ most_unanswered
+  pub replies : s.replies.capacity ≡ most_unanswered
   pub calls : s.calls.capacity ≡ 32
   -- each call declares another slot lost, which is out
   pub few_calls : length s.calls.items + count_untold s.untold ≤ count_out s.frames.slots s.frames.geometry.slots
@@ -147,11 +146,6 @@ SameCalls old new = (new.calls ≡ old.calls) × (new.untold ≡ old.untold)
 abbrev pub IsFresh : State → Type 0
 IsFresh s = (s.accepted ≡ 0) × (requests_of s ≡ []) × frames.IsAtStart s.frames × NoCalls s × (s.frames.saw_failed ≡ false)
 
--- the request goes where its number belongs
-abbrev pub inserted : Request → List Request → List Request
-inserted request [] = request ∷ []
-inserted request (other ∷ newer) = if nat_lt other.id request.id then other ∷ inserted request newer else request ∷ inserted other newer
-
 -- the request at the index starts, and the others keep their order
 abbrev pub StartsAt : State → (index : ℕ) → State → Type 0
 StartsAt old index new =
@@ -167,27 +161,40 @@ NoMoreCanStart old new = (request : Request) → CannotStart old.frames request 
 abbrev pub FinishesHeld : State → (frame : ℕ) → State → Type 0
 FinishesHeld old frame new =
     (h : HeldRow) → hold_at old.frames.held.items frame ≡ Some h → IsOver old.frames frame
-    → (request : Request) × (request.id ≡ (served_in h.job).id) × (new.finished.items ≡ old.finished.items ++ request ∷ []) × (hold_at new.frames.held.items frame ≡ None)
+    → (request : Request) × (request.id ≡ (served_in h.job).id) × (new.replies.items ≡ old.replies.items ++ request ∷ []) × (hold_at new.frames.held.items frame ≡ None)
 
--- the requests that aren't released, each with its number
+-- the reply to a request: its answer, if it is released, and else that the array has failed
+abbrev pub reply_for : (is_released : Bool) → Op → Reply
+reply_for true o = reply_to o
+reply_for false o = reply.ArrayFailed (buffer_of o)
+
+-- all that were finished are released, behind those that were
+abbrev pub ReleasesFinished : CoreView → CoreView → Type 0
+ReleasesFinished old new = (new.released ≡ old.released ++ old.finished) × (new.finished ≡ [])
+
+-- the requests with no reply, each with its number
 abbrev pub held_op : ℕ × shards.Request → ℕ × world.Op
 held_op entry = (entry.0, entry.1.op)
 
-abbrev pub unreleased : State → List (ℕ × world.Op)
-unreleased s =
-    map (λ r. (r.id, op_of r.op)) s.waiting.items ++ (map held_op (held_requests s.frames) ++ map (λ r. (r.id, op_of r.op)) s.finished.items)
+abbrev pub numbered_op : Request → ℕ × world.Op
+numbered_op request = (request.id, op_of request.op)
 
--- all requests that aren't released wait, and no row is held
+abbrev pub unreplied : State → List (ℕ × world.Op)
+unreplied s = map numbered_op s.waiting.items ++ map held_op (held_requests s.frames)
+
+-- all requests with no reply go behind those that have one: none waits, and no row is held
 pub record Gathers (old new : State) : Type 0 where
   pub frames : held.IsSound new.frames
   pub stopped : AreLive new.frames → ⊥
   pub none_held : (frame : ℕ) → hold_at new.frames.held.items frame ≡ None
-  pub none_finished : new.finished.items ≡ []
-  pub all : IsPermutation (unreleased old) (unreleased new)
-  pub sized : AllByRecursion (HasOneBlock new.frames.geometry) new.waiting.items
+  pub none_waiting : new.waiting.items ≡ []
+  pub more : List Request
+  pub replies : new.replies.items ≡ old.replies.items ++ more
+  pub all : IsPermutation (unreplied old) (map numbered_op more)
+  pub sized : AllByRecursion (HasOneBlock old.frames.geometry) more
   pub tokens : owed new.frames ≤ owed old.frames
   pub shard : Between (λ l n s s'. s' ≡ record s { frame = λ frame. None }) old.frames new.frames
-  pub room : (new.waiting.capacity ≡ old.waiting.capacity) × (new.finished.capacity ≡ old.finished.capacity)
+  pub room : (new.waiting.capacity ≡ old.waiting.capacity) × (new.replies.capacity ≡ old.replies.capacity)
   pub rest : (new.accepted ≡ old.accepted) × (new.unanswered ≡ old.unanswered) × (new.released ≡ old.released) × SameCalls old new
 
 -- why a completion is refused

@@ -11,7 +11,7 @@ use Rattle.r6_world.specs.ShardStates.{Command}
 use Rattle.r6_world.specs.Steps as steps
 use Rattle.r6_world.specs.Steps.{Event, Take_call}
 use Rattle.r6_world.specs.Worlds as worlds
-use Rattle.r6_world.specs.Worlds.{World, Devices, MayCome, Possible, Run, IsAnswer, as_made, next, started, shard_at_start}
+use Rattle.r6_world.specs.Worlds.{World, Devices, MayCome, Possible, Run, IsAnswer, as_made, next, started}
 use Rattle.r6_world.specs.Claims.{IsLawfulStart, IsQuiet, AllAnswered}
 use Rattle.r6_world.specs.Laws.{ShardHolds, ArrayHolds, Explained, AtEach, IsOfOutside, IsByAnyone, at_start}
 use Rattle.r6_world.specs.Sequential.{OneAtATime, FewOut, PlainThroughout}

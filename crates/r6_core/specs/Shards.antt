@@ -1,5 +1,5 @@
 -- Which shard of the world a core is, and its steps.
-use Rattle.std.specs.Prelude.{◌≡◌, ℕ, nat_eq, Bool, true, false, List, ◌++◌, map, slice_index_or, option_map, Option, Some, None, Result, Ok, Err}
+use Rattle.std.specs.Prelude.{◌≡◌, ℕ, nat_eq, Bool, true, false, List, ◌++◌, map, take, drop, slice_index_or, option_map, Option, Some, None, Result, Ok, Err}
 use Rattle.std.specs.Map.{lookup}
 use Rattle.r6_layout.specs.Shape.{Shape}
 use Rattle.r6_world.specs.PlainArray as world
@@ -46,11 +46,16 @@ finished_request saw_failed r = (r.id, record { op = op_of r.op; stage = ended_s
 abbrev pub released_request : Request → ℕ × shards.Request
 released_request r = (r.id, record { op = op_of r.op; stage = Released (answer_of r.op) })
 
--- the requests, each with its number: those that wait, are held, are finished and are released
+-- those with a reply, in the order of their replies: the first so many are released
+abbrev pub replied_requests : (saw_failed : Bool) → (released : ℕ) → List Request → List (ℕ × shards.Request)
+replied_requests saw_failed released replies =
+    map released_request (take released replies) ++ map (finished_request saw_failed) (drop released replies)
+
+-- the requests, each with its number: those that wait, are held, and have a reply
 abbrev pub requests_of : State → List (ℕ × shards.Request)
 requests_of s =
     map waiting_request s.waiting.items
-    ++ (held_requests s.frames ++ (map (finished_request s.frames.saw_failed) s.finished.items ++ map released_request s.released.items))
+    ++ (held_requests s.frames ++ replied_requests s.frames.saw_failed s.released s.replies.items)
 
 -- the request of a number in a list
 abbrev pub table : List (ℕ × shards.Request) → ℕ → Option shards.Request
@@ -90,8 +95,8 @@ core_of s =
       shape = s.frames.geometry;
       shard = s.frames.shard;
       waiting = s.waiting.items;
-      finished = s.finished.items;
-      released = s.released.items;
+      finished = drop s.released s.replies.items;
+      released = take s.released s.replies.items;
       unanswered = s.unanswered;
       inside = s;
     }

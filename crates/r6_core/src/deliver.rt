@@ -176,6 +176,7 @@ impl State {
         ensures same { SameFrames self.old self.new }
         ensures calls { SameCalls self.old self.new }
         ensures order { Seen MayFinish self.old self.new }
+        ensures released { self.new.released ≡ self.old.released }
         ensures ends { FinishesHeld self.old frame self.new }
         ensures freed { (result ≡ Freed.OneFrame) ⊎ ((result ≡ Freed.Nothing) × (self.new ≡ self.old)) }
         ensures unanswered { self.new.unanswered ≡ self.old.unanswered }
@@ -183,7 +184,7 @@ impl State {
     {
         match self.frames.finish(frame) {
             Some(request) => {
-                let Ok(()) = self.finished.try_push_back(request) else {
+                let Ok(()) = self.replies.try_push_back(request) else {
                     unreachable!()
                 };
                 Freed::OneFrame

@@ -1,7 +1,7 @@
 //! Looks at the register.
 
-ghost use Rattle.std.specs.Prelude.{◌≡◌, ◌++◌, ◌<◌, [], ℕ, length, drop, true, false, is_some, None, IfOk, IfErr, IfSome};
-ghost use Rattle.circular_buffer.specs.Buffer.{buffer};
+ghost use Rattle.std.specs.Prelude.{◌≡◌, ◌<◌, ◌≤◌, ℕ, length, take, drop, true, false, IsPermutation, is_some, None, IfOk, IfErr, IfSome};
+ghost use Rattle.std.specs.List.Sorted.{IsNonDecreasingBy};
 ghost use Rattle.r6_world.specs.Registers.{status_of};
 ghost use Rattle.r6_world.specs.ShardStates.{is_away};
 ghost use Rattle.r6_world.specs.Steps.{Look, Through, TakesOver};
@@ -11,7 +11,7 @@ ghost use Rattle.r6_frames.specs.Slots as slots;
 ghost use Rattle.r6_frames.specs.Slots.{states_of};
 ghost use Rattle.r6_core.specs.Shards.{Step, core_of, state_of, layout_in};
 ghost use Rattle.r6_core.specs.Order.{Agrees, SameReplies, FailsAll, LooksOn, HaveTurnsAfter};
-ghost use Rattle.r6_core.specs.Inside.{IsSound, IsSettled, IsCore, SameFrames, SameCalls, NoCalls, Seen, inserted, Gathers};
+ghost use Rattle.r6_core.specs.Inside.{IsSound, IsSettled, IsCore, SameFrames, SameCalls, NoCalls, Seen, ReleasesFinished, Gathers};
 
 use crate::refusal::Refusal;
 use crate::scan::Freed;
@@ -19,7 +19,6 @@ use crate::state::State;
 use circular_buffer::HeapCircularBuffer;
 use r6_frames::{Device, FRAMES, Request};
 use r6_health::{SlotState, Snapshot};
-use std::mem;
 
 impl State {
     /// Takes over what the register has of each slot. Then all finished requests are released, those too that a loss has
@@ -97,65 +96,41 @@ impl State {
     {
         self.frames.see_failure();
         self.gather();
-        while let Some(request) = self.waiting.pop_front() {
-            insert(&mut self.finished, request);
-        }
+        sort_behind(&mut self.replies, self.released);
     }
 
-    // All requests that aren't released wait.
+    // All requests with no reply go behind those that have one.
     fn gather(&mut self)
         requires sound { IsSound self.old }
         requires stopped { AreLive self.old.frames → ⊥ }
         ensures gathers { Gathers self.old self.new }
     {
-        while let Some(request) = self.finished.pop_front() {
-            let Ok(()) = self.waiting.try_push_back(request) else {
+        while let Some(request) = self.waiting.pop_front() {
+            let Ok(()) = self.replies.try_push_back(request) else {
                 unreachable!()
             };
         }
         for frame in 0..FRAMES {
             if let Some(request) = self.frames.give_up(frame) {
-                let Ok(()) = self.waiting.try_push_back(request) else {
+                let Ok(()) = self.replies.try_push_back(request) else {
                     unreachable!()
                 };
             }
         }
     }
 
-    // Releases all finished requests, in the order in which they finished.
+    // Releases all finished requests.
     fn release(&mut self)
         requires core { IsSettled self.old }
         requires unfailed { self.old.frames.saw_failed ≡ false }
         ensures core { IsSettled self.new }
         ensures released { state_of self.new ≡ after (layout_in self.old) (state_of self.old) Release }
-        ensures order { (self.new.released.items ≡ self.old.released.items ++ self.old.finished.items) × (self.new.finished.items ≡ []) }
+        ensures order { Seen ReleasesFinished self.old self.new }
         ensures unanswered { self.new.unanswered ≡ self.old.unanswered }
         ensures same { (self.new.frames ≡ self.old.frames) × SameCalls self.old self.new }
         ensures waiting { self.new.waiting ≡ self.old.waiting }
     {
-        for _ in 0..self.finished.len() {
-            self.release_one();
-        }
-    }
-
-    // Releases the request that finished first.
-    fn release_one(&mut self)
-        requires core { IsSettled self.old }
-        requires unfailed { self.old.frames.saw_failed ≡ false }
-        requires some { 0 < length self.old.finished.items }
-        ensures core { IsSettled self.new }
-        ensures finished { self.new.finished.items ≡ drop 1 self.old.finished.items }
-        ensures released { self.new.released.items ++ self.new.finished.items ≡ self.old.released.items ++ self.old.finished.items }
-        ensures waiting { self.new.waiting ≡ self.old.waiting }
-        ensures unanswered { self.new.unanswered ≡ self.old.unanswered }
-        ensures same { (self.new.frames ≡ self.old.frames) × (self.new.accepted ≡ self.old.accepted) × SameCalls self.old self.new }
-    {
-        let Some(request) = self.finished.pop_front() else {
-            unreachable!()
-        };
-        let Ok(()) = self.released.try_push_back(request) else {
-            unreachable!()
-        };
+        self.released = self.replies.len();
     }
 }
 
@@ -177,26 +152,13 @@ fn renewed(device: Device, status: SlotState) -> Option<Device>
     }
 }
 
-// Puts the request where its number belongs, in a queue that rises.
-fn insert(queue: &mut HeapCircularBuffer<Request>, request: Request)
-    requires room { length queue.old.items < queue.old.capacity }
-    ensures { queue.new ≡ buffer (inserted request queue.old.items) queue.old.capacity }
+// Sorts the requests from the index on by their numbers.
+fn sort_behind(queue: &mut HeapCircularBuffer<Request>, from: usize)
+    requires { from ≤ length queue.old.items }
+    ensures capacity { queue.new.capacity ≡ queue.old.capacity }
+    ensures before { take from queue.new.items ≡ take from queue.old.items }
+    ensures same { IsPermutation (drop from queue.old.items) (drop from queue.new.items) }
+    ensures sorted { IsNonDecreasingBy (λ request. request.id) (drop from queue.new.items) }
 {
-    let mut request = request;
-    for _ in 0..queue.len() {
-        let Some(first) = queue.pop_front() else {
-            unreachable!()
-        };
-        let lower = if first.id < request.id {
-            first
-        } else {
-            mem::replace(&mut request, first)
-        };
-        let Ok(()) = queue.try_push_back(lower) else {
-            unreachable!()
-        };
-    }
-    let Ok(()) = queue.try_push_back(request) else {
-        unreachable!()
-    };
+    queue.make_contiguous()[from..].sort_unstable_by_key(|request| request.id);
 }

@@ -2,12 +2,10 @@
 
 ghost use Rattle.std.specs.Prelude.{◌≡◌, ◌≤◌, ◌<◌, nat_lt, if◌then◌else◌, ℕ, MatchOption, IfOk, IfErr, IfSome, None, false};
 ghost use Rattle.r6_layout.specs.Shape.{IsShape};
-ghost use Rattle.r6_world.specs.Geometries.{layout_of};
 ghost use Rattle.r6_world.specs.Registers.{status_of};
-ghost use Rattle.r6_world.specs.Worlds.{shard_at_start, slot_at_start};
+ghost use Rattle.r6_world.specs.Worlds.{slot_at_start};
 ghost use Rattle.r6_world.specs.Steps.{No_command, No_call};
 ghost use Rattle.r6_core.specs.Shards.{Step, world_shard, devices_state, synced};
-ghost use Rattle.r6_core.specs.Order.{NoReplies};
 ghost use Rattle.r6_core.specs.Effects.{KeepsRequests, IsMade, Accepts, RefusesOp, Receives, RefusesCompletion, LooksAt, RefusesLook, IsCommandOf, HandsCommand, HandsCall, Hears, RefusesAnswer, HandsReply, HandsNoReply};
 
 use crate::call::Call;

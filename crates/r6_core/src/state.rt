@@ -11,9 +11,9 @@ ghost use Rattle.r6_frames.specs.Calls.{IsPlaceOf};
 ghost use Rattle.r6_frames.specs.Slots.{slot_before};
 ghost use Rattle.r6_core.specs.Shards.{Step, core_of, state_of, layout_in, reply_of, buffer_back};
 ghost use Rattle.r6_core.specs.Refusals.{HasSubmitFault, IsFirstFault, HasNone, submit_faults};
-ghost use Rattle.r6_core.specs.Order.{NoReplies, SameReplies, BringsBack, TakesFirst, HasNoReply, HaveTurns, reply_to};
+ghost use Rattle.r6_core.specs.Order.{NoReplies, SameReplies, BringsBack, TakesFirst, HasNoReply, HaveTurns};
 ghost use Rattle.r6_core.specs.Effects.{KeepsRequests, HandsCommand};
-ghost use Rattle.r6_core.specs.Inside.{IsSound, IsCore, IsFresh, SameCalls, SameFrames, Seen};
+ghost use Rattle.r6_core.specs.Inside.{IsSound, IsCore, IsFresh, SameCalls, SameFrames, Seen, reply_for};
 
 use crate::call::Call;
 use crate::refusal::{Refusal, Refused};
@@ -29,8 +29,7 @@ pub const UNANSWERED: usize = 256;
 /// Requests are refused from so many commands on.
 pub const LIMIT: u64 = 1 << 60;
 
-/// The state of a shard's core. An accepted request stands in one place: it waits, a row is held for it, it is finished, or
-/// its reply is released.
+/// The state of a shard's core. An accepted request stands in one place: it waits, a row is held for it, or it has a reply.
 #[derive(Drop)]
 pub(crate) struct State {
     /// How many requests were accepted so far.
@@ -39,10 +38,11 @@ pub(crate) struct State {
     pub unanswered: usize,
     /// From the oldest to the newest.
     pub waiting: HeapCircularBuffer<Request>,
-    /// In the order in which they finished. Once a look has seen that the array failed, these are answered so, from the
-    /// oldest to the newest, behind those that were released before.
-    pub finished: HeapCircularBuffer<Request>,
-    pub released: HeapCircularBuffer<Request>,
+    /// Those that are finished, in the order in which they finished. Once a look has seen that the array failed, those
+    /// behind the released ones are answered so, from the oldest to the newest.
+    pub replies: HeapCircularBuffer<Request>,
+    /// How many of the replies, from the first on, are released.
+    pub released: usize,
     /// To be made at the register, in this order.
     pub calls: HeapCircularBuffer<Call>,
     /// The call that was taken, until its answer is told.
@@ -69,8 +69,8 @@ impl State {
             accepted: 0,
             unanswered: 0,
             waiting: HeapCircularBuffer::with_capacity(alloc, UNANSWERED)?,
-            finished: HeapCircularBuffer::with_capacity(alloc, UNANSWERED)?,
-            released: HeapCircularBuffer::with_capacity(alloc, UNANSWERED)?,
+            replies: HeapCircularBuffer::with_capacity(alloc, UNANSWERED)?,
+            released: 0,
             calls: HeapCircularBuffer::with_capacity(alloc, MOST_SLOTS)?,
             untold: None,
             frames: Frames::new(alloc, geometry, shard, devices)?,
@@ -179,7 +179,7 @@ impl State {
         self.frames.take_command()
     }
 
-    /// Takes the reply that was released first.
+    /// Takes the reply that was released first. Once the array has failed, those that it answers so follow.
     pub(crate) fn take_reply(&mut self) -> Option<(OpId, Reply)>
         requires { IsCore self.old }
         ensures core { IsCore self.new }
@@ -195,59 +195,26 @@ impl State {
         ensures waiting { self.new.waiting ≡ self.old.waiting }
         ensures same { SameCalls self.old self.new }
     {
-        let Some(request) = self.released.pop_front() else {
-            return self.take_failure();
-        };
-        self.unanswered -= 1;
-        Some(answered(request))
-    }
-
-    // Takes the oldest reply that the array has failed.
-    fn take_failure(&mut self) -> Option<(OpId, Reply)>
-        requires core { IsCore self.old }
-        requires last { self.old.released.items ≡ [] }
-        ensures core { IsCore self.new }
-        ensures step { MatchOption result
-            (Step (core_of self.old) No_reply (core_of self.new))
-            (λ r. Step (core_of self.old) (Take_reply (r.0).0 (reply_of r.1)) (core_of self.new)) }
-        ensures first { MatchOption result
-            (HasNoReply (core_of self.old) × (self.new ≡ self.old))
-            (λ r. TakesFirst (core_of self.old) (r.0).0 r.1 (core_of self.new)) }
-        ensures buffer { IfSome result (λ r. BringsBack ((state_of self.old).request (r.0).0) r.1) }
-        ensures sized { IfSome result (λ r. length (buffer_back r.1) ≡ self.old.frames.geometry.block) }
-        ensures unanswered { IfSome result (λ _. self.new.unanswered + 1 ≡ self.old.unanswered) }
-        ensures waiting { self.new.waiting ≡ self.old.waiting }
-        ensures same { SameCalls self.old self.new }
-    {
-        if !self.frames.saw_failed() {
+        let is_released = self.released > 0;
+        if !is_released && !self.frames.saw_failed() {
             return None;
         }
-        let request = self.finished.pop_front()?;
+        let request = self.replies.pop_front()?;
+        self.released = self.released.saturating_sub(1);
         self.unanswered -= 1;
-        Some(failed(request))
+        Some(reply(request, is_released))
     }
 }
 
-// The answer to a request that was carried out.
-fn answered(request: Request) -> (OpId, Reply)
-    ensures { (((result.0).0) ≡ request.id) × (result.1 ≡ reply_to request.op) }
+// The reply to the request: its answer, if it is released, and else that the array has failed.
+fn reply(request: Request, is_released: bool) -> (OpId, Reply)
+    ensures { (((result.0).0) ≡ request.id) × (result.1 ≡ reply_for is_released request.op) }
 {
     let Request { id, op } = request;
-    let reply = match op {
-        Op::Read(_, buffer) => Reply::Data(buffer),
-        Op::Write(_, buffer) => Reply::Done(buffer),
+    let reply = match (op, is_released) {
+        (Op::Read(_, buffer), true) => Reply::Data(buffer),
+        (Op::Write(_, buffer), true) => Reply::Done(buffer),
+        (Op::Read(_, buffer), false) | (Op::Write(_, buffer), false) => Reply::ArrayFailed(buffer),
     };
     (OpId(id), reply)
-}
-
-// The answer to a request that wasn't answered when the array failed.
-fn failed(request: Request) -> (OpId, Reply)
-    ensures { (((result.0).0) ≡ request.id) × (result.1 ≡ Reply.ArrayFailed (buffer_of request.op)) }
-{
-    let Request { id, op } = request;
-    let buffer = match op {
-        Op::Read(_, buffer) => buffer,
-        Op::Write(_, buffer) => buffer,
-    };
-    (OpId(id), Reply::ArrayFailed(buffer))
 }

@@ -1,8 +1,9 @@
-use Rattle.std.proofs.Common.{ap}
+use Rattle.std.proofs.Common.{[], ◌∷◌, refl, ap, arith}
 use Rattle.r6_world.specs.Steps.{GoesOn}
 use Rattle.r6_frames.specs.declared.frames.Frames.{Frames}
 use Rattle.r6_core.specs.Shards.{layout_in, state_of}
 use Rattle.r6_core.proofs.Delivering.{freed, none_rested, ended_id, one_ends, ended_sound}
+use Rattle.r6_core.proofs.Settling.{behind_finished}
 use Rattle.r6_core.proofs.Throughs.{through_none}
 use Rattle.r6_core.proofs.state.State.finish.Goals as goal
 
@@ -20,6 +21,13 @@ returns-in-Ok-clause-leads c =
 pub returns-in-Ok-clause-rests : goal.returns-in-Ok-clause-rests
 returns-in-Ok-clause-rests c =
     none_rested c.finish.new.self c.args.frame (freed c.args.self.now.frames c.finish.new.self c.args.frame c.in-Some.request c.in-Some.ensures.ends)
+
+pub returns-in-Ok-clause-order : goal.returns-in-Ok-clause-order
+returns-in-Ok-clause-order c =
+    let one = c.in-Some.request ∷ [] in
+    let new = record c.args.self.now { frames = c.finish.new.self; replies = c.try_push_back.new.self } in
+    let both = behind_finished c.args.self.now new one c.requires.sound refl (ap (λ b. b.items) c.in-Ok.ensures.ok) in
+    (one, omega arith, both.0, both.1)
 
 pub returns-in-Ok-clause-ends : goal.returns-in-Ok-clause-ends
 returns-in-Ok-clause-ends c = λ h is over.

@@ -1,8 +1,10 @@
-use Rattle.std.proofs.Common.{◌≡◌, ◌+◌, ◌≤◌, drop, length, sym, ap, subst, ◌∙◌, arith}
+use Rattle.std.proofs.Common.{◌≡◌, ◌+◌, ◌∷◌, ◌≤◌, drop, length, sym, ap, subst, ◌∙◌, arith}
+use Rattle.circular_buffer.specs.Buffer.{Buffer}
+use Rattle.r6_frames.specs.declared.op.Request.{Request}
 use Rattle.r6_core.specs.declared.state.State.{State}
 use Rattle.r6_frames.specs.declared.frames.Frames.{Frames}
-use Rattle.r6_core.proofs.Inserting.{first_of}
-use Rattle.r6_core.proofs.Gathering.{IsGathering, gathering_none, gathering_finished, gathering_held, gathering_skips, gathered, waiting_room, some_finished, some_held}
+use Rattle.r6_core.proofs.Replies.{some_popped}
+use Rattle.r6_core.proofs.Gathering.{IsGathering, gathering_none, gathering_waiting, gathering_held, gathering_skips, gathered, replies_room, some_waits, some_held}
 use Rattle.r6_core.proofs.state.State.gather.Goals as goal
 use Rattle.r6_core.proofs.state.State.gather.Goals.{in-Some-give_up+in-Ok-try_push_back, in_default-give_up}
 
@@ -13,19 +15,18 @@ pub loop-request-preserved : goal.loop-request-preserved
 loop-request-preserved c =
     let mid = c.loop-request.self in
     let r = c.in-Some.request in
-    let first = first_of mid.finished.items r (sym c.pop_front.ensures.value ∙ c.in-Some.is) in
-    let pushed = c.in-Ok.ensures.ok in
     let popped = c.pop_front.ensures.items in
-    gathering_finished c.args.self.now mid r (drop 1 mid.finished.items) c.try_push_back.new.self c.pop_front.new.self c.loop-request.invariant first (ap (λ b. b.items) popped)
-    (ap (λ b. b.items) pushed) (ap (λ b. b.capacity) pushed) (ap (λ b. b.capacity) popped)
+    let first = some_popped mid.waiting.items r (sym c.pop_front.ensures.value ∙ c.in-Some.is) ∙ ap (λ (b : Buffer Request). r ∷ b.items) (sym popped) in
+    let pushed = c.in-Ok.ensures.ok in
+    gathering_waiting c.args.self.now mid 0 r c.loop-request.invariant c.try_push_back.new.self (ap (λ b. b.items) pushed) c.pop_front.new.self first
+    (ap (λ b. b.capacity) popped) (ap (λ b. b.capacity) pushed)
 
 pub unreachable-requires : goal.unreachable-requires
 unreachable-requires c =
     let mid = c.loop-request.self in
     let r = c.in-Some.request in
-    let inv = c.loop-request.invariant in
-    let first = first_of mid.finished.items r (sym c.pop_front.ensures.value ∙ c.in-Some.is) in
-    let room = waiting_room c.args.self.now mid c.requires.sound inv.all inv.waiting_room (some_finished mid r (drop 1 mid.finished.items) first) in
+    let first = some_popped mid.waiting.items r (sym c.pop_front.ensures.value ∙ c.in-Some.is) in
+    let room = replies_room c.args.self.now mid 0 c.requires.sound c.loop-request.invariant (some_waits mid r (drop 1 mid.waiting.items) first) in
     let no = c.in_default-try_push_back.ensures.variant.1 room in
     absurd (cc)
 
@@ -33,9 +34,8 @@ pub unreachable-requires-in_default-try_push_back-2 :
     goal.unreachable-requires-in_default-try_push_back-2
 unreachable-requires-in_default-try_push_back-2 c =
     let mid = c.loop-frame.self in
-    let inv = c.loop-frame.invariant.gathering in
     let gives = c.in-Some-give_up.ensures.gives in
-    let room = waiting_room c.args.self.now mid c.requires.sound inv.all inv.waiting_room (some_held mid _ c.loop-frame.frame c.in-Some-give_up.request gives.requests) in
+    let room = replies_room c.args.self.now mid c.loop-frame.frame c.requires.sound c.loop-frame.invariant.gathering (some_held mid _ c.loop-frame.frame c.in-Some-give_up.request gives.requests) in
     let no = c.in_default-try_push_back-2.ensures.variant.1 room in
     absurd (cc)
 
@@ -50,14 +50,14 @@ loop-frame-preserved c =
     elim c.match-give_up.branch [
       | in-Some-give_up+in-Ok-try_push_back w ↦
           let gives = w.in-Some-give_up.ensures.gives in
-          let waiting = w.try_push_back-in-Some-give_up.new.self in
+          let replies = w.try_push_back-in-Some-give_up.new.self in
           let pushed = w.in-Ok-try_push_back.ensures.ok in
-          let new : State = record mid { frames = fs; waiting = waiting } in
+          let new : State = record mid { frames = fs; replies = replies } in
           let is : IsGathering s new (count + 1) =
-          gathering_held s mid count w.in-Some-give_up.request fs waiting inv.gathering left.sound left.stopped gives left.others left.none left.owed.0 (ap (λ b. b.items) pushed) (ap (λ b. b.capacity) pushed) in
+          gathering_held s mid count w.in-Some-give_up.request inv.gathering replies (ap (λ b. b.items) pushed) fs left.sound left.stopped gives left.others left.none left.owed.0 (ap (λ b. b.capacity) pushed) in
           record {
             gathering = subst (λ (x : State). IsGathering s x (count + 1)) (sym w.self-is) is;
-            none_finished = ap (λ (x : State). x.finished.items) w.self-is ∙ inv.none_finished;
+            none_waiting = ap (λ (x : State). x.waiting.items) w.self-is ∙ inv.none_waiting;
           }
       | in_default-give_up w ↦
           let gives = w.in_default-give_up.ensures.gives in
@@ -65,7 +65,7 @@ loop-frame-preserved c =
           let is : IsGathering s mid (count + 1) = gathering_skips s mid count inv.gathering gives.0 in
           record {
             gathering = subst (λ (x : State). IsGathering s x (count + 1)) (sym stays) is;
-            none_finished = ap (λ (x : State). x.finished.items) stays ∙ inv.none_finished;
+            none_waiting = ap (λ (x : State). x.waiting.items) stays ∙ inv.none_waiting;
           }
     ]
 
@@ -73,4 +73,4 @@ pub returns : goal.returns
 returns c =
     let inv = c.loop-frame.invariant in
     let past : length c.loop-frame.self.frames.held.items ≤ c.loop-frame.frame = omega (arith, inv.gathering.frames.frames.count, c.loop-frame-test.false) in
-    record { gathers = gathered c.args.self.now c.loop-frame.self c.loop-frame.frame inv.gathering past inv.none_finished }
+    record { gathers = gathered c.args.self.now c.loop-frame.self c.loop-frame.frame inv.gathering past inv.none_waiting }

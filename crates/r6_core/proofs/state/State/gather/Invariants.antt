@@ -6,11 +6,11 @@ abbrev pub invariant-loop-request : goal.invariant-loop-request
 invariant-loop-request l = IsGathering l.initial.self l.self 0
 
 abbrev pub decreases-loop-request : goal.decreases-loop-request
-decreases-loop-request l = length l.self.finished.items
+decreases-loop-request l = length l.self.waiting.items
 
 abbrev pub invariant-loop-frame : goal.invariant-loop-frame
 invariant-loop-frame l =
     record {
       gathering : IsGathering l.fn.self l.self l.frame;
-      none_finished : l.self.finished.items ≡ [];
+      none_waiting : l.self.waiting.items ≡ [];
     }

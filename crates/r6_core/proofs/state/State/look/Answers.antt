@@ -1,6 +1,7 @@
 use Rattle.std.proofs.Common.{◌≡◌, Bool, true, false, Option, Some, None, is_some, length, refl, sym, ap, subst, ◌∙◌}
 use Rattle.std.specs.Prelude.{nat_eq}
 use Rattle.std.proofs.lemmas.Bool.{eqb-true}
+use Rattle.std.proofs.lemmas.List.{nil_from_length}
 use Rattle.r6_world.specs.Registers.{Snapshot}
 use Rattle.r6_core.specs.Shards.{layout_in, state_of, core_of}
 use Rattle.r6_core.specs.Order.{Agrees}
@@ -11,14 +12,13 @@ use Rattle.r6_frames.specs.declared.frames.Frames.{Frames}
 use Rattle.r6_frames.specs.Views.{AreLive}
 use Rattle.r6_core.specs.Inside.{CannotStart, HasFreed, IsSettled, NoCalls}
 use Rattle.r6_core.proofs.Scanned.{none_starts}
-use Rattle.r6_core.proofs.Releasing.{empty_of_length}
 use Rattle.r6_core.specs.declared.state.State.{State}
 use Rattle.r6_core.proofs.Looking.{HasSettled, settled_some, settled_none, failed_by-takes_over, failed_by-goes_on, looked, looked_failed, looked_stopped, looked_releases, looked_turns, stopped_turns}
 use Rattle.r6_core.proofs.state.State.look.Goals as goal
 use Rattle.r6_core.proofs.state.State.look.Goals.{then-went_out, else-went_out}
 
 told_of : (s : State) → nat_eq (length s.calls.items) 0 ≡ true → is_some s.untold ≡ false → NoCalls s
-told_of s empty none = (empty_of_length s.calls.items (eqb-true (length s.calls.items) 0 empty), none_of s.untold none)
+told_of s empty none = (nil_from_length s.calls.items (eqb-true (length s.calls.items) 0 empty), none_of s.untold none)
   where
     none_of : {X : Type 0} (o : Option X) → is_some o ≡ false → o ≡ None
     none_of None e = refl

@@ -4,4 +4,4 @@ use Rattle.r6_core.proofs.state.State.new.Goals as goal
 
 pub returns-clause-core : goal.returns-clause-core
 returns-clause-core c =
-    fresh_core _ refl refl c.in_ok-with_capacity.ensures c.in_ok-with_capacity-2.ensures c.in_ok-with_capacity-3.ensures c.in_ok-with_capacity-4.ensures refl c.in_ok-new.ensures.sound c.in_ok-new.ensures.start.0
+    fresh_core _ refl refl c.in_ok-with_capacity.ensures c.in_ok-with_capacity-2.ensures refl c.in_ok-with_capacity-3.ensures refl c.in_ok-new.ensures.sound c.in_ok-new.ensures.start.0

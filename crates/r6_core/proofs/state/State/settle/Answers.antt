@@ -1,4 +1,4 @@
-use Rattle.r6_core.proofs.Settling.{driven_goes, settling, settling_on, fewer_left, settled}
+use Rattle.r6_core.proofs.Settling.{driven_goes, settling, settling_on, fewer_left, settled, settled_order}
 use Rattle.r6_core.proofs.state.State.settle.Goals as goal
 
 pub loop-frame-init : goal.loop-frame-init
@@ -11,13 +11,16 @@ pub loop-frame-smaller : goal.loop-frame-smaller
 loop-frame-smaller c =
     let done = c.finish.ensures in
     fewer_left c.args.self.now c.loop-frame.self c.finish.new.self c.in-Some.frame c.loop-frame.invariant c.in-Some.ensures
-    done.sound done.live done.leads done.rests done.others done.same done.calls done.order done.ends done.unanswered done.waiting
+    done.sound done.live done.leads done.rests done.others done.same done.calls done.released done.ends done.unanswered done.waiting
 
 pub loop-frame-preserved : goal.loop-frame-preserved
 loop-frame-preserved c =
     let done = c.finish.ensures in
     settling_on c.args.self.now c.loop-frame.self c.finish.new.self c.in-Some.frame c.loop-frame.invariant c.in-Some.ensures
-    done.sound done.live done.leads done.rests done.others done.same done.calls done.order done.ends done.unanswered done.waiting
+    done.sound done.live done.leads done.rests done.others done.same done.calls done.released done.ends done.unanswered done.waiting
 
 pub returns-clause-core : goal.returns-clause-core
 returns-clause-core c = settled c.args.self.now c.loop-frame.self c.loop-frame.invariant c.in_default.ensures
+
+pub returns-clause-order : goal.returns-clause-order
+returns-clause-order c = settled_order c.args.self.now c.loop-frame.self c.requires c.loop-frame.invariant

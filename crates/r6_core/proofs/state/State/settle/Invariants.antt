@@ -7,4 +7,4 @@ invariant-loop-frame l = IsSettling l.fn.self l.self
 
 -- one more request is finished
 abbrev pub decreases-loop-frame : goal.decreases-loop-frame
-decreases-loop-frame l = l.self.unanswered - length l.self.finished.items
+decreases-loop-frame l = l.self.unanswered - length l.self.replies.items

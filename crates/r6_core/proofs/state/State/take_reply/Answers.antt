@@ -1,38 +1,71 @@
-use Rattle.std.proofs.Common.{◌≡◌, ◌∷◌, ℕ, length, sym, ap, subst, ◌∙◌}
+use Rattle.std.proofs.Common.{◌≡◌, [], ◌∷◌, ◌-◌, true, false, ℕ, drop, take, sym, ap, subst, ◌∙◌, arith}
+use Rattle.std.specs.Prelude.{nat_lt}
+use Rattle.std.proofs.lemmas.Bool.{ltb-false}
+use Rattle.std.proofs.lemmas.List.{drop_all, take_all}
 use Rattle.circular_buffer.specs.Buffer.{Buffer}
-use Rattle.r6_world.specs.ShardStates.{Released}
-use Rattle.r6_core.specs.Shards.{answer_of, buffer_back, reply_of, requests_of, table}
-use Rattle.r6_core.specs.Order.{BringsBack}
-use Rattle.r6_core.specs.declared.reply.Reply.{Reply}
-use Rattle.r6_core.proofs.Replies.{some_popped, reply_core, reply_step, reply_request, reply_as, reply_sized, brings_answer, buffer_answered}
+use Rattle.r6_frames.specs.declared.op.Request.{Request}
+use Rattle.r6_world.specs.Steps.{No_reply}
+use Rattle.r6_core.specs.Shards.{Step, reply_of, core_of}
+use Rattle.r6_core.specs.Inside.{IsSettled}
+use Rattle.r6_core.proofs.Known.{at_none}
+use Rattle.r6_core.proofs.Replies.{some_popped, none_popped, unpopped, no_reply, marked_by, reply_brings, reply_core, reply_first, reply_step}
 use Rattle.r6_core.proofs.state.State.take_reply.Goals as goal
+use Rattle.r6_core.proofs.state.State.take_reply.Goals.{else-not-is_released-via-then-not-is_released+else-not-saw_failed, else-not-is_released-via-else-not-is_released}
 
-is_first : (c : goal.After-answered) → c.args.self.now.released.items ≡ c.in-Some.request ∷ c.pop_front.new.self.items
+pub returns-then-not-saw_failed-clause-step : goal.returns-then-not-saw_failed-clause-step
+returns-then-not-saw_failed-clause-step c =
+    let s = c.args.self.now in
+    let none : s.released ≡ 0 = omega (arith, c.if-not-is_released.true) in
+    let unfailed = sym c.saw_failed.ensures ∙ c.if-not-saw_failed.true in
+    no_reply s (ap (λ n. take n s.replies.items) none, λ failed. absurd (cc))
+
+pub returns-in_err-request-clause-step : goal.returns-in_err-request-clause-step
+returns-in_err-request-clause-step c =
+    let s = c.args.self.now in
+    let none = sym c.pop_front.ensures.value ∙ c.in_err-request.was in
+    let empty = (none_popped s.replies.items none).0 in
+    at_none _ _ _ c.from_residual.ensures
+    (subst (λ (rest : Buffer Request). Step (core_of s) No_reply (core_of (record s { replies = rest }))) (sym (unpopped s.replies c.pop_front.new.self none c.pop_front.ensures.items))
+    (no_reply s (ap (take s.released) empty ∙ take_all s.released [] (omega arith), λ failed. ap (drop s.released) empty ∙ drop_all s.released [] (omega arith))))
+
+is_first : (c : goal.After-reply) → c.args.self.now.replies.items ≡ c.in_ok-request.request ∷ c.pop_front.new.self.items
 is_first c =
-    some_popped c.args.self.now.released.items c.in-Some.request (sym c.pop_front.ensures.value ∙ c.in-Some.is)
-    ∙ ap (λ (b : Buffer _). c.in-Some.request ∷ b.items) (sym c.pop_front.ensures.items)
+    some_popped c.args.self.now.replies.items c.in_ok-request.request (sym c.pop_front.ensures.value ∙ c.in_ok-request.was)
+    ∙ ap (λ (b : Buffer Request). c.in_ok-request.request ∷ b.items) (sym c.pop_front.ensures.items)
+
+-- one that isn't released has failed
+has_failed : (c : goal.After-reply) → nat_lt 0 c.args.self.now.released ≡ false → c.args.self.now.frames.saw_failed ≡ true
+has_failed c none =
+    let le = ltb-false 0 c.args.self.now.released none in
+    elim c.else-not-is_released.branch [
+      | else-not-is_released-via-then-not-is_released+else-not-saw_failed w ↦ sym w.saw_failed.ensures ∙ w.if-not-saw_failed.false
+      | else-not-is_released-via-else-not-is_released w ↦ absurd (omega (arith, le, w.if-not-is_released.false))
+    ]
 
 pub returns-clause-core : goal.returns-clause-core
 returns-clause-core c =
+    let s = c.args.self.now in
+    let core = reply_core s (nat_lt 0 s.released) c.in_ok-request.request c.pop_front.new.self c.requires.settled (is_first c) (marked_by s.released) (has_failed c)
+    (ap (λ (b : Buffer Request). b.capacity) c.pop_front.ensures.items) in
     record {
-      settled = reply_core c.args.self.now c.in-Some.request c.pop_front.new.self c.requires.settled (is_first c) (ap (λ (b : Buffer _). b.capacity) c.pop_front.ensures.items);
+      settled = subst (λ (n : ℕ). IsSettled (record s { replies = c.pop_front.new.self; released = n; unanswered = s.unanswered - 1 })) (sym c.saturating_sub-self.ensures) core;
       waits = c.requires.waits;
     }
 
 pub returns-clause-step : goal.returns-clause-step
 returns-clause-step c =
-    let step = reply_step c.args.self.now c.in-Some.request c.pop_front.new.self c.requires.settled.sound (is_first c) in
-    rw (c.answered.ensures.0, ap reply_of c.answered.ensures.1 ∙ reply_as c.in-Some.request.op) step
+    let s = c.args.self.now in
+    let step = reply_step s (nat_lt 0 s.released) c.in_ok-request.request c.pop_front.new.self c.requires.settled (is_first c) (marked_by s.released) (has_failed c) in
+    rw (c.saturating_sub-self.ensures, c.reply.ensures.0, ap reply_of c.reply.ensures.1) step
+
+pub returns-clause-first : goal.returns-clause-first
+returns-clause-first c =
+    let s = c.args.self.now in
+    let first = reply_first s (nat_lt 0 s.released) c.in_ok-request.request c.pop_front.new.self c.requires.settled (is_first c) (marked_by s.released) (has_failed c) in
+    rw (c.saturating_sub-self.ensures, c.reply.ensures.0, c.reply.ensures.1) first
 
 pub returns-clause-buffer : goal.returns-clause-buffer
 returns-clause-buffer c =
-    let s_table = table (requests_of c.args.self.now) in
-    let was = reply_request c.args.self.now c.in-Some.request c.pop_front.new.self c.requires.settled.sound (is_first c) in
-    let brings = brings_answer (s_table c.in-Some.request.id) c.in-Some.request.op (Released (answer_of c.in-Some.request.op)) was in
-    subst (λ (id : ℕ). BringsBack (s_table id) c.answered.result.1) (sym c.answered.ensures.0)
-    (subst (λ (reply : Reply). BringsBack (s_table c.in-Some.request.id) reply) (sym c.answered.ensures.1) brings)
-
-pub returns-clause-sized : goal.returns-clause-sized
-returns-clause-sized c =
-    ap length (ap buffer_back c.answered.ensures.1 ∙ buffer_answered c.in-Some.request.op)
-    ∙ (reply_sized c.args.self.now c.in-Some.request c.pop_front.new.self (is_first c) c.requires.settled.sound.requests.sized).0
+    let s = c.args.self.now in
+    let brings = reply_brings s (nat_lt 0 s.released) c.in_ok-request.request c.pop_front.new.self c.requires.settled (is_first c) (marked_by s.released) (has_failed c) in
+    rw (c.reply.ensures.0, c.reply.ensures.1) brings
