@@ -5,7 +5,7 @@ ghost use Rattle.std.specs.List.{list_any};
 ghost use Rattle.r6_stripe.specs.Checks.{IsClassAfter, IsEnd};
 ghost use Rattle.r6_stripe.specs.Holds.{cell_at, MayEnd};
 ghost use Rattle.r6_stripe.specs.Holds.Kind.{Idle};
-ghost use Rattle.r6_stripe.specs.Plans.{outcome_of};
+ghost use Rattle.r6_stripe.specs.Plans.{is_out, outcome_of};
 ghost use Rattle.r6_stripe.specs.Sound.{IsTask};
 ghost use Rattle.r6_stripe.specs.Steps.{Held, begun_held, PutsOut, answered, lost, closed, has_outcome, IsKnownAs, IsUnknown, is_away};
 ghost use Rattle.r6_stripe.specs.Views.{kind_of, kind_of_task};
@@ -93,6 +93,8 @@ impl Hold {
         requires size { length buffer ≡ self.old.planned.hold.size }
         ensures answered { self.new ≡ record (answered self.old position buffer) { class = self.new.class } }
         ensures class { IsClassAfter self.new.planned.hold self.old.class self.new.class }
+        ensures late { is_out (cell_at self.old.planned.hold.cells position).standing ≡ true
+            → self.new.class ≡ self.old.class }
     {
         self.state.answer(position, buffer);
         self.state.classify();
