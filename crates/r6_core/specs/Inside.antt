@@ -29,7 +29,7 @@ use Rattle.r6_frames.specs.Calls as frames
 use Rattle.r6_frames.specs.Sound as held
 use Rattle.r6_core.specs.Shards.{CoreView, SameShard, buffer_in, core_of, layout_in, requests_of, state_of}
 use Rattle.r6_core.specs.Refusals.{most_unanswered, limit, HasCompletionFault}
-use Rattle.r6_core.specs.Order.{Starts, reply_to}
+use Rattle.r6_core.specs.Order.{Starts, HaveTurns, KeepsReplies, reply_to}
 
 -- ---- a state, as callers see it
 
@@ -39,6 +39,14 @@ Seen Related old new = Related (core_of old) (core_of new)
 
 abbrev pub SameFrames : State → State → Type 0
 SameFrames old new = Seen SameShard old new
+
+-- the shard goes there by changes of this kind
+abbrev pub Leads : (Change → Type 0) → State → State → Type 0
+Leads Kind old new = Through (layout_in old) old.frames.shard Kind (state_of old) (state_of new)
+
+-- those that waited have their turns
+abbrev pub WaitingHaveTurns : State → State → Type 0
+WaitingHaveTurns old new = HaveTurns (core_of old) (state_of old) old.waiting.items (core_of new)
 
 -- ---- between calls
 
@@ -141,6 +149,14 @@ NoCalls s = (s.calls.items ≡ []) × (s.untold ≡ None)
 
 abbrev pub SameCalls : State → State → Type 0
 SameCalls old new = (new.calls ≡ old.calls) × (new.untold ≡ old.untold)
+
+-- the shard stays the shard that it is; what waited waits, and as many requests are unanswered
+abbrev pub KeepsWaiting : State → State → Type 0
+KeepsWaiting old new = SameFrames old new × (new.waiting ≡ old.waiting) × (new.unanswered ≡ old.unanswered)
+
+-- the shard stays the shard that it is, with its calls and its replies
+abbrev pub OnlyStarts : State → State → Type 0
+OnlyStarts old new = SameFrames old new × SameCalls old new × Seen KeepsReplies old new
 
 -- nothing was accepted, and nothing put out
 abbrev pub IsFresh : State → Type 0

@@ -1,14 +1,14 @@
 //! Completions of commands, and losses that they tell of.
 
 ghost use Rattle.std.specs.Prelude.{◌≡◌, ◌⊎◌, ℕ, length, MatchOption, IfOk, IfErr};
-ghost use Rattle.r6_world.specs.Steps.{Deliver, Good, Error, Taken, Through, GoesOn};
+ghost use Rattle.r6_world.specs.Steps.{Deliver, Good, Error, Taken, GoesOn};
 ghost use Rattle.r6_frames.specs.Views.{AreLive};
 ghost use Rattle.r6_frames.specs.Calls.{IsAwaited, IsAbandoned, IsHeldFrame, KeepsOthers};
 ghost use Rattle.r6_frames.specs.Owed.{IsDriven};
-ghost use Rattle.r6_core.specs.Shards.{Step, core_of, state_of, layout_in, completion_of, receipt_of};
+ghost use Rattle.r6_core.specs.Shards.{Step, core_of, completion_of, receipt_of};
 ghost use Rattle.r6_core.specs.Refusals.{IsFirstFault, HasNone, deliver_faults};
 ghost use Rattle.r6_core.specs.Order.{MayFinish, Finishes, FinishesBy, HaveTurnsBehind};
-ghost use Rattle.r6_core.specs.Inside.{IsSound, IsSettled, IsCore, IsRestedFrame, HasFault, HasFreed, FinishesHeld, SameCalls, SameFrames, Seen, TakesThrough};
+ghost use Rattle.r6_core.specs.Inside.{IsSound, IsSettled, IsCore, IsRestedFrame, HasFault, HasFreed, FinishesHeld, KeepsWaiting, Leads, SameCalls, Seen, TakesThrough};
 
 use crate::call::Call;
 use crate::refusal::{DeviceFault, Receipt, Refusal, Refused};
@@ -45,16 +45,18 @@ impl State {
     ) -> Result<Receipt, Refused<Result<Buffer, DeviceFault>>>
         requires { IsCore self.old }
         ensures core { IsCore self.new }
-        ensures step { IfOk result (λ receipt.
-            Step (core_of self.old) (Deliver token (completion_of completion) (receipt_of receipt)) (core_of self.new)) }
+        ensures step { IfOk result (λ receipt. Step (core_of self.old)
+            (Deliver token (completion_of completion) (receipt_of receipt)) (core_of self.new)) }
         ensures right { IfOk result (λ _. HasNone (HasFault self.old token completion) deliver_faults) }
         ensures refused { IfErr result (λ r.
-            (self.new ≡ self.old) × (r.back ≡ completion) × IsFirstFault (HasFault self.old token completion) deliver_faults r.refusal) }
+            (self.new ≡ self.old) × (r.back ≡ completion)
+            × IsFirstFault (HasFault self.old token completion) deliver_faults r.refusal) }
 
         // holds go on, and what waited has its turn
         ensures order { IfOk result (λ _. Seen (FinishesBy completion) self.old self.new) }
         ensures unanswered { self.new.unanswered ≡ self.old.unanswered }
-        ensures turns { IfOk result (λ receipt. HaveTurnsBehind (core_of self.old) token completion receipt (core_of self.new)) }
+        ensures turns { IfOk result (λ receipt.
+            HaveTurnsBehind (core_of self.old) token completion receipt (core_of self.new)) }
     {
         if let Some(refusal) = self.fault(token, &completion) {
             return Err(Refused {
@@ -74,11 +76,9 @@ impl State {
         ensures settled { IsSettled self.new }
         ensures freed { HasFreed result.1 self.new }
         ensures takes { TakesThrough self.old token (completion_of completion) (receipt_of result.0) self.new }
-        ensures same { SameFrames self.old self.new }
+        ensures keeps { KeepsWaiting self.old self.new }
         ensures order { Seen (FinishesBy completion) self.old self.new }
-        ensures unanswered { self.new.unanswered ≡ self.old.unanswered }
         ensures others { IfOk completion (λ _. (frame : ℕ) × KeepsOthers self.old.frames frame self.new.frames) }
-        ensures waiting { self.new.waiting ≡ self.old.waiting }
     {
         if self.frames.is_abandoned(token) {
             let buffer = match completion {
@@ -106,11 +106,9 @@ impl State {
         ensures settled { IsSettled self.new }
         ensures freed { HasFreed result self.new }
         ensures takes { TakesThrough self.old token (Good buffer) Taken self.new }
-        ensures same { SameFrames self.old self.new }
+        ensures keeps { KeepsWaiting self.old self.new }
         ensures order { Seen MayFinish self.old self.new }
-        ensures unanswered { self.new.unanswered ≡ self.old.unanswered }
         ensures others { (frame : ℕ) × KeepsOthers self.old.frames frame self.new.frames }
-        ensures waiting { self.new.waiting ≡ self.old.waiting }
     {
         let frame = self.frames.answer(token, buffer);
         self.frames.drive(frame);
@@ -125,10 +123,8 @@ impl State {
         requires size { length buffer ≡ self.old.frames.geometry.block }
         ensures core { IsSettled self.new }
         ensures takes { TakesThrough self.old token Error Taken self.new }
-        ensures same { SameFrames self.old self.new }
+        ensures keeps { KeepsWaiting self.old self.new }
         ensures order { Seen Finishes self.old self.new }
-        ensures unanswered { self.new.unanswered ≡ self.old.unanswered }
-        ensures waiting { self.new.waiting ≡ self.old.waiting }
     {
         let (slot, generation) = self.frames.lose(token, buffer);
         let Ok(()) = self
@@ -144,12 +140,10 @@ impl State {
     pub(crate) fn settle(&mut self)
         requires { IsSound self.old }
         ensures core { IsSettled self.new }
-        ensures leads { Through (layout_in self.old) self.old.frames.shard GoesOn (state_of self.old) (state_of self.new) }
-        ensures same { SameFrames self.old self.new }
+        ensures leads { Leads GoesOn self.old self.new }
+        ensures keeps { KeepsWaiting self.old self.new }
         ensures calls { SameCalls self.old self.new }
         ensures order { Seen Finishes self.old self.new }
-        ensures unanswered { self.new.unanswered ≡ self.old.unanswered }
-        ensures waiting { self.new.waiting ≡ self.old.waiting }
     {
         if !self.frames.is_live() {
             return;
@@ -168,19 +162,17 @@ impl State {
         requires driven { IsDriven self.old.frames frame }
         ensures sound { IsSound self.new }
         ensures live { AreLive self.new.frames }
-        ensures leads { Through (layout_in self.old) self.old.frames.shard GoesOn (state_of self.old) (state_of self.new) }
+        ensures leads { Leads GoesOn self.old self.new }
         ensures rests { IsRestedFrame self.new frame }
 
         // one request at most is finished, and nothing else changes
         ensures others { KeepsOthers self.old.frames frame self.new.frames }
-        ensures same { SameFrames self.old self.new }
+        ensures keeps { KeepsWaiting self.old self.new }
         ensures calls { SameCalls self.old self.new }
         ensures order { Seen MayFinish self.old self.new }
         ensures released { self.new.released ≡ self.old.released }
         ensures ends { FinishesHeld self.old frame self.new }
         ensures freed { (result ≡ Freed.OneFrame) ⊎ ((result ≡ Freed.Nothing) × (self.new ≡ self.old)) }
-        ensures unanswered { self.new.unanswered ≡ self.old.unanswered }
-        ensures waiting { self.new.waiting ≡ self.old.waiting }
     {
         match self.frames.finish(frame) {
             Some(request) => {

@@ -4,14 +4,14 @@ ghost use Rattle.std.specs.Prelude.{◌≡◌, ◌<◌, ◌≤◌, ℕ, length, 
 ghost use Rattle.std.specs.List.Sorted.{IsNonDecreasingBy};
 ghost use Rattle.r6_world.specs.Registers.{status_of};
 ghost use Rattle.r6_world.specs.ShardStates.{is_away};
-ghost use Rattle.r6_world.specs.Steps.{Look, Through, TakesOver};
+ghost use Rattle.r6_world.specs.Steps.{Look, TakesOver};
 ghost use Rattle.r6_world.specs.Changes.{Release, See_failed, after, adopted, differs};
 ghost use Rattle.r6_frames.specs.Views.{AreLive};
 ghost use Rattle.r6_frames.specs.Slots as slots;
 ghost use Rattle.r6_frames.specs.Slots.{states_of};
 ghost use Rattle.r6_core.specs.Shards.{Step, core_of, state_of, layout_in};
 ghost use Rattle.r6_core.specs.Order.{Agrees, SameReplies, FailsAll, LooksOn, HaveTurnsAfter};
-ghost use Rattle.r6_core.specs.Inside.{IsSound, IsSettled, IsCore, SameFrames, SameCalls, NoCalls, Seen, ReleasesFinished, Gathers};
+ghost use Rattle.r6_core.specs.Inside.{IsSound, IsSettled, IsCore, KeepsWaiting, Leads, SameFrames, SameCalls, NoCalls, Seen, ReleasesFinished, Gathers};
 
 use crate::refusal::Refusal;
 use crate::scan::Freed;
@@ -28,7 +28,8 @@ impl State {
         ensures core { IsCore self.new }
         ensures step { IfOk result (λ _. Step (core_of self.old) (Look snapshot.now) (core_of self.new)) }
         ensures told { IfOk result (λ _. NoCalls self.old) }
-        ensures refused { IfErr result (λ refusal. (self.new ≡ self.old) × (refusal ≡ Refusal.UntoldFirst) × (NoCalls self.old → ⊥)) }
+        ensures refused { IfErr result (λ refusal.
+            (self.new ≡ self.old) × (refusal ≡ Refusal.UntoldFirst) × (NoCalls self.old → ⊥)) }
 
         // what is finished is released, and what waited has its turn
         ensures order { IfOk result (λ _. LooksOn (core_of self.old) snapshot.now (core_of self.new)) }
@@ -62,17 +63,16 @@ impl State {
         requires sound { IsSound self.old }
         requires told { NoCalls self.old }
         ensures sound { IsSound self.new }
-        ensures takes { Through (layout_in self.old) self.old.frames.shard (TakesOver snapshot.now) (state_of self.old) (state_of self.new) }
-        ensures slots { (slot : ℕ) → slot < self.old.frames.geometry.slots → states_of self.new.frames.slots slot ≡ adopted (states_of self.old.frames.slots slot) (status_of snapshot.now slot) }
+        ensures takes { Leads (TakesOver snapshot.now) self.old self.new }
+        ensures slots { (slot : ℕ) → slot < self.old.frames.geometry.slots
+            → states_of self.new.frames.slots slot ≡ adopted (states_of self.old.frames.slots slot) (status_of snapshot.now slot) }
         ensures none { result ≡ false → (self.new ≡ self.old) × Agrees (core_of self.old) snapshot.now }
         ensures some { result ≡ true → Agrees (core_of self.old) snapshot.now → ⊥ }
 
         // nothing else changes
-        ensures same { SameFrames self.old self.new }
+        ensures keeps { KeepsWaiting self.old self.new }
         ensures calls { SameCalls self.old self.new }
         ensures order { Seen SameReplies self.old self.new }
-        ensures unanswered { self.new.unanswered ≡ self.old.unanswered }
-        ensures waiting { self.new.waiting ≡ self.old.waiting }
     {
         let mut went_out = false;
         for slot in 0..self.frames.geometry().slots() {
@@ -137,7 +137,8 @@ impl State {
 // What a slot has in place of its device, where the register has something else of it.
 fn renewed(device: Device, status: SlotState) -> Option<Device>
     ensures differs { is_some result ≡ differs (slots.state_of device) status }
-    ensures device { IfSome result (λ new. (slots.state_of new ≡ adopted (slots.state_of device) status) × (is_away (slots.state_of new) ≡ true)) }
+    ensures device { IfSome result (λ new.
+        (slots.state_of new ≡ adopted (slots.state_of device) status) × (is_away (slots.state_of new) ≡ true)) }
     ensures same { result ≡ None → adopted (slots.state_of device) status ≡ slots.state_of device }
 {
     match (device, status) {

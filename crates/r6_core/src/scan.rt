@@ -5,13 +5,11 @@ ghost use Rattle.std.specs.List.{AllByRecursion};
 ghost use Rattle.circular_buffer.specs.Buffer.{buffer};
 ghost use Rattle.r6_layout.specs.Layout as layout;
 ghost use Rattle.r6_world.specs.PlainArray as world;
-ghost use Rattle.r6_world.specs.Steps.{Through, Scans};
+ghost use Rattle.r6_world.specs.Steps.{Scans};
 ghost use Rattle.r6_frames.specs.Views.{op_of};
 ghost use Rattle.r6_frames.specs.Calls.{IsRequestOf, IsPlaceOf, NotHeldBy};
 ghost use Rattle.r6_frames.specs.Sound as held;
-ghost use Rattle.r6_core.specs.Shards.{core_of, state_of, layout_in};
-ghost use Rattle.r6_core.specs.Order.{HaveTurns, KeepsReplies};
-ghost use Rattle.r6_core.specs.Inside.{IsSettled, IsCore, NoneCanStart, CannotStart, CannotHold, CanHold, HasFreed, HasFreedOne, IsFirstToStart, StartsAt, NoMoreCanStart, SameFrames, SameCalls, Seen};
+ghost use Rattle.r6_core.specs.Inside.{IsSettled, IsCore, NoneCanStart, CannotStart, CannotHold, CanHold, HasFreed, HasFreedOne, IsFirstToStart, StartsAt, NoMoreCanStart, Leads, OnlyStarts, WaitingHaveTurns};
 
 use crate::state::State;
 use circular_buffer::HeapCircularBuffer;
@@ -36,11 +34,9 @@ impl State {
         requires settled { IsSettled self.old }
         requires freed { HasFreed freed self.old }
         ensures core { IsCore self.new }
-        ensures leads { Through (layout_in self.old) self.old.frames.shard Scans (state_of self.old) (state_of self.new) }
-        ensures turns { HaveTurns (core_of self.old) (state_of self.old) self.old.waiting.items (core_of self.new) }
-        ensures same { SameFrames self.old self.new }
-        ensures calls { SameCalls self.old self.new }
-        ensures replies { Seen KeepsReplies self.old self.new }
+        ensures leads { Leads Scans self.old self.new }
+        ensures turns { WaitingHaveTurns self.old self.new }
+        ensures only { OnlyStarts self.old self.new }
     {
         match freed {
             Freed::Nothing => {}
@@ -54,11 +50,9 @@ impl State {
         requires settled { IsSettled self.old }
         requires freed { HasFreedOne self.old }
         ensures core { IsCore self.new }
-        ensures leads { Through (layout_in self.old) self.old.frames.shard Scans (state_of self.old) (state_of self.new) }
-        ensures turns { HaveTurns (core_of self.old) (state_of self.old) self.old.waiting.items (core_of self.new) }
-        ensures same { SameFrames self.old self.new }
-        ensures calls { SameCalls self.old self.new }
-        ensures replies { Seen KeepsReplies self.old self.new }
+        ensures leads { Leads Scans self.old self.new }
+        ensures turns { WaitingHaveTurns self.old self.new }
+        ensures only { OnlyStarts self.old self.new }
     {
         if let Some((index, frame)) = self.first_to_start(0) {
             self.start(index, frame);
@@ -69,11 +63,9 @@ impl State {
     fn start_all(&mut self)
         requires { IsSettled self.old }
         ensures core { IsCore self.new }
-        ensures leads { Through (layout_in self.old) self.old.frames.shard Scans (state_of self.old) (state_of self.new) }
-        ensures turns { HaveTurns (core_of self.old) (state_of self.old) self.old.waiting.items (core_of self.new) }
-        ensures same { SameFrames self.old self.new }
-        ensures calls { SameCalls self.old self.new }
-        ensures replies { Seen KeepsReplies self.old self.new }
+        ensures leads { Leads Scans self.old self.new }
+        ensures turns { WaitingHaveTurns self.old self.new }
+        ensures only { OnlyStarts self.old self.new }
     {
         let mut from = 0;
         while let Some((index, frame)) = self.first_to_start(from) {
@@ -146,13 +138,11 @@ impl State {
         requires settled { IsSettled self.old }
         requires first { (from : ℕ) × IsFirstToStart self.old from index frame }
         ensures settled { IsSettled self.new }
-        ensures leads { Through (layout_in self.old) self.old.frames.shard Scans (state_of self.old) (state_of self.new) }
+        ensures leads { Leads Scans self.old self.new }
         ensures starts { StartsAt self.old index self.new }
         ensures no_more { NoMoreCanStart self.old self.new }
         ensures last { HasFreedOne self.old → NoneCanStart self.new }
-        ensures same { SameFrames self.old self.new }
-        ensures calls { SameCalls self.old self.new }
-        ensures replies { Seen KeepsReplies self.old self.new }
+        ensures only { OnlyStarts self.old self.new }
     {
         let request = take_at(&mut self.waiting, index);
         let place = self.place(&request);

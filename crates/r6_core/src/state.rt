@@ -29,7 +29,8 @@ pub const UNANSWERED: usize = 256;
 /// Requests are refused from so many commands on.
 pub const LIMIT: u64 = 1 << 60;
 
-/// The state of a shard's core. An accepted request stands in one place: it waits, a row is held for it, or it has a reply.
+/// The state of a shard's core. An accepted request stands in one place: it waits, a row is held for it, or it has a
+/// reply.
 #[derive(Drop)]
 pub(crate) struct State {
     /// How many requests were accepted so far.
@@ -61,7 +62,8 @@ impl State {
         requires limits { IsShape geometry }
         requires shard { shard < geometry.shards }
         ensures core { IfOk result IsCore }
-        ensures fresh { IfOk result (λ s. IsFresh s × (s.frames.geometry ≡ geometry) × (s.frames.shard ≡ shard) × (s.frames.slots ≡ map slot_before devices)) }
+        ensures fresh { IfOk result (λ s. IsFresh s × (s.frames.geometry ≡ geometry) × (s.frames.shard ≡ shard)
+            × (s.frames.slots ≡ map slot_before devices)) }
         ensures order { IfOk result (λ s. NoReplies (core_of s)) }
         ensures unanswered { IfOk result (λ s. s.unanswered ≡ 0) }
     {
@@ -112,7 +114,8 @@ impl State {
         ensures step { IfOk result (λ id. Step (core_of self.old) (Submit (op_of op) id.0) (core_of self.new)) }
         ensures right { IfOk result (λ _. HasNone (HasSubmitFault (core_of self.old) op) submit_faults) }
         ensures refused { IfErr result (λ r.
-            (self.new ≡ self.old) × (r.back ≡ op) × IsFirstFault (HasSubmitFault (core_of self.old) op) submit_faults r.refusal) }
+            (self.new ≡ self.old) × (r.back ≡ op)
+            × IsFirstFault (HasSubmitFault (core_of self.old) op) submit_faults r.refusal) }
 
         // what waited, and then the request, has its turn
         ensures order { IfOk result (λ _. Seen SameReplies self.old self.new) }
@@ -140,7 +143,8 @@ impl State {
         ensures allowed { Allowed (layout_in self.old) self.old.frames.shard (state_of self.old) (Accept (op_of op)) }
         ensures leads { Through (layout_in self.old) self.old.frames.shard Scans
             (after (layout_in self.old) (state_of self.old) (Accept (op_of op))) (state_of self.new) }
-        ensures turns { HaveTurns (core_of self.old) (after (layout_in self.old) (state_of self.old) (Accept (op_of op)))
+        ensures turns { HaveTurns (core_of self.old)
+            (after (layout_in self.old) (state_of self.old) (Accept (op_of op)))
             (self.old.waiting.items ++ (record { id = result; op = op }) ∷ []) (core_of self.new) }
         ensures same { SameFrames self.old self.new }
         ensures calls { SameCalls self.old self.new }

@@ -16,7 +16,9 @@ impl State {
     pub(crate) fn take_call(&mut self) -> Option<Call>
         requires { IsCore self.old }
         ensures core { IsCore self.new }
-        ensures step { MatchOption result (Step (core_of self.old) No_call (core_of self.new)) (λ call. HandsCall (core_of self.old) call (core_of self.new)) }
+        ensures step { MatchOption result
+            (Step (core_of self.old) No_call (core_of self.new))
+            (λ call. HandsCall (core_of self.old) call (core_of self.new)) }
         ensures kept { Seen KeepsRequests self.old self.new }
         ensures frames { self.new.frames ≡ self.old.frames }
     {
@@ -37,7 +39,8 @@ impl State {
         requires { IsCore self.old }
         ensures core { IsCore self.new }
         ensures step { IfOk result (λ _. Step (core_of self.old) (Told (call_of call) answer) (core_of self.new)) }
-        ensures refused { IfErr result (λ refusal. (self.new ≡ self.old) × (refusal ≡ Refusal.UnknownCall) × (self.old.untold ≢ Some call)) }
+        ensures refused { IfErr result (λ refusal.
+            (self.new ≡ self.old) × (refusal ≡ Refusal.UnknownCall) × (self.old.untold ≢ Some call)) }
         ensures known { IfOk result (λ _. self.old.untold ≡ Some call) }
         ensures kept { Seen KeepsRequests self.old self.new }
         ensures frames { self.new.frames ≡ self.old.frames }

@@ -32,4 +32,4 @@ returns-clause-freed c =
     let finish = c.finish.ensures in
     answered_freed c.args.self.now c.args.token c.args.buffer c.answer-frame.new.self c.drive.new.self c.requires.core.settled answer.sound answer.live answer.answers answer.requests answer.owed
     drive.sound drive.live drive.drives drive.requests drive.owed
-    c.finish.new.self c.answer-frame.result c.finish.result answer.others drive.others finish.others answer.rows drive.rows c.requires.core.waits drive.held finish.waiting finish.same finish.freed
+    c.finish.new.self c.answer-frame.result c.finish.result answer.others drive.others finish.others answer.rows drive.rows c.requires.core.waits drive.held finish.keeps.1 finish.keeps.0 finish.freed

@@ -7,14 +7,14 @@ pub returns-clause-step : goal.returns-clause-step
 returns-clause-step c =
     let take = c.take-receipt.ensures in
     let scan = c.start_waiting.ensures in
-    delivered c.args.self.now c.take-receipt.new.self c.start_waiting.new.self c.args.token (completion_of c.args.completion) (receipt_of c.take-receipt.result.0) take.takes take.same
-    scan.leads scan.same (at_rest c.start_waiting.new.self scan.core)
+    delivered c.args.self.now c.take-receipt.new.self c.start_waiting.new.self c.args.token (completion_of c.args.completion) (receipt_of c.take-receipt.result.0) take.takes take.keeps.0
+    scan.leads scan.only.0 (at_rest c.start_waiting.new.self scan.core)
 
 pub returns-clause-order : goal.returns-clause-order
-returns-clause-order c = finishes_on c.args.completion c.args.self.now c.take-receipt.new.self c.start_waiting.new.self c.take-receipt.ensures.order c.start_waiting.ensures.replies.0
+returns-clause-order c = finishes_on c.args.completion c.args.self.now c.take-receipt.new.self c.start_waiting.new.self c.take-receipt.ensures.order c.start_waiting.ensures.only.2.0
 
 pub returns-clause-turns : goal.returns-clause-turns
 returns-clause-turns c =
     let take = c.take-receipt.ensures in
-    turns_behind c.args.completion c.args.self.now c.take-receipt.new.self c.start_waiting.new.self c.args.token c.take-receipt.result.0 take.takes take.same take.others take.waiting
+    turns_behind c.args.completion c.args.self.now c.take-receipt.new.self c.start_waiting.new.self c.args.token c.take-receipt.result.0 take.takes take.keeps.0 take.others take.keeps.1
     c.start_waiting.ensures.turns

@@ -40,7 +40,7 @@ returns-then-failed-clause-step c =
     let mid = c.adopt-went_out.new.self in
     let fails = c.see_failure.ensures in
     looked_failed c.args.self.now mid c.see_failure.new.self c.args.snapshot.now
-    (record { told = told_of s (sym c.is_empty.ensures ∙ c.if-not-is_empty.false) (sym c.is_some.ensures ∙ c.if-is_some.false); takes = adopt.takes; slots = adopt.slots; same = adopt.same; order = adopt.order; waiting = adopt.waiting })
+    (record { told = told_of s (sym c.is_empty.ensures ∙ c.if-not-is_empty.false) (sym c.is_some.ensures ∙ c.if-is_some.false); takes = adopt.takes; slots = adopt.slots; same = adopt.keeps.0; order = adopt.order; waiting = adopt.keeps.1 })
     (sym c.failed.ensures ∙ c.if-failed.true) fails.same fails.fails
 
 pub returns-then-saw_failed-clause-step : goal.returns-then-saw_failed-clause-step
@@ -49,7 +49,7 @@ returns-then-saw_failed-clause-step c =
     let adopt = c.adopt-went_out.ensures in
     let mid = c.adopt-went_out.new.self in
     looked_stopped c.args.self.now mid c.args.snapshot.now
-    (record { told = told_of s (sym c.is_empty.ensures ∙ c.if-not-is_empty.false) (sym c.is_some.ensures ∙ c.if-is_some.false); takes = adopt.takes; slots = adopt.slots; same = adopt.same; order = adopt.order; waiting = adopt.waiting })
+    (record { told = told_of s (sym c.is_empty.ensures ∙ c.if-not-is_empty.false) (sym c.is_some.ensures ∙ c.if-is_some.false); takes = adopt.takes; slots = adopt.slots; same = adopt.keeps.0; order = adopt.order; waiting = adopt.keeps.1 })
     (sym c.failed.ensures ∙ c.if-failed.false) (sym c.saw_failed.ensures ∙ c.if-saw_failed.true)
 
 pub returns-then-saw_failed-clause-order : goal.returns-then-saw_failed-clause-order
@@ -90,13 +90,13 @@ returns-clause-step c =
       | then-went_out w ↦
           let settle = w.settle.ensures in
           subst (λ (x : State). HasSettled s mid x seen) (sym w.self-is)
-          (settled_some s mid w.settle.new.self seen (adopt.some w.if-went_out.true) settle.core settle.leads settle.same settle.order settle.unanswered settle.waiting)
+          (settled_some s mid w.settle.new.self seen (adopt.some w.if-went_out.true) settle.core settle.leads settle.keeps.0 settle.order settle.keeps.2 settle.keeps.1)
       | else-went_out w ↦ subst (λ (x : State). HasSettled s mid x seen) (sym w.self-is) (settled_none s mid seen (adopt.none w.if-went_out.false).0 c.requires.settled)
     ] in
     looked s mid c.if-went_out.self c.release.new.self c.start_waiting.new.self seen
-    (record { told = told_of s (sym c.is_empty.ensures ∙ c.if-not-is_empty.false) (sym c.is_some.ensures ∙ c.if-is_some.false); takes = adopt.takes; slots = adopt.slots; same = adopt.same; order = adopt.order; waiting = adopt.waiting })
+    (record { told = told_of s (sym c.is_empty.ensures ∙ c.if-not-is_empty.false) (sym c.is_some.ensures ∙ c.if-is_some.false); takes = adopt.takes; slots = adopt.slots; same = adopt.keeps.0; order = adopt.order; waiting = adopt.keeps.1 })
     (sym c.failed.ensures ∙ c.if-failed.false) done
-    (record { is = release.released; frames = release.same.0; leads = scan.leads; same = scan.same; core = scan.core })
+    (record { is = release.released; frames = release.same.0; leads = scan.leads; same = scan.only.0; core = scan.core })
 
 pub returns-clause-order : goal.returns-clause-order
 returns-clause-order c =
@@ -110,10 +110,10 @@ returns-clause-order c =
       | then-went_out w ↦
           let settle = w.settle.ensures in
           subst (λ (x : State). HasSettled s mid x seen) (sym w.self-is)
-          (settled_some s mid w.settle.new.self seen (adopt.some w.if-went_out.true) settle.core settle.leads settle.same settle.order settle.unanswered settle.waiting)
+          (settled_some s mid w.settle.new.self seen (adopt.some w.if-went_out.true) settle.core settle.leads settle.keeps.0 settle.order settle.keeps.2 settle.keeps.1)
       | else-went_out w ↦ subst (λ (x : State). HasSettled s mid x seen) (sym w.self-is) (settled_none s mid seen (adopt.none w.if-went_out.false).0 c.requires.settled)
     ] in
-    (λ failed. absurd (no_both _ failed unfailed), λ e was. looked_releases s mid c.if-went_out.self c.release.new.self c.start_waiting.new.self seen adopt.order done c.release.ensures.order c.start_waiting.ensures.replies.0, λ e was. absurd (no_both _ was (sym kept ∙ (sym c.saw_failed.ensures ∙ c.if-saw_failed.false))))
+    (λ failed. absurd (no_both _ failed unfailed), λ e was. looked_releases s mid c.if-went_out.self c.release.new.self c.start_waiting.new.self seen adopt.order done c.release.ensures.order c.start_waiting.ensures.only.2.0, λ e was. absurd (no_both _ was (sym kept ∙ (sym c.saw_failed.ensures ∙ c.if-saw_failed.false))))
 
 pub returns-then-saw_failed-clause-turns : goal.returns-then-saw_failed-clause-turns
 returns-then-saw_failed-clause-turns c =
@@ -121,7 +121,7 @@ returns-then-saw_failed-clause-turns c =
     let s = c.args.self.now in
     let mid = c.adopt-went_out.new.self in
     stopped_turns s mid c.args.snapshot.now
-    (record { told = told_of s (sym c.is_empty.ensures ∙ c.if-not-is_empty.false) (sym c.is_some.ensures ∙ c.if-is_some.false); takes = adopt.takes; slots = adopt.slots; same = adopt.same; order = adopt.order; waiting = adopt.waiting })
+    (record { told = told_of s (sym c.is_empty.ensures ∙ c.if-not-is_empty.false) (sym c.is_some.ensures ∙ c.if-is_some.false); takes = adopt.takes; slots = adopt.slots; same = adopt.keeps.0; order = adopt.order; waiting = adopt.keeps.1 })
     (sym c.saw_failed.ensures ∙ c.if-saw_failed.true) (stays s mid c.args.snapshot.now c.adopt-went_out.result adopt.some adopt.none)
 
 pub returns-clause-turns : goal.returns-clause-turns
@@ -134,14 +134,14 @@ returns-clause-turns c =
       | then-went_out w ↦
           let settle = w.settle.ensures in
           subst (λ (x : State). HasSettled s mid x seen) (sym w.self-is)
-          (settled_some s mid w.settle.new.self seen (adopt.some w.if-went_out.true) settle.core settle.leads settle.same settle.order settle.unanswered settle.waiting)
+          (settled_some s mid w.settle.new.self seen (adopt.some w.if-went_out.true) settle.core settle.leads settle.keeps.0 settle.order settle.keeps.2 settle.keeps.1)
       | else-went_out w ↦ subst (λ (x : State). HasSettled s mid x seen) (sym w.self-is) (settled_none s mid seen (adopt.none w.if-went_out.false).0 c.requires.settled)
     ] in
     let release = c.release.ensures in
     let scan = c.start_waiting.ensures in
     looked_turns s mid c.if-went_out.self c.release.new.self c.start_waiting.new.self seen
-    (record { told = told_of s (sym c.is_empty.ensures ∙ c.if-not-is_empty.false) (sym c.is_some.ensures ∙ c.if-is_some.false); takes = adopt.takes; slots = adopt.slots; same = adopt.same; order = adopt.order; waiting = adopt.waiting })
-    done (record { is = release.released; frames = release.same.0; leads = scan.leads; same = scan.same; core = scan.core })
+    (record { told = told_of s (sym c.is_empty.ensures ∙ c.if-not-is_empty.false) (sym c.is_some.ensures ∙ c.if-is_some.false); takes = adopt.takes; slots = adopt.slots; same = adopt.keeps.0; order = adopt.order; waiting = adopt.keeps.1 })
+    done (record { is = release.released; frames = release.same.0; leads = scan.leads; same = scan.only.0; core = scan.core })
     release.waiting scan.turns
 
 -- in a shard that has stopped none could start

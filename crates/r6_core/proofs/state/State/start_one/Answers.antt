@@ -13,7 +13,7 @@ returns-in-Some-clause-turns c =
     let new = c.start.new.self in
     let start = c.start.ensures in
     let next = is_next s 0 c.in-Some.index c.in-Some.frame new c.in-Some.ensures start.starts in
-    scanned_all s new c.in-Some.index (scanned_on s s new 0 c.in-Some.index (unscanned s c.requires.settled) next start.settled start.leads start.no_more start.same start.calls start.replies)
+    scanned_all s new c.in-Some.index (scanned_on s s new 0 c.in-Some.index (unscanned s c.requires.settled) next start.settled start.leads start.no_more start.only.0 start.only.1 start.only.2)
     (start.last c.requires.freed)
 
 pub returns-in_default-clause-turns : goal.returns-in_default-clause-turns
