@@ -13,7 +13,7 @@ use Rattle.r6_frames.specs.Views.{AreLive}
 use Rattle.r6_core.specs.Inside.{CannotStart, HasFreed, IsSettled, NoCalls}
 use Rattle.r6_core.proofs.Scanned.{none_starts}
 use Rattle.r6_core.specs.declared.state.State.{State}
-use Rattle.r6_core.proofs.Looking.{HasSettled, settled_some, settled_none, failed_by-takes_over, failed_by-goes_on, looked, looked_failed, looked_stopped, looked_releases, looked_turns, stopped_turns}
+use Rattle.r6_core.proofs.Looking.{TookOver, HasSettled, HasReleased, settled_some, settled_none, failed_by-takes_over, failed_by-goes_on, looked, looked_failed, looked_stopped, looked_releases, looked_turns, stopped_turns}
 use Rattle.r6_core.proofs.state.State.look.Goals as goal
 use Rattle.r6_core.proofs.state.State.look.Goals.{then-went_out, else-went_out}
 
@@ -78,43 +78,6 @@ release-requires-clause-unfailed c =
       | else-went_out w ↦ ap (λ (x : State). x.frames.saw_failed) w.self-is ∙ (sym c.saw_failed.ensures ∙ c.if-saw_failed.false)
     ]
 
-pub returns-clause-step : goal.returns-clause-step
-returns-clause-step c =
-    let adopt = c.adopt-went_out.ensures in
-    let s = c.args.self.now in
-    let mid = c.adopt-went_out.new.self in
-    let seen = c.args.snapshot.now in
-    let release = c.release.ensures in
-    let scan = c.start_waiting.ensures in
-    let done : HasSettled s mid c.if-went_out.self seen = elim c.if-went_out.branch [
-      | then-went_out w ↦
-          let settle = w.settle.ensures in
-          subst (λ (x : State). HasSettled s mid x seen) (sym w.self-is)
-          (settled_some s mid w.settle.new.self seen (adopt.some w.if-went_out.true) settle.core settle.leads settle.keeps.0 settle.order settle.keeps.2 settle.keeps.1)
-      | else-went_out w ↦ subst (λ (x : State). HasSettled s mid x seen) (sym w.self-is) (settled_none s mid seen (adopt.none w.if-went_out.false).0 c.requires.settled)
-    ] in
-    looked s mid c.if-went_out.self c.release.new.self c.start_waiting.new.self seen
-    (record { told = told_of s (sym c.is_empty.ensures ∙ c.if-not-is_empty.false) (sym c.is_some.ensures ∙ c.if-is_some.false); takes = adopt.takes; slots = adopt.slots; same = adopt.keeps.0; order = adopt.order; waiting = adopt.keeps.1 })
-    (sym c.failed.ensures ∙ c.if-failed.false) done
-    (record { is = release.released; frames = release.same.0; leads = scan.leads; same = scan.only.0; core = scan.core })
-
-pub returns-clause-order : goal.returns-clause-order
-returns-clause-order c =
-    let adopt = c.adopt-went_out.ensures in
-    let s = c.args.self.now in
-    let mid = c.adopt-went_out.new.self in
-    let seen = c.args.snapshot.now in
-    let unfailed = sym c.failed.ensures ∙ c.if-failed.false in
-    let kept : mid.frames.saw_failed ≡ s.frames.saw_failed = failed_by-takes_over seen (layout_in s) s.frames.shard (state_of s) (state_of mid) adopt.takes in
-    let done : HasSettled s mid c.if-went_out.self seen = elim c.if-went_out.branch [
-      | then-went_out w ↦
-          let settle = w.settle.ensures in
-          subst (λ (x : State). HasSettled s mid x seen) (sym w.self-is)
-          (settled_some s mid w.settle.new.self seen (adopt.some w.if-went_out.true) settle.core settle.leads settle.keeps.0 settle.order settle.keeps.2 settle.keeps.1)
-      | else-went_out w ↦ subst (λ (x : State). HasSettled s mid x seen) (sym w.self-is) (settled_none s mid seen (adopt.none w.if-went_out.false).0 c.requires.settled)
-    ] in
-    (λ failed. absurd (no_both _ failed unfailed), λ e was. looked_releases s mid c.if-went_out.self c.release.new.self c.start_waiting.new.self seen adopt.order done c.release.ensures.order c.start_waiting.ensures.only.2.0, λ e was. absurd (no_both _ was (sym kept ∙ (sym c.saw_failed.ensures ∙ c.if-saw_failed.false))))
-
 pub returns-then-saw_failed-clause-turns : goal.returns-then-saw_failed-clause-turns
 returns-then-saw_failed-clause-turns c =
     let adopt = c.adopt-went_out.ensures in
@@ -124,25 +87,61 @@ returns-then-saw_failed-clause-turns c =
     (record { told = told_of s (sym c.is_empty.ensures ∙ c.if-not-is_empty.false) (sym c.is_some.ensures ∙ c.if-is_some.false); takes = adopt.takes; slots = adopt.slots; same = adopt.keeps.0; order = adopt.order; waiting = adopt.keeps.1 })
     (sym c.saw_failed.ensures ∙ c.if-saw_failed.true) (stays s mid c.args.snapshot.now c.adopt-went_out.result adopt.some adopt.none)
 
-pub returns-clause-turns : goal.returns-clause-turns
-returns-clause-turns c =
+-- ---- a look at an array that hasn't failed
+
+took : (c : goal.After-start_waiting) → TookOver c.args.self.now c.adopt-went_out.new.self c.args.snapshot.now
+took c =
     let adopt = c.adopt-went_out.ensures in
+    record {
+      told = told_of c.args.self.now (sym c.is_empty.ensures ∙ c.if-not-is_empty.false) (sym c.is_some.ensures ∙ c.if-is_some.false);
+      takes = adopt.takes;
+      slots = adopt.slots;
+      same = adopt.keeps.0;
+      order = adopt.order;
+      waiting = adopt.keeps.1;
+    }
+
+went_on : (c : goal.After-start_waiting) → HasSettled c.args.self.now c.adopt-went_out.new.self c.if-went_out.self c.args.snapshot.now
+went_on c =
     let s = c.args.self.now in
     let mid = c.adopt-went_out.new.self in
     let seen = c.args.snapshot.now in
-    let done : HasSettled s mid c.if-went_out.self seen = elim c.if-went_out.branch [
+    let adopt = c.adopt-went_out.ensures in
+    elim c.if-went_out.branch [
       | then-went_out w ↦
           let settle = w.settle.ensures in
           subst (λ (x : State). HasSettled s mid x seen) (sym w.self-is)
           (settled_some s mid w.settle.new.self seen (adopt.some w.if-went_out.true) settle.core settle.leads settle.keeps.0 settle.order settle.keeps.2 settle.keeps.1)
       | else-went_out w ↦ subst (λ (x : State). HasSettled s mid x seen) (sym w.self-is) (settled_none s mid seen (adopt.none w.if-went_out.false).0 c.requires.settled)
-    ] in
+    ]
+
+released : (c : goal.After-start_waiting) → HasReleased c.adopt-went_out.new.self c.if-went_out.self c.release.new.self c.start_waiting.new.self
+released c =
     let release = c.release.ensures in
     let scan = c.start_waiting.ensures in
-    looked_turns s mid c.if-went_out.self c.release.new.self c.start_waiting.new.self seen
-    (record { told = told_of s (sym c.is_empty.ensures ∙ c.if-not-is_empty.false) (sym c.is_some.ensures ∙ c.if-is_some.false); takes = adopt.takes; slots = adopt.slots; same = adopt.keeps.0; order = adopt.order; waiting = adopt.keeps.1 })
-    done (record { is = release.released; frames = release.same.0; leads = scan.leads; same = scan.only.0; core = scan.core })
-    release.waiting scan.turns
+    record { is = release.released; frames = release.same.0; leads = scan.leads; same = scan.only.0; core = scan.core }
+
+pub returns-clause-step : goal.returns-clause-step
+returns-clause-step c =
+    looked c.args.self.now c.adopt-went_out.new.self c.if-went_out.self c.release.new.self c.start_waiting.new.self c.args.snapshot.now (took c) (sym c.failed.ensures ∙ c.if-failed.false) (went_on c) (released c)
+
+pub returns-clause-order : goal.returns-clause-order
+returns-clause-order c =
+    let s = c.args.self.now in
+    let mid = c.adopt-went_out.new.self in
+    let seen = c.args.snapshot.now in
+    let adopt = c.adopt-went_out.ensures in
+    let unfailed = sym c.failed.ensures ∙ c.if-failed.false in
+    let kept : mid.frames.saw_failed ≡ s.frames.saw_failed = failed_by-takes_over seen (layout_in s) s.frames.shard (state_of s) (state_of mid) adopt.takes in (
+      λ failed. absurd (no_both _ failed unfailed),
+      λ e was. looked_releases s mid c.if-went_out.self c.release.new.self c.start_waiting.new.self seen adopt.order (went_on c) c.release.ensures.order c.start_waiting.ensures.only.2.0,
+      λ e was. absurd (no_both _ was (sym kept ∙ (sym c.saw_failed.ensures ∙ c.if-saw_failed.false))),
+    )
+
+pub returns-clause-turns : goal.returns-clause-turns
+returns-clause-turns c =
+    looked_turns c.args.self.now c.adopt-went_out.new.self c.if-went_out.self c.release.new.self c.start_waiting.new.self c.args.snapshot.now (took c) (went_on c) (released c)
+    c.release.ensures.waiting c.start_waiting.ensures.turns
 
 -- in a shard that has stopped none could start
 pub returns-then-failed-clause-core : goal.returns-then-failed-clause-core
