@@ -1,5 +1,5 @@
 -- An entry goes from one part of a list to another.
-use Rattle.std.proofs.Common.{◌≡◌, ℕ, List, [], ◌∷◌, ◌++◌, length, map, refl, sym, ap, subst, ◌∙◌, Some, arith, length-append}
+use Rattle.std.proofs.Common.{◌≡◌, ℕ, List, [], ◌∷◌, ◌++◌, length, sym, ap, subst, ◌∙◌, Some, arith, length-append}
 use Rattle.std.specs.Prelude.{nat_eq}
 use Rattle.std.specs.List.{IsDistinct, AllByRecursion}
 use Rattle.std.specs.Map.{keys_of}
@@ -33,17 +33,9 @@ passed xs ys xs' ys' k r r' old new is becomes same distinct =
           subst (λ es. AllByRecursion P (keys_of es)) (sym becomes) (all_with P xs' k r' ys' parts.0 (subst (λ es. AllByRecursion P (keys_of es)) same parts.1));
     }
 
-pub map-append : {A B : Type 0} (f : A → B) (xs ys : List A) → map f (xs ++ ys) ≡ map f xs ++ map f ys
-map-append f [] ys = refl
-map-append f (x ∷ xs) ys = ap (λ zs. f x ∷ zs) (map-append f xs ys)
-
 pub all-append : {X : Type 0} (Fact : X → Type 0) (xs ys : List X) → AllByRecursion Fact xs → AllByRecursion Fact ys → AllByRecursion Fact (xs ++ ys)
 all-append Fact [] ys a b = b
 all-append Fact (x ∷ xs) ys a b = (a.0, all-append Fact xs ys a.1 b)
-
-pub all-parts : {X : Type 0} (Fact : X → Type 0) (xs ys : List X) → AllByRecursion Fact (xs ++ ys) → AllByRecursion Fact xs × AllByRecursion Fact ys
-all-parts Fact [] ys all = (tt, all)
-all-parts Fact (x ∷ xs) ys all = let parts = all-parts Fact xs ys all.1 in ((all.0, parts.0), parts.1)
 
 -- one among the others
 pub all-middle : {X : Type 0} (Fact : X → Type 0) (xs : List X) (y : X) (ys : List X) → AllByRecursion Fact (xs ++ y ∷ ys) → Fact y × AllByRecursion Fact (xs ++ ys)
