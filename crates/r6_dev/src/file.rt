@@ -167,7 +167,7 @@ impl<F: FileExt + Seek + Drop> BlockDevice for FileDevice<F> {
         }
         match self.file.read_exact_at(self.scratch.as_mut_slice(), offset) {
             Ok(()) => {
-                buffer.copy_from_slice(self.scratch.as_slice());
+                buffer.swap_with_vec(&mut self.scratch);
                 Ok(())
             }
             Err(_) => Err(Fault::ReadFault),

@@ -13,7 +13,7 @@ use Rattle.r6_engine.specs.declared.row.SlotFault.{SlotFault}
 -- the reader has room for a row of the array
 pub record Fits (shape : Shape) (reader : RowReader) : Type 0 where
   pub count : length reader.blocks ≡ shape.slots
-  pub long : block_length reader.blocks ≡ shape.block
+  pub long : (position : ℕ) → position < shape.slots → length (block_at reader.blocks position) ≡ shape.block
   pub block : length reader.block ≡ shape.block
 
 -- the blocks of a row, in row order

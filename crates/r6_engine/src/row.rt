@@ -56,7 +56,7 @@ impl RowReader {
         let there = read_part(parts, number, row, &mut self.block)?;
         if there {
             let position = geometry.position_at(row, slot);
-            self.blocks.set_block(position, self.block.as_slice());
+            self.blocks.swap_block(position, &mut self.block);
         }
         Ok(there)
     }

@@ -1,3 +1,4 @@
+use Rattle.std.proofs.Common.{◌<◌, arith}
 use Rattle.r6_engine.specs.Parts.{parts_of}
 use Rattle.r6_engine.proofs.RebuildLaws.{restored_row, source_fails}
 use Rattle.r6_engine.proofs.rebuild.restore_row.Goals as goal
@@ -13,5 +14,6 @@ pub returns-in-Ok-restore-clause-restored : goal.returns-in-Ok-restore-clause-re
 returns-in-Ok-restore-clause-restored g c =
     let told = g.D.BlockDevice.told in
     let read = c.in-Ok.ensures in
+    let some : 0 < c.args.geometry.now.slots = omega (arith, c.requires.target) in
     restored_row c.args.geometry.now (parts_of told c.args.parts.now) (parts_of told c.read_row.new.parts) c.args.row c.in-Ok.known
-    c.read_row.new.self.blocks c.restore.new.row read.limits read.room.count read.room.long read.read c.in-Ok-restore.ensures.restored
+    c.read_row.new.self.blocks c.restore.new.row read.limits read.room.count (read.room.long 0 some) read.read c.in-Ok-restore.ensures.restored

@@ -19,8 +19,8 @@ returns-then-there-clause-read g c =
     let block = c.read_part.new.block in
     let old = parts_of told c.args.parts.now in
     let new = parts_of told c.read_part.new.parts in
-    subst (λ (there : Bool). SlotRead shape old new row slot there before c.set_block.new.self) (sym c.if-there.true)
-    (slot_read shape old new row slot number position before c.set_block.new.self block c.slots.ensures.limits c.requires.row_within c.requires.slot_within c.requires.room.count
+    subst (λ (there : Bool). SlotRead shape old new row slot there before c.swap_block.new.self) (sym c.if-there.true)
+    (slot_read shape old new row slot number position before c.swap_block.new.self block c.slots.ensures.limits c.requires.row_within c.requires.slot_within c.requires.room.count
     at c.position_at-position.ensures.value
-    (c.set_block.ensures ∙ ap (slice_set before position) c.as_slice.ensures)
+    c.swap_block.ensures.row
     (subst (λ (there : Bool). PartRead old new number row there block) c.if-there.true c.in_ok-there.ensures.read))
