@@ -1,17 +1,20 @@
 -- Rows that are read and classified.
-use Rattle.std.proofs.Common.{◌≡◌, ◌≢◌, ◌⊎◌, ℕ, ◌+◌, ◌<◌, ◌≤◌, Bool, true, false, List, [], ◌∷◌, ◌++◌, length, get_or, set, is_some, Some, None, refl, sym, ap, subst, ◌∙◌, arith, ⊎_elim}
+use Rattle.std.proofs.Common.{◌≡◌, ◌≢◌, ◌⊎◌, ℕ, ◌+◌, ◌<◌, ◌≤◌, Bool, true, false, List, [], ◌∷◌, ◌++◌, length, get_or, set, take, is_some, Option, Some, None, refl, sym, ap, subst, ◌∙◌, arith, ⊎_elim}
+use Rattle.std.specs.Prelude.{IfSome}
 use Rattle.std.proofs.lemmas.Bool.{cases_eq, cases_lt, false≢true}
 use Rattle.std.proofs.lemmas.List.{get_or-set_same, get_or-set_other, length-append, length-set, get_or_append_left}
-use Rattle.std.proofs.Math.Seq.{get_or-append_seam}
+use Rattle.std.proofs.Math.Seq.{get_or-append_seam, take-append_seam}
 use Rattle.r6_layout.specs.Shape.{Shape}
 use Rattle.r6_layout.specs.Layout.{shard_of}
 use Rattle.r6_engine.specs.Parts.{Parts, OnlyRead, part_number}
 use Rattle.r6_engine.specs.Reports.{IsFinding, with_finding, with_row}
 use Rattle.r6_engine.specs.declared.report.Report.{Report}
-use Rattle.r6_engine.specs.Rows.{AreThere, Fits, HasAbsent, RowRead}
-use Rattle.r6_engine.specs.RowChecks.{AllFit, AreClassified, AreRead, IsClassified, IsRead}
+use Rattle.r6_engine.specs.Rows.{AreThere, Fits, HasAbsent, ReadFails, RowRead}
+use Rattle.r6_engine.specs.RowChecks.{AllFit, AreClassified, AreRead, HasRoom, IsBatchRead, IsClassified, IsRead}
+use Rattle.r6_engine.specs.declared.batch.BatchRead.{BatchRead}
+use Rattle.r6_engine.specs.declared.row.SlotFault.{SlotFault}
 use Rattle.r6_engine.specs.declared.row_check.RowCheck.{RowCheck}
-use Rattle.r6_engine.proofs.RowLaws.{all_tell_still, whole_row}
+use Rattle.r6_engine.proofs.RowLaws.{all_tell_still, read_fails_since, whole_row}
 use Rattle.r6_engine.proofs.ReportLaws.{Checked, checked_next, finding_since}
 
 pub is_read_since : (shape : Shape) (old now : Parts) (row : ℕ) (check : RowCheck) → OnlyRead old now → IsRead shape now row check → IsRead shape old row check
@@ -110,3 +113,38 @@ checked_in_batch shape started now row count index before after report other rea
     found shape now (row + index) (get_or before index other) check (are index other below) (classified.each index other within) in
     subst (λ (n : ℕ). Checked shape started n noted) place
     (checked_next shape started (row + index) report check.finding checked (finding_since shape started now (row + index) check.finding read finding))
+
+-- what was written to all of a batch is the batch
+pub written : (batch rest : List RowCheck) (count : ℕ) → count ≡ length batch → take count (batch ++ rest) ≡ batch
+written batch rest count all = ap (λ n. take n (batch ++ rest)) all ∙ take-append_seam batch rest
+
+-- the batch has room, and the first so many rows of it are these
+pub record IsInFront (shape : Shape) (parts : Parts) (row count : ℕ) (batch : List RowCheck) : Type 0 where
+  pub has_room : HasRoom shape batch
+  pub places : count ≤ length batch
+  pub are_read : AreRead shape parts row count batch
+
+pub in_front : (shape : Shape) (old new : Parts) (row count : ℕ) (before after : List RowCheck) (read : BatchRead)
+    → 0 < length before → count ≤ length before → IsBatchRead shape old new row count before after read
+    → IsInFront shape old row read.rows after
+in_front shape old new row count before after read some places is = record {
+  has_room = record { some = omega (arith, some, is.places); room = is.room };
+  places = omega (arith, places, is.rows, is.places);
+  are_read = is.are_read;
+}
+
+pub in_front_since : (shape : Shape) (old now : Parts) (row count : ℕ) (batch : List RowCheck) → OnlyRead old now
+    → IsInFront shape now row count batch → IsInFront shape old row count batch
+in_front_since shape old now row count batch read is = record {
+  has_room = is.has_room;
+  places = is.places;
+  are_read = are_read_since shape old now row count batch read is.are_read;
+}
+
+-- the fault that ended the batch is one of the parts as they were before
+pub fails_since : (shape : Shape) (old now : Parts) (row rows count : ℕ) (fault : Option SlotFault)
+    → OnlyRead old now → row + count ≤ shape.rows → IfSome fault (λ it. (rows < count) × ReadFails shape now (row + rows) it)
+    → IfSome fault (λ it. (row + rows < shape.rows) × ReadFails shape old (row + rows) it)
+fails_since shape old now row rows count None read within fails = fails
+fails_since shape old now row rows count (Some fault) read within fails =
+    (omega (arith, fails.0, within), read_fails_since shape old now (row + rows) fault read fails.1)

@@ -144,6 +144,17 @@ pub record Checked (shape : Shape) (parts : Parts) (row : ℕ) (report : Report)
   pub each_once : total report.counts ≡ row
   pub no_fault : report.fault ≡ None
 
+pub none_checked : (shape : Shape) (parts : Parts) (report : Report)
+    → report.counts ≡ counts_of [] → report.first ≡ None → report.fault ≡ None → Checked shape parts 0 report
+none_checked shape parts report counts first fault = record {
+  findings = [];
+  are = record { count = refl; each = λ row below. absurd (omega (arith, below)) };
+  counts = counts;
+  first = subst (IsFirstWrong []) (sym first) (λ row below. absurd (omega (arith, below)));
+  each_once = ap total counts;
+  no_fault = fault;
+}
+
 pub checked_next : (shape : Shape) (parts : Parts) (row : ℕ) (report : Report) (finding : Finding)
     → Checked shape parts row report → IsFinding shape parts row finding
     → Checked shape parts (row + 1) (record report { counts = with_finding report.counts finding; first = with_row report.first row finding })

@@ -1,20 +1,21 @@
 //! Many rows of the array, read one after another and classified in several threads.
 
-ghost use Rattle.std.specs.Prelude.{◌≡◌, ◌+◌, ◌*◌, ◌^◌, ◌<◌, ◌≤◌, length, IfOk, IfSome, None};
-ghost use Rattle.r6_engine.specs.Parts.{OnlyRead, parts_of};
-ghost use Rattle.r6_engine.specs.Rows.{ReadFails};
-ghost use Rattle.r6_engine.specs.RowChecks.{AllFit, AreClassified, AreRead, IsClassified};
+ghost use Rattle.std.specs.Prelude.{◌≡◌, ◌+◌, ◌*◌, ◌^◌, ◌<◌, ◌≤◌, length, IfOk};
+ghost use Rattle.std.specs.Thread.{IsSync};
+ghost use Rattle.r6_engine.specs.Parts.{parts_of};
+ghost use Rattle.r6_engine.specs.RowChecks.{AllFit, AreClassified, HasRoom, IsBatchRead, IsClassified};
 
 use crate::row::SlotFault;
 use crate::row_check::RowCheck;
 use r6_dev::BlockDevice;
 use r6_layout::Geometry;
+use rayon::join_mut;
 use rayon::prelude::*;
 use std::alloc::{AllocError, Global};
 use std::thread::Threads;
 
 // Bytes of the rows that are read before they are classified, and how many rows these are at most.
-const BATCH_BYTES: usize = 1 << 24;
+const BATCH_BYTES: usize = 1 << 22;
 
 const BATCH_ROWS: usize = 4096;
 
@@ -28,8 +29,7 @@ pub(crate) struct BatchRead {
 
 /// Room for the rows of a batch, of which there is one at least.
 pub(crate) fn new_batch(alloc: Global, geometry: &Geometry) -> Result<Vec<RowCheck>, AllocError>
-    ensures some { IfOk result (λ batch. 0 < length batch.items) }
-    ensures room { IfOk result (λ batch. AllFit geometry.now batch.items) }
+    ensures { IfOk result (λ batch. HasRoom geometry.now batch.items) }
 {
     let rows = BATCH_BYTES / (geometry.slots() * geometry.block());
     new_rows(
@@ -64,12 +64,7 @@ pub(crate) fn read_batch<D: BlockDevice>(
     requires bounded { geometry.now.rows < 2 ^ 64 }
     requires places { count ≤ length batch.old }
     requires room { AllFit geometry.now batch.old }
-    ensures room { AllFit geometry.now batch.new }
-    ensures rows { result.rows ≤ count }
-    ensures all { result.fault ≡ None → result.rows ≡ count }
-    ensures fails { IfSome result.fault (λ fault. (result.rows < count) × ReadFails geometry.now (parts_of D.told parts.old) (row + result.rows) fault) }
-    ensures only_read { result.fault ≡ None → OnlyRead (parts_of D.told parts.old) (parts_of D.told parts.new) }
-    ensures read { AreRead geometry.now (parts_of D.told parts.old) row result.rows batch.new }
+    ensures { IsBatchRead geometry.now (parts_of D.told parts.old) (parts_of D.told parts.new) row count batch.old batch.new result }
 {
     for index in 0..count {
         if let Err(fault) = batch[index].read(geometry, parts, row + index as u64) {
@@ -96,4 +91,41 @@ pub(crate) fn classify_batch<R: Threads + Sync>(rt: &R, batch: &mut [RowCheck])
             ensures { IsClassified check.old check.new }
         { check.classify() },
     );
+}
+
+/// Classifies rows that were read, while the calling thread reads so many others into another batch.
+pub(crate) fn classify_and_read<R: Threads + Sync, D: BlockDevice>(
+    rt: &R,
+    classified: &mut [RowCheck],
+    geometry: &Geometry,
+    parts: &mut [Option<D>],
+    row: u64,
+    count: usize,
+    batch: &mut [RowCheck],
+) -> BatchRead
+    requires parts { length parts.old ≡ geometry.now.shards * geometry.now.slots }
+    requires within { row + count ≤ geometry.now.rows }
+    requires bounded { geometry.now.rows < 2 ^ 64 }
+    requires places { count ≤ length batch.old }
+    requires room { AllFit geometry.now batch.old }
+    ensures classified { AreClassified classified.old classified.new }
+    ensures read { IsBatchRead geometry.now (parts_of D.told parts.old) (parts_of D.told parts.new) row count batch.old batch.new result }
+{
+    let (_, read) = join_mut(
+        rt,
+        &mut ||
+            requires { IsSync R.row }
+            ensures { AreClassified classified.entry.now classified.exit.now }
+        { classify_batch(rt, classified) },
+        &mut || -> BatchRead
+            requires parts { length parts.now ≡ geometry.now.shards * geometry.now.slots }
+            requires within { row + count ≤ geometry.now.rows }
+            requires bounded { geometry.now.rows < 2 ^ 64 }
+            requires places { count ≤ length batch.now }
+            requires room { AllFit geometry.now batch.now }
+            ensures { IsBatchRead geometry.entry.now (parts_of D.told parts.entry.now) (parts_of D.told parts.exit.now) row count
+                batch.entry.now batch.exit.now result }
+        { read_batch(geometry, parts, row, count, batch) },
+    );
+    read
 }

@@ -1,12 +1,12 @@
 //! Every row of an array, classified.
 
-ghost use Rattle.std.specs.Prelude.{◌≡◌, ◌*◌, ◌+◌, ◌<◌, ◌≤◌, ◌^◌, length, IfErr, IfOk, None};
+ghost use Rattle.std.specs.Prelude.{◌≡◌, ◌*◌, ◌+◌, ◌<◌, ◌≤◌, length, IfErr, IfOk, None};
 ghost use Rattle.r6_engine.specs.Parts.{OnlyRead, parts_of};
 ghost use Rattle.r6_engine.specs.Rows.{Fits};
 ghost use Rattle.r6_engine.specs.Reports.{IsReport};
-ghost use Rattle.r6_engine.specs.RowChecks.{AllFit};
+ghost use Rattle.r6_engine.specs.RowChecks.{HasRoom};
 
-use crate::batch::{classify_batch, new_batch, read_batch};
+use crate::batch::{BatchRead, classify_and_read, new_batch, read_batch};
 use crate::error::EngineError;
 use crate::report::{Report, RowFault};
 use crate::row::SlotFault;
@@ -15,6 +15,7 @@ use crate::watch::Watch;
 use r6_dev::BlockDevice;
 use r6_layout::Geometry;
 use std::alloc::Global;
+use std::mem;
 use std::thread::Threads;
 
 // A pass tells how far it has come each time it has gone over so many rows.
@@ -63,10 +64,10 @@ fn check_rows<D: BlockDevice>(
     report
 }
 
-/// As [`check_all`], with the same answer: rows are read in their order by the calling thread, a batch of them before each
-/// is classified, which several threads do. `watch` hears now and then how far it has come.
+/// As [`check_all`], with the same answer: the calling thread reads all rows in their order, a batch at a time, and
+/// meanwhile other threads classify the batch before. `watch` hears now and then how far it has come.
 ///
-/// Where no thread can be started the calling one classifies alone.
+/// Where no thread can be started the calling one classifies too.
 ///
 /// # Errors
 /// `NoMemory`.
@@ -82,51 +83,85 @@ pub fn verify<R: Threads + Sync, D: BlockDevice, W: Watch>(
     ensures kept { IfOk result (λ report. report.fault ≡ None → OnlyRead (parts_of D.told parts.old) (parts_of D.told parts.new)) }
     ensures err { IfErr result (λ error. error ≡ EngineError.NoMemory) }
 {
-    let mut batch = new_batch(alloc, geometry)?;
-    let report = verify_rows(rt, geometry, parts, batch.as_mut_slice(), watch);
+    let first = new_batch(alloc, geometry)?;
+    let second = new_batch(alloc, geometry)?;
+    let report = verify_rows(rt, geometry, parts, first, second, watch);
     watch.ended();
     Ok(report)
 }
 
+// The rows of the batch in front are classified while those that follow are read into the one behind.
 fn verify_rows<R: Threads + Sync, D: BlockDevice, W: Watch>(
     rt: &R,
     geometry: &Geometry,
     parts: &mut [Option<D>],
-    batch: &mut [RowCheck],
+    mut front: Vec<RowCheck>,
+    mut behind: Vec<RowCheck>,
     watch: &mut W,
 ) -> Report
     requires parts { length parts.old ≡ geometry.now.shards * geometry.now.slots }
-    requires some { 0 < length batch.old }
-    requires room { AllFit geometry.now batch.old }
+    requires front { HasRoom geometry.now front.items }
+    requires behind { HasRoom geometry.now behind.items }
     ensures report { IsReport geometry.now (parts_of D.told parts.old) result }
     ensures kept { result.fault ≡ None → OnlyRead (parts_of D.told parts.old) (parts_of D.told parts.new) }
 {
+    let rows = geometry.rows();
     let mut report = Report::new();
     let mut row = 0;
-    while row < geometry.rows() {
+    let count = count_of_rows(geometry, 0, front.len());
+    let mut read = read_batch(geometry, parts, 0, count, front.as_mut_slice());
+    while row < rows {
         if row % ROWS_A_WORD == 0 {
-            watch.passed(row, geometry.rows());
+            watch.passed(row, rows);
         }
-        let count = count_of_rows(geometry, row, batch.len());
-        let read = read_batch(geometry, parts, row, count, batch);
-        classify_batch(rt, batch);
+        let end = row + read.rows as u64;
+        let count = count_behind(geometry, &read, end, behind.len());
+        let next = classify_and_read(
+            rt,
+            front.as_mut_slice(),
+            geometry,
+            parts,
+            end,
+            count,
+            behind.as_mut_slice(),
+        );
         for index in 0..read.rows {
-            report.note(row + index as u64, batch[index].finding);
+            report.note(row + index as u64, front[index].finding);
         }
-        row += read.rows as u64;
         if let Some(SlotFault { slot, fault }) = read.fault {
-            report.fault = Some(RowFault { row, slot, fault });
+            report.fault = Some(RowFault {
+                row: end,
+                slot,
+                fault,
+            });
             return report;
         }
+        mem::swap(&mut front, &mut behind);
+        row = end;
+        read = next;
     }
     report
 }
 
+// How many rows are read behind a batch that ends at this row: none after a fault.
+fn count_behind(geometry: &Geometry, read: &BatchRead, end: u64, room: usize) -> usize
+    requires within { end ≤ geometry.now.rows }
+    requires some { 0 < room }
+    ensures some { read.now.fault ≡ None → end < geometry.now.rows → 0 < result }
+    ensures room { result ≤ room }
+    ensures within { end + result ≤ geometry.now.rows }
+{
+    match read.fault {
+        None => count_of_rows(geometry, end, room),
+        Some(_) => 0,
+    }
+}
+
 // How many rows the batch has that begins at this one: as many as there is room for, up to the next word.
 fn count_of_rows(geometry: &Geometry, row: u64, room: usize) -> usize
-    requires within { row < geometry.now.rows }
+    requires within { row ≤ geometry.now.rows }
     requires some { 0 < room }
-    ensures some { 0 < result }
+    ensures some { row < geometry.now.rows → 0 < result }
     ensures room { result ≤ room }
     ensures within { row + result ≤ geometry.now.rows }
 {

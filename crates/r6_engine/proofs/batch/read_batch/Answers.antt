@@ -8,12 +8,6 @@ use Rattle.r6_engine.proofs.batch.read_batch.Goals as goal
 pub overflow_add-row : goal.overflow_add-row
 overflow_add-row g c = omega (arith, c.requires.within, c.requires.bounded, c.loop-index-test.true, c.loop-index.auto.index-end)
 
-pub returns-in-Err-clause-room : goal.returns-in-Err-clause-room
-returns-in-Err-clause-room g c =
-    let within : c.loop-index.index < length c.loop-index.batch =
-    omega (arith, c.loop-index-test.true, c.loop-index.auto.index-end, c.requires.places, c.loop-index.invariant.count) in
-    all_fit_set c.args.geometry.now c.loop-index.batch c.loop-index.index c.read.new.self c.loop-index.invariant.room within c.read.ensures.room
-
 pub loop-index-preserved : goal.loop-index-preserved
 loop-index-preserved g c =
     let shape = c.args.geometry.now in

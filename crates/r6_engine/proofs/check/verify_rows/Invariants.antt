@@ -1,17 +1,26 @@
-use Rattle.std.proofs.Common.{◌≡◌, ◌+◌, ◌-◌, ◌≤◌, length}
+use Rattle.std.proofs.Common.{◌≡◌, ◌+◌, ◌-◌, ◌<◌, ◌≤◌, None}
+use Rattle.std.specs.Prelude.{IfSome}
 use Rattle.r6_engine.specs.Parts.{OnlyRead, parts_of}
-use Rattle.r6_engine.specs.RowChecks.{AllFit}
+use Rattle.r6_engine.specs.Rows.{ReadFails}
+use Rattle.r6_engine.specs.RowChecks.{HasRoom}
+use Rattle.r6_engine.proofs.CheckLaws.{IsInFront}
 use Rattle.r6_engine.proofs.ReportLaws.{Checked}
 use Rattle.r6_engine.proofs.check.verify_rows.Given as goal
 
 abbrev pub invariant-loop-row : goal.invariant-loop-row
-invariant-loop-row g l = record {
-  within : l.row ≤ l.geometry.rows;
-  count : length l.batch ≡ length l.fn.batch;
-  room : AllFit l.geometry l.batch;
-  only_read : OnlyRead (parts_of g.D.BlockDevice.told l.fn.parts) (parts_of g.D.BlockDevice.told l.parts);
-  checked : Checked l.geometry (parts_of g.D.BlockDevice.told l.fn.parts) l.row l.report;
-}
+invariant-loop-row g l =
+    let shape = l.geometry in
+    let started = parts_of g.D.BlockDevice.told l.fn.parts in
+    let end = l.row + l.read.rows in
+    record {
+      within : end ≤ shape.rows;
+      goes_on : l.row < shape.rows → l.read.fault ≡ None → 0 < l.read.rows;
+      front : IsInFront shape started l.row l.read.rows l.front.items;
+      behind : HasRoom shape l.behind.items;
+      fails : IfSome l.read.fault (λ fault. (end < shape.rows) × ReadFails shape started end fault);
+      only_read : l.read.fault ≡ None → OnlyRead started (parts_of g.D.BlockDevice.told l.parts);
+      checked : Checked shape started l.row l.report;
+    }
 
 abbrev pub decreases-loop-row : goal.decreases-loop-row
 decreases-loop-row g l = l.geometry.rows - l.row
