@@ -4,7 +4,7 @@ use Rattle.std.specs.Prelude.{◌≡◌, ◌≢◌, ◌⊎◌, ℕ, Bool, true, 
 use Rattle.std.specs.Io.KnownBytes.{Appends, Keeps}
 use Rattle.r6_command.specs.CommandLine.{Asked, geometry, create, verify, simulate, run}
 use Rattle.r6_dev.specs.declared.fault.Fault.TheVariants.{WriteFault}
-use Rattle.r6_engine.specs.Parts.{Parts}
+use Rattle.r6_engine.specs.Parts.{Parts, AreThoseNotLost}
 use Rattle.r6_engine.specs.Reports.{IsReport}
 use Rattle.r6_engine.specs.declared.report.Report.{Report}
 use Rattle.r6_layout.specs.Shape.{Shape}
@@ -92,10 +92,10 @@ HasCreated settings_text old new = (values : Values)
 abbrev pub HasReported : Shape → Report → (old new : Option Text) → Ending → Type 0
 HasReported shape report old new end = Appends old new (report_text shape report) × (end ≡ ending_of_report report)
 
--- every row was gone over and is counted, and the report was printed
+-- of the devices of the slots that aren't lost every row was gone over and is counted, and the report was printed
 abbrev pub HasVerified : (settings_text old new : Option Text) → Ending → Type 0
 HasVerified settings_text old new end = (values : Values) × (parts : Parts) × (report : Report)
-    × IfSome settings_text (λ text. settings_in true text ≡ Ok values)
+    × IfSome settings_text (λ text. settings_in true text ≡ Ok values) × AreThoseNotLost values.shape values.lost parts
     × IsReport values.shape parts report × (report.fault ≡ None) × HasReported values.shape report old new end
 
 abbrev pub EndsAs : Asked → (settings_text script_text old new : Option Text) → Ending → Type 0

@@ -1,4 +1,6 @@
+use Rattle.std.proofs.Common.{ℕ, List, sym, subst}
 use Rattle.std.proofs.lemmas.Result.{IfOk-weaker}
+use Rattle.r6_engine.specs.Parts.{AreThoseNotLost, parts_of, tells_nothing}
 use Rattle.r6_settings.specs.Settings.{values_of}
 use Rattle.r6_execute.specs.Commands.{HasReported, HasVerified}
 use Rattle.r6_execute.proofs.Verified.{verified}
@@ -11,6 +13,12 @@ returns-clause-ok g c =
     let new = g.W.Write.contents c.print_report.new.out in
     let values = values_of c.in_ok-config.config in
     let report = c.in_ok-report.report in
+    let opened : AreThoseNotLost values.shape values.lost (parts_of tells_nothing c.in_ok-parts.parts.items) =
+    subst (λ (lost : List ℕ). AreThoseNotLost values.shape lost (parts_of tells_nothing c.in_ok-parts.parts.items)) c.as_slice-2.ensures.value
+    c.in_ok-parts.ensures.absent in
+    let there : AreThoseNotLost values.shape values.lost (parts_of tells_nothing c.as_mut_slice.result.now) =
+    subst (λ items. AreThoseNotLost values.shape values.lost (parts_of tells_nothing items)) (sym c.as_mut_slice.ensures.value) opened in
     IfOk-weaker c.print_report.result (HasReported values.shape report old new) (HasVerified text old new)
-    (verified text old new values report c.in_ok-config.ensures.ok c.in_ok-report.ensures.report c.in-None.is)
+    (verified text old new values report c.in_ok-config.ensures.ok c.in_ok-report.ensures.report
+    there c.in-None.is)
     c.print_report.ensures.ok
