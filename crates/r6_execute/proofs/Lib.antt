@@ -1,3 +1,4 @@
 pub mod Writes
 mod Played
 mod Verified
+mod Stopped

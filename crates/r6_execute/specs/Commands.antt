@@ -1,6 +1,6 @@
 -- How a command ends, over the text of its settings file and that of its script where these are known. The
 -- commands are this project's own.
-use Rattle.std.specs.Prelude.{◌≡◌, ◌≢◌, ◌⊎◌, ℕ, Bool, true, false, List, codes, Option, None, Some, Ok, Err, IfSome}
+use Rattle.std.specs.Prelude.{◌≡◌, ◌≢◌, ◌⊎◌, ◌<◌, ℕ, Bool, true, false, List, length, codes, Option, None, Some, Ok, Err, IfSome}
 use Rattle.std.specs.Io.KnownBytes.{Appends, Keeps}
 use Rattle.r6_command.specs.CommandLine.{Asked, geometry, create, verify, simulate, run}
 use Rattle.r6_dev.specs.declared.fault.Fault.TheVariants.{WriteFault}
@@ -14,7 +14,7 @@ use Rattle.r6_settings.specs.Settings.{Values, settings_in}
 use Rattle.r6_execute.specs.declared.ending.Ending.{Ending}
 use Rattle.r6_execute.specs.declared.ending.Ending.TheVariants as ending
 use Rattle.r6_execute.specs.declared.fault.Fault.{Fault}
-use Rattle.r6_execute.specs.declared.fault.Fault.TheVariants.{NotBuilt, Unreadable, Settings, Script, Device, Output, Memory, Thread}
+use Rattle.r6_execute.specs.declared.fault.Fault.TheVariants.{NotBuilt, Unreadable, Settings, Script, Device, Output, Memory}
 use Rattle.r6_execute.specs.declared.fault.Input.TheVariants as input
 use Rattle.r6_execute.specs.Layouts.{layout_text}
 use Rattle.r6_execute.specs.Reports.{created_text, report_text}
@@ -47,18 +47,17 @@ IsRunFault Output = Unit {0}
 IsRunFault Memory = Unit {0}
 IsRunFault _ = ⊥
 
--- a device file is there already, or can't be made
-abbrev pub IsMakingFault : Fault → Type 0
-IsMakingFault (Device slot fault) = fault ≡ WriteFault
-IsMakingFault Memory = Unit {0}
-IsMakingFault _ = ⊥
+-- the file of a slot of the array is there already, or can't be made
+abbrev pub IsMakingFault : Values → Fault → Type 0
+IsMakingFault values (Device slot fault) = (slot < length values.devices) × (fault ≡ WriteFault)
+IsMakingFault values Memory = Unit {0}
+IsMakingFault values _ = ⊥
 
--- a device file can't be opened or read
-abbrev pub IsReadingFault : Fault → Type 0
-IsReadingFault (Device slot fault) = Unit {0}
-IsReadingFault Memory = Unit {0}
-IsReadingFault Thread = Unit {0}
-IsReadingFault _ = ⊥
+-- the file of a slot of the array can't be opened or read
+abbrev pub IsReadingFault : Values → Fault → Type 0
+IsReadingFault values (Device slot fault) = (slot < values.shape.slots) × (fault ≢ WriteFault)
+IsReadingFault values Memory = Unit {0}
+IsReadingFault values _ = ⊥
 
 -- the fault says that the command of this name is not built
 abbrev pub IsNotBuilt : (name : Text) → Fault → Type 0
@@ -121,9 +120,11 @@ abbrev pub StopsPlay : (script_text old new : Option Text) → Fault → Type 0
 StopsPlay script_text old new fault = (IsScriptFault script_text fault × Keeps old new) ⊎ IsRunFault fault
 
 -- a fault of the settings or of a device comes before anything is printed
-abbrev pub StopsOnDevices : (IsOf : Fault → Type 0) → (settings_text old new : Option Text) → Fault → Type 0
+abbrev pub StopsOnDevices : (IsOf : Values → Fault → Type 0) → (settings_text old new : Option Text) → Fault → Type 0
 StopsOnDevices IsOf settings_text old new fault =
-    (IsSettingsFault true settings_text fault × Keeps old new) ⊎ (IsOf fault × Keeps old new) ⊎ (fault ≡ Output)
+    (IsSettingsFault true settings_text fault × Keeps old new)
+    ⊎ ((values : Values) × IfSome settings_text (λ text. settings_in true text ≡ Ok values) × IsOf values fault × Keeps old new)
+    ⊎ (fault ≡ Output)
 
 abbrev pub StopsCreate : (settings_text old new : Option Text) → Fault → Type 0
 StopsCreate settings_text old new fault = StopsOnDevices IsMakingFault settings_text old new fault

@@ -1,8 +1,11 @@
-use Rattle.std.proofs.Common.{ℕ, List, sym, subst}
+use Rattle.std.proofs.Common.{ℕ, List, IfSome, sym, subst}
 use Rattle.std.proofs.lemmas.Result.{IfOk-weaker}
 use Rattle.r6_engine.specs.Parts.{AreThoseNotLost, parts_of, tells_nothing}
+use Rattle.r6_engine.specs.Errors as pass
+use Rattle.r6_engine.specs.Reports.{IsReadFault}
 use Rattle.r6_settings.specs.Settings.{values_of}
-use Rattle.r6_execute.specs.Commands.{HasReported, HasVerified}
+use Rattle.r6_execute.specs.Commands.{HasReported, HasVerified, IsReadingFault}
+use Rattle.r6_execute.proofs.Stopped.{opening, reading, stops_by, stops_by_error}
 use Rattle.r6_execute.proofs.Verified.{verified}
 use Rattle.r6_execute.proofs.devices.verify.Goals as goal
 
@@ -22,3 +25,20 @@ returns-clause-ok g c =
     (verified text old new values report c.in_ok-config.ensures.ok c.in_ok-report.ensures.report
     there c.in-None.is)
     c.print_report.ensures.ok
+
+pub returns-in_err-parts-clause-err : goal.returns-in_err-parts-clause-err
+returns-in_err-parts-clause-err g c =
+    let values = values_of c.in_ok-config.config in
+    let error = c.in_err-parts.field-0.0 in
+    let is : pass.IsOpeningFault values.shape.slots values.lost error =
+    subst (λ (lost : List ℕ). pass.IsOpeningFault values.shape.slots lost error) c.as_slice-2.ensures.value c.in_err-parts.ensures.err in
+    stops_by_error IsReadingFault c.from_residual-in_err-parts.result (g.S.Read.remaining c.args.settings.now) (g.W.Write.contents c.args.out.now)
+    values error c.in_ok-config.ensures.ok (opening values error is) c.from_residual-in_err-parts.ensures.1
+
+pub returns-in-Some-clause-err : goal.returns-in-Some-clause-err
+returns-in-Some-clause-err g c =
+    let values = values_of c.in_ok-config.config in
+    let met = c.in-Some.met in
+    let parts = parts_of tells_nothing c.as_mut_slice.result.now in
+    stops_by IsReadingFault (g.S.Read.remaining c.args.settings.now) (g.W.Write.contents c.args.out.now) values _ c.in_ok-config.ensures.ok
+    (reading values parts met (subst (λ fault. IfSome fault (IsReadFault values.shape parts)) c.in-Some.is c.in_ok-report.ensures.report.fault))

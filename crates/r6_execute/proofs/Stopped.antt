@@ -1,0 +1,55 @@
+-- Passes over devices that a fault stops.
+use Rattle.std.proofs.Common.{◌≡◌, ◌≢◌, ◌<◌, true, ℕ, List, length, Option, None, Some, Result, Ok, Err, IfErr, IfSome, inl, inr, refl, sym, subst}
+use Rattle.std.specs.Prelude.{IsErrAnd}
+use Rattle.std.specs.Io.KnownBytes.{Keeps}
+use Rattle.std.proofs.lemmas.Result.{err_from_is_err_and}
+use Rattle.r6_dev.specs.OpenErrors.{IsOpenError}
+use Rattle.r6_dev.specs.declared.fault.Fault.TheVariants.{WriteFault}
+use Rattle.r6_dev.specs.declared.file.OpenError.TheVariants as refused
+use Rattle.r6_engine.specs.Errors as pass
+use Rattle.r6_engine.specs.Reports.{IsReadFault}
+use Rattle.r6_engine.specs.Parts.{Parts}
+use Rattle.r6_engine.specs.declared.error.EngineError.{EngineError}
+use Rattle.r6_engine.specs.declared.error.EngineError.TheVariants.{NoMemory, ThreadRefused, Device}
+use Rattle.r6_engine.specs.declared.report.RowFault.{RowFault}
+use Rattle.r6_settings.specs.Settings.{Values, settings_in}
+use Rattle.r6_execute.specs.Commands.{IsMakingFault, IsReadingFault, StopsOnDevices}
+use Rattle.r6_execute.specs.Faults.{fault_of_pass}
+use Rattle.r6_execute.specs.declared.fault.Fault.{Fault}
+use Rattle.r6_execute.specs.declared.fault.Fault.TheVariants as told
+
+keeps_same : (held : Option (List ℕ)) → Keeps held held
+keeps_same None = tt
+keeps_same (Some bytes) = refl
+
+-- nothing was printed, and the fault is one of these settings
+pub stops_by : (IsOf : Values → Fault → Type 0) (text held : Option (List ℕ)) (values : Values) (fault : Fault)
+    → IfSome text (λ t. settings_in true t ≡ Ok values) → IsOf values fault → StopsOnDevices IsOf text held held fault
+stops_by IsOf text held values fault said is = inr (inl (values, said, is, keeps_same held))
+
+-- the same of an error of a pass, as the program tells it
+pub stops_by_error : {T : Type 0} (IsOf : Values → Fault → Type 0) (result : Result T Fault) (text held : Option (List ℕ)) (values : Values)
+    (error : EngineError) → IfSome text (λ t. settings_in true t ≡ Ok values) → IsOf values (fault_of_pass error)
+    → IsErrAnd result (λ fault. fault ≡ fault_of_pass error) → IfErr result (StopsOnDevices IsOf text held held)
+stops_by_error IsOf result text held values error said is fails =
+    let told = err_from_is_err_and result fails in
+    subst (λ r. IfErr r (StopsOnDevices IsOf text held held)) (sym told.1)
+    (stops_by IsOf text held values told.0 said (subst (IsOf values) (sym told.2) is))
+
+open_is_no_write : (fault : Rattle.r6_dev.specs.declared.fault.Fault.Fault) → IsOpenError (refused.Device fault) → fault ≢ WriteFault
+open_is_no_write fault is same = subst (λ f. IsOpenError (refused.Device f)) same is
+
+pub opening : (values : Values) (error : EngineError) → pass.IsOpeningFault values.shape.slots values.lost error
+    → IsReadingFault values (fault_of_pass error)
+opening values NoMemory is = tt
+opening values ThreadRefused is = absurd is
+opening values (Device slot fault) is = (is.0, open_is_no_write fault is.2)
+
+pub making : (values : Values) (error : EngineError) → pass.IsMakingFault (length values.devices) error → IsMakingFault values (fault_of_pass error)
+making values NoMemory is = tt
+making values ThreadRefused is = absurd is
+making values (Device slot fault) is = is
+
+pub reading : (values : Values) (parts : Parts) (fault : RowFault) → IsReadFault values.shape parts fault
+    → IsReadingFault values (told.Device fault.slot fault.fault)
+reading values parts fault is = (is.of_row.1, is.of_read)
