@@ -15,7 +15,7 @@ use std::alloc::{AllocError, Global};
 use std::thread::Threads;
 
 // Bytes of the rows that are read before they are classified, and how many rows these are at most.
-const BATCH_BYTES: usize = 1 << 22;
+const BATCH_BYTES: usize = 1 << 21;
 
 const BATCH_ROWS: usize = 4096;
 
