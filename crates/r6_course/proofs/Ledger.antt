@@ -1,0 +1,186 @@
+-- The law of a ledger.
+use Rattle.std.proofs.Common.{◌≡◌, ◌≢◌, ℕ, ◌⊎◌, List, [], ◌++◌, false, inl, inr, refl, sym, ap, subst, ◌∙◌, arith, Option, Some, None}
+use Rattle.std.proofs.lemmas.Bool.{cases_Bool}
+use Rattle.r6_dev.specs.History.{Telling, Blocks}
+use Rattle.r6_world.specs.PlainArray.{Op, Reply, ArrayFailed, Plain}
+use Rattle.r6_world.specs.Layouts.{content}
+use Rattle.r6_world.specs.ShardStates.{InSyncFor, IsLive, Request, Shard}
+use Rattle.r6_world.specs.Steps.{Step}
+use Rattle.r6_world.specs.Worlds.{World, Happening, Core, Perform, Tell, Outside, Moment, Possible, next}
+use Rattle.r6_world.specs.Claims.{IsUnwritten}
+use Rattle.r6_world.specs.ActingPoints.{acting, plain_after}
+use Rattle.r6_world.specs.Laws.{IsByAnyone, IsOfShard, ShardHolds, at_start}
+use Rattle.r6_world.proofs.Tables.{put-other, not_both, None-not_Some}
+use Rattle.r6_world.proofs.Uses.{sync-uses}
+use Rattle.r6_world.proofs.Laws.Headline.{holds-at, one_step}
+use Rattle.r6_course.specs.Courses.{Start, IsLawful, first_world, Mark, Asked, Replied, history_after, Reached, Stand, Tells, Follows}
+use Rattle.r6_course.specs.Ledgers.{Entry, entry, IsIn, IsBefore, InTime, PartsHold, OthersStay, OrderLaw}
+use Rattle.r6_course.proofs.Lists.{in-front, in-either, before-more, before-across, before-first}
+use Rattle.r6_course.proofs.Reached.{IsKept, is-of, holds-throughout}
+use Rattle.r6_course.proofs.Acting.{OrderedBy, OthersAreIdle, acts-on, gives-elsewhere}
+use Rattle.r6_course.proofs.Requests.{IsCall, IsBeside, moment, marks-stay, replied-cases, time-cases, Booked, booked-next}
+
+others-next : (s : Start) (w : World) (m : Moment) → IsOfShard s.number m.happening → OthersAreIdle w s.number → OthersAreIdle (next s.layout w m) s.number
+others-next s w m own others k ne id = at m.happening own
+  where
+    at : (h : Happening) → IsOfShard s.number h → ((next s.layout w (record { happening = h; noise = m.noise })).shard k).request id ≡ None
+    at (Core j event new) own = ap (λ (y : Shard). y.request id) (put-other w.shard j new k (λ same. ne (same ∙ own))) ∙ others k ne id
+    at (Perform j token c) own = others k ne id
+    at (Tell j call answer middle new) own = ap (λ (y : Shard). y.request id) (put-other w.shard j new k (λ same. ne (same ∙ own))) ∙ others k ne id
+    at (Outside call) own = others k ne id
+
+-- what holds of the requests in every world that is reached
+record Led (s : Start) (w : World) (history : List Mark) (plain : Plain) : Type 0 where
+  order : List Entry
+  ordered : OrderedBy s plain order
+  others : OthersAreIdle w s.number
+  booked : Booked s.layout s.number (w.shard s.number) history
+  replied : (id : ℕ) (reply : Reply) → IsIn (Replied id reply) history → reply ≢ ArrayFailed → plain.answers s.number id ≡ Some reply
+  asked : (e : Entry) → IsIn e order → IsIn (Asked e.id e.op) history
+  in_time : InTime history order
+
+module _ (s : Start) (lawful : IsLawful s) where
+  holds : (w : World) (plain : Plain) → IsKept s lawful w plain → ShardHolds s.layout s.number w w plain
+  holds w plain x =
+      holds-at s.layout lawful.layout (λ m. m ≡ s.number) IsByAnyone w w plain x s.number refl (λ failed id op reply e none. absurd (none reply e))
+
+  -- a reply that is taken is the plain array's
+  replied-now : (w w' : World) (history history' : List Mark) (plain : Plain) → IsKept s lawful w plain → Led s w history plain
+      → IsCall s.layout s.number w w' history history' ⊎ IsBeside s.number w w' history history'
+      → (id : ℕ) (reply : Reply) → IsIn (Replied id reply) history' → reply ≢ ArrayFailed → plain.answers s.number id ≡ Some reply
+  replied-now w w' history history' plain k x (inr b) id reply i ne = x.replied id reply (subst (IsIn (Replied id reply)) b.3 i) ne
+  replied-now w w' history history' plain k x (inl c) id reply i ne =
+      elim (replied-cases c.0 history id reply (subst (IsIn (Replied id reply)) c.4 i)) [
+        | inl j ↦ x.replied id reply j ne
+        | inr e ↦
+            let step = subst (λ y. Step s.layout s.number (w.shard s.number) y c.1) e c.2 in
+            (holds w plain k).replies id step.0 reply step.1 ne
+      ]
+
+  -- what was there stays in the history
+  stays : (w w' : World) (history history' : List Mark) → IsCall s.layout s.number w w' history history' ⊎ IsBeside s.number w w' history history'
+      → (x : Mark) → IsIn x history → IsIn x history'
+  stays w w' history history' (inl c) x i = subst (IsIn x) (sym c.4) (marks-stay c.0 history x i)
+  stays w w' history history' (inr b) x i = subst (IsIn x) (sym b.3) i
+
+  -- a request before which a reply was taken: it was so before, or it has a number that no entry has
+  time-was : (w w' : World) (history history' : List Mark) → IsCall s.layout s.number w w' history history' ⊎ IsBeside s.number w w' history history'
+      → (id later : ℕ) (reply : Reply) (op : Op) → IsBefore (Replied id reply) (Asked later op) history'
+      → IsBefore (Replied id reply) (Asked later op) history ⊎ (later ≡ (w.shard s.number).accepted)
+  time-was w w' history history' (inr b) id later reply op before = inl (subst (IsBefore (Replied id reply) (Asked later op)) b.3 before)
+  time-was w w' history history' (inl c) id later reply op before =
+      elim (time-cases c.0 history id later reply op (subst (IsBefore (Replied id reply) (Asked later op)) c.4 before)) [
+        | inl was ↦ inl was
+        | inr e ↦ inr ((subst (λ y. Step s.layout s.number (w.shard s.number) y c.1) e c.2).0)
+      ]
+
+  led-next : (w : World) (history : List Mark) (plain : Plain) (m : Moment) → IsKept s lawful w plain → Led s w history plain
+      → Possible s.layout IsByAnyone w m.happening → IsOfShard s.number m.happening
+      → let new = next s.layout w m in Led s new (history_after m.happening history) (plain_after w (acting s.layout w new) plain)
+  led-next w history plain m k x possible own =
+      let n = s.number in
+      let l = s.layout in
+      let w' = next l w m in
+      let history' = history_after m.happening history in
+      let turn = moment l n w m history possible own in
+      let may-act = (one_step l lawful.layout (λ k. k ≡ n) IsByAnyone m.happening m.noise w plain k (is-of n m.happening own) possible).0 in
+      let more = acts-on s w x.others [] (acting l w w') plain x.order may-act x.ordered in
+      let asked : (e : Entry) → IsIn e (x.order ++ more.more) → IsIn (Asked e.id e.op) history = (λ e i. elim (in-either e x.order more.more i) [
+        | inl j ↦ x.asked e j
+        | inr j ↦
+            let r = more.was_open e j in
+            subst (λ y. IsIn (Asked e.id y) history) r.2 (x.booked.known e.id r.0.op r.0.stage r.1)
+      ]) in
+      let there : (id : ℕ) (reply : Reply) → plain.answers n id ≡ Some reply → (op : Op) × IsIn (entry id op reply) x.order = x.ordered.found in
+      record {
+        order = x.order ++ more.more;
+        ordered = more.ordered;
+        others = others-next s w m own x.others;
+        booked = booked-next l n w w' history history' turn x.booked;
+        replied = λ id reply i ne.
+            let e = there id reply (replied-now w w' history history' plain k x turn id reply i ne) in
+            more.ordered.back (entry id e.0 reply) (in-front (entry id e.0 reply) x.order more.more e.1);
+        asked = λ e i. stays w w' history history' turn (Asked e.id e.op) (asked e i);
+        in_time = λ id later reply op before ne e i same. elim (time-was w w' history history' turn id later reply op before) [
+          | inl was ↦ elim (in-either e x.order more.more i) [
+            | inl j ↦ let b = x.in_time id later reply op was ne e j same in (b.0, before-more (entry id b.0 reply) e x.order more.more b.1)
+            | inr j ↦
+                let f = there id reply (x.replied id reply (before-first (Replied id reply) (Asked later op) history was) ne) in
+                (f.0, before-across (entry id f.0 reply) e x.order more.more f.1 j)
+          ]
+          | inr new ↦ let low = x.booked.counted e.id e.op (asked e i) in absurd (omega arith)
+        ];
+      }
+
+  led-first : Led s (first_world s) [] (at_start s.array)
+  led-first =
+      record {
+        order = [];
+        ordered = record { gives = refl; once = record {}; found = λ id reply e. absurd (not_both None reply refl e); back = λ e i. absurd i };
+        others = λ m ne id. refl;
+        booked = record {
+          known = λ id op stage e. absurd (not_both None _ refl e);
+          counted = λ id op i. absurd i;
+          kept = λ id op i. absurd i;
+          own_block = λ id op i. absurd i;
+          gone = λ id reply i. absurd i;
+          well_formed = record { asked_once = λ id op other b. b; replied_once = λ id reply other b. b; behind = λ id reply i. absurd i };
+        };
+        replied = λ id reply i ne. absurd i;
+        asked = λ e i. absurd i;
+        in_time = λ id later reply op before ne e i same. absurd i;
+      }
+
+  led : (w : World) (history : List Mark) → Reached s w history → (plain : Plain) × IsKept s lawful w plain × Led s w history plain
+  led w history x =
+      holds-throughout s lawful (Led s) led-first (λ w history plain m k p possible own k'. led-next w history plain m k p possible own) w history x
+
+  -- what the parts tell
+  parts-hold : (at : Stand) (x : Follows s at) (plain : Plain) → IsKept s lawful x.world plain → PartsHold s at plain.array
+  parts-hold at x plain k row slot g inside there live unwritten sync telling part =
+      let n = s.number in
+      let w = x.world in
+      let live' : IsLive s.layout (w.shard n) = subst (IsLive s.layout) (sym x.shard) live in
+      let unwritten' : IsUnwritten (w.shard n) row = subst (λ z. IsUnwritten z row) (sym x.shard) unwritten in
+      let sync' : InSyncFor ((w.shard n).slot slot) row g = subst (λ (z : Shard). InSyncFor (z.slot slot) row g) (sym x.shard) sync in
+      let ok : w.broken n slot g ≡ false = elim (cases_Bool (w.broken n slot g)) [
+        | inl broken ↦ absurd ((k.partings n refl).parted.stays_away live' slot g broken (sync-uses ((w.shard n).slot slot) row g sync'))
+        | inr fine ↦ fine
+      ] in
+      told telling (x.parts slot g telling part ok) ((holds w plain k).unwritten_rows row slot g inside there live' unwritten' sync')
+    where
+      told : (t : Telling) → Tells s (x.world.device slot g) t → x.world.device slot g row ≡ content s.layout plain.array row slot
+          → (blocks : Blocks) × (t ≡ Some blocks) × (blocks row ≡ content s.layout plain.array row slot)
+      told None t e = absurd t
+      told (Some blocks) t e = (blocks, refl, sym (t row there) ∙ e)
+
+  others-stay : (w : World) (history : List Mark) (plain : Plain) → Led s w history plain → OthersStay s plain.array
+  others-stay w history plain x block ne =
+      gives-elsewhere s.array x.order plain.array x.ordered.gives block
+      (λ e i same. ne (ap (λ y. s.layout.shard_of (s.layout.row_of y)) same ∙ x.booked.own_block e.id e.op (x.asked e i)))
+
+some-is-there : (o : Option Request) (r : Request) → o ≡ Some r → o ≢ None
+some-is-there o r e none = None-not_Some r (sym none ∙ e)
+
+pub order_law : OrderLaw
+order_law s lawful at x =
+    let y = led s lawful x.world at.history x.reached in
+    let led' = y.2 in
+    record {
+      array = y.0.array;
+      leads = record {
+        order = led'.order;
+        gives = led'.ordered.gives;
+        once = led'.ordered.once;
+        asked = led'.asked;
+        replied = λ id reply i ne. led'.ordered.found id reply (led'.replied id reply i ne);
+        in_time = led'.in_time;
+      };
+      parts = parts-hold s lawful at x y.0 y.1;
+      others = others-stay s lawful x.world at.history y.0 led';
+      well_formed = led'.booked.well_formed;
+      none_forgotten = λ id op i. elim (led'.booked.kept id op i) [
+        | inl there ↦ inl (some-is-there (at.shard.request id) there.0 (ap (λ (z : Shard). z.request id) (sym x.shard) ∙ there.1))
+        | inr gone ↦ inr gone
+      ];
+    }

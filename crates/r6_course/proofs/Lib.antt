@@ -1,0 +1,11 @@
+pub mod Lists
+pub mod Reached
+pub mod Calls
+pub mod Performing
+pub mod Register
+pub mod Handing
+pub mod Acting
+pub mod Requests
+pub mod Ledger
+pub mod Ends
+pub mod Witness

@@ -1,0 +1,136 @@
+-- Runs of a shard go on, one happening at a time.
+use Rattle.std.proofs.Common.{◌≡◌, ℕ, List, [], ◌∷◌, ◌++◌, inl, inr, refl, sym, ap, subst, ◌∙◌, Option, Some, None}
+use Rattle.std.proofs.lemmas.Bool.{cases_eq}
+use Rattle.r6_world.specs.PlainArray.{Block, Plain}
+use Rattle.r6_world.specs.Layouts.{Layout}
+use Rattle.r6_world.specs.ShardStates.{Command}
+use Rattle.r6_world.specs.Steps.{Event, Take_command}
+use Rattle.r6_world.specs.Worlds.{World, Happening, Core, Perform, Tell, Outside, Moment, Possible, Run, next, flown}
+use Rattle.r6_world.specs.ActingPoints.{acting, plain_after}
+use Rattle.r6_world.specs.Laws.{IsByAnyone, IsOfShard, AreOfShard, at_start}
+use Rattle.r6_world.specs.Witness.{after_all}
+use Rattle.r6_world.proofs.Tables.{put-same, put-other, put-cases, not_both}
+use Rattle.r6_world.proofs.Witness.Pieces.{after-append}
+use Rattle.r6_world.proofs.Laws.Judged.{IsIn as IsOfJudged}
+use Rattle.r6_world.proofs.Laws.Headline.{Kept, one_step}
+use Rattle.r6_world.proofs.Laws.Starts.{kept-start}
+use Rattle.r6_course.specs.Courses.{Start, first_world, IsLawful, Mark, history_after, history_of, Reached}
+
+run-append : (l : Layout) (w : World) (a b : List Moment) → Run l IsByAnyone w a → Run l IsByAnyone (after_all l w a) b → Run l IsByAnyone w (a ++ b)
+run-append l w [] b r s = s
+run-append l w (m ∷ a) b r s = (r.0, run-append l (next l w m) a b r.1 s)
+
+own-append : (n : ℕ) (a b : List Moment) → AreOfShard n a → AreOfShard n b → AreOfShard n (a ++ b)
+own-append n [] b r s = s
+own-append n (m ∷ a) b r s = (r.0, own-append n a b r.1 s)
+
+history-append : (history : List Mark) (a b : List Moment) → history_of history (a ++ b) ≡ history_of (history_of history a) b
+history-append history [] b = refl
+history-append history (m ∷ a) b = history-append (history_after m.happening history) a b
+
+-- nothing has happened
+pub begins : (s : Start) → Reached s (first_world s) []
+begins s = record { moments = []; own = record {}; run = record {}; world = refl; marks = refl }
+
+-- one more thing happens
+pub reach : (s : Start) (w : World) (history : List Mark) → Reached s w history → (m : Moment) → Possible s.layout IsByAnyone w m.happening
+    → IsOfShard s.number m.happening → Reached s (next s.layout w m) (history_after m.happening history)
+reach s w history x m possible own =
+    record {
+      moments = x.moments ++ m ∷ [];
+      own = own-append s.number x.moments (m ∷ []) x.own (own, record {});
+      run = run-append s.layout (first_world s) x.moments (m ∷ []) x.run
+          (subst (λ y. Possible s.layout IsByAnyone y m.happening) (sym x.world) possible, record {});
+      world = after-append s.layout (first_world s) x.moments (m ∷ []) ∙ ap (λ y. next s.layout y m) x.world;
+      marks = history-append [] x.moments (m ∷ []) ∙ ap (history_after m.happening) x.marks;
+    }
+
+-- ---- what each step keeps holds of every world that is reached
+
+pub is-of : (n : ℕ) (h : Happening) → IsOfShard n h → IsOfJudged (λ m. m ≡ n) h
+is-of n (Core m event new) e = e
+is-of n (Perform m token c) e = e
+is-of n (Tell m call answer middle new) e = e
+is-of n (Outside call) e = e
+
+-- what r6_world's laws keep, for one shard
+abbrev pub IsKept : (s : Start) → IsLawful s → World → Plain → Type 0
+IsKept s lawful w plain = Kept s.layout lawful.layout (λ m. m ≡ s.number) IsByAnyone w plain
+
+module _ (s : Start) (lawful : IsLawful s) (P : World → List Mark → Plain → Type 0) where
+  -- one step keeps it
+  abbrev pub StepKeeps : Type 0
+  StepKeeps =
+      (w : World) (history : List Mark) (plain : Plain) (m : Moment) → IsKept s lawful w plain → P w history plain
+      → Possible s.layout IsByAnyone w m.happening → IsOfShard s.number m.happening
+      → let new = next s.layout w m in let plain' = plain_after w (acting s.layout w new) plain in
+      IsKept s lawful new plain' → P new (history_after m.happening history) plain'
+
+  along : StepKeeps → (moments : List Moment) (w : World) (history : List Mark) (plain : Plain) → IsKept s lawful w plain → P w history plain
+      → AreOfShard s.number moments → Run s.layout IsByAnyone w moments
+      → (last : Plain) × IsKept s lawful (after_all s.layout w moments) last × P (after_all s.layout w moments) (history_of history moments) last
+  along keeps [] w history plain x p own run = (plain, x, p)
+  along keeps (m ∷ moments) w history plain x p own run =
+      let new = next s.layout w m in
+      let step = one_step s.layout lawful.layout (λ k. k ≡ s.number) IsByAnyone m.happening m.noise w plain x (is-of s.number m.happening own.0) run.0 in
+      along keeps moments new (history_after m.happening history) (plain_after w (acting s.layout w new) plain) step.1
+      (keeps w history plain m x p run.0 own.0 step.1) own.1 run.1
+
+  pub holds-throughout : P (first_world s) [] (at_start s.array) → StepKeeps → (w : World) (history : List Mark) → Reached s w history
+      → (plain : Plain) × IsKept s lawful w plain × P w history plain
+  holds-throughout first keeps w history x =
+      let start = kept-start s.layout lawful.layout (λ m. m ≡ s.number) IsByAnyone s.register s.device s.array lawful.start in
+      let last = along keeps x.moments (first_world s) [] (at_start s.array) start first x.own x.run in (
+        last.0,
+        subst (λ y. IsKept s lawful y last.0) x.world last.1,
+        subst (λ y. P w y last.0) x.marks (subst (λ y. P y (history_of [] x.moments) last.0) x.world last.2),
+      )
+
+-- the world is as the laws of r6_world keep it
+pub kept : (s : Start) (lawful : IsLawful s) (w : World) (history : List Mark) → Reached s w history → (plain : Plain) × IsKept s lawful w plain
+kept s lawful w history x =
+    let y = holds-throughout s lawful (λ w history plain. record {}) (record {}) (λ w history plain m k p possible own k'. record {}) w history x in
+    (y.0, y.1)
+
+-- ---- only what was taken is performed
+
+pub record Unflown (n : ℕ) (w : World) : Type 0 where
+  pub unperformed : (t : ℕ) → w.flight n t ≡ None → w.performed n t ≡ None
+
+flown-was : (event : Event) (flight : ℕ → Option Command) (t : ℕ) → flown event flight t ≡ None → flight t ≡ None
+flown-was (Take_command token c) flight t e =
+    elim (put-cases flight token (Some c) t None e) [ inl p ↦ absurd (not_both (Some c) c p.1 refl) | inr p ↦ p.1 ]
+flown-was event flight t e = e
+
+unflown-next : (l : Layout) (n : ℕ) (w : World) (m : Moment) → Possible l IsByAnyone w m.happening → Unflown n w → Unflown n (next l w m)
+unflown-next l n w m possible x = at m.happening possible
+  where
+    at : (h : Happening) → Possible l IsByAnyone w h → Unflown n (next l w (record { happening = h; noise = m.noise }))
+    at (Core k event new) p =
+        record {
+          unperformed = λ t e. elim (cases_eq n k) [
+            | inl same ↦
+                x.unperformed t (ap (λ y. w.flight y t) same
+                ∙ flown-was event (w.flight k) t (ap (λ (y : ℕ → Option Command). y t) (sym (put-same w.flight k (flown event (w.flight k)) n same)) ∙ e))
+            | inr ne ↦ x.unperformed t (ap (λ (y : ℕ → Option Command). y t) (sym (put-other w.flight k (flown event (w.flight k)) n ne)) ∙ e)
+          ];
+        }
+    at (Perform k token c) p =
+        record {
+          unperformed = λ t e. elim (cases_eq n k) [
+            | inl same ↦ elim (cases_eq t token) [
+              | inl here ↦ absurd (not_both (w.flight k token) c (ap (λ y. w.flight y token) (sym same) ∙ ap (w.flight n) (sym here) ∙ e) p.1)
+              | inr ne ↦
+                  ap (λ (y : ℕ → Option Block). y t) (put-same w.performed k _ n same) ∙ put-other (w.performed k) token _ t ne
+                  ∙ ap (λ y. w.performed y t) (sym same) ∙ x.unperformed t e
+            ]
+            | inr ne ↦ ap (λ (y : ℕ → Option Block). y t) (put-other w.performed k _ n ne) ∙ x.unperformed t e
+          ];
+        }
+    at (Tell k call answer middle new) p = record { unperformed = x.unperformed }
+    at (Outside call) p = record { unperformed = x.unperformed }
+
+pub unflown : (s : Start) (lawful : IsLawful s) (w : World) (history : List Mark) → Reached s w history → Unflown s.number w
+unflown s lawful w history x =
+    (holds-throughout s lawful (λ w history plain. Unflown s.number w) (record { unperformed = λ t e. refl })
+    (λ w history plain m k p possible own k'. unflown-next s.layout s.number w m possible p) w history x).2

@@ -1,0 +1,108 @@
+-- There are courses.
+use Rattle.std.proofs.Common.{◌≡◌, ℕ, zero, suc, ◌+◌, ◌<◌, ◌≤◌, List, [], ◌++◌, Bool, true, false, if◌then◌else◌, refl, sym, ap, subst, arith, Some, None}
+use Rattle.std.proofs.lemmas.Bool.{false≢true, true≢false}
+use Rattle.r6_dev.specs.History.{Telling}
+use Rattle.r6_world.specs.Tables.{count_below}
+use Rattle.r6_world.specs.PlainArray.{Block, Array, Read, Data}
+use Rattle.r6_world.specs.Registers.{Snapshot, Status, InSync, Lost, Rebuilding, is_out, status_of}
+use Rattle.r6_world.specs.ShardStates.{Shard, InSyncFor, is_away}
+use Rattle.r6_world.specs.Changes.{Hand_reply, after}
+use Rattle.r6_world.specs.Steps.{Take_reply}
+use Rattle.r6_world.specs.Worlds.{World, Devices, Moment, slot_at_start}
+use Rattle.r6_world.specs.Witness.{small, after_all, CourseFrom}
+use Rattle.r6_world.proofs.Tables.{not_both, Some-inj, count-le}
+use Rattle.r6_world.proofs.Witness.Course as world
+use Rattle.r6_course.specs.Courses.{Start, first_world, IsLawful, marked, history_of, Stand, Tells, Follows}
+use Rattle.r6_course.specs.Witness.{all_tell, small_start, BeginsHeld, AnswersFrom, WitnessLaw}
+use Rattle.r6_course.proofs.Calls.{calls_go_on}
+
+-- parts that tell all that the devices have
+tells-all : (s : Start) (device : Devices) (slot g : ℕ) (telling : Telling) → all_tell device slot g ≡ Some telling → Tells s (device slot g) telling
+tells-all s device slot g telling there = subst (Tells s (device slot g)) (Some-inj (Some (device slot g)) telling there) (λ row in'. refl)
+
+-- ---- where a course begins
+
+-- if not all numbers pass, one doesn't
+some-fails : (p : ℕ → Bool) (n : ℕ) → count_below p n < n → (d : ℕ) × (d < n) × (p d ≡ false)
+some-fails p zero less = absurd (omega arith)
+some-fails p (suc n) less = at (some-fails p n) (p n) refl
+  where
+    at : (count_below p n < n → (d : ℕ) × (d < n) × (p d ≡ false)) → (b : Bool) → p n ≡ b → (d : ℕ) × (d < suc n) × (p d ≡ false)
+    at below false e = (n, omega arith, e)
+    at below true e =
+        let count : count_below p (suc n) ≡ 1 + count_below p n = ap (λ y. (if y then 1 else 0) + count_below p n) e in
+        let rest = below (omega arith) in
+        (rest.0, (let small' = rest.1 in omega arith), rest.2)
+
+is-in-sync : (status : Status) → is_out status ≡ false → status ≡ InSync
+is-in-sync InSync e = refl
+is-in-sync Lost e = absurd (true≢false e)
+is-in-sync (Rebuilding g by) e = absurd (true≢false e)
+
+away-is-out : (status : Status) → is_away (slot_at_start status) ≡ true → is_out status ≡ true
+away-is-out InSync e = absurd (false≢true e)
+away-is-out Lost e = refl
+away-is-out (Rebuilding g by) e = refl
+
+begins_held : BeginsHeld
+begins_held s lawful =
+    let l = s.layout in
+    let r = s.register in
+    let n = s.number in
+    let few = lawful.start.few_lost in
+    let four = lawful.layout.four_or_more in
+    let found = some-fails (λ d. is_out (status_of r d)) l.slots (omega arith) in
+    let away : count_below (λ d. is_away (slot_at_start (status_of r d))) l.slots ≤ count_below (λ d. is_out (status_of r d)) l.slots =
+    count-le l.slots (λ d. is_away (slot_at_start (status_of r d))) (λ d. is_out (status_of r d)) (λ d below. away-is-out (status_of r d)) in
+    record {
+      row = l.first_row n;
+      slot = found.0;
+      generation = 0;
+      inside = found.1;
+      of_shard = lawful.layout.owned n (l.first_row n) lawful.number (omega arith) (lawful.layout.some_row n lawful.number);
+      live = (omega arith, refl);
+      unwritten = λ f h e. absurd (not_both None h refl e);
+      in_sync = subst (λ y. InSyncFor (slot_at_start y) (l.first_row n) 0) (sym (is-in-sync (status_of r found.0) found.2)) refl;
+      blocks = s.device found.0 0;
+      told = refl;
+    }
+
+-- ---- a course on the smallest array
+
+n0<1 : 0 < 1
+n0<1 = omega arith
+
+answers : (r : Snapshot) (device : Devices) (array : Array) (new_data : Block) → IsLawful (small_start r device array)
+    → (c : CourseFrom (first_world (small_start r device array)) new_data) → AnswersFrom (small_start r device array) new_data c
+answers r device array new_data lawful c =
+    let s : Start = small_start r device array in
+    let moments : List Moment = c.write ++ c.loss ++ c.degraded_read ++ c.attach ++ c.rebuild ++ c.read in
+    let w : World = after_all small (first_world s) moments in
+    let before : Stand = record { shard = w.shard 0; register = w.register; part = all_tell w.device; history = history_of [] moments } in
+    let run : Follows s before = record {
+      world = w;
+      reached = record { moments = moments; own = c.is_run.of_shard; run = c.is_run.beside_anyone; world = refl; marks = refl };
+      shard = refl;
+      register = refl;
+      parts = λ slot g telling there ok. tells-all s w.device slot g telling there;
+    } in
+    let new : Shard = after small (w.shard 0) (Hand_reply 2 (Read 0) (Data new_data)) in
+    record {
+      before = before;
+      run = run;
+      moments = refl;
+      blocks = w.device 1 1;
+      told = refl;
+      behind = record before { shard = new; history = marked (Take_reply 2 (Data new_data)) before.history };
+      follows = calls_go_on s lawful before (Take_reply 2 (Data new_data)) new run (record {}) (Read 0, c.is_read, refl);
+      read = refl;
+    }
+
+pub witness_law : WitnessLaw
+witness_law = (
+  begins_held,
+  λ array new_data sized block.
+      let x = world.witness.2 array new_data sized block in
+      let lawful : IsLawful (small_start x.0 x.1 array) = record { layout = world.witness.1; number = n0<1; start = x.2 } in
+      (x.0, x.1, lawful, x.3, answers x.0 x.1 array new_data lawful x.3),
+)

@@ -1,0 +1,92 @@
+-- The course of one shard: what happened at its core, at its parts of the devices and at the register since the start,
+-- as far as the thread that owns the core knows of it (this project's own).
+use Rattle.std.specs.Prelude.{◌≡◌, ℕ, ◌<◌, List, [], ◌∷◌, ◌++◌, Bool, false, Option, Some, None}
+use Rattle.r6_dev.specs.History.{Telling}
+use Rattle.r6_world.specs.PlainArray.{Block, Array, Op, Reply}
+use Rattle.r6_world.specs.Layouts.{Layout, IsLayout, IsRowOf}
+use Rattle.r6_world.specs.Registers.{Snapshot}
+use Rattle.r6_world.specs.ShardStates.{Shard}
+use Rattle.r6_world.specs.Steps.{Event, Submit, Take_reply}
+use Rattle.r6_world.specs.Worlds.{World, Devices, Happening, Core, Perform, Tell, Outside, Moment, Run}
+use Rattle.r6_world.specs.Worlds.{started, shard_at_start}
+use Rattle.r6_world.specs.Claims.{IsLawfulStart}
+use Rattle.r6_world.specs.Laws.{AreOfShard, IsByAnyone}
+use Rattle.r6_world.specs.Witness.{after_all}
+
+-- how a shard began: of which array, which shard, with which register, and what the devices and the plain array held
+pub record Start : Type 0 where
+  pub layout : Layout
+  pub number : ℕ
+  pub register : Snapshot
+  pub device : Devices
+  pub array : Array
+
+pub record IsLawful (s : Start) : Type 0 where
+  pub layout : IsLayout s.layout
+  pub number : s.number < s.layout.shards
+  pub start : IsLawfulStart s.layout s.register s.device s.array
+
+abbrev pub first_world : Start → World
+first_world s = started s.layout s.register s.device
+
+-- What a shard's users see of it, in the order of time: a request is handed in, a reply is taken (a history of
+-- invocations and responses: Herlihy and Wing, "Linearizability")
+pub data Mark : Type 0 where
+  Asked : (id : ℕ) → Op → Mark
+  Replied : (id : ℕ) → Reply → Mark
+
+abbrev pub marked : Event → List Mark → List Mark
+marked (Submit op id) history = history ++ Asked id op ∷ []
+marked (Take_reply id reply) history = history ++ Replied id reply ∷ []
+marked event history = history
+
+abbrev pub history_after : Happening → List Mark → List Mark
+history_after (Core n event new) history = marked event history
+history_after (Perform n token c) history = history
+history_after (Tell n call answer middle new) history = history
+history_after (Outside call) history = history
+
+abbrev pub history_of : List Mark → List Moment → List Mark
+history_of history [] = history
+history_of history (m ∷ moments) = history_of (history_after m.happening history) moments
+
+-- a run of the shard, beside calls that anyone makes at the register, leads from its start to this world, and its users
+-- saw this
+pub record Reached (s : Start) (w : World) (history : List Mark) : Type 0 where
+  pub moments : List Moment
+  pub own : AreOfShard s.number moments
+  pub run : Run s.layout IsByAnyone (first_world s) moments
+  pub world : after_all s.layout (first_world s) moments ≡ w
+  pub marks : history_of [] moments ≡ history
+
+-- where a shard stands: its core, the register as it was last seen, what its parts tell by slot and generation (none:
+-- no part is there), and what its users saw
+pub record Stand : Type 0 where
+  pub shard : Shard
+  pub register : Snapshot
+  pub part : ℕ → ℕ → Option Telling
+  pub history : List Mark
+
+-- what a part tells is what its device has in the shard's rows
+abbrev pub Tells : Start → (ℕ → Block) → Telling → Type 0
+Tells s device None = ⊥
+Tells s device (Some blocks) = (row : ℕ) → IsRowOf s.layout s.number row → device row ≡ blocks row
+
+-- each part that has answered no error tells what its device has
+abbrev pub AreParts : Start → Devices → (broken : ℕ → ℕ → Bool) → (ℕ → ℕ → Option Telling) → Type 0
+AreParts s device broken part =
+    (slot generation : ℕ) (telling : Telling) → part slot generation ≡ Some telling → broken slot generation ≡ false
+    → Tells s (device slot generation) telling
+
+-- all that happened since the start leads to where the shard stands
+pub record Follows (s : Start) (at : Stand) : Type 0 where
+  pub world : World
+  pub reached : Reached s world at.history
+  pub shard : world.shard s.number ≡ at.shard
+  pub register : world.register ≡ at.register
+  pub parts : AreParts s world.device (world.broken s.number) at.part
+
+-- at the start the core is made with the register, and its users saw nothing
+abbrev pub first_stand : Start → (ℕ → ℕ → Option Telling) → Stand
+first_stand s part =
+    record { shard = shard_at_start s.layout s.register s.number; register = s.register; part = part; history = [] }

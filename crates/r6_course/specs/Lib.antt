@@ -1,0 +1,5 @@
+pub mod Courses
+pub mod Ledgers
+pub mod Steps
+pub mod Ends
+pub mod Witness

@@ -1,0 +1,116 @@
+-- How the course of a shard begins, and how it goes on: by calls of its core, by commands that are performed in place,
+-- and by calls at the register, others' and its own (this project's own).
+use Rattle.std.specs.Prelude.{◌≡◌, ◌<◌, ℕ, false, Option, Some}
+use Rattle.r6_dev.specs.History.{Telling, Reads, Writes, Answers}
+use Rattle.r6_health.specs.declared.history.View.{View}
+use Rattle.r6_health.specs.Histories.{held}
+use Rattle.r6_health.specs.Views.{Looks, Answered}
+use Rattle.r6_world.specs.Tables.{put_in}
+use Rattle.r6_world.specs.PlainArray.{Block}
+use Rattle.r6_world.specs.Registers.{Snapshot, Told as Answer}
+use Rattle.r6_world.specs.ShardStates.{Shard, Command, Transfer, Fetch, Store, Storing, Call}
+use Rattle.r6_world.specs.Steps.{Event, Submit, Deliver, Good, Error, Receipt, Look, Take_command, No_command, Take_call}
+use Rattle.r6_world.specs.Steps.{No_call, Told, Take_reply, No_reply, Turn_started, Turn_skipped, Step}
+use Rattle.r6_world.specs.Worlds.{as_made}
+use Rattle.r6_course.specs.Courses.{Start, IsLawful, Stand, Tells, AreParts, Follows, first_stand, marked}
+
+-- parts that tell what the devices have at the start
+abbrev pub CoursesBegin : Type 0
+CoursesBegin =
+    (s : Start) (part : ℕ → ℕ → Option Telling) → AreParts s s.device (λ slot generation. false) part
+    → Follows s (first_stand s part)
+
+-- calls of the core that go with no device and with no call at the register; a look sees the register as it was last
+-- seen
+abbrev pub IsPlainCall : Snapshot → Event → Type 0
+IsPlainCall register (Submit op id) = record {}
+IsPlainCall register (Look seen) = seen ≡ register
+IsPlainCall register (Turn_started task) = record {}
+IsPlainCall register (Turn_skipped task row) = record {}
+IsPlainCall register No_command = record {}
+IsPlainCall register No_call = record {}
+IsPlainCall register (Take_reply id reply) = record {}
+IsPlainCall register No_reply = record {}
+IsPlainCall register event = ⊥
+
+abbrev pub CallsGoOn : Type 0
+CallsGoOn =
+    (s : Start) → IsLawful s → (at : Stand) (event : Event) (new : Shard) → Follows s at
+    → IsPlainCall at.register event → Step s.layout s.number at.shard event new
+    → Follows s (record at { shard = new; history = marked event at.history })
+
+-- what a part does with a command: a read gives the block, a write puts the command's own
+abbrev pub Does : Telling → Transfer → (row : ℕ) → Block → Telling → Type 0
+Does telling Fetch row block new = Answers telling (Reads row block) new
+Does telling (Store new_data) row block new = Answers telling (Writes row new_data) new
+Does telling Storing row block new = ⊥
+
+-- a command is taken, its part performs it, and its good completion is delivered
+pub record Performs (s : Start) (at : Stand) (token : ℕ) (c : Command) (block : Block) (receipt : Receipt) (new : Shard)
+    (behind : Telling) : Type 0 where
+  pub middle : Shard
+  pub taken : Step s.layout s.number at.shard (Take_command token c) middle
+  pub delivered : Step s.layout s.number middle (Deliver token (Good block) receipt) new
+  pub before : Telling
+  pub there : at.part c.slot c.generation ≡ Some before
+  pub does : Does before c.transfer c.row block behind
+
+abbrev pub PerformingGoesOn : Type 0
+PerformingGoesOn =
+    (s : Start) → IsLawful s → (at : Stand) (token : ℕ) (c : Command) (block : Block) (receipt : Receipt) (new : Shard)
+    (behind : Telling) → Follows s at → Performs s at token c block receipt new behind
+    → Follows s (record at { shard = new; part = put_in at.part c.slot c.generation (Some behind) })
+
+-- a command is taken, and its error is delivered
+pub record Fails (s : Start) (at : Stand) (token : ℕ) (c : Command) (receipt : Receipt) (new : Shard) : Type 0 where
+  pub middle : Shard
+  pub taken : Step s.layout s.number at.shard (Take_command token c) middle
+  pub delivered : Step s.layout s.number middle (Deliver token Error receipt) new
+
+-- the other parts are as they were
+abbrev pub OthersAreKept : (slot generation : ℕ) → (old new : ℕ → ℕ → Option Telling) → Type 0
+OthersAreKept slot generation old new =
+    (other g : ℕ) → ((other ≡ slot) × (g ≡ generation) → ⊥) → new other g ≡ old other g
+
+-- from then on that part may tell anything
+abbrev pub FailureGoesOn : Type 0
+FailureGoesOn =
+    (s : Start) → IsLawful s → (at : Stand) (token : ℕ) (c : Command) (receipt : Receipt) (new : Shard)
+    (part : ℕ → ℕ → Option Telling) → Follows s at → Fails s at token c receipt new
+    → OthersAreKept c.slot c.generation at.part part → Follows s (record at { shard = new; part = part })
+
+-- a pass knows the register as the shard last saw it
+pub record Knows (s : Start) (v : View) (register : Snapshot) : Type 0 where
+  pub slots : v.start.slots ≡ s.layout.slots
+  pub shards : v.start.shards ≡ s.layout.shards
+  pub now : held v.start v.seen ≡ register
+
+-- the register is seen as it is now: perhaps others made calls there
+abbrev pub OthersGoOn : Type 0
+OthersGoOn =
+    (s : Start) → IsLawful s → (at : Stand) (v w : View) → Follows s at → Knows s v at.register → Looks v w
+    → Follows s (record at { register = held w.start w.seen }) × Knows s w (held w.start w.seen)
+
+-- the shard makes its next call, perhaps behind others', and is told the answer
+abbrev pub TellingGoesOn : Type 0
+TellingGoesOn =
+    (s : Start) → IsLawful s → (at : Stand) (v w : View) (call : Call) (answer : Answer) (middle new : Shard)
+    → Follows s at → Knows s v at.register → Step s.layout s.number at.shard (Take_call call) middle
+    → Step s.layout s.number middle (Told call answer) new → Answered v (as_made s.number call) answer w
+    → Follows s (record at { shard = new; register = held w.start w.seen }) × Knows s w (held w.start w.seen)
+
+-- A part is handed in of a device that is attached later: the world has the blocks of devices to come from the start
+-- on, and until the attach they stay
+abbrev pub HandingGoesOn : Type 0
+HandingGoesOn =
+    (s : Start) → IsLawful s → (at : Stand) (slot generation : ℕ) (telling : Telling) → Follows s at
+    → at.register.attaches < generation → Tells s (s.device slot generation) telling
+    → Follows s (record at { part = put_in at.part slot generation (Some telling) })
+
+-- parts are let go
+abbrev pub LettingGoesOn : Type 0
+LettingGoesOn =
+    (s : Start) (at : Stand) (part : ℕ → ℕ → Option Telling) → Follows s at
+    → ((slot generation : ℕ) (telling : Telling) → part slot generation ≡ Some telling
+    → at.part slot generation ≡ Some telling)
+    → Follows s (record at { part = part })

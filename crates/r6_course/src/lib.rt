@@ -1,0 +1,48 @@
+//! The course of one shard beside a register that others change: what the thread that owns a core and its parts of the
+//! devices knows of all that happened, how it goes on, and what follows for the requests that it answered.
+#![tactic(auto)]
+
+ghost use Rattle.r6_course.specs.Ends.{CommandLaw, FailureLaw, IdleLaw};
+ghost use Rattle.r6_course.specs.Ledgers.{OrderLaw};
+ghost use Rattle.r6_course.specs.Steps.{CoursesBegin, CallsGoOn, PerformingGoesOn, FailureGoesOn, OthersGoOn};
+ghost use Rattle.r6_course.specs.Steps.{TellingGoesOn, HandingGoesOn, LettingGoesOn};
+ghost use Rattle.r6_course.specs.Witness.{WitnessLaw};
+
+/// Parts that tell what the devices have are where a course begins. It goes on by each call of the core; by a
+/// command that is taken, performed in place and delivered; by one that fails, whatever its part tells from then
+/// on; by a look at the register, which others may have changed; by the shard's own call there; by a part that is
+/// handed in of a device which isn't attached yet; and by parts that are let go.
+pub fn courses_go_on()
+    ensures begins { CoursesBegin }
+    ensures calls { CallsGoOn }
+    ensures performing { PerformingGoesOn }
+    ensures failure { FailureGoesOn }
+    ensures others { OthersGoOn }
+    ensures telling { TellingGoesOn }
+    ensures handing { HandingGoesOn }
+    ensures letting { LettingGoesOn }
+{}
+
+/// Wherever a course has led, the requests that the shard answered are, in an order that keeps to the time, what
+/// one plain array answers, each to the request that was handed in under its number; the parts in sync tell what
+/// the layout keeps of that array, P and Q; blocks of other shards are as they were; and each request handed in is
+/// open yet or was answered.
+pub fn order_law()
+    ensures { OrderLaw }
+{}
+
+/// Wherever a course has led: a request was answered that the array has failed only if the shard saw so, and it saw
+/// so only if the register has it; a live shard of which nothing is out but abandoned commands has idle rows alone;
+/// and a command that isn't abandoned goes to a device that a live shard uses.
+pub fn ends_law()
+    ensures failure { FailureLaw }
+    ensures idle { IdleLaw }
+    ensures commands { CommandLaw }
+{}
+
+/// There are courses to which the laws apply: every lawful start is the beginning of one, with a row that is in
+/// sync on a part; and on the smallest array, whatever its blocks are, the course of `r6_world` is one, in which a
+/// read is answered by what a write wrote, though the device had failed, was replaced and is rebuilt.
+pub fn witness_law()
+    ensures { WitnessLaw }
+{}
