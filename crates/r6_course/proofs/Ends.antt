@@ -6,24 +6,24 @@ use Rattle.r6_world.specs.Tables.{put, count_below}
 use Rattle.r6_world.specs.PlainArray.{Op, ArrayFailed, Plain}
 use Rattle.r6_world.specs.Layouts.{Layout}
 use Rattle.r6_world.specs.Registers.{Snapshot, RegisterCall, Told as Answer, answer_to, register_after}
-use Rattle.r6_world.specs.ShardStates.{Shard, Stage, Released, SlotState, Synced, Missing, Building, Command, IsLive, is_away, away, handed, LossOf}
+use Rattle.r6_world.specs.ShardStates.{Shard, Stage, Released, SlotState, Synced, Missing, Building, Command, IsLive, is_away, away, handed, LossOf, Call, RebuildOf}
 use Rattle.r6_world.specs.Tasks.{Task, Hold, ReadFor, WriteFor, Rebuild, Check, Repair, Outcome, Answered, Wrote, Rebuilt, GivenUp, Classed, Skipped}
-use Rattle.r6_world.specs.Changes.{Ask, Send, Learn, Confirm, Come_home, Lose, Adopt, See_failed, Finish, Bring_in, Hand_command, after, adopted, abandoned_to, abandoned_if, taken_out, slots_after, with_row}
-use Rattle.r6_world.specs.Steps.{Event, Look, Step, Looks}
+use Rattle.r6_world.specs.Changes.{Change, Allowed, Ask, Send, Learn, Confirm, Come_home, Lose, Adopt, See_failed, Finish, Bring_in, Hand_command, after, adopted, abandoned_to, abandoned_if, taken_out, slots_after, with_row, Hand_call, Hear}
+use Rattle.r6_world.specs.Steps.{Event, Look, Step, Looks, Deliver, Error, Receipt, Taken, Late, Takes, No_command, Take_call, Told}
 use Rattle.r6_world.specs.Worlds.{World, Happening, Core, Perform, Tell, Outside, Moment, Possible, MayCome, IsAnswer, as_made, next}
 use Rattle.r6_world.specs.Laws.{IsByAnyone, IsOfShard}
-use Rattle.r6_world.specs.Refusals.{SeesNoFailure, IsFailure}
-use Rattle.r6_world.proofs.Tables.{put-same, put-other, put-cases, not_both, Some-inj, count-le}
+use Rattle.r6_world.specs.Refusals.{SeesNoFailure, IsFailure, IsToTell}
+use Rattle.r6_world.proofs.Tables.{put-same, put-other, put-cases, not_both, Some-inj, count-le, same_entry}
 use Rattle.r6_world.proofs.Uses.{Uses}
 use Rattle.r6_world.proofs.Acts.Requests.{request_at}
-use Rattle.r6_world.proofs.Changes.{Keeps, step-kept}
-use Rattle.r6_world.proofs.Refused.Refusals.{stops_only_when_seen, fails_only_when_seen}
+use Rattle.r6_world.proofs.Changes.{Keeps, step-kept, through-goes, through-scans}
+use Rattle.r6_world.proofs.Refused.Refusals.{stops_only_when_seen, fails_only_when_seen, in_longer}
 use Rattle.r6_world.proofs.Register.Renewals.{renewed-call}
 use Rattle.r6_world.proofs.Rows.Flights.{restored-is}
 use Rattle.r6_world.proofs.Laws.Quiet.{Resting, resting-start, resting-next}
 use Rattle.r6_course.specs.Courses.{Start, IsLawful, Mark, Replied, marked, history_after, Reached}
 use Rattle.r6_course.specs.Ledgers.{IsIn}
-use Rattle.r6_course.specs.Ends.{FailureLaw, IdleLaw, IsInUse, CommandLaw}
+use Rattle.r6_course.specs.Ends.{FailureLaw, IdleLaw, IsInUse, CommandLaw, LossLaw}
 use Rattle.r6_course.proofs.Reached.{IsKept, holds-throughout}
 use Rattle.r6_course.proofs.Requests.{IsCall, IsBeside, moment, replied-cases}
 
@@ -258,3 +258,74 @@ command_law s lawful at x token c there on =
       out.in_range,
       in-use (at.shard.slot c.slot) c.generation (subst (λ (z : Shard). Uses (z.slot c.slot) c.generation) x.shard out.uses),
     )
+
+-- ---- losses to declare
+
+abbrev LossesOf : Shard → Shard → Type 0
+LossesOf old s = (slot generation : ℕ) → IsToTell s (LossOf slot generation) → IsToTell old (LossOf slot generation)
+
+no-loss : (slot g other current : ℕ) → LossOf slot g ≡ RebuildOf other current → ⊥
+no-loss slot g other current e = cc
+
+same-loss : (slot g other current : ℕ) → LossOf slot g ≡ LossOf other current → (slot ≡ other) × (g ≡ current)
+same-loss slot g other current e = (let first : slot ≡ other = cc in first, let second : g ≡ current = cc in second)
+
+not-lost : (token : ℕ) → No_command ≡ Deliver token Error Taken → ⊥
+not-lost token e = cc
+
+not-handed : (call : Call) → No_command ≡ Take_call call → ⊥
+not-handed call e = cc
+
+not-told : (call : Call) (answer : Answer) → No_command ≡ Told call answer → ⊥
+not-told call answer e = cc
+
+-- no change but an error's adds one
+losses-kept : (l : Layout) (n : ℕ) (old : Shard) → Keeps l n (LossesOf old) No_command
+losses-kept l n old s (Lose t c) within a p = absurd (not-lost t within)
+losses-kept l n old s (Hand_call call rest) within a p = absurd (not-handed call within)
+losses-kept l n old s (Hear call answer) within a p = absurd (not-told call answer within)
+losses-kept l n old s (Bring_in other current) within a p = λ slot g i. elim i [
+  | inl among ↦ elim (in_longer (LossOf slot g) (RebuildOf other current) s.calls among) [
+    | inl x ↦ p slot g (inl x)
+    | inr e ↦ absurd (no-loss slot g other current e)
+  ]
+  | inr untold ↦ p slot g (inr untold)
+]
+losses-kept l n old s change within a p = p
+
+-- an error's own change adds that of its command
+opens : (l : Layout) (n : ℕ) (s : Shard) (token : ℕ) (c : Command) (receipt : Receipt) (change : Change) → s.command token ≡ Some c
+    → Takes token Error receipt change → Allowed l n s change → (slot g : ℕ) → IsToTell (after l s change) (LossOf slot g)
+    → IsToTell s (LossOf slot g) ⊎ ((slot ≡ c.slot) × (g ≡ c.generation) × (c.abandoned ≡ false) × (receipt ≡ Taken))
+opens l n s token c Taken (Lose t d) here k a slot g i =
+    let same : d ≡ c = same_entry (s.command token) d c (subst (λ y. s.command y ≡ Some d) k.0 a.0) here in
+    elim i [
+      | inl among ↦ elim (in_longer (LossOf slot g) (LossOf d.slot d.generation) s.calls among) [
+        | inl x ↦ inl (inl x)
+        | inr e ↦
+            let is = same-loss slot g d.slot d.generation e in
+            inr (
+              is.0 ∙ ap (λ (y : Command). y.slot) same,
+              is.1 ∙ ap (λ (y : Command). y.generation) same,
+              sym (ap (λ (y : Command). y.abandoned) same) ∙ a.1,
+              refl,
+            )
+      ]
+      | inr untold ↦ inl (inr untold)
+    ]
+opens l n s token c Late (Come_home t d) here k a slot g i = inl i
+opens l n s token c receipt change here k a slot g i = absurd k
+
+pub loss_law : LossLaw
+loss_law s at token c receipt new p slot g i =
+    let l = s.layout in
+    let n = s.number in
+    let st = p.delivered in
+    let c' : Command = record c { taken = true; transfer = handed c.transfer } in
+    let there : p.middle.command token ≡ Some c' =
+    ap (λ (y : Shard). y.command token) p.taken.1 ∙ put-same at.shard.command token (Some c') token refl in
+    let first = after l p.middle st.0 in
+    let went = through-goes l n (LossesOf first) No_command (losses-kept l n first) first st.3 st.4 (λ slot g i. i) in
+    let scanned = through-scans l n (LossesOf first) No_command (losses-kept l n first) st.3 new st.5 went in
+    subst (λ (y : Shard). IsToTell y (LossOf slot g) ⊎ ((slot ≡ c.slot) × (g ≡ c.generation) × (c.abandoned ≡ false) × (receipt ≡ Taken)))
+    p.taken.1 (opens l n p.middle token c' receipt st.0 there st.1 st.2 slot g (scanned slot g i))

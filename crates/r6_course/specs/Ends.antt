@@ -1,10 +1,13 @@
 -- What holds of a shard wherever its course has led (this project's own; which slots may be out is md(4)'s).
-use Rattle.std.specs.Prelude.{◌≡◌, ℕ, ◌<◌, true, false, Some}
+use Rattle.std.specs.Prelude.{◌≡◌, ℕ, ◌<◌, ◌⊎◌, true, false, Some}
 use Rattle.r6_world.specs.PlainArray.{ArrayFailed}
-use Rattle.r6_world.specs.ShardStates.{Shard, SlotState, Synced, Missing, Building, Command, IsLive}
+use Rattle.r6_world.specs.ShardStates.{Shard, SlotState, Synced, Missing, Building, Command, LossOf, IsLive}
+use Rattle.r6_world.specs.Steps.{Receipt, Taken}
 use Rattle.r6_world.specs.Claims.{IsIdle}
+use Rattle.r6_world.specs.Refusals.{IsToTell}
 use Rattle.r6_course.specs.Courses.{Start, IsLawful, Replied, Stand, Follows}
 use Rattle.r6_course.specs.Ledgers.{IsIn}
+use Rattle.r6_course.specs.Steps.{Fails}
 
 -- a shard answers that the array has failed only once it saw so, and it sees so only once the register has it
 abbrev pub FailureLaw : Type 0
@@ -36,3 +39,12 @@ CommandLaw =
     (s : Start) → IsLawful s → (at : Stand) → Follows s at → (token : ℕ) (c : Command)
     → at.shard.command token ≡ Some c → c.abandoned ≡ false
     → IsLive s.layout at.shard × (c.slot < s.layout.slots) × IsInUse (at.shard.slot c.slot) c.generation
+
+-- the losses that a shard has to declare once an error was delivered: those of before, and that of its command's device,
+-- if the command was not abandoned
+abbrev pub LossLaw : Type 0
+LossLaw =
+    (s : Start) (at : Stand) (token : ℕ) (c : Command) (receipt : Receipt) (new : Shard) → Fails s at token c receipt new
+    → (slot generation : ℕ) → IsToTell new (LossOf slot generation)
+    → IsToTell at.shard (LossOf slot generation)
+    ⊎ ((slot ≡ c.slot) × (generation ≡ c.generation) × (c.abandoned ≡ false) × (receipt ≡ Taken))

@@ -2,7 +2,7 @@
 //! devices knows of all that happened, how it goes on, and what follows for the requests that it answered.
 #![tactic(auto)]
 
-ghost use Rattle.r6_course.specs.Ends.{CommandLaw, FailureLaw, IdleLaw};
+ghost use Rattle.r6_course.specs.Ends.{CommandLaw, FailureLaw, IdleLaw, LossLaw};
 ghost use Rattle.r6_course.specs.Ledgers.{OrderLaw};
 ghost use Rattle.r6_course.specs.Steps.{CoursesBegin, CallsGoOn, PerformingGoesOn, FailureGoesOn, OthersGoOn};
 ghost use Rattle.r6_course.specs.Steps.{TellingGoesOn, HandingGoesOn, LettingGoesOn};
@@ -33,11 +33,13 @@ pub fn order_law()
 
 /// Wherever a course has led: a request was answered that the array has failed only if the shard saw so, and it saw
 /// so only if the register has it; a live shard of which nothing is out but abandoned commands has idle rows alone;
-/// and a command that isn't abandoned goes to a device that a live shard uses.
+/// a command that isn't abandoned goes to a device that a live shard uses; and an error that is delivered makes the
+/// shard declare the loss of that device at most, and only if the command wasn't abandoned.
 pub fn ends_law()
     ensures failure { FailureLaw }
     ensures idle { IdleLaw }
     ensures commands { CommandLaw }
+    ensures losses { LossLaw }
 {}
 
 /// There are courses to which the laws apply: every lawful start is the beginning of one, with a row that is in
