@@ -28,9 +28,18 @@ pub tells-alike : (s : Start) (rows rows' : ℕ → Block) (telling : Telling)
 tells-alike s rows rows' None same x = x
 tells-alike s rows rows' (Some blocks) same x = λ row there. same row there ∙ x row there
 
+-- where nothing is performed, parts tell as before
+pub shown-tells : (s : Start) (w : World) (h : Happening) → ((slot g row : ℕ) → (happened s.layout w h).device slot g row ≡ w.device slot g row)
+    → (slot g : ℕ) (telling : Telling) → Tells s (w.device slot g) telling
+    → Tells s ((next s.layout w (shown w h s.layout)).device slot g) telling
+shown-tells s w h same slot g telling x =
+    tells-alike s (w.device slot g) ((next s.layout w (shown w h s.layout)).device slot g) telling
+    (λ row in'. both _ _ ∙ same slot g row) x
+
 -- ---- a call of the core alone
 
-may-come : (w : World) (n : ℕ) (register : Snapshot) → w.register ≡ register → (event : Event) → IsPlainCall register event → MayCome w n event
+may-come : (w : World) (n : ℕ) (register : Snapshot) → w.register ≡ register → (event : Event)
+    → IsPlainCall register event → MayCome w n event
 may-come w n register same (Submit op id) k = record {}
 may-come w n register same (Look seen) k = k ∙ sym same
 may-come w n register same (Turn_started task) k = record {}
@@ -41,7 +50,8 @@ may-come w n register same (Take_reply id reply) k = record {}
 may-come w n register same No_reply k = record {}
 may-come w n register same event k = absurd k
 
-breaks-none : (register : Snapshot) (event : Event) → IsPlainCall register event → (s : Shard) (parts : ℕ → ℕ → Bool) → broken_by s event parts ≡ parts
+breaks-none : (register : Snapshot) (event : Event) → IsPlainCall register event → (s : Shard) (parts : ℕ → ℕ → Bool)
+    → broken_by s event parts ≡ parts
 breaks-none register (Submit op id) k s parts = refl
 breaks-none register (Look seen) k s parts = refl
 breaks-none register (Turn_started task) k s parts = refl
@@ -53,8 +63,10 @@ breaks-none register No_reply k s parts = refl
 breaks-none register event k s parts = absurd k
 
 -- the core goes on, and breaks no part
-calls : (s : Start) (at : Stand) (x : Follows s at) (event : Event) (new : Shard) → s.number < s.layout.shards → MayCome x.world s.number event
-    → Step s.layout s.number at.shard event new → broken_by (x.world.shard s.number) event (x.world.broken s.number) ≡ x.world.broken s.number
+calls : (s : Start) (at : Stand) (x : Follows s at) (event : Event) (new : Shard) → s.number < s.layout.shards
+    → MayCome x.world s.number event
+    → Step s.layout s.number at.shard event new
+    → broken_by (x.world.shard s.number) event (x.world.broken s.number) ≡ x.world.broken s.number
     → Follows s (record at { shard = new; history = marked event at.history })
 calls s at x event new below come step unbroken =
     let n = s.number in
@@ -67,7 +79,7 @@ calls s at x event new below come step unbroken =
       shard = put-same w.shard n new n refl;
       register = x.register;
       parts = λ slot g telling there ok.
-          tells-alike s (w.device slot g) ((next l w m).device slot g) telling (λ row in'. both _ (w.device slot g row))
+          shown-tells s w (Core n event new) (λ slot g row. refl) slot g telling
           (x.parts slot g telling there (ap (λ (y : ℕ → ℕ → Bool). y slot g) (sym (put-same w.broken n _ n refl ∙ unbroken)) ∙ ok));
     }
 

@@ -31,7 +31,8 @@ use Rattle.r6_course.proofs.Requests.{IsCall, IsBeside, moment, replied-cases}
 
 -- what is answered so was seen
 record HasSeen (n : ℕ) (shard : Shard) (history : List Mark) : Type 0 where
-  stands : (id : ℕ) (op : Op) (stage : Stage) → shard.request id ≡ Some (request_at op stage) → IsFailure stage → shard.saw_failed ≡ true
+  stands : (id : ℕ) (op : Op) (stage : Stage) → shard.request id ≡ Some (request_at op stage) → IsFailure stage
+      → shard.saw_failed ≡ true
   replied : (id : ℕ) → IsIn (Replied id ArrayFailed) history → shard.saw_failed ≡ true
 
 -- whether an event is a look that sees the failure
@@ -39,10 +40,12 @@ sees : (event : Event) → SeesNoFailure event ⊎ ((seen : Snapshot) × (event 
 sees (Look seen) = elim (cases_Bool seen.failed) [ inl failed ↦ inr (seen, refl, failed) | inr fine ↦ inl fine ]
 sees event = inl (record {})
 
-look-sees : (l : Layout) (n : ℕ) (old : Shard) (seen : Snapshot) (new : Shard) → Step l n old (Look seen) new → seen.failed ≡ true → new.saw_failed ≡ true
+look-sees : (l : Layout) (n : ℕ) (old : Shard) (seen : Snapshot) (new : Shard) → Step l n old (Look seen) new
+    → seen.failed ≡ true → new.saw_failed ≡ true
 look-sees l n old seen new step failed = ap (λ (y : Shard). y.saw_failed) (subst (λ b. Looks l n b step.2 new) failed step.5)
 
-seen-call : (l : Layout) (n : ℕ) (old : Shard) (event : Event) (new : Shard) (history : List Mark) → Step l n old event new → HasSeen n old history
+seen-call : (l : Layout) (n : ℕ) (old : Shard) (event : Event) (new : Shard) (history : List Mark)
+    → Step l n old event new → HasSeen n old history
     → HasSeen n new (marked event history)
 seen-call l n old event new history step x = elim (sees event) [
   | inr p ↦
@@ -64,7 +67,8 @@ seen-call l n old event new history step x = elim (sees event) [
 ]
 
 seen-next : (l : Layout) (n : ℕ) (w w' : World) (history history' : List Mark)
-    → IsCall l n w w' history history' ⊎ IsBeside n w w' history history' → HasSeen n (w.shard n) history → HasSeen n (w'.shard n) history'
+    → IsCall l n w w' history history' ⊎ IsBeside n w w' history history' → HasSeen n (w.shard n) history
+    → HasSeen n (w'.shard n) history'
 seen-next l n w w' history history' (inl c) x =
     subst (HasSeen n (w'.shard n)) (sym c.4)
     (subst (λ y. HasSeen n y (marked c.0 history)) (sym c.3) (seen-call l n (w.shard n) c.0 c.1 history c.2 x))
@@ -76,7 +80,8 @@ abbrev StandsThere : ℕ → World → Type 0
 StandsThere n w = (w.shard n).saw_failed ≡ true → w.register.failed ≡ true
 
 module _ (s : Start) (lawful : IsLawful s) where
-  still-failed : (w : World) (plain : Plain) → IsKept s lawful w plain → (call : RegisterCall) (answer : Answer) → IsAnswer s.layout w.register call answer
+  still-failed : (w : World) (plain : Plain) → IsKept s lawful w plain → (call : RegisterCall) (answer : Answer)
+      → IsAnswer s.layout w.register call answer
       → w.register.failed ≡ true → (register_after s.layout w.register call answer).failed ≡ true
   still-failed w plain x call answer (inr e) failed =
       subst (λ y. (register_after s.layout w.register call y).failed ≡ true) (sym e) failed
@@ -88,7 +93,8 @@ module _ (s : Start) (lawful : IsLawful s) where
         | inr fine ↦ absurd (false≢true (sym ((renewed-call s.layout lawful.layout w.register x.register call).was_fine fine) ∙ failed))
       ])
 
-  there-next : (w : World) (plain : Plain) → IsKept s lawful w plain → (m : Moment) → Possible s.layout IsByAnyone w m.happening → IsOfShard s.number m.happening
+  there-next : (w : World) (plain : Plain) → IsKept s lawful w plain → (m : Moment)
+      → Possible s.layout IsByAnyone w m.happening → IsOfShard s.number m.happening
       → StandsThere s.number w → StandsThere s.number (next s.layout w m)
   there-next w plain x m possible own y = at m.happening possible own
     where
@@ -109,7 +115,8 @@ module _ (s : Start) (lawful : IsLawful s) where
                 y (ap (λ z. (w.shard z).saw_failed) (sym o) ∙ sym (stops_only_when_seen s.layout k (w.shard k) new event none p.2) ∙ saw')
           ]
 
-  failures : (w : World) (history : List Mark) → Reached s w history → HasSeen s.number (w.shard s.number) history × StandsThere s.number w
+  failures : (w : World) (history : List Mark) → Reached s w history
+      → HasSeen s.number (w.shard s.number) history × StandsThere s.number w
   failures w history x =
       (holds-throughout s lawful (λ w history plain. HasSeen s.number (w.shard s.number) history × StandsThere s.number w)
       (record { stands = λ id op stage e f. absurd (not_both None _ refl e); replied = λ id i. absurd i }, λ saw. absurd (false≢true saw))
@@ -148,7 +155,8 @@ AreLive l s = (token : ℕ) (c : Command) → s.command token ≡ Some c → c.a
 
 module _ (l : Layout) (n : ℕ) where
   -- a slot is taken out: the commands that stay are not for it, and at most two slots are out
-  stays-to : (stopped : Bool) (slot : ℕ) (o : Option Command) (c : Command) → abandoned_to stopped slot o ≡ Some c → c.abandoned ≡ false
+  stays-to : (stopped : Bool) (slot : ℕ) (o : Option Command) (c : Command) → abandoned_to stopped slot o ≡ Some c
+      → c.abandoned ≡ false
       → (stopped ≡ false) × ((d : Command) × (o ≡ Some d) × (d.abandoned ≡ false))
   stays-to stopped slot None c e on = absurd (not_both None c refl e)
   stays-to stopped slot (Some d) c e on =
@@ -166,11 +174,13 @@ module _ (l : Layout) (n : ℕ) where
       let p = stays-to (nat_lt 2 out) slot (s.command t) c e on in
       (ltb-false 2 out p.0, (x t p.1.0 p.1.1 p.1.2).1)
 
-  without : (s : Shard) (token : ℕ) → AreLive l s → (t : ℕ) (c : Command) → put s.command token None t ≡ Some c → c.abandoned ≡ false → IsLive l s
+  without : (s : Shard) (token : ℕ) → AreLive l s → (t : ℕ) (c : Command) → put s.command token None t ≡ Some c
+      → c.abandoned ≡ false → IsLive l s
   without s token x t c e on = elim (put-cases s.command token None t (Some c) e) [ inl p ↦ absurd (not_both None c refl p.1) | inr p ↦ x t c p.1 on ]
 
   -- where no more slots are out
-  fewer : (s new : Shard) → ((d : ℕ) → is_away (new.slot d) ≡ true → is_away (s.slot d) ≡ true) → new.saw_failed ≡ s.saw_failed → IsLive l s → IsLive l new
+  fewer : (s new : Shard) → ((d : ℕ) → is_away (new.slot d) ≡ true → is_away (s.slot d) ≡ true)
+      → new.saw_failed ≡ s.saw_failed → IsLive l s → IsLive l new
   fewer s new less same live =
       let le : away l new ≤ away l s = count-le l.slots (λ d. is_away (new.slot d)) (λ d. is_away (s.slot d)) (λ d below. less d) in
       let few = live.0 in
@@ -181,7 +191,8 @@ module _ (l : Layout) (n : ℕ) where
   with-row-away Missing row = refl
   with-row-away (Building g built) row = refl
 
-  ends-away : (s : Shard) (h : Hold) (task : Task) (outcome : Outcome) (d : ℕ) → is_away (slots_after s h task outcome d) ≡ true → is_away (s.slot d) ≡ true
+  ends-away : (s : Shard) (h : Hold) (task : Task) (outcome : Outcome) (d : ℕ)
+      → is_away (slots_after s h task outcome d) ≡ true → is_away (s.slot d) ≡ true
   ends-away s h (Rebuild target g) Rebuilt d e = elim (cases_eq d target) [
     | inl same ↦
         ap (λ y. is_away (s.slot y)) same ∙ sym (with-row-away (s.slot target) h.row)
@@ -198,7 +209,8 @@ module _ (l : Layout) (n : ℕ) where
   ends-away s h Check outcome d e = e
   ends-away s h Repair outcome d e = e
 
-  brought-away : (slots : ℕ → SlotState) (slot g d : ℕ) → is_away (put slots slot (Synced g) d) ≡ true → is_away (slots d) ≡ true
+  brought-away : (slots : ℕ → SlotState) (slot g d : ℕ) → is_away (put slots slot (Synced g) d) ≡ true
+      → is_away (slots d) ≡ true
   brought-away slots slot g d e = elim (cases_eq d slot) [
     | inl same ↦ absurd (false≢true (sym (ap is_away (put-same slots slot (Synced g) d same)) ∙ e))
     | inr ne ↦ sym (ap is_away (put-other slots slot (Synced g) d ne)) ∙ e
@@ -228,7 +240,8 @@ module _ (l : Layout) (n : ℕ) where
   live-kept event s change within a x = x
 
 live-next : (l : Layout) (n : ℕ) (w w' : World) (history history' : List Mark)
-    → IsCall l n w w' history history' ⊎ IsBeside n w w' history history' → AreLive l (w.shard n) → AreLive l (w'.shard n)
+    → IsCall l n w w' history history' ⊎ IsBeside n w w' history history' → AreLive l (w.shard n)
+    → AreLive l (w'.shard n)
 live-next l n w w' history history' (inl c) x =
     subst (AreLive l) (sym c.3) (step-kept l n (AreLive l) c.0 (live-kept l n c.0) (w.shard n) c.1 c.2 x)
 live-next l n w w' history history' (inr b) x = subst (AreLive l) (sym b.2) x
@@ -294,8 +307,10 @@ losses-kept l n old s (Bring_in other current) within a p = λ slot g i. elim i 
 losses-kept l n old s change within a p = p
 
 -- an error's own change adds that of its command
-opens : (l : Layout) (n : ℕ) (s : Shard) (token : ℕ) (c : Command) (receipt : Receipt) (change : Change) → s.command token ≡ Some c
-    → Takes token Error receipt change → Allowed l n s change → (slot g : ℕ) → IsToTell (after l s change) (LossOf slot g)
+opens : (l : Layout) (n : ℕ) (s : Shard) (token : ℕ) (c : Command) (receipt : Receipt) (change : Change)
+    → s.command token ≡ Some c
+    → Takes token Error receipt change → Allowed l n s change → (slot g : ℕ)
+    → IsToTell (after l s change) (LossOf slot g)
     → IsToTell s (LossOf slot g) ⊎ ((slot ≡ c.slot) × (g ≡ c.generation) × (c.abandoned ≡ false) × (receipt ≡ Taken))
 opens l n s token c Taken (Lose t d) here k a slot g i =
     let same : d ≡ c = same_entry (s.command token) d c (subst (λ y. s.command y ≡ Some d) k.0 a.0) here in

@@ -27,7 +27,8 @@ some-command (Some c) ne = (c, refl)
 
 module _ (s : Start) (lawful : IsLawful s) where
   -- attaches count up
-  more-attaches : (w : World) (plain : Plain) → IsKept s lawful w plain → (call : RegisterCall) (answer : Answer) → IsAnswer s.layout w.register call answer
+  more-attaches : (w : World) (plain : Plain) → IsKept s lawful w plain → (call : RegisterCall) (answer : Answer)
+      → IsAnswer s.layout w.register call answer
       → w.register.attaches ≤ (register_after s.layout w.register call answer).attaches
   more-attaches w plain x call answer (inl e) =
       subst (λ y. w.register.attaches ≤ (register_after s.layout w.register call y).attaches) (sym e)
@@ -35,8 +36,10 @@ module _ (s : Start) (lawful : IsLawful s) where
   more-attaches w plain x call answer (inr e) =
       subst (λ y. w.register.attaches ≤ (register_after s.layout w.register call y).attaches) (sym e) (omega arith)
 
-  untouched-next : (w : World) (plain plain' : Plain) (m : Moment) → IsKept s lawful w plain → IsKept s lawful (next s.layout w m) plain'
-      → Possible s.layout IsByAnyone w m.happening → IsOfShard s.number m.happening → AreUntouched s.layout s.number s.device w
+  untouched-next : (w : World) (plain plain' : Plain) (m : Moment) → IsKept s lawful w plain
+      → IsKept s lawful (next s.layout w m) plain'
+      → Possible s.layout IsByAnyone w m.happening → IsOfShard s.number m.happening
+      → AreUntouched s.layout s.number s.device w
       → AreUntouched s.layout s.number s.device (next s.layout w m)
   untouched-next w plain plain' m x x' possible own u slot g row above there =
       let l = s.layout in
@@ -47,7 +50,8 @@ module _ (s : Start) (lawful : IsLawful s) where
       absurd (omega arith))
       (at m.happening possible own above)
     where
-      at : (h : Happening) → Possible s.layout IsByAnyone w h → IsOfShard s.number h → (happened s.layout w h).register.attaches < g
+      at : (h : Happening) → Possible s.layout IsByAnyone w h → IsOfShard s.number h
+          → (happened s.layout w h).register.attaches < g
           → (happened s.layout w h).device slot g row ≡ s.device slot g row
       at (Core k event new) p o above = u slot g row above there
       at (Outside call) p o above =

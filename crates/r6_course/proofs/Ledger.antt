@@ -20,7 +20,8 @@ use Rattle.r6_course.proofs.Reached.{IsKept, is-of, holds-throughout}
 use Rattle.r6_course.proofs.Acting.{OrderedBy, OthersAreIdle, acts-on, gives-elsewhere}
 use Rattle.r6_course.proofs.Requests.{IsCall, IsBeside, moment, marks-stay, replied-cases, time-cases, Booked, booked-next}
 
-others-next : (s : Start) (w : World) (m : Moment) → IsOfShard s.number m.happening → OthersAreIdle w s.number → OthersAreIdle (next s.layout w m) s.number
+others-next : (s : Start) (w : World) (m : Moment) → IsOfShard s.number m.happening → OthersAreIdle w s.number
+    → OthersAreIdle (next s.layout w m) s.number
 others-next s w m own others k ne id = at m.happening own
   where
     at : (h : Happening) → IsOfShard s.number h → ((next s.layout w (record { happening = h; noise = m.noise })).shard k).request id ≡ None
@@ -35,7 +36,8 @@ record Led (s : Start) (w : World) (history : List Mark) (plain : Plain) : Type 
   ordered : OrderedBy s plain order
   others : OthersAreIdle w s.number
   booked : Booked s.layout s.number (w.shard s.number) history
-  replied : (id : ℕ) (reply : Reply) → IsIn (Replied id reply) history → reply ≢ ArrayFailed → plain.answers s.number id ≡ Some reply
+  replied : (id : ℕ) (reply : Reply) → IsIn (Replied id reply) history → reply ≢ ArrayFailed
+      → plain.answers s.number id ≡ Some reply
   asked : (e : Entry) → IsIn e order → IsIn (Asked e.id e.op) history
   in_time : InTime history order
 
@@ -45,9 +47,11 @@ module _ (s : Start) (lawful : IsLawful s) where
       holds-at s.layout lawful.layout (λ m. m ≡ s.number) IsByAnyone w w plain x s.number refl (λ failed id op reply e none. absurd (none reply e))
 
   -- a reply that is taken is the plain array's
-  replied-now : (w w' : World) (history history' : List Mark) (plain : Plain) → IsKept s lawful w plain → Led s w history plain
+  replied-now : (w w' : World) (history history' : List Mark) (plain : Plain) → IsKept s lawful w plain
+      → Led s w history plain
       → IsCall s.layout s.number w w' history history' ⊎ IsBeside s.number w w' history history'
-      → (id : ℕ) (reply : Reply) → IsIn (Replied id reply) history' → reply ≢ ArrayFailed → plain.answers s.number id ≡ Some reply
+      → (id : ℕ) (reply : Reply) → IsIn (Replied id reply) history' → reply ≢ ArrayFailed
+      → plain.answers s.number id ≡ Some reply
   replied-now w w' history history' plain k x (inr b) id reply i ne = x.replied id reply (subst (IsIn (Replied id reply)) b.3 i) ne
   replied-now w w' history history' plain k x (inl c) id reply i ne =
       elim (replied-cases c.0 history id reply (subst (IsIn (Replied id reply)) c.4 i)) [
@@ -58,13 +62,15 @@ module _ (s : Start) (lawful : IsLawful s) where
       ]
 
   -- what was there stays in the history
-  stays : (w w' : World) (history history' : List Mark) → IsCall s.layout s.number w w' history history' ⊎ IsBeside s.number w w' history history'
+  stays : (w w' : World) (history history' : List Mark)
+      → IsCall s.layout s.number w w' history history' ⊎ IsBeside s.number w w' history history'
       → (x : Mark) → IsIn x history → IsIn x history'
   stays w w' history history' (inl c) x i = subst (IsIn x) (sym c.4) (marks-stay c.0 history x i)
   stays w w' history history' (inr b) x i = subst (IsIn x) (sym b.3) i
 
   -- a request before which a reply was taken: it was so before, or it has a number that no entry has
-  time-was : (w w' : World) (history history' : List Mark) → IsCall s.layout s.number w w' history history' ⊎ IsBeside s.number w w' history history'
+  time-was : (w w' : World) (history history' : List Mark)
+      → IsCall s.layout s.number w w' history history' ⊎ IsBeside s.number w w' history history'
       → (id later : ℕ) (reply : Reply) (op : Op) → IsBefore (Replied id reply) (Asked later op) history'
       → IsBefore (Replied id reply) (Asked later op) history ⊎ (later ≡ (w.shard s.number).accepted)
   time-was w w' history history' (inr b) id later reply op before = inl (subst (IsBefore (Replied id reply) (Asked later op)) b.3 before)
@@ -74,7 +80,8 @@ module _ (s : Start) (lawful : IsLawful s) where
         | inr e ↦ inr ((subst (λ y. Step s.layout s.number (w.shard s.number) y c.1) e c.2).0)
       ]
 
-  led-next : (w : World) (history : List Mark) (plain : Plain) (m : Moment) → IsKept s lawful w plain → Led s w history plain
+  led-next : (w : World) (history : List Mark) (plain : Plain) (m : Moment) → IsKept s lawful w plain
+      → Led s w history plain
       → Possible s.layout IsByAnyone w m.happening → IsOfShard s.number m.happening
       → let new = next s.layout w m in Led s new (history_after m.happening history) (plain_after w (acting s.layout w new) plain)
   led-next w history plain m k x possible own =
@@ -131,12 +138,14 @@ module _ (s : Start) (lawful : IsLawful s) where
         in_time = λ id later reply op before ne e i same. absurd i;
       }
 
-  led : (w : World) (history : List Mark) → Reached s w history → (plain : Plain) × IsKept s lawful w plain × Led s w history plain
+  led : (w : World) (history : List Mark) → Reached s w history
+      → (plain : Plain) × IsKept s lawful w plain × Led s w history plain
   led w history x =
       holds-throughout s lawful (Led s) led-first (λ w history plain m k p possible own k'. led-next w history plain m k p possible own) w history x
 
   -- what the parts tell
-  parts-hold : (at : Stand) (x : Follows s at) (plain : Plain) → IsKept s lawful x.world plain → PartsHold s at plain.array
+  parts-hold : (at : Stand) (x : Follows s at) (plain : Plain) → IsKept s lawful x.world plain
+      → PartsHold s at plain.array
   parts-hold at x plain k row slot g inside there live unwritten sync telling part =
       let n = s.number in
       let w = x.world in
@@ -149,7 +158,8 @@ module _ (s : Start) (lawful : IsLawful s) where
       ] in
       told telling (x.parts slot g telling part ok) ((holds w plain k).unwritten_rows row slot g inside there live' unwritten' sync')
     where
-      told : (t : Telling) → Tells s (x.world.device slot g) t → x.world.device slot g row ≡ content s.layout plain.array row slot
+      told : (t : Telling) → Tells s (x.world.device slot g) t
+          → x.world.device slot g row ≡ content s.layout plain.array row slot
           → (blocks : Blocks) × (t ≡ Some blocks) × (blocks row ≡ content s.layout plain.array row slot)
       told None t e = absurd t
       told (Some blocks) t e = (blocks, refl, sym (t row there) ∙ e)

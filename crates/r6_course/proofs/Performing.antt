@@ -48,8 +48,10 @@ record Taken (s : Start) (at : Stand) (x : Follows s at) (token : ℕ) (c : Comm
   flies : world.flight s.number token ≡ Some c
   performed : world.performed s.number token ≡ None
   broken : (d g : ℕ) → world.broken s.number d g ≡ x.world.broken s.number d g
-  sound : (d g row : ℕ) → s.layout.shard_of row ≡ s.number → x.world.broken s.number d g ≡ false → world.device d g row ≡ x.world.device d g row
-  noisy : (d g row : ℕ) → s.layout.shard_of row ≡ s.number → x.world.broken s.number d g ≡ true → world.device d g row ≡ block
+  sound : (d g row : ℕ) → s.layout.shard_of row ≡ s.number → x.world.broken s.number d g ≡ false
+      → world.device d g row ≡ x.world.device d g row
+  noisy : (d g row : ℕ) → s.layout.shard_of row ≡ s.number → x.world.broken s.number d g ≡ true
+      → world.device d g row ≡ block
 
 unless : {A : Type 0} (b : Bool) (x y : A) → b ≡ false → (if b then x else y) ≡ y
 unless true x y e = absurd (true≢false e)
@@ -88,8 +90,10 @@ takes s lawful at x token c middle block step =
 -- the block that a good completion brings is the one that the performing gave; of a read it is what stands there, or the
 -- part is broken
 brings : (s : Start) (at : Stand) (x : Follows s at) (token : ℕ) (c : Command) (before behind : Telling) (block : Block) (middle : Shard)
-    → (w : Taken s at x token c middle block) → IsRowOf s.layout s.number c.row → at.part c.slot c.generation ≡ Some before
-    → (transfer : Transfer) → Does before transfer c.row block behind → Brings transfer (Some (given w.world.device c transfer)) block
+    → (w : Taken s at x token c middle block) → IsRowOf s.layout s.number c.row
+    → at.part c.slot c.generation ≡ Some before
+    → (transfer : Transfer) → Does before transfer c.row block behind
+    → Brings transfer (Some (given w.world.device c transfer)) block
 brings s at x token c before behind block middle w row there Fetch does =
     ap Some (elim (cases_Bool (x.world.broken s.number c.slot c.generation)) [
       | inl broken ↦ w.noisy c.slot c.generation c.row row.1 broken
@@ -103,7 +107,8 @@ brings s at x token c before behind block middle w row there Fetch does =
 brings s at x token c before behind block middle w row there (Store b) does = λ e. None-not_Some b (sym e)
 brings s at x token c before behind block middle w row there Storing does = absurd does
 
-put-rows : (f : ℕ → Block) (g : Blocks) (key : ℕ) (b : Block) (row : ℕ) → f row ≡ g row → put f key b row ≡ dev.put g key b row
+put-rows : (f : ℕ → Block) (g : Blocks) (key : ℕ) (b : Block) (row : ℕ) → f row ≡ g row
+    → put f key b row ≡ dev.put g key b row
 put-rows f g key b row e = elim (cases_eq row key) [
   | inl same ↦ put-same f key b row same ∙ sym (put-same g key b row same)
   | inr ne ↦ put-other f key b row ne ∙ e ∙ sym (put-other g key b row ne)
@@ -123,7 +128,8 @@ stands s device c (Some blocks) behind block (Store b) does tells =
 stands s device c (Some blocks) behind block Storing does tells = absurd does
 
 -- the other parts stay
-pub stands-elsewhere : (device : Devices) (c : Command) (transfer : Transfer) (slot g row : ℕ) → ((slot ≡ c.slot) × (g ≡ c.generation) → ⊥)
+pub stands-elsewhere : (device : Devices) (c : Command) (transfer : Transfer) (slot g row : ℕ)
+    → ((slot ≡ c.slot) × (g ≡ c.generation) → ⊥)
     → performed_on device c transfer slot g row ≡ device slot g row
 stands-elsewhere device c Fetch slot g row ne = refl
 stands-elsewhere device c Storing slot g row ne = refl
@@ -162,7 +168,9 @@ performing_goes_on s lawful at token c block receipt new behind x p =
     let t = takes s lawful at x token c p.middle block p.taken in
     let w = t.world in
     let out : (w.shard n).command token ≢ None =
-    (λ e. still-out l at.shard token c (ap (λ (y : Shard). y.command token) (sym p.taken.1) ∙ ap (λ (y : Shard). y.command token) (sym t.shard) ∙ e)) in
+    (λ e.
+    still-out l at.shard token c
+    (ap (λ (y : Shard). y.command token) (sym p.taken.1) ∙ ap (λ (y : Shard). y.command token) (sym t.shard) ∙ e)) in
     let m : Moment = shown w (Perform n token c) l in
     let w' = next l w m in
     let reached' : Reached s w' at.history = reach s w at.history t.reached m (lawful.number, t.flies, out, t.performed) refl in
@@ -170,7 +178,8 @@ performing_goes_on s lawful at token c block receipt new behind x p =
     put_in-same w.performed n token (Some (given w.device c c.transfer)) token refl in
     let brought : IsBrought (w'.flight n token) (w'.performed n token) block =
     subst (λ o. IsBrought o (w'.performed n token) block) (sym t.flies)
-    (subst (λ o. Brings c.transfer o block) (sym gave) (brings s at x token c p.before behind block p.middle t (row-of s lawful at x token c p.middle p.taken) p.there c.transfer p.does)) in
+    (subst (λ o. Brings c.transfer o block) (sym gave)
+    (brings s at x token c p.before behind block p.middle t (row-of s lawful at x token c p.middle p.taken) p.there c.transfer p.does)) in
     let m' : Moment = shown w' (Core n (Deliver token (Good block) receipt) new) l in
     let w'' = next l w' m' in
     let ok-was : (slot g : ℕ) → w''.broken n slot g ≡ false → x.world.broken n slot g ≡ false =
@@ -205,7 +214,8 @@ performing_goes_on s lawful at token c block receipt new behind x p =
 -- ---- it fails
 
 -- parts that have answered an error are broken from then on
-broken-was : (o : Option Command) (parts : ℕ → ℕ → Bool) (slot g : ℕ) → break o parts slot g ≡ false → parts slot g ≡ false
+broken-was : (o : Option Command) (parts : ℕ → ℕ → Bool) (slot g : ℕ) → break o parts slot g ≡ false
+    → parts slot g ≡ false
 broken-was None parts slot g e = e
 broken-was (Some c) parts slot g e = elim (cases_eq slot c.slot) [
   | inl same ↦ elim (cases_eq g c.generation) [
@@ -218,7 +228,8 @@ broken-was (Some c) parts slot g e = elim (cases_eq slot c.slot) [
   | inr ne ↦ sym (ap (λ (y : ℕ → Bool). y g) (put_in-apart parts c.slot c.generation true slot ne)) ∙ e
 ]
 
-broken-own : (o : Option Command) (c : Command) (parts : ℕ → ℕ → Bool) → o ≡ Some c → break o parts c.slot c.generation ≡ true
+broken-own : (o : Option Command) (c : Command) (parts : ℕ → ℕ → Bool) → o ≡ Some c
+    → break o parts c.slot c.generation ≡ true
 broken-own o c parts e = ap (λ y. break y parts c.slot c.generation) e ∙ put_in-same parts c.slot c.generation true c.generation refl
 
 -- the command as it stands once it was taken goes to the same device

@@ -16,7 +16,8 @@ use Rattle.r6_world.proofs.Laws.Headline.{Kept, one_step}
 use Rattle.r6_world.proofs.Laws.Starts.{kept-start}
 use Rattle.r6_course.specs.Courses.{Start, first_world, IsLawful, Mark, history_after, history_of, Reached}
 
-run-append : (l : Layout) (w : World) (a b : List Moment) → Run l IsByAnyone w a → Run l IsByAnyone (after_all l w a) b → Run l IsByAnyone w (a ++ b)
+run-append : (l : Layout) (w : World) (a b : List Moment) → Run l IsByAnyone w a
+    → Run l IsByAnyone (after_all l w a) b → Run l IsByAnyone w (a ++ b)
 run-append l w [] b r s = s
 run-append l w (m ∷ a) b r s = (r.0, run-append l (next l w m) a b r.1 s)
 
@@ -24,7 +25,8 @@ own-append : (n : ℕ) (a b : List Moment) → AreOfShard n a → AreOfShard n b
 own-append n [] b r s = s
 own-append n (m ∷ a) b r s = (r.0, own-append n a b r.1 s)
 
-history-append : (history : List Mark) (a b : List Moment) → history_of history (a ++ b) ≡ history_of (history_of history a) b
+history-append : (history : List Mark) (a b : List Moment)
+    → history_of history (a ++ b) ≡ history_of (history_of history a) b
 history-append history [] b = refl
 history-append history (m ∷ a) b = history-append (history_after m.happening history) a b
 
@@ -33,7 +35,8 @@ pub begins : (s : Start) → Reached s (first_world s) []
 begins s = record { moments = []; own = record {}; run = record {}; world = refl; marks = refl }
 
 -- one more thing happens
-pub reach : (s : Start) (w : World) (history : List Mark) → Reached s w history → (m : Moment) → Possible s.layout IsByAnyone w m.happening
+pub reach : (s : Start) (w : World) (history : List Mark) → Reached s w history → (m : Moment)
+    → Possible s.layout IsByAnyone w m.happening
     → IsOfShard s.number m.happening → Reached s (next s.layout w m) (history_after m.happening history)
 reach s w history x m possible own =
     record {
@@ -87,7 +90,8 @@ module _ (s : Start) (lawful : IsLawful s) (P : World → List Mark → Plain �
       )
 
 -- the world is as the laws of r6_world keep it
-pub kept : (s : Start) (lawful : IsLawful s) (w : World) (history : List Mark) → Reached s w history → (plain : Plain) × IsKept s lawful w plain
+pub kept : (s : Start) (lawful : IsLawful s) (w : World) (history : List Mark) → Reached s w history
+    → (plain : Plain) × IsKept s lawful w plain
 kept s lawful w history x =
     let y = holds-throughout s lawful (λ w history plain. record {}) (record {}) (λ w history plain m k p possible own k'. record {}) w history x in
     (y.0, y.1)
@@ -102,7 +106,8 @@ flown-was (Take_command token c) flight t e =
     elim (put-cases flight token (Some c) t None e) [ inl p ↦ absurd (not_both (Some c) c p.1 refl) | inr p ↦ p.1 ]
 flown-was event flight t e = e
 
-unflown-next : (l : Layout) (n : ℕ) (w : World) (m : Moment) → Possible l IsByAnyone w m.happening → Unflown n w → Unflown n (next l w m)
+unflown-next : (l : Layout) (n : ℕ) (w : World) (m : Moment) → Possible l IsByAnyone w m.happening → Unflown n w
+    → Unflown n (next l w m)
 unflown-next l n w m possible x = at m.happening possible
   where
     at : (h : Happening) → Possible l IsByAnyone w h → Unflown n (next l w (record { happening = h; noise = m.noise }))
@@ -130,7 +135,8 @@ unflown-next l n w m possible x = at m.happening possible
     at (Tell k call answer middle new) p = record { unperformed = x.unperformed }
     at (Outside call) p = record { unperformed = x.unperformed }
 
-pub unflown : (s : Start) (lawful : IsLawful s) (w : World) (history : List Mark) → Reached s w history → Unflown s.number w
+pub unflown : (s : Start) (lawful : IsLawful s) (w : World) (history : List Mark) → Reached s w history
+    → Unflown s.number w
 unflown s lawful w history x =
     (holds-throughout s lawful (λ w history plain. Unflown s.number w) (record { unperformed = λ t e. refl })
     (λ w history plain m k p possible own k'. unflown-next s.layout s.number w m possible p) w history x).2

@@ -27,7 +27,8 @@ abbrev pub IsBeside : ℕ → World → World → (history history' : List Mark)
 IsBeside n w w' history history' =
     (calls : List Call) × (untold : Option Call) × (w'.shard n ≡ record (w.shard n) { calls = calls; untold = untold }) × (history' ≡ history)
 
-pub moment : (l : Layout) (n : ℕ) (w : World) (m : Moment) (history : List Mark) → Possible l IsByAnyone w m.happening → IsOfShard n m.happening
+pub moment : (l : Layout) (n : ℕ) (w : World) (m : Moment) (history : List Mark) → Possible l IsByAnyone w m.happening
+    → IsOfShard n m.happening
     → IsCall l n w (next l w m) history (history_after m.happening history) ⊎ IsBeside n w (next l w m) history (history_after m.happening history)
 moment l n w m history possible own = at m.happening possible own
   where
@@ -53,7 +54,8 @@ marks-stay event history x i = i
 same-asked : (id id' : ℕ) (op op' : Op) → Asked id op ≡ Asked id' op' → Submit op' id' ≡ Submit op id
 same-asked id id' op op' e = cc
 
-same-replied : (id id' : ℕ) (reply reply' : Reply) → Replied id reply ≡ Replied id' reply' → Take_reply id' reply' ≡ Take_reply id reply
+same-replied : (id id' : ℕ) (reply reply' : Reply) → Replied id reply ≡ Replied id' reply'
+    → Take_reply id' reply' ≡ Take_reply id reply
 same-replied id id' reply reply' e = cc
 
 asked-id : (id id' : ℕ) (op op' : Op) → Asked id op ≡ Asked id' op' → id ≡ id'
@@ -73,7 +75,8 @@ asked-cases (Take_reply id' reply) history id op i =
     elim (in-cases (Asked id op) history (Replied id' reply) i) [ inl j ↦ inl j | inr e ↦ absurd (not-alike id id' op reply e) ]
 asked-cases event history id op i = inl i
 
-pub replied-cases : (event : Event) (history : List Mark) (id : ℕ) (reply : Reply) → IsIn (Replied id reply) (marked event history)
+pub replied-cases : (event : Event) (history : List Mark) (id : ℕ) (reply : Reply)
+    → IsIn (Replied id reply) (marked event history)
     → IsIn (Replied id reply) history ⊎ (event ≡ Take_reply id reply)
 replied-cases (Submit op id') history id reply i =
     elim (in-cases (Replied id reply) history (Asked id' op) i) [ inl j ↦ inl j | inr e ↦ absurd (not-alike id' id op reply (sym e)) ]
@@ -81,7 +84,8 @@ replied-cases (Take_reply id' reply') history id reply i =
     elim (in-cases (Replied id reply) history (Replied id' reply') i) [ inl j ↦ inl j | inr e ↦ inr (same-replied id id' reply reply' e) ]
 replied-cases event history id reply i = inl i
 
-pub time-cases : (event : Event) (history : List Mark) (id later : ℕ) (reply : Reply) (op : Op) → IsBefore (Replied id reply) (Asked later op) (marked event history)
+pub time-cases : (event : Event) (history : List Mark) (id later : ℕ) (reply : Reply) (op : Op)
+    → IsBefore (Replied id reply) (Asked later op) (marked event history)
     → IsBefore (Replied id reply) (Asked later op) history ⊎ (event ≡ Submit op later)
 time-cases (Submit op' id') history id later reply op b =
     elim (before-cases (Replied id reply) (Asked later op) history (Asked id' op') b) [ inl c ↦ inl c | inr c ↦ inr (same-asked later id' op op' c.1) ]
@@ -94,7 +98,8 @@ hands-in : (event : Event) → ((op : Op) × (id : ℕ) × (event ≡ Submit op 
 hands-in (Submit op id) = inl (op, id, refl)
 hands-in event = inr (λ op id e. cc)
 
-takes-reply : (event : Event) (id : ℕ) → ((reply : Reply) × (event ≡ Take_reply id reply)) ⊎ ((reply : Reply) → event ≡ Take_reply id reply → ⊥)
+takes-reply : (event : Event) (id : ℕ)
+    → ((reply : Reply) × (event ≡ Take_reply id reply)) ⊎ ((reply : Reply) → event ≡ Take_reply id reply → ⊥)
 takes-reply (Take_reply i reply) id = elim (cases_eq i id) [
   | inl same ↦ inl (reply, ap (λ y. Take_reply y reply) same)
   | inr ne ↦ inr (λ other e. ne (id-of i id reply other e))
@@ -119,7 +124,8 @@ counted-kept : (l : Layout) (n id : ℕ) (event : Event) → Keeps l n (IsCounte
 counted-kept l n id event s (Accept op) within a x = omega arith
 counted-kept l n id event s change within a x = x
 
-owned-kept : (l : Layout) (n id : ℕ) (event : Event) → ((reply : Reply) → event ≡ Take_reply id reply → ⊥) → Keeps l n (IsOwned id) event
+owned-kept : (l : Layout) (n id : ℕ) (event : Event) → ((reply : Reply) → event ≡ Take_reply id reply → ⊥)
+    → Keeps l n (IsOwned id) event
 owned-kept l n id event untaken s (Accept op) within a x =
     (omega arith, x.1, put-other s.request s.accepted _ id (λ same. absurd (let below = x.0 in omega arith)) ∙ x.2)
 owned-kept l n id event untaken s (Start f row task) within a x = elim (cases_Bool (serves task id)) [
@@ -153,7 +159,8 @@ gone-kept l n id event s (Hand_reply i o reply) within a x = elim (cases_eq id i
 ]
 gone-kept l n id event s change within a x = x
 
-known-kept : (l : Layout) (n : ℕ) (history : List Mark) (event : Event) → ((op : Op) (id : ℕ) → event ≡ Submit op id → ⊥) → Keeps l n (AreKnown history) event
+known-kept : (l : Layout) (n : ℕ) (history : List Mark) (event : Event)
+    → ((op : Op) (id : ℕ) → event ≡ Submit op id → ⊥) → Keeps l n (AreKnown history) event
 known-kept l n history event barred s (Accept op) within a x = absurd (barred op within.0 within.1)
 known-kept l n history event barred s (Start f row task) within a x = λ id op stage e. elim (cases_Bool (serves task id)) [
   | inl yes' ↦ let p = staged-cases (s.request id) f op stage (sym (held_now-served s.request task f id yes') ∙ e) in x id op p.0 p.1
@@ -175,7 +182,8 @@ record IsAccepted (l : Layout) (n : ℕ) (old : Shard) (op : Op) (id : ℕ) (new
   owned : IsOwned id new
   own_block : l.shard_of (l.row_of (block_of op)) ≡ n
 
-accepts : (l : Layout) (n : ℕ) (old : Shard) (op : Op) (id : ℕ) (new : Shard) → Step l n old (Submit op id) new → IsAccepted l n old op id new
+accepts : (l : Layout) (n : ℕ) (old : Shard) (op : Op) (id : ℕ) (new : Shard) → Step l n old (Submit op id) new
+    → IsAccepted l n old op id new
 accepts l n old op id new step =
     let first : IsOwned id (after l old (Accept op)) =
     (let same = step.0 in omega arith, request_at op Waiting, put-same old.request old.accepted (Some (request_at op Waiting)) id step.0) in
@@ -185,7 +193,8 @@ accepts l n old op id new step =
       own_block = step.1.2;
     }
 
-accepted-known : (history : List Mark) (l : Layout) (s : Shard) (op : Op) (id : ℕ) → id ≡ s.accepted → AreKnown history s
+accepted-known : (history : List Mark) (l : Layout) (s : Shard) (op : Op) (id : ℕ) → id ≡ s.accepted
+    → AreKnown history s
     → AreKnown (marked (Submit op id) history) (after l s (Accept op))
 accepted-known history l s op id same x id' op' stage e =
     elim (put-cases s.request s.accepted (Some (request_at op Waiting)) id' (Some (request_at op' stage)) e) [
@@ -196,7 +205,8 @@ accepted-known history l s op id same x id' op' stage e =
       | inr p ↦ in-front (Asked id' op') history (Asked id op ∷ []) (x id' op' stage p.1)
     ]
 
-event-known : (history : List Mark) (l : Layout) (n : ℕ) (s : Shard) (event : Event) (new : Shard) → Step l n s event new → AreKnown history s
+event-known : (history : List Mark) (l : Layout) (n : ℕ) (s : Shard) (event : Event) (new : Shard)
+    → Step l n s event new → AreKnown history s
     → AreKnown (marked event history) new
 event-known history l n s event new step x = elim (hands-in event) [
   | inl h ↦ subst (λ y. AreKnown (marked y history) new) (sym h.2) (submits h.0 h.1 (subst (λ y. Step l n s y new) h.2 step))
@@ -224,7 +234,8 @@ pub record Booked (l : Layout) (n : ℕ) (shard : Shard) (history : List Mark) :
   pub well_formed : IsWellFormed history
 
 -- the marks of a call are well formed
-formed-call : (l : Layout) (n : ℕ) (old : Shard) (event : Event) (new : Shard) (history : List Mark) → Step l n old event new → Booked l n old history
+formed-call : (l : Layout) (n : ℕ) (old : Shard) (event : Event) (new : Shard) (history : List Mark)
+    → Step l n old event new → Booked l n old history
     → IsWellFormed (marked event history)
 formed-call l n old (Submit op' id') new history step x =
     record {
@@ -269,12 +280,14 @@ formed-call l n old (Take_reply id' reply') new history step x =
 formed-call l n old event new history step x = x.well_formed
 
 -- a request whose reply is taken is gone
-replies : (l : Layout) (n : ℕ) (old : Shard) (id : ℕ) (reply : Reply) (new : Shard) (history : List Mark) → Step l n old (Take_reply id reply) new
+replies : (l : Layout) (n : ℕ) (old : Shard) (id : ℕ) (reply : Reply) (new : Shard) (history : List Mark)
+    → Step l n old (Take_reply id reply) new
     → Booked l n old history → IsGone id new
 replies l n old id reply new history step x =
     subst (IsGone id) (sym step.2) (x.counted id step.0 (x.known id step.0 _ step.1), put-same old.request id None id refl)
 
-booked-call : (l : Layout) (n : ℕ) (old : Shard) (event : Event) (new : Shard) (history : List Mark) → Step l n old event new → Booked l n old history
+booked-call : (l : Layout) (n : ℕ) (old : Shard) (event : Event) (new : Shard) (history : List Mark)
+    → Step l n old event new → Booked l n old history
     → Booked l n new (marked event history)
 booked-call l n old event new history step x =
     record {
@@ -307,10 +320,21 @@ booked-call l n old event new history step x =
     }
 
 pub booked-next : (l : Layout) (n : ℕ) (w w' : World) (history history' : List Mark)
-    → IsCall l n w w' history history' ⊎ IsBeside n w w' history history' → Booked l n (w.shard n) history → Booked l n (w'.shard n) history'
+    → IsCall l n w w' history history' ⊎ IsBeside n w w' history history' → Booked l n (w.shard n) history
+    → Booked l n (w'.shard n) history'
 booked-next l n w w' history history' (inl c) x =
     subst (Booked l n (w'.shard n)) (sym c.4)
     (subst (λ y. Booked l n y (marked c.0 history)) (sym c.3) (booked-call l n (w.shard n) c.0 c.1 history c.2 x))
 booked-next l n w w' history history' (inr b) x =
     subst (Booked l n (w'.shard n)) (sym b.3)
-    (subst (λ y. Booked l n y history) (sym b.2) (record { known = x.known; counted = x.counted; kept = x.kept; own_block = x.own_block; gone = x.gone; well_formed = x.well_formed }))
+    (subst (λ y. Booked l n y history) (sym b.2) (same x))
+  where
+    same : Booked l n (w.shard n) history → Booked l n (record (w.shard n) { calls = b.0; untold = b.1 }) history
+    same y = record {
+      known = y.known;
+      counted = y.counted;
+      kept = y.kept;
+      own_block = y.own_block;
+      gone = y.gone;
+      well_formed = y.well_formed;
+    }

@@ -17,7 +17,8 @@ use Rattle.r6_course.specs.Witness.{all_tell, small_start, BeginsHeld, AnswersFr
 use Rattle.r6_course.proofs.Calls.{calls_go_on}
 
 -- parts that tell all that the devices have
-tells-all : (s : Start) (device : Devices) (slot g : ℕ) (telling : Telling) → all_tell device slot g ≡ Some telling → Tells s (device slot g) telling
+tells-all : (s : Start) (device : Devices) (slot g : ℕ) (telling : Telling) → all_tell device slot g ≡ Some telling
+    → Tells s (device slot g) telling
 tells-all s device slot g telling there = subst (Tells s (device slot g)) (Some-inj (Some (device slot g)) telling there) (λ row in'. refl)
 
 -- ---- where a course begins
@@ -27,7 +28,8 @@ some-fails : (p : ℕ → Bool) (n : ℕ) → count_below p n < n → (d : ℕ) 
 some-fails p zero less = absurd (omega arith)
 some-fails p (suc n) less = at (some-fails p n) (p n) refl
   where
-    at : (count_below p n < n → (d : ℕ) × (d < n) × (p d ≡ false)) → (b : Bool) → p n ≡ b → (d : ℕ) × (d < suc n) × (p d ≡ false)
+    at : (count_below p n < n → (d : ℕ) × (d < n) × (p d ≡ false)) → (b : Bool) → p n ≡ b
+        → (d : ℕ) × (d < suc n) × (p d ≡ false)
     at below false e = (n, omega arith, e)
     at below true e =
         let count : count_below p (suc n) ≡ 1 + count_below p n = ap (λ y. (if y then 1 else 0) + count_below p n) e in
@@ -73,7 +75,8 @@ n0<1 : 0 < 1
 n0<1 = omega arith
 
 answers : (r : Snapshot) (device : Devices) (array : Array) (new_data : Block) → IsLawful (small_start r device array)
-    → (c : CourseFrom (first_world (small_start r device array)) new_data) → AnswersFrom (small_start r device array) new_data c
+    → (c : CourseFrom (first_world (small_start r device array)) new_data)
+    → AnswersFrom (small_start r device array) new_data c
 answers r device array new_data lawful c =
     let s : Start = small_start r device array in
     let moments : List Moment = c.write ++ c.loss ++ c.degraded_read ++ c.attach ++ c.rebuild ++ c.read in
