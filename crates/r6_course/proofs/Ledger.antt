@@ -3,7 +3,8 @@ use Rattle.std.proofs.Common.{◌≡◌, ◌≢◌, ℕ, ◌⊎◌, List, [], �
 use Rattle.std.proofs.lemmas.Bool.{cases_Bool}
 use Rattle.r6_dev.specs.History.{Telling, Blocks}
 use Rattle.r6_world.specs.PlainArray.{Op, Reply, ArrayFailed, Plain}
-use Rattle.r6_world.specs.Layouts.{content}
+use Rattle.r6_recover.specs.Rows.{block_at}
+use Rattle.r6_world.specs.Layouts.{content, full_row}
 use Rattle.r6_world.specs.ShardStates.{InSyncFor, IsLive, Request, Shard}
 use Rattle.r6_world.specs.Steps.{Step}
 use Rattle.r6_world.specs.Worlds.{World, Happening, Core, Perform, Tell, Outside, Moment, Possible, next}
@@ -11,10 +12,11 @@ use Rattle.r6_world.specs.Claims.{IsUnwritten}
 use Rattle.r6_world.specs.ActingPoints.{acting, plain_after}
 use Rattle.r6_world.specs.Laws.{IsByAnyone, IsOfShard, ShardHolds, at_start}
 use Rattle.r6_world.proofs.Tables.{put-other, not_both, None-not_Some}
+use Rattle.r6_world.proofs.FullRows.{row-same}
 use Rattle.r6_world.proofs.Uses.{sync-uses}
 use Rattle.r6_world.proofs.Laws.Headline.{holds-at, one_step}
 use Rattle.r6_course.specs.Courses.{Start, IsLawful, first_world, Mark, Asked, Replied, history_after, Reached, Stand, Tells, Follows}
-use Rattle.r6_course.specs.Ledgers.{Entry, entry, IsIn, IsBefore, InTime, PartsHold, OthersStay, OrderLaw}
+use Rattle.r6_course.specs.Ledgers.{Entry, entry, IsIn, IsBefore, InTime, PartsHold, OthersStay, OrderLaw, merged, MergeLaw}
 use Rattle.r6_course.proofs.Lists.{in-front, in-either, before-more, before-across, before-first}
 use Rattle.r6_course.proofs.Reached.{IsKept, is-of, holds-throughout}
 use Rattle.r6_course.proofs.Acting.{OrderedBy, OthersAreIdle, acts-on, gives-elsewhere}
@@ -194,3 +196,12 @@ order_law s lawful at x =
         | inr gone ↦ inr gone
       ];
     }
+
+pub merge_law : MergeLaw
+merge_law s lawful at arrays holds row slot g inside there live unwritten sync telling part =
+    let l = s.layout in
+    let h = holds row slot g inside there live unwritten sync telling part in
+    let same : full_row l (merged l arrays) row ≡ full_row l (arrays s.number) row =
+    row-same l lawful.layout (merged l arrays) (arrays s.number) row there.0
+    (λ block in'. ap (λ y. arrays (l.shard_of y) block) in' ∙ ap (λ y. arrays y block) there.1) in
+    (h.0, h.1, h.2 ∙ ap (λ y. block_at y (l.position row slot)) (sym same))

@@ -3,7 +3,7 @@
 use Rattle.std.specs.Prelude.{◌≡◌, ◌≢◌, ℕ, ◌<◌, ◌⊎◌, List, [], ◌∷◌, Some, None}
 use Rattle.r6_dev.specs.History.{Telling, Blocks}
 use Rattle.r6_world.specs.PlainArray.{Array, Op, Reply, ArrayFailed, reply_of, array_after}
-use Rattle.r6_world.specs.Layouts.{IsRowOf, content}
+use Rattle.r6_world.specs.Layouts.{Layout, IsRowOf, content}
 use Rattle.r6_world.specs.ShardStates.{InSyncFor, IsLive}
 use Rattle.r6_world.specs.Claims.{IsUnwritten}
 use Rattle.r6_course.specs.Courses.{Start, IsLawful, Mark, Asked, Replied, Stand, Follows}
@@ -93,3 +93,13 @@ pub record HasLedger (s : Start) (at : Stand) : Type 0 where
 -- The whole law of a ledger, wherever a course has led
 abbrev pub OrderLaw : Type 0
 OrderLaw = (s : Start) → IsLawful s → (at : Stand) → Follows s at → HasLedger s at
+
+-- the arrays in which the shards' ledgers end, as one: each block is that of its shard's
+abbrev pub merged : Layout → (ℕ → Array) → Array
+merged l arrays block = arrays (l.shard_of (l.row_of block)) block
+
+-- The parts of each shard hold that one array
+abbrev pub MergeLaw : Type 0
+MergeLaw =
+    (s : Start) → IsLawful s → (at : Stand) (arrays : ℕ → Array)
+    → PartsHold s at (arrays s.number) → PartsHold s at (merged s.layout arrays)

@@ -3,7 +3,7 @@
 #![tactic(auto)]
 
 ghost use Rattle.r6_course.specs.Ends.{CommandLaw, FailureLaw, IdleLaw, LossLaw};
-ghost use Rattle.r6_course.specs.Ledgers.{OrderLaw};
+ghost use Rattle.r6_course.specs.Ledgers.{MergeLaw, OrderLaw};
 ghost use Rattle.r6_course.specs.Steps.{CoursesBegin, CallsGoOn, PerformingGoesOn, FailureGoesOn, OthersGoOn};
 ghost use Rattle.r6_course.specs.Steps.{TellingGoesOn, HandingGoesOn, LettingGoesOn};
 ghost use Rattle.r6_course.specs.Witness.{WitnessLaw};
@@ -29,6 +29,12 @@ pub fn courses_go_on()
 /// open yet or was answered.
 pub fn order_law()
     ensures { OrderLaw }
+{}
+
+/// The arrays in which the ledgers of all shards end make one, of which each block is that of its shard's: the parts
+/// of each shard hold it.
+pub fn merge_law()
+    ensures { MergeLaw }
 {}
 
 /// Wherever a course has led: a request was answered that the array has failed only if the shard saw so, and it saw
