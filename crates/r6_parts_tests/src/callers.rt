@@ -6,17 +6,22 @@ use crate::device_caller::copy_rows;
 use crate::hold_caller::drive;
 use crate::register_caller::fail_each;
 use r6_dev::{BlockDevice, Fault, MemoryDevice};
-use r6_health::{Refusal, Register};
+use r6_health::{Answer, Refusal, Register};
 use r6_kernels::Buffer;
 use r6_layout::Geometry;
 use std::test::Fail;
+
+/// Whether the second of three results is that the slot is lost already.
+fn is_second_refused(results: &[Result<Answer, Refusal>]) -> bool {
+    results.len() == 3 && results[1] == Err(Refusal::AlreadyLost)
+}
 
 #[test]
 fn slots_are_failed_in_order(rt: HostRuntime) -> Result<(), Fail> {
     let geometry = Geometry::new(4, 1, 16, 4, 1)?;
     let (register, mut pass) = Register::new(&rt, rt.alloc(), &geometry, 0)?;
     let results = fail_each(&rt, rt.alloc(), &register, &mut pass, &[2, 2, 3])?;
-    assert!(rt; results.len() == 3 && results[1] == Err(Refusal::AlreadyLost));
+    assert!(rt; is_second_refused(results.as_slice()));
     Ok(())
 }
 

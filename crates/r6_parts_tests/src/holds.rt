@@ -1,8 +1,8 @@
 //! Holds driven over blocks in memory.
 
-use crate::bench::{Ask, Bench, Seen, Step, has_bytes};
+use crate::bench::{Ask, Bench, Seen, Step, has_bytes, plays};
 use crate::blocks::is_filled;
-use r6_stripe::{Hold, Task};
+use r6_stripe::{Hold, Outcome, Task};
 use std::alloc::{AllocError, Global};
 use std::process::Abort;
 use std::test::Fail;
@@ -55,18 +55,20 @@ fn write_over_zeros_reads_one_block(rt: HostRuntime) -> Result<(), Fail> {
 
 /// A write over zeros loses a position after so many commands. Then it has to be over, and the others are full.
 fn loses<R: Abort>(rt: &R, alloc: Global, position: usize, commands: usize) -> Result<(), Fail> {
-    let mut bench = write_over_zeros(alloc)?;
-    bench.play(
+    plays(
         rt,
+        alloc,
+        Ask::Write(0, 0x5a),
+        &[0; 4],
+        &[true; 4],
         &[
             (Step::Drive(commands), Seen::Commands(commands)),
             (Step::Lose(position), Seen::Lost),
+            (Step::Finish, Seen::End(Some(Outcome::Done))),
         ],
-    )?;
-    bench.drive(9);
-    bench.play(rt, &[(Step::IsOver, Seen::Is(true))])?;
-    assert!(rt; has_bytes(&bench.devices, &WRITTEN, &[position]));
-    Ok(())
+        &WRITTEN,
+        &[position],
+    )
 }
 
 // The read and some of the writes are performed before the position is lost.
@@ -84,9 +86,12 @@ fn losses_while_writing_leave_the_others_full(rt: HostRuntime) -> Result<(), Fai
 #[test]
 fn late_buffers_come_home(rt: HostRuntime) -> Result<(), Fail> {
     for lost in 0..4usize {
-        let mut bench = write_over_zeros(rt.alloc())?;
-        bench.play(
+        plays(
             &rt,
+            rt.alloc(),
+            Ask::Write(0, 0x5a),
+            &[0; 4],
+            &[true; 4],
             &[
                 (Step::Drive(1), Seen::Commands(1)),
                 (Step::NextAll, Seen::Commands(3)),
@@ -98,6 +103,8 @@ fn late_buffers_come_home(rt: HostRuntime) -> Result<(), Fail> {
                 (Step::IsOver, Seen::Is(true)),
                 (Step::IsHome, Seen::Is(true)),
             ],
+            &WRITTEN,
+            &[lost],
         )?;
     }
     Ok(())

@@ -3,20 +3,22 @@
 use crate::blocks::{filled, is_filled};
 use r6_field::{ConstMul, Gf};
 use r6_kernels::{Buffer, delta, double, parity, scale_add, xor_into};
+use std::alloc::{AllocError, Global};
 use std::test::Fail;
+
+/// Whether data 01 and 80 of a length have P 81 and Q 1c.
+fn has_parity(alloc: Global, len: usize) -> Result<bool, AllocError> {
+    let sources = [filled(alloc, len, 0x01)?, filled(alloc, len, 0x80)?];
+    let mut p = Buffer::new(alloc, len)?;
+    let mut q = Buffer::new(alloc, len)?;
+    parity(&sources, &mut p, &mut q);
+    Ok(is_filled(&p, 0x81) && is_filled(&q, 0x1c))
+}
 
 #[test]
 fn parity_of_two(rt: HostRuntime) -> Result<(), Fail> {
     for len in [0, 1, 31, 33, 48, 80, 4096] {
-        let (d0, d1) = (
-            filled(rt.alloc(), len, 0x01)?,
-            filled(rt.alloc(), len, 0x80)?,
-        );
-        let sources = [d0, d1];
-        let mut p = Buffer::new(rt.alloc(), len)?;
-        let mut q = Buffer::new(rt.alloc(), len)?;
-        parity(&sources, &mut p, &mut q);
-        assert!(rt; is_filled(&p, 0x81) && is_filled(&q, 0x1c), "length {len}");
+        assert!(rt; has_parity(rt.alloc(), len)?, "length {len}");
     }
     Ok(())
 }

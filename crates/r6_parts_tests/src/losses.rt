@@ -121,6 +121,22 @@ fn answer_all(bench: &mut Bench, commands: Vec<RowCommand>) {
     }
 }
 
+/// Whether a hold does its task in a row that has these bytes then, and goes on so once the late buffers are home.
+fn does_its_task(
+    alloc: Global,
+    bench: &mut Bench,
+    writes: bool,
+    losses: &[Loss; 2],
+    answers: Answers,
+    after: &[u8],
+) -> Result<bool, AllocError> {
+    let late = run(alloc, bench, losses, answers)?;
+    let lost = [losses[0].position, losses[1].position];
+    let was_done = is_done(bench, writes, after, &lost);
+    answer_all(bench, late);
+    Ok(was_done && is_done(bench, writes, after, &lost) && bench.hold.is_home())
+}
+
 /// Whether a hold does its task, whatever the two losses.
 fn survives(
     alloc: Global,
@@ -132,14 +148,17 @@ fn survives(
     requires at_least { 4 ≤ count }
     requires at_most { count ≤ 8 }
 {
-    let mut bench = begun(alloc, count, writes, &losses)?;
-    let late = run(alloc, &mut bench, &losses, answers)?;
     let after = if writes { CHANGED } else { DATA };
     let after = full_row(alloc, &after[..count - 2])?;
-    let lost = [losses[0].position, losses[1].position];
-    let was_done = is_done(&bench, writes, after.as_slice(), &lost);
-    answer_all(&mut bench, late);
-    Ok(was_done && is_done(&bench, writes, after.as_slice(), &lost) && bench.hold.is_home())
+    let mut bench = begun(alloc, count, writes, &losses)?;
+    Ok(does_its_task(
+        alloc,
+        &mut bench,
+        writes,
+        &losses,
+        answers,
+        after.as_slice(),
+    )?)
 }
 
 /// Two losses of a row of so many positions that a hold doesn't survive; they may be the same.

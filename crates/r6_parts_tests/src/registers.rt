@@ -1,5 +1,6 @@
 //! Courses of calls of a register, by one thread.
 
+ghost use Rattle.std.specs.Prelude.{◌<◌};
 ghost use Rattle.r6_health.specs.Passes.{IsPassOf};
 
 use r6_health::{
@@ -134,14 +135,21 @@ fn refusals_have_their_numbers_and_names(rt: HostRuntime) {
     );
 }
 
+/// Whether the register holds a slot as lost.
+fn is_lost<R: Wait>(rt: &R, register: &Register, pass: &mut Pass, slot: usize) -> bool
+    requires pass { IsPassOf register.now pass.old }
+    requires slot { slot < 32 }
+    ensures { IsPassOf register.now pass.new }
+{
+    register.read(rt, pass).slot(slot).is_lost()
+}
+
 // Also run with each allocation failing in turn: the answer is then error 1.
 #[test]
 fn a_register_is_made_or_memory_is_wanting(rt: HostRuntime) -> Result<(), Fail> {
     let geometry = Geometry::new(4, 1, 16, 4, 1)?;
     match Register::new(&rt, rt.alloc(), &geometry, 1) {
-        Ok((register, mut pass)) => {
-            assert!(rt; register.read(&rt, &mut pass).slot(0).is_lost());
-        }
+        Ok((register, mut pass)) => assert!(rt; is_lost(&rt, &register, &mut pass, 0)),
         Err(error) => assert!(rt; error.number() == 1),
     }
     Ok(())
@@ -158,13 +166,22 @@ fn a_snapshot_loses_a_slot(rt: HostRuntime) -> Result<(), Fail> {
     Ok(())
 }
 
+/// Fails a slot by a pass of its own, which is taken back then.
+fn failed_by_another<R: Wait>(rt: &R, register: &Register, pass: &mut Pass, slot: usize) -> Told
+    requires { IsPassOf register.now pass.old }
+    ensures { IsPassOf register.now pass.new }
+{
+    let mut other = register.split(pass);
+    let told = register.fail(rt, &mut other, slot);
+    register.join(pass, other);
+    told
+}
+
 #[test]
 fn a_pass_that_is_taken_back_is_heard(rt: HostRuntime) -> Result<(), Fail> {
     let geometry = Geometry::new(4, 1, 16, 4, 1)?;
     let (register, mut pass) = Register::new(&rt, rt.alloc(), &geometry, 0)?;
-    let mut other = register.split(&mut pass);
-    assert!(rt; register.fail(&rt, &mut other, 3) == DEGRADED);
-    register.join(&mut pass, other);
-    assert!(rt; register.read(&rt, &mut pass).slot(3).is_lost());
+    assert!(rt; failed_by_another(&rt, &register, &mut pass, 3) == DEGRADED);
+    assert!(rt; is_lost(&rt, &register, &mut pass, 3));
     Ok(())
 }

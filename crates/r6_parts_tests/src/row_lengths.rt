@@ -65,19 +65,24 @@ fn come_back(row: &mut RowBuf, x: usize, y: usize, bytes: &[u8], full: &RowBuf) 
     !are_same(row, full) && restore(row, all_but(x, y)).is_ok() && are_same(row, full)
 }
 
-/// Whether any two blocks of a full row of a length come back.
-fn all_come_back(alloc: Global, len: usize) -> Result<bool, AllocError> {
-    let full = full_row(alloc, len)?;
-    let other = pattern(alloc, len, 100)?;
-    let mut row = full_row(alloc, len)?;
+/// Whether any two blocks of a full row come back after they have these bytes.
+fn any_two_come_back(row: &mut RowBuf, bytes: &[u8], full: &RowBuf) -> bool {
     for y in 0..6 {
         for x in 0..y {
-            if !come_back(&mut row, x, y, other.as_slice(), &full) {
-                return Ok(false);
+            if !come_back(row, x, y, bytes, full) {
+                return false;
             }
         }
     }
-    Ok(true)
+    true
+}
+
+/// Whether any two blocks of a full row of a length come back.
+fn all_come_back(alloc: Global, len: usize) -> Result<bool, AllocError> {
+    let full = full_row(alloc, len)?;
+    let mut row = full_row(alloc, len)?;
+    let other = pattern(alloc, len, 100)?;
+    Ok(any_two_come_back(&mut row, other.as_slice(), &full))
 }
 
 #[test]

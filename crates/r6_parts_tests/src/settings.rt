@@ -1,6 +1,7 @@
 //! Texts of settings.
 
 use r6_settings::{Config, Key, SettingsFault, settings};
+use std::alloc::Global;
 use std::test::Fail;
 
 const FOUR_SLOTS: &str = "slots = 4\nchunk = 1\nblock = 16\nrows = 4\nshards = 2\n";
@@ -30,6 +31,12 @@ fn reads_every_key(rt: HostRuntime) {
     assert!(rt; matches!(&short, Ok(config) if has_what_is_left_out(config)));
 }
 
+/// Whether a text is refused for its devices, and only where they are used.
+fn lacks_devices(alloc: Global, text: &str) -> bool {
+    let used = settings(alloc, text, true);
+    matches!(&used, Err(SettingsFault::Value(Key::Devices))) && settings(alloc, text, false).is_ok()
+}
+
 #[test]
 fn asks_for_devices_where_they_are_used(rt: HostRuntime) -> Result<(), Fail> {
     let alloc = rt.alloc();
@@ -41,15 +48,7 @@ fn asks_for_devices_where_they_are_used(rt: HostRuntime) -> Result<(), Fail> {
     ];
     for line in lines {
         let text = format!(in alloc; "{FOUR_SLOTS}{line}")?;
-        let refused = matches!(
-            &settings(alloc, text.as_str(), true),
-            Err(SettingsFault::Value(Key::Devices))
-        );
-        assert!(rt; refused, "at {line:?}");
-        assert!(rt;
-            settings(alloc, text.as_str(), false).is_ok(),
-            "at {line:?}"
-        );
+        assert!(rt; lacks_devices(alloc, text.as_str()), "at {line:?}");
     }
     Ok(())
 }

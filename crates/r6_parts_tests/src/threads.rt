@@ -76,15 +76,33 @@ fn churn_all<R: Threads + Wait + Sync>(
     Ok(all)
 }
 
+/// By passes that are split from this one.
+fn churn_beside<R: Threads + Wait + Sync>(
+    rt: &R,
+    alloc: Global,
+    register: &Register,
+    pass: &mut Pass,
+) -> Result<Vec<u32>, AllocError>
+    requires { IsPassOf register.now pass.old }
+    ensures { IsPassOf register.now pass.new }
+{
+    let theirs = register.split(pass);
+    churn_all(rt, alloc, register, theirs)
+}
+
+/// Whether so many generations, from 1 on, were given once each.
+fn are_given_once(alloc: Global, given: &mut Vec<u32>, attaches: u32) -> Result<bool, AllocError> {
+    given.sort()?;
+    let wanted: Vec<u32> = (1..=attaches).collect(alloc)?;
+    Ok(attaches > 0 && given.as_slice() == wanted.as_slice())
+}
+
 #[test]
 fn four_threads_are_given_each_generation_once(rt: HostRuntime) -> Result<(), Fail> {
     let geometry = Geometry::new(4, 1, 16, 4, 2)?;
     let (register, mut pass) = Register::new(&rt, rt.alloc(), &geometry, 0)?;
-    let theirs = register.split(&mut pass);
-    let mut given = churn_all(&rt, rt.alloc(), &register, theirs)?;
-    given.sort()?;
+    let mut given = churn_beside(&rt, rt.alloc(), &register, &mut pass)?;
     let attaches = register.read(&rt, &mut pass).attaches();
-    let wanted: Vec<u32> = (1..=attaches).collect(rt.alloc())?;
-    assert!(rt; attaches > 0 && given.as_slice() == wanted.as_slice());
+    assert!(rt; are_given_once(rt.alloc(), &mut given, attaches)?);
     Ok(())
 }
