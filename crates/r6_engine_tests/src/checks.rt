@@ -9,6 +9,18 @@ use std::process::Abort;
 use std::test::Fail;
 use std::thread::Threads;
 
+fn checked(alloc: Global, array: &Array<'_>) -> Result<Report, Fail> {
+    let geometry = array.geometry()?;
+    let mut parts = array.parts(alloc, &geometry)?;
+    Ok(check_all(alloc, &geometry, parts.as_mut_slice())?)
+}
+
+fn verified<R: Threads + Sync>(rt: &R, alloc: Global, array: &Array<'_>) -> Result<Report, Fail> {
+    let geometry = array.geometry()?;
+    let mut parts = array.parts(alloc, &geometry)?;
+    Ok(verify(rt, alloc, &geometry, parts.as_mut_slice(), &mut Unwatched)?)
+}
+
 /// Both passes have to report this.
 fn reports<R: Abort + Threads + Sync>(
     rt: &R,
@@ -16,13 +28,8 @@ fn reports<R: Abort + Threads + Sync>(
     array: &Array<'_>,
     wanted: &Report,
 ) -> Result<(), Fail> {
-    let geometry = array.geometry()?;
-    let mut parts = array.parts(alloc, &geometry)?;
-    let checked = check_all(alloc, &geometry, parts.as_mut_slice())?;
-    assert_eq!(rt; checked, *wanted);
-    let mut parts = array.parts(alloc, &geometry)?;
-    let verified = verify(rt, alloc, &geometry, parts.as_mut_slice(), &mut Unwatched)?;
-    assert_eq!(rt; verified, *wanted);
+    assert_eq!(rt; checked(alloc, array)?, *wanted);
+    assert_eq!(rt; verified(rt, alloc, array)?, *wanted);
     Ok(())
 }
 

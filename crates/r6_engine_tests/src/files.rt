@@ -83,6 +83,24 @@ fn checked(rt: &HostRuntime, shards: usize, paths: &[String]) -> Result<Report, 
     Ok(check_all(rt.alloc(), &geometry, parts.as_mut_slice())?)
 }
 
+/// Whether this is found in the files of these paths, with however many shards.
+fn is_found(rt: &HostRuntime, paths: &[String], wanted: &Report) -> Result<bool, Fail> {
+    for shards in [1usize, 2, 4] {
+        if checked(rt, shards, paths)? != *wanted {
+            return Ok(false);
+        }
+    }
+    Ok(true)
+}
+
+/// Writes a file of zeros, but for its first byte.
+fn fill_but_for_the_first(rt: &HostRuntime, path: &str) -> Result<(), Fail> {
+    let mut bytes = [0u8; BYTES];
+    bytes[0] = 1;
+    fs::write(rt, path, bytes.as_slice())?;
+    Ok(())
+}
+
 #[test]
 fn made_files_hold_zeros_and_are_consistent(rt: HostRuntime) -> Result<(), Fail> {
     let paths = paths_of(&rt, "made")?;
@@ -98,25 +116,15 @@ fn made_files_hold_zeros_and_are_consistent(rt: HostRuntime) -> Result<(), Fail>
     for path in &paths {
         has(&rt, path.as_str(), BYTES, 0)?;
     }
-    for shards in [1usize, 2, 4] {
-        assert_eq!(rt; checked(&rt, shards, paths.as_slice())?, wanted);
-    }
-    let mut bytes = [0u8; BYTES];
-    bytes[0] = 1;
-    fs::write(
-        &rt,
-        paths.get(1).ok_or("no path")?.as_str(),
-        bytes.as_slice(),
-    )?;
+    assert!(rt; is_found(&rt, paths.as_slice(), &wanted)?);
+    fill_but_for_the_first(&rt, paths.get(1).ok_or("no path")?.as_str())?;
     wanted.counts.consistent = 3;
     wanted.counts.wrong_data = 1;
     wanted.first = Some(WrongRow {
         row: 0,
         class: RowClass::WrongData(0),
     });
-    for shards in [1usize, 2, 4] {
-        assert_eq!(rt; checked(&rt, shards, paths.as_slice())?, wanted);
-    }
+    assert!(rt; is_found(&rt, paths.as_slice(), &wanted)?);
     remove(&rt, paths.as_slice());
     Ok(())
 }
@@ -154,7 +162,48 @@ fn a_file_that_cannot_be_made_is_refused(rt: HostRuntime) -> Result<(), Fail> {
     Ok(())
 }
 
-// A file of the length `None` is missing.
+/// Gives a file another length. `None`: it is missing.
+fn change(rt: &HostRuntime, path: &str, length: Option<usize>) -> Result<(), Fail> {
+    match length {
+        Some(count) => fill(rt, path, count, 7)?,
+        None => fs::remove_file(rt, path)?,
+    }
+    Ok(())
+}
+
+/// Whether the files are refused for this fault of a slot, and not if the slot is lost: its device isn't opened.
+fn are_refused(
+    rt: &HostRuntime,
+    geometry: &Geometry,
+    paths: &[String],
+    slot: u32,
+    fault: Fault,
+) -> bool {
+    let refused = opened(rt, geometry, paths, &[]).err();
+    let named = EngineError::Device {
+        slot: slot as usize,
+        fault,
+    };
+    refused == Some(named) && opened(rt, geometry, paths, &[slot]).is_ok()
+}
+
+/// Each file has to be as it was made, that of a slot with another length.
+fn are_unchanged<R: Abort + Files + AllocGlobal>(
+    rt: &R,
+    paths: &[String],
+    slot: usize,
+    length: Option<usize>,
+) -> Result<(), Fail> {
+    for (other, path) in paths.iter().enumerate() {
+        match length {
+            Some(count) if other == slot => has(rt, path.as_str(), count, 7)?,
+            None if other == slot => assert!(rt; fs::metadata(rt, path.as_str()).is_err()),
+            _ => has(rt, path.as_str(), BYTES, 7)?,
+        }
+    }
+    Ok(())
+}
+
 #[test]
 fn files_of_another_length_are_refused_and_not_changed(rt: HostRuntime) -> Result<(), Fail> {
     let lengths = [
@@ -170,24 +219,9 @@ fn files_of_another_length_are_refused_and_not_changed(rt: HostRuntime) -> Resul
             for path in &paths {
                 fill(&rt, path.as_str(), BYTES, 7)?;
             }
-            let path = paths.get(slot).ok_or("no path")?.as_str();
-            match length {
-                Some(count) => fill(&rt, path, count, 7)?,
-                None => fs::remove_file(&rt, path)?,
-            }
-            let refused = opened(&rt, &geometry, paths.as_slice(), &[]).err();
-            assert_eq!(rt; refused, Some(EngineError::Device { slot, fault }));
-            // the device of a lost slot is not opened
-            assert!(rt; opened(&rt, &geometry, paths.as_slice(), &[slot as u32]).is_ok());
-            for (other, path) in paths.iter().enumerate() {
-                match length {
-                    Some(count) if other == slot => has(&rt, path.as_str(), count, 7)?,
-                    None if other == slot => {
-                        assert!(rt; fs::metadata(&rt, path.as_str()).is_err());
-                    }
-                    _ => has(&rt, path.as_str(), BYTES, 7)?,
-                }
-            }
+            change(&rt, paths.get(slot).ok_or("no path")?.as_str(), length)?;
+            assert!(rt; are_refused(&rt, &geometry, paths.as_slice(), slot as u32, fault));
+            are_unchanged(&rt, paths.as_slice(), slot, length)?;
         }
     }
     remove(&rt, paths.as_slice());
@@ -238,6 +272,35 @@ fn part_of(
     )?)
 }
 
+/// The parts of slot 1, onto whose file it is rebuilt.
+fn targets_of(
+    rt: &HostRuntime,
+    geometry: &Geometry,
+    path: &str,
+) -> Result<Vec<FileDevice<File>>, Fail> {
+    let mut targets = Vec::new(rt.alloc());
+    for shard in 0..geometry.shards() {
+        targets.push(part_of(rt, geometry, shard, path, Access::ReadWrite)?)?;
+    }
+    Ok(targets)
+}
+
+/// Rebuilds slot 1 from the files of the others onto its own.
+fn rebuilt(
+    rt: &HostRuntime,
+    geometry: &Geometry,
+    paths: &[String],
+    path: &str,
+) -> Result<Rebuilt, Fail> {
+    let mut parts = opened(rt, geometry, paths, &[1])?;
+    let mut targets = targets_of(rt, geometry, path)?;
+    if targets.len() != geometry.shards() || !is_absent(geometry, parts.as_slice(), 1) {
+        return Err("a part of slot 1 is there, or a target is not".into());
+    }
+    let (parts, targets) = (parts.as_mut_slice(), targets.as_mut_slice());
+    Ok(rebuild_all(rt.alloc(), geometry, parts, 1, targets)?)
+}
+
 // Slot 1 keeps the data blocks 0 and 1, P and Q of rows 0 to 3. Zeros are rebuilt over its bytes of 7.
 #[test]
 fn a_slot_is_rebuilt_onto_its_file(rt: HostRuntime) -> Result<(), Fail> {
@@ -246,25 +309,11 @@ fn a_slot_is_rebuilt_onto_its_file(rt: HostRuntime) -> Result<(), Fail> {
     create_files(&rt, &geometry, paths.as_slice())?;
     let path = paths.get(1).ok_or("no path")?.as_str();
     fill(&rt, path, BYTES, 7)?;
-    let mut parts = opened(&rt, &geometry, paths.as_slice(), &[1])?;
-    let mut targets = Vec::new(rt.alloc());
-    for shard in 0..geometry.shards() {
-        targets.push(part_of(&rt, &geometry, shard, path, Access::ReadWrite)?)?;
-    }
-    assert!(rt; targets.len() == geometry.shards());
-    assert!(rt; is_absent(&geometry, parts.as_slice(), 1));
-    let done = rebuild_all(
-        rt.alloc(),
-        &geometry,
-        parts.as_mut_slice(),
-        1,
-        targets.as_mut_slice(),
-    )?;
     let all = Rebuilt {
         rows: 4,
         fault: None,
     };
-    assert_eq!(rt; done, all);
+    assert!(rt; rebuilt(&rt, &geometry, paths.as_slice(), path)? == all);
     has(&rt, path, BYTES, 0)?;
     remove(&rt, paths.as_slice());
     Ok(())

@@ -84,6 +84,14 @@ const BLOCKS_OF_5A: [(u64, usize, u8); 8] = [
     (3, 0, 0x5a),
 ];
 
+/// Whether a row of a part has this byte throughout.
+fn has_row(alloc: Global, part: &mut Part, row: u64, byte: u8) -> Result<bool, Fail> {
+    let wanted = block_of(alloc, byte)?;
+    let mut block = Buffer::new(alloc, wanted.len())?;
+    part.device.read(row, &mut block)?;
+    Ok(block.as_slice() == wanted.as_slice())
+}
+
 /// Slot 1 has to have 5a in the rows before this one, and zeros from it on.
 fn has_rows_before<R: Abort>(
     rt: &R,
@@ -93,16 +101,13 @@ fn has_rows_before<R: Abort>(
     end: u64,
 ) -> Result<(), Fail> {
     let geometry = array.geometry()?;
-    let mut block = Buffer::new(alloc, geometry.block())?;
     for row in 0..ROWS.min(geometry.rows()) {
         let part = targets
             .get_mut(geometry.shard_of(row))
             .ok_or("no such part")?;
-        part.device.read(row, &mut block)?;
-        let wanted = block_of(alloc, if row < end { 0x5a } else { 0 })?;
-        assert_eq!(rt;
-            block.as_slice(),
-            wanted.as_slice(),
+        let byte = if row < end { 0x5a } else { 0 };
+        assert!(rt;
+            has_row(alloc, part, row, byte)?,
             "row {row} of those before {end}"
         );
     }
