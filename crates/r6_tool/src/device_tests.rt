@@ -42,7 +42,7 @@ fn settings_of(rt: &HostRuntime, test: &str, integers: &str, more: &str) -> Resu
 
 fn remove(rt: &HostRuntime, test: &str) -> Result<(), Fail> {
     for slot in 0..4usize {
-        fs::remove_file(rt, path_of(rt, test, slot)?.as_str())?;
+        remove_one(rt, test, slot)?;
     }
     Ok(())
 }
@@ -53,6 +53,19 @@ fn set(rt: &HostRuntime, test: &str, slot: usize, offset: u64, byte: u8) -> Resu
     how.write(true);
     let file = how.open(rt, path_of(rt, test, slot)?.as_str())?;
     file.write_all_at(&[byte], offset)?;
+    Ok(())
+}
+
+/// Makes a slot's file one of so many zeros.
+fn set_length(rt: &HostRuntime, test: &str, slot: usize, length: usize) -> Result<(), Fail> {
+    let bytes = vec![in rt.alloc(); 0u8; length]?;
+    fs::write(rt, path_of(rt, test, slot)?.as_str(), bytes.as_slice())?;
+    Ok(())
+}
+
+/// Removes a slot's file.
+fn remove_one(rt: &HostRuntime, test: &str, slot: usize) -> Result<(), Fail> {
+    fs::remove_file(rt, path_of(rt, test, slot)?.as_str())?;
     Ok(())
 }
 
@@ -131,11 +144,10 @@ fn files_that_do_not_serve_are_refused(rt: HostRuntime) -> Result<(), Fail> {
     );
     let line = "device 3 fault 4\n";
     for length in [0usize, 63, 65] {
-        let bytes = vec![in rt.alloc(); 0u8; length]?;
-        fs::write(&rt, path_of(&rt, "refused", 3)?.as_str(), bytes.as_slice())?;
+        set_length(&rt, "refused", 3, length)?;
         ends(&rt, rt.alloc(), &VERIFY, text, ("", line, 4));
     }
-    fs::remove_file(&rt, path_of(&rt, "refused", 3)?.as_str())?;
+    remove_one(&rt, "refused", 3)?;
     ends(
         &rt,
         rt.alloc(),
@@ -144,7 +156,7 @@ fn files_that_do_not_serve_are_refused(rt: HostRuntime) -> Result<(), Fail> {
         ("", "device 3 fault 3\n", 4),
     );
     // the files of slots 0 to 2 are there
-    fs::remove_file(&rt, path_of(&rt, "refused", 0)?.as_str())?;
+    remove_one(&rt, "refused", 0)?;
     ends(
         &rt,
         rt.alloc(),
@@ -153,7 +165,7 @@ fn files_that_do_not_serve_are_refused(rt: HostRuntime) -> Result<(), Fail> {
         ("", "device 1 fault 2\n", 4),
     );
     for slot in 0..3usize {
-        fs::remove_file(&rt, path_of(&rt, "refused", slot)?.as_str())?;
+        remove_one(&rt, "refused", slot)?;
     }
     Ok(())
 }

@@ -4,7 +4,6 @@ use crate::runs::{ends, ends_unread, ends_unwritten};
 use r6_command::Invocation;
 use r6_execute::{ErrorOutput, execute};
 use std::io::ErrorKind;
-use std::test::Fail;
 
 const FOUR_SLOTS: &str = "slots = 4\nchunk = 1\nblock = 16\nrows = 4\nshards = 2\n";
 
@@ -57,8 +56,22 @@ chunk row 2: d1 d2 p q d0
     ends(&rt, rt.alloc(), &GEOMETRY, text, (layout, "", 0));
 }
 
+/// Whether a text begins and ends as the layout of the largest array, and has as many lines.
+fn is_largest(text: &[u8]) -> bool {
+    let begin =
+        "slots 32 chunk 128 block 4096 rows 16777216 shards 16 blocks 503316480\nshard 0 rows 0 to 1048575\n";
+    let end =
+        "\nchunk row 31: p q d0 d1 d2 d3 d4 d5 d6 d7 d8 d9 d10 d11 d12 d13 d14 d15 d16 d17 d18 d19 d20 d21 d22 d23 d24 d25 d26 d27 d28 d29\n";
+    match std::str::from_utf8(text) {
+        Ok(text) => {
+            text.starts_with(begin) && text.ends_with(end) && text.lines().count() == 1 + 16 + 32
+        }
+        Err(_) => false,
+    }
+}
+
 #[test]
-fn prints_the_largest_array(rt: HostRuntime) -> Result<(), Fail> {
+fn prints_the_largest_array(rt: HostRuntime) {
     let mut settings: &[u8] =
         b"slots = 32\nchunk = 128\nblock = 4096\nrows = 16777216\nshards = 16\n";
     let mut script: &[u8] = b"";
@@ -73,114 +86,49 @@ fn prints_the_largest_array(rt: HostRuntime) -> Result<(), Fail> {
         &mut out,
         &mut err,
     );
-    let layout = std::str::from_utf8(out.as_slice()).ok().ok_or("text")?;
-    assert!(rt;
-        layout.starts_with(
-            "slots 32 chunk 128 block 4096 rows 16777216 shards 16 blocks 503316480\nshard 0 rows 0 to 1048575\n"
-        )
-    );
-    assert_eq!(rt; layout.lines().count(), 1 + 16 + 32);
-    assert!(rt;
-        layout.ends_with(
-            "\nchunk row 31: p q d0 d1 d2 d3 d4 d5 d6 d7 d8 d9 d10 d11 d12 d13 d14 d15 d16 d17 d18 d19 d20 d21 d22 d23 d24 d25 d26 d27 d28 d29\n"
-        )
-    );
-    Ok(())
+    assert!(rt; is_largest(out.as_slice()));
 }
 
-// The lines of a shape that is none, and each text with what it is refused for.
+// What a text is refused for, and the text: a bar stands between.
 #[test]
 fn names_the_first_fault(rt: HostRuntime) {
     let texts = [
-        ("slots = ", "settings: toml\n"),
-        ("slots = 4\nslots = 4\n", "settings: toml\n"),
-        ("slots = 4.0\nsize = 1\n", "settings: key\n"),
-        ("Slots = 4\n", "settings: key\n"),
-        ("[array]\nslots = 4\n", "settings: key\n"),
-        ("", "settings: slots\n"),
-        ("slots = 4.0\nchunk = 0\n", "settings: slots\n"),
-        ("slots = true\n", "settings: slots\n"),
-        ("slots = \"4\"\n", "settings: slots\n"),
-        ("slots = [4]\n", "settings: slots\n"),
-        ("slots = -1\n", "settings: slots\n"),
-        ("slots = 4294967296\n", "settings: slots\n"),
-        ("slots = 4\nblock = 16\n", "settings: chunk\n"),
-        ("slots = 4\nchunk = -1\nblock = 16\n", "settings: chunk\n"),
-        ("slots = 4\nchunk = 1\nrows = 4\n", "settings: block\n"),
-        (
-            "slots = 4\nchunk = 1\nblock = 16\nshards = 1\n",
-            "settings: rows\n",
-        ),
-        (
-            "slots = 4\nchunk = 1\nblock = 16\nrows = 4\n",
-            "settings: shards\n",
-        ),
-        (
-            "slots = 4\nchunk = 1\nblock = 16\nrows = 4\nshards = 1\nwindow = 0\nworkers = 0\n",
-            "settings: window\n",
-        ),
-        (
-            "slots = 4\nchunk = 1\nblock = 16\nrows = 4\nshards = 1\nwindow = 9\n",
-            "settings: window\n",
-        ),
-        (
-            "slots = 4\nchunk = 1\nblock = 16\nrows = 4\nshards = 1\nwindow = \"1\"\n",
-            "settings: window\n",
-        ),
-        (
-            "slots = 4\nchunk = 1\nblock = 16\nrows = 4\nshards = 1\nworkers = 9\nlost = 1\n",
-            "settings: workers\n",
-        ),
-        (
-            "slots = 4\nchunk = 1\nblock = 16\nrows = 4\nshards = 1\nlost = 1\n",
-            "settings: lost\n",
-        ),
-        (
-            "slots = 4\nchunk = 1\nblock = 16\nrows = 4\nshards = 1\nlost = [4]\n",
-            "settings: lost\n",
-        ),
-        (
-            "slots = 4\nchunk = 1\nblock = 16\nrows = 4\nshards = 1\nlost = [2, 2]\n",
-            "settings: lost\n",
-        ),
-        (
-            "slots = 4\nchunk = 1\nblock = 16\nrows = 4\nshards = 1\nlost = [0, 1, 2]\n",
-            "settings: lost\n",
-        ),
-        (
-            "slots = 4\nchunk = 1\nblock = 16\nrows = 4\nshards = 1\nlost = [-1]\n",
-            "settings: lost\n",
-        ),
-        (
-            "slots = 4\nchunk = 1\nblock = 16\nrows = 4\nshards = 1\nlost = [1.0]\n",
-            "settings: lost\n",
-        ),
-        (
-            "slots = 3\nchunk = 1\nblock = 16\nrows = 4\nshards = 1\nlost = [3]\n",
-            "settings: lost\n",
-        ),
-        (
-            "slots = 3\nchunk = 0\nblock = 24\nrows = 4\nshards = 1\nlost = [2]\n",
-            "settings: geometry 1\n",
-        ),
-        (
-            "slots = 4\nchunk = 0\nblock = 24\nrows = 0\nshards = 0\n",
-            "settings: geometry 2\n",
-        ),
-        (
-            "slots = 4\nchunk = 1\nblock = 24\nrows = 0\nshards = 0\n",
-            "settings: geometry 3\n",
-        ),
-        (
-            "slots = 4\nchunk = 2\nblock = 16\nrows = 5\nshards = 0\n",
-            "settings: geometry 4\n",
-        ),
-        (
-            "slots = 4\nchunk = 1\nblock = 16\nrows = 4\nshards = 4294967295\n",
-            "settings: geometry 5\n",
-        ),
+        "settings: toml\n|slots = ",
+        "settings: toml\n|slots = 4\nslots = 4\n",
+        "settings: key\n|slots = 4.0\nsize = 1\n",
+        "settings: key\n|Slots = 4\n",
+        "settings: key\n|[array]\nslots = 4\n",
+        "settings: slots\n|",
+        "settings: slots\n|slots = 4.0\nchunk = 0\n",
+        "settings: slots\n|slots = true\n",
+        "settings: slots\n|slots = \"4\"\n",
+        "settings: slots\n|slots = [4]\n",
+        "settings: slots\n|slots = -1\n",
+        "settings: slots\n|slots = 4294967296\n",
+        "settings: chunk\n|slots = 4\nblock = 16\n",
+        "settings: chunk\n|slots = 4\nchunk = -1\nblock = 16\n",
+        "settings: block\n|slots = 4\nchunk = 1\nrows = 4\n",
+        "settings: rows\n|slots = 4\nchunk = 1\nblock = 16\nshards = 1\n",
+        "settings: shards\n|slots = 4\nchunk = 1\nblock = 16\nrows = 4\n",
+        "settings: window\n|slots = 4\nchunk = 1\nblock = 16\nrows = 4\nshards = 1\nwindow = 0\nworkers = 0\n",
+        "settings: window\n|slots = 4\nchunk = 1\nblock = 16\nrows = 4\nshards = 1\nwindow = 9\n",
+        "settings: window\n|slots = 4\nchunk = 1\nblock = 16\nrows = 4\nshards = 1\nwindow = \"1\"\n",
+        "settings: workers\n|slots = 4\nchunk = 1\nblock = 16\nrows = 4\nshards = 1\nworkers = 9\nlost = 1\n",
+        "settings: lost\n|slots = 4\nchunk = 1\nblock = 16\nrows = 4\nshards = 1\nlost = 1\n",
+        "settings: lost\n|slots = 4\nchunk = 1\nblock = 16\nrows = 4\nshards = 1\nlost = [4]\n",
+        "settings: lost\n|slots = 4\nchunk = 1\nblock = 16\nrows = 4\nshards = 1\nlost = [2, 2]\n",
+        "settings: lost\n|slots = 4\nchunk = 1\nblock = 16\nrows = 4\nshards = 1\nlost = [0, 1, 2]\n",
+        "settings: lost\n|slots = 4\nchunk = 1\nblock = 16\nrows = 4\nshards = 1\nlost = [-1]\n",
+        "settings: lost\n|slots = 4\nchunk = 1\nblock = 16\nrows = 4\nshards = 1\nlost = [1.0]\n",
+        "settings: lost\n|slots = 3\nchunk = 1\nblock = 16\nrows = 4\nshards = 1\nlost = [3]\n",
+        "settings: geometry 1\n|slots = 3\nchunk = 0\nblock = 24\nrows = 4\nshards = 1\nlost = [2]\n",
+        "settings: geometry 2\n|slots = 4\nchunk = 0\nblock = 24\nrows = 0\nshards = 0\n",
+        "settings: geometry 3\n|slots = 4\nchunk = 1\nblock = 24\nrows = 0\nshards = 0\n",
+        "settings: geometry 4\n|slots = 4\nchunk = 2\nblock = 16\nrows = 5\nshards = 0\n",
+        "settings: geometry 5\n|slots = 4\nchunk = 1\nblock = 16\nrows = 4\nshards = 4294967295\n",
     ];
-    for (text, line) in texts {
+    for case in texts {
+        let (line, text) = case.split_once('|').unwrap_or(("", case));
         ends(&rt, rt.alloc(), &GEOMETRY, text.as_bytes(), ("", line, 3));
     }
 }
