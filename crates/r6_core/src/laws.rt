@@ -1,9 +1,10 @@
 //! What every run of cores keeps.
 
+ghost use Rattle.r6_world.specs.Counting.{CountsLaw};
 ghost use Rattle.r6_world.specs.Geometries.{LayoutLaw};
 ghost use Rattle.r6_world.specs.Laws.{ArrayLaw, QuietLaw, RebuiltLaw, ShardLaw};
 ghost use Rattle.r6_world.specs.Sequential.{SequentialLaw};
-ghost use Rattle.r6_core.specs.Runs.{RunsOfCores, RunsOfOneCore, ArrayOfCores, QuietOfCores, SequentialOfCores, ShardOfCores};
+ghost use Rattle.r6_core.specs.Runs.{RunsOfCores, RunsOfOneCore, ArrayOfCores, CountsOfCores, QuietOfCores, SequentialOfCores, ShardOfCores};
 
 /// The laws of an array whose shards are cores.
 ///
@@ -53,4 +54,18 @@ pub fn array_law()
     r6_world::shard_law();
     r6_world::rebuilt_law();
     r6_world::layout_law();
+}
+
+/// What the counts of a core say, in every run of cores, at each moment (`counts_of_cores`).
+///
+/// Every row that the checks and repairs of a core have passed is counted once: by its class, that of its blocks as they
+/// were read, or as skipped, since a position was out or was lost while it was read; or it is held yet, or was dropped when
+/// the core saw that the array failed. The repaired rows are those that repairs found in another class than `Consistent`.
+/// It is the law of the world's counts (`counts`), of which every run of cores is a run.
+pub fn counts_law()
+    ensures counts { CountsLaw }
+    ensures counts_of_cores { CountsOfCores }
+{
+    r6_world::layout_law();
+    r6_world::counts_law();
 }

@@ -2,6 +2,7 @@
 #![tactic(auto)]
 
 mod call;
+mod counts;
 mod course;
 mod deliver;
 mod laws;
@@ -12,11 +13,14 @@ mod scan;
 mod shard_core;
 mod state;
 mod tell;
+mod turn;
 
 pub use call::Call;
+pub use counts::Counts;
 pub use course::{read_beside_a_loss, read_through_a_loss};
-pub use laws::array_law;
-pub use r6_frames::{Command, CommandKind, Op};
+pub use laws::{array_law, counts_law};
+pub use r6_frames::{Command, CommandKind, Op, Scrub};
 pub use refusal::{CoreError, DeviceFault, FaultKind, Receipt, Refusal, Refused};
 pub use reply::{OpId, Reply};
 pub use shard_core::Core;
+pub use turn::Turn;

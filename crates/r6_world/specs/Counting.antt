@@ -6,6 +6,7 @@ use Rattle.r6_recover.specs.declared.class.RowClass.{RowClass}
 use Rattle.r6_recover.specs.declared.class.RowClass.TheVariants.{Consistent, WrongP, WrongQ, WrongData, Many}
 use Rattle.r6_world.specs.Tables.{put, count_below}
 use Rattle.r6_world.specs.Layouts.{Layout}
+use Rattle.r6_world.specs.PlainArray.{Array}
 use Rattle.r6_world.specs.Registers.{RegisterCall}
 use Rattle.r6_world.specs.Tasks.{Task, ReadFor, WriteFor, Rebuild, Check, Repair, Hold, IsClassRead, Outcome, Rebuilt, Classed}
 use Rattle.r6_world.specs.ShardStates.{Shard, SlotState, Building, frames}
@@ -219,10 +220,14 @@ pub record CountsHold (l : Layout) (start now : Shard) (turns_started turns_skip
   pub none_dropped : now.saw_failed ≡ false → dropped l start changes ≡ 0
   pub none_held : now.saw_failed ≡ true → checks_held now ≡ 0
 
--- At every moment of a run: what is so behind every run is so at each moment, since a run up to a moment is one
-abbrev pub CountsLaw : Type 0
-CountsLaw = OfEveryRun (λ l array start moments.
+-- of every shard, behind these moments
+abbrev pub AreCounted : Layout → Array → World → List Moment → Type 0
+AreCounted l array start moments =
     (run : Run l IsOfOutside start moments) (n : ℕ) → n < l.shards →
     CountsHold l (start.shard n) ((after_all l start moments).shard n)
     (in_all (started_by n) moments) (in_all (skipped_by n) moments)
-    (changes_in l IsOfOutside n start moments run))
+    (changes_in l IsOfOutside n start moments run)
+
+-- At every moment of a run: what is so behind every run is so at each moment, since a run up to a moment is one
+abbrev pub CountsLaw : Type 0
+CountsLaw = OfEveryRun AreCounted
