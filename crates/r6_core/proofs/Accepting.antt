@@ -13,7 +13,7 @@ use Rattle.r6_stripe.specs.Plans.{count_where, is_unread}
 use Rattle.r6_world.specs.Tables.{put}
 use Rattle.r6_tables.specs.Table.{next_of}
 use Rattle.r6_world.specs.PlainArray.{block_of}
-use Rattle.r6_world.specs.ShardStates.{Request, Waiting}
+use Rattle.r6_world.specs.ShardStates.{Request, Waiting, frames}
 use Rattle.r6_world.specs.Changes.{Accept, after}
 use Rattle.r6_frames.specs.declared.op.Op.{Op}
 use Rattle.r6_frames.specs.declared.op.Request.{Request as Entered}
@@ -21,12 +21,12 @@ use Rattle.r6_frames.specs.declared.frames.HeldRow.{HeldRow}
 use Rattle.r6_frames.specs.declared.frames.FrameUse.{FrameUse}
 use Rattle.r6_frames.specs.declared.frames.FrameUse.TheVariants as uses
 use Rattle.r6_core.specs.declared.state.State.{State}
-use Rattle.r6_frames.specs.Views.{op_of, buffer_of, hold_at, requests_from, held_requests}
+use Rattle.r6_frames.specs.Views.{op_of, buffer_of, hold_at, held_requests}
 use Rattle.r6_frames.specs.Calls.{IsRequestOf}
 use Rattle.r6_frames.specs.Owed.{owed, owed_by, owed_in, is_unsent}
 use Rattle.r6_core.specs.Shards.{state_of, layout_in, requests_of, waiting_request, replied_requests, core_of}
 use Rattle.r6_core.specs.Refusals.{limit, most_unanswered, HasSubmitFault, HasNone, submit_faults}
-use Rattle.r6_core.specs.Inside.{IsSound, IsSettled, AreRequests, bound}
+use Rattle.r6_core.specs.Inside.{IsSound, IsSettled, AreRequests, bound, most_tokens}
 use Rattle.r6_core.proofs.Passed.{all-append}
 use Rattle.r6_frames.proofs.Lists.{Entries, table, came, none_of, distinct_with, all_with}
 
@@ -81,25 +81,27 @@ owed_by-le slots h wide =
     let unread : Cell → Bool = λ cell. is_unread cell.reading in
     omega (arith, count_where-le unread cells, count_where-le is_unsent cells, wide)
 
-owed_in-le : (slots start : ℕ) (held : List FrameUse) → ((frame : ℕ) (h : HeldRow) → hold_at held frame ≡ Some h → length h.hold.planned.hold.cells ≡ slots)
-    → owed_in held ≤ length (requests_from start held) * (2 * slots)
-owed_in-le slots start [] wide = omega arith
-owed_in-le slots start (uses.Free ∷ held) wide = owed_in-le slots (start + 1) held (λ frame h is. wide (suc frame) h is)
-owed_in-le slots start (uses.Returning r ∷ held) wide = owed_in-le slots (start + 1) held (λ frame h is. wide (suc frame) h is)
-owed_in-le slots start (uses.Held h ∷ held) wide =
-    let rest = owed_in-le slots (start + 1) held (λ frame h is. wide (suc frame) h is) in
+pub owed_in-le : (slots : ℕ) (held : List FrameUse) → ((frame : ℕ) (h : HeldRow) → hold_at held frame ≡ Some h → length h.hold.planned.hold.cells ≡ slots)
+    → owed_in held ≤ length held * (2 * slots)
+owed_in-le slots [] wide = omega arith
+owed_in-le slots (uses.Free ∷ held) wide =
+    let rest = owed_in-le slots held (λ frame h is. wide (suc frame) h is) in omega (arith, suc-mul (length held) (2 * slots), rest)
+owed_in-le slots (uses.Returning r ∷ held) wide =
+    let rest = owed_in-le slots held (λ frame h is. wide (suc frame) h is) in omega (arith, suc-mul (length held) (2 * slots), rest)
+owed_in-le slots (uses.Held h ∷ held) wide =
+    let rest = owed_in-le slots held (λ frame h is. wide (suc frame) h is) in
     let own = owed_by-le slots h (wide zero h refl) in
-    omega (arith, suc-mul (length (requests_from (start + 1) held)) (2 * slots), rest, own)
+    omega (arith, suc-mul (length held) (2 * slots), rest, own)
 
--- with so few requests that wait or are held, and one more that comes, so many commands may come at most
-room_for : (slots waiting held owes : ℕ) → slots ≤ 32 → owes ≤ held * (2 * slots) → held + waiting + 1 ≤ most_unanswered
-    → owes + 2 * slots * (waiting + 1) ≤ 2 * 32 * most_unanswered
-room_for slots waiting held owes few at_most_owes all =
+-- with so few frames, so few requests that wait, and one more that comes, so many commands may come at most
+room_for : (slots waiting held owes : ℕ) → slots ≤ 32 → owes ≤ held * (2 * slots) → held ≡ frames → waiting + 1 ≤ most_unanswered
+    → owes + 2 * slots * (waiting + 1) ≤ 2 * 32 * (most_unanswered + frames)
+room_for slots waiting held owes few at_most_owes count all =
     let both : (held + (waiting + 1)) * (2 * slots) ≡ held * (2 * slots) + (waiting + 1) * (2 * slots) = add-mul held (waiting + 1) (2 * slots) in
     let turned : 2 * slots * (waiting + 1) ≡ (waiting + 1) * (2 * slots) = mul_comm (2 * slots) (waiting + 1) in
-    let requests : held + (waiting + 1) ≤ 256 = omega arith in
+    let rows : held + (waiting + 1) ≤ 320 = omega (arith, count, all) in
     let commands : 2 * slots ≤ 64 = omega arith in
-    let at_most : (held + (waiting + 1)) * (2 * slots) ≤ 256 * 64 = mul-le-mul requests commands in
+    let at_most : (held + (waiting + 1)) * (2 * slots) ≤ 320 * 64 = mul-le-mul rows commands in
     omega (arith, both, turned, at_most, at_most_owes)
 
 -- ---- the state with one more request
@@ -132,8 +134,8 @@ accepted_core s o core right sized =
     ap (λ n. n + (length (held_requests s.frames) + length (replied_requests s.frames.saw_failed s.released s.replies.items))) (sym (length-map s.waiting.items waiting_request))
     ∙ ap (λ n. length (map waiting_request s.waiting.items) + n) (sym (length-append (held_requests s.frames) (replied_requests s.frames.saw_failed s.released s.replies.items)))
     ∙ sym (length-append (map waiting_request s.waiting.items) (others s)) ∙ sound.requests.counted in
-    let owes = owed_in-le s.frames.geometry.slots 0 s.frames.held.items (λ frame h is. (sound.frames.frames.rows frame h is).wide) in
-    let room = room_for s.frames.geometry.slots (length s.waiting.items) (length (held_requests s.frames)) (owed s.frames) sound.frames.shape.slots_allowed.1 owes (omega (arith, counted, few)) in
+    let owes = owed_in-le s.frames.geometry.slots s.frames.held.items (λ frame h is. (sound.frames.frames.rows frame h is).wide) in
+    let room = room_for s.frames.geometry.slots (length s.waiting.items) (length s.frames.held.items) (owed s.frames) sound.frames.shape.slots_allowed.1 owes sound.frames.frames.count (omega (arith, counted, few)) in
     let all : bound s + 0 ≡ bound s = omega arith in
     record {
       sound = record {
@@ -153,8 +155,10 @@ accepted_core s o core right sized =
           calls = sound.room.calls;
           few_calls = sound.room.few_calls;
         };
-        tokens = subst (λ n. next_of s.frames.commands + owed s.frames + 2 * s.frames.geometry.slots * n ≤ limit + 2 * 32 * most_unanswered) (sym longer) (omega (arith, room, tokens));
+        tokens = subst (λ n. next_of s.frames.commands + owed s.frames + 2 * s.frames.geometry.slots * n ≤ most_tokens) (sym longer) (omega (arith, room, tokens));
         accepted = omega (arith, fresh);
+        counted = sound.counted;
+        next_rows = sound.next_rows;
       };
       rested = core.rested;
     }

@@ -14,18 +14,18 @@ use Rattle.r6_frames.specs.declared.frames.Frames.{Frames}
 use Rattle.r6_frames.specs.declared.slots.Device.{Device}
 use Rattle.r6_frames.specs.Slots as slots
 use Rattle.r6_frames.specs.Slots.{states_of}
-use Rattle.r6_frames.specs.Views.{held_requests, shard_with}
-use Rattle.r6_frames.specs.Calls.{TakesOut}
+use Rattle.r6_frames.specs.Views.{held_requests, is_scrub, shard_with}
+use Rattle.r6_frames.specs.Calls.{KeepsRows, TakesOut}
 use Rattle.r6_frames.specs.Owed.{owed}
 use Rattle.r6_frames.specs.Sound as held
 use Rattle.r6_frames.proofs.Lists.{table}
 use Rattle.r6_core.specs.declared.state.State.{State}
 use Rattle.r6_core.specs.Shards.{state_of, rest_of, layout_in, requests_of, waiting_request, replied_requests, core_of}
-use Rattle.r6_core.specs.Refusals.{limit, most_unanswered}
 use Rattle.r6_core.specs.Order.{Agrees, SameReplies}
-use Rattle.r6_core.specs.Inside.{SameFrames, NoCalls, IsSound, bound, count_untold, SameCalls, Seen}
+use Rattle.r6_core.specs.Inside.{SameFrames, NoCalls, IsSound, bound, most_tokens, count_untold, SameCalls, Seen}
+use Rattle.r6_core.proofs.CountedRows.{counted_still, same_or_fewer}
 use Rattle.r6_core.proofs.Throughs.{through_both, through_in, through_one}
-use Rattle.r6_core.proofs.Kept.{requests_kept, sizes_kept}
+use Rattle.r6_core.proofs.Kept.{own_rows_kept, requests_kept, sizes_kept}
 
 -- the first slots are as the look has them, the others as they were
 pub record IsAdopting (s new : State) (seen : Snapshot) (count : ℕ) (went_out : Bool) : Type 0 where
@@ -81,8 +81,8 @@ module _ (s : State) (slot : ℕ) (device : Device) (fs : Frames) (takes : Takes
 
 -- a slot went out, while no call is to be made
 sound_taken : (s : State) (slot : ℕ) (device : Device) (fs : Frames) → IsSound s → NoCalls s → TakesOut s.frames slot device fs → held.IsSound fs
-    → next_of fs.commands ≡ next_of s.frames.commands → owed fs ≡ owed s.frames → held_requests fs ≡ held_requests s.frames → IsSound (with_frames s fs)
-sound_taken s slot device fs sound told takes is next owes requests =
+    → next_of fs.commands ≡ next_of s.frames.commands → owed fs ≡ owed s.frames → held_requests fs ≡ held_requests s.frames → KeepsRows s.frames fs → IsSound (with_frames s fs)
+sound_taken s slot device fs sound told takes is next owes requests rows =
     let same = requests-taken s slot device fs takes requests in
     let no_calls = ap length told.0 in
     let no_untold = ap count_untold told.1 in
@@ -104,8 +104,10 @@ sound_taken s slot device fs sound told takes is next owes requests =
         calls = sound.room.calls;
         few_calls = omega (arith, no_calls, no_untold);
       };
-      tokens = subst (λ n. n ≤ limit + 2 * 32 * most_unanswered) (sym bounds) sound.tokens;
+      tokens = subst (λ n. n ≤ most_tokens) (sym bounds) sound.tokens;
       accepted = sound.accepted;
+      counted = counted_still s.counts s.frames fs sound.counted (same_or_fewer s.frames fs sound.frames is rows) (omega (arith, next));
+      next_rows = own_rows_kept s.frames fs s.check_row s.repair_row takes.0 takes.1 sound.next_rows;
     }
 
 -- one more slot was looked at, and went out
@@ -113,8 +115,8 @@ pub adopting_out : (s mid : State) (seen : Snapshot) (slot : ℕ) (went_out : Bo
     → slot < mid.frames.geometry.slots → differs (states_of mid.frames.slots slot) (status_of seen slot) ≡ true
     → slots.state_of device ≡ adopted (states_of mid.frames.slots slot) (status_of seen slot)
     → TakesOut mid.frames slot device fs → held.IsSound fs → next_of fs.commands ≡ next_of mid.frames.commands → owed fs ≡ owed mid.frames → held_requests fs ≡ held_requests mid.frames
-    → IsAdopting s (with_frames mid fs) seen (slot + 1) true
-adopting_out s mid seen slot went_out device fs told is lt other becomes takes sound next owes requests =
+    → KeepsRows mid.frames fs → IsAdopting s (with_frames mid fs) seen (slot + 1) true
+adopting_out s mid seen slot went_out device fs told is lt other becomes takes sound next owes requests rows =
     let status = status_of seen slot in
     let here = is.left slot (omega arith) in
     let states = states-taken mid slot device fs takes in
@@ -124,7 +126,7 @@ adopting_out s mid seen slot went_out device fs told is lt other becomes takes s
     let one = through_one (layout_in mid) mid.frames.shard (TakesOver seen) (state_of mid) (state_of (with_frames mid fs)) (Adopt slot status) refl (lt, other) becomes_after in
     let moved = through_in s.frames.geometry mid.frames.geometry s.frames.shard mid.frames.shard (TakesOver seen) (state_of mid) (state_of (with_frames mid fs)) is.same.0 is.same.1 one in
     record {
-      sound = sound_taken mid slot device fs is.sound still takes sound next owes requests;
+      sound = sound_taken mid slot device fs is.sound still takes sound next owes requests rows;
       takes = through_both (layout_in s) s.frames.shard (TakesOver seen) (state_of s) (state_of mid) (state_of (with_frames mid fs)) is.takes moved;
       gone = λ q below. elim (cases_lt q slot) [
         | inl lower ↦ ap (λ f. f q) states ∙ put-there (states_of mid.frames.slots) slot q (slots.state_of device) (λ e. absurd (omega arith)) ∙ is.gone q lower

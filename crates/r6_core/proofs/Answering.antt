@@ -4,12 +4,12 @@ use Rattle.std.specs.List.{AllByRecursion}
 use Rattle.std.proofs.lemmas.Bool.{cases_eq, cases_lt}
 use Rattle.circular_buffer.specs.Buffer.{Buffer}
 use Rattle.r6_tables.specs.Table.{next_of}
-use Rattle.r6_world.specs.ShardStates.{Shard}
+use Rattle.r6_world.specs.Changes.{after}
 use Rattle.r6_world.specs.Steps.{GoesOn, Through, Good, Taken}
 use Rattle.r6_frames.specs.declared.op.Request.{Request}
 use Rattle.r6_frames.specs.declared.frames.Frames.{Frames}
-use Rattle.r6_frames.specs.Views.{row_in, hold_at, held_requests, outstanding, AreLive}
-use Rattle.r6_frames.specs.Calls.{Answers, Drives, IsAwaited, IsHeldFrame, KeepsOthers, KeepsRows}
+use Rattle.r6_frames.specs.Views.{row_in, hold_at, held_requests, outstanding, shard_with, AreLive}
+use Rattle.r6_frames.specs.Calls.{Answers, Classifies, Drives, IsAwaited, IsHeldFrame, KeepsOthers, KeepsRows}
 use Rattle.r6_frames.specs.Owed.{owed, IsDriven, IsOver}
 use Rattle.r6_frames.specs.Sound as held
 use Rattle.r6_core.specs.declared.state.State.{State}
@@ -18,8 +18,8 @@ use Rattle.r6_core.specs.declared.scan.Freed.{Freed}
 use Rattle.r6_core.specs.declared.scan.Freed.TheVariants.{Nothing, OneFrame}
 use Rattle.r6_core.specs.Inside.{CannotStart, HasFreed, NoneCanStart, IsSound, IsSettled, IsRestedFrame, SameFrames, TakesThrough}
 use Rattle.r6_core.proofs.Waking.{none_more, row_stays}
-use Rattle.r6_core.proofs.Throughs.{through_both, through_in}
-use Rattle.r6_core.proofs.Going.{Goes, SlotsStay, goes_still, answers_still, gone_state, gone_sound}
+use Rattle.r6_core.proofs.Throughs.{through_both, through_in, through_of}
+use Rattle.r6_core.proofs.Going.{Goes, SlotsStay, classifies_on, goes_still, answers_still, gone_state, gone_sound}
 use Rattle.r6_core.proofs.SlotsKept.{out_same}
 use Rattle.r6_core.proofs.Settling.{driven_goes, driven_leads}
 
@@ -48,15 +48,15 @@ live_still old new geometry slots live =
     (omega (arith, out, live.0), sym slots.1 ∙ live.1)
 
 pub answered_goes : (s : State) (fs : Frames) (token : ℕ) (block : List ℕ) → IsSound s → held.IsSound fs → Answers s.frames token block fs → held_requests fs ≡ held_requests s.frames
-    → (owed fs ≡ owed s.frames) × (next_of fs.commands ≡ next_of s.frames.commands) → Goes s fs s.calls
-answered_goes s fs token block sound frames answers requests tokens =
-    goes_still s fs sound frames answers.0 answers.1 (answers_still s.frames fs token block answers) requests (let a = tokens.0 in let b = tokens.1 in omega (arith, a, b))
+    → KeepsRows s.frames fs → (owed fs ≡ owed s.frames) × (next_of fs.commands ≡ next_of s.frames.commands) → Goes s fs s.calls
+answered_goes s fs token block sound frames answers requests rows tokens =
+    goes_still s fs sound frames answers.0 answers.1 (answers_still s.frames fs token block answers) requests rows (let a = tokens.0 in let b = tokens.1 in omega (arith, a, b)) (let b = tokens.1 in omega (arith, b))
 
 -- the command is answered, and its hold puts out what comes next
 module _ (s : State) (token : ℕ) (block : List ℕ) (middle driven : Frames) (core : IsSettled s) (sound : held.IsSound middle) (live : AreLive middle) (answers : Answers s.frames token block middle)
-    (requests : held_requests middle ≡ held_requests s.frames) (tokens : (owed middle ≡ owed s.frames) × (next_of middle.commands ≡ next_of s.frames.commands))
+    (requests : held_requests middle ≡ held_requests s.frames) (rows : KeepsRows s.frames middle) (tokens : (owed middle ≡ owed s.frames) × (next_of middle.commands ≡ next_of s.frames.commands))
     (driven_sound : held.IsSound driven) (driven_live : AreLive driven) (drives : Drives middle driven) (driven_requests : held_requests driven ≡ held_requests middle)
-    (driven_tokens : next_of driven.commands + owed driven ≤ next_of middle.commands + owed middle) where
+    (more_rows : KeepsRows middle driven) (driven_tokens : next_of driven.commands + owed driven ≤ next_of middle.commands + owed middle) where
   abbrev answered_state : State
   answered_state = record s { frames = middle }
 
@@ -64,13 +64,13 @@ module _ (s : State) (token : ℕ) (block : List ℕ) (middle driven : Frames) (
   driven_state = record s { frames = driven }
 
   first_goes : Goes s middle s.calls
-  first_goes = answered_goes s middle token block core.sound sound answers requests tokens
+  first_goes = answered_goes s middle token block core.sound sound answers requests rows tokens
 
   answered_sound : IsSound answered_state
   answered_sound = gone_sound s middle s.calls core.sound first_goes
 
   second_goes : Goes answered_state driven s.calls
-  second_goes = driven_goes answered_state driven answered_sound live driven_sound driven_live drives driven_requests driven_tokens
+  second_goes = driven_goes answered_state driven answered_sound live driven_sound driven_live drives driven_requests more_rows driven_tokens
 
   pub driven_on : IsSound driven_state
   driven_on = gone_sound answered_state driven s.calls answered_sound second_goes
@@ -82,7 +82,10 @@ module _ (s : State) (token : ℕ) (block : List ℕ) (middle driven : Frames) (
       (driven_leads answered_state driven second_goes drives) in
       let second = through_in s.frames.geometry driven.geometry s.frames.shard driven.shard GoesOn (state_of driven_state) (state_of new) (drives.0 ∙ answers.0) (drives.1 ∙ answers.1) ends in
       let both = through_both (layout_in s) s.frames.shard GoesOn (state_of answered_state) (state_of driven_state) (state_of new) first second in
-      (took.0, took.1, took.2, subst (λ (x : Shard). Through (layout_in s) s.frames.shard GoesOn x (state_of new)) (gone_state s middle s.calls first_goes ∙ took.3) both)
+      let taken = after (layout_in s) (state_of s) took.0 in
+      let classed = through_of (layout_in s) s.frames.shard Classifies GoesOn classifies_on taken (shard_with (rest_of s) middle) took.3 in
+      let to_state = subst (Through (layout_in s) s.frames.shard GoesOn taken) (sym (gone_state s middle s.calls first_goes)) classed in
+      (took.0, took.1, took.2, through_both (layout_in s) s.frames.shard GoesOn taken (state_of answered_state) (state_of new) to_state both)
 
   pub answered_core : (new : State) (frame : ℕ) → KeepsOthers s.frames frame middle → KeepsOthers middle frame driven → KeepsOthers driven frame new.frames
       → IsSound new → IsRestedFrame new frame → IsSettled new
@@ -99,9 +102,9 @@ module _ (s : State) (token : ℕ) (block : List ℕ) (middle driven : Frames) (
 
   -- if but the frame's hold has ended, one request at most can start, and if it hasn't none can
   pub answered_freed : (new : State) (frame : ℕ) (freed : Freed) → KeepsOthers s.frames frame middle → KeepsOthers middle frame driven → KeepsOthers driven frame new.frames
-      → KeepsRows s.frames middle → KeepsRows middle driven → NoneCanStart s → IsHeldFrame driven frame → new.waiting ≡ s.waiting → SameFrames driven_state new
+      → NoneCanStart s → IsHeldFrame driven frame → new.waiting ≡ s.waiting → SameFrames driven_state new
       → (freed ≡ OneFrame) ⊎ ((freed ≡ Nothing) × (new ≡ driven_state)) → HasFreed freed new
-  answered_freed new frame freed kept still others rows more_rows waits held waiting same by =
+  answered_freed new frame freed kept still others waits held waiting same by =
       let shape : driven.geometry ≡ s.frames.geometry = drives.0 ∙ answers.0 in
       let lives : AreLive s.frames = live_still s.frames middle answers.0 (answers_still s.frames middle token block answers) live in
       elim by [

@@ -1,21 +1,23 @@
 -- Between public calls, with no request left that could start, a shard is at rest.
-use Rattle.std.proofs.Common.{◌≡◌, ℕ, ◌+◌, Bool, true, false, cond, List, [], ◌∷◌, ◌++◌, map, sym, ap, ◌∙◌, Option, Some, None}
+use Rattle.std.proofs.Common.{◌≡◌, ℕ, Bool, true, false, cond, List, [], ◌∷◌, ◌++◌, map, sym, ap, subst, ◌∙◌, Option, Some, None}
 use Rattle.std.specs.Prelude.{nat_eq, option_map}
 use Rattle.std.specs.List.{AllByRecursion}
 use Rattle.r6_layout.specs.Layout as layout
+use Rattle.r6_layout.specs.Shape.{Shape}
+use Rattle.r6_world.specs.Geometries.{layout_of}
 use Rattle.r6_world.specs.PlainArray as world
 use Rattle.r6_world.specs.ShardStates.{Request, Stage, Waiting, Held, Finished, Released, NotHeld}
 use Rattle.r6_world.specs.Steps.{AtRest}
 use Rattle.r6_frames.specs.declared.op.Request.{Request as Entered}
-use Rattle.r6_frames.specs.declared.frames.FrameUse.{FrameUse}
-use Rattle.r6_frames.specs.declared.frames.FrameUse.TheVariants as uses
 use Rattle.r6_core.specs.declared.state.State.{State}
 use Rattle.r6_frames.specs.Views.{op_of, hold_of, requests_from}
 use Rattle.r6_frames.specs.Calls.{NotHeldBy}
 use Rattle.r6_core.specs.Shards.{state_of, rest_of, layout_in, waiting_request, finished_request, replied_requests}
 use Rattle.r6_core.specs.Order.{MustWait}
-use Rattle.r6_core.specs.Inside.{CannotStart, IsCore, IsSettled}
+use Rattle.r6_core.specs.Inside.{CannotStart, IsCore, IsSettled, SameFrames}
 use Rattle.r6_frames.proofs.Lists.{Entries, table, looked_up}
+use Rattle.r6_core.proofs.HeldRequests.{all_held}
+use Rattle.r6_core.proofs.Passed.{all-append}
 use Rattle.r6_core.proofs.Replied.{all_replied}
 use Rattle.r6_frames.proofs.Resting.{goes_on, nothing_next, brought_in, free_frame_is}
 
@@ -29,12 +31,6 @@ IsPast (Released reply) = Unit {0}
 
 abbrev pub AllPast : Entries Request → Type 0
 AllPast es = AllByRecursion (λ e. IsPast e.1.stage) es
-
-held_past : (frame : ℕ) (held : List FrameUse) (rest : Entries Request) → AllPast rest → AllPast (requests_from frame held ++ rest)
-held_past frame [] rest h = h
-held_past frame (uses.Free ∷ held) rest h = held_past (frame + 1) held rest h
-held_past frame (uses.Held x ∷ held) rest h = (tt, held_past (frame + 1) held rest h)
-held_past frame (uses.Returning r ∷ held) rest h = held_past (frame + 1) held rest h
 
 ended_past : (saw_failed : Bool) (r : Entered) → IsPast (finished_request saw_failed r).1.stage
 ended_past true r = tt
@@ -56,7 +52,7 @@ waits_at P (r ∷ rs) rest id op past all is =
 
 -- ---- the frames of the code are those of the shard
 
-not_held_by : (s : State) (row : ℕ) → NotHeld (state_of s) row → NotHeldBy s.frames row
+pub not_held_by : (s : State) (row : ℕ) → NotHeld (state_of s) row → NotHeldBy s.frames row
 not_held_by s row not_held frame h is at = not_held frame (hold_of h) (ap (option_map hold_of) is) at
 
 -- what can't start in the frames of the code can't start in the shard
@@ -73,9 +69,15 @@ at_rest s core =
       nothing_next = λ live frame h is. nothing_next s.frames frame h (core.settled.rested live frame).0 is;
       none_could_start = λ live id op is free_row frame free.
           let rest : Entries Request = requests_from 0 s.frames.held.items ++ replied_requests s.frames.saw_failed s.released s.replies.items in
-          let past = held_past 0 s.frames.held.items _ (all_replied (λ e. IsPast e.1.stage) s.frames.saw_failed (λ r. tt) (ended_past s.frames.saw_failed) s.released s.replies.items) in
+          let past = all-append (λ e. IsPast e.1.stage) (requests_from 0 s.frames.held.items) _ (all_held (λ e. IsPast e.1.stage) (λ f r. tt) 0 s.frames.held.items) (all_replied (λ e. IsPast e.1.stage) s.frames.saw_failed (λ r. tt) (ended_past s.frames.saw_failed) s.released s.replies.items) in
           let there = waits_at (CannotStart s.frames) s.waiting.items rest id op past core.waits is in
           let row = ap (λ o. layout.row_of s.frames.geometry (world.block_of o)) there.2 in
           there.1 live (not_held_by s _ (λ f h held at. free_row f h held (at ∙ sym row))) frame (free_frame_is (rest_of s) s.frames frame core.settled.sound.frames live free);
       brought_in = λ live slot built. brought_in (rest_of s) s.frames core.settled.sound.frames slot built;
     }
+
+-- and the shard that it was before a call is at rest
+pub rests_in : (s new : State) → SameFrames s new → IsCore new → AtRest (layout_in s) s.frames.shard (state_of new)
+rests_in s new same core =
+    subst (λ (g : Shape). AtRest (layout_of g) s.frames.shard (state_of new)) same.0
+    (subst (λ (n : ℕ). AtRest (layout_in new) n (state_of new)) same.1 (at_rest new core))

@@ -4,12 +4,11 @@ use Rattle.std.specs.Prelude.{if◌then◌else◌, Option, None}
 use Rattle.std.specs.Option.{option_eq}
 use Rattle.r6_core.specs.declared.call.Call.{Call}
 use Rattle.r6_world.specs.Tables.{count_below}
-use Rattle.r6_world.specs.ShardStates.{is_away}
-use Rattle.r6_frames.specs.Slots.{states_of, count_out}
+use Rattle.r6_frames.specs.Slots.{states_of}
 use Rattle.r6_core.specs.declared.state.State.{State}
-use Rattle.r6_core.specs.Inside.{IsSound, count_untold}
+use Rattle.r6_core.specs.Inside.{IsSound, count_missing, count_untold, is_missing}
 
-count_below-le : (test : ℕ → Bool) (n : ℕ) → count_below test n ≤ n
+pub count_below-le : (test : ℕ → Bool) (n : ℕ) → count_below test n ≤ n
 count_below-le test zero = omega arith
 count_below-le test (suc n) = by_test (test n) (count_below-le test n)
   where
@@ -19,7 +18,7 @@ count_below-le test (suc n) = by_test (test n) (count_below-le test n)
 
 pub calls_fit : (s : State) → IsSound s → length s.calls.items + count_untold s.untold ≤ s.calls.capacity
 calls_fit s sound =
-    let out : count_out s.frames.slots s.frames.geometry.slots ≤ s.frames.geometry.slots = count_below-le (λ slot. is_away (states_of s.frames.slots slot)) s.frames.geometry.slots in
+    let out : count_missing s.frames ≤ s.frames.geometry.slots = count_below-le (λ slot. is_missing (states_of s.frames.slots slot)) s.frames.geometry.slots in
     omega (arith, sound.room.few_calls, sound.room.calls, out, sound.frames.shape.slots_allowed.1)
 
 -- a call that was taken is counted

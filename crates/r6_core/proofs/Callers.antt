@@ -7,6 +7,7 @@ use Rattle.r6_world.specs.Changes.{Accept, after}
 use Rattle.r6_world.specs.Steps as steps
 use Rattle.r6_world.specs.ShardStates as shards
 use Rattle.r6_frames.specs.declared.op.Op.{Op}
+use Rattle.r6_frames.specs.declared.frames.Scrub.{Scrub}
 use Rattle.r6_frames.specs.declared.command.Outstanding.{Outstanding}
 use Rattle.r6_frames.specs.declared.command.Command.{Command}
 use Rattle.r6_frames.specs.Views.{op_of, command_of, outstanding}
@@ -20,11 +21,12 @@ use Rattle.r6_core.specs.declared.refusal.Receipt.{Receipt}
 use Rattle.r6_core.specs.declared.refusal.Refusal.{Refusal}
 use Rattle.r6_core.specs.declared.refusal.Refusal.TheVariants.{UnknownCall}
 use Rattle.r6_core.specs.declared.state.State.{State}
+use Rattle.r6_core.specs.declared.turn.Turn.{Turn}
 use Rattle.r6_core.specs.Shards.{core_of, call_of, state_of, layout_in, Step, completion_of, receipt_of, buffer_in, reply_of, buffer_back}
-use Rattle.r6_core.specs.Refusals.{HasSubmitFault, submit_faults, IsOut, HasDeliverFault, deliver_faults, IsFirstFault, HasNone, AllTold}
+use Rattle.r6_core.specs.Refusals.{HasSubmitFault, submit_faults, IsOut, HasDeliverFault, deliver_faults, HasTurnFault, turn_faults, IsFirstFault, HasNone, AllTold}
 use Rattle.r6_core.specs.Order.{BringsBack, SameReplies, FinishesBy, LooksOn, TakesFirst, HasNoReply, HaveTurns, HaveTurnsBehind, HaveTurnsAfter}
-use Rattle.r6_core.specs.Effects.{Accepts, Receives, LooksAt, IsCommandOf, Hears, RefusesAnswer, HandsReply, HandsNoReply}
-use Rattle.r6_core.specs.Inside.{Seen, NoCalls, HasFault}
+use Rattle.r6_core.specs.Effects.{Accepts, KeepsRequests, Turns, turn_event, Receives, LooksAt, IsCommandOf, Hears, RefusesAnswer, HandsReply, HandsNoReply}
+use Rattle.r6_core.specs.Inside.{Seen, NoCalls, HasFault, next_row}
 
 -- ---- cases of a result
 
@@ -163,3 +165,12 @@ hands_reply number None s new step first brings sized unanswered waiting =
     record { step = step; none = first.0; same = ap core_of first.1 }
 hands_reply number (Some r) s new step first brings sized unanswered waiting =
     record { step = step; first = first; brings = brings; sized = sized; unanswered = unanswered; waiting = ap (λ b. b.items) waiting }
+
+-- ---- turns
+
+pub turns : {E : Type 0} (result : Result Turn E) (old new : State) (scrub : Scrub)
+    → IfOk result (λ turn. Step (core_of old) (turn_event turn scrub (next_row scrub old)) (core_of new))
+    → IfOk result (λ _. HasNone (HasTurnFault (core_of old) scrub) turn_faults) → Seen KeepsRequests old new → new.unanswered ≡ old.unanswered
+    → IfOk result (λ turn. Turns (core_of old) scrub turn (core_of new))
+turns (Ok turn) old new scrub step right kept unanswered = record { step = step; right = right; kept = kept; unanswered = unanswered }
+turns (Err refusal) old new scrub step right kept unanswered = tt

@@ -1,5 +1,5 @@
 -- What taking a command does to the state.
-use Rattle.std.proofs.Common.{◌≡◌, ℕ, ◌*◌, ◌<◌, ◌≤◌, List, [], ◌++◌, Bool, length, map, sym, ap, subst, ◌∙◌, Option, Some, None, MatchOption, arith}
+use Rattle.std.proofs.Common.{◌≡◌, ℕ, ◌*◌, ◌<◌, ◌≤◌, List, ◌++◌, Bool, length, map, sym, ap, subst, ◌∙◌, Option, Some, None, MatchOption, arith}
 use Rattle.std.specs.Prelude.{nat_eq}
 use Rattle.std.specs.List.{IsDistinct, AllByRecursion}
 use Rattle.std.specs.Map.{keys_of}
@@ -12,16 +12,19 @@ use Rattle.r6_world.specs.Steps.{Take_command, No_command}
 use Rattle.r6_frames.specs.declared.command.Command.{Command}
 use Rattle.r6_frames.specs.declared.frames.Frames.{Frames}
 use Rattle.r6_core.specs.declared.state.State.{State}
-use Rattle.r6_frames.specs.Views.{world_command, held_requests, Rest, shard_with, hold_at, use_at, AreLive}
+use Rattle.r6_frames.specs.Views.{world_command, held_requests, is_scrub, Rest, shard_with, hold_at, use_at, AreLive}
 use Rattle.r6_frames.specs.Calls.{Steps, KeepsHolds}
 use Rattle.r6_frames.specs.Owed.{owed_in, IsDriven, IsOver}
-use Rattle.r6_frames.specs.Slots.{count_out}
+use Rattle.r6_frames.specs.Slots.{count_out, states_of}
 use Rattle.r6_frames.specs.Sound as held
 use Rattle.r6_core.specs.Shards.{Step, layout_in, state_of, rest_of, requests_of, waiting_request, replied_requests, core_of}
 use Rattle.r6_core.specs.Effects.{HandsCommand}
-use Rattle.r6_core.specs.Inside.{IsCore, IsSettled}
+use Rattle.r6_world.specs.Tables.{count_below}
+use Rattle.r6_core.specs.Inside.{IsCore, IsSettled, count_missing, count_rows, is_missing}
 use Rattle.r6_frames.proofs.Lists.{table}
-use Rattle.r6_core.proofs.Kept.{requests_kept, sizes_kept}
+use Rattle.r6_core.proofs.CountedRows.{counted_still}
+use Rattle.r6_core.proofs.Going.{no_rest}
+use Rattle.r6_core.proofs.Kept.{own_rows_kept, requests_kept, sizes_kept}
 use Rattle.r6_core.proofs.Waking.{none_more}
 
 -- a frame that has what it had
@@ -49,7 +52,7 @@ taken_core : (s : State) (new : Frames) → IsSettled s → IsTaken s.frames new
 taken_core s new core is =
     let sound = core.sound in
     let same = same_requests s new is.holds is.saw_failed in
-    let out : count_out new.slots new.geometry.slots ≡ count_out s.frames.slots s.frames.geometry.slots = λ i. count_out (is.slots i) (is.geometry i).slots in
+    let out : count_missing new ≡ count_missing s.frames = λ i. count_below (λ slot. is_missing (states_of (is.slots i) slot)) (is.geometry i).slots in
     record {
       sound = record {
         frames = is.sound;
@@ -73,6 +76,8 @@ taken_core s new core is =
             let owes = ap (λ held. owed_in held.items) is.holds in
             omega (arith, slots, owes, is.tokens, sound.tokens);
         accepted = sound.accepted;
+        counted = counted_still s.counts s.frames new sound.counted (let many = ap (λ held. count_rows is_scrub held.items) is.holds in omega (arith, many)) (let next = is.tokens in omega (arith, next));
+        next_rows = own_rows_kept s.frames new s.check_row s.repair_row is.geometry is.shard sound.next_rows;
       };
       rested = λ live frame.
           rested_kept s.frames new frame (ap (λ held. hold_at held.items frame) is.holds) (core.rested (live_before s.frames new is live) frame);
@@ -89,9 +94,6 @@ TakesCommand old result new = MatchOption result (Steps old No_command new) (λ 
 
 abbrev pub SameSlots : Frames → Frames → Type 0
 SameSlots old new = (new.slots ≡ old.slots) × (new.saw_failed ≡ old.saw_failed)
-
-abbrev no_rest : Rest
-no_rest = record { accepted = 0; request = λ id. None; calls = []; untold = None }
 
 is_taken : (old new : Frames) (result : Option Command) → held.IsSound new → KeepsHolds old new → SameSlots old new → TakesCommand old result new → IsTaken old new
 is_taken old new None sound holds same took =

@@ -29,6 +29,7 @@ use Rattle.r6_core.specs.Order.{FinishesBy, HaveTurns, HaveTurnsBehind, SameRepl
 use Rattle.r6_core.specs.Inside.{HasFreedOne, NoneCanStart, SameFrames, IsSettled, Seen, TakesThrough}
 use Rattle.r6_core.proofs.Throughs.{through_in, through_none}
 use Rattle.r6_core.proofs.Scanned.{turns_in}
+use Rattle.r6_core.proofs.CountedRows.{rows_of_holds}
 use Rattle.r6_core.proofs.Going.{no_rest, Goes, SlotsStay, goes_still, gone_state, gone_sound}
 use Rattle.r6_core.proofs.Answering.{live_still}
 
@@ -55,13 +56,13 @@ comes_still : (old new : Frames) (token : ℕ) → ComesHome old token new → S
 comes_still old new token comes = let is = (comes.2 no_rest).3 in (ap (λ (x : Shard). x.slot) is, ap (λ (x : Shard). x.saw_failed) is)
 
 module _ (s : State) (token : ℕ) (fs : Frames) (core : IsSettled s) (sound : held.IsSound fs) (comes : ComesHome s.frames token fs)
-    (tokens : (owed fs ≡ owed s.frames) × (next_of fs.commands ≡ next_of s.frames.commands)) (requests : held_requests fs ≡ held_requests s.frames) where
+    (tokens : (owed fs ≡ owed s.frames) × (next_of fs.commands ≡ next_of s.frames.commands)) (requests : held_requests fs ≡ held_requests s.frames) (keeps : KeepsHeld s.frames fs) where
   late_goes : Goes s fs s.calls
   late_goes =
-      goes_still s fs core.sound sound comes.0 comes.1 (comes_still s.frames fs token comes) requests (let a = tokens.0 in let b = tokens.1 in omega (arith, a, b))
+      goes_still s fs core.sound sound comes.0 comes.1 (comes_still s.frames fs token comes) requests (rows_of_holds s.frames fs keeps) (let a = tokens.0 in let b = tokens.1 in omega (arith, a, b)) (let b = tokens.1 in omega (arith, b))
 
-  pub late_core : KeepsHeld s.frames fs → IsSettled (record s { frames = fs })
-  late_core keeps =
+  pub late_core : IsSettled (record s { frames = fs })
+  late_core =
       record {
         sound = gone_sound s fs s.calls core.sound late_goes;
         rested = λ live frame. rested_still s.frames fs frame keeps (core.rested (live_still s.frames fs comes.0 (comes_still s.frames fs token comes) live) frame);

@@ -5,7 +5,10 @@ use Rattle.std.specs.Prelude.{nat_eq, option_map}
 use Rattle.std.specs.List.{IsDistinct, AllByRecursion}
 use Rattle.std.specs.Map.{keys_of}
 use Rattle.circular_buffer.specs.Buffer.{buffer}
-use Rattle.r6_layout.specs.Shape.{Shape}
+use Rattle.r6_layout.specs.Layout.{first_row}
+use Rattle.r6_layout.specs.Shape.{Shape, IsShape}
+use Rattle.r6_world.specs.Layouts.{IsRowOf}
+use Rattle.r6_world.proofs.Geometries.{layouts}
 use Rattle.r6_world.specs.Geometries.{layout_of}
 use Rattle.r6_world.specs.Registers.{Snapshot, status_of}
 use Rattle.r6_world.specs.Worlds.{shard_at_start, slot_at_start}
@@ -17,14 +20,16 @@ use Rattle.r6_frames.specs.Slots.{states_of, slot_before}
 use Rattle.r6_world.specs.ShardStates as shards
 use Rattle.r6_world.specs.ShardStates.{Synced}
 use Rattle.r6_core.specs.declared.state.State.{State}
-use Rattle.r6_frames.specs.Views.{use_at, row_in, hold_of, frame_of, command_of}
+use Rattle.r6_frames.specs.Views.{use_at, is_scrub, row_in, hold_of, frame_of, command_of}
 use Rattle.r6_frames.specs.Calls.{HasOneBlock, IsAtStart, IsRequestOf}
 use Rattle.r6_frames.specs.Owed.{owed_in}
 use Rattle.r6_frames.specs.Sound as held
-use Rattle.r6_core.specs.Shards.{call_of, devices_state, state_of, requests_of, waiting_request, replied_requests}
+use Rattle.r6_core.specs.declared.counts.Counts.{Counts}
+use Rattle.r6_core.specs.Shards.{call_of, counts_of, devices_state, state_of, requests_of, waiting_request, replied_requests}
 use Rattle.r6_core.specs.Refusals.{most_unanswered}
-use Rattle.r6_core.specs.Inside.{CannotStart, IsCore, IsFresh, count_untold}
+use Rattle.r6_core.specs.Inside.{AreOwnRows, CannotStart, IsCore, IsFresh, count_untold, none_counted, rows_found}
 use Rattle.r6_frames.proofs.Lists.{table}
+use Rattle.r6_core.proofs.CountedRows.{no_rows_counted}
 
 distinct-none : IsDistinct nat_eq []
 unfolding IsDistinct
@@ -36,9 +41,24 @@ nothing_owed (uses.Free ∷ held) free = nothing_owed held (λ frame. free (suc 
 nothing_owed (uses.Held h ∷ held) free = let bad = free 0 in absurd (cc)
 nothing_owed (uses.Returning r ∷ held) free = let bad = free 0 in absurd (cc)
 
+-- the shard's first row is one of its rows
+pub first_row_own : (shape : Shape) (shard : ℕ) → IsShape shape → shard < shape.shards → IsRowOf (layout_of shape) shard (first_row shape shard)
+first_row_own shape shard lawful below = let l = layouts shape lawful in l.owned shard (first_row shape shard) below (omega arith) (l.some_row shard below)
+
+fresh_rows : (s : State) (shape : Shape) (shard : ℕ) → IsShape shape → shard < shape.shards → s.frames.geometry ≡ shape → s.frames.shard ≡ shard
+    → s.check_row ≡ first_row shape shard → s.repair_row ≡ first_row shape shard → AreOwnRows s.frames s.check_row s.repair_row
+fresh_rows s shape shard lawful below same_shape same_shard check repair =
+    let own : (row : ℕ) → row ≡ first_row shape shard → IsRowOf (layout_of s.frames.geometry) s.frames.shard row = λ row is.
+    subst (λ (n : ℕ). IsRowOf (layout_of s.frames.geometry) n row) (sym same_shard)
+    (subst (λ (g : Shape). IsRowOf (layout_of g) shard row) (sym same_shape)
+    (subst (λ (r : ℕ). IsRowOf (layout_of shape) shard r) (sym is) (first_row_own shape shard lawful below))) in
+    (own s.check_row check, own s.repair_row repair)
+
 pub fresh_core : (s : State) → s.accepted ≡ 0 → s.unanswered ≡ 0 → s.waiting ≡ buffer [] most_unanswered → s.replies ≡ buffer [] most_unanswered → s.released ≡ 0
-    → s.calls ≡ buffer [] 32 → s.untold ≡ None → held.IsSound s.frames → IsAtStart s.frames → IsCore s
-fresh_core s accepted unanswered waiting replies released calls untold sound start =
+    → s.calls ≡ buffer [] 32 → s.untold ≡ None → s.counts ≡ none_counted
+    → (shape : Shape) (shard : ℕ) → IsShape shape → shard < shape.shards → s.frames.geometry ≡ shape → s.frames.shard ≡ shard
+    → s.check_row ≡ first_row shape shard → s.repair_row ≡ first_row shape shard → held.IsSound s.frames → IsAtStart s.frames → IsCore s
+fresh_core s accepted unanswered waiting replies released calls untold counts shape shard lawful below same_shape same_shard check repair sound start =
     let none : requests_of s ≡ [] = λ i. map waiting_request (waiting i).items ++ (start.3 i ++ replied_requests s.frames.saw_failed (released i) (replies i).items) in
     let nobody : s.waiting.items ≡ [] = ap (λ b. b.items) waiting in
     let some : 2 * s.frames.geometry.slots * length s.waiting.items ≡ 0 = ap (λ (rs : List Request). 2 * s.frames.geometry.slots * length rs) nobody ∙ (omega arith) in
@@ -65,6 +85,12 @@ fresh_core s accepted unanswered waiting replies released calls untold sound sta
           };
           tokens = omega (arith, some, nothing_owed s.frames.held.items start.0, start.1);
           accepted = omega (arith, accepted);
+          counted =
+              let rows = ap rows_found counts in
+              let passed = ap (λ (k : Counts). k.skipped) counts in
+              let held = no_rows_counted is_scrub s.frames.held.items (λ frame. ap row_in (start.0 frame)) in
+              record { found = omega (arith, rows, held); skipped = omega (arith, passed, held) };
+          next_rows = fresh_rows s shape shard lawful below same_shape same_shard check repair;
         };
         rested = λ live frame. (λ h is. let free = ap row_in (start.0 frame) in absurd (cc), λ over. let free = ap row_in (start.0 frame) in let is = over.1 in absurd (cc));
       };
@@ -92,6 +118,7 @@ fresh_start s shape shard r fresh same_shape same_shard slots =
     let start = fresh.2 in
     let frame : frame_of s.frames ≡ (λ f. None) = fun_ext (λ f. ap (λ (u : FrameUse). option_map hold_of (row_in u)) (start.0 f)) in
     let command : (state_of s).command ≡ (λ t. None) = fun_ext (λ t. ap (option_map (command_of s.frames.slots s.frames.handed t)) (start.2 t)) in
+    let first : first_row s.frames.geometry s.frames.shard ≡ first_row shape shard = λ i. first_row (same_shape i) (same_shard i) in
     λ i. record (state_of s) {
       accepted = fresh.0 i;
       request = table (fresh.1 i);
@@ -102,8 +129,9 @@ fresh_start s shape shard r fresh same_shape same_shard slots =
       calls = map call_of (fresh.3.0 i);
       untold = option_map call_of (fresh.3.1 i);
       saw_failed = fresh.4 i;
-      check_row = (layout_of (same_shape i)).first_row (same_shard i);
-      repair_row = (layout_of (same_shape i)).first_row (same_shard i);
+      check_row = (fresh.5.0 ∙ first) i;
+      repair_row = (fresh.5.1 ∙ first) i;
+      counts = counts_of (fresh.5.2 i);
     }
 
 none_before : (waiting : List Request) (others : List (ℕ × shards.Request)) → map waiting_request waiting ++ others ≡ [] → waiting ≡ []

@@ -14,16 +14,17 @@ use Rattle.r6_world.specs.PlainArray as world
 use Rattle.r6_world.specs.ShardStates as shards
 use Rattle.r6_world.specs.ShardStates.{Shard}
 use Rattle.r6_frames.specs.declared.op.Request.{Request}
+use Rattle.r6_frames.specs.declared.finish.Ended.TheVariants as ended
 use Rattle.r6_frames.specs.declared.frames.Frames.{Frames}
 use Rattle.r6_frames.specs.declared.frames.FrameUse.{FrameUse}
 use Rattle.r6_frames.specs.declared.frames.FrameUse.TheVariants as uses
 use Rattle.r6_frames.specs.Views.{held_requests, requests_from, hold_at, hold_of, use_at, row_in, shard_with, AreLive}
-use Rattle.r6_frames.specs.Calls.{entry_of, Between, GivesUp, IsWith, KeepsOthers, HasOneBlock}
+use Rattle.r6_frames.specs.Calls.{entry_of, Between, GivesUp, GivesScrubUp, IsWith, KeepsOthers, HasOneBlock}
 use Rattle.r6_frames.specs.Owed.{owed}
 use Rattle.r6_frames.specs.Sound as held
 use Rattle.r6_core.specs.declared.state.State.{State}
 use Rattle.r6_core.specs.Shards.{waiting_request, replied_requests}
-use Rattle.r6_core.specs.Inside.{IsSound, Gathers, SameCalls, held_op, numbered_op, unreplied}
+use Rattle.r6_core.specs.Inside.{IsSound, Gathers, SameCalls, SameScrubs, held_op, numbered_op, unreplied}
 use Rattle.r6_core.proofs.Kept.{waiting_sized}
 use Rattle.r6_core.proofs.Passed.{all-append}
 use Rattle.r6_core.proofs.Replied.{length_replied}
@@ -57,6 +58,7 @@ pub record IsGathering (s new : State) (count : ℕ) : Type 0 where
   pub unanswered : new.unanswered ≡ s.unanswered
   pub released : new.released ≡ s.released
   pub calls : SameCalls s new
+  pub scrubs : SameScrubs s new
 
 pub gathering_none : (s : State) → IsSound s → (AreLive s.frames → ⊥) → IsGathering s s 0
 gathering_none s sound stopped =
@@ -77,7 +79,11 @@ gathering_none s sound stopped =
       unanswered = refl;
       released = refl;
       calls = (refl, refl);
+      scrubs = (refl, refl, refl);
     }
+
+frame_only : (x y : Shard) (frame : ℕ → Option Hold) → x ≡ record y { frame = frame } → x ≡ record y { frame = x.frame }
+frame_only x y frame same = same ∙ ap (λ f. record y { frame = f }) (sym (ap (λ (z : Shard). z.frame) same))
 
 -- one more went behind the others
 module _ (s mid : State) (count : ℕ) (r : Request) (is : IsGathering s mid count) (replies : Buffer Request) (last : replies.items ≡ mid.replies.items ++ r ∷ []) where
@@ -120,20 +126,21 @@ module _ (s mid : State) (count : ℕ) (r : Request) (is : IsGathering s mid cou
         unanswered = is.unanswered;
         released = is.released;
         calls = is.calls;
+        scrubs = is.scrubs;
       }
 
-  pub gathering_held : (fs : Frames) → held.IsSound fs → (AreLive fs → ⊥) → GivesUp mid.frames count r fs
+  pub gathering_held : (fs : Frames) → held.IsSound fs → (AreLive fs → ⊥) → GivesUp mid.frames count (ended.Request r) fs
       → KeepsOthers mid.frames count fs → hold_at fs.held.items count ≡ None → owed fs ≤ owed mid.frames → replies.capacity ≡ mid.replies.capacity
       → IsGathering s (record mid { frames = fs; replies = replies }) (count + 1)
   gathering_held fs sound stopped gives others none owes long =
       let fewer = is.tokens in
       let w = map numbered_op mid.waiting.items in
-      let a = map held_op gives.requests.before in
-      let b = map held_op gives.requests.behind in
+      let a = map held_op gives.leaves.0.before in
+      let b = map held_op gives.leaves.0.behind in
       let was : unreplied mid ≡ (w ++ a) ++ numbered_op r ∷ b =
-      ap (λ es. w ++ map held_op es) gives.requests.with ∙ ap (λ es. w ++ es) (map-append held_op gives.requests.before (entry_of count r ∷ gives.requests.behind)) ∙ sym (append_assoc w a (numbered_op r ∷ b)) in
+      ap (λ es. w ++ map held_op es) gives.leaves.0.with ∙ ap (λ es. w ++ es) (map-append held_op gives.leaves.0.before (entry_of count r ∷ gives.leaves.0.behind)) ∙ sym (append_assoc w a (numbered_op r ∷ b)) in
       let now : w ++ map held_op (held_requests fs) ≡ (w ++ a) ++ b =
-      ap (λ es. w ++ map held_op es) gives.requests.without ∙ ap (λ es. w ++ es) (map-append held_op gives.requests.before gives.requests.behind) ∙ sym (append_assoc w a b) in
+      ap (λ es. w ++ map held_op es) gives.leaves.0.without ∙ ap (λ es. w ++ es) (map-append held_op gives.leaves.0.before gives.leaves.0.behind) ∙ sym (append_assoc w a b) in
       record {
         frames = sound;
         stopped = stopped;
@@ -147,7 +154,7 @@ module _ (s mid : State) (count : ℕ) (r : Request) (is : IsGathering s mid cou
         replies = replies_more;
         all = all_more (w ++ a) b (w ++ map held_op (held_requests fs)) was now;
         waiting_sized = is.waiting_sized;
-        sized = all-append (HasOneBlock s.frames.geometry) is.more (r ∷ []) is.sized (gives.sized ∙ ap (λ (g : Shape). g.block) is.shard.0, tt);
+        sized = all-append (HasOneBlock s.frames.geometry) is.more (r ∷ []) is.sized (gives.leaves.1 ∙ ap (λ (g : Shape). g.block) is.shard.0, tt);
         tokens = omega (arith, owes, fewer);
         shard = (
           gives.shard.0 ∙ is.shard.0,
@@ -163,10 +170,45 @@ module _ (s mid : State) (count : ℕ) (r : Request) (is : IsGathering s mid cou
         unanswered = is.unanswered;
         released = is.released;
         calls = is.calls;
+        scrubs = is.scrubs;
       }
-    where
-      frame_only : (x y : Shard) (frame : ℕ → Option Hold) → x ≡ record y { frame = frame } → x ≡ record y { frame = x.frame }
-      frame_only x y frame same = same ∙ ap (λ f. record y { frame = f }) (sym (ap (λ (z : Shard). z.frame) same))
+
+-- a check or repair is given up
+pub gathering_scrub : (s mid : State) (count : ℕ) (fs : Frames) → IsGathering s mid count → held.IsSound fs → (AreLive fs → ⊥) → GivesScrubUp mid.frames count fs
+    → KeepsOthers mid.frames count fs → hold_at fs.held.items count ≡ None → owed fs ≤ owed mid.frames → IsGathering s (record mid { frames = fs }) (count + 1)
+gathering_scrub s mid count fs is sound stopped gives others none owes =
+    let fewer = is.tokens in
+    record {
+      frames = sound;
+      stopped = stopped;
+      none_held = λ frame lt. elim (cases_lt frame count) [
+        | inl lower ↦
+            let same : use_at fs.held.items frame ≡ use_at mid.frames.held.items frame = others frame (λ e. absurd (omega arith)) in
+            ap row_in same ∙ is.none_held frame lower
+        | inr higher ↦ let same : count ≡ frame = omega arith in subst (λ f. hold_at fs.held.items f ≡ None) same none
+      ];
+      more = is.more;
+      replies = is.replies;
+      all = subst (λ es. IsPermutation (unreplied s) ((map numbered_op mid.waiting.items ++ map held_op es) ++ map numbered_op is.more)) (sym gives.1.leaves) is.all;
+      waiting_sized = is.waiting_sized;
+      sized = is.sized;
+      tokens = omega (arith, owes, fewer);
+      shard = (
+        gives.1.shard.0 ∙ is.shard.0,
+        gives.1.shard.1 ∙ is.shard.1,
+        λ rest.
+            let one = gives.1.shard.2 rest in
+            let before = is.shard.2 rest in
+            frame_only (shard_with rest fs) (shard_with rest s.frames) _ (one ∙ ap (λ (x : Shard). record x { frame = put (shard_with rest mid.frames).frame count None }) before),
+      );
+      waiting_room = is.waiting_room;
+      replies_room = is.replies_room;
+      accepted = is.accepted;
+      unanswered = is.unanswered;
+      released = is.released;
+      calls = is.calls;
+      scrubs = is.scrubs;
+    }
 
 pub gathering_skips : (s mid : State) (count : ℕ) → IsGathering s mid count → hold_at mid.frames.held.items count ≡ None → IsGathering s mid (count + 1)
 gathering_skips s mid count is none =
@@ -190,6 +232,7 @@ gathering_skips s mid count is none =
       unanswered = is.unanswered;
       released = is.released;
       calls = is.calls;
+      scrubs = is.scrubs;
     }
 
 -- no row is held, and so no request
@@ -219,6 +262,7 @@ gathered s new count is past none =
       shard = (is.shard.0, is.shard.1, λ rest. is.shard.2 rest ∙ ap (λ f. record (shard_with rest s.frames) { frame = f }) (fun_ext (λ frame. ap (option_map hold_of) (no_row frame))));
       room = (is.waiting_room, is.replies_room);
       rest = (is.accepted, is.unanswered, is.released, is.calls);
+      scrubs = is.scrubs;
     }
 
 -- there is room for all

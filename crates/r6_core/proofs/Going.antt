@@ -1,5 +1,5 @@
 -- The frames go on, for the same requests.
-use Rattle.std.proofs.Common.{◌≡◌, ℕ, ◌+◌, ◌*◌, ◌<◌, ◌≤◌, List, [], ◌++◌, map, length, refl, ap, sym, subst, ◌∙◌, None, arith}
+use Rattle.std.proofs.Common.{◌≡◌, ℕ, ◌+◌, ◌*◌, ◌<◌, ◌≤◌, List, [], ◌∷◌, ◌++◌, map, length, refl, ap, sym, subst, ◌∙◌, None, arith}
 use Rattle.std.specs.Prelude.{nat_eq}
 use Rattle.std.specs.List.{IsDistinct, AllByRecursion}
 use Rattle.std.specs.Map.{keys_of}
@@ -9,20 +9,22 @@ use Rattle.r6_tables.specs.Table.{next_of}
 use Rattle.r6_world.specs.Layouts.{Layout}
 use Rattle.r6_world.specs.Geometries.{layout_of}
 use Rattle.r6_world.specs.ShardStates.{Shard}
-use Rattle.r6_world.specs.Changes.{Change, Ask, Prepare, Send, Learn, Confirm, after}
-use Rattle.r6_world.specs.Steps.{GoesOn, Takes, Good, Taken}
+use Rattle.r6_world.specs.Changes.{Change, Ask, Prepare, Classify, Send, Learn, Confirm, after}
+use Rattle.r6_world.specs.Steps.{GoesOn, Leads, Takes, Good, Taken}
 use Rattle.r6_frames.specs.declared.frames.Frames.{Frames}
-use Rattle.r6_frames.specs.Slots.{states_of, count_out}
+use Rattle.r6_frames.specs.Slots.{states_of}
 use Rattle.r6_frames.specs.Views.{Rest, AreLive, held_requests, shard_with}
-use Rattle.r6_frames.specs.Calls.{Between, PutsOut, Drives, Answers}
+use Rattle.r6_frames.specs.Calls.{Between, PutsOut, Drives, Answers, Classifies, KeepsRows}
 use Rattle.r6_frames.specs.Owed.{owed}
 use Rattle.r6_frames.specs.Sound as held
 use Rattle.r6_core.specs.declared.call.Call.{Call}
 use Rattle.r6_core.specs.declared.state.State.{State}
-use Rattle.r6_core.specs.Shards.{state_of, layout_in, rest_of, requests_of, call_of, waiting_request, replied_requests, table}
-use Rattle.r6_core.specs.Inside.{IsSound, count_untold}
-use Rattle.r6_core.proofs.Kept.{requests_kept, sizes_kept}
-use Rattle.r6_core.proofs.SlotsKept.{drives_keep, out_same}
+use Rattle.r6_core.specs.Shards.{state_of, layout_in, rest_of, requests_of, call_of, counts_of, waiting_request, replied_requests, table}
+use Rattle.r6_core.specs.Inside.{IsSound, count_missing, count_untold, none_counted}
+use Rattle.r6_core.proofs.CountedRows.{counted_still, same_or_fewer}
+use Rattle.r6_core.proofs.Kept.{own_rows_kept, requests_kept, sizes_kept}
+use Rattle.r6_core.proofs.SlotsKept.{drives_keep, missing_same}
+use Rattle.r6_core.proofs.Throughs.{tokens_grow}
 
 -- ---- lists of changes of another shape
 
@@ -31,6 +33,10 @@ puts_out_on (Ask frame h slot generation) is = record {}
 puts_out_on (Prepare frame h event) is = record {}
 puts_out_on (Send frame h slot generation block) is = record {}
 puts_out_on change is = absurd is
+
+pub classifies_on : (change : Change) → Classifies change → GoesOn change
+classifies_on (Classify frame h class) is = record {}
+classifies_on change is = absurd is
 
 -- ---- the slots stay as they are
 
@@ -42,6 +48,17 @@ answer_kept l s token block (Learn t c h learned) is = (refl, refl)
 answer_kept l s token block (Confirm t c h) is = (refl, refl)
 answer_kept l s token block change is = absurd is
 
+classified_kept : (l : Layout) (s : Shard) (change : Change) → Classifies change → KeepsSlots s (after l s change)
+classified_kept l s (Classify frame h class) is = (refl, refl)
+classified_kept l s change is = absurd is
+
+classified_led : (l : Layout) (n : ℕ) (old new : Shard) (changes : List Change) → Leads l n Classifies old changes new → KeepsSlots old new
+classified_led l n old new [] leads = (ap (λ (s : Shard). s.slot) leads, ap (λ (s : Shard). s.saw_failed) leads)
+classified_led l n old new (change ∷ changes) leads =
+    let first = classified_kept l old change leads.0 in
+    let rest = classified_led l n (after l old change) new changes leads.2 in
+    (rest.0 ∙ first.0, rest.1 ∙ first.1)
+
 -- ---- the state when its frames go on
 
 -- the frames go on for the same requests, and more calls may be to be made
@@ -51,9 +68,11 @@ pub record Goes (s : State) (fs : Frames) (calls : Buffer Call) : Type 0 where
   pub shard : fs.shard ≡ s.frames.shard
   pub seen : fs.saw_failed ≡ s.frames.saw_failed
   pub requests : held_requests fs ≡ held_requests s.frames
+  pub rows : KeepsRows s.frames fs
   pub tokens : next_of fs.commands + owed fs ≤ next_of s.frames.commands + owed s.frames
+  pub given : next_of s.frames.commands ≤ next_of fs.commands
   pub room : calls.capacity ≡ s.calls.capacity
-  pub few : length calls.items + count_untold s.untold ≤ count_out fs.slots s.frames.geometry.slots
+  pub few : length calls.items + count_untold s.untold ≤ count_missing fs
 
 abbrev pub gone_on : State → Frames → Buffer Call → State
 gone_on s fs calls = record s { frames = fs; calls = calls }
@@ -92,40 +111,49 @@ gone_sound s fs calls sound goes =
         waiting = sound.room.waiting;
         replies = sound.room.replies;
         calls = goes.room ∙ sound.room.calls;
-        few_calls = subst (λ (g : Shape). length calls.items + count_untold s.untold ≤ count_out fs.slots g.slots) (sym goes.geometry) goes.few;
+        few_calls = goes.few;
       };
       tokens = let slots = ap (λ (g : Shape). 2 * g.slots * length s.waiting.items) goes.geometry in omega (arith, slots, goes.tokens, sound.tokens);
       accepted = sound.accepted;
+      counted = counted_still s.counts s.frames fs sound.counted (same_or_fewer s.frames fs sound.frames goes.sound goes.rows) goes.given;
+      next_rows = own_rows_kept s.frames fs s.check_row s.repair_row goes.geometry goes.shard sound.next_rows;
     }
 
 -- ---- frames whose slots stay as they are
 
 -- a shard with nothing beside its frames
 abbrev pub no_rest : Rest
-no_rest = record { accepted = 0; request = λ id. None; calls = []; untold = None }
+no_rest =
+    record { accepted = 0; request = λ id. None; calls = []; untold = None; check_row = 0; repair_row = 0; counts = counts_of none_counted }
 
 abbrev pub SlotsStay : Frames → Frames → Type 0
 SlotsStay old new = (states_of new.slots ≡ states_of old.slots) × (new.saw_failed ≡ old.saw_failed)
 
 pub goes_still : (s : State) (fs : Frames) → IsSound s → held.IsSound fs → fs.geometry ≡ s.frames.geometry → fs.shard ≡ s.frames.shard → SlotsStay s.frames fs
-    → held_requests fs ≡ held_requests s.frames → next_of fs.commands + owed fs ≤ next_of s.frames.commands + owed s.frames → Goes s fs s.calls
-goes_still s fs sound frames geometry shard slots requests tokens =
+    → held_requests fs ≡ held_requests s.frames → KeepsRows s.frames fs → next_of fs.commands + owed fs ≤ next_of s.frames.commands + owed s.frames
+    → next_of s.frames.commands ≤ next_of fs.commands → Goes s fs s.calls
+goes_still s fs sound frames geometry shard slots requests rows tokens given =
     record {
       sound = frames;
       geometry = geometry;
       shard = shard;
       seen = slots.1;
       requests = requests;
+      rows = rows;
       tokens = tokens;
+      given = given;
       room = refl;
       few =
-          let out = out_same s.frames fs slots.0 geometry in
-          let wide = ap (λ (g : Shape). count_out fs.slots g.slots) geometry in
-          omega (arith, out, wide, sound.room.few_calls);
+          let out = missing_same s.frames fs slots.0 geometry in
+          omega (arith, out, sound.room.few_calls);
     }
 
 pub drives_still : (old new : Frames) → AreLive old → AreLive new → Drives old new → SlotsStay old new
 drives_still old new live still drives = (drives_keep no_rest old new drives, still.1 ∙ sym live.1)
+
+-- no token is taken back
+pub drives_give : (old new : Frames) → Drives old new → next_of old.commands ≤ next_of new.commands
+drives_give old new drives = tokens_grow (layout_of old.geometry) old.shard PutsOut (shard_with no_rest old) (shard_with no_rest new) (drives.2 no_rest)
 
 pub answers_still : (old new : Frames) (token : ℕ) (block : List ℕ) → Answers old token block new → SlotsStay old new
 answers_still old new token block answers =
@@ -133,4 +161,5 @@ answers_still old new token block answers =
     let s = shard_with no_rest old in
     let l = layout_of old.geometry in
     let kept = answer_kept l s token block took.0 took.1 in
-    (ap (λ (x : Shard). x.slot) took.3 ∙ kept.0, ap (λ (x : Shard). x.saw_failed) took.3 ∙ kept.1)
+    let classed = classified_led l old.shard (after l s took.0) (shard_with no_rest new) took.3.0 took.3.1 in
+    (classed.0 ∙ kept.0, classed.1 ∙ kept.1)

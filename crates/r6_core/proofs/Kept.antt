@@ -1,10 +1,13 @@
 -- What depends on the geometry and the shard alone.
-use Rattle.std.proofs.Common.{◌≡◌, List, [], ◌∷◌, sym, subst}
+use Rattle.std.proofs.Common.{◌≡◌, ℕ, List, [], ◌∷◌, sym, subst}
 use Rattle.std.specs.List.{AllByRecursion}
 use Rattle.r6_layout.specs.Shape.{Shape}
+use Rattle.r6_world.specs.Layouts.{IsRowOf}
+use Rattle.r6_world.specs.Geometries.{layout_of}
 use Rattle.r6_frames.specs.declared.op.Request.{Request}
 use Rattle.r6_frames.specs.declared.frames.Frames.{Frames}
 use Rattle.r6_frames.specs.Calls.{HasOneBlock, IsRequestOf}
+use Rattle.r6_core.specs.Inside.{AreOwnRows}
 
 pub request_kept : (old new : Frames) (request : Request) → new.geometry ≡ old.geometry → new.shard ≡ old.shard → IsRequestOf old request → IsRequestOf new request
 request_kept old new request geometry shard is =
@@ -26,3 +29,13 @@ sizes_kept old new requests same all = subst (λ (shape : Shape). AllByRecursion
 pub waiting_sized : (fs : Frames) (requests : List Request) → AllByRecursion (IsRequestOf fs) requests → AllByRecursion (HasOneBlock fs.geometry) requests
 waiting_sized fs [] all = tt
 waiting_sized fs (request ∷ requests) all = (all.0.sized.length_is, waiting_sized fs requests all.1)
+
+row_kept : (old new : Frames) (row : ℕ) → new.geometry ≡ old.geometry → new.shard ≡ old.shard → IsRowOf (layout_of old.geometry) old.shard row
+    → IsRowOf (layout_of new.geometry) new.shard row
+row_kept old new row geometry shard is =
+    subst (λ n. IsRowOf (layout_of new.geometry) n row) (sym shard) (subst (λ (g : Shape). IsRowOf (layout_of g) old.shard row) (sym geometry) is)
+
+pub own_rows_kept : (old new : Frames) (check_row repair_row : ℕ) → new.geometry ≡ old.geometry → new.shard ≡ old.shard → AreOwnRows old check_row repair_row
+    → AreOwnRows new check_row repair_row
+own_rows_kept old new check_row repair_row geometry shard own =
+    (row_kept old new check_row geometry shard own.0, row_kept old new repair_row geometry shard own.1)

@@ -6,10 +6,11 @@ use Rattle.circular_buffer.specs.Buffer.{Buffer, buffer}
 use Rattle.r6_layout.specs.Layout as layout
 use Rattle.r6_tables.specs.Table.{next_of}
 use Rattle.r6_stripe.specs.Plans.{is_out}
+use Rattle.r6_layout.specs.Shape.{Shape}
 use Rattle.r6_world.specs.Tables.{put, count_below}
 use Rattle.r6_world.specs.Geometries.{layout_of}
 use Rattle.r6_world.specs.ShardStates as shards
-use Rattle.r6_world.specs.ShardStates.{Shard, SlotState, Missing, is_away, standing_of}
+use Rattle.r6_world.specs.ShardStates.{Shard, Missing, standing_of}
 use Rattle.r6_world.specs.Changes.{Lose, after}
 use Rattle.r6_world.specs.Steps.{GoesOn, Through, Error, Taken}
 use Rattle.r6_world.proofs.Geometries.{layouts}
@@ -23,7 +24,7 @@ use Rattle.r6_frames.specs.declared.slots.Device.{Device}
 use Rattle.r6_frames.specs.declared.slots.Device.TheVariants as device
 use Rattle.r6_frames.specs.Slots.{state_of as state_of_device, slot_in, states_of, count_out, is_abandoned}
 use Rattle.r6_frames.specs.Views.{use_at, row_in, hold_at, outstanding, held_requests, shard_with, AreLive}
-use Rattle.r6_frames.specs.Calls.{Loses}
+use Rattle.r6_frames.specs.Calls.{Loses, KeepsRows}
 use Rattle.r6_frames.specs.Owed.{owed}
 use Rattle.r6_frames.specs.Sound as held
 use Rattle.r6_frames.specs.Sound.{is_away_from, place_of}
@@ -32,7 +33,8 @@ use Rattle.r6_core.specs.declared.call.Call.{Call}
 use Rattle.r6_core.specs.declared.call.Call.TheVariants as call
 use Rattle.r6_core.specs.declared.state.State.{State}
 use Rattle.r6_core.specs.Shards.{call_of, state_of, rest_of, layout_in}
-use Rattle.r6_core.specs.Inside.{IsSound, TakesThrough}
+use Rattle.r6_core.specs.Inside.{IsSound, TakesThrough, count_missing, is_missing}
+use Rattle.r6_core.proofs.CallRoom.{count_below-le}
 use Rattle.r6_core.proofs.Going.{no_rest, Goes, gone_on, gone_state}
 use Rattle.r6_core.proofs.Throughs.{through_in}
 
@@ -54,7 +56,7 @@ count-more (suc n) k p q below was is others =
           omega arith
     ]
 
--- ---- the device of a command that is wanted is in sync
+-- ---- a command that is wanted went to a device that is there
 
 pub live_or_not : (fs : Frames) → AreLive fs ⊎ (AreLive fs → ⊥)
 live_or_not fs =
@@ -67,20 +69,20 @@ live_or_not fs =
     by_seen few false is = inl (few, is)
     by_seen few true is = inr (λ live. false≢true (sym live.1 ∙ is))
 
--- a device that isn't out for a row is in sync
-home_in_sync : (d : Device) (row : ℕ) → is_out (standing_of (state_of_device d) row) ≡ false → is_away (state_of_device d) ≡ false
-home_in_sync (device.Synced generation) row home = refl
-home_in_sync device.Missing row home = absurd (cc)
-home_in_sync (device.Building generation) row home = absurd (cc)
+-- a device that isn't out for a row is there
+there_for : (d : Device) (row : ℕ) → is_out (standing_of (state_of_device d) row) ≡ false → is_missing (state_of_device d) ≡ false
+there_for (device.Synced generation) row home = refl
+there_for device.Missing row home = absurd (cc)
+there_for (device.Building generation rebuilt) row home = refl
 
-pub wanted_in_sync : (fs : Frames) (token : ℕ) (c : Outstanding) → held.IsSound fs → outstanding fs token ≡ Some c → is_abandoned fs.slots token c ≡ false → is_away (states_of fs.slots c.slot) ≡ false
-wanted_in_sync fs token c sound is wanted =
+pub wanted_there : (fs : Frames) (token : ℕ) (c : Outstanding) → held.IsSound fs → outstanding fs token ≡ Some c → is_abandoned fs.slots token c ≡ false → is_missing (states_of fs.slots c.slot) ≡ false
+wanted_there fs token c sound is wanted =
     elim (live_or_not fs) [
       | inl live ↦ by_use live (use_at fs.held.items c.frame) refl
       | inr stopped ↦ absurd (false≢true (sym wanted ∙ sound.commands.stopped stopped token c is))
     ]
   where
-    of_row : AreLive fs → (h : HeldRow) → hold_at fs.held.items c.frame ≡ Some h → is_away (states_of fs.slots c.slot) ≡ false
+    of_row : AreLive fs → (h : HeldRow) → hold_at fs.held.items c.frame ≡ Some h → is_missing (states_of fs.slots c.slot) ≡ false
     of_row live h there =
         let of = (sound.commands.of_frame live token c is).held h there in
         let row = sound.frames.rows c.frame h there in
@@ -90,9 +92,9 @@ wanted_in_sync fs token c sound is wanted =
         let slot : layout.slot_at fs.geometry h.row (place_of fs c) ≡ c.slot = ap (λ (r : ℕ). layout.slot_at fs.geometry r (place_of fs c)) (sym of.row) ∙ place.1 in
         let home : is_out (standing_of (states_of fs.slots c.slot) h.row) ≡ false =
         ap (λ (k : ℕ). is_out (standing_of (states_of fs.slots k) h.row)) (sym slot) ∙ ap is_out (sym stands) ∙ sym of.abandoned ∙ wanted in
-        home_in_sync (slot_in fs.slots c.slot).device h.row home
+        there_for (slot_in fs.slots c.slot).device h.row home
 
-    by_use : AreLive fs → (u : FrameUse) → use_at fs.held.items c.frame ≡ u → is_away (states_of fs.slots c.slot) ≡ false
+    by_use : AreLive fs → (u : FrameUse) → use_at fs.held.items c.frame ≡ u → is_missing (states_of fs.slots c.slot) ≡ false
     by_use live uses.Free u =
         absurd (false≢true (sym (ap (λ (u : FrameUse). is_away_from u (place_of fs c)) u) ∙ (sound.commands.of_frame live token c is).away))
     by_use live (uses.Held h) u = of_row live h (ap row_in u)
@@ -100,10 +102,10 @@ wanted_in_sync fs token c sound is wanted =
 
 -- ---- the loss
 
--- one more slot is out
-lost_out : (old new : Frames) (token slot generation : ℕ) → held.IsSound old → Loses old token slot generation new
-    → count_out old.slots old.geometry.slots + 1 ≤ count_out new.slots old.geometry.slots
-lost_out old new token slot generation sound loses =
+-- one more slot has no device
+lost_more : (old new : Frames) (token slot generation : ℕ) → held.IsSound old → Loses old token slot generation new
+    → count_missing old + 1 ≤ count_missing new
+lost_more old new token slot generation sound loses =
     let lost = loses.2 no_rest in
     let c = lost.0 in
     let there = command-there no_rest old token c lost.4.0 in
@@ -111,28 +113,38 @@ lost_out old new token slot generation sound loses =
     let here : x.slot ≡ c.slot = ap (λ (c : shards.Command). c.slot) there.2 in
     let inside = (sound.commands.lawful token x there.1).0 in
     let wanted : is_abandoned old.slots token x ≡ false = ap (λ (c : shards.Command). c.abandoned) there.2 ∙ lost.4.1 in
-    let in_sync : is_away (states_of old.slots c.slot) ≡ false = ap (λ (k : ℕ). is_away (states_of old.slots k)) (sym here) ∙ wanted_in_sync old token x sound there.1 wanted in
+    let in_sync : is_missing (states_of old.slots c.slot) ≡ false = ap (λ (k : ℕ). is_missing (states_of old.slots k)) (sym here) ∙ wanted_there old token x sound there.1 wanted in
     let slots : states_of new.slots ≡ put (states_of old.slots) c.slot Missing = ap (λ (x : Shard). x.slot) lost.5 in
-    let more = count-more old.geometry.slots c.slot (λ d. is_away (states_of old.slots d)) (λ d. is_away (put (states_of old.slots) c.slot Missing d)) (omega (arith, here, inside)) in_sync
-    (ap is_away (put-same (states_of old.slots) c.slot Missing c.slot refl)) (λ d ne. ap is_away (put-other (states_of old.slots) c.slot Missing d ne)) in
-    let same : count_out new.slots old.geometry.slots ≡ count_below (λ d. is_away (put (states_of old.slots) c.slot Missing d)) old.geometry.slots =
-    ap (λ (states : ℕ → SlotState). count_below (λ d. is_away (states d)) old.geometry.slots) slots in
+    let more = count-more old.geometry.slots c.slot (λ d. is_missing (states_of old.slots d)) (λ d. is_missing (put (states_of old.slots) c.slot Missing d)) (omega (arith, here, inside)) in_sync
+    (ap is_missing (put-same (states_of old.slots) c.slot Missing c.slot refl)) (λ d ne. ap is_missing (put-other (states_of old.slots) c.slot Missing d ne)) in
+    let same : count_missing new ≡ count_below (λ d. is_missing (put (states_of old.slots) c.slot Missing d)) old.geometry.slots =
+    λ i. count_below (λ d. is_missing (slots i d)) (loses.0 i).slots in
     omega (arith, more, same)
 
+-- there is room for the call that declares it
+pub loss_fits : (s : State) (fs : Frames) (token slot generation : ℕ) → IsSound s → Loses s.frames token slot generation fs → length s.calls.items < s.calls.capacity
+loss_fits s fs token slot generation sound loses =
+    let more = lost_more s.frames fs token slot generation sound.frames loses in
+    let all : count_missing fs ≤ fs.geometry.slots = count_below-le (λ d. is_missing (states_of fs.slots d)) fs.geometry.slots in
+    let wide = ap (λ (g : Shape). g.slots) loses.0 in
+    omega (arith, more, all, wide, sound.room.few_calls, sound.room.calls, sound.frames.shape.slots_allowed.1)
+
 pub lost_goes : (s : State) (fs : Frames) (calls : Buffer Call) (token slot generation : ℕ) → IsSound s → held.IsSound fs → Loses s.frames token slot generation fs
-    → (owed fs ≡ owed s.frames) × (next_of fs.commands ≡ next_of s.frames.commands) → held_requests fs ≡ held_requests s.frames
+    → (owed fs ≡ owed s.frames) × (next_of fs.commands ≡ next_of s.frames.commands) → held_requests fs ≡ held_requests s.frames → KeepsRows s.frames fs
     → calls ≡ buffer (s.calls.items ++ call.DeclareLost slot generation ∷ []) s.calls.capacity → Goes s fs calls
-lost_goes s fs calls token slot generation sound frames loses tokens requests pushed =
+lost_goes s fs calls token slot generation sound frames loses tokens requests rows pushed =
     record {
       sound = frames;
       geometry = loses.0;
       shard = loses.1;
       seen = ap (λ (x : Shard). x.saw_failed) (loses.2 no_rest).5;
       requests = requests;
+      rows = rows;
       tokens = let a = tokens.0 in let b = tokens.1 in omega (arith, a, b);
+      given = let b = tokens.1 in omega (arith, b);
       room = ap (λ (b : Buffer Call). b.capacity) pushed;
       few =
-          let more = lost_out s.frames fs token slot generation sound.frames loses in
+          let more = lost_more s.frames fs token slot generation sound.frames loses in
           let one = ap (λ (b : Buffer Call). length b.items) pushed ∙ length-append s.calls.items (call.DeclareLost slot generation ∷ []) in
           omega (arith, more, one, sound.room.few_calls);
     }

@@ -5,12 +5,13 @@ use Rattle.std.specs.Prelude.{nat_eq}
 use Rattle.std.specs.List.{IsDistinct, AllByRecursion}
 use Rattle.std.specs.Map.{keys_of}
 use Rattle.std.proofs.lemmas.List.{drop_all, map-append, take-append-drop, take_all}
+use Rattle.r6_world.specs.PlainArray as world
 use Rattle.r6_world.specs.ShardStates as shards
 use Rattle.r6_world.specs.Changes.{Release, released, released_stage, after}
 use Rattle.r6_frames.specs.declared.op.Request.{Request}
 use Rattle.r6_frames.specs.declared.frames.FrameUse.{FrameUse}
 use Rattle.r6_frames.specs.declared.frames.FrameUse.TheVariants as uses
-use Rattle.r6_frames.specs.Views.{held_request, held_requests, requests_from}
+use Rattle.r6_frames.specs.Views.{held_entry, held_requests, kind_in, requests_by, requests_from}
 use Rattle.r6_frames.proofs.Lists.{Entries, table}
 use Rattle.r6_core.specs.declared.state.State.{State}
 use Rattle.r6_core.specs.Shards.{state_of, layout_in, requests_of, waiting_request, finished_request, released_request, replied_requests}
@@ -36,10 +37,15 @@ waiting_stay : (rs : List Request) → map entry_released (map waiting_request r
 waiting_stay [] = refl
 waiting_stay (r ∷ rs) = ap (λ es. waiting_request r ∷ es) (waiting_stay rs)
 
+entries_stay : (frame : ℕ) (requests : List (ℕ × world.Op)) (rest : Entries shards.Request) → map entry_released rest ≡ rest
+    → map entry_released (map (held_entry frame) requests ++ rest) ≡ map (held_entry frame) requests ++ rest
+entries_stay frame [] rest same = same
+entries_stay frame (r ∷ requests) rest same = ap (λ es. held_entry frame r ∷ es) (entries_stay frame requests rest same)
+
 held_stay : (frame : ℕ) (held : List FrameUse) → map entry_released (requests_from frame held) ≡ requests_from frame held
 held_stay frame [] = refl
 held_stay frame (uses.Free ∷ held) = held_stay (frame + 1) held
-held_stay frame (uses.Held h ∷ held) = ap (λ es. held_request frame h ∷ es) (held_stay (frame + 1) held)
+held_stay frame (uses.Held h ∷ held) = entries_stay frame (requests_by h.job (kind_in h)) (requests_from (frame + 1) held) (held_stay (frame + 1) held)
 held_stay frame (uses.Returning r ∷ held) = held_stay (frame + 1) held
 
 finished_go : (count : ℕ) (rs : List Request) → map entry_released (replied_requests false count rs) ≡ map released_request rs
@@ -106,6 +112,8 @@ released_settled s core =
         room = record { waiting = sound.room.waiting; replies = sound.room.replies; calls = sound.room.calls; few_calls = sound.room.few_calls };
         tokens = sound.tokens;
         accepted = sound.accepted;
+        counted = sound.counted;
+        next_rows = sound.next_rows;
       };
       rested = core.rested;
     }

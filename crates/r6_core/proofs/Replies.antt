@@ -11,17 +11,16 @@ use Rattle.r6_world.specs.ShardStates as shards
 use Rattle.r6_world.specs.ShardStates.{Stage, Waiting, Held, Finished, Released}
 use Rattle.r6_world.specs.Steps.{Take_reply, No_reply}
 use Rattle.r6_frames.specs.declared.op.Request.{Request}
-use Rattle.r6_frames.specs.declared.frames.FrameUse.{FrameUse}
-use Rattle.r6_frames.specs.declared.frames.FrameUse.TheVariants as uses
 use Rattle.r6_core.specs.declared.state.State.{State}
 use Rattle.r6_frames.specs.declared.op.Op.{Op as Entered}
 use Rattle.r6_frames.specs.declared.op.Op.TheVariants as op
-use Rattle.r6_frames.specs.Views.{op_of, held_requests, requests_from}
+use Rattle.r6_frames.specs.Views.{op_of, held_requests}
 use Rattle.r6_frames.specs.Calls.{HasOneBlock}
 use Rattle.r6_core.specs.Shards.{Step, reply_of, answer_of, state_of, requests_of, waiting_request, finished_request, released_request, replied_requests, core_of}
 use Rattle.r6_core.specs.Order.{HasNoReply, BringsBack, TakesFirst, reply_to}
 use Rattle.r6_core.specs.Inside.{IsSettled, reply_for}
 use Rattle.r6_frames.proofs.Lists.{Entries, table, gone, own, apart, all_parts, distinct_without, looked_up}
+use Rattle.r6_core.proofs.HeldRequests.{all_held}
 use Rattle.r6_core.proofs.Passed.{all-append}
 
 -- the first of a buffer goes
@@ -56,12 +55,6 @@ ended_unreleased : (saw_failed : Bool) (rs : List Request) → (saw_failed ≡ t
 ended_unreleased false rs none = finished_unreleased rs
 ended_unreleased true rs none = subst (λ (rs : List Request). AllUnreleased (map (finished_request true) rs)) (sym (none refl)) tt
 
-held_unreleased : (frame : ℕ) (held : List FrameUse) → AllUnreleased (requests_from frame held)
-held_unreleased frame [] = tt
-held_unreleased frame (uses.Free ∷ held) = held_unreleased (frame + 1) held
-held_unreleased frame (uses.Held h ∷ held) = (tt, held_unreleased (frame + 1) held)
-held_unreleased frame (uses.Returning r ∷ held) = held_unreleased (frame + 1) held
-
 none_released : (s : State) → HasNoReply (core_of s) → (id : ℕ) (op : Op) (reply : Reply) → table (requests_of s) id ≢ Some (record { op = op; stage = Released reply })
 none_released s empty id op reply is =
     let P = λ (r : shards.Request). IsUnreleased r.stage in
@@ -69,7 +62,7 @@ none_released s empty id op reply is =
     let es = λ (released : List Request). map waiting_request s.waiting.items ++ (held_requests s.frames ++ (map released_request released ++ map (finished_request s.frames.saw_failed) finished)) in
     let all : AllUnreleased (es []) =
     all-append (λ e. P e.1) _ _ (waiting_unreleased s.waiting.items)
-    (all-append (λ e. P e.1) _ _ (held_unreleased 0 s.frames.held.items) (ended_unreleased s.frames.saw_failed finished empty.1)) in
+    (all-append (λ e. P e.1) _ _ (all_held (λ e. P e.1) (λ f r. tt) 0 s.frames.held.items) (ended_unreleased s.frames.saw_failed finished empty.1)) in
     looked_up P id (es []) _ all (ap (λ rs. table (es rs) id) (sym empty.0) ∙ is)
 
 -- no reply is ready
@@ -202,6 +195,8 @@ module _ (s : State) (is_released : Bool) (r : Request) (rest : Buffer Request) 
           };
           tokens = sound.tokens;
           accepted = sound.accepted;
+          counted = sound.counted;
+          next_rows = sound.next_rows;
         };
         rested = core.rested;
       }

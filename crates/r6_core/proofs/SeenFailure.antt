@@ -25,18 +25,19 @@ use Rattle.r6_frames.specs.declared.frames.Frames.{Frames}
 use Rattle.r6_frames.specs.declared.frames.FrameUse.{FrameUse}
 use Rattle.r6_frames.specs.declared.frames.FrameUse.TheVariants as uses
 use Rattle.r6_frames.specs.Slots.{states_of}
-use Rattle.r6_frames.specs.Views.{held_request, held_requests, requests_from, Rest, shard_with}
-use Rattle.r6_frames.specs.Calls.{SeesFailure, IsRequestOf, HasOneBlock}
+use Rattle.r6_frames.specs.Views.{held_entry, held_requests, is_scrub, kind_in, requests_by, requests_from, Rest, shard_with}
+use Rattle.r6_frames.specs.Calls.{SeesFailure, IsRequestOf, HasOneBlock, KeepsHeld}
 use Rattle.r6_frames.specs.Owed.{owed}
 use Rattle.r6_frames.specs.Sound as held
 use Rattle.r6_frames.proofs.Lists.{Entries, table}
 use Rattle.r6_core.specs.declared.state.State.{State}
-use Rattle.r6_core.specs.Shards.{state_of, rest_of, layout_in, requests_of, waiting_request, finished_request, released_request, replied_requests, call_of}
+use Rattle.r6_core.specs.Shards.{state_of, rest_of, layout_in, requests_of, waiting_request, finished_request, released_request, replied_requests, call_of, counts_of}
 use Rattle.r6_core.specs.Refusals.{limit, most_unanswered}
 use Rattle.r6_core.specs.Order.{IsRising, FailsAll}
-use Rattle.r6_core.specs.Inside.{IsSound, IsSettled, Gathers, Seen, held_op, numbered_op, unreplied, count_untold}
-use Rattle.r6_core.proofs.Kept.{requests_kept, sizes_kept}
-use Rattle.r6_core.proofs.SlotsKept.{out_same}
+use Rattle.r6_core.specs.Inside.{AreCounted, AreOwnRows, IsSound, IsSettled, Gathers, Seen, held_op, numbered_op, unreplied, count_untold}
+use Rattle.r6_core.proofs.CountedRows.{counted_still, no_rows_counted, rows_of_holds, same_or_fewer}
+use Rattle.r6_core.proofs.Kept.{own_rows_kept, requests_kept, sizes_kept}
+use Rattle.r6_core.proofs.SlotsKept.{missing_same}
 use Rattle.r6_core.proofs.Gathering.{none_from}
 use Rattle.r6_core.proofs.Passed.{all-append}
 use Rattle.r6_core.proofs.Replied.{as_many, keys_replied, keys_requests, numbers}
@@ -84,10 +85,15 @@ waiting_fail : (rs : List Request) → map failed (map waiting_request rs) ≡ m
 waiting_fail [] = refl
 waiting_fail (r ∷ rs) = ap (λ es. answered (numbered_op r) ∷ es) (waiting_fail rs)
 
+entries_fail : (n : ℕ) (requests : List (ℕ × world.Op)) (rest : Entries shards.Request) → map failed rest ≡ map answered (map held_op rest)
+    → map failed (map (held_entry n) requests ++ rest) ≡ map answered (map held_op (map (held_entry n) requests ++ rest))
+entries_fail n [] rest same = same
+entries_fail n (r ∷ requests) rest same = ap (λ es. answered (held_op (held_entry n r)) ∷ es) (entries_fail n requests rest same)
+
 held_fail : (n : ℕ) (held : List FrameUse) → map failed (requests_from n held) ≡ map answered (map held_op (requests_from n held))
 held_fail n [] = refl
 held_fail n (uses.Free ∷ held) = held_fail (n + 1) held
-held_fail n (uses.Held h ∷ held) = ap (λ es. answered (held_op (held_request n h)) ∷ es) (held_fail (n + 1) held)
+held_fail n (uses.Held h ∷ held) = entries_fail n (requests_by h.job (kind_in h)) (requests_from (n + 1) held) (held_fail (n + 1) held)
 held_fail n (uses.Returning r ∷ held) = held_fail (n + 1) held
 
 ended_fails : (seen : Bool) (r : Request) → failed (finished_request seen r) ≡ answered (numbered_op r)
@@ -127,7 +133,7 @@ all_fail s =
 -- ---- the failure is seen, and nothing else
 
 module _ (s : State) (fs : Frames) (sound : IsSound s) (sees : SeesFailure s.frames fs) (commands : fs.commands ≡ s.frames.commands) (owes : owed fs ≡ owed s.frames)
-    (requests : held_requests fs ≡ held_requests s.frames) where
+    (requests : held_requests fs ≡ held_requests s.frames) (holds : KeepsHeld s.frames fs) where
   keys_seen : keys_of (requests_of (record s { frames = fs })) ≡ keys_of (requests_of s)
   keys_seen =
       keys_requests (record s { frames = fs })
@@ -154,13 +160,15 @@ module _ (s : State) (fs : Frames) (sound : IsSound s) (sees : SeesFailure s.fra
           waiting = sound.room.waiting;
           replies = sound.room.replies;
           calls = sound.room.calls;
-          few_calls = let same = out_same s.frames fs slots_seen sees.0 in omega (arith, same, sound.room.few_calls);
+          few_calls = let same = missing_same s.frames fs slots_seen sees.0 in omega (arith, same, sound.room.few_calls);
         };
         tokens =
             let slots = ap (λ (g : Shape). 2 * g.slots * length s.waiting.items) sees.0 in
             let next = ap (λ t. next_of t) commands in
             omega (arith, slots, next, owes, sound.tokens);
         accepted = sound.accepted;
+        counted = counted_still s.counts s.frames fs sound.counted (same_or_fewer s.frames fs sound.frames frames (rows_of_holds s.frames fs holds)) (let next = ap (λ t. next_of t) commands in omega (arith, next));
+        next_rows = own_rows_kept s.frames fs s.check_row s.repair_row sees.0 sees.1 sound.next_rows;
       }
 
 -- ---- numbers that don't fall and differ rise
@@ -285,7 +293,15 @@ module _ (s : State) (fs : Frames) (mid : State) (sorted : Buffer Request) (soun
   pub failed_state : state_of new ≡ after (layout_in s) (state_of s) See_failed
   failed_state =
       shard_is (rest_of new)
-      ∙ (λ i. record (shard_with (record { accepted = gathers.rest.0 i; request = tables i; calls = map call_of (gathers.rest.3.0 i).items; untold = option_map call_of (gathers.rest.3.1 i) }) s.frames) {
+      ∙ (λ i. record (shard_with (record {
+        accepted = gathers.rest.0 i;
+        request = tables i;
+        calls = map call_of (gathers.rest.3.0 i).items;
+        untold = option_map call_of (gathers.rest.3.1 i);
+        check_row = gathers.scrubs.0 i;
+        repair_row = gathers.scrubs.1 i;
+        counts = counts_of (gathers.scrubs.2 i);
+      }) s.frames) {
         saw_failed = true;
         command = λ t. abandoned_if true ((state_of s).command t);
         frame = λ f. None;
@@ -322,7 +338,7 @@ module _ (s : State) (fs : Frames) (mid : State) (sorted : Buffer Request) (soun
             replies = capacity ∙ gathers.room.1 ∙ sound.room.replies;
             calls = ap (λ b. b.capacity) gathers.rest.3.0 ∙ sound.room.calls;
             few_calls =
-                let same = out_same s.frames mid.frames slots geometry in
+                let same = missing_same s.frames mid.frames slots geometry in
                 let calls : length mid.calls.items + count_untold mid.untold ≡ length s.calls.items + count_untold s.untold = λ i. length (gathers.rest.3.0 i).items + count_untold (gathers.rest.3.1 i) in
                 omega (arith, same, calls, sound.room.few_calls);
           };
@@ -332,6 +348,14 @@ module _ (s : State) (fs : Frames) (mid : State) (sorted : Buffer Request) (soun
               let none : 2 * mid.frames.geometry.slots * length mid.waiting.items ≡ 0 = ap (λ (rs : List Request). 2 * mid.frames.geometry.slots * length rs) gathers.none_waiting ∙ (omega arith) in
               omega (arith, next, fewer, owes, none, sound.tokens);
           accepted = subst (λ (n : ℕ). n ≤ limit) (sym gathers.rest.0) sound.accepted;
+          counted =
+              let none = no_rows_counted is_scrub mid.frames.held.items gathers.none_held in
+              let next : next_of mid.frames.commands ≡ next_of s.frames.commands = ap (λ (x : Shard). x.tokens) (shard_is (rest_of s)) in
+              subst (λ k. AreCounted k mid.frames) (sym gathers.scrubs.2)
+              (counted_still s.counts s.frames mid.frames sound.counted (omega (arith, none)) (omega (arith, next)));
+          next_rows =
+              subst (λ (rows : ℕ × ℕ). AreOwnRows mid.frames rows.0 rows.1) (λ i. (sym gathers.scrubs.0 i, sym gathers.scrubs.1 i))
+              (own_rows_kept s.frames mid.frames s.check_row s.repair_row geometry (gathers.shard.1 ∙ sees.1) sound.next_rows);
         };
         rested = λ live. absurd (gathers.stopped live);
       }

@@ -1,56 +1,104 @@
 -- Holds that are over end one by one, from the one with the oldest request on.
-use Rattle.std.proofs.Common.{◌≡◌, ◌≢◌, ℕ, ◌+◌, ◌-◌, ◌<◌, ◌≤◌, List, [], ◌∷◌, ◌++◌, map, take, drop, length, refl, sym, ap, subst, ◌∙◌, Some, None, inl, inr, arith, append_assoc, append-nil, length-append}
-use Rattle.std.specs.Prelude.{nat_eq}
+use Rattle.std.proofs.Common.{◌≡◌, ◌≢◌, ℕ, Bool, true, false, ◌+◌, ◌<◌, ◌≤◌, List, [], ◌∷◌, ◌++◌, map, take, drop, length, refl, sym, ap, subst, ◌∙◌, Some, None, inl, inr, arith, append_assoc, append-nil}
+use Rattle.std.specs.Prelude.{nat_eq, option_map}
 use Rattle.std.specs.List.{IsDistinct, AllByRecursion}
 use Rattle.std.specs.Map.{keys_of}
 use Rattle.std.proofs.lemmas.Bool.{cases_eq}
 use Rattle.std.proofs.lemmas.List.{drop-append-le, take-append-le}
 use Rattle.r6_tables.specs.Table.{next_of}
+use Rattle.r6_stripe.specs.Holds.{Kind}
+use Rattle.r6_world.specs.PlainArray as world
 use Rattle.r6_world.specs.ShardStates as shards
 use Rattle.r6_world.specs.ShardStates.{Held}
 use Rattle.r6_world.specs.Steps.{GoesOn, Through}
 use Rattle.r6_frames.specs.declared.op.Request.{Request}
 use Rattle.r6_frames.specs.declared.frames.HeldRow.{HeldRow}
+use Rattle.r6_frames.specs.declared.frames.Job.{Job}
+use Rattle.r6_frames.specs.declared.frames.Job.TheVariants as job
 use Rattle.r6_frames.specs.declared.frames.FrameUse.TheVariants.{Free}
 use Rattle.r6_frames.specs.declared.frames.Frames.{Frames}
-use Rattle.r6_frames.specs.Views.{row_in, hold_at, served_in, held_request, held_requests, AreLive}
-use Rattle.r6_frames.specs.Calls.{KeepsOthers, Drives}
+use Rattle.r6_frames.specs.Views.{row_in, hold_at, held_entry, held_for, held_requests, is_scrub, kind_in, new_data_of, rank_of, request_at, requests_by, use_at, AreLive}
+use Rattle.r6_frames.specs.Calls.{KeepsOthers, KeepsRows, Drives}
 use Rattle.r6_frames.specs.Owed.{owed, IsDriven, IsOver, IsLowestOver}
 use Rattle.r6_frames.specs.Sound as held
 use Rattle.r6_core.specs.declared.state.State.{State}
 use Rattle.r6_core.specs.Shards.{core_of, state_of, layout_in, requests_of, table, waiting_request, replied_requests}
 use Rattle.r6_core.specs.Order.{IsRising, Finishes}
-use Rattle.r6_core.specs.Inside.{SameFrames, IsSound, IsSettled, IsRestedFrame, FinishesHeld, SameCalls, Seen}
-use Rattle.r6_frames.proofs.Held.{held_goes}
-use Rattle.r6_frames.proofs.Lists.{own, apart}
+use Rattle.r6_core.specs.Inside.{SameFrames, IsSound, IsSettled, IsRestedFrame, FinishesHeld, SameCalls, Seen, count_rows, numbered_op, one_if}
+use Rattle.r6_frames.proofs.Held.{held_goes, held_within, use_held}
+use Rattle.r6_frames.proofs.Lists.{Entries, all_parts, own, apart}
+use Rattle.r6_core.proofs.CountedRows.{row_weight, rows_counted_but_one}
 use Rattle.r6_core.proofs.Passed.{all-append}
-use Rattle.r6_core.proofs.Replied.{length_replied}
 use Rattle.r6_core.proofs.Throughs.{through_both, through_in, through_of}
-use Rattle.r6_core.proofs.Going.{Goes, goes_still, drives_still, between_states, gone_sound, puts_out_on}
+use Rattle.r6_core.proofs.Going.{Goes, goes_still, drives_give, drives_still, between_states, gone_sound, puts_out_on}
 
 -- ---- the numbers of the requests of held rows
 
--- the request of a held row stands in the table
-held_there : (s : State) (frame : ℕ) (h : HeldRow) → IsSound s → hold_at s.frames.held.items frame ≡ Some h → table (requests_of s) (served_in h.job).id ≡ Some (held_request frame h).1
-held_there s frame h sound is =
+-- where the request of a held row stands
+record IsAmong (s : State) (frame : ℕ) (r : ℕ × world.Op) : Type 0 where
+  pub before : Entries shards.Request
+  pub behind : Entries shards.Request
+  pub parts : requests_of s ≡ before ++ held_entry frame r ∷ behind
+
+among : (s : State) (frame : ℕ) (h : HeldRow) (r : ℕ × world.Op) → hold_at s.frames.held.items frame ≡ Some h → requests_by h.job (kind_in h) ≡ r ∷ [] → IsAmong s frame r
+among s frame h r is only =
     let w = map waiting_request s.waiting.items in
     let rest = replied_requests s.frames.saw_failed s.released s.replies.items in
-    let place = held_goes 0 s.frames.held.items frame frame h Free is refl (omega arith) in
-    let parts : requests_of s ≡ (w ++ place.before) ++ held_request frame h ∷ (place.behind ++ rest) =
-    ap (λ es. w ++ (es ++ rest)) place.with ∙ (simp append_assoc) in
-    let distinct = subst (λ es. IsDistinct nat_eq (keys_of es)) parts sound.requests.distinct in
-    ap (λ es. table es (served_in h.job).id) parts
-    ∙ own (w ++ place.before) (served_in h.job).id (held_request frame h).1 (place.behind ++ rest) (apart (w ++ place.before) (served_in h.job).id (held_request frame h).1 (place.behind ++ rest) distinct)
+    let entry : request_at frame (use_at s.frames.held.items frame) ≡ held_entry frame r ∷ [] =
+    ap (request_at frame) (use_held s.frames.held.items frame h is) ∙ ap (map (held_entry frame)) only in
+    let place = held_goes 0 s.frames.held.items frame frame Free (held_entry frame r) (held_within s.frames.held.items frame h is) refl (omega arith) entry in
+    record {
+      before = w ++ place.before;
+      behind = place.behind ++ rest;
+      parts = ap (λ es. w ++ (es ++ rest)) place.with ∙ (simp append_assoc);
+    }
+
+held_there : (s : State) (frame : ℕ) (r : ℕ × world.Op) → IsSound s → IsAmong s frame r → table (requests_of s) r.0 ≡ Some (held_entry frame r).1
+held_there s frame r sound is =
+    let distinct = subst (λ es. IsDistinct nat_eq (keys_of es)) is.parts sound.requests.distinct in
+    ap (λ es. table es r.0) is.parts
+    ∙ own is.before r.0 (held_entry frame r).1 is.behind (apart is.before r.0 (held_entry frame r).1 is.behind distinct)
+
+held_number : (s : State) (frame : ℕ) (r : ℕ × world.Op) → IsSound s → IsAmong s frame r → r.0 < s.accepted
+held_number s frame r sound is =
+    (all_parts (λ id. id < s.accepted) is.before r.0 (held_entry frame r).1 is.behind
+    (subst (λ es. AllByRecursion (λ id. id < s.accepted) (keys_of es)) is.parts sound.requests.numbered)).0
 
 -- two held rows have two requests
-held_ids : (s : State) (frame other : ℕ) (h i : HeldRow) → IsSound s → hold_at s.frames.held.items frame ≡ Some h → hold_at s.frames.held.items other ≡ Some i → frame ≢ other → (served_in h.job).id ≢ (served_in i.job).id
-held_ids s frame other h i sound here there ne same =
-    let both : Some (held_request frame h).1 ≡ Some (held_request other i).1 =
-    sym (held_there s frame h sound here) ∙ ap (table (requests_of s)) same ∙ held_there s other i sound there in
-    let one : (held_request frame h).1 ≡ (held_request other i).1 = cc in
+held_ids : (s : State) (frame other : ℕ) (r q : ℕ × world.Op) → IsSound s → IsAmong s frame r → IsAmong s other q → frame ≢ other → r.0 ≢ q.0
+held_ids s frame other r q sound here there ne same =
+    let both : Some (held_entry frame r).1 ≡ Some (held_entry other q).1 =
+    sym (held_there s frame r sound here) ∙ ap (table (requests_of s)) same ∙ held_there s other q sound there in
+    let one : (held_entry frame r).1 ≡ (held_entry other q).1 = cc in
     let stage : Held frame ≡ Held other = ap (λ (r : shards.Request). r.stage) one in
     let frames : frame ≡ other = cc in
     ne frames
+
+-- the request of a job, whose number is its rank
+has_request : (j : Job) (kind : Kind) → is_scrub j ≡ false → (r : ℕ × world.Op) × (requests_by j kind ≡ r ∷ []) × (rank_of j ≡ r.0)
+has_request (job.Read served buffer) kind request = ((served.id, world.Op.Read served.block), refl, refl)
+has_request (job.Write served) kind request = ((served.id, world.Op.Write served.block (new_data_of kind)), refl, refl)
+has_request (job.Scrub scrub) kind request = absurd (cc)
+
+last_rank : (j : Job) → is_scrub j ≡ true → rank_of j ≡ 18446744073709551615
+last_rank (job.Read served buffer) is = absurd (cc)
+last_rank (job.Write served) is = absurd (cc)
+last_rank (job.Scrub scrub) is = refl
+
+-- the rank of a request in one frame is that of no row in another
+rank_apart : (s : State) (frame other : ℕ) (h i : HeldRow) → IsSound s → hold_at s.frames.held.items frame ≡ Some h → hold_at s.frames.held.items other ≡ Some i
+    → frame ≢ other → is_scrub h.job ≡ false → rank_of h.job ≢ rank_of i.job
+rank_apart s frame other h i sound here there ne request same =
+    let own = has_request h.job (kind_in h) request in
+    let at = among s frame h own.0 here own.1 in
+    elim (is_scrub i.job) as (λ b. is_scrub i.job ≡ b → ⊥) [
+      | true ↦ λ is.
+          let lt = held_number s frame own.0 sound at in
+          omega (arith, lt, own.2, same, last_rank i.job is, sound.accepted)
+      | false ↦ λ none.
+          let its = has_request i.job (kind_in i) none in
+          held_ids s frame other own.0 its.0 sound at (among s other i its.0 there its.1) ne (sym own.2 ∙ same ∙ its.2)
+    ] refl
 
 -- ---- lists that rise
 
@@ -63,15 +111,30 @@ rising_behind [] last rising lower = (tt, tt)
 rising_behind (r ∷ rs) last rising lower =
     (all-append (λ other. r.id < other.id) rs (last ∷ []) rising.0 (lower.0, tt), rising_behind rs last rising.1 lower.1)
 
--- no more requests have a reply than were accepted and not answered
-replied_few : (s : State) → IsSound s → length s.replies.items ≤ s.unanswered
-replied_few s sound =
-    let w = map waiting_request s.waiting.items in
-    let p = replied_requests s.frames.saw_failed s.released s.replies.items in
-    let all = length-append w (held_requests s.frames ++ p) in
-    let held = length-append (held_requests s.frames) p in
-    let many = length_replied s.frames.saw_failed s.released s.replies.items in
-    omega (arith, all, held, many, sound.requests.counted)
+-- what has ended stands behind what had
+lower_mapped : (rs : List Request) (rank : ℕ) → AllByRecursion (λ r. r.0 < rank) (map numbered_op rs) → AreLower rs rank
+lower_mapped [] rank all = tt
+lower_mapped (r ∷ rs) rank all = (all.0, lower_mapped rs rank all.1)
+
+lower_by : (j : Job) (kind : Kind) (rank : ℕ) → (is_scrub j ≡ false → rank_of j < rank) → AllByRecursion (λ r. r.0 < rank) (requests_by j kind)
+lower_by (job.Read served buffer) kind rank lower = (lower refl, tt)
+lower_by (job.Write served) kind rank lower = (lower refl, tt)
+lower_by (job.Scrub scrub) kind rank lower = tt
+
+rank_is : (j : Job) (kind : Kind) (r : ℕ × world.Op) → requests_by j kind ≡ r ∷ [] → rank_of j ≡ r.0
+rank_is (job.Read served buffer) kind r is = let same : (served.id, world.Op.Read served.block) ≡ r = cc in ap (λ x. x.0) same
+rank_is (job.Write served) kind r is = let same : (served.id, world.Op.Write served.block (new_data_of kind)) ≡ r = cc in ap (λ x. x.0) same
+rank_is (job.Scrub scrub) kind r is = absurd (cc)
+
+few_by : (j : Job) (kind : Kind) → length (requests_by j kind) ≤ 1
+few_by (job.Read served buffer) kind = omega arith
+few_by (job.Write served) kind = omega arith
+few_by (job.Scrub scrub) kind = omega arith
+
+rising_more : (rs more : List Request) (j : Job) (kind : Kind) → map numbered_op more ≡ requests_by j kind → IsRising rs → AreLower rs (rank_of j) → IsRising (rs ++ more)
+rising_more rs [] j kind is rising lower = subst IsRising (sym (append-nil rs)) rising
+rising_more rs (r ∷ []) j kind is rising lower = rising_behind rs r rising (subst (AreLower rs) (rank_is j kind (numbered_op r) (sym is)) lower)
+rising_more rs (r ∷ q ∷ more) j kind is rising lower = absurd (let long = ap length is in omega (arith, long, few_by j kind))
 
 -- more requests are finished, behind those that were, and none is released
 pub behind_finished : (old new : State) (more : List Request) → IsSound old → new.released ≡ old.released → new.replies.items ≡ old.replies.items ++ more
@@ -83,7 +146,7 @@ behind_finished old new more sound released items = (
 
 -- ---- the loop
 
--- since the old state requests were finished, and their numbers are lower than those of the holds that are over
+-- since the old state requests were finished, and their numbers are lower than the ranks of the rows whose holds are over
 pub record IsSettling (old now : State) : Type 0 where
   pub sound : IsSound now
   pub live : AreLive now.frames
@@ -97,12 +160,13 @@ pub record IsSettling (old now : State) : Type 0 where
   pub more : List Request
   pub rising : IsRising more
   pub items : now.replies.items ≡ old.replies.items ++ more
-  pub lower : (frame : ℕ) (h : HeldRow) → IsOver now.frames frame → hold_at now.frames.held.items frame ≡ Some h → AreLower more (served_in h.job).id
+  pub lower : (frame : ℕ) (h : HeldRow) → IsOver now.frames frame → hold_at now.frames.held.items frame ≡ Some h → AreLower more (rank_of h.job)
 
 -- all commands that come next were put out
 pub driven_goes : (s : State) (fs : Frames) → IsSound s → AreLive s.frames → held.IsSound fs → AreLive fs → Drives s.frames fs → held_requests fs ≡ held_requests s.frames
-    → next_of fs.commands + owed fs ≤ next_of s.frames.commands + owed s.frames → Goes s fs s.calls
-driven_goes s fs sound live frames still drives requests tokens = goes_still s fs sound frames drives.0 drives.1 (drives_still s.frames fs live still drives) requests tokens
+    → KeepsRows s.frames fs → next_of fs.commands + owed fs ≤ next_of s.frames.commands + owed s.frames → Goes s fs s.calls
+driven_goes s fs sound live frames still drives requests rows tokens =
+    goes_still s fs sound frames drives.0 drives.1 (drives_still s.frames fs live still drives) requests rows tokens (drives_give s.frames fs drives)
 
 pub driven_leads : (s : State) (fs : Frames) → Goes s fs s.calls → Drives s.frames fs
     → Through (layout_in s) s.frames.shard GoesOn (state_of s) (state_of (record s { frames = fs }))
@@ -136,7 +200,7 @@ module _ (old now new : State) (frame : ℕ) (before : IsSettling old now) (lowe
   abbrev h : HeldRow
   h = lowest.0.0
 
-  pub ended : (request : Request) × (request.id ≡ (served_in h.job).id) × (new.replies.items ≡ now.replies.items ++ request ∷ []) × (hold_at new.frames.held.items frame ≡ None)
+  pub ended : (more : List Request) × (map numbered_op more ≡ requests_by h.job (kind_in h)) × (new.replies.items ≡ now.replies.items ++ more) × (hold_at new.frames.held.items frame ≡ None)
   ended = ends h lowest.0.1 lowest.0
 
   -- a hold that is over still was over before, in another frame
@@ -150,10 +214,10 @@ module _ (old now new : State) (frame : ℕ) (before : IsSettling old now) (lowe
             (ne, (over.0, sym kept ∙ over.1, over.2), sym kept ∙ is)
       ]
 
-  lower_than : (id : ℕ) → (served_in h.job).id < id → AreLower before.more id → AreLower (before.more ++ ended.0 ∷ []) id
-  lower_than id lt all =
-      let own : ended.0.id < id = omega (arith, ended.1) in
-      all-append (λ r. r.id < id) before.more (ended.0 ∷ []) all (own, tt)
+  lower_than : (rank : ℕ) → (is_scrub h.job ≡ false → rank_of h.job < rank) → AreLower before.more rank → AreLower (before.more ++ ended.0) rank
+  lower_than rank lower all =
+      let own : AreLower ended.0 rank = lower_mapped ended.0 rank (subst (AllByRecursion (λ r. r.0 < rank)) (sym ended.1) (lower_by h.job (kind_in h) rank lower)) in
+      all-append (λ r. r.id < rank) before.more ended.0 all own
 
   driven_on : (other : ℕ) → IsDriven new.frames other
   driven_on other =
@@ -176,22 +240,26 @@ module _ (old now new : State) (frame : ℕ) (before : IsSettling old now) (lowe
         unanswered = unanswered ∙ before.unanswered;
         waiting = waiting ∙ before.waiting;
         released = released ∙ before.released;
-        more = before.more ++ ended.0 ∷ [];
-        rising = rising_behind before.more ended.0 before.rising (subst (AreLower before.more) (sym ended.1) (before.lower frame h lowest.0 lowest.0.1));
-        items = ended.2 ∙ ap (λ rs. rs ++ ended.0 ∷ []) before.items ∙ append_assoc old.replies.items before.more (ended.0 ∷ []);
+        more = before.more ++ ended.0;
+        rising = rising_more before.more ended.0 h.job (kind_in h) ended.1 before.rising (before.lower frame h lowest.0 lowest.0.1);
+        items = ended.2 ∙ ap (λ rs. rs ++ ended.0) before.items ∙ append_assoc old.replies.items before.more ended.0;
         lower = λ other i over is.
             let was = still_over other i over is in
             let le = lowest.1 other h i was.1 lowest.0.1 was.2 in
-            let apart = held_ids now frame other h i before.sound lowest.0.1 was.2 (λ e. was.0 (sym e)) in
-            lower_than (served_in i.job).id (omega arith) (before.lower other i was.1 was.2);
+            let higher : is_scrub h.job ≡ false → rank_of h.job < rank_of i.job = λ request.
+            let apart = rank_apart now frame other h i before.sound lowest.0.1 was.2 (λ e. was.0 (sym e)) request in
+            omega (arith, le, apart) in
+            lower_than (rank_of i.job) higher (before.lower other i was.1 was.2);
       }
 
-  -- as many requests are still to be finished at most
-  pub fewer_left : new.unanswered - length new.replies.items < now.unanswered - length now.replies.items
+  -- a row less is held
+  pub fewer_left : count_rows (λ job. true) new.frames.held.items < count_rows (λ job. true) now.frames.held.items
   fewer_left =
-      let more = ap length ended.2 ∙ length-append now.replies.items (ended.0 ∷ []) in
-      let few = replied_few new sound in
-      omega (arith, more, few, unanswered)
+      let any : Job → Bool = λ job. true in
+      let rows = rows_counted_but_one any frame now.frames new.frames before.sound.frames sound.frames others in
+      let one : row_weight any now.frames.held.items frame ≡ 1 = ap (λ o. one_if any (option_map held_for o)) lowest.0.1 in
+      let none : row_weight any new.frames.held.items frame ≡ 0 = ap (λ o. one_if any (option_map held_for o)) ended.3 in
+      omega (arith, rows, one, none)
 
 pub settled_order : (old now : State) → IsSound old → IsSettling old now → Seen Finishes old now
 settled_order old now sound is = let both = behind_finished old now is.more sound is.released is.items in (is.more, is.rising, both.0, both.1)

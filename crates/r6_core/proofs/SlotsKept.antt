@@ -10,6 +10,7 @@ use Rattle.r6_frames.specs.declared.frames.Frames.{Frames}
 use Rattle.r6_frames.specs.Slots.{states_of, count_out}
 use Rattle.r6_frames.specs.Views.{Rest, shard_with}
 use Rattle.r6_frames.specs.Calls.{Drives, PutsOut}
+use Rattle.r6_core.specs.Inside.{is_missing, count_missing}
 
 slots_after-put : (l : Layout) (s : Shard) (change : Change) → PutsOut change → (after l s change).slot ≡ s.slot
 slots_after-put l s (Ask frame h slot generation) puts = refl
@@ -25,6 +26,9 @@ slots_led l n old new (change ∷ changes) leads = slots_led l n (after l old ch
 pub out_same : (old new : Frames) → states_of new.slots ≡ states_of old.slots → new.geometry ≡ old.geometry
     → count_out new.slots new.geometry.slots ≡ count_out old.slots old.geometry.slots
 out_same old new slots geometry = λ i. count_below (λ slot. is_away (slots i slot)) (geometry i).slots
+
+pub missing_same : (old new : Frames) → states_of new.slots ≡ states_of old.slots → new.geometry ≡ old.geometry → count_missing new ≡ count_missing old
+missing_same old new slots geometry = λ i. count_below (λ slot. is_missing (slots i slot)) (geometry i).slots
 
 pub drives_keep : (rest : Rest) (old new : Frames) → Drives old new → states_of new.slots ≡ states_of old.slots
 drives_keep rest old new drives = let through = drives.2 rest in slots_led (layout_of old.geometry) old.shard (shard_with rest old) (shard_with rest new) through.0 through.1

@@ -1,7 +1,7 @@
 -- One of the requests that wait starts in a free frame.
-use Rattle.std.proofs.Common.{◌≡◌, ◌≢◌, ℕ, suc, ◌+◌, ◌*◌, ◌^◌, ◌<◌, ◌≤◌, Bool, true, false, cond, List, [], ◌∷◌, ◌++◌, length, map, refl, sym, ap, subst, ◌∙◌, Option, Some, None, inl, inr, arith, append_assoc, length-append}
+use Rattle.std.proofs.Common.{◌≡◌, ◌≢◌, ℕ, suc, ◌+◌, ◌*◌, ◌^◌, ◌<◌, ◌≤◌, Bool, true, false, cond, List, ◌∷◌, ◌++◌, length, map, refl, sym, ap, subst, ◌∙◌, Option, Some, None, inl, inr, arith, append_assoc, length-append}
 use mathlib.Core.Path.{fun_ext}
-use Rattle.std.specs.Prelude.{nat_eq, ◌||◌}
+use Rattle.std.specs.Prelude.{nat_eq, option_map, ◌||◌}
 use Rattle.std.specs.List.{IsDistinct, AllByRecursion}
 use Rattle.std.specs.Map.{keys_of}
 use Rattle.std.proofs.Math.Nat.{mul-suc}
@@ -25,23 +25,25 @@ use Rattle.r6_frames.specs.declared.op.Request.{Request as Entered}
 use Rattle.r6_frames.specs.declared.frames.Frames.{Frames}
 use Rattle.r6_frames.specs.declared.frames.HeldRow.{HeldRow}
 use Rattle.r6_core.specs.declared.state.State.{State}
-use Rattle.r6_frames.specs.Views.{op_of, task_for, hold_at, use_at, row_in, frame_of, held_requests, Rest, shard_with, AreLive}
+use Rattle.r6_frames.specs.Views.{op_of, task_for, held_for, hold_at, hold_of, is_scrub, kind_in, use_at, row_in, frame_of, held_requests, Rest, shard_with, AreLive}
 use Rattle.r6_frames.specs.Calls.{begun_for, Begins, Drives, PutsOut, IsFreeFrame, IsHeldFrame, NotHeldBy, IsRequestOf, KeepsOthers, KeepsRows}
 use Rattle.r6_frames.specs.Owed.{owed, IsDriven, IsOver}
-use Rattle.r6_frames.specs.Slots.{states_of, count_out}
+use Rattle.r6_frames.specs.Slots.{states_of}
 use Rattle.r6_frames.specs.Sound as held
 use Rattle.r6_core.specs.Shards.{state_of, rest_of, layout_in, requests_of, waiting_request, replied_requests, table}
-use Rattle.r6_core.specs.Refusals.{limit, most_unanswered}
 use Rattle.r6_core.specs.Order.{start_of, Starts}
-use Rattle.r6_core.specs.Inside.{CanStart, CannotStart, HasFreedOne, IsFirstToStart, IsSound, IsSettled, IsRestedFrame, NoMoreCanStart, count_untold, bound}
+use Rattle.r6_core.specs.Inside.{CanStart, CannotStart, HasFreedOne, IsFirstToStart, IsSound, IsSettled, IsRestedFrame, NoMoreCanStart, count_missing, count_rows, count_untold, bound, most_tokens, one_if}
 use Rattle.r6_core.proofs.Waking.{row_stays, one_more}
 use Rattle.r6_frames.proofs.Lists.{Entries}
 use Rattle.r6_frames.proofs.Held.{put_own}
-use Rattle.r6_core.proofs.Kept.{requests_kept, sizes_kept}
+use Rattle.r6_core.proofs.CountedRows.{counted_still, row_weight, rows_counted_but_one, rows_counted_still}
+use Rattle.r6_core.proofs.Going.{drives_give, no_rest}
+use Rattle.r6_core.proofs.Scrubs.{for_request, scrub_weight, task_weight}
+use Rattle.r6_core.proofs.Kept.{own_rows_kept, requests_kept, sizes_kept}
 use Rattle.r6_core.proofs.Passed.{Passed, passed, all-middle}
 use Rattle.r6_core.proofs.Throughs.{through_in, through_of}
 use Rattle.r6_frames.proofs.Resting.{frame-held, free_is}
-use Rattle.r6_core.proofs.SlotsKept.{out_same, drives_keep}
+use Rattle.r6_core.proofs.SlotsKept.{missing_same, drives_keep}
 use Rattle.r6_core.proofs.Accepting.{others}
 use Rattle.r6_core.proofs.MayBegin.{may_begin}
 
@@ -76,7 +78,7 @@ may_start : (l : Layout) (s : Shard) (id : ℕ) (o : Op) → s.request id ≡ So
 may_start l s id (op.Read block buffer) is = (is, refl)
 may_start l s id (op.Write block buffer) is = ((λ e. (cc)), (is, refl, refl, record {}))
 
-scans : (change : Change) → PutsOut change → Scans change
+pub scans : (change : Change) → PutsOut change → Scans change
 scans (Ask frame h slot generation) p = record {}
 scans (Prepare frame h event) p = record {}
 scans (Send frame h slot generation block) p = record {}
@@ -84,19 +86,16 @@ scans change p = absurd p
 
 -- ---- the frames of the code are those of the shard
 
-not_held : (rest : Rest) (fs : Frames) (row : ℕ) → NotHeldBy fs row → NotHeld (shard_with rest fs) row
+pub not_held : (rest : Rest) (fs : Frames) (row : ℕ) → NotHeldBy fs row → NotHeld (shard_with rest fs) row
 not_held rest fs row free frame hold is at =
     let there = frame-held fs frame hold is in
     free frame there.0 there.1 (ap (λ (h : Hold). h.row) there.2 ∙ at)
 
 -- a frame that is free or returning has no row
-no_row : (fs : Frames) (frame : ℕ) → IsFreeFrame fs frame → hold_at fs.held.items frame ≡ None
+pub no_row : (fs : Frames) (frame : ℕ) → IsFreeFrame fs frame → hold_at fs.held.items frame ≡ None
 no_row fs frame free = ap row_in free.1
 
 -- ---- a row is held for the request
-
-abbrev no_rest : Rest
-no_rest = record { accepted = 0; request = λ id. None; calls = []; untold = None }
 
 module _ (old : Frames) (frame : ℕ) (request : Entered) (mid : Frames) (begins : Begins old frame request mid) where
   begun_shard : shard_with no_rest mid ≡ record (shard_with no_rest old) { frame = put (frame_of old) frame (Some (begun_for old request)) }
@@ -121,7 +120,7 @@ module _ (old : Frames) (frame : ℕ) (request : Entered) (mid : Frames) (begins
       let more : owed mid ≡ owed s.frames + 2 * slots = owes ∙ ap (λ fs. owed fs + 2 * fs.geometry.slots) same in
       few (next_of s.frames.commands) (next_of mid.commands) (owed s.frames) (owed mid) (2 * slots) (2 * slots * length rest) (2 * slots * length s.waiting.items) tokens more all sound.tokens
     where
-      few : (n0 n1 o0 o1 each fewer all : ℕ) → n1 ≡ n0 → o1 ≡ o0 + each → all ≡ fewer + each → n0 + o0 + all ≤ limit + 2 * 32 * most_unanswered → n1 + o1 < 2 ^ 63
+      few : (n0 n1 o0 o1 each fewer all : ℕ) → n1 ≡ n0 → o1 ≡ o0 + each → all ≡ fewer + each → n0 + o0 + all ≤ most_tokens → n1 + o1 < 2 ^ 63
       few n0 n1 o0 o1 each fewer all a b c d = omega arith
 
 -- ---- the start of a request that waits
@@ -242,10 +241,29 @@ module _ (s : State) (before : List Entered) (request : Entered) (behind : List 
       summed n0 n1 n2 o0 o1 o2 each few few' all a b c d e = omega arith
 
   -- as many slots are out as before
-  few_still : IsSound s → length s.calls.items + count_untold s.untold ≤ count_out new.slots new.geometry.slots
+  few_still : IsSound s → length s.calls.items + count_untold s.untold ≤ count_missing new
   few_still sound =
       let begun : states_of mid.slots ≡ states_of s.frames.slots = ap (λ (x : Shard). x.slot) (is.begins.shard.2 no_rest) in
-      omega (arith, out_same s.frames new (drives_keep no_rest mid new is.drives ∙ begun) geometry_same, sound.room.few_calls)
+      omega (arith, missing_same s.frames new (drives_keep no_rest mid new is.drives ∙ begun) geometry_same, sound.room.few_calls)
+
+  -- the row is held for the request, and not for a scrub
+  begun_for_request : (h : HeldRow) → hold_of h ≡ begun_for s.frames request → one_if is_scrub (Some (held_for h)) ≡ 0
+  begun_for_request h is = task_weight h.row h.job (kind_in h) ∙ ap (λ (hold : Hold). scrub_weight hold.task) is ∙ for_request request.id request.op
+
+  -- as many rows are held for scrubs as before
+  started_scrubs : IsSound s → count_rows is_scrub new.held.items ≡ count_rows is_scrub s.frames.held.items
+  started_scrubs sound =
+      let begun = frame-held mid frame (begun_for s.frames request) (begun_frame s.frames frame request mid is.begins) in
+      let first = rows_counted_but_one is_scrub frame s.frames mid sound.frames is.begun_sound is.begun_others in
+      let none : row_weight is_scrub s.frames.held.items frame ≡ 0 = ap (λ o. one_if is_scrub (option_map held_for o)) (no_row s.frames frame is.can.1) in
+      let own : row_weight is_scrub mid.held.items frame ≡ 0 =
+      ap (λ o. one_if is_scrub (option_map held_for o)) begun.1 ∙ begun_for_request begun.0 begun.2 in
+      let rest = rows_counted_still is_scrub mid new is.begun_sound is.sound is.rows in
+      omega (arith, first, none, own, rest)
+
+  -- no token is taken back
+  started_tokens : next_of s.frames.commands ≤ next_of new.commands
+  started_tokens = let begun = begun_tokens s.frames frame request mid is.begins in let more = drives_give mid new is.drives in omega (arith, begun, more)
 
   pub started_core : IsSettled s → IsSettled (with_frames s rest new)
   started_core core =
@@ -271,6 +289,8 @@ module _ (s : State) (before : List Entered) (request : Entered) (behind : List 
           };
           tokens = omega (arith, started_bound, sound.tokens);
           accepted = sound.accepted;
+          counted = counted_still s.counts s.frames new sound.counted (let many = started_scrubs sound in omega (arith, many)) started_tokens;
+          next_rows = own_rows_kept s.frames new s.check_row s.repair_row geometry_same shard_same sound.next_rows;
         };
         rested = λ live f. elim (cases_eq f frame) [
           | inl e ↦ subst (IsRestedFrame (with_frames s rest new)) (sym e) (is.driven, is.goes_out)

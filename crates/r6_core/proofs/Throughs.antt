@@ -1,11 +1,12 @@
 -- Lists of changes, one behind the other.
-use Rattle.std.proofs.Common.{◌≡◌, ℕ, List, [], ◌∷◌, ◌++◌, subst}
+use Rattle.std.proofs.Common.{◌≡◌, ℕ, ◌<◌, ◌≤◌, ◌⊎◌, inl, inr, List, [], ◌∷◌, ◌++◌, refl, ap, subst, ◌∙◌, arith}
 use Rattle.r6_layout.specs.Shape.{Shape}
 use Rattle.r6_world.specs.Layouts.{Layout}
 use Rattle.r6_world.specs.Geometries.{layout_of}
 use Rattle.r6_world.specs.ShardStates.{Shard}
-use Rattle.r6_world.specs.Changes.{Change, after, Allowed}
+use Rattle.r6_world.specs.Changes.{Change, Accept, Start, Ask, Prepare, Classify, Send, Learn, Confirm, Come_home, Lose, Adopt, See_failed, Finish, Bring_in, Release, Skip_turn, Hand_command, Hand_call, Hear, Hand_reply, after, Allowed}
 use Rattle.r6_world.specs.Steps.{Leads, Through}
+use Rattle.r6_frames.specs.Calls.{PutsOut}
 
 leads_append : (l : Layout) (n : ℕ) (Kind : Change → Type 0) (old mid new : Shard) (first second : List Change)
     → Leads l n Kind old first mid → Leads l n Kind mid second new → Leads l n Kind old (first ++ second) new
@@ -39,3 +40,75 @@ pub through_in : (g g' : Shape) (n n' : ℕ) (Kind : Change → Type 0) (old new
     → Through (layout_of g') n' Kind old new → Through (layout_of g) n Kind old new
 through_in g g' n n' Kind old new same_shape same_shard t =
     subst (λ m. Through (layout_of g) m Kind old new) same_shard (subst (λ x. Through (layout_of x) n' Kind old new) same_shape t)
+
+-- ---- tokens
+
+-- no change takes a token back
+pub no_token_back : (l : Layout) (s : Shard) (change : Change) → s.tokens ≤ (after l s change).tokens
+no_token_back l s (Accept op) = omega arith
+no_token_back l s (Start f row task) = omega arith
+no_token_back l s (Ask f h slot generation) = omega arith
+no_token_back l s (Prepare f h event) = omega arith
+no_token_back l s (Classify f h class) = omega arith
+no_token_back l s (Send f h slot generation b) = omega arith
+no_token_back l s (Learn token c h b) = omega arith
+no_token_back l s (Confirm token c h) = omega arith
+no_token_back l s (Come_home token c) = omega arith
+no_token_back l s (Lose token c) = omega arith
+no_token_back l s (Adopt slot status) = omega arith
+no_token_back l s See_failed = omega arith
+no_token_back l s (Finish f h outcome) = omega arith
+no_token_back l s (Bring_in slot generation) = omega arith
+no_token_back l s Release = omega arith
+no_token_back l s (Skip_turn task row) = omega arith
+no_token_back l s (Hand_command token c) = omega arith
+no_token_back l s (Hand_call call rest) = omega arith
+no_token_back l s (Hear call answer) = omega arith
+no_token_back l s (Hand_reply id op reply) = omega arith
+
+leads_tokens : (l : Layout) (n : ℕ) (Kind : Change → Type 0) (old new : Shard) (changes : List Change) → Leads l n Kind old changes new → old.tokens ≤ new.tokens
+leads_tokens l n Kind old new [] same = let tokens = ap (λ (x : Shard). x.tokens) same in omega (arith, tokens)
+leads_tokens l n Kind old new (change ∷ changes) leads =
+    omega (arith, no_token_back l old change, leads_tokens l n Kind (after l old change) new changes leads.2)
+
+pub tokens_grow : (l : Layout) (n : ℕ) (Kind : Change → Type 0) (old new : Shard) → Through l n Kind old new → old.tokens ≤ new.tokens
+tokens_grow l n Kind old new through = leads_tokens l n Kind old new through.0 through.1
+
+-- where commands are others than before, a token was given
+abbrev KeepsOrGives : Shard → Shard → Type 0
+KeepsOrGives old new = (new.command ≡ old.command) ⊎ (old.tokens < new.tokens)
+
+one_put_out : (l : Layout) (s : Shard) (change : Change) → PutsOut change → KeepsOrGives s (after l s change)
+one_put_out l s (Ask f h slot generation) puts = inr (omega arith)
+one_put_out l s (Prepare f h event) puts = inl refl
+one_put_out l s (Send f h slot generation b) puts = inr (omega arith)
+one_put_out l s (Accept op) puts = absurd puts
+one_put_out l s (Start f row task) puts = absurd puts
+one_put_out l s (Classify f h class) puts = absurd puts
+one_put_out l s (Learn token c h b) puts = absurd puts
+one_put_out l s (Confirm token c h) puts = absurd puts
+one_put_out l s (Come_home token c) puts = absurd puts
+one_put_out l s (Lose token c) puts = absurd puts
+one_put_out l s (Adopt slot status) puts = absurd puts
+one_put_out l s See_failed puts = absurd puts
+one_put_out l s (Finish f h outcome) puts = absurd puts
+one_put_out l s (Bring_in slot generation) puts = absurd puts
+one_put_out l s Release puts = absurd puts
+one_put_out l s (Skip_turn task row) puts = absurd puts
+one_put_out l s (Hand_command token c) puts = absurd puts
+one_put_out l s (Hand_call call rest) puts = absurd puts
+one_put_out l s (Hear call answer) puts = absurd puts
+one_put_out l s (Hand_reply id op reply) puts = absurd puts
+
+leads_put_out : (l : Layout) (n : ℕ) (old new : Shard) (changes : List Change) → Leads l n PutsOut old changes new → KeepsOrGives old new
+leads_put_out l n old new [] same = inl (ap (λ (x : Shard). x.command) same)
+leads_put_out l n old new (change ∷ changes) leads = elim (one_put_out l old change leads.0) [
+  | inr more ↦ let behind = leads_tokens l n PutsOut (after l old change) new changes leads.2 in inr (omega (arith, more, behind))
+  | inl same ↦ elim (leads_put_out l n (after l old change) new changes leads.2) [
+    | inl rest ↦ inl (rest ∙ same)
+    | inr more ↦ let first = no_token_back l old change in inr (omega (arith, more, first))
+  ]
+]
+
+pub keeps_or_gives : (l : Layout) (n : ℕ) (old new : Shard) → Through l n PutsOut old new → (new.command ≡ old.command) ⊎ (old.tokens < new.tokens)
+keeps_or_gives l n old new through = leads_put_out l n old new through.0 through.1

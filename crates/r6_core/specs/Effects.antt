@@ -9,15 +9,18 @@ use Rattle.r6_world.specs.Steps as steps
 use Rattle.r6_world.specs.Worlds.{shard_at_start}
 use Rattle.r6_frames.specs.declared.op.Op.{Op}
 use Rattle.r6_frames.specs.declared.command.Command.{Command}
-use Rattle.r6_frames.specs.Views.{op_of, world_command}
+use Rattle.r6_frames.specs.declared.frames.Scrub.{Scrub}
+use Rattle.r6_frames.specs.Views.{op_of, scrub_task, world_command}
 use Rattle.r6_core.specs.declared.call.Call.{Call}
 use Rattle.r6_core.specs.declared.reply.Reply.{Reply}
 use Rattle.r6_core.specs.declared.refusal.DeviceFault.{DeviceFault}
 use Rattle.r6_core.specs.declared.refusal.Receipt.{Receipt}
 use Rattle.r6_core.specs.declared.refusal.Refusal.{Refusal}
 use Rattle.r6_core.specs.declared.refusal.Refusal.TheVariants.{UntoldFirst, UnknownCall}
-use Rattle.r6_core.specs.Shards.{CoreView, Step, world_shard, core_layout, completion_of, receipt_of, buffer_in, reply_of, buffer_back, call_of}
-use Rattle.r6_core.specs.Refusals.{HasSubmitFault, submit_faults, HasDeliverFault, deliver_faults, IsFirstFault, HasNone, AllTold}
+use Rattle.r6_core.specs.declared.turn.Turn.{Turn}
+use Rattle.r6_core.specs.declared.turn.Turn.TheVariants.{Started, Skipped}
+use Rattle.r6_core.specs.Shards.{CoreView, Step, turn_row, world_shard, core_layout, completion_of, receipt_of, buffer_in, reply_of, buffer_back, call_of}
+use Rattle.r6_core.specs.Refusals.{HasSubmitFault, submit_faults, HasDeliverFault, deliver_faults, HasTurnFault, turn_faults, IsFirstFault, HasNone, AllTold}
 use Rattle.r6_core.specs.Order.{BringsBack, NoReplies, SameReplies, KeepsReplies, FinishesBy, LooksOn, TakesFirst, HasNoReply, HaveTurns, HaveTurnsBehind, HaveTurnsAfter}
 
 -- replies and what waits stay as they are
@@ -81,6 +84,24 @@ pub record RefusesLook (old : CoreView) (refusal : Refusal) (new : CoreView) : T
   pub same : new ≡ old
   pub refusal_is : refusal ≡ UntoldFirst
   pub untold : AllTold old → ⊥
+
+-- ---- turns
+
+-- the next row is held, or passed over
+abbrev pub turn_event : Turn → Scrub → (row : ℕ) → steps.Event
+turn_event Started scrub row = steps.Turn_started (scrub_task scrub)
+turn_event Skipped scrub row = steps.Turn_skipped (scrub_task scrub) row
+
+pub record Turns (old : CoreView) (scrub : Scrub) (turn : Turn) (new : CoreView) : Type 0 where
+  pub step : Step old (turn_event turn scrub (turn_row scrub (world_shard old))) new
+  pub right : HasNone (HasTurnFault old scrub) turn_faults
+  pub kept : KeepsRequests old new
+  pub unanswered : new.unanswered ≡ old.unanswered
+
+-- nothing changes
+pub record RefusesTurn (old : CoreView) (scrub : Scrub) (refusal : Refusal) (new : CoreView) : Type 0 where
+  pub same : new ≡ old
+  pub fault : IsFirstFault (HasTurnFault old scrub) turn_faults refusal
 
 -- ---- commands
 

@@ -1,11 +1,16 @@
 -- What is true of a state between calls, and what internal calls do. No public clause needs it.
-use Rattle.std.specs.Prelude.{◌≡◌, ℕ, ◌+◌, ◌*◌, ◌<◌, ◌≤◌, nat_eq, Bool, true, false, List, [], ◌∷◌, ◌++◌, length, map, IsPermutation, Option, Some, None, Result}
+use Rattle.std.specs.Prelude.{◌≡◌, ℕ, ◌+◌, ◌*◌, ◌<◌, ◌≤◌, nat_eq, Bool, true, false, List, [], ◌∷◌, ◌++◌, length, map, if◌then◌else◌, option_map, IsPermutation, Option, Some, None, Result}
 use Rattle.std.specs.List.{AllByRecursion, IsDistinct}
 use Rattle.std.specs.Map.{keys_of}
+use Rattle.r6_stripe.specs.Plans.{is_in_sync}
 use Rattle.r6_tables.specs.Table.{next_of}
 use Rattle.r6_layout.specs.Layout as layout
 use Rattle.r6_world.specs.PlainArray as world
+use Rattle.r6_world.specs.Layouts.{IsRowOf}
+use Rattle.r6_world.specs.Geometries.{layout_of}
 use Rattle.r6_world.specs.ShardStates as shards
+use Rattle.r6_world.specs.ShardStates.{SlotState, Synced, Missing, Building}
+use Rattle.r6_world.specs.Tables.{count_below}
 use Rattle.r6_world.specs.Changes.{Change, after, Allowed}
 use Rattle.r6_world.specs.Steps as steps
 use Rattle.r6_world.specs.Steps.{Through, GoesOn, Takes}
@@ -18,16 +23,22 @@ use Rattle.r6_core.specs.declared.refusal.DeviceFault.{DeviceFault}
 use Rattle.r6_core.specs.declared.refusal.Refusal.{Refusal}
 use Rattle.r6_core.specs.declared.scan.Freed.{Freed}
 use Rattle.r6_core.specs.declared.scan.Freed.TheVariants as freed
+use Rattle.r6_core.specs.declared.counts.Counts.{Counts}
 use Rattle.r6_core.specs.declared.state.State.{State}
+use Rattle.r6_frames.specs.declared.finish.Ended.{Ended}
+use Rattle.r6_frames.specs.declared.finish.Ended.TheVariants as ended
 use Rattle.r6_frames.specs.declared.frames.Frames.{Frames}
+use Rattle.r6_frames.specs.declared.frames.FrameUse.{FrameUse}
+use Rattle.r6_frames.specs.declared.frames.Job.{Job}
+use Rattle.r6_frames.specs.declared.frames.Scrub.{Scrub}
 use Rattle.r6_frames.specs.declared.frames.HeldRow.{HeldRow}
-use Rattle.r6_frames.specs.Slots.{count_out}
-use Rattle.r6_frames.specs.Views.{op_of, buffer_of, served_in, held_requests, hold_at, AreLive}
-use Rattle.r6_frames.specs.Calls.{Between, HasOneBlock, IsAwaited, IsFreeFrame, IsRequestOf, KeepsOthers, NotHeldBy}
+use Rattle.r6_frames.specs.Slots.{states_of}
+use Rattle.r6_frames.specs.Views.{op_of, buffer_of, is_scrub, held_for, row_in, kind_in, requests_by, held_requests, hold_at, AreLive}
+use Rattle.r6_frames.specs.Calls.{AreAllInSync, Between, HasOneBlock, IsAwaited, IsFreeFrame, IsRequestOf, KeepsOthers, NotHeldBy}
 use Rattle.r6_frames.specs.Owed.{owed, IsDriven, IsOver}
 use Rattle.r6_frames.specs.Calls as frames
 use Rattle.r6_frames.specs.Sound as held
-use Rattle.r6_core.specs.Shards.{CoreView, SameShard, buffer_in, core_of, layout_in, requests_of, state_of}
+use Rattle.r6_core.specs.Shards.{CoreView, SameShard, buffer_in, core_of, layout_in, requests_of, state_of, turn_row}
 use Rattle.r6_core.specs.Refusals.{most_unanswered, limit, HasCompletionFault}
 use Rattle.r6_core.specs.Order.{Starts, HaveTurns, KeepsReplies, reply_to}
 
@@ -48,6 +59,34 @@ Leads Kind old new = Through (layout_in old) old.frames.shard Kind (state_of old
 abbrev pub WaitingHaveTurns : State → State → Type 0
 WaitingHaveTurns old new = HaveTurns (core_of old) (state_of old) old.waiting.items (core_of new)
 
+-- ---- counts
+
+abbrev pub none_counted : Counts
+none_counted =
+    record { consistent = 0; wrong_p = 0; wrong_q = 0; wrong_data = 0; many = 0; skipped = 0; repaired = 0; rebuilt = 0 }
+
+-- the rows that were found and done; those that were passed over are the others
+abbrev pub rows_found : Counts → ℕ
+rows_found k = k.consistent + k.wrong_p + k.wrong_q + k.wrong_data + k.many + k.repaired + k.rebuilt
+
+abbrev pub rows_counted : Counts → ℕ
+rows_counted k = rows_found k + k.skipped
+
+-- how many rows are held for such
+abbrev pub one_if : (Job → Bool) → Option (ℕ × Job) → ℕ
+one_if test None = 0
+one_if test (Some held) = if test held.1 then 1 else 0
+
+abbrev pub count_rows : (Job → Bool) → List FrameUse → ℕ
+count_rows test [] = 0
+count_rows test (u ∷ held) = one_if test (option_map held_for (row_in u)) + count_rows test held
+
+-- A row that is held has put out a command, and is found at most twice, by its class and as repaired. None is passed
+-- over from the limit on, but for rows that are held then
+pub record AreCounted (k : Counts) (fs : Frames) : Type 0 where
+  pub found : rows_found k + 2 * count_rows is_scrub fs.held.items ≤ 2 * next_of fs.commands
+  pub skipped : k.skipped + count_rows is_scrub fs.held.items ≤ limit + shards.frames
+
 -- ---- between calls
 
 pub record AreRequests (s : State) : Type 0 where
@@ -64,23 +103,46 @@ abbrev pub count_untold : Option Call → ℕ
 count_untold None = 0
 count_untold (Some taken) = 1
 
+-- how many slots have no device
+abbrev pub is_missing : SlotState → Bool
+is_missing (Synced generation) = false
+is_missing Missing = true
+is_missing (Building generation built) = false
+
+abbrev pub count_missing : Frames → ℕ
+count_missing fs = count_below (λ slot. is_missing (states_of fs.slots slot)) fs.geometry.slots
+
 pub record HasRoom (s : State) : Type 0 where
   pub waiting : s.waiting.capacity ≡ most_unanswered
   pub replies : s.replies.capacity ≡ most_unanswered
   pub calls : s.calls.capacity ≡ 32
-  -- each call declares another slot lost, which is out
-  pub few_calls : length s.calls.items + count_untold s.untold ≤ count_out s.frames.slots s.frames.geometry.slots
+  -- each call declares another slot lost, which has no device
+  pub few_calls : length s.calls.items + count_untold s.untold ≤ count_missing s.frames
 
 -- what was put out, with what may still come: each request that waits puts out at most two commands a position
 abbrev pub bound : State → ℕ
 bound s = next_of s.frames.commands + owed s.frames + 2 * s.frames.geometry.slots * length s.waiting.items
 
+-- so many may still come at the limit: for each frame, and each request that waits
+abbrev pub most_tokens : ℕ
+most_tokens = limit + 2 * 32 * (most_unanswered + shards.frames)
+
+-- the next rows of checks and repairs are the shard's
+abbrev pub AreOwnRows : Frames → (check_row repair_row : ℕ) → Type 0
+AreOwnRows fs check_row repair_row =
+    IsRowOf (layout_of fs.geometry) fs.shard check_row × IsRowOf (layout_of fs.geometry) fs.shard repair_row
+
+abbrev pub next_row : Scrub → State → ℕ
+next_row scrub s = turn_row scrub (state_of s)
+
 pub record IsSound (s : State) : Type 0 where
   pub frames : held.IsSound s.frames
   pub requests : AreRequests s
   pub room : HasRoom s
-  pub tokens : bound s ≤ limit + 2 * 32 * most_unanswered
+  pub tokens : bound s ≤ most_tokens
   pub accepted : s.accepted ≤ limit
+  pub counted : AreCounted s.counts s.frames
+  pub next_rows : AreOwnRows s.frames s.check_row s.repair_row
 
 -- each hold has put out all that comes next, and isn't over
 abbrev pub IsRestedFrame : State → ℕ → Type 0
@@ -101,6 +163,18 @@ CanHold fs row frame = AreLive fs × IsFreeFrame fs frame × NotHeldBy fs row
 -- it can't be: nothing goes on, it is held, or no frame is free
 abbrev pub CannotHold : Frames → (row : ℕ) → Type 0
 CannotHold fs row = AreLive fs → NotHeldBy fs row → (frame : ℕ) → IsFreeFrame fs frame → ⊥
+
+-- a slot isn't in sync for the row
+abbrev pub HasSlotOut : Frames → (row : ℕ) → Type 0
+HasSlotOut fs row =
+    (slot : ℕ) × (slot < fs.geometry.slots) × (is_in_sync (shards.standing_of (states_of fs.slots slot) row) ≡ false)
+
+-- a turn passes its row over, or takes it up in the frame
+abbrev pub IsPassedOver : State → Scrub → Type 0
+IsPassedOver s scrub = AreLive s.frames × HasSlotOut s.frames (next_row scrub s)
+
+abbrev pub IsTakenUp : State → Scrub → (frame : ℕ) → Type 0
+IsTakenUp s scrub frame = AreAllInSync s.frames (next_row scrub s) × CanHold s.frames (next_row scrub s) frame
 
 -- a waiting request can start in the frame, or can't: so it is of the row of its block
 abbrev pub CanStart : Frames → Request → ℕ → Type 0
@@ -150,6 +224,10 @@ NoCalls s = (s.calls.items ≡ []) × (s.untold ≡ None)
 abbrev pub SameCalls : State → State → Type 0
 SameCalls old new = (new.calls ≡ old.calls) × (new.untold ≡ old.untold)
 
+-- checks and repairs are as far as they were, and have counted as much
+abbrev pub SameScrubs : State → State → Type 0
+SameScrubs old new = (new.check_row ≡ old.check_row) × (new.repair_row ≡ old.repair_row) × (new.counts ≡ old.counts)
+
 -- the shard stays the shard that it is; what waited waits, and as many requests are unanswered
 abbrev pub KeepsWaiting : State → State → Type 0
 KeepsWaiting old new = SameFrames old new × (new.waiting ≡ old.waiting) × (new.unanswered ≡ old.unanswered)
@@ -158,9 +236,17 @@ KeepsWaiting old new = SameFrames old new × (new.waiting ≡ old.waiting) × (n
 abbrev pub OnlyStarts : State → State → Type 0
 OnlyStarts old new = SameFrames old new × SameCalls old new × Seen KeepsReplies old new
 
+-- no row was counted, and checks and repairs begin with the shard's first
+abbrev pub ScrubsAtStart : State → Type 0
+ScrubsAtStart s =
+    let first = layout.first_row s.frames.geometry s.frames.shard in
+    (s.check_row ≡ first) × (s.repair_row ≡ first) × (s.counts ≡ none_counted)
+
 -- nothing was accepted, and nothing put out
 abbrev pub IsFresh : State → Type 0
-IsFresh s = (s.accepted ≡ 0) × (requests_of s ≡ []) × frames.IsAtStart s.frames × NoCalls s × (s.frames.saw_failed ≡ false)
+IsFresh s =
+    (s.accepted ≡ 0) × (requests_of s ≡ []) × frames.IsAtStart s.frames × NoCalls s × (s.frames.saw_failed ≡ false)
+    × ScrubsAtStart s
 
 -- the request at the index starts, and the others keep their order
 abbrev pub StartsAt : State → (index : ℕ) → State → Type 0
@@ -173,11 +259,22 @@ StartsAt old index new =
 abbrev pub NoMoreCanStart : State → State → Type 0
 NoMoreCanStart old new = (request : Request) → CannotStart old.frames request → CannotStart new.frames request
 
--- the frame's hold was over, and its request is finished
+-- a request with its number
+abbrev pub numbered_op : Request → ℕ × world.Op
+numbered_op request = (request.id, op_of request.op)
+
+-- the request that has ended, if it was one
+abbrev pub requests_ended : Ended → List Request
+requests_ended (ended.Request request) = request ∷ []
+requests_ended (ended.Classed scrub class) = []
+requests_ended (ended.Skipped scrub) = []
+
+-- the frame's hold was over, and its request is finished, if it had one
 abbrev pub FinishesHeld : State → (frame : ℕ) → State → Type 0
 FinishesHeld old frame new =
     (h : HeldRow) → hold_at old.frames.held.items frame ≡ Some h → IsOver old.frames frame
-    → (request : Request) × (request.id ≡ (served_in h.job).id) × (new.replies.items ≡ old.replies.items ++ request ∷ []) × (hold_at new.frames.held.items frame ≡ None)
+    → (more : List Request) × (map numbered_op more ≡ requests_by h.job (kind_in h))
+    × (new.replies.items ≡ old.replies.items ++ more) × (hold_at new.frames.held.items frame ≡ None)
 
 -- the reply to a request: its answer, if it is released, and else that the array has failed
 abbrev pub reply_for : (is_released : Bool) → Op → Reply
@@ -191,9 +288,6 @@ ReleasesFinished old new = (new.released ≡ old.released ++ old.finished) × (n
 -- the requests with no reply, each with its number
 abbrev pub held_op : ℕ × shards.Request → ℕ × world.Op
 held_op entry = (entry.0, entry.1.op)
-
-abbrev pub numbered_op : Request → ℕ × world.Op
-numbered_op request = (request.id, op_of request.op)
 
 abbrev pub unreplied : State → List (ℕ × world.Op)
 unreplied s = map numbered_op s.waiting.items ++ map held_op (held_requests s.frames)
@@ -212,6 +306,7 @@ pub record Gathers (old new : State) : Type 0 where
   pub shard : Between (λ l n s s'. s' ≡ record s { frame = λ frame. None }) old.frames new.frames
   pub room : (new.waiting.capacity ≡ old.waiting.capacity) × (new.replies.capacity ≡ old.replies.capacity)
   pub rest : (new.accepted ≡ old.accepted) × (new.unanswered ≡ old.unanswered) × (new.released ≡ old.released) × SameCalls old new
+  pub scrubs : SameScrubs old new
 
 -- why a completion is refused
 abbrev pub HasFault : State → ℕ → Result (List ℕ) DeviceFault → Refusal → Type 0

@@ -3,14 +3,16 @@ use Rattle.std.specs.Prelude.{◌≡◌, ◌≢◌, ℕ, ◌^◌, ◌≤◌, ◌
 use Rattle.r6_layout.specs.Shape.{blocks}
 use Rattle.r6_layout.specs.Layout as layout
 use Rattle.r6_world.specs.PlainArray as world
-use Rattle.r6_world.specs.ShardStates.{Command}
+use Rattle.r6_world.specs.ShardStates.{Command, IsFree, IsLive, NotHeld}
+use Rattle.r6_world.specs.Changes.{AllInSync}
 use Rattle.r6_frames.specs.declared.op.Op.{Op}
 use Rattle.r6_core.specs.declared.refusal.CoreError.{CoreError}
 use Rattle.r6_core.specs.declared.refusal.CoreError.TheVariants.{NoMemory}
 use Rattle.r6_core.specs.declared.refusal.Refusal.{Refusal}
-use Rattle.r6_core.specs.declared.refusal.Refusal.TheVariants.{NoSuchBlock, WrongShard, WrongLength, Busy, ArrayFailed, Exhausted, UnknownToken, UntoldFirst, UnknownCall}
+use Rattle.r6_core.specs.declared.refusal.Refusal.TheVariants.{NoSuchBlock, WrongShard, WrongLength, Busy, ArrayFailed, Exhausted, UnknownToken, UntoldFirst, NoFrame, NothingToDo, UnknownCall}
+use Rattle.r6_frames.specs.declared.frames.Scrub.{Scrub}
 use Rattle.r6_frames.specs.Views.{op_of, buffer_of}
-use Rattle.r6_core.specs.Shards.{CoreView, world_shard}
+use Rattle.r6_core.specs.Shards.{CoreView, core_layout, turn_row, world_shard}
 
 abbrev pub error_number : CoreError → ℕ
 error_number NoMemory = 1
@@ -24,6 +26,8 @@ number_of ArrayFailed = 5
 number_of Exhausted = 6
 number_of UnknownToken = 7
 number_of UntoldFirst = 8
+number_of NoFrame = 9
+number_of NothingToDo = 10
 number_of UnknownCall = 11
 
 abbrev pub name_of : Refusal → List ℕ
@@ -35,6 +39,8 @@ name_of ArrayFailed = codes "ArrayFailed"
 name_of Exhausted = codes "Exhausted"
 name_of UnknownToken = codes "UnknownToken"
 name_of UntoldFirst = codes "UntoldFirst"
+name_of NoFrame = codes "NoFrame"
+name_of NothingToDo = codes "NothingToDo"
 name_of UnknownCall = codes "UnknownCall"
 
 -- ---- limits
@@ -43,11 +49,12 @@ name_of UnknownCall = codes "UnknownCall"
 abbrev pub most_unanswered : ℕ
 most_unanswered = 256
 
--- requests are refused from so many commands on, and from so many requests on
+-- requests and turns are refused from so many commands on, requests from so many requests on, and turns from so many
+-- rows on that were passed over
 abbrev pub limit : ℕ
 limit = 2 ^ 60
 
--- ---- why a request or a completion is refused, in this order
+-- ---- why a request, a completion or a turn is refused, in this order
 
 -- why a request is refused; the first that holds
 abbrev pub HasSubmitFault : CoreView → Op → Refusal → Type 0
@@ -67,6 +74,15 @@ submit_faults = NoSuchBlock ∷ WrongShard ∷ WrongLength ∷ ArrayFailed ∷ E
 abbrev pub IsOut : CoreView → ℕ → Type 0
 IsOut core token = (c : Command) × ((world_shard core).command token ≡ Some c) × (c.taken ≡ true)
 
+-- every slot is in sync for the next row of the check or repair
+abbrev pub IsTurnWhole : CoreView → Scrub → Type 0
+IsTurnWhole core scrub = AllInSync (core_layout core) (world_shard core) (turn_row scrub (world_shard core))
+
+-- and the row is held
+abbrev pub IsTurnHeld : CoreView → Scrub → Type 0
+IsTurnHeld core scrub =
+    IsTurnWhole core scrub × (NotHeld (world_shard core) (turn_row scrub (world_shard core)) → ⊥)
+
 -- why a completion is refused, of a command that is out or not; the first that holds
 abbrev pub HasCompletionFault : (out : Type 0) (size : ℕ) → List ℕ → Refusal → Type 0
 HasCompletionFault out size block UnknownToken = out → ⊥
@@ -79,6 +95,20 @@ HasDeliverFault core token block = HasCompletionFault (IsOut core token) core.sh
 
 abbrev pub deliver_faults : List Refusal
 deliver_faults = UnknownToken ∷ WrongLength ∷ []
+
+-- why a turn is refused; the first that holds. A row with a slot out is passed over, held or not
+abbrev pub HasTurnFault : CoreView → Scrub → Refusal → Type 0
+HasTurnFault core scrub ArrayFailed = (world_shard core).saw_failed ≡ true
+HasTurnFault core scrub Exhausted =
+    (limit ≤ (world_shard core).tokens) ⊎ (limit ≤ (world_shard core).counts.skipped)
+HasTurnFault core scrub NothingToDo = (IsLive (core_layout core) (world_shard core) → ⊥) ⊎ IsTurnHeld core scrub
+HasTurnFault core scrub NoFrame =
+    IsTurnWhole core scrub × ((frame : ℕ) → IsFree (core_layout core) (world_shard core) frame → ⊥)
+-- for no other reason
+HasTurnFault core scrub _ = ⊥
+
+abbrev pub turn_faults : List Refusal
+turn_faults = ArrayFailed ∷ Exhausted ∷ NothingToDo ∷ NoFrame ∷ []
 
 -- the first of these faults that there is
 abbrev pub IsFirstFault : (Refusal → Type 0) → List Refusal → Refusal → Type 0

@@ -14,6 +14,7 @@ use Rattle.r6_world.specs.Worlds as worlds
 use Rattle.r6_world.specs.Worlds.{World, Devices, MayCome, Possible, Run, IsAnswer, as_made, next, started}
 use Rattle.r6_world.specs.Claims.{IsLawfulStart, IsQuiet, AllAnswered}
 use Rattle.r6_world.specs.Laws.{ShardHolds, ArrayHolds, Explained, AtEach, IsOfOutside, IsByAnyone, at_start}
+use Rattle.r6_world.specs.Counting.{AreCounted}
 use Rattle.r6_world.specs.Sequential.{OneAtATime, FewOut, PlainThroughout}
 use Rattle.r6_core.specs.Shards.{CoreView, Step, world_shard}
 use Rattle.r6_core.specs.Effects.{IsMade}
@@ -117,6 +118,10 @@ ArrayOfCores = OfEveryRunOfCores (λ l array start moments. ArrayHolds l start s
 -- and whenever a core is quiet, every request that it accepted has its reply ready, or it was taken
 abbrev pub QuietOfCores : Type 0
 QuietOfCores = OfEveryRunOfCores (λ l array start moments. AtEach l (λ w. (n : ℕ) → n < l.shards → IsQuiet w n → AllAnswered w n) start moments)
+
+-- and what the counts of each core say of the checks and repairs that have ended in the run, and of the rows passed over
+abbrev pub CountsOfCores : Type 0
+CountsOfCores = OfEveryRunOfCores AreCounted
 
 -- Of one core alone, with one request at a time, each submitted when the core is quiet, and at most two slots out
 -- throughout: the replies are those of the plain array that runs the requests in the order of their submission

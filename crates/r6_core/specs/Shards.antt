@@ -19,9 +19,12 @@ use Rattle.r6_core.specs.declared.refusal.Receipt.{Receipt}
 use Rattle.r6_core.specs.declared.refusal.Receipt.TheVariants as receipt
 use Rattle.r6_core.specs.declared.call.Call.{Call}
 use Rattle.r6_core.specs.declared.call.Call.TheVariants as call
+use Rattle.r6_core.specs.declared.counts.Counts.{Counts}
 use Rattle.r6_core.specs.declared.state.State.{State}
 use Rattle.r6_frames.specs.declared.slots.Device.{Device}
 use Rattle.r6_frames.specs.declared.slots.Device.TheVariants as device
+use Rattle.r6_frames.specs.declared.frames.Scrub.{Scrub}
+use Rattle.r6_frames.specs.declared.frames.Scrub.TheVariants as scrub
 use Rattle.r6_frames.specs.Slots as slots
 use Rattle.r6_frames.specs.Views.{op_of, held_requests, Rest, shard_with}
 
@@ -67,9 +70,32 @@ abbrev pub call_of : Call → shards.Call
 call_of (call.DeclareLost slot generation) = LossOf slot generation
 call_of (call.ReportRebuilt slot generation) = RebuildOf slot generation
 
+-- the rows that checks and repairs have counted
+abbrev pub counts_of : Counts → shards.Counts
+counts_of k =
+    record {
+      consistent = k.consistent;
+      wrong_p = k.wrong_p;
+      wrong_q = k.wrong_q;
+      wrong_data = k.wrong_data;
+      many = k.many;
+      skipped = k.skipped;
+      repaired = k.repaired;
+      rebuilt = k.rebuilt;
+    }
+
 -- what the shard has beside its frames
 abbrev pub rest_of : State → Rest
-rest_of s = record { accepted = s.accepted; request = table (requests_of s); calls = map call_of s.calls.items; untold = option_map call_of s.untold }
+rest_of s =
+    record {
+      accepted = s.accepted;
+      request = table (requests_of s);
+      calls = map call_of s.calls.items;
+      untold = option_map call_of s.untold;
+      check_row = s.check_row;
+      repair_row = s.repair_row;
+      counts = counts_of s.counts;
+    }
 
 abbrev pub state_of : State → Shard
 state_of s = shard_with (rest_of s) s.frames
@@ -119,6 +145,11 @@ of_fields f =
       unanswered = f.1.1.1.1.1.0;
       inside = f.1.1.1.1.1.1;
     }
+
+-- the row of a shard's next check or repair
+abbrev pub turn_row : Scrub → Shard → ℕ
+turn_row scrub.Check s = s.check_row
+turn_row scrub.Repair s = s.repair_row
 
 -- the shard of the world that it is
 abbrev pub world_shard : CoreView → Shard

@@ -1,19 +1,22 @@
 //! Completions of commands, and losses that they tell of.
 
-ghost use Rattle.std.specs.Prelude.{◌≡◌, ◌⊎◌, ℕ, length, MatchOption, IfOk, IfErr};
+ghost use Rattle.std.specs.Prelude.{◌≡◌, ◌⊎◌, ◌+◌, ◌<◌, ◌≤◌, ◌++◌, ◌^◌, ℕ, length, MatchOption, IfOk, IfErr};
+ghost use Rattle.circular_buffer.specs.Buffer.{buffer};
+ghost use Rattle.r6_world.specs.Changes.{counted};
 ghost use Rattle.r6_world.specs.Steps.{Deliver, Good, Error, Taken, GoesOn};
 ghost use Rattle.r6_frames.specs.Views.{AreLive};
-ghost use Rattle.r6_frames.specs.Calls.{IsAwaited, IsAbandoned, IsHeldFrame, KeepsOthers};
+ghost use Rattle.r6_frames.specs.Calls.{IsAwaited, IsAbandoned, IsHeldFrame, KeepsOthers, ended_task, ended_outcome};
 ghost use Rattle.r6_frames.specs.Owed.{IsDriven};
-ghost use Rattle.r6_core.specs.Shards.{Step, core_of, completion_of, receipt_of};
+ghost use Rattle.r6_core.specs.Shards.{Step, core_of, completion_of, receipt_of, counts_of};
 ghost use Rattle.r6_core.specs.Refusals.{IsFirstFault, HasNone, deliver_faults};
 ghost use Rattle.r6_core.specs.Order.{MayFinish, Finishes, FinishesBy, HaveTurnsBehind};
-ghost use Rattle.r6_core.specs.Inside.{IsSound, IsSettled, IsCore, IsRestedFrame, HasFault, HasFreed, FinishesHeld, KeepsWaiting, Leads, SameCalls, Seen, TakesThrough};
+ghost use Rattle.r6_core.specs.Inside.{IsSound, IsSettled, IsCore, IsRestedFrame, HasFault, HasFreed, FinishesHeld, requests_ended, rows_counted, KeepsWaiting, Leads, SameCalls, Seen, TakesThrough};
 
 use crate::call::Call;
 use crate::refusal::{DeviceFault, Receipt, Refusal, Refused};
 use crate::scan::Freed;
 use crate::state::State;
+use r6_frames::Ended;
 use r6_kernels::Buffer;
 
 impl State {
@@ -175,13 +178,33 @@ impl State {
         ensures freed { (result ≡ Freed.OneFrame) ⊎ ((result ≡ Freed.Nothing) × (self.new ≡ self.old)) }
     {
         match self.frames.finish(frame) {
-            Some(request) => {
-                let Ok(()) = self.replies.try_push_back(request) else {
-                    unreachable!()
-                };
+            Some(ended) => {
+                self.close(ended);
                 Freed::OneFrame
             }
             None => Freed::Nothing,
+        }
+    }
+
+    // A request has its reply, and the row of a check or repair is counted.
+    fn close(&mut self, ended: Ended)
+        requires room { length self.old.replies.items + length (requests_ended ended) ≤ self.old.replies.capacity }
+        requires counts { rows_counted self.old.counts < 2 ^ 63 }
+        ensures same { self.new ≡ record self.old {
+          replies = buffer (self.old.replies.items ++ requests_ended ended) self.old.replies.capacity;
+          counts = self.new.counts;
+        } }
+        ensures counted { counts_of self.new.counts
+            ≡ counted (counts_of self.old.counts) (ended_task ended) (ended_outcome ended) }
+    {
+        match ended {
+            Ended::Request(request) => {
+                let Ok(()) = self.replies.try_push_back(request) else {
+                    unreachable!()
+                };
+            }
+            Ended::Classed(scrub, class) => self.counts.add(scrub, class),
+            Ended::Skipped(_) => self.counts.skipped += 1,
         }
     }
 }

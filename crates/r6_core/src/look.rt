@@ -1,9 +1,8 @@
 //! Looks at the register.
 
-ghost use Rattle.std.specs.Prelude.{◌≡◌, ◌<◌, ◌≤◌, ℕ, length, take, drop, true, false, IsPermutation, is_some, None, IfOk, IfErr, IfSome};
+ghost use Rattle.std.specs.Prelude.{◌≡◌, ◌<◌, ◌≤◌, ◌^◌, ℕ, length, take, drop, true, false, IsPermutation, is_some, None, IfOk, IfErr, IfSome};
 ghost use Rattle.std.specs.List.Sorted.{IsNonDecreasingBy};
 ghost use Rattle.r6_world.specs.Registers.{status_of};
-ghost use Rattle.r6_world.specs.ShardStates.{is_away};
 ghost use Rattle.r6_world.specs.Steps.{Look, TakesOver};
 ghost use Rattle.r6_world.specs.Changes.{Release, See_failed, after, adopted, differs};
 ghost use Rattle.r6_frames.specs.Views.{AreLive};
@@ -17,7 +16,7 @@ use crate::refusal::Refusal;
 use crate::scan::Freed;
 use crate::state::State;
 use circular_buffer::HeapCircularBuffer;
-use r6_frames::{Device, FRAMES, Request};
+use r6_frames::{Device, FRAMES, Rebuilt, Request};
 use r6_health::{SlotState, Snapshot};
 
 impl State {
@@ -74,9 +73,14 @@ impl State {
         ensures calls { SameCalls self.old self.new }
         ensures order { Seen SameReplies self.old self.new }
     {
+        let first_row = self.frames.geometry().shard_rows(self.frames.shard()).start;
         let mut went_out = false;
         for slot in 0..self.frames.geometry().slots() {
-            if let Some(device) = renewed(self.frames.device(slot), snapshot.slot(slot)) {
+            if let Some(device) = renewed(
+                self.frames.device(slot),
+                snapshot.slot(slot),
+                first_row,
+            ) {
                 self.frames.take_out(slot, device);
                 went_out = true;
             }
@@ -134,11 +138,12 @@ impl State {
     }
 }
 
-// What a slot has in place of its device, where the register has something else of it.
-fn renewed(device: Device, status: SlotState) -> Option<Device>
+// What a slot has in place of its device, where the register has something else of it, in a shard with this first row.
+fn renewed(device: Device, status: SlotState, first_row: u64) -> Option<Device>
+    requires { first_row < 2 ^ 63 }
     ensures differs { is_some result ≡ differs (slots.state_of device) status }
     ensures device { IfSome result (λ new.
-        (slots.state_of new ≡ adopted (slots.state_of device) status) × (is_away (slots.state_of new) ≡ true)) }
+        (slots.state_of new ≡ adopted (slots.state_of device) status) × slots.IsNewFrom first_row new) }
     ensures same { result ≡ None → adopted (slots.state_of device) status ≡ slots.state_of device }
 {
     match (device, status) {
@@ -147,9 +152,12 @@ fn renewed(device: Device, status: SlotState) -> Option<Device>
         (_, SlotState::Lost) => Some(Device::Missing),
         (Device::Synced(current), SlotState::Rebuilding(generation, _)) if current == generation =>
             None,
-        (Device::Building(current), SlotState::Rebuilding(generation, _))
+        (Device::Building(current, _), SlotState::Rebuilding(generation, _))
             if current == generation => None,
-        (_, SlotState::Rebuilding(generation, _)) => Some(Device::Building(generation)),
+        (_, SlotState::Rebuilding(generation, _)) => Some(Device::Building(
+            generation,
+            Rebuilt::none(first_row),
+        )),
     }
 }
 

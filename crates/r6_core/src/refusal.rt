@@ -34,12 +34,16 @@ pub enum Refusal {
     Busy = 4,
     /// A look has seen that the array failed.
     ArrayFailed = 5,
-    /// 2^60 commands were put out, or as many requests accepted.
+    /// 2^60 commands were put out, as many requests accepted, or as many rows passed over by turns.
     Exhausted = 6,
     /// No command with this token was taken that isn't answered.
     UnknownToken = 7,
     /// A call is to be made at the register, or its answer isn't told.
     UntoldFirst = 8,
+    /// All frames are in use.
+    NoFrame = 9,
+    /// The next row is held, or at least three slots are out.
+    NothingToDo = 10,
     /// The call isn't the one that was taken last and whose answer isn't told.
     UnknownCall = 11,
 }
@@ -65,6 +69,8 @@ impl Refusal {
             Refusal::Exhausted => "Exhausted",
             Refusal::UnknownToken => "UnknownToken",
             Refusal::UntoldFirst => "UntoldFirst",
+            Refusal::NoFrame => "NoFrame",
+            Refusal::NothingToDo => "NothingToDo",
             Refusal::UnknownCall => "UnknownCall",
         }
     }

@@ -5,14 +5,16 @@ ghost use Rattle.r6_layout.specs.Shape.{IsShape};
 ghost use Rattle.r6_world.specs.Registers.{status_of};
 ghost use Rattle.r6_world.specs.Worlds.{slot_at_start};
 ghost use Rattle.r6_world.specs.Steps.{No_command, No_call};
-ghost use Rattle.r6_core.specs.Shards.{Step, world_shard, devices_state, synced};
-ghost use Rattle.r6_core.specs.Effects.{KeepsRequests, IsMade, Accepts, RefusesOp, Receives, RefusesCompletion, LooksAt, RefusesLook, IsCommandOf, HandsCommand, HandsCall, Hears, RefusesAnswer, HandsReply, HandsNoReply};
+ghost use Rattle.r6_core.specs.Shards.{Step, counts_of, world_shard, devices_state, synced};
+ghost use Rattle.r6_core.specs.Effects.{KeepsRequests, IsMade, Accepts, RefusesOp, Receives, RefusesCompletion, LooksAt, RefusesLook, Turns, RefusesTurn, IsCommandOf, HandsCommand, HandsCall, Hears, RefusesAnswer, HandsReply, HandsNoReply};
 
 use crate::call::Call;
+use crate::counts::Counts;
 use crate::refusal::{CoreError, DeviceFault, Receipt, Refusal, Refused};
 use crate::reply::{OpId, Reply};
 use crate::state::State;
-use r6_frames::{Command, Device, MOST_SLOTS, Op};
+use crate::turn::Turn;
+use r6_frames::{Command, Device, MOST_SLOTS, Op, Scrub};
 use r6_health::{Answer, Refusal as RegisterRefusal, SlotState, Snapshot};
 use r6_kernels::Buffer;
 use r6_layout::Geometry;
@@ -114,6 +116,27 @@ impl Core {
         ensures refused { IfErr result (λ refusal. RefusesLook self.old refusal self.new) }
     {
         self.state.look(snapshot)
+    }
+
+    /// Takes up the next row of a check or repair: all its blocks are read, its class is counted, and a repair writes P and
+    /// Q anew, each if it differs from that of the data. A row with a slot out is passed over, and counted as skipped, held
+    /// or not. Checks and repairs go each by themselves from the shard's first row to its last, and on from the first.
+    ///
+    /// # Errors
+    /// In this order: 5 `ArrayFailed`, 6 `Exhausted`, 10 `NothingToDo` (three slots are out, or the row is held), 9
+    /// `NoFrame`. Nothing changes.
+    pub fn turn(&mut self, scrub: Scrub) -> Result<Turn, Refusal>
+        ensures turned { IfOk result (λ turn. Turns self.old scrub turn self.new) }
+        ensures refused { IfErr result (λ refusal. RefusesTurn self.old scrub refusal self.new) }
+    {
+        self.state.turn(scrub)
+    }
+
+    /// What checks and repairs have counted since the core was made.
+    pub fn counts(&self) -> Counts
+        ensures { counts_of result ≡ (world_shard self.now).counts }
+    {
+        self.state.counts
     }
 
     /// Takes the command that was put out first and not taken.

@@ -8,7 +8,7 @@ ghost use Rattle.r6_world.specs.Changes.{Accept, after, Allowed};
 ghost use Rattle.r6_frames.specs.Views.{op_of, buffer_of};
 ghost use Rattle.r6_frames.specs.Calls as frames;
 ghost use Rattle.r6_frames.specs.Calls.{IsPlaceOf};
-ghost use Rattle.r6_frames.specs.Slots.{slot_before};
+ghost use Rattle.r6_frames.specs.Slots.{slot_before, AreUsed};
 ghost use Rattle.r6_core.specs.Shards.{Step, core_of, state_of, layout_in, reply_of, buffer_back};
 ghost use Rattle.r6_core.specs.Refusals.{HasSubmitFault, IsFirstFault, HasNone, submit_faults};
 ghost use Rattle.r6_core.specs.Order.{NoReplies, SameReplies, BringsBack, TakesFirst, HasNoReply, HaveTurns};
@@ -16,6 +16,7 @@ ghost use Rattle.r6_core.specs.Effects.{KeepsRequests, HandsCommand};
 ghost use Rattle.r6_core.specs.Inside.{IsSound, IsCore, IsFresh, SameCalls, SameFrames, Seen, reply_for};
 
 use crate::call::Call;
+use crate::counts::Counts;
 use crate::refusal::{Refusal, Refused};
 use crate::reply::{OpId, Reply};
 use circular_buffer::HeapCircularBuffer;
@@ -26,7 +27,7 @@ use std::alloc::{AllocError, Global};
 /// As many accepted requests whose replies were not taken.
 pub const UNANSWERED: usize = 256;
 
-/// Requests are refused from so many commands on.
+/// Requests and turns are refused from so many commands on.
 pub const LIMIT: u64 = 1 << 60;
 
 /// The state of a shard's core. An accepted request stands in one place: it waits, a row is held for it, or it has a
@@ -48,6 +49,11 @@ pub(crate) struct State {
     pub calls: HeapCircularBuffer<Call>,
     /// The call that was taken, until its answer is told.
     pub untold: Option<Call>,
+    /// The row of the next check.
+    pub check_row: u64,
+    /// The row of the next repair.
+    pub repair_row: u64,
+    pub counts: Counts,
     pub frames: Frames,
 }
 
@@ -61,12 +67,14 @@ impl State {
     ) -> Result<State, AllocError>
         requires limits { IsShape geometry }
         requires shard { shard < geometry.shards }
+        requires devices { AreUsed devices }
         ensures core { IfOk result IsCore }
         ensures fresh { IfOk result (λ s. IsFresh s × (s.frames.geometry ≡ geometry) × (s.frames.shard ≡ shard)
             × (s.frames.slots ≡ map slot_before devices)) }
         ensures order { IfOk result (λ s. NoReplies (core_of s)) }
         ensures unanswered { IfOk result (λ s. s.unanswered ≡ 0) }
     {
+        let first_row = geometry.shard_rows(shard).start;
         Ok(State {
             accepted: 0,
             unanswered: 0,
@@ -75,6 +83,9 @@ impl State {
             released: 0,
             calls: HeapCircularBuffer::with_capacity(alloc, MOST_SLOTS)?,
             untold: None,
+            check_row: first_row,
+            repair_row: first_row,
+            counts: Counts::none(),
             frames: Frames::new(alloc, geometry, shard, devices)?,
         })
     }

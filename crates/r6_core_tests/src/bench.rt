@@ -4,7 +4,8 @@ ghost use Rattle.std.specs.Prelude.{◌≡◌, length, IfOk};
 ghost use Rattle.r6_layout.specs.Shape.{IsShape};
 
 use r6_core::{
-    Call, Command, CommandKind, Core, DeviceFault, FaultKind, Op, OpId, Receipt, Refused, Reply,
+    Call, Command, CommandKind, Core, Counts, DeviceFault, FaultKind, Op, OpId, Receipt, Refused,
+    Reply, Scrub, Turn,
 };
 use r6_dev::{BlockDevice, MemoryDevice};
 use r6_health::{Answer as RegisterAnswer, Refusal as RegisterRefusal, Snapshot};
@@ -58,6 +59,14 @@ pub(crate) enum Step {
     Reply,
     /// The generation of a slot is asked for.
     InSync(usize),
+    /// A check or repair has its turn.
+    Turn(Scrub),
+    /// The counts are asked for.
+    Counts,
+    /// The block of a device in a row has this byte throughout from now on; nobody tells the core.
+    Spoil(usize, u64, u8),
+    /// The block of a device in a row is asked for.
+    Stored(usize, u64),
 }
 
 /// What a step answers.
@@ -88,6 +97,11 @@ pub(crate) enum Answer {
     /// The array has failed: the number of the request.
     Failed(u64),
     Generation(Option<u32>),
+    Turned(Turn),
+    Counted(Counts),
+    Spoilt,
+    /// The byte that the block has throughout.
+    Stored(u8),
     Nothing,
     /// Nothing that a core may answer.
     Wrong,
@@ -236,6 +250,10 @@ impl Bench {
             Step::Look => self.look(),
             Step::Reply => self.take_reply(),
             Step::InSync(slot) => Answer::Generation(self.core.in_sync(slot)),
+            Step::Turn(scrub) => self.turn(scrub),
+            Step::Counts => Answer::Counted(self.core.counts()),
+            Step::Spoil(slot, row, byte) => self.spoil(slot, row, byte)?,
+            Step::Stored(slot, row) => self.stored(slot, row)?,
         })
     }
 
@@ -405,6 +423,32 @@ impl Bench {
         match self.core.look(&self.register) {
             Ok(()) => Answer::Looked,
             Err(refusal) => Answer::Refused(refusal.number()),
+        }
+    }
+
+    fn turn(&mut self, scrub: Scrub) -> Answer {
+        match self.core.turn(scrub) {
+            Ok(turn) => Answer::Turned(turn),
+            Err(refusal) => Answer::Refused(refusal.number()),
+        }
+    }
+
+    fn spoil(&mut self, slot: usize, row: u64, byte: u8) -> Result<Answer, AllocError> {
+        let block = filled(self.alloc, BLOCK, byte)?;
+        let Some(device) = self.devices.get_mut(slot) else {
+            return Ok(Answer::Wrong);
+        };
+        Ok(device.write(row, &block).map_or(Answer::Wrong, |()| Answer::Spoilt))
+    }
+
+    fn stored(&mut self, slot: usize, row: u64) -> Result<Answer, AllocError> {
+        let mut block = filled(self.alloc, BLOCK, 0)?;
+        let Some(device) = self.devices.get_mut(slot) else {
+            return Ok(Answer::Wrong);
+        };
+        match device.read(row, &mut block) {
+            Ok(()) => Ok(byte_of(&block).map_or(Answer::Wrong, |byte| Answer::Stored(byte))),
+            Err(_) => Ok(Answer::Wrong),
         }
     }
 

@@ -15,6 +15,8 @@ mod requests;
 #[cfg(test)]
 mod scripts;
 #[cfg(test)]
+mod scrubs;
+#[cfg(test)]
 mod served;
 #[cfg(test)]
 mod starts;

@@ -1,41 +1,48 @@
 -- What the answer to a command does to the held rows and their commands.
-use Rattle.std.proofs.Common.{◌≡◌, ◌≢◌, ℕ, ◌+◌, ◌%◌, ◌<◌, true, false, List, [], ◌∷◌, set, refl, sym, ap, subst, ◌∙◌, Option, Some, None, inl, inr, arith, get_or-set_same, get_or-set_other}
+use Rattle.std.proofs.Common.{◌≡◌, ◌≢◌, ℕ, ◌+◌, ◌%◌, ◌<◌, Bool, true, false, List, [], ◌∷◌, map, set, refl, sym, ap, subst, ◌∙◌, Option, Some, None, inl, inr, arith, get_or-set_same, get_or-set_other}
 use Rattle.std.specs.Prelude.{option_map, slice_index_or}
 use Rattle.std.specs.Vec.{with_item}
-use Rattle.std.specs.FinMap as map
-use Rattle.std.proofs.lemmas.Bool.{lt-ltb}
+use Rattle.std.specs.FinMap as finite
+use Rattle.std.proofs.lemmas.Bool.{and_parts, lt-ltb}
 use Rattle.r6_layout.specs.Shape.{IsShape}
 use Rattle.r6_layout.specs.Layout.{position_at}
 use Rattle.r6_layout.proofs.Roles.{position_at-lt}
 use Rattle.r6_tables.specs.Table.{Numbered, entries_of, next_of, capacity_of}
-use Rattle.r6_stripe.specs.Holds.{Cell, Event, cell_at, no_cell, after_event}
+use Rattle.r6_stripe.specs.Holds.{Cell, Event, Kind, cell_at, no_cell, wants_all, after_event}
+use Rattle.r6_recover.specs.declared.class.RowClass.{RowClass}
+use Rattle.r6_stripe.specs.Checks.{IsClassAfter, IsClassIf, IsClassRead, is_read_whole}
 use Rattle.r6_stripe.specs.Holds.Event.{Gives, Confirms}
 use Rattle.r6_stripe.specs.Holds.Standing.{InSync}
 use Rattle.r6_stripe.specs.Plans as plans
 use Rattle.r6_stripe.specs.Steps.{Held as HeldHold, is_away, answered}
 use Rattle.r6_world.specs.PlainArray.{Block}
 use Rattle.r6_world.specs.Tables.{put}
-use Rattle.r6_world.specs.ShardStates.{Fetch, Held}
-use Rattle.r6_world.specs.Changes.{Change, Learn, Confirm, Allowed, after}
-use Rattle.r6_world.specs.Steps.{Takes, Good, Taken}
+use Rattle.r6_world.specs.ShardStates.{Fetch, Shard}
+use Rattle.r6_world.specs.Changes.{Change, Learn, Confirm, Classify, Allowed, IsChecked, after}
+use Rattle.r6_world.specs.Steps.{Takes, Good, Taken, Through}
+use Rattle.r6_world.specs.Layouts.{Layout}
 use Rattle.r6_world.specs.Geometries.{layout_of}
+use Rattle.r6_world.specs.Tasks.{Hold}
 use Rattle.r6_frames.specs.declared.command.CommandKind.{CommandKind}
 use Rattle.r6_frames.specs.declared.command.CommandKind.TheVariants as command
 use Rattle.r6_frames.specs.declared.command.Outstanding.{Outstanding}
+use Rattle.r6_frames.specs.declared.frames.Job.{Job}
+use Rattle.r6_frames.specs.declared.frames.Job.TheVariants as job
+use Rattle.r6_frames.specs.declared.frames.Scrub.TheVariants as scrub
 use Rattle.r6_frames.specs.declared.frames.HeldRow.{HeldRow}
 use Rattle.r6_frames.specs.declared.frames.FrameUse.{FrameUse}
 use Rattle.r6_frames.specs.declared.frames.FrameUse.TheVariants.{Held as HeldIn}
 use Rattle.r6_frames.specs.declared.frames.Frames.{Frames}
 use Rattle.r6_frames.specs.Slots.{is_abandoned}
-use Rattle.r6_frames.specs.Views.{hold_at, hold_of, kind_in, op_by, served_in, request_at, held_requests, outstanding, command_of, transfer_of, Rest, shard_with, AreLive}
-use Rattle.r6_frames.specs.Calls.{Answers, IsAwaited, IsAbandoned, KeepsOthers, KeepsRows}
+use Rattle.r6_frames.specs.Views.{hold_at, hold_of, kind_in, task_by, held_entry, requests_by, request_at, held_requests, outstanding, command_of, transfer_of, Rest, shard_with, AreLive}
+use Rattle.r6_frames.specs.Calls.{Answers, Classifies, IsAwaited, IsAbandoned, KeepsOthers, KeepsRows}
 use Rattle.r6_frames.specs.Owed.{owed}
-use Rattle.r6_frames.specs.Sound.{IsSound, IsHeld, is_away_from, is_write, place_of}
+use Rattle.r6_frames.specs.Sound.{IsSound, IsHeld, IsJob, is_away_from, is_write, place_of}
 use Rattle.r6_frames.proofs.SlotsInTurn.{some_slots, position_left}
 use Rattle.r6_frames.proofs.UnderWay.{held_standing}
 use Rattle.r6_frames.proofs.HeldRows.{use_found}
-use Rattle.r6_frames.proofs.Held.{use_at_other, use_held, held_within, hold_at_own, frame_put, rows_stay, free_at, home_at, owed_at}
-use Rattle.r6_frames.proofs.AnsweredRows.{Answered, answer_event, answer_at, answered_row, answered_held, answered_owes}
+use Rattle.r6_frames.proofs.Held.{use_at_other, use_held, held_within, hold_at_own, frame_put, put_own, put_twice, rows_stay, free_at, home_at, owed_at}
+use Rattle.r6_frames.proofs.AnsweredRows.{Answered, answer_event, answer_at, answered_row, answered_held, with_class, classed_held, answered_owes}
 use Rattle.r6_frames.proofs.BuffersHome.{GoesOn, IsHome, live_cases, home_back, left_of, commands_gone, sound_left, owed_left, requests_left}
 
 -- ---- a command and its row
@@ -127,13 +134,16 @@ module _ (fs : Frames) (token : ℕ) (c : Outstanding) (h : HeldRow) (out : IsOu
   abbrev at : ℕ
   at = place_of fs c
 
-  -- the frames when the command was answered by this event
-  abbrev answered_of : Event → Frames
-  answered_of event = left_of fs token (with_item fs.held c.frame (HeldIn (answered_row h at event))) fs.spare
+  -- the row and the frames when the command was answered by this event, and its hold has this class
+  abbrev row_of : Event → Option RowClass → HeldRow
+  row_of event class = with_class (answered_row h at event) class
 
-  module _ (sound : IsSound fs) (block : Block) (event : Event) (a : Answered h.hold.planned at block event) where
+  abbrev answered_of : Event → Option RowClass → Frames
+  answered_of event class = left_of fs token (with_item fs.held c.frame (HeldIn (row_of event class))) fs.spare
+
+  module _ (sound : IsSound fs) (block : Block) (event : Event) (a : Answered h.hold.planned at block event) (class : Option RowClass) where
     abbrev h' : HeldRow
-    h' = answered_row h at event
+    h' = row_of event class
 
     answered_home : IsHome fs c (HeldIn h')
     answered_home =
@@ -148,7 +158,7 @@ module _ (fs : Frames) (token : ℕ) (c : Outstanding) (h : HeldRow) (out : IsOu
               subst (GoesOn fs c) same (record {
                 was = h;
                 is = out.held;
-                whole = answered_held fs.geometry fs.shard fs.slots h at block event out.whole out.inside a;
+                whole = classed_held fs.geometry fs.shard fs.slots (answered_row h at event) class (answered_held fs.geometry fs.shard fs.slots h at block event out.whole out.inside a);
                 row = refl;
                 cells = λ j other. ap (λ (cells : List Cell). cell_at cells j) a.cells ∙ get_or-set_other h.hold.planned.hold.cells at j a.cell no_cell other;
               });
@@ -156,62 +166,135 @@ module _ (fs : Frames) (token : ℕ) (c : Outstanding) (h : HeldRow) (out : IsOu
           returning = λ r is. absurd (cc);
         }
 
-    pub answered_sound : IsSound (answered_of event)
+    pub answered_sound : IsSound (answered_of event class)
     answered_sound =
         let of_row = use_held fs.held.items c.frame h out.held in
         sound_left fs token c out.there (with_item fs.held c.frame (HeldIn h')) fs.spare (HeldIn h') refl answered_home sound out.taken
         (omega (arith, ap free_at of_row)) refl sound.frames.spare_shape
 
-    pub answered_owed : owed (answered_of event) ≡ owed fs
+    pub answered_owed : owed (answered_of event class) ≡ owed fs
     answered_owed =
         let of_row = use_held fs.held.items c.frame h out.held in
         owed_left fs token c out.there (with_item fs.held c.frame (HeldIn h')) fs.spare (HeldIn h') refl answered_home
         (answered_owes fs.geometry fs.shard fs.slots h at block event out.whole out.inside a ∙ sym (ap owed_at of_row))
 
-    pub answered_requests : kind_in h' ≡ kind_in h → held_requests (answered_of event) ≡ held_requests fs
+    pub answered_requests : kind_in h' ≡ kind_in h → held_requests (answered_of event class) ≡ held_requests fs
     answered_requests same =
         let of_row = use_held fs.held.items c.frame h out.held in
         requests_left fs token c out.there (with_item fs.held c.frame (HeldIn h')) fs.spare (HeldIn h') refl answered_home
-        ((λ i. ((served_in h.job).id, record { op = op_by h.job (same i); stage = Held c.frame }) ∷ []) ∙ sym (ap (request_at c.frame) of_row))
+        (ap (λ k. map (held_entry c.frame) (requests_by h.job k)) same ∙ sym (ap (request_at c.frame) of_row))
 
   stores : (block : Option Block) → transfer_of command.Write block ≢ Fetch
   stores None e = cc
   stores (Some block) e = cc
 
-  pub answers : (block : Block) → Answers fs token block (answered_of (answer_event c.kind at block))
-  answers block = (refl, refl, λ rest. by_kind rest c.kind refl)
+  -- the frame's hold as the world has it
+  frame_is : (event : Event) (class : Option RowClass) → (λ x. option_map hold_of (hold_at (answered_of event class).held.items x))
+      ≡ put (λ x. option_map hold_of (hold_at fs.held.items x)) c.frame (Some (hold_of (row_of event class)))
+  frame_is event class = frame_put fs.held.items c.frame (HeldIn (row_of event class)) (held_within fs.held.items c.frame h out.held)
+
+  -- the shard when the command was answered
+  shard_is : (rest : Rest) (event : Event) (class : Option RowClass) → shard_with rest (answered_of event class)
+      ≡ record (shard_with rest fs) { frame = put (shard_with rest fs).frame c.frame (Some (hold_of (row_of event class))); command = put (shard_with rest fs).command token None }
+  shard_is rest event class = λ i. record (shard_with rest fs) { frame = frame_is event class i; command = commands_gone fs.slots (entries_of fs.commands) fs.handed token i }
+
+  -- then the row is classified, if the whole of it was read
+  classifies : (rest : Rest) (event : Event) (class : Option RowClass) → IsClassAfter (after_event h.hold.planned.hold event) h.hold.class class
+      → kind_in (answered_row h at event) ≡ kind_in h
+      → Through (layout_of fs.geometry) fs.shard Classifies (shard_with rest (answered_of event h.hold.class)) (shard_with rest (answered_of event class))
+  classifies rest event class found kind = by_class h.hold.class refl found
     where
-      by_kind : (rest : Rest) (kind : CommandKind) → c.kind ≡ kind
+      l : Layout
+      l = layout_of fs.geometry
+
+      s : Shard
+      s = shard_with rest (answered_of event h.hold.class)
+
+      first : Hold
+      first = hold_of (answered_row h at event)
+
+      none : class ≡ h.hold.class → Through l fs.shard Classifies s (shard_with rest (answered_of event class))
+      none same = ([], ap (λ x. shard_with rest (answered_of event x)) same)
+
+      checked : wants_all (kind_in h) ≡ true → IsChecked (task_by h.job (kind_in h))
+      checked all = by_job h.job out.whole.job
+        where
+          by_job : (what : Job) → IsJob fs.geometry h.row what (kind_in h) → IsChecked (task_by what (kind_in h))
+          by_job (job.Read served buffer) is = absurd (let e = sym (ap wants_all is.1) ∙ all in cc)
+          by_job (job.Write served) is = absurd (let e = sym (ap wants_all is.2) ∙ all in cc)
+          by_job (job.Scrub scrub.Check) is = record {}
+          by_job (job.Scrub scrub.Repair) is = record {}
+
+      one : (found : RowClass) → h.hold.class ≡ None → class ≡ Some found → is_read_whole first.course ≡ true → IsClassRead first.course.cells found
+          → Through l fs.shard Classifies s (shard_with rest (answered_of event class))
+      one found unclassed is whole read = (
+        Classify c.frame first found ∷ [],
+        (
+          record {},
+          (
+            ap (λ (g : ℕ → Option Hold). g c.frame) (frame_is event h.hold.class) ∙ put_own (λ x. option_map hold_of (hold_at fs.held.items x)) c.frame (Some first),
+            out.live,
+            subst (λ (k : Kind). IsChecked (task_by h.job k)) (sym kind) (checked (sym (ap wants_all kind) ∙ (and_parts (wants_all first.course.kind) _ whole).0)),
+            unclassed,
+            read,
+          ),
+          classified,
+        ),
+      )
+        where
+          classified : shard_with rest (answered_of event class) ≡ after l s (Classify c.frame first found)
+          classified =
+              shard_is rest event class
+              ∙ ap (λ x. record (shard_with rest fs) { frame = put (shard_with rest fs).frame c.frame (Some (hold_of (row_of event x))); command = put (shard_with rest fs).command token None }) is
+              ∙ sym (ap (λ (x : Shard). record x { frame = put x.frame c.frame (Some (record first { class = Some found })) }) (shard_is rest event h.hold.class)
+              ∙ ap (λ g. record (shard_with rest fs) { frame = g; command = put (shard_with rest fs).command token None })
+              (put_twice (shard_with rest fs).frame c.frame (Some first) (Some (record first { class = Some found }))))
+
+      by_class : (old : Option RowClass) → h.hold.class ≡ old → IsClassAfter first.course old class → Through l fs.shard Classifies s (shard_with rest (answered_of event class))
+      by_class (Some was) same found = none (found ∙ sym same)
+      by_class None same found = by_whole (is_read_whole first.course) refl found
+        where
+          by_whole : (whole : Bool) → is_read_whole first.course ≡ whole → IsClassIf whole first.course.cells class → Through l fs.shard Classifies s (shard_with rest (answered_of event class))
+          by_whole false e found = none (found ∙ sym same)
+          by_whole true e found = one found.0 same found.1 e found.2
+
+  pub answers : (block : Block) (class : Option RowClass) → IsClassAfter (after_event h.hold.planned.hold (answer_event c.kind at block)) h.hold.class class
+      → Answers fs token block (answered_of (answer_event c.kind at block) class)
+  answers block class found = (refl, refl, λ rest. by_kind rest c.kind refl found)
+    where
+      by_kind : (rest : Rest) (kind : CommandKind) → c.kind ≡ kind → IsClassAfter (after_event h.hold.planned.hold (answer_event kind at block)) h.hold.class class
           → (change : Change) × Takes token (Good block) Taken change
           × Allowed (layout_of fs.geometry) fs.shard (shard_with rest fs) change
-          × (shard_with rest (answered_of (answer_event kind at block)) ≡ after (layout_of fs.geometry) (shard_with rest fs) change)
-      by_kind rest command.Read is =
+          × Through (layout_of fs.geometry) fs.shard Classifies (after (layout_of fs.geometry) (shard_with rest fs) change) (shard_with rest (answered_of (answer_event kind at block) class))
+      by_kind rest command.Read is found =
           let s = shard_with rest fs in
+          let event = answer_event command.Read at block in
           let wc = command_of fs.slots fs.handed token c in
-          let frame_is = frame_put fs.held.items c.frame (HeldIn (answered_row h at (answer_event command.Read at block))) (held_within fs.held.items c.frame h out.held) in
-          let command_is = commands_gone fs.slots (entries_of fs.commands) fs.handed token in (
+          let learned : shard_with rest (answered_of event h.hold.class) ≡ after (layout_of fs.geometry) s (Learn token wc (hold_of h) block) =
+          shard_is rest event h.hold.class
+          ∙ (λ i. record s {
+            frame = put s.frame c.frame (Some (record (hold_of h) { course = after_event (hold_of h).course (Gives (position_at fs.geometry (out.row i) c.slot) block) }));
+            command = put s.command token None;
+          }) in (
             Learn token wc (hold_of h) block,
             (refl, refl, lt-ltb token fs.handed out.taken),
             (ap (option_map (command_of fs.slots fs.handed token)) out.there, out.wanted, ap (option_map hold_of) out.held, ap (λ k. transfer_of k c.buffer) is),
-            (λ i. record s { frame = frame_is i; command = command_is i })
-                ∙ (λ i. record s {
-                  frame = put s.frame c.frame (Some (record (hold_of h) { course = after_event (hold_of h).course (Gives (position_at fs.geometry (out.row i) c.slot) block) }));
-                  command = put s.command token None;
-                }),
+            subst (λ (x : Shard). Through (layout_of fs.geometry) fs.shard Classifies x (shard_with rest (answered_of event class))) learned (classifies rest event class found refl),
           )
-      by_kind rest command.Write is =
+      by_kind rest command.Write is found =
           let s = shard_with rest fs in
+          let event = answer_event command.Write at block in
           let wc = command_of fs.slots fs.handed token c in
-          let frame_is = frame_put fs.held.items c.frame (HeldIn (answered_row h at (answer_event command.Write at block))) (held_within fs.held.items c.frame h out.held) in
-          let command_is = commands_gone fs.slots (entries_of fs.commands) fs.handed token in (
+          let confirmed : shard_with rest (answered_of event h.hold.class) ≡ after (layout_of fs.geometry) s (Confirm token wc (hold_of h)) =
+          shard_is rest event h.hold.class
+          ∙ (λ i. record s {
+            frame = put s.frame c.frame (Some (record (hold_of h) { course = after_event (hold_of h).course (Confirms (position_at fs.geometry (out.row i) c.slot)) }));
+            command = put s.command token None;
+          }) in (
             Confirm token wc (hold_of h),
             (refl, lt-ltb token fs.handed out.taken),
             (ap (option_map (command_of fs.slots fs.handed token)) out.there, out.wanted, ap (option_map hold_of) out.held, λ e. stores c.buffer (sym (ap (λ k. transfer_of k c.buffer) is) ∙ e)),
-            (λ i. record s { frame = frame_is i; command = command_is i })
-                ∙ (λ i. record s {
-                  frame = put s.frame c.frame (Some (record (hold_of h) { course = after_event (hold_of h).course (Confirms (position_at fs.geometry (out.row i) c.slot)) }));
-                  command = put s.command token None;
-                }),
+            subst (λ (x : Shard). Through (layout_of fs.geometry) fs.shard Classifies x (shard_with rest (answered_of event class))) confirmed (classifies rest event class found refl),
           )
 
 -- ---- the call
@@ -231,22 +314,24 @@ same_kind h position command.Read block = refl
 same_kind h position command.Write block = refl
 
 pub completed : (fs : Frames) (token : ℕ) (c : Outstanding) (h : HeldRow) (block : Block) (position : ℕ) (hold : HeldHold) (commands : Numbered Outstanding) → IsSound fs → IsOut fs token c h
-    → position ≡ place_of fs c → hold ≡ answered h.hold position block
-    → commands ≡ (capacity_of fs.commands, (next_of fs.commands, map.remove (entries_of fs.commands) token))
+    → position ≡ place_of fs c → hold ≡ record (answered h.hold position block) { class = hold.class } → IsClassAfter hold.planned.hold h.hold.class hold.class
+    → commands ≡ (capacity_of fs.commands, (next_of fs.commands, finite.remove (entries_of fs.commands) token))
     → Completed fs token block c.frame (record h { hold = hold }) (record fs { held = with_item fs.held c.frame (HeldIn (record h { hold = hold })); commands = commands })
-completed fs token c h block position hold commands sound out at done rest =
+completed fs token c h block position hold commands sound out at done found rest =
     let event = answer_event c.kind (place_of fs c) block in
     let a = answer_at fs.geometry fs.shard fs.slots h (place_of fs c) block c.kind out.whole out.inside out.in_sync out.away out.kind in
-    let goes : hold ≡ (answered_row h (place_of fs c) event).hold =
-    done ∙ ap (λ p. answered h.hold p block) at ∙ (λ i. record { planned = a.is i; away = set h.hold.away (place_of fs c) false; class = h.hold.class }) in
-    let same : record fs { held = with_item fs.held c.frame (HeldIn (record h { hold = hold })); commands = commands } ≡ answered_of fs token c h out event =
+    let goes : hold ≡ (with_class (answered_row h (place_of fs c) event) hold.class).hold =
+    done ∙ ap (λ p. record (answered h.hold p block) { class = hold.class }) at ∙ (λ i. record { planned = a.is i; away = set h.hold.away (place_of fs c) false; class = hold.class }) in
+    let same : record fs { held = with_item fs.held c.frame (HeldIn (record h { hold = hold })); commands = commands } ≡ answered_of fs token c h out event hold.class =
     λ i. record fs { held = with_item fs.held c.frame (HeldIn (record h { hold = goes i })); commands = rest i } in
+    let after : IsClassAfter (after_event h.hold.planned.hold event) h.hold.class hold.class =
+    subst (λ (x : HeldHold). IsClassAfter x.planned.hold h.hold.class hold.class) goes found in
     record {
-      sound = subst IsSound (sym same) (answered_sound fs token c h out sound block event a);
-      answers = subst (Answers fs token block) (sym same) (answers fs token c h out block);
+      sound = subst IsSound (sym same) (answered_sound fs token c h out sound block event a hold.class);
+      answers = subst (Answers fs token block) (sym same) (answers fs token c h out block hold.class after);
       held = hold_at_own fs.held.items c.frame (HeldIn (record h { hold = hold })) (held_within fs.held.items c.frame h out.held);
       rows = rows_stay fs.held.items c.frame h (record h { hold = hold }) out.held refl;
       others = λ other ne. use_at_other fs.held.items c.frame (HeldIn (record h { hold = hold })) other ne;
-      owed = ap owed same ∙ answered_owed fs token c h out sound block event a;
-      requests = ap held_requests same ∙ answered_requests fs token c h out sound block event a (same_kind h (place_of fs c) c.kind block);
+      owed = ap owed same ∙ answered_owed fs token c h out sound block event a hold.class;
+      requests = ap held_requests same ∙ answered_requests fs token c h out sound block event a hold.class (same_kind h (place_of fs c) c.kind block);
     }

@@ -4,7 +4,7 @@ use Rattle.std.specs.Prelude.{◌||◌, ◌&&◌, not, if◌then◌else◌, slic
 use Rattle.std.specs.List.{list_any}
 use Rattle.std.proofs.lemmas.List.{get_or_default}
 use Rattle.r6_layout.specs.Shape.{Shape}
-use Rattle.r6_stripe.specs.Holds.{Hold, Standing, Cell, Kind, Reading, Event, cell_at, wants_all, replaced, made_ready, after_event, AreNew, IsIndexOf}
+use Rattle.r6_stripe.specs.Holds.{Hold, Standing, Cell, Kind, Reading, Event, cell_at, replaced, made_ready, after_event, AreNew, IsIndexOf}
 use Rattle.r6_stripe.specs.Holds.Standing.{InSync, Target, Out}
 use Rattle.r6_stripe.specs.Holds.Reading.{Unread, Asked, Known, Replaced}
 use Rattle.r6_stripe.specs.Holds.Writing.{Unwritten}
@@ -13,8 +13,6 @@ use Rattle.r6_stripe.specs.Plans.{Planned, is_out, is_unread, is_asked, is_unwri
 use Rattle.r6_stripe.proofs.Course.{Became, cell_after, kind_after, size_after, standing_after, width_after}
 use Rattle.r6_stripe.proofs.Steps.{step_by_rules}
 use Rattle.r6_frames.specs.declared.slots.Slot.{Slot}
-use Rattle.r6_frames.specs.declared.frames.Job.{Job}
-use Rattle.r6_frames.specs.declared.frames.Job.TheVariants as job
 use Rattle.r6_frames.specs.declared.frames.HeldRow.{HeldRow}
 use Rattle.r6_frames.specs.declared.frames.FrameUse.{FrameUse}
 use Rattle.r6_frames.specs.declared.frames.FrameUse.TheVariants.{Free, Held as HeldIn}
@@ -32,11 +30,6 @@ use_found held frame got u below value is = get_or_default held frame Free got b
 pub row_found : (held : List FrameUse) (frame : ℕ) (got : FrameUse) (h : HeldRow) → (y : HeldRow) × (hold_at held frame ≡ Some y)
     → got ≡ slice_index_or held frame got → got ≡ HeldIn h → hold_at held frame ≡ Some h
 row_found held frame got h there value is = ap row_in (use_found held frame got (HeldIn h) (held_within held frame there.0 there.1) value is)
-
--- what requests hold a row for is no check and no repair
-pub job_whole : (shape : Shape) (row : ℕ) (j : Job) (kind : Kind) → IsJob shape row j kind → wants_all kind ≡ false
-job_whole shape row (job.Read served buffer) kind is = ap wants_all is.1
-job_whole shape row (job.Write served) kind is = ap wants_all is.2
 
 -- ---- an event, and which buffers are away then
 

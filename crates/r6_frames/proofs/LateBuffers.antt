@@ -24,7 +24,7 @@ use Rattle.r6_frames.specs.declared.frames.FrameUse.{FrameUse}
 use Rattle.r6_frames.specs.declared.frames.FrameUse.TheVariants.{Free, Held as HeldIn, Returning}
 use Rattle.r6_frames.specs.declared.frames.Frames.{Frames}
 use Rattle.r6_frames.specs.Slots.{is_abandoned}
-use Rattle.r6_frames.specs.Views.{use_at, row_in, hold_at, hold_of, kind_in, plan_in, request_at, held_requests, outstanding, command_of, shard_with, AreLive}
+use Rattle.r6_frames.specs.Views.{use_at, row_in, hold_at, hold_of, plan_in, request_at, held_requests, outstanding, command_of, shard_with, AreLive}
 use Rattle.r6_frames.specs.Calls.{ComesHome, IsAwaited, IsAbandoned, KeepsHeld, KeepsOthers}
 use Rattle.r6_frames.specs.Owed.{owed}
 use Rattle.r6_frames.specs.Uses.{IsForRow, has_away, AwaitsBuffer, use_home, spared_home}
@@ -32,7 +32,6 @@ use Rattle.r6_frames.specs.Sound.{IsSound, IsHeld, IsReturning, is_away_from, pl
 use Rattle.r6_frames.proofs.Held.{use_within, use_held, free_at, home_at, owed_at, free_set}
 use Rattle.r6_frames.proofs.Ending.{none-away-at, some-away, count_home-all}
 use Rattle.r6_frames.proofs.Finishing.{count_free-le}
-use Rattle.r6_frames.proofs.HeldRows.{job_whole}
 use Rattle.r6_frames.proofs.AnsweredRows.{late_row, late_held, late_is}
 use Rattle.r6_frames.proofs.BuffersHome.{GoesOn, IsHome, home_back, left_of, commands_gone, commands_left, other_same, each_same, sound_left, owed_left, requests_left}
 use Rattle.r6_frames.proofs.Completions.{place_within}
@@ -78,6 +77,7 @@ stopped_home fs token c commands sound awaited abandoned there stopped rest =
         shape = sound.shape;
         shard = sound.shard;
         live = sound.live;
+        devices = sound.devices;
         frames = record {
           count = sound.frames.count;
           rows = sound.frames.rows;
@@ -191,6 +191,9 @@ module _ (fs : Frames) (token : ℕ) (c : Outstanding) (sound : IsSound fs) (lat
 
     pub row_size : h.hold.planned.hold.size ≡ fs.geometry.block
     row_size = whole.size
+
+    pub row_out : (position : ℕ) → position ≡ place_of fs c → is_out (cell_at h.hold.planned.hold.cells position).standing ≡ true
+    row_out position at = ap (λ p. is_out (cell_at h.hold.planned.hold.cells p).standing) at ∙ ap is_out (late.out h is)
 
     pub row_away : (position : ℕ) → position ≡ place_of fs c → is_away h.hold position ≡ true
     row_away position at = ap (is_away h.hold) at ∙ away_from_row
@@ -328,7 +331,7 @@ module _ (fs : Frames) (token : ℕ) (c : Outstanding) (sound : IsSound fs) (lat
   pub awaits_buffer : (u : FrameUse) (position : ℕ) (block : Block) → use_at fs.held.items c.frame ≡ u → position ≡ place_of fs c → length block ≡ fs.geometry.block
       → AwaitsBuffer u position block
   awaits_buffer Free position block was at sized = absurd (let home = ap (λ v. is_away_from v (place_of fs c)) was in let away = late.away in cc)
-  awaits_buffer (HeldIn h) position block was at sized = (row_away h (ap row_in was) position at, sized ∙ sym (row_size h (ap row_in was)), job_whole fs.geometry h.row h.job (kind_in h) (whole h (ap row_in was)).job)
+  awaits_buffer (HeldIn h) position block was at sized = (row_away h (ap row_in was) position at, sized ∙ sym (row_size h (ap row_in was)), row_out h (ap row_in was) position at)
   awaits_buffer (Returning r) position block was at sized =
       (returning_away r was position at, sized ∙ sym (returning_size r was), (returns r was).ended)
 

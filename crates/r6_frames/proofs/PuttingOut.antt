@@ -21,9 +21,7 @@ use Rattle.r6_frames.specs.declared.command.CommandKind.TheVariants as command
 use Rattle.r6_frames.specs.declared.frames.HeldRow.{HeldRow}
 use Rattle.r6_frames.specs.declared.frames.FrameUse.TheVariants.{Held as HeldIn}
 use Rattle.r6_frames.specs.declared.frames.Frames.{Frames}
-use Rattle.r6_frames.specs.declared.slots.Device.{Device}
-use Rattle.r6_frames.specs.declared.slots.Device.TheVariants as device
-use Rattle.r6_frames.specs.Slots.{state_of, slot_in, states_of}
+use Rattle.r6_frames.specs.Slots.{slot_in, states_of}
 use Rattle.r6_frames.specs.Views.{hold_at, hold_of, frame_of, row_command, Rest, shard_with, AreLive}
 use Rattle.r6_frames.specs.Calls.{PutsOut}
 use Rattle.r6_frames.proofs.Lists.{same_put}
@@ -79,7 +77,7 @@ put_change frame h slot generation command.Write buffer = Send frame h slot gene
 
 module _ (fs : Frames) (frame : ℕ) (h : HeldRow) (planned : Planned) (position slot generation : ℕ) (buffer : List ℕ) (rest : Rest)
     (is : hold_at fs.held.items frame ≡ Some h) (inverse : position_at fs.geometry h.row slot ≡ position) (below : slot < fs.geometry.slots) (live : AreLive fs)
-    (synced : (slot_in fs.slots slot).device ≡ device.Synced generation) (handed : fs.handed ≤ next_of fs.commands) (since : (slot_in fs.slots slot).since ≤ next_of fs.commands) where
+    (synced_for : InSyncFor (states_of fs.slots slot) h.row generation) (handed : fs.handed ≤ next_of fs.commands) (since : (slot_in fs.slots slot).since ≤ next_of fs.commands) where
   abbrev l : Layout
   l = layout_of fs.geometry
 
@@ -92,10 +90,6 @@ module _ (fs : Frames) (frame : ℕ) (h : HeldRow) (planned : Planned) (position
 
   abbrev with_put : CommandKind → Frames
   with_put kind = with_command fs frame h (planned_after planned (put_event position kind buffer)) position slot generation kind buffer
-
-  -- its device is in sync
-  synced_for : InSyncFor (states_of fs.slots slot) h.row generation
-  synced_for = subst (λ (d : Device). InSyncFor (state_of d) h.row generation) (sym synced) refl
 
   not_abandoned : nat_lt (next_of fs.commands) (slot_in fs.slots slot).since ≡ false
   not_abandoned = le-ltb (next_of fs.commands) (slot_in fs.slots slot).since since

@@ -1,5 +1,5 @@
 -- The frames stay sound when a hold prepares and when it puts a command out.
-use Rattle.std.proofs.Common.{◌≡◌, ◌≢◌, ℕ, zero, suc, ◌+◌, ◌<◌, ◌≤◌, Bool, true, false, List, [], ◌∷◌, length, set, refl, sym, ap, subst, ◌∙◌, Some, inl, inr, arith, get_or-set_same, get_or-set_other, length-set}
+use Rattle.std.proofs.Common.{map, ◌≡◌, ◌≢◌, ℕ, zero, suc, ◌+◌, ◌<◌, ◌≤◌, Bool, true, false, List, [], ◌∷◌, length, set, refl, sym, ap, subst, ◌∙◌, Some, inl, inr, arith, get_or-set_same, get_or-set_other, length-set}
 use Rattle.std.specs.Prelude.{◌||◌, ◌&&◌, not, if◌then◌else◌, slice_index_or}
 use Rattle.std.proofs.lemmas.Bool.{cases_eq, and_parts, or_cases}
 use Rattle.r6_layout.specs.Layout.{position_at, slot_at}
@@ -20,11 +20,11 @@ use Rattle.r6_frames.specs.declared.command.Outstanding.{Outstanding}
 use Rattle.r6_frames.specs.declared.frames.HeldRow.{HeldRow}
 use Rattle.r6_frames.specs.declared.frames.FrameUse.TheVariants.{Held as HeldIn, Returning}
 use Rattle.r6_frames.specs.declared.frames.Frames.{Frames}
-use Rattle.r6_frames.specs.Views.{use_at, hold_at, held_request, requests_from, kind_in}
+use Rattle.r6_frames.specs.Views.{use_at, hold_at, held_entry, requests_by, request_at, requests_from, kind_in}
 use Rattle.r6_frames.specs.Owed.{is_unsent, owed_by, owed_in, HasOut, IsOver}
 use Rattle.r6_frames.specs.Sound.{IsHeld, IsSound, AreFrames, AreCommands, is_put_out, is_write}
 use Rattle.r6_frames.proofs.UnderWay.{held_standing}
-use Rattle.r6_frames.proofs.Held.{held_within, held_stays, use_held, use_at_own, use_at_other, apart_still, owed_at, owed_set, free_at, free_set}
+use Rattle.r6_frames.proofs.Held.{held_within, same_requests, use_held, use_at_own, use_at_other, apart_still, owed_at, owed_set, free_at, free_set}
 use Rattle.r6_frames.proofs.HeldRows.{Prepared, prepared, held_after, standing_stays, in_sync_not_out, are_prepared, prepared_owes}
 use Rattle.r6_frames.proofs.CommandComes.{with_row, sent_off, held_then, PutsOutAt}
 use Rattle.r6_frames.proofs.PuttingOut.{put_event}
@@ -62,7 +62,7 @@ module _ (fs : Frames) (frame : ℕ) (h new : HeldRow) (commands : Numbered Outs
   }
 
   pub sound_changed : IsSound fs → IsHeld fs.geometry fs.shard fs.slots new → new.row ≡ h.row → AreCommands (changed fs frame new commands) → IsSound (changed fs frame new commands)
-  sound_changed sound held same_row are = record { shape = sound.shape; shard = sound.shard; live = sound.live; frames = frames_changed held same_row sound.frames; commands = are }
+  sound_changed sound held same_row are = record { shape = sound.shape; shard = sound.shard; live = sound.live; devices = sound.devices; frames = frames_changed held same_row sound.frames; commands = are }
 
   pub owed_changed : owed_in (set fs.held.items frame (HeldIn new)) + owed_by h ≡ owed_in fs.held.items + owed_by new
   owed_changed =
@@ -70,12 +70,13 @@ module _ (fs : Frames) (frame : ℕ) (h new : HeldRow) (commands : Numbered Outs
       let was : owed_at (use_at fs.held.items frame) ≡ owed_by h = ap owed_at (use_held fs.held.items frame h is) in
       omega arith
 
-  pub requests_changed : held_request frame new ≡ held_request frame h → requests_from 0 (set fs.held.items frame (HeldIn new)) ≡ requests_from 0 fs.held.items
-  requests_changed same = held_stays 0 fs.held.items frame frame h new is (omega arith) same
+  pub requests_changed : request_at frame (HeldIn new) ≡ request_at frame (HeldIn h) → requests_from 0 (set fs.held.items frame (HeldIn new)) ≡ requests_from 0 fs.held.items
+  requests_changed same =
+      same_requests 0 fs.held.items frame frame (HeldIn new) (omega arith) (same ∙ sym (ap (request_at frame) (use_held fs.held.items frame h is)))
 
 pub request_same : (frame : ℕ) (h : HeldRow) (planned : Planned) (away : List Bool) → planned.hold.kind ≡ kind_in h
-    → held_request frame (record h { hold = record { planned = planned; away = away; class = h.hold.class } }) ≡ held_request frame h
-request_same frame h planned away same = ap (λ (k : Kind). held_request frame (record h { hold = record h.hold { planned = record h.hold.planned { hold = record h.hold.planned.hold { kind = k } } } })) same
+    → request_at frame (HeldIn (record h { hold = record { planned = planned; away = away; class = h.hold.class } })) ≡ request_at frame (HeldIn h)
+request_same frame h planned away same = ap (λ (k : Kind). map (held_entry frame) (requests_by h.job k)) same
 
 -- ---- the position of a command
 
@@ -166,7 +167,7 @@ some_out hold j below in_sync out =
 -- what a row is once its hold has put a command out at the position
 pub record HasPutOut (fs : Frames) (frame : ℕ) (h new : HeldRow) (planned : Planned) (position slot : ℕ) (kind : CommandKind) (buffer : List ℕ) : Type 0 where
   pub held : IsHeld fs.geometry fs.shard fs.slots new
-  pub request : held_request frame new ≡ held_request frame h
+  pub request : request_at frame (HeldIn new) ≡ request_at frame (HeldIn h)
   pub out : (has_read_out new.hold.planned.hold || has_write_out new.hold.planned.hold) ≡ true
   pub puts : PutsOutAt fs frame h planned position slot kind buffer
   pub fewer : owed_by new + 1 ≤ owed_by h

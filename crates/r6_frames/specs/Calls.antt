@@ -6,29 +6,40 @@ use Rattle.r6_kernels.specs.Blocks.{IsBlock}
 use Rattle.r6_layout.specs.Shape.{Shape, blocks}
 use Rattle.r6_layout.specs.Layout as layout
 use Rattle.r6_layout.specs.declared.place.Place.{Place}
-use Rattle.r6_stripe.specs.Steps.{lost}
+use Rattle.r6_recover.specs.declared.class.RowClass.{RowClass}
+use Rattle.r6_stripe.specs.Frames as buffers
+use Rattle.r6_stripe.specs.Checks.{IsEnd}
+use Rattle.r6_stripe.specs.Holds.{MayEnd}
+use Rattle.r6_stripe.specs.Plans as stripe
+use Rattle.r6_stripe.specs.Steps.{Held as StripeHold, lost, has_outcome}
+use Rattle.r6_stripe.specs.declared.command.Outcome.{Outcome as End}
+use Rattle.r6_stripe.specs.declared.command.Outcome.TheVariants as end
 use Rattle.r6_tables.specs.Table.{next_of}
 use Rattle.r6_world.specs.Tables.{put}
 use Rattle.r6_world.specs.PlainArray as world
 use Rattle.r6_world.specs.PlainArray.{Block}
 use Rattle.r6_world.specs.Layouts.{Layout, IsRowOf}
 use Rattle.r6_world.specs.Geometries.{layout_of}
-use Rattle.r6_world.specs.Tasks.{Hold}
+use Rattle.r6_world.specs.Tasks.{Hold, Task, Outcome, Classed, Skipped, end_of}
 use Rattle.r6_world.specs.ShardStates as shards
 use Rattle.r6_world.specs.ShardStates.{Shard, Held, LossOf, frames, begun}
-use Rattle.r6_world.specs.Changes.{Change, Ask, Prepare, Send, Come_home, Lose, Finish, abandoned_if, taken_out, after, Allowed}
+use Rattle.r6_world.specs.Changes.{Change, Ask, Prepare, Classify, Send, Come_home, Lose, Finish, abandoned_if, taken_out, after, Allowed}
 use Rattle.r6_world.specs.Steps.{Event, No_command, Take_command, Step, Through, Takes, Good, Taken}
 use Rattle.r6_frames.specs.declared.op.Op.{Op}
 use Rattle.r6_frames.specs.declared.op.Request.{Request}
 use Rattle.r6_frames.specs.declared.command.Command.{Command}
 use Rattle.r6_frames.specs.declared.command.Outstanding.{Outstanding}
+use Rattle.r6_frames.specs.declared.finish.Ended.{Ended}
+use Rattle.r6_frames.specs.declared.finish.Ended.TheVariants as ended
+use Rattle.r6_frames.specs.declared.frames.Scrub.{Scrub}
+use Rattle.r6_frames.specs.declared.frames.Job.TheVariants as job
 use Rattle.r6_frames.specs.declared.frames.HeldRow.{HeldRow}
 use Rattle.r6_frames.specs.declared.frames.FrameUse.{FrameUse}
 use Rattle.r6_frames.specs.declared.frames.FrameUse.TheVariants as uses
 use Rattle.r6_frames.specs.declared.slots.Device.{Device}
 use Rattle.r6_frames.specs.Slots.{state_of, states_of, is_abandoned}
 use Rattle.r6_frames.specs.declared.frames.Frames.{Frames}
-use Rattle.r6_frames.specs.Views.{op_of, buffer_of, outcome_of, task_for, held_for, plan_in, use_at, hold_at, held_requests, outstanding, world_command, Rest, shard_with, AreLive}
+use Rattle.r6_frames.specs.Views.{op_of, buffer_of, outcome_of, task_for, scrub_task, requests_by, kind_in, held_for, plan_in, use_at, hold_at, held_requests, outstanding, world_command, Rest, shard_with, AreLive}
 use Rattle.r6_frames.specs.Owed.{owed}
 
 -- a relation of two shards, whatever they have beside their frames
@@ -59,11 +70,16 @@ HandsOver old result new =
     MatchOption result (Steps old No_command new)
     (λ c. (frame : ℕ) × (abandoned : Bool) × Steps old (Take_command c.token (world_command frame abandoned c)) new)
 
--- the good completion of a command is taken
+-- the row of a scrub that has been read as a whole has its class
+abbrev pub Classifies : Change → Type 0
+Classifies (Classify frame h class) = record {}
+Classifies change = ⊥
+
+-- the good completion of a command is taken; with the last block of a scrub the row is classified
 abbrev pub Answers : Frames → (token : ℕ) → Block → Frames → Type 0
 Answers old token block new =
     Between (λ l n s s'. (change : Change) × Takes token (Good block) Taken change × Allowed l n s change
-    × (s' ≡ after l s change)) old new
+    × Through l n Classifies (after l s change) s') old new
 
 -- the buffer of an abandoned command comes home
 abbrev pub ComesHome : Frames → (token : ℕ) → Frames → Type 0
@@ -108,11 +124,20 @@ SeesFailure old new =
     Between (λ l n s s'. s' ≡ record s { saw_failed = true; command = λ token. abandoned_if true (s.command token) })
     old new
 
--- a held row is told of the loss of a slot
-abbrev pub told_use : Shape → (slot : ℕ) → FrameUse → FrameUse
-told_use shape slot uses.Free = uses.Free
-told_use shape slot (uses.Held h) = uses.Held (record h { hold = lost h.hold (layout.position_at shape h.row slot) })
-told_use shape slot (uses.Returning r) = uses.Returning r
+-- a held row hears of the loss of a slot, or doesn't
+abbrev pub told_row : (hears : Bool) → Shape → (slot : ℕ) → HeldRow → HeldRow
+told_row true shape slot h = record h { hold = lost h.hold (layout.position_at shape h.row slot) }
+told_row false shape slot h = h
+
+-- it does if the slot's device was in sync for it
+abbrev pub hears : (was : shards.SlotState) → HeldRow → Bool
+hears was h = stripe.is_in_sync (shards.standing_of was h.row)
+
+-- a held row is told of the loss of a slot that had this device
+abbrev pub told_use : Shape → (was : shards.SlotState) → (slot : ℕ) → FrameUse → FrameUse
+told_use shape was slot uses.Free = uses.Free
+told_use shape was slot (uses.Held h) = uses.Held (told_row (hears was h) shape slot h)
+told_use shape was slot (uses.Returning r) = uses.Returning r
 
 -- each held row is one of the array, as wide as the array
 abbrev pub AreHeldRows : Shape → List FrameUse → Type 0
@@ -120,17 +145,12 @@ AreHeldRows shape held =
     (frame : ℕ) (h : HeldRow) → hold_at held frame ≡ Some h
     → (h.row < shape.rows) × (length h.hold.planned.hold.cells ≡ shape.slots)
 
--- unless the slot was out before
-abbrev pub heard : (out : Bool) → Shape → (slot : ℕ) → FrameUse → FrameUse
-heard true shape slot u = u
-heard false shape slot u = told_use shape slot u
-
 -- the slot has another device, the held rows have heard of the loss of the one before, and whether holds go on is known
 pub record IsWithout (old : Frames) (slot : ℕ) (device : Device) (new : Frames) : Type 0 where
   pub held : Vec FrameUse
   pub live : Bool
   pub goes_on : IsTrue live ↔ AreLive new
-  pub told : held.items ≡ map (heard (shards.is_away (states_of old.slots slot)) old.geometry slot) old.held.items
+  pub told : held.items ≡ map (told_use old.geometry (states_of old.slots slot) slot) old.held.items
   pub same :
       new
       ≡ record old {
@@ -186,6 +206,13 @@ pub record IsWith (few : List (ℕ × shards.Request)) (frame : ℕ) (entry : �
 abbrev pub entry_of : ℕ → Request → ℕ × shards.Request
 entry_of frame request = (request.id, record { op = op_of request.op; stage = Held frame })
 
+-- the frame holds the row, and nothing else changes
+pub record Holds (old : Frames) (frame : ℕ) (h : HeldRow) (new : Frames) : Type 0 where
+  pub held : Vec FrameUse
+  pub spare : Vec buffers.Shape
+  pub put : held.items ≡ slice_set old.held.items frame (uses.Held h)
+  pub same : new ≡ record old { held = held; spare = spare }
+
 -- the row of the request's block is held in the frame, and its hold begins
 abbrev pub begun_for : Frames → Request → Hold
 begun_for fs request =
@@ -196,20 +223,88 @@ pub record Begins (old : Frames) (frame : ℕ) (request : Request) (new : Frames
   pub requests : IsWith (held_requests old) frame (entry_of frame request) (held_requests new)
   pub shard : Between (λ l n s s'. s' ≡ record s { frame = put s.frame frame (Some (begun_for old request)) }) old new
 
--- the frame's hold ends, and answers the request
-pub record Ends (old : Frames) (frame : ℕ) (request : Request) (new : Frames) : Type 0 where
-  pub requests : IsWith (held_requests new) frame (entry_of frame request) (held_requests old)
-  pub hold : Hold
-  pub task : hold.task ≡ task_for request.id request.op
-  pub may : Between (λ l n s s'. Allowed l n s (Finish frame hold (outcome_of request.op))) old new
-  pub shard : Between (λ l n s s'. s' ≡ record s { frame = put s.frame frame None }) old new
-  pub sized : HasOneBlock old.geometry request
+-- every slot is in sync for the row
+abbrev pub AreAllInSync : Frames → (row : ℕ) → Type 0
+AreAllInSync fs row = (slot : ℕ) → slot < fs.geometry.slots
+    → stripe.is_in_sync (shards.standing_of (states_of fs.slots slot) row) ≡ true
 
--- the frame's hold ends as it stands, and its request with it
-pub record GivesUp (old : Frames) (frame : ℕ) (request : Request) (new : Frames) : Type 0 where
-  pub requests : IsWith (held_requests new) frame (entry_of frame request) (held_requests old)
+-- the row is held in the frame for a scrub, and its hold begins
+pub record BeginsScrub (old : Frames) (frame : ℕ) (scrub : Scrub) (row : ℕ) (new : Frames) : Type 0 where
+  pub requests : held_requests new ≡ held_requests old
+  pub shard :
+      Between (λ l n s s'. s' ≡ record s { frame = put s.frame frame (Some (begun l s.slot row (scrub_task scrub))) })
+      old new
+
+-- ---- holds end
+
+-- what the hold was for, by the world, and how it has ended
+abbrev pub ended_task : Ended → Task
+ended_task (ended.Request request) = task_for request.id request.op
+ended_task (ended.Classed scrub class) = scrub_task scrub
+ended_task (ended.Skipped scrub) = scrub_task scrub
+
+abbrev pub ended_outcome : Ended → Outcome
+ended_outcome (ended.Request request) = outcome_of request.op
+ended_outcome (ended.Classed scrub class) = Classed class
+ended_outcome (ended.Skipped scrub) = Skipped
+
+-- the row was held for this
+abbrev pub IsEndedOf : HeldRow → Ended → Type 0
+IsEndedOf h (ended.Request request) =
+    (requests_by h.job (kind_in h) ≡ (request.id, op_of request.op) ∷ [])
+    × (length (buffer_of request.op) ≡ h.hold.planned.hold.size)
+IsEndedOf h (ended.Classed scrub class) = h.job ≡ job.Scrub scrub
+IsEndedOf h (ended.Skipped scrub) = h.job ≡ job.Scrub scrub
+
+-- how a scrub has ended whose hold ends so
+abbrev pub ended_by : Scrub → Option End → Ended
+ended_by scrub None = ended.Skipped scrub
+ended_by scrub (Some end.Done) = ended.Skipped scrub
+ended_by scrub (Some end.Rebuilt) = ended.Skipped scrub
+ended_by scrub (Some (end.Classed class)) = ended.Classed scrub class
+ended_by scrub (Some end.GivenUp) = ended.Skipped scrub
+
+-- the class is the one that the hold has found
+abbrev pub SaysClass : Option RowClass → Ended → Type 0
+SaysClass found (ended.Request request) = Unit {0}
+SaysClass found (ended.Classed scrub class) = found ≡ Some class
+SaysClass found (ended.Skipped scrub) = Unit {0}
+
+-- what a hold that is over was told of its end
+abbrev pub IsTold : StripeHold → Option End → Type 0
+IsTold hold None = has_outcome hold.planned ≡ false
+IsTold hold (Some e) = IsEnd (stripe.outcome_of hold.planned.hold hold.planned.hold.kind) hold.class e
+
+-- of a hold that is over and may end it is its end
+abbrev pub TellsEnd : StripeHold → Ended → Type 0
+TellsEnd hold e =
+    let outcome = stripe.outcome_of hold.planned.hold hold.planned.hold.kind in
+    MayEnd hold.planned.hold outcome → has_outcome hold.planned ≡ true
+    → (end_of (ended_outcome e) ≡ outcome) × SaysClass hold.class e
+
+-- the request that has ended is held no more, and its buffer is one block; a scrub has none
+abbrev pub Leaves : Frames → (frame : ℕ) → Ended → Frames → Type 0
+Leaves old frame (ended.Request request) new =
+    IsWith (held_requests new) frame (entry_of frame request) (held_requests old) × HasOneBlock old.geometry request
+Leaves old frame (ended.Classed scrub class) new = held_requests new ≡ held_requests old
+Leaves old frame (ended.Skipped scrub) new = held_requests new ≡ held_requests old
+
+-- the frame's hold ends
+pub record Ends (old : Frames) (frame : ℕ) (ended : Ended) (new : Frames) : Type 0 where
+  pub leaves : Leaves old frame ended new
+  pub hold : Hold
+  pub task : hold.task ≡ ended_task ended
+  pub may : Between (λ l n s s'. Allowed l n s (Finish frame hold (ended_outcome ended))) old new
   pub shard : Between (λ l n s s'. s' ≡ record s { frame = put s.frame frame None }) old new
-  pub sized : HasOneBlock old.geometry request
+
+-- the frame's hold ends as it stands
+pub record GivesUp (old : Frames) (frame : ℕ) (ended : Ended) (new : Frames) : Type 0 where
+  pub leaves : Leaves old frame ended new
+  pub shard : Between (λ l n s s'. s' ≡ record s { frame = put s.frame frame None }) old new
+
+-- and it was a scrub's
+abbrev pub GivesScrubUp : Frames → ℕ → Frames → Type 0
+GivesScrubUp old frame new = (scrub : Scrub) × GivesUp old frame (ended.Skipped scrub) new
 
 -- ---- what a call leaves
 

@@ -9,7 +9,7 @@ use Rattle.r6_frames.specs.declared.frames.HeldRow.{HeldRow}
 use Rattle.r6_frames.specs.declared.frames.FrameUse.{FrameUse}
 use Rattle.r6_frames.specs.declared.frames.FrameUse.TheVariants as uses
 use Rattle.r6_frames.specs.declared.frames.Frames.{Frames}
-use Rattle.r6_frames.specs.Views.{hold_at, served_in}
+use Rattle.r6_frames.specs.Views.{hold_at, rank_of}
 
 -- ---- commands and ends
 
@@ -21,16 +21,17 @@ IsDriven fs frame = (h : HeldRow) → hold_at fs.held.items frame ≡ Some h →
 abbrev pub IsOver : Frames → ℕ → Type 0
 IsOver fs frame = (h : HeldRow) × (hold_at fs.held.items frame ≡ Some h) × (has_outcome h.hold.planned ≡ true)
 
--- it may, and its request has this number
-abbrev pub IsOverWith : Frames → ℕ → (id : ℕ) → Type 0
-IsOverWith fs frame id = IsOver fs frame × ((h : HeldRow) → hold_at fs.held.items frame ≡ Some h → (served_in h.job).id ≡ id)
+-- it may, and its row has this rank
+abbrev pub IsOverWith : Frames → ℕ → (rank : ℕ) → Type 0
+IsOverWith fs frame rank =
+    IsOver fs frame × ((h : HeldRow) → hold_at fs.held.items frame ≡ Some h → rank_of h.job ≡ rank)
 
--- of the frames that may end, this one has the request with the lowest number
+-- of the frames that may end, this one has the oldest request, or none has one
 abbrev pub IsLowestOver : Frames → ℕ → Type 0
 IsLowestOver fs frame =
     IsOver fs frame
     × ((other : ℕ) (h i : HeldRow) → IsOver fs other → hold_at fs.held.items frame ≡ Some h
-    → hold_at fs.held.items other ≡ Some i → (served_in h.job).id ≤ (served_in i.job).id)
+    → hold_at fs.held.items other ≡ Some i → rank_of h.job ≤ rank_of i.job)
 
 -- a command of the frame's hold is put out that is neither answered nor abandoned
 abbrev pub HasOut : Frames → ℕ → Type 0

@@ -1,22 +1,24 @@
 -- What a frame is used for: a hold that begins in it, and buffers that come home to it.
-use Rattle.std.specs.Prelude.{◌≡◌, ℕ, if◌then◌else◌, Bool, true, false, List, [], ◌∷◌, length, replicate}
+use Rattle.std.specs.Prelude.{◌≡◌, ℕ, if◌then◌else◌, Bool, true, List, [], ◌∷◌, length, replicate}
 use Rattle.std.specs.List.{list_any}
 use Rattle.r6_layout.specs.Shape.{Shape}
 use Rattle.r6_layout.specs.Layout as layout
 use Rattle.r6_stripe.specs.Frames as buffers
-use Rattle.r6_stripe.specs.Holds.{wants_all}
+use Rattle.r6_stripe.specs.Holds.{cell_at}
 use Rattle.r6_stripe.specs.Holds.Kind.{Idle}
+use Rattle.r6_stripe.specs.Plans.{is_out}
 use Rattle.r6_stripe.specs.Steps.{Held, begun_held, answered, is_away}
 use Rattle.r6_stripe.specs.Views.{kind_of_task}
 use Rattle.r6_stripe.specs.declared.command.Task.{Task as RowTask}
 use Rattle.r6_world.specs.PlainArray.{Block, block_of}
 use Rattle.r6_world.specs.Layouts.{first}
 use Rattle.r6_frames.specs.declared.op.Request.{Request}
+use Rattle.r6_frames.specs.declared.frames.Job.{Job}
 use Rattle.r6_frames.specs.declared.frames.HeldRow.{HeldRow}
 use Rattle.r6_frames.specs.declared.frames.FrameUse.{FrameUse}
 use Rattle.r6_frames.specs.declared.frames.FrameUse.TheVariants as uses
 use Rattle.r6_frames.specs.declared.frames.Frames.{Frames}
-use Rattle.r6_frames.specs.Views.{op_of, job_for, row_task, kind_in, is_synced_at}
+use Rattle.r6_frames.specs.Views.{op_of, row_task, is_synced_at}
 
 abbrev pub none_held : ℕ → List FrameUse
 none_held n = replicate n uses.Free
@@ -30,7 +32,7 @@ IsForRow shape frame = frame ≡ record { count = shape.slots; size = shape.bloc
 abbrev pub block_in : Request → ℕ
 block_in request = block_of (op_of request.op)
 
--- what the hold of a request is asked to do
+-- what the hold of a request is asked to do, and on which row
 abbrev pub task_in : Shape → Request → RowTask
 task_in shape request = row_task (layout.index_of shape (block_in request)) request.op
 
@@ -41,14 +43,14 @@ row_of fs request = layout.row_of fs.geometry (block_in request)
 abbrev pub synced : Frames → ℕ → List Bool
 synced fs row = first fs.geometry.slots (is_synced_at fs row)
 
--- the row of the request's block as its hold begins
-abbrev pub begun_row : Frames → Request → HeldRow
-begun_row fs request =
+-- the row as its hold begins
+abbrev pub begun_row : Frames → (row : ℕ) → Job → RowTask → HeldRow
+begun_row fs row what task =
     record {
-      row = row_of fs request;
-      first = layout.slot_at fs.geometry (row_of fs request) 0;
-      job = job_for request.id request.op;
-      hold = begun_held fs.geometry.block (synced fs (row_of fs request)) (kind_of_task (task_in fs.geometry request));
+      row = row;
+      first = layout.slot_at fs.geometry row 0;
+      job = what;
+      hold = begun_held fs.geometry.block (synced fs row) (kind_of_task task);
     }
 
 -- ---- a hold has ended
@@ -70,7 +72,7 @@ spared hold = if has_away hold then [] else record { count = length hold.planned
 abbrev pub AwaitsBuffer : FrameUse → (position : ℕ) → Block → Type 0
 AwaitsBuffer uses.Free position block = ⊥
 AwaitsBuffer (uses.Held h) position block = (is_away h.hold position ≡ true)
-    × (length block ≡ h.hold.planned.hold.size) × (wants_all (kind_in h) ≡ false)
+    × (length block ≡ h.hold.planned.hold.size) × (is_out (cell_at h.hold.planned.hold.cells position).standing ≡ true)
 AwaitsBuffer (uses.Returning r) position block = (is_away r position ≡ true) × (length block ≡ r.planned.hold.size)
     × (r.planned.hold.kind ≡ Idle)
 

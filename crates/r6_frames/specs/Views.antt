@@ -1,5 +1,5 @@
 -- Which frames, commands and requests of the world's shard these are.
-use Rattle.std.specs.Prelude.{◌≡◌, ℕ, ◌+◌, ◌≤◌, nat_lt, not, Bool, false, List, [], ◌∷◌, ◌++◌, slice_index_or, Option, Some, None, option_map}
+use Rattle.std.specs.Prelude.{◌≡◌, ℕ, ◌+◌, ◌≤◌, nat_lt, Bool, true, false, List, [], ◌∷◌, ◌++◌, map, slice_index_or, Option, Some, None, option_map}
 use Rattle.std.specs.FinMap as finite
 use Rattle.r6_layout.specs.Layout as layout
 use Rattle.r6_stripe.specs.Holds.{Kind}
@@ -12,8 +12,7 @@ use Rattle.r6_stripe.specs.declared.command.RowCommand.TheVariants as stripe
 use Rattle.r6_tables.specs.Table.{entries_of, next_of}
 use Rattle.r6_world.specs.PlainArray as world
 use Rattle.r6_world.specs.PlainArray.{Block}
-use Rattle.r6_world.specs.Geometries.{layout_of}
-use Rattle.r6_world.specs.Tasks.{Task, ReadFor, WriteFor, Hold, Outcome, Answered, Wrote}
+use Rattle.r6_world.specs.Tasks.{Task, ReadFor, WriteFor, Check, Repair, Hold, Outcome, Answered, Wrote}
 use Rattle.r6_world.specs.ShardStates as shards
 use Rattle.r6_world.specs.ShardStates.{Shard, Held, Transfer, Fetch, Store, Storing, Call}
 use Rattle.r6_frames.specs.declared.op.Op.{Op}
@@ -24,7 +23,8 @@ use Rattle.r6_frames.specs.declared.command.CommandKind.TheVariants as command
 use Rattle.r6_frames.specs.declared.command.Outstanding.{Outstanding}
 use Rattle.r6_frames.specs.declared.frames.Job.{Job}
 use Rattle.r6_frames.specs.declared.frames.Job.TheVariants as job
-use Rattle.r6_frames.specs.declared.frames.Served.{Served}
+use Rattle.r6_frames.specs.declared.frames.Scrub.{Scrub}
+use Rattle.r6_frames.specs.declared.frames.Scrub.TheVariants as scrub
 use Rattle.r6_frames.specs.declared.frames.HeldRow.{HeldRow}
 use Rattle.r6_frames.specs.declared.frames.FrameUse.{FrameUse}
 use Rattle.r6_frames.specs.declared.frames.FrameUse.TheVariants as uses
@@ -73,18 +73,35 @@ new_data_of (RebuildKind target) = []
 new_data_of CheckKind = []
 new_data_of RepairKind = []
 
-abbrev pub served_in : Job → Served
-served_in (job.Read served buffer) = served
-served_in (job.Write served) = served
+-- the task of a scrub, in the world and by the rules of one row
+abbrev pub scrub_task : Scrub → Task
+scrub_task scrub.Check = Check
+scrub_task scrub.Repair = Repair
+
+abbrev pub scrub_kind : Scrub → Kind
+scrub_kind scrub.Check = CheckKind
+scrub_kind scrub.Repair = RepairKind
+
+abbrev pub scrub_row_task : Scrub → RowTask
+scrub_row_task scrub.Check = asks.Check
+scrub_row_task scrub.Repair = asks.Repair
+
+abbrev pub is_scrub : Job → Bool
+is_scrub (job.Read served buffer) = false
+is_scrub (job.Write served) = false
+is_scrub (job.Scrub scrub) = true
+
+-- in which order holds end that are over together: from the oldest request to the newest, and then scrubs
+abbrev pub rank_of : Job → ℕ
+rank_of (job.Read served buffer) = served.id
+rank_of (job.Write served) = served.id
+rank_of (job.Scrub scrub) = 18446744073709551615
 
 abbrev pub task_by : Job → Kind → Task
 task_by (job.Read served buffer) kind = ReadFor served.id served.block
 task_by (job.Write served) kind =
     WriteFor (record { id = served.id; block = served.block; new_data = new_data_of kind } ∷ [])
-
-abbrev pub op_by : Job → Kind → world.Op
-op_by (job.Read served buffer) kind = world.Op.Read served.block
-op_by (job.Write served) kind = world.Op.Write served.block (new_data_of kind)
+task_by (job.Scrub scrub) kind = scrub_task scrub
 
 abbrev pub kind_in : HeldRow → Kind
 kind_in h = h.hold.planned.hold.kind
@@ -117,12 +134,17 @@ abbrev pub frame_of : Frames → ℕ → Option Hold
 frame_of fs frame = option_map hold_of (hold_at fs.held.items frame)
 
 -- the requests that rows are held for, each with its number, in the order of the frames
-abbrev pub held_request : ℕ → HeldRow → ℕ × shards.Request
-held_request frame h = ((served_in h.job).id, record { op = op_by h.job (kind_in h); stage = Held frame })
+abbrev pub requests_by : Job → Kind → List (ℕ × world.Op)
+requests_by (job.Read served buffer) kind = (served.id, world.Op.Read served.block) ∷ []
+requests_by (job.Write served) kind = (served.id, world.Op.Write served.block (new_data_of kind)) ∷ []
+requests_by (job.Scrub scrub) kind = []
+
+abbrev pub held_entry : ℕ → ℕ × world.Op → ℕ × shards.Request
+held_entry frame request = (request.0, record { op = request.1; stage = Held frame })
 
 abbrev pub request_at : ℕ → FrameUse → List (ℕ × shards.Request)
 request_at frame uses.Free = []
-request_at frame (uses.Held h) = held_request frame h ∷ []
+request_at frame (uses.Held h) = map (held_entry frame) (requests_by h.job (kind_in h))
 request_at frame (uses.Returning hold) = []
 
 abbrev pub requests_from : ℕ → List FrameUse → List (ℕ × shards.Request)
@@ -132,9 +154,9 @@ requests_from frame (u ∷ held) = request_at frame u ++ requests_from (frame + 
 abbrev pub held_requests : Frames → List (ℕ × shards.Request)
 held_requests fs = requests_from 0 fs.held.items
 
--- the device at the position of the row is in sync
+-- the device at the position of the row is in sync for it
 abbrev pub is_synced_at : Frames → (row position : ℕ) → Bool
-is_synced_at fs row position = not (shards.is_away (states_of fs.slots (layout.slot_at fs.geometry row position)))
+is_synced_at fs row position = plans.is_in_sync (shards.standing_of (states_of fs.slots (layout.slot_at fs.geometry row position)) row)
 
 -- ---- commands
 
@@ -175,15 +197,16 @@ outstanding fs token = finite.get (entries_of fs.commands) token
 
 -- ---- the shard
 
-abbrev pub no_counts : shards.Counts
-no_counts = record { consistent = 0; wrong_p = 0; wrong_q = 0; wrong_data = 0; many = 0; skipped = 0; repaired = 0; rebuilt = 0 }
-
--- what a shard has beside its frames: its requests, and the calls that it has to make at the register
+-- what a shard has beside its frames: its requests, the calls that it has to make at the register, and how far its
+-- checks and repairs are and what they have counted
 pub record Rest : Type 0 where
   pub accepted : ℕ
   pub request : ℕ → Option shards.Request
   pub calls : List Call
   pub untold : Option Call
+  pub check_row : ℕ
+  pub repair_row : ℕ
+  pub counts : shards.Counts
 
 abbrev pub shard_with : Rest → Frames → Shard
 shard_with rest fs =
@@ -197,9 +220,9 @@ shard_with rest fs =
       calls = rest.calls;
       untold = rest.untold;
       saw_failed = fs.saw_failed;
-      check_row = (layout_of fs.geometry).first_row fs.shard;
-      repair_row = (layout_of fs.geometry).first_row fs.shard;
-      counts = no_counts;
+      check_row = rest.check_row;
+      repair_row = rest.repair_row;
+      counts = rest.counts;
     }
 
 -- holds go on: at most two slots are out, and no look has seen that the array failed

@@ -22,7 +22,7 @@ loop-slot-preserved c =
     let state = states_of mid.frames.slots slot in
     let lt = c.loop-slot-test.true in
     let geometry = ap (λ g. g.slots) inv.same.0 in
-    let count = ap (λ (shape : Shape). shape.slots) c.geometry.ensures in
+    let count = ap (λ (shape : Shape). shape.slots) c.geometry-2.ensures in
     let here : state_of c.device.result ≡ state = ap state_of c.device.ensures in
     elim c.match-renewed.branch [
       | in-Some w ↦
@@ -30,7 +30,7 @@ loop-slot-preserved c =
           let other : differs state (status_of seen slot) ≡ true = ap (differs state) (sym c.slot.ensures.value) ∙ ap (λ x. differs x c.slot.result) (sym here) ∙ sym c.renewed.ensures.differs ∙ ap is_some w.in-Some.is in
           let becomes = w.in-Some.ensures.device.0 ∙ ap (λ x. adopted x c.slot.result) here ∙ ap (adopted state) c.slot.ensures.value in
           let out = adopting_out s mid seen slot c.loop-slot.went_out w.in-Some.device w.take_out.new.self c.requires.told inv
-          (omega (arith, lt, c.slots-slot-end.ensures.value, count, geometry)) other becomes took.takes took.sound (ap next_of took.commands.0) took.owed took.requests in
+          (omega (arith, lt, c.slots-slot-end.ensures.value, count, geometry)) other becomes took.takes took.sound (ap next_of took.commands.0) took.owed took.requests took.rows in
           subst (λ (x : State). IsAdopting s x seen (slot + 1) c.match-renewed.went_out) (sym w.self-is)
           (subst (λ (b : Bool). IsAdopting s (record mid { frames = w.take_out.new.self }) seen (slot + 1) b) (sym w.went_out-is) out)
       | in_default w ↦
@@ -43,11 +43,11 @@ loop-slot-preserved c =
 
 pub returns-clause-slots : goal.returns-clause-slots
 returns-clause-slots c =
-    adopted_all c.args.self.now c.loop-slot.self c.args.snapshot.now c.loop-slot.slot c.loop-slot.went_out c.loop-slot.invariant (omega (arith, c.slots-slot-end.ensures.value, ap (λ (shape : Shape). shape.slots) c.geometry.ensures, c.loop-slot-test.false))
+    adopted_all c.args.self.now c.loop-slot.self c.args.snapshot.now c.loop-slot.slot c.loop-slot.went_out c.loop-slot.invariant (omega (arith, c.slots-slot-end.ensures.value, ap (λ (shape : Shape). shape.slots) c.geometry-2.ensures, c.loop-slot-test.false))
 
 pub returns-clause-none : goal.returns-clause-none
 returns-clause-none c =
-    adopted_none c.args.self.now c.loop-slot.self c.args.snapshot.now c.loop-slot.slot c.loop-slot.went_out c.loop-slot.invariant (omega (arith, c.slots-slot-end.ensures.value, ap (λ (shape : Shape). shape.slots) c.geometry.ensures, c.loop-slot-test.false))
+    adopted_none c.args.self.now c.loop-slot.self c.args.snapshot.now c.loop-slot.slot c.loop-slot.went_out c.loop-slot.invariant (omega (arith, c.slots-slot-end.ensures.value, ap (λ (shape : Shape). shape.slots) c.geometry-2.ensures, c.loop-slot-test.false))
 
 pub returns-clause-some : goal.returns-clause-some
 returns-clause-some c = adopted_some c.args.self.now c.loop-slot.self c.args.snapshot.now c.loop-slot.slot c.loop-slot.went_out c.loop-slot.invariant

@@ -1,10 +1,10 @@
-use Rattle.std.proofs.Common.{◌≡◌, ◌+◌, ◌∷◌, ◌≤◌, drop, length, sym, ap, subst, ◌∙◌, arith}
+use Rattle.std.proofs.Common.{inl, inr, ◌+◌, ◌∷◌, ◌≤◌, drop, length, sym, ap, subst, ◌∙◌, arith}
 use Rattle.circular_buffer.specs.Buffer.{Buffer}
 use Rattle.r6_frames.specs.declared.op.Request.{Request}
 use Rattle.r6_core.specs.declared.state.State.{State}
 use Rattle.r6_frames.specs.declared.frames.Frames.{Frames}
 use Rattle.r6_core.proofs.Replies.{some_popped}
-use Rattle.r6_core.proofs.Gathering.{IsGathering, gathering_none, gathering_waiting, gathering_held, gathering_skips, gathered, replies_room, some_waits, some_held}
+use Rattle.r6_core.proofs.Gathering.{IsGathering, gathering_none, gathering_waiting, gathering_held, gathering_scrub, gathering_skips, gathered, replies_room, some_waits, some_held}
 use Rattle.r6_core.proofs.state.State.gather.Goals as goal
 use Rattle.r6_core.proofs.state.State.gather.Goals.{in-Some-give_up+in-Ok-try_push_back, in_default-give_up}
 
@@ -35,7 +35,7 @@ pub unreachable-requires-in_default-try_push_back-2 :
 unreachable-requires-in_default-try_push_back-2 c =
     let mid = c.loop-frame.self in
     let gives = c.in-Some-give_up.ensures.gives in
-    let room = replies_room c.args.self.now mid c.loop-frame.frame c.requires.sound c.loop-frame.invariant.gathering (some_held mid _ c.loop-frame.frame c.in-Some-give_up.request gives.requests) in
+    let room = replies_room c.args.self.now mid c.loop-frame.frame c.requires.sound c.loop-frame.invariant.gathering (some_held mid _ c.loop-frame.frame c.in-Some-give_up.request gives.leaves.0) in
     let no = c.in_default-try_push_back-2.ensures.variant.1 room in
     absurd (cc)
 
@@ -61,11 +61,14 @@ loop-frame-preserved c =
           }
       | in_default-give_up w ↦
           let gives = w.in_default-give_up.ensures.gives in
-          let stays : c.match-give_up.self ≡ mid = w.self-is ∙ ap (λ (x : Frames). record mid { frames = x }) gives.1 in
-          let is : IsGathering s mid (count + 1) = gathering_skips s mid count inv.gathering gives.0 in
+          let new : State = record mid { frames = fs } in
+          let is : IsGathering s new (count + 1) = elim gives [
+            | inl none ↦ subst (λ (x : Frames). IsGathering s (record mid { frames = x }) (count + 1)) (sym none.1) (gathering_skips s mid count inv.gathering none.0)
+            | inr scrub ↦ gathering_scrub s mid count fs inv.gathering left.sound left.stopped scrub left.others left.none left.owed.0
+          ] in
           record {
-            gathering = subst (λ (x : State). IsGathering s x (count + 1)) (sym stays) is;
-            none_waiting = ap (λ (x : State). x.waiting.items) stays ∙ inv.none_waiting;
+            gathering = subst (λ (x : State). IsGathering s x (count + 1)) (sym w.self-is) is;
+            none_waiting = ap (λ (x : State). x.waiting.items) w.self-is ∙ inv.none_waiting;
           }
     ]
 

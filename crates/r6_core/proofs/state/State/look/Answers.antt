@@ -178,3 +178,6 @@ start_waiting-requires-clause-freed c =
           (subst (λ (fs : Frames). AllByRecursion (CannotStart fs) new.waiting.items) (sym frames)
           (subst (λ (b : Buffer Request). AllByRecursion (CannotStart s.frames) b.items) (sym waiting) c.requires.waits))
     ]
+
+pub returns-clause-told : goal.returns-clause-told
+returns-clause-told c = told_of c.args.self.now (sym c.is_empty.ensures ∙ c.if-not-is_empty.false) (sym c.is_some.ensures ∙ c.if-is_some.false)

@@ -4,7 +4,7 @@ use Rattle.r6_core.proofs.state.State.see_failure.Goals as goal
 pub gather-requires-clause-sound : goal.gather-requires-clause-sound
 gather-requires-clause-sound c =
     let seen = c.see_failure.ensures in
-    seen_sound c.args.self.now c.see_failure.new.self c.requires seen.sees seen.commands seen.owed seen.requests seen.sound
+    seen_sound c.args.self.now c.see_failure.new.self c.requires seen.sees seen.commands seen.owed seen.requests seen.holds seen.sound
 
 pub sort_behind-requires : goal.sort_behind-requires
 sort_behind-requires c = marked_within c.args.self.now c.gather.new.self c.see_failure.new.self c.requires c.gather.ensures.gathers

@@ -5,7 +5,7 @@ pub loop-frame-init : goal.loop-frame-init
 loop-frame-init c =
     let drive = c.drive_all.ensures in
     let s = c.args.self.now in
-    settling s c.drive_all.new.self (driven_goes s c.drive_all.new.self c.requires (c.is_live.ensures.0 c.if-not-is_live.false) drive.sound drive.live drive.drives drive.requests drive.owed) drive.drives c.requires drive.live drive.driven
+    settling s c.drive_all.new.self (driven_goes s c.drive_all.new.self c.requires (c.is_live.ensures.0 c.if-not-is_live.false) drive.sound drive.live drive.drives drive.requests drive.rows drive.owed) drive.drives c.requires drive.live drive.driven
 
 pub loop-frame-smaller : goal.loop-frame-smaller
 loop-frame-smaller c =

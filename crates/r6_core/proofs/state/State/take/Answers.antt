@@ -15,7 +15,7 @@ returns-then-is_abandoned-clause-settled c =
 pub returns-then-is_abandoned-clause-takes : goal.returns-then-is_abandoned-clause-takes
 returns-then-is_abandoned-clause-takes c =
     let home = c.come_home.ensures in
-    late_takes c.args.self.now c.args.token c.come_home.new.self c.requires.core.settled home.sound home.comes home.owed home.requests c.args.completion
+    late_takes c.args.self.now c.args.token c.come_home.new.self c.requires.core.settled home.sound home.comes home.owed home.requests home.holds c.args.completion
 
 pub returns-then-is_abandoned-clause-order : goal.returns-then-is_abandoned-clause-order
 returns-then-is_abandoned-clause-order c = finishes_none c.args.completion c.args.self.now c.come_home.new.self
@@ -33,4 +33,4 @@ lose-requires-clause-awaited c = awaited c.args.self.now.frames c.args.token c.r
 pub returns-then-is_abandoned-clause-freed : goal.returns-then-is_abandoned-clause-freed
 returns-then-is_abandoned-clause-freed c =
     let home = c.come_home.ensures in
-    late_freed c.args.self.now c.args.token c.come_home.new.self c.requires.core.settled home.sound home.comes home.owed home.requests home.others c.requires.core.waits
+    late_freed c.args.self.now c.args.token c.come_home.new.self c.requires.core.settled home.sound home.comes home.owed home.requests home.holds home.others c.requires.core.waits

@@ -2,10 +2,7 @@ use Rattle.std.proofs.Common.{◌+◌, ◌%◌, arith, sym, ap, ◌∙◌}
 use Rattle.std.specs.Vec.{with_item}
 use Rattle.r6_stripe.specs.Steps.{is_away}
 use Rattle.r6_frames.specs.declared.frames.FrameUse.TheVariants.{Held}
-use Rattle.r6_stripe.proofs.Checks.{answered_same}
-use Rattle.r6_frames.specs.Views.{kind_in}
 use Rattle.r6_frames.proofs.Held.{held_within}
-use Rattle.r6_frames.proofs.HeldRows.{job_whole}
 use Rattle.r6_frames.proofs.Completions.{Completed, out_of, out_there, out_row, place_left, completed}
 use Rattle.r6_frames.proofs.SlotsInTurn.{slot_below, some_slots}
 use Rattle.r6_frames.proofs.frames.Frames.answer.Goals as goal
@@ -64,7 +61,7 @@ done c =
     let place = place_left fs c.args.token command h c.left_of-position.result c.requires.sound.shape out (omega (arith, c.left_of-position.ensures.within, c.slots.ensures.value))
     (ap (λ n. (c.left_of-position.result + h.first) % n) (sym c.slots.ensures.value) ∙ c.left_of-position.ensures.right) in
     completed fs c.args.token command h c.args.buffer c.left_of-position.result c.done.new.self c.remove.new.self c.requires.sound out place
-    (answered_same h.hold c.done.new.self c.left_of-position.result c.args.buffer c.done.ensures.answered c.done.ensures.class (job_whole fs.geometry h.row h.job (kind_in h) out.whole.job))
+    c.done.ensures.answered c.done.ensures.class
     c.remove.ensures.rest
 
 pub returns-clause-sound : goal.returns-clause-sound

@@ -1,0 +1,103 @@
+-- What a hold is for: a request, or a check or repair, whose row is counted.
+use Rattle.std.proofs.Common.{◌≡◌, ℕ, ◌+◌, ◌*◌, ◌≤◌, List, [], ◌∷◌, map, refl, ap, Some, arith}
+use Rattle.r6_recover.specs.declared.class.RowClass.TheVariants as class
+use Rattle.r6_stripe.specs.Holds.{Kind}
+use Rattle.r6_world.specs.PlainArray as world
+use Rattle.r6_world.specs.Tasks.{Task, ReadFor, WriteFor, Rebuild, Check, Repair}
+use Rattle.r6_world.specs.ShardStates as shards
+use Rattle.r6_world.specs.Changes.{counted}
+use Rattle.r6_frames.specs.declared.op.Op.{Op}
+use Rattle.r6_frames.specs.declared.op.Op.TheVariants as op
+use Rattle.r6_frames.specs.declared.finish.Ended.{Ended}
+use Rattle.r6_frames.specs.declared.finish.Ended.TheVariants as ended
+use Rattle.r6_frames.specs.declared.frames.Job.{Job}
+use Rattle.r6_frames.specs.declared.frames.Job.TheVariants as job
+use Rattle.r6_frames.specs.declared.frames.Scrub.TheVariants as scrub
+use Rattle.r6_frames.specs.Views.{is_scrub, op_of, outcome_of, requests_by, task_by, task_for}
+use Rattle.r6_frames.specs.Calls.{ended_task, ended_outcome}
+use Rattle.r6_core.specs.declared.counts.Counts.{Counts}
+use Rattle.r6_core.specs.Shards.{counts_of}
+use Rattle.r6_core.specs.Inside.{numbered_op, one_if, requests_ended, rows_found}
+
+-- the requests of a task
+abbrev pub requests_for : Task → List (ℕ × world.Op)
+requests_for (ReadFor id block) = (id, world.Op.Read block) ∷ []
+requests_for (WriteFor []) = []
+requests_for (WriteFor (w ∷ writes)) = (w.id, world.Op.Write w.block w.new_data) ∷ requests_for (WriteFor writes)
+requests_for (Rebuild slot generation) = []
+requests_for Check = []
+requests_for Repair = []
+
+pub requests_of_job : (j : Job) (kind : Kind) → requests_for (task_by j kind) ≡ requests_by j kind
+requests_of_job (job.Read served buffer) kind = refl
+requests_of_job (job.Write served) kind = refl
+requests_of_job (job.Scrub scrub.Check) kind = refl
+requests_of_job (job.Scrub scrub.Repair) kind = refl
+
+requests_of_op : (id : ℕ) (o : Op) → requests_for (task_for id o) ≡ (id, op_of o) ∷ []
+requests_of_op id (op.Read block buffer) = refl
+requests_of_op id (op.Write block buffer) = refl
+
+pub requests_of_end : (e : Ended) → requests_for (ended_task e) ≡ map numbered_op (requests_ended e)
+requests_of_end (ended.Request r) = requests_of_op r.id r.op
+requests_of_end (ended.Classed scrub.Check class) = refl
+requests_of_end (ended.Classed scrub.Repair class) = refl
+requests_of_end (ended.Skipped scrub.Check) = refl
+requests_of_end (ended.Skipped scrub.Repair) = refl
+
+-- whether it is a check or repair
+abbrev pub scrub_weight : Task → ℕ
+scrub_weight (ReadFor id block) = 0
+scrub_weight (WriteFor writes) = 0
+scrub_weight (Rebuild slot generation) = 0
+scrub_weight Check = 1
+scrub_weight Repair = 1
+
+pub task_weight : (row : ℕ) (j : Job) (kind : Kind) → one_if is_scrub (Some (row, j)) ≡ scrub_weight (task_by j kind)
+task_weight row (job.Read served buffer) kind = refl
+task_weight row (job.Write served) kind = refl
+task_weight row (job.Scrub scrub.Check) kind = refl
+task_weight row (job.Scrub scrub.Repair) kind = refl
+
+pub for_request : (id : ℕ) (o : Op) → scrub_weight (task_for id o) ≡ 0
+for_request id (op.Read block buffer) = refl
+for_request id (op.Write block buffer) = refl
+
+-- ---- the rows that are counted
+
+abbrev found_in : shards.Counts → ℕ
+found_in k = k.consistent + k.wrong_p + k.wrong_q + k.wrong_data + k.many + k.repaired + k.rebuilt
+
+-- so many more are found, and so many passed over
+abbrev IsMore : shards.Counts → shards.Counts → ℕ → Type 0
+IsMore old new weight = (found_in new ≤ found_in old + 2 * weight) × (new.skipped ≤ old.skipped + weight)
+
+counted_none : (k : shards.Counts) (id : ℕ) (o : Op) → IsMore k (counted k (task_for id o) (outcome_of o)) (scrub_weight (task_for id o))
+counted_none k id (op.Read block buffer) = (omega arith, omega arith)
+counted_none k id (op.Write block buffer) = (omega arith, omega arith)
+
+-- the row of a check or repair is counted twice at most
+counted_rows : (k : shards.Counts) (e : Ended) → IsMore k (counted k (ended_task e) (ended_outcome e)) (scrub_weight (ended_task e))
+counted_rows k (ended.Request r) = counted_none k r.id r.op
+counted_rows k (ended.Skipped scrub.Check) = (omega arith, omega arith)
+counted_rows k (ended.Skipped scrub.Repair) = (omega arith, omega arith)
+counted_rows k (ended.Classed scrub.Check class.Consistent) = (omega arith, omega arith)
+counted_rows k (ended.Classed scrub.Check class.WrongP) = (omega arith, omega arith)
+counted_rows k (ended.Classed scrub.Check class.WrongQ) = (omega arith, omega arith)
+counted_rows k (ended.Classed scrub.Check (class.WrongData z)) = (omega arith, omega arith)
+counted_rows k (ended.Classed scrub.Check class.Many) = (omega arith, omega arith)
+counted_rows k (ended.Classed scrub.Repair class.Consistent) = (omega arith, omega arith)
+counted_rows k (ended.Classed scrub.Repair class.WrongP) = (omega arith, omega arith)
+counted_rows k (ended.Classed scrub.Repair class.WrongQ) = (omega arith, omega arith)
+counted_rows k (ended.Classed scrub.Repair (class.WrongData z)) = (omega arith, omega arith)
+counted_rows k (ended.Classed scrub.Repair class.Many) = (omega arith, omega arith)
+
+pub counted_few : (old new : Counts) (e : Ended) → counts_of new ≡ counted (counts_of old) (ended_task e) (ended_outcome e)
+    → (rows_found new ≤ rows_found old + 2 * scrub_weight (ended_task e)) × (new.skipped ≤ old.skipped + scrub_weight (ended_task e))
+counted_few old new e is =
+    let found = ap found_in is in
+    let passed = ap (λ (k : shards.Counts). k.skipped) is in
+    let more = counted_rows (counts_of old) e in
+    let found_more = more.0 in
+    let passed_more = more.1 in
+    (omega (arith, found, found_more), omega (arith, passed, passed_more))

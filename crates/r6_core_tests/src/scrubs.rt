@@ -1,0 +1,239 @@
+//! Checks and repairs, step by step: what they read and write, what they count, and when a turn is refused.
+//!
+//! In rows 0 to 3 of the array the slots have, in order: Q, D0, D1, P; D0, D1, P, Q; D1, P, Q, D0; P, Q, D0, D1.
+
+use crate::bench::{Answer, Bench, Step, play};
+use r6_core::{Counts, Scrub, Turn};
+use std::test::Fail;
+
+const NONE: Counts = Counts {
+    consistent: 0,
+    wrong_p: 0,
+    wrong_q: 0,
+    wrong_data: 0,
+    many: 0,
+    skipped: 0,
+    repaired: 0,
+    rebuilt: 0,
+};
+
+const STARTED: Answer = Answer::Turned(Turn::Started);
+
+const SKIPPED: Answer = Answer::Turned(Turn::Skipped);
+
+/// A turn of this kind that reads a row of four slots and writes so many parities.
+fn passes(scrub: Scrub, writes: usize) -> [(Step, Answer); 2] {
+    [
+        (Step::Turn(scrub), STARTED),
+        (Step::Drive(9), Answer::Driven(writes.saturating_add(4), 0)),
+    ]
+}
+
+// A wrong D0 is off by as much in P as in Q; one and eight can be no data block's of two.
+fn spoilt() -> [(Step, Answer); 5] {
+    [
+        (Step::Spoil(3, 0, 0x11), Answer::Spoilt),
+        (Step::Spoil(3, 1, 0x22), Answer::Spoilt),
+        (Step::Spoil(3, 2, 0x33), Answer::Spoilt),
+        (Step::Spoil(0, 3, 0x01), Answer::Spoilt),
+        (Step::Spoil(1, 3, 0x08), Answer::Spoilt),
+    ]
+}
+
+#[test]
+fn a_check_counts_each_class_and_writes_nothing(rt: HostRuntime) -> Result<(), Fail> {
+    let mut bench = Bench::new(rt.alloc(), 4, 1, &[])?;
+    bench.play(&rt, &spoilt())?;
+    for _ in 0..4 {
+        bench.play(&rt, &passes(Scrub::Check, 0))?;
+    }
+    let all = Counts {
+        wrong_p: 1,
+        wrong_q: 1,
+        wrong_data: 1,
+        many: 1,
+        ..NONE
+    };
+    bench.play(&rt, &[(Step::Counts, Answer::Counted(all))])?;
+    // behind the last row comes the first again
+    bench.play(&rt, &passes(Scrub::Check, 0))?;
+    let again = Counts { wrong_p: 2, ..all };
+    bench.play(&rt, &[(Step::Counts, Answer::Counted(again))])
+}
+
+// The repair goes by itself: the checks before it did not move it on.
+#[test]
+fn a_repair_writes_the_wrong_parities_and_no_data(rt: HostRuntime) -> Result<(), Fail> {
+    let mut bench = Bench::new(rt.alloc(), 4, 1, &[])?;
+    bench.play(&rt, &spoilt())?;
+    bench.play(&rt, &passes(Scrub::Check, 0))?;
+    for writes in [1, 1, 2, 2] {
+        bench.play(&rt, &passes(Scrub::Repair, writes))?;
+    }
+    let repaired = Counts {
+        wrong_p: 2,
+        wrong_q: 1,
+        wrong_data: 1,
+        many: 1,
+        repaired: 4,
+        ..NONE
+    };
+    let stored = [
+        (Step::Counts, Answer::Counted(repaired)),
+        (Step::Stored(3, 0), Answer::Stored(0)),
+        (Step::Stored(3, 1), Answer::Stored(0)),
+        // D0 stays, and is P and Q of the row with a D1 of zeros
+        (Step::Stored(3, 2), Answer::Stored(0x33)),
+        (Step::Stored(0, 2), Answer::Stored(0)),
+        (Step::Stored(1, 2), Answer::Stored(0x33)),
+        (Step::Stored(2, 2), Answer::Stored(0x33)),
+        (Step::Stored(0, 3), Answer::Stored(0)),
+        (Step::Stored(1, 3), Answer::Stored(0)),
+    ];
+    bench.play(&rt, &stored)?;
+    for _ in 0..4 {
+        bench.play(&rt, &passes(Scrub::Check, 0))?;
+    }
+    let whole = Counts {
+        consistent: 4,
+        ..repaired
+    };
+    bench.play(&rt, &[(Step::Counts, Answer::Counted(whole))])
+}
+
+#[test]
+fn a_request_waits_for_the_row_of_a_check(rt: HostRuntime) -> Result<(), Fail> {
+    let course = [
+        (Step::Turn(Scrub::Check), STARTED),
+        (Step::TakeAll, Answer::Commands(4)),
+        (Step::Turn(Scrub::Repair), Answer::Refused(10)),
+        (Step::Write(0, 0x5a), Answer::Accepted(0)),
+        (Step::Take, Answer::Nothing),
+        (Step::Do(0), Answer::Taken),
+        (Step::Do(1), Answer::Taken),
+        (Step::Do(2), Answer::Taken),
+        (Step::Take, Answer::Nothing),
+        (Step::Do(3), Answer::Taken),
+        // D1 is read, D0, P and Q are written
+        (Step::Take, Answer::Command(4, 2, 0)),
+        (Step::Turn(Scrub::Repair), Answer::Refused(10)),
+        (Step::Do(4), Answer::Taken),
+        (Step::Drive(9), Answer::Driven(3, 0)),
+        (Step::Look, Answer::Looked),
+        (Step::Reply, Answer::Done(0, 0x5a)),
+        (Step::Turn(Scrub::Repair), STARTED),
+        (Step::Drive(9), Answer::Driven(4, 0)),
+        (
+            Step::Counts,
+            Answer::Counted(Counts {
+                consistent: 2,
+                ..NONE
+            }),
+        ),
+    ];
+    play(&rt, rt.alloc(), 4, 1, &[], &course)
+}
+
+#[test]
+fn a_row_with_a_slot_out_is_passed_over_held_or_not(rt: HostRuntime) -> Result<(), Fail> {
+    let course = [
+        (Step::Read(0), Answer::Accepted(0)),
+        (Step::Take, Answer::Command(0, 1, 0)),
+        (Step::Turn(Scrub::Check), Answer::Refused(10)),
+        (Step::Lose(3), Answer::Lost),
+        (Step::Look, Answer::Looked),
+        (Step::Turn(Scrub::Check), SKIPPED),
+        (Step::Turn(Scrub::Check), SKIPPED),
+        (Step::Turn(Scrub::Repair), SKIPPED),
+        (Step::Take, Answer::Nothing),
+        (Step::Do(0), Answer::Taken),
+        (
+            Step::Counts,
+            Answer::Counted(Counts { skipped: 3, ..NONE }),
+        ),
+    ];
+    play(&rt, rt.alloc(), 4, 1, &[], &course)
+}
+
+// Token 1 is the read of slot 2, whose device fails.
+#[test]
+fn a_check_that_loses_a_position_is_counted_as_skipped(rt: HostRuntime) -> Result<(), Fail> {
+    let course = [
+        (Step::Spoil(3, 0, 0x11), Answer::Spoilt),
+        (Step::Turn(Scrub::Repair), STARTED),
+        (Step::TakeAll, Answer::Commands(4)),
+        (Step::Do(0), Answer::Taken),
+        (Step::Fail(1), Answer::Taken),
+        (Step::Do(2), Answer::Taken),
+        (Step::Counts, Answer::Counted(NONE)),
+        (Step::Do(3), Answer::Taken),
+        (
+            Step::Counts,
+            Answer::Counted(Counts { skipped: 1, ..NONE }),
+        ),
+        (Step::Take, Answer::Nothing),
+        (Step::Stored(3, 0), Answer::Stored(0x11)),
+    ];
+    play(&rt, rt.alloc(), 4, 1, &[], &course)
+}
+
+// Its class was read, and the parity that is lost needs no repair any more.
+#[test]
+fn a_repair_that_loses_its_parity_is_counted_by_its_class(rt: HostRuntime) -> Result<(), Fail> {
+    let course = [
+        (Step::Spoil(3, 0, 0x11), Answer::Spoilt),
+        (Step::Turn(Scrub::Repair), STARTED),
+        (Step::Drive(4), Answer::Driven(4, 0)),
+        (Step::Take, Answer::Command(4, 3, 0)),
+        (Step::Counts, Answer::Counted(NONE)),
+        (Step::Fail(4), Answer::Taken),
+        (
+            Step::Counts,
+            Answer::Counted(Counts {
+                wrong_p: 1,
+                repaired: 1,
+                ..NONE
+            }),
+        ),
+    ];
+    play(&rt, rt.alloc(), 4, 1, &[], &course)
+}
+
+#[test]
+fn a_stopped_shard_has_nothing_to_do(rt: HostRuntime) -> Result<(), Fail> {
+    let course = [
+        (Step::Turn(Scrub::Check), SKIPPED),
+        (Step::Read(0), Answer::Accepted(0)),
+        (Step::Take, Answer::Command(0, 1, 0)),
+        (Step::Fail(0), Answer::Taken),
+        (Step::Turn(Scrub::Check), Answer::Refused(10)),
+        (Step::Turn(Scrub::Repair), Answer::Refused(10)),
+        (Step::TellAll, Answer::Told(1, true)),
+        (Step::Look, Answer::Looked),
+        (Step::Turn(Scrub::Check), Answer::Refused(5)),
+        (
+            Step::Counts,
+            Answer::Counted(Counts { skipped: 1, ..NONE }),
+        ),
+    ];
+    play(&rt, rt.alloc(), 4, 1, &[2, 3], &course)
+}
+
+// Block 2 of a row is its first; rows 1 to 64 are read, and row 0 is free.
+#[test]
+fn a_turn_needs_a_frame(rt: HostRuntime) -> Result<(), Fail> {
+    let mut bench = Bench::new(rt.alloc(), 66, 1, &[])?;
+    for row in 1..65 {
+        let read = (Step::Read(2 * row), Answer::Accepted(row - 1));
+        bench.play(&rt, &[read])?;
+    }
+    let course = [
+        (Step::Turn(Scrub::Check), Answer::Refused(9)),
+        (Step::TakeAll, Answer::Commands(64)),
+        (Step::Do(63), Answer::Taken),
+        (Step::Turn(Scrub::Check), STARTED),
+        (Step::Turn(Scrub::Check), Answer::Refused(10)),
+        (Step::Turn(Scrub::Repair), Answer::Refused(10)),
+    ];
+    bench.play(&rt, &course)
+}
