@@ -4,9 +4,11 @@ use Rattle.std.specs.Char.{digit_char}
 use Rattle.std.specs.List.{All, join_with_byte, slice_split}
 use Rattle.r6_layout.specs.Shape.{Shape, IsShape}
 use Rattle.r6_script.specs.declared.script.Call.{Call}
-use Rattle.r6_script.specs.declared.script.Call.TheVariants.{Perform, Answer, Do, Tell, Look}
+use Rattle.r6_script.specs.declared.script.Call.TheVariants.{Perform, Answer, Do, Tell, Look, Turn}
 use Rattle.r6_script.specs.declared.script.Completion.{Completion}
 use Rattle.r6_script.specs.declared.script.Completion.TheVariants.{Good, Error}
+use Rattle.r6_script.specs.declared.script.Task.{Task}
+use Rattle.r6_script.specs.declared.script.Task.TheVariants.{Check, Repair}
 use Rattle.r6_script.specs.declared.script.Event.{Event}
 use Rattle.r6_script.specs.declared.script.Event.TheVariants.{Read, Write, At, Fail, Attach}
 use Rattle.r6_script.specs.declared.script.Script.{Script}
@@ -41,6 +43,14 @@ completion_word Error = codes "error"
 abbrev pub IsCompletion : Completion → Type 0
 IsCompletion completion = Unit {0}
 
+-- the word of a task
+abbrev pub task_word : Task → Text
+task_word Check = codes "check"
+task_word Repair = codes "repair"
+
+abbrev pub IsTask : Task → Type 0
+IsTask task = Unit {0}
+
 -- ---- lines: words, with one space between them
 
 abbrev pub words_of_call : (shard : ℕ) → Call → List Text
@@ -49,6 +59,7 @@ words_of_call shard (Answer token completion) = codes "answer" ∷ command_word 
 words_of_call shard (Do token) = codes "do" ∷ command_word shard token ∷ []
 words_of_call shard Tell = codes "tell" ∷ decimal shard ∷ []
 words_of_call shard Look = codes "look" ∷ decimal shard ∷ []
+words_of_call shard (Turn task) = codes "turn" ∷ decimal shard ∷ task_word task ∷ []
 
 abbrev pub words_of : Event → List Text
 words_of (Read block) = codes "read" ∷ decimal block ∷ []
@@ -75,6 +86,7 @@ IsCall (Answer token completion) = IsNumber token
 IsCall (Do token) = IsNumber token
 IsCall Tell = Unit {0}
 IsCall Look = Unit {0}
+IsCall (Turn task) = IsTask task
 
 abbrev pub IsEvent : Event → Type 0
 IsEvent (Read block) = IsNumber block

@@ -6,4 +6,4 @@ mod parser;
 mod script;
 
 pub use parser::parse_script;
-pub use script::{Call, Completion, Event, Script, ScriptFault};
+pub use script::{Call, Completion, Event, Script, ScriptFault, Task};

@@ -4,9 +4,9 @@ ghost use Rattle.std.specs.Prelude.{◌≡◌, ◌≢◌, ◌<◌, ◌++◌, ◌
 ghost use Rattle.std.specs.Char.{digit_value};
 ghost use Rattle.r6_layout.specs.Shape.{IsShape};
 ghost use Rattle.r6_script.specs.declared.script.Event.{Event as Entered};
-ghost use Rattle.r6_script.specs.Script.{Adds, CannotAdd, Explains, IsByte, IsCompletion, IsEvent, IsNumber, IsSaid, Reads, ReadsDigit, Say, array_line, byte_word, command_word, completion_word, is_passed_over, line_of, lines_of, said_of};
+ghost use Rattle.r6_script.specs.Script.{Adds, CannotAdd, Explains, IsByte, IsCompletion, IsEvent, IsNumber, IsSaid, IsTask, Reads, ReadsDigit, Say, array_line, byte_word, command_word, completion_word, is_passed_over, line_of, lines_of, said_of, task_word};
 
-use crate::script::{Call, Completion, Event, Script, ScriptFault};
+use crate::script::{Call, Completion, Event, Script, ScriptFault, Task};
 use r6_layout::Geometry;
 use std::alloc::Global;
 
@@ -131,6 +131,25 @@ fn parse_tell(text: &str) -> Option<Event>
     Some(Event::At(parse_number(text)?, Call::Tell))
 }
 
+// What a turn is for.
+fn parse_task(word: &str) -> Option<Task>
+    ensures { Reads task_word IsTask word.now result }
+{
+    match word {
+        "check" => Some(Task::Check),
+        "repair" => Some(Task::Repair),
+        _ => None,
+    }
+}
+
+// The event of the line that goes on with this text after `turn`.
+fn parse_turn(text: &str) -> Option<Event>
+    ensures { Reads line_of IsEvent (codes "turn" ++ 32 ∷ text.now) result }
+{
+    let (shard, word) = parse_number_before(text, ' ')?;
+    Some(Event::At(shard, Call::Turn(parse_task(word)?)))
+}
+
 // The event of the line that goes on with this text after `fail`.
 fn parse_fail(text: &str) -> Option<Event>
     ensures { Reads line_of IsEvent (codes "fail" ++ 32 ∷ text.now) result }
@@ -158,6 +177,7 @@ fn parse_event(line: &str) -> Option<Event>
         "do" => parse_do(text),
         "tell" => parse_tell(text),
         "look" => parse_look(text),
+        "turn" => parse_turn(text),
         "fail" => parse_fail(text),
         "attach" => parse_attach(text),
         _ => None,

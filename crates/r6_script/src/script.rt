@@ -15,6 +15,15 @@ pub enum Completion {
     Error,
 }
 
+/// What a shard does to its rows, one in a turn.
+#[derive(Clone, Copy, PartialEq, Eq, Debug)]
+pub enum Task {
+    /// It finds the row's class.
+    Check,
+    /// It finds the row's class, and writes wrong parities anew.
+    Repair,
+}
+
 /// What is done at a shard.
 #[derive(Clone, Copy)]
 pub enum Call {
@@ -28,6 +37,8 @@ pub enum Call {
     Tell,
     /// The shard looks at the register.
     Look,
+    /// The shard has a turn.
+    Turn(Task),
 }
 
 /// An event of a script, after its array.

@@ -2,7 +2,7 @@
 -- the project's own.
 use Rattle.std.specs.Prelude.{◌≡◌, ◌≢◌, ℕ, ◌==◌, ◌&&◌, not, ◌++◌, ◌⊎◌, Bool, true, false, List, [], ◌∷◌, map, remove, replicate, slice_set, Option, Some, None, Result, Ok, Err}
 use Rattle.std.specs.List.{list_any, position}
-use Rattle.r6_core.specs.Effects.{Accepts, RefusesOp, Receives, RefusesCompletion, LooksAt, RefusesLook, HandsCommand, HandsCall, Hears, RefusesAnswer, HandsReply, HandsNoReply}
+use Rattle.r6_core.specs.Effects.{Accepts, RefusesOp, Receives, RefusesCompletion, LooksAt, RefusesLook, Turns, RefusesTurn, HandsCommand, HandsCall, Hears, RefusesAnswer, HandsReply, HandsNoReply}
 use Rattle.r6_core.specs.Shards.{CoreView, Step, call_of}
 use Rattle.r6_core.specs.declared.call.Call.{Call as RegisterCall}
 use Rattle.r6_core.specs.declared.reply.OpId.{OpId}
@@ -21,12 +21,16 @@ use Rattle.r6_core.specs.declared.Op.{Op}
 use Rattle.r6_core.specs.declared.refusal.DeviceFault.{DeviceFault}
 use Rattle.r6_core.specs.declared.refusal.FaultKind.{FaultKind}
 use Rattle.r6_core.specs.declared.refusal.FaultKind.TheVariants.{ReadFault, WriteFault}
+use Rattle.r6_core.specs.declared.Scrub.{Scrub}
+use Rattle.r6_core.specs.declared.Scrub.TheVariants as scrub
+use Rattle.r6_script.specs.declared.script.Task.{Task}
+use Rattle.r6_script.specs.declared.script.Task.TheVariants as task
 use Rattle.r6_script.specs.declared.script.Call.{Call}
 use Rattle.r6_script.specs.declared.script.Call.TheVariants as call
 use Rattle.r6_script.specs.declared.script.Completion.{Completion}
 use Rattle.r6_script.specs.declared.script.Completion.TheVariants as completion
 use Rattle.r6_simulate.specs.declared.lines.Outcome.{Outcome}
-use Rattle.r6_simulate.specs.declared.lines.Outcome.TheVariants.{Accepted, Performed, PerformedAlready, NoSuchCommand, NotPerformed, Received, Looked, Refused, Told, Nothing}
+use Rattle.r6_simulate.specs.declared.lines.Outcome.TheVariants.{Accepted, Performed, PerformedAlready, NoSuchCommand, NotPerformed, Received, Looked, Turned, Refused, Told, Nothing}
 use Rattle.r6_simulate.specs.declared.devices.Blocks.{Blocks}
 use Rattle.r6_simulate.specs.declared.devices.Devices.{Devices}
 use Rattle.r6_simulate.specs.declared.register.OwnRegister.{OwnRegister}
@@ -177,6 +181,22 @@ pub record Looks (old : Shard) (register : OwnRegister) (outcome : Outcome) (new
   pub core : LooksAs old.core (held_by register') outcome new.core
   pub kept : KeepsFlight old new
 
+-- ---- turns
+
+abbrev pub scrub_of : Task → Scrub
+scrub_of task.Check = scrub.Check
+scrub_of task.Repair = scrub.Repair
+
+-- the core takes up its next row, or passes it over, or refuses
+abbrev pub TurnsTo : CoreView → Scrub → Outcome → CoreView → Type 0
+TurnsTo old scrub (Turned turn) new = Turns old scrub turn new
+TurnsTo old scrub (Refused refusal) new = RefusesTurn old scrub refusal new
+TurnsTo old scrub _ new = ⊥
+
+pub record TakesTurn (task : Task) (old : Shard) (outcome : Outcome) (new : Shard) : Type 0 where
+  pub core : TurnsTo old.core (scrub_of task) outcome new.core
+  pub kept : KeepsFlight old new
+
 -- a call of the script
 abbrev pub Makes : Call → Blocks → (old : Shard) (register : OwnRegister) (devices : Devices) → Outcome
     → (new : Shard) (register' : OwnRegister) (devices' : Devices) → Type 0
@@ -190,6 +210,8 @@ Makes call.Tell blocks old register devices outcome new register' devices' =
     Tells old register outcome new register' × (devices' ≡ devices)
 Makes call.Look blocks old register devices outcome new register' devices' =
     Looks old register outcome new register' × (devices' ≡ devices)
+Makes (call.Turn task) blocks old register devices outcome new register' devices' =
+    TakesTurn task old outcome new × (register' ≡ register) × (devices' ≡ devices)
 
 -- ---- what a shard puts out
 

@@ -10,6 +10,7 @@ use Rattle.r6_core.specs.Refusals.{number_of, name_of}
 use Rattle.r6_core.specs.declared.call.Call.{Call}
 use Rattle.r6_core.specs.declared.call.Call.TheVariants as call
 use Rattle.r6_core.specs.declared.refusal.Receipt.TheVariants.{Taken, Late}
+use Rattle.r6_core.specs.declared.turn.Turn.TheVariants.{Started, Skipped}
 use Rattle.r6_core.specs.declared.reply.OpId.{OpId}
 use Rattle.r6_core.specs.declared.reply.Reply.{Reply}
 use Rattle.r6_core.specs.declared.reply.Reply.TheVariants as reply
@@ -18,7 +19,7 @@ use Rattle.r6_core.specs.declared.CommandKind.{CommandKind}
 use Rattle.r6_core.specs.declared.CommandKind.TheVariants as kind
 use Rattle.r6_script.specs.Script.{byte_word, command_word}
 use Rattle.r6_simulate.specs.declared.lines.Outcome.{Outcome}
-use Rattle.r6_simulate.specs.declared.lines.Outcome.TheVariants.{Accepted, Performed, PerformedAlready, NoSuchCommand, NotPerformed, Received, Looked, Refused, Told, Nothing, Called, NoSuchShard}
+use Rattle.r6_simulate.specs.declared.lines.Outcome.TheVariants.{Accepted, Performed, PerformedAlready, NoSuchCommand, NotPerformed, Received, Looked, Turned, Refused, Told, Nothing, Called, NoSuchShard}
 
 abbrev pub Text : Type 0
 Text = List ℕ
@@ -53,6 +54,8 @@ outcome_text NotPerformed = codes "not performed"
 outcome_text (Received Taken) = codes "taken"
 outcome_text (Received Late) = codes "late"
 outcome_text Looked = codes "looked"
+outcome_text (Turned Started) = codes "started"
+outcome_text (Turned Skipped) = codes "skipped"
 outcome_text (Refused refusal) = codes "refused " ++ decimal (number_of refusal) ++ 32 ∷ name_of refusal
 outcome_text (Told made answered) = call_text made.0 ++ codes ": " ++ answer_text answered.0
 outcome_text Nothing = codes "nothing"

@@ -5,7 +5,7 @@ ghost use Rattle.std.specs.List.{list_all};
 ghost use Rattle.r6_script.specs.Script.{byte_word};
 ghost use Rattle.r6_simulate.specs.Lines.{block_text, command_text, only_byte, reply_text};
 
-use r6_core::{Call, Command, CommandKind, OpId, Receipt, Refusal, Reply};
+use r6_core::{Call, Command, CommandKind, OpId, Receipt, Refusal, Reply, Turn};
 use r6_health::{Answer, Refusal as RegisterRefusal};
 use std::alloc::AllocError;
 use std::fmt::{self, Write};
@@ -83,7 +83,9 @@ pub enum Outcome {
     Received(Receipt),
     /// The shard looked at the register.
     Looked,
-    /// The shard refused a request, a completion or a look.
+    /// The shard had a turn.
+    Turned(Turn),
+    /// The shard refused a request, a completion, a look or a turn.
     Refused(Refusal),
     /// The shard's call was made, and the shard was told the answer.
     Told(Made, Answered),
@@ -111,6 +113,8 @@ impl fmt::Display for Outcome {
             Outcome::Received(Receipt::Taken) => write!(f, "taken"),
             Outcome::Received(Receipt::Late) => write!(f, "late"),
             Outcome::Looked => write!(f, "looked"),
+            Outcome::Turned(Turn::Started) => write!(f, "started"),
+            Outcome::Turned(Turn::Skipped) => write!(f, "skipped"),
             Outcome::Refused(refusal) => {
                 write!(f, "refused {} {}", refusal.number(), refusal.name())
             }

@@ -1,15 +1,15 @@
 //! A shard of an array in memory: its core, and what events do there.
 
 ghost use Rattle.std.specs.Prelude.{◌≡◌, ◌<◌, length, IfOk, IfSome, OnOk, string_bytes};
-ghost use Rattle.r6_simulate.specs.AtShards.{place_of, fault_of, Submits, Delivers, TakesBack, Performs, AnswersWith, AnswersGood, Does, is_unperformed, Tells, Looks, Makes, PutsReplies, PutsCommands, Reports};
+ghost use Rattle.r6_simulate.specs.AtShards.{place_of, fault_of, Submits, Delivers, TakesBack, Performs, AnswersWith, AnswersGood, Does, is_unperformed, Tells, Looks, scrub_of, TakesTurn, Makes, PutsReplies, PutsCommands, Reports};
 
 use crate::devices::{Blocks, Devices};
 use crate::fault::SimulationFault;
 use crate::lines::{Answered, Made, Outcome, write_command, write_reply};
 use crate::register::OwnRegister;
-use r6_core::{Command, CommandKind, Core, DeviceFault, FaultKind, Op};
+use r6_core::{Command, CommandKind, Core, DeviceFault, FaultKind, Op, Scrub};
 use r6_kernels::Buffer;
-use r6_script::{Call, Completion};
+use r6_script::{Call, Completion, Task};
 use std::fmt::Write as _;
 use std::sync::Wait;
 
@@ -175,6 +175,16 @@ impl Shard {
         }
     }
 
+    /// The shard has a turn of this task.
+    pub fn turn(&mut self, task: Task) -> Outcome
+        ensures { TakesTurn task self.old result self.new }
+    {
+        match self.core.turn(scrub_of(task)) {
+            Ok(turn) => Outcome::Turned(turn),
+            Err(refusal) => Outcome::Refused(refusal),
+        }
+    }
+
     /// Does at the shard what a call of the script says.
     pub fn make<R: Wait>(
         &mut self,
@@ -193,6 +203,7 @@ impl Shard {
             Call::Do(token) => self.perform_and_answer(devices, blocks, token),
             Call::Tell => Ok(self.tell(rt, register)),
             Call::Look => Ok(self.look(rt, register)),
+            Call::Turn(task) => Ok(self.turn(task)),
         }
     }
 
@@ -227,6 +238,16 @@ impl Shard {
         write!(line, "{outcome}")?;
         self.put_out_replies(line)?;
         self.put_out_commands(line)
+    }
+}
+
+// What the core is asked to do with its next row.
+fn scrub_of(task: Task) -> Scrub
+    ensures { result ≡ scrub_of task }
+{
+    match task {
+        Task::Check => Scrub::Check,
+        Task::Repair => Scrub::Repair,
     }
 }
 

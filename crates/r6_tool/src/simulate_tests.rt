@@ -563,6 +563,7 @@ fn lines_out_of_the_grammar_are_refused(rt: HostRuntime) -> Result<(), Fail> {
         "answer 0:01 ok|do 0|do 0:0 ok|look|look 0:0|look 0 0|tell|tell 0:0|tell 00",
         "fail|fail 1 1|fail 01|fail 18446744073709551616|attach|attach 1 new.img|attach x",
         "answer 0:0 error |answer 0:0 errors|answer 0:0 gone|turn 0 rebuild|reads 0|0|; comment",
+        "turn 0|turn 0 check 1|turn check|turn 00 check|turn 0 Check|turn 0 check |turn 0:0 check",
     ];
     for lines in lines {
         for line in lines.split('|') {
@@ -570,6 +571,75 @@ fn lines_out_of_the_grammar_are_refused(rt: HostRuntime) -> Result<(), Fail> {
             is_refused_at(&rt, rt.alloc(), text.as_str(), 2)?;
         }
     }
+    Ok(())
+}
+
+// Row 0 is read as a whole, and then the request that waits for it has its turn. The repairs have a row of their own.
+#[test]
+fn a_check_and_a_repair_take_their_rows_in_turn(rt: HostRuntime) -> Result<(), Fail> {
+    let transcript = "array 4 1 16 4 2 -> array
+turn 2 check -> no such shard
+turn 1 check -> started | 1:0 read slot 3 gen 0 row 2 | 1:1 read slot 0 gen 0 row 2 | 1:2 read slot 1 gen 0 row 2 | 1:3 read slot 2 gen 0 row 2
+turn 1 repair -> refused 10 NothingToDo
+read 4 -> op 1:0
+do 1:0 -> taken
+do 1:1 -> taken
+do 1:2 -> taken
+do 1:3 -> taken | 1:4 read slot 3 gen 0 row 2
+turn 1 check -> started | 1:5 read slot 2 gen 0 row 3 | 1:6 read slot 3 gen 0 row 3 | 1:7 read slot 0 gen 0 row 3 | 1:8 read slot 1 gen 0 row 3
+turn 1 check -> refused 10 NothingToDo
+do 1:4 -> taken
+look 1 -> looked | reply 1:0 data 00
+turn 1 repair -> started | 1:9 read slot 3 gen 0 row 2 | 1:10 read slot 0 gen 0 row 2 | 1:11 read slot 1 gen 0 row 2 | 1:12 read slot 2 gen 0 row 2
+do 1:9 -> taken
+do 1:10 -> taken
+do 1:11 -> taken
+do 1:12 -> taken
+look 1 -> looked
+";
+    plays(&rt, rt.alloc(), transcript, 0)?;
+    Ok(())
+}
+
+// The check gives up when the device of its second read fails: nothing more is put out.
+#[test]
+fn a_turn_passes_over_a_row_with_a_slot_out(rt: HostRuntime) -> Result<(), Fail> {
+    let transcript = "array 4 1 16 4 1 -> array
+turn 0 check -> started | 0:0 read slot 1 gen 0 row 0 | 0:1 read slot 2 gen 0 row 0 | 0:2 read slot 3 gen 0 row 0 | 0:3 read slot 0 gen 0 row 0
+do 0:0 -> taken
+answer 0:1 error -> taken
+turn 0 repair -> skipped
+do 0:2 -> taken
+do 0:3 -> taken
+turn 0 check -> skipped
+tell 0 -> declare_lost 2 0: degraded
+fail 0 -> degraded
+fail 1 -> failed
+turn 0 check -> skipped
+look 0 -> looked
+turn 0 check -> refused 5 ArrayFailed
+";
+    plays(&rt, rt.alloc(), transcript, 1)?;
+    Ok(())
+}
+
+// A third slot is out in the shard before it has seen that the array failed.
+#[test]
+fn a_stopped_shard_has_no_turn(rt: HostRuntime) -> Result<(), Fail> {
+    let transcript = "array 4 1 16 4 1 -> array
+fail 0 -> degraded
+fail 2 -> degraded
+look 0 -> looked
+read 0 -> op 0:0 | 0:0 read slot 1 gen 0 row 0
+turn 0 repair -> skipped
+answer 0:0 error -> taken
+turn 0 repair -> refused 10 NothingToDo
+turn 0 check -> refused 10 NothingToDo
+tell 0 -> declare_lost 1 0: failed
+look 0 -> looked | reply 0:0 failed
+turn 0 repair -> refused 5 ArrayFailed
+";
+    plays(&rt, rt.alloc(), transcript, 1)?;
     Ok(())
 }
 

@@ -16,3 +16,6 @@ returns-in-Tell g c = rw c.in-Tell.is (c.tell.ensures, refl)
 
 pub returns-in-Look : goal.returns-in-Look
 returns-in-Look g c = rw c.in-Look.is (c.look.ensures, refl)
+
+pub returns-in-Turn : goal.returns-in-Turn
+returns-in-Turn g c = rw c.in-Turn.is (c.turn.ensures, refl, refl)
