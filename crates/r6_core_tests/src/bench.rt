@@ -438,7 +438,11 @@ impl Bench {
         let Some(device) = self.devices.get_mut(slot) else {
             return Ok(Answer::Wrong);
         };
-        Ok(device.write(row, &block).map_or(Answer::Wrong, |()| Answer::Spoilt))
+        Ok(
+            device
+                .write(row, &block)
+                .map_or(Answer::Wrong, |()| Answer::Spoilt),
+        )
     }
 
     fn stored(&mut self, slot: usize, row: u64) -> Result<Answer, AllocError> {

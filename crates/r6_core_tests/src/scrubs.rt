@@ -147,10 +147,7 @@ fn a_row_with_a_slot_out_is_passed_over_held_or_not(rt: HostRuntime) -> Result<(
         (Step::Turn(Scrub::Repair), SKIPPED),
         (Step::Take, Answer::Nothing),
         (Step::Do(0), Answer::Taken),
-        (
-            Step::Counts,
-            Answer::Counted(Counts { skipped: 3, ..NONE }),
-        ),
+        (Step::Counts, Answer::Counted(Counts { skipped: 3, ..NONE })),
     ];
     play(&rt, rt.alloc(), 4, 1, &[], &course)
 }
@@ -167,10 +164,7 @@ fn a_check_that_loses_a_position_is_counted_as_skipped(rt: HostRuntime) -> Resul
         (Step::Do(2), Answer::Taken),
         (Step::Counts, Answer::Counted(NONE)),
         (Step::Do(3), Answer::Taken),
-        (
-            Step::Counts,
-            Answer::Counted(Counts { skipped: 1, ..NONE }),
-        ),
+        (Step::Counts, Answer::Counted(Counts { skipped: 1, ..NONE })),
         (Step::Take, Answer::Nothing),
         (Step::Stored(3, 0), Answer::Stored(0x11)),
     ];
@@ -211,10 +205,7 @@ fn a_stopped_shard_has_nothing_to_do(rt: HostRuntime) -> Result<(), Fail> {
         (Step::TellAll, Answer::Told(1, true)),
         (Step::Look, Answer::Looked),
         (Step::Turn(Scrub::Check), Answer::Refused(5)),
-        (
-            Step::Counts,
-            Answer::Counted(Counts { skipped: 1, ..NONE }),
-        ),
+        (Step::Counts, Answer::Counted(Counts { skipped: 1, ..NONE })),
     ];
     play(&rt, rt.alloc(), 4, 1, &[2, 3], &course)
 }
