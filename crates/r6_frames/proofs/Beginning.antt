@@ -1,14 +1,16 @@
 -- A hold that begins on a row in a free frame.
-use Rattle.std.proofs.Common.{◌≡◌, ◌≢◌, ℕ, zero, suc, ◌+◌, ◌*◌, ◌<◌, ◌≤◌, Bool, false, List, [], ◌∷◌, ◌++◌, length, map, set, take, get_or, slice_index_or, refl, sym, ap, subst, ◌∙◌, Some, None, inl, inr, arith, add-one, vec_capacity, Vec, Global}
-use Rattle.std.specs.Prelude.{option_map}
+use Rattle.std.proofs.Common.{◌≡◌, ◌≢◌, ◌⊎◌, ℕ, zero, suc, ◌+◌, ◌*◌, ◌<◌, ◌≤◌, Bool, true, false, List, [], ◌∷◌, ◌++◌, length, map, set, take, get_or, slice_index_or, refl, sym, ap, subst, ◌∙◌, Some, None, inl, inr, arith, add-one, vec_capacity, Vec, Global}
+use Rattle.std.specs.Prelude.{option_map, if◌then◌else◌}
 use Rattle.std.specs.List.{All}
 use Rattle.std.proofs.lemmas.Bool.{cases_eq}
 use Rattle.std.proofs.lemmas.List.Elements.{All-pop}
-use Rattle.std.proofs.lemmas.List.{length-set, length-map, map-append, take_more}
+use Rattle.std.proofs.lemmas.List.{length-set, length-map, map-append, take_more, get_or-set_same, get_or-set_other}
 use Rattle.r6_layout.specs.Shape.{Shape}
 use Rattle.r6_layout.specs.Layout as layout
 use Rattle.r6_stripe.specs.Frames as buffers
-use Rattle.r6_stripe.specs.Holds.{Cell, Kind, Standing, Hold, Event, cell_at, standing_cell, resting}
+use Rattle.r6_stripe.specs.Holds.{Cell, Kind, Standing, Hold, Event, cell_at, no_cell, standing_cell, resting, with_target}
+use Rattle.r6_stripe.specs.Holds.Standing.{Target}
+use Rattle.r6_stripe.proofs.Course.{begun_width}
 use Rattle.r6_stripe.specs.Plans.{AreSilent, IsPlanned, Planned, count_where, is_in_sync, is_over, is_unread, planned_at, planned_first}
 use Rattle.r6_stripe.specs.Steps.{Held, standing_if, begun_held, is_away}
 use Rattle.r6_stripe.specs.Views.{kind_of_task}
@@ -31,7 +33,7 @@ use Rattle.r6_frames.specs.Slots.{states_of}
 use Rattle.r6_frames.specs.Views.{task_by, use_at, row_in, hold_at, hold_of, Rest, shard_with, is_synced_at, AreLive}
 use Rattle.r6_frames.specs.Calls.{Holds, IsFreeFrame, KeepsOthers, KeepsSlots, NotHeldBy}
 use Rattle.r6_frames.specs.Owed.{owed_by, owed_in, is_unsent, OwesCommands}
-use Rattle.r6_frames.specs.Sound.{is_put_out, is_away_from, count_home, home_in, count_free, IsHeld, AreApart, AreFrames, AreCommands, IsSound, MayHold}
+use Rattle.r6_frames.specs.Sound.{is_put_out, is_away_from, count_home, home_in, count_free, IsHeld, IsTargetAt, AreApart, AreFrames, AreCommands, IsSound, MayHold}
 use Rattle.r6_frames.specs.Uses.{IsForRow, synced, begun_row}
 use Rattle.r6_frames.proofs.BegunOwes.{begun_owes_commands}
 use Rattle.r6_frames.proofs.Held.{use_at_own, use_at_other, apart_put, frame_put, owed_at, owed_set, home_at, home_set, free_at, free_set}
@@ -72,13 +74,11 @@ found_is fs row =
 pub begun_first : (size : ℕ) (in_sync : List Bool) (kind : Kind) → (begun_held size in_sync kind).planned ≡ planned_first (resting size (map standing_if in_sync)) kind
 begun_first size in_sync kind = refl
 
-all_unread : (standings : List Standing) → count_where (λ cell. is_unread cell.reading) (map standing_cell standings) ≡ length standings
-all_unread [] = refl
-all_unread (s ∷ standings) = omega (arith, all_unread standings)
-
-all_unsent : (standings : List Standing) → count_where is_unsent (map standing_cell standings) ≡ length standings
-all_unsent [] = refl
-all_unsent (s ∷ standings) = omega (arith, all_unsent standings)
+count_all : (test : Cell → Bool) (cells : List Cell) → ((j : ℕ) → j < length cells → test (cell_at cells j) ≡ true) → count_where test cells ≡ length cells
+count_all test [] all = refl
+count_all test (cell ∷ cells) all =
+    let rest = count_all test cells (λ j below. all (suc j) (omega arith)) in
+    ap (λ (b : Bool). (if b then 1 else 0) + count_where test cells) (all 0 (omega arith)) ∙ (omega (arith, rest))
 
 none_away : (in_sync : List Bool) (position : ℕ) → slice_index_or (map (λ b. false) in_sync) position false ≡ false
 none_away [] position = refl
@@ -127,21 +127,49 @@ module _ (fs : Frames) (row : ℕ) (what : Job) (task : RowTask) where
   home_in_row = all_home (synced fs row) ∙ wide_in
 
   module _ (may : MayHold fs row what task) where
-    cells_in : (begun_row fs row what task).hold.planned.hold.cells ≡ (found_in fs row).cells
-    cells_in = may.no_target (resting fs.geometry.block (map standing_if (synced fs row))).cells ∙ ap (λ (hold : Hold). hold.cells) (found_is fs row)
+    abbrev cells : List Cell
+    cells = (begun_row fs row what task).hold.planned.hold.cells
 
+    cells_in : cells ≡ with_target kind (found_in fs row).cells
+    cells_in = ap (λ (hold : Hold). with_target kind hold.cells) (found_is fs row)
+
+    wide_cells : length cells ≡ fs.geometry.slots
+    wide_cells = ap length cells_in ∙ begun_width (found_in fs row) kind ∙ found-long (layout_of fs.geometry) (states_of fs.slots) row
+
+    -- a position stands as its slot does, or is the target
     cell_in : (position : ℕ) → position < fs.geometry.slots
-        → cell_at (begun_row fs row what task).hold.planned.hold.cells position
-        ≡ standing_cell (standing_of (states_of fs.slots (layout.slot_at fs.geometry row position)) row)
-    cell_in position below = ap (λ cells. cell_at cells position) cells_in ∙ found-at (layout_of fs.geometry) (states_of fs.slots) row position below
+        → (cell_at cells position ≡ standing_cell (standing_of (states_of fs.slots (layout.slot_at fs.geometry row position)) row))
+        ⊎ ((cell_at cells position ≡ record no_cell { standing = Target }) × IsTargetAt fs.geometry fs.slots row what position)
+    cell_in position below =
+        let at_slot = found-at (layout_of fs.geometry) (states_of fs.slots) row position below in
+        elim may.targets [
+          | inl none ↦ inl (ap (λ cs. cell_at cs position) (cells_in ∙ none (found_in fs row).cells) ∙ at_slot)
+          | inr t ↦
+              let set_there : cells ≡ set (found_in fs row).cells t.0 (record no_cell { standing = Target }) = cells_in ∙ ap (λ (k : Kind). with_target k (found_in fs row).cells) t.2 in
+              elim (cases_eq position t.0) [
+                | inl e ↦
+                    let wide = found-long (layout_of fs.geometry) (states_of fs.slots) row in
+                    inr (
+                      ap (λ cs. cell_at cs position) set_there ∙ ap (λ (k : ℕ). cell_at (set (found_in fs row).cells t.0 (record no_cell { standing = Target })) k) e
+                          ∙ get_or-set_same (found_in fs row).cells t.0 (record no_cell { standing = Target }) no_cell (omega (arith, wide, t.1)),
+                      subst (IsTargetAt fs.geometry fs.slots row what) (sym e) t.3,
+                    )
+                | inr ne ↦ inl (ap (λ cs. cell_at cs position) set_there ∙ get_or-set_other (found_in fs row).cells t.0 position (record no_cell { standing = Target }) no_cell ne ∙ at_slot)
+              ]
+        ]
+
+    -- nothing was read or written
+    all_are : (test : Cell → Bool) → ((s : Standing) → test (standing_cell s) ≡ true) → count_where test cells ≡ fs.geometry.slots
+    all_are test fresh =
+        count_all test cells (λ position below. elim (cell_in position (omega (arith, below, wide_cells))) [
+          | inl stands ↦ ap test stands ∙ fresh _
+          | inr target ↦ ap test target.0 ∙ fresh Target
+        ]) ∙ wide_cells
 
     all_owed : owed_by (begun_row fs row what task) ≡ 2 * fs.geometry.slots
     all_owed =
-        let standings = map standing_if (synced fs row) in
-        let cells = may.no_target (resting fs.geometry.block standings).cells in
-        let wide = length-map (synced fs row) standing_if ∙ wide_in in
-        let reads = ap (count_where (λ cell. is_unread cell.reading)) cells ∙ all_unread standings in
-        let writes = ap (count_where is_unsent) cells ∙ all_unsent standings in
+        let reads = all_are (λ cell. is_unread cell.reading) (λ s. refl) in
+        let writes = all_are is_unsent (λ s. refl) in
         omega arith
 
     begun_is_held : IsHeld fs.geometry fs.shard fs.slots (begun_row fs row what task)
@@ -160,10 +188,16 @@ module _ (fs : Frames) (row : ℕ) (what : Job) (task : RowTask) where
             here = sym planned_is;
           };
           size = refl;
-          wide = ap length cells_in ∙ found-long (layout_of fs.geometry) (states_of fs.slots) row;
+          wide = wide_cells;
           wide_away = length-map (synced fs row) (λ b. false) ∙ wide_in;
-          standing = λ position below. ap (λ (cell : Cell). cell.standing) (cell_in position below);
-          away = λ position below in_sync. at_home position ∙ sym (ap is_put_out (cell_in position below));
+          standing = λ position below. elim (cell_in position below) [
+            | inl stands ↦ inl (ap (λ (cell : Cell). cell.standing) stands)
+            | inr target ↦ inr (ap (λ (cell : Cell). cell.standing) target.0, target.1)
+          ];
+          away = λ position below not_out. at_home position ∙ sym (elim (cell_in position below) [
+            | inl stands ↦ ap is_put_out stands
+            | inr target ↦ ap is_put_out target.0
+          ]);
         }
 
 -- ---- the frames with this row

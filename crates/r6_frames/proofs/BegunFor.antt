@@ -1,5 +1,5 @@
 -- What a row may be held for, and what its hold is in the world: a request's, or a scrub's.
-use Rattle.std.proofs.Common.{◌≡◌, ℕ, ◌<◌, List, [], ◌∷◌, map, length, refl, sym, ap, subst, ◌∙◌, Some, arith}
+use Rattle.std.proofs.Common.{◌≡◌, ℕ, ◌+◌, ◌<◌, false, List, [], ◌∷◌, map, length, refl, sym, ap, subst, ◌∙◌, Some, inl, inr, arith}
 use Rattle.r6_kernels.specs.Blocks.{IsBlock}
 use Rattle.r6_layout.specs.Shape.{Shape, IsShape, blocks, data_slots}
 use Rattle.r6_layout.specs.Layout as layout
@@ -7,9 +7,11 @@ use Rattle.r6_stripe.specs.Holds.{Cell, cell_at, with_target, MayBegin}
 use Rattle.r6_stripe.specs.Holds.Standing.{InSync}
 use Rattle.r6_stripe.specs.Sound.{IsTask}
 use Rattle.r6_stripe.specs.Views.{kind_of_task}
+use Rattle.r6_stripe.specs.declared.command.Task.TheVariants as asks
 use Rattle.r6_world.specs.PlainArray.{block_of}
 use Rattle.r6_world.specs.Layouts.{IsRowOf}
 use Rattle.r6_world.specs.Geometries.{layout_of}
+use Rattle.r6_world.specs.ShardStates.{standing_of}
 use Rattle.r6_world.specs.Tasks.{kind_of}
 use Rattle.r6_world.proofs.Cells.{found-long, found-at}
 use Rattle.r6_world.proofs.Geometries.{layouts}
@@ -21,13 +23,17 @@ use Rattle.r6_frames.specs.declared.frames.Scrub.{Scrub}
 use Rattle.r6_frames.specs.declared.frames.Scrub.TheVariants as scrub
 use Rattle.r6_frames.specs.declared.frames.FrameUse.TheVariants.{Held as HeldIn}
 use Rattle.r6_frames.specs.declared.frames.Frames.{Frames}
+use Rattle.r6_frames.specs.declared.rebuilt.Target.{Target}
+use Rattle.r6_frames.specs.declared.slots.Device.{Device}
+use Rattle.r6_frames.specs.Rebuilt.{IsRebuilt, is_rebuilt}
 use Rattle.r6_frames.specs.Slots.{states_of}
-use Rattle.r6_frames.specs.Views.{op_of, buffer_of, job_for, row_task, scrub_row_task, scrub_task, task_for, task_by, row_in, requests_by, held_entry, request_at, requests_from}
-use Rattle.r6_frames.specs.Calls.{entry_of, AreAllInSync, Begins, BeginsScrub, Holds, IsFreeFrame, IsRequestOf, NotHeldBy}
+use Rattle.r6_frames.specs.Views.{op_of, buffer_of, job_for, row_task, rebuild_task, scrub_row_task, scrub_task, task_for, task_by, row_in, requests_by, held_entry, request_at, requests_from}
+use Rattle.r6_frames.specs.Calls.{entry_of, AreAllInSync, Begins, BeginsRebuild, BeginsScrub, Holds, IsFreeFrame, IsNextOn, IsRequestOf, NotHeldBy}
 use Rattle.r6_frames.specs.Uses.{block_in, task_in, row_of, begun_row}
-use Rattle.r6_frames.specs.Sound.{IsJob, IsSound, MayHold}
+use Rattle.r6_frames.specs.Sound.{IsDeviceOf, IsJob, IsSound, IsTargetAt, MayHold}
 use Rattle.r6_frames.proofs.Beginning.{begun_shard, found_in, inside}
-use Rattle.r6_frames.proofs.NewDevices.{stands_in}
+use Rattle.r6_frames.proofs.NewDevices.{next_unbuilt, stands_in}
+use Rattle.r6_frames.proofs.LostRows.{target_out}
 use Rattle.r6_frames.proofs.Held.{held_comes, same_requests}
 
 -- ---- a request
@@ -72,7 +78,7 @@ may_hold fs request shape right =
       job = job_is fs.geometry request.id request.op right.there right.sized;
       fits = fits_row fs.geometry index request.op placed.1 right.sized;
       may_begin = may_begin fs (row_of fs request) index request.op placed.1 right.sized;
-      no_target = no_target index request.op;
+      targets = inl (no_target index request.op);
     }
 
 pub begins : (fs new : Frames) (frame : ℕ) (request : Request) → IsSound fs → IsFreeFrame fs frame → IsRequestOf fs request → NotHeldBy fs (row_of fs request)
@@ -113,9 +119,9 @@ all_in_sync fs row position shape whole below inside =
 -- each row of the shard may be held for it, while every slot is in sync
 pub may_scrub : (fs : Frames) (scrub : Scrub) (row : ℕ) → IsShape fs.geometry → AreAllInSync fs row → IsRowOf (layout_of fs.geometry) fs.shard row → MayHold fs row (job.Scrub scrub) (scrub_row_task scrub)
 may_scrub fs scrub.Check row shape whole own =
-    record { own = own; job = refl; fits = tt; may_begin = λ position inside. all_in_sync fs row position shape whole own.0 inside; no_target = λ cells. refl }
+    record { own = own; job = refl; fits = tt; may_begin = λ position inside. all_in_sync fs row position shape whole own.0 inside; targets = inl (λ cells. refl) }
 may_scrub fs scrub.Repair row shape whole own =
-    record { own = own; job = refl; fits = tt; may_begin = λ position inside. all_in_sync fs row position shape whole own.0 inside; no_target = λ cells. refl }
+    record { own = own; job = refl; fits = tt; may_begin = λ position inside. all_in_sync fs row position shape whole own.0 inside; targets = inl (λ cells. refl) }
 
 scrub_kind_is : (shape : Shape) (row : ℕ) (scrub : Scrub) → kind_of (layout_of shape) row (scrub_task scrub) ≡ kind_of_task (scrub_row_task scrub)
 scrub_kind_is shape row scrub.Check = refl
@@ -133,5 +139,63 @@ begins_scrub fs new frame scrub row sound free whole own unheld holds =
         λ rest.
             begun_shard fs frame row (job.Scrub scrub) (scrub_row_task scrub) holds.held holds.spare sound free (may_scrub fs scrub row sound.shape whole own) unheld holds.put
             (scrub_task scrub) refl (scrub_kind_is fs.geometry row scrub) rest,
+      );
+    })
+
+-- ---- a rebuild
+
+-- the row isn't rebuilt yet
+pub unbuilt_on : (fs : Frames) (target : Target) (row : ℕ) → IsSound fs → (on : IsNextOn fs target row) → is_rebuilt on.rebuilt row ≡ false
+unbuilt_on fs target row sound on =
+    let there : IsRebuilt (layout.first_row fs.geometry fs.shard) (layout.first_row fs.geometry (fs.shard + 1)) on.rebuilt =
+    subst (λ (d : Device). IsDeviceOf (layout_of fs.geometry) fs.shard d) on.device (sound.devices target.slot) in
+    ap (is_rebuilt on.rebuilt) (sym on.next.2) ∙ next_unbuilt on.rebuilt on.next.0 (omega (arith, on.next.1, there.next.count))
+
+-- the row is the target's
+target_at : (fs : Frames) (target : Target) (row : ℕ) → IsSound fs → IsRowOf (layout_of fs.geometry) fs.shard row → target.slot < fs.geometry.slots → (on : IsNextOn fs target row)
+    → IsTargetAt fs.geometry fs.slots row (job.Rebuild target) (layout.position_at fs.geometry row target.slot)
+target_at fs target row sound own below on =
+    record {
+      target = target;
+      job = refl;
+      slot = ((layouts fs.geometry sound.shape).there row target.slot own.0 below).1;
+      rebuilt = on.rebuilt;
+      device = on.device;
+      next = on.next;
+      unbuilt = unbuilt_on fs target row sound on;
+    }
+
+pub may_rebuild : (fs : Frames) (target : Target) (row : ℕ) → IsSound fs → IsRowOf (layout_of fs.geometry) fs.shard row → target.slot < fs.geometry.slots → IsNextOn fs target row
+    → MayHold fs row (job.Rebuild target) (asks.Rebuild (layout.position_at fs.geometry row target.slot))
+may_rebuild fs target row sound own below on =
+    let at = target_at fs target row sound own below on in
+    let place = (layouts fs.geometry sound.shape).there row target.slot own.0 below in
+    let wide = found-long (layout_of fs.geometry) (states_of fs.slots) row in
+    record {
+      own = own;
+      job = (below, refl);
+      fits = place.0;
+      may_begin = (
+        omega (arith, wide, place.0),
+        ap (λ (c : Cell). c.standing) (found-at (layout_of fs.geometry) (states_of fs.slots) row (layout.position_at fs.geometry row target.slot) place.0)
+            ∙ ap (λ (s : ℕ). standing_of (states_of fs.slots s) row) place.1 ∙ target_out fs.slots row target on.rebuilt on.device (unbuilt_on fs target row sound on),
+      );
+      targets = inr (layout.position_at fs.geometry row target.slot, place.0, refl, at);
+    }
+
+pub begins_rebuild : (fs new : Frames) (frame : ℕ) (target : Target) (row : ℕ) → IsSound fs → IsFreeFrame fs frame → IsRowOf (layout_of fs.geometry) fs.shard row → target.slot < fs.geometry.slots
+    → IsNextOn fs target row → NotHeldBy fs row
+    → Holds fs frame (begun_row fs row (job.Rebuild target) (asks.Rebuild (layout.position_at fs.geometry row target.slot))) new → BeginsRebuild fs frame target row new
+begins_rebuild fs new frame target row sound free own below on unheld holds =
+    let task = asks.Rebuild (layout.position_at fs.geometry row target.slot) in
+    let held = begun_row fs row (job.Rebuild target) task in
+    subst (BeginsRebuild fs frame target row) (sym holds.same) (record {
+      requests = ap (requests_from 0) holds.put ∙ same_requests 0 fs.held.items frame frame (HeldIn held) (omega arith) (sym (ap (request_at frame) free.1));
+      shard = (
+        refl,
+        refl,
+        λ rest.
+            begun_shard fs frame row (job.Rebuild target) task holds.held holds.spare sound free (may_rebuild fs target row sound own below on) unheld holds.put
+            (rebuild_task target) refl refl rest,
       );
     })

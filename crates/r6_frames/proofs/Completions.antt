@@ -12,7 +12,7 @@ use Rattle.r6_stripe.specs.Holds.{Cell, Event, Kind, cell_at, no_cell, wants_all
 use Rattle.r6_recover.specs.declared.class.RowClass.{RowClass}
 use Rattle.r6_stripe.specs.Checks.{IsClassAfter, IsClassIf, IsClassRead, is_read_whole}
 use Rattle.r6_stripe.specs.Holds.Event.{Gives, Confirms}
-use Rattle.r6_stripe.specs.Holds.Standing.{InSync}
+use Rattle.r6_stripe.specs.Holds.Standing.{Out}
 use Rattle.r6_stripe.specs.Plans as plans
 use Rattle.r6_stripe.specs.Steps.{Held as HeldHold, is_away, answered}
 use Rattle.r6_world.specs.PlainArray.{Block}
@@ -39,7 +39,7 @@ use Rattle.r6_frames.specs.Calls.{Answers, Classifies, IsAwaited, IsAbandoned, K
 use Rattle.r6_frames.specs.Owed.{owed}
 use Rattle.r6_frames.specs.Sound.{IsSound, IsHeld, IsJob, is_away_from, is_write, place_of}
 use Rattle.r6_frames.proofs.SlotsInTurn.{some_slots, position_left}
-use Rattle.r6_frames.proofs.UnderWay.{held_standing}
+use Rattle.r6_stripe.proofs.Steps.{not_out_is}
 use Rattle.r6_frames.proofs.HeldRows.{use_found}
 use Rattle.r6_frames.proofs.Held.{use_at_other, use_held, held_within, hold_at_own, frame_put, put_own, put_twice, rows_stay, free_at, home_at, owed_at}
 use Rattle.r6_frames.proofs.AnsweredRows.{Answered, answer_event, answer_at, answered_row, answered_held, with_class, classed_held, answered_owes}
@@ -61,7 +61,7 @@ pub record IsOut (fs : Frames) (token : ℕ) (c : Outstanding) (h : HeldRow) : T
   pub row : c.row ≡ h.row
   pub inside : place_of fs c < fs.geometry.slots
   pub away : is_away h.hold (place_of fs c) ≡ true
-  pub in_sync : (cell_at h.hold.planned.hold.cells (place_of fs c)).standing ≡ InSync
+  pub not_out : (cell_at h.hold.planned.hold.cells (place_of fs c)).standing ≢ Out
   pub kind : is_write c.kind ≡ plans.is_sent (cell_at h.hold.planned.hold.cells (place_of fs c)).writing
 
 not_abandoned : (fs : Frames) (token : ℕ) (c : Outstanding) → outstanding fs token ≡ Some c → (IsAbandoned fs token → ⊥) → is_abandoned fs.slots token c ≡ false
@@ -97,10 +97,7 @@ out_of fs token c sound awaited wanted there =
               row = mine.row;
               inside = inside;
               away = sym (ap (λ v. is_away_from v (place_of fs c)) (use_held fs.held.items c.frame h held)) ∙ of.away;
-              in_sync = elim (held_standing fs.geometry fs.shard fs.slots h whole (place_of fs c) inside) [
-                | inl in_sync ↦ in_sync
-                | inr out ↦ absurd (let abandoned = mine.abandoned ∙ ap plans.is_out out in cc)
-              ];
+              not_out = not_out_is (cell_at h.hold.planned.hold.cells (place_of fs c)).standing (sym mine.abandoned ∙ still);
               kind = mine.kind still;
             },
           )
@@ -224,6 +221,7 @@ module _ (fs : Frames) (token : ℕ) (c : Outstanding) (h : HeldRow) (out : IsOu
           by_job (job.Write served) is = absurd (let e = sym (ap wants_all is.2) ∙ all in cc)
           by_job (job.Scrub scrub.Check) is = record {}
           by_job (job.Scrub scrub.Repair) is = record {}
+          by_job (job.Rebuild target) is = absurd (let e = sym (ap wants_all is.1) ∙ all in cc)
 
       one : (found : RowClass) → h.hold.class ≡ None → class ≡ Some found → is_read_whole first.course ≡ true → IsClassRead first.course.cells found
           → Through l fs.shard Classifies s (shard_with rest (answered_of event class))
@@ -319,7 +317,7 @@ pub completed : (fs : Frames) (token : ℕ) (c : Outstanding) (h : HeldRow) (blo
     → Completed fs token block c.frame (record h { hold = hold }) (record fs { held = with_item fs.held c.frame (HeldIn (record h { hold = hold })); commands = commands })
 completed fs token c h block position hold commands sound out at done found rest =
     let event = answer_event c.kind (place_of fs c) block in
-    let a = answer_at fs.geometry fs.shard fs.slots h (place_of fs c) block c.kind out.whole out.inside out.in_sync out.away out.kind in
+    let a = answer_at fs.geometry fs.shard fs.slots h (place_of fs c) block c.kind out.whole out.inside out.not_out out.away out.kind in
     let goes : hold ≡ (with_class (answered_row h (place_of fs c) event) hold.class).hold =
     done ∙ ap (λ p. record (answered h.hold p block) { class = hold.class }) at ∙ (λ i. record { planned = a.is i; away = set h.hold.away (place_of fs c) false; class = hold.class }) in
     let same : record fs { held = with_item fs.held c.frame (HeldIn (record h { hold = hold })); commands = commands } ≡ answered_of fs token c h out event hold.class =

@@ -18,7 +18,7 @@ use Rattle.r6_frames.specs.declared.frames.FrameUse.{FrameUse}
 use Rattle.r6_frames.specs.declared.frames.FrameUse.TheVariants.{Free, Held as HeldIn}
 use Rattle.r6_frames.specs.Views.{use_at, row_in, hold_at, kind_in}
 use Rattle.r6_frames.specs.Owed.{is_unsent, owed_by}
-use Rattle.r6_frames.specs.Sound.{IsHeld, IsJob, is_put_out}
+use Rattle.r6_frames.specs.Sound.{IsHeld, Stands, IsJob, is_put_out}
 use Rattle.r6_frames.proofs.UnderWay.{under_way_after}
 use Rattle.r6_frames.proofs.Held.{held_within}
 
@@ -42,7 +42,7 @@ standing_stays hold event j no_loss = elim (standing_after hold event j) [ inl s
 
 pub held_after : (shape : Shape) (shard : ℕ) (slots : List Slot) (h : HeldRow) (event : Event) (away : List Bool) → IsHeld shape shard slots h → MayFollow h.hold.planned event
     → ((j : ℕ) → event ≢ Loses j) → length away ≡ shape.slots
-    → ((j : ℕ) → j < shape.slots → (cell_at h.hold.planned.hold.cells j).standing ≡ InSync → slice_index_or away j false ≡ is_put_out (cell_at (after_event h.hold.planned.hold event).cells j))
+    → ((j : ℕ) → j < shape.slots → (cell_at h.hold.planned.hold.cells j).standing ≢ Out → slice_index_or away j false ≡ is_put_out (cell_at (after_event h.hold.planned.hold event).cells j))
     → IsHeld shape shard slots (gone_on h event away)
 held_after shape shard slots h event away held may no_loss wide are =
     let hold = h.hold.planned.hold in
@@ -55,8 +55,8 @@ held_after shape shard slots h event away held may no_loss wide are =
       size = size_after hold event ∙ held.size;
       wide = width_after hold event ∙ held.wide;
       wide_away = wide;
-      standing = λ j below. stays j ∙ held.standing j below;
-      away = λ j below in_sync. are j below (sym (stays j) ∙ in_sync);
+      standing = λ j below. subst (λ (s : Standing). Stands shape slots h.row h.job j s) (sym (stays j)) (held.standing j below);
+      away = λ j below not_out. are j below (λ out. not_out (stays j ∙ out));
     }
 
 -- ---- what a hold does by itself puts nothing out, and owes no more commands than before
@@ -163,6 +163,11 @@ pub record Prepared (shape : Shape) (shard : ℕ) (slots : List Slot) (old new :
   pub like : (j : ℕ) → IsLike (cell_at old.hold.planned.hold.cells j) (cell_at new.hold.planned.hold.cells j)
 
 -- a position in sync isn't out
+pub home_is : (s : Standing) → s ≢ Out → is_out s ≡ false
+home_is InSync not_out = refl
+home_is Target not_out = refl
+home_is Out not_out = absurd (not_out refl)
+
 pub in_sync_not_out : (s : Standing) → s ≡ InSync → s ≢ Out
 in_sync_not_out s in_sync out = absurd (cc)
 
@@ -173,9 +178,9 @@ prepared_once shape shard slots h event held silent may =
     λ j. silent_like h.hold.planned event j silent may in
     record {
       held = held_after shape shard slots h event h.hold.away held may (λ j. silent_keeps event j silent) held.wide_away
-          (λ j below in_sync.
-          held.away j below in_sync
-          ∙ sym (like_put_out (cell_at h.hold.planned.hold.cells j) (cell_at (after_event h.hold.planned.hold event).cells j) (like j) (in_sync_not_out (cell_at h.hold.planned.hold.cells j).standing in_sync)));
+          (λ j below not_out.
+          held.away j below not_out
+          ∙ sym (like_put_out (cell_at h.hold.planned.hold.cells j) (cell_at (after_event h.hold.planned.hold event).cells j) (like j) not_out));
       kind = kind_after h.hold.planned.hold event;
       like = like;
     }

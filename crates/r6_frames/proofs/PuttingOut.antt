@@ -1,6 +1,6 @@
 -- A hold puts a command out: what it does by itself first, and the command, as changes of the shard.
-use Rattle.std.proofs.Common.{◌≡◌, ℕ, ◌+◌, ◌<◌, ◌≤◌, true, false, List, [], ◌∷◌, length, set, refl, sym, ap, subst, ◌∙◌, Option, Some, inl}
-use Rattle.std.specs.Prelude.{option_map, nat_lt}
+use Rattle.std.proofs.Common.{◌≡◌, ℕ, ◌+◌, ◌<◌, ◌≤◌, true, false, List, [], ◌∷◌, length, set, refl, sym, ap, subst, ◌∙◌, Option, Some}
+use Rattle.std.specs.Prelude.{◌⊎◌, option_map, nat_lt}
 use Rattle.std.proofs.lemmas.Bool.{le-ltb}
 use Rattle.r6_layout.specs.Layout.{position_at}
 use Rattle.r6_stripe.specs.Holds.{Event, MayAsk, MayWrite, after_event}
@@ -12,9 +12,9 @@ use Rattle.r6_tables.specs.Table.{next_of, entries_of}
 use Rattle.r6_world.specs.Tables.{put}
 use Rattle.r6_world.specs.Layouts.{Layout}
 use Rattle.r6_world.specs.Geometries.{layout_of}
-use Rattle.r6_world.specs.Tasks.{Hold}
-use Rattle.r6_world.specs.ShardStates.{Shard, InSyncFor, IsLive}
-use Rattle.r6_world.specs.Changes.{Change, Ask, Prepare, Send, IsWorkedOut, after}
+use Rattle.r6_world.specs.Tasks.{Hold, Task}
+use Rattle.r6_world.specs.ShardStates.{Shard, SlotState, InSyncFor, IsLive}
+use Rattle.r6_world.specs.Changes.{Change, Ask, Prepare, Send, IsTarget, IsWorkedOut, after}
 use Rattle.r6_world.specs.Steps.{Leads, Through}
 use Rattle.r6_frames.specs.declared.command.CommandKind.{CommandKind}
 use Rattle.r6_frames.specs.declared.command.CommandKind.TheVariants as command
@@ -75,9 +75,14 @@ abbrev pub put_change : ℕ → Hold → (slot generation : ℕ) → CommandKind
 put_change frame h slot generation command.Read buffer = Ask frame h slot generation
 put_change frame h slot generation command.Write buffer = Send frame h slot generation buffer
 
+-- a read goes to a device in sync for the row, and a write to one or to the target
+abbrev pub MayGo : CommandKind → Task → (slot generation : ℕ) → SlotState → (row : ℕ) → Type 0
+MayGo command.Read task slot generation state row = InSyncFor state row generation
+MayGo command.Write task slot generation state row = InSyncFor state row generation ⊎ IsTarget task slot generation state
+
 module _ (fs : Frames) (frame : ℕ) (h : HeldRow) (planned : Planned) (position slot generation : ℕ) (buffer : List ℕ) (rest : Rest)
     (is : hold_at fs.held.items frame ≡ Some h) (inverse : position_at fs.geometry h.row slot ≡ position) (below : slot < fs.geometry.slots) (live : AreLive fs)
-    (synced_for : InSyncFor (states_of fs.slots slot) h.row generation) (handed : fs.handed ≤ next_of fs.commands) (since : (slot_in fs.slots slot).since ≤ next_of fs.commands) where
+    (handed : fs.handed ≤ next_of fs.commands) (since : (slot_in fs.slots slot).since ≤ next_of fs.commands) where
   abbrev l : Layout
   l = layout_of fs.geometry
 
@@ -102,8 +107,8 @@ module _ (fs : Frames) (frame : ℕ) (h : HeldRow) (planned : Planned) (position
       ∙ ap (λ x. put (frame_of fs) frame (Some x)) (same ∙ ap (λ p. record mid { course = after_event planned.hold (event p) }) (sym inverse))
       ∙ sym (put_twice (frame_of fs) frame (Some mid) (Some (record mid { course = after_event planned.hold (event (position_at fs.geometry h.row slot)) })))
 
-  pub put_leads : (kind : CommandKind) → MayFollow planned (put_event position kind buffer) → Leads l fs.shard PutsOut ready (put_change frame mid slot generation kind buffer ∷ []) (shard_with rest (with_put kind))
-  put_leads command.Read follows =
+  pub put_leads : (kind : CommandKind) → MayGo kind mid.task slot generation (states_of fs.slots slot) h.row → MayFollow planned (put_event position kind buffer) → Leads l fs.shard PutsOut ready (put_change frame mid slot generation kind buffer ∷ []) (shard_with rest (with_put kind))
+  put_leads command.Read goes follows =
       let new = sent_off h (planned_after planned (Asks position)) position in
       let frames_are = frame_then Asks new refl in
       let commands_are = command_came fs.slots (entries_of fs.commands) fs.handed (next_of fs.commands) (new_command frame slot generation h.row command.Read buffer) handed not_abandoned in
@@ -113,14 +118,14 @@ module _ (fs : Frames) (frame : ℕ) (h : HeldRow) (planned : Planned) (position
         (
           put_own (frame_of fs) frame (Some mid),
           below,
-          synced_for,
+          goes,
           live,
           subst (λ (p : ℕ). MayAsk planned.hold p) (sym inverse) may,
           subst (λ (p : ℕ). MayFollow planned (Asks p)) (sym inverse) follows,
         ),
         λ i. record s { frame = frames_are i; command = commands_are i; tokens = next_of fs.commands + 1 },
       )
-  put_leads command.Write follows =
+  put_leads command.Write goes follows =
       let new = sent_off h (planned_after planned (Writes position buffer)) position in
       let frames_are = frame_then (λ p. Writes p buffer) new refl in
       let commands_are = command_came fs.slots (entries_of fs.commands) fs.handed (next_of fs.commands) (new_command frame slot generation h.row command.Write buffer) handed not_abandoned in
@@ -130,7 +135,7 @@ module _ (fs : Frames) (frame : ℕ) (h : HeldRow) (planned : Planned) (position
         (
           put_own (frame_of fs) frame (Some mid),
           below,
-          inl synced_for,
+          goes,
           live,
           subst (λ (p : ℕ). MayWrite planned.hold p buffer) (sym inverse) may,
           subst (λ (p : ℕ). MayFollow planned (Writes p buffer)) (sym inverse) follows,

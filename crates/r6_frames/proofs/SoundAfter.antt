@@ -23,9 +23,8 @@ use Rattle.r6_frames.specs.declared.frames.Frames.{Frames}
 use Rattle.r6_frames.specs.Views.{use_at, hold_at, held_entry, requests_by, request_at, requests_from, kind_in}
 use Rattle.r6_frames.specs.Owed.{is_unsent, owed_by, owed_in, HasOut, IsOver}
 use Rattle.r6_frames.specs.Sound.{IsHeld, IsSound, AreFrames, AreCommands, is_put_out, is_write}
-use Rattle.r6_frames.proofs.UnderWay.{held_standing}
 use Rattle.r6_frames.proofs.Held.{held_within, same_requests, use_held, use_at_own, use_at_other, apart_still, owed_at, owed_set, free_at, free_set}
-use Rattle.r6_frames.proofs.HeldRows.{Prepared, prepared, held_after, standing_stays, in_sync_not_out, are_prepared, prepared_owes}
+use Rattle.r6_frames.proofs.HeldRows.{Prepared, prepared, held_after, standing_stays, home_is, in_sync_not_out, are_prepared, prepared_owes}
 use Rattle.r6_frames.proofs.CommandComes.{with_row, sent_off, held_then, PutsOutAt}
 use Rattle.r6_frames.proofs.PuttingOut.{put_event}
 
@@ -152,14 +151,14 @@ or_second : (a b : Bool) → b ≡ true → (a || b) ≡ true
 or_second true b e = refl
 or_second false b e = e
 
-some_out : (hold : Hold) (j : ℕ) → j < length hold.cells → (cell_at hold.cells j).standing ≡ InSync → is_put_out (cell_at hold.cells j) ≡ true → (has_read_out hold || has_write_out hold) ≡ true
-some_out hold j below in_sync out =
+some_out : (hold : Hold) (j : ℕ) → j < length hold.cells → is_out (cell_at hold.cells j).standing ≡ false → is_put_out (cell_at hold.cells j) ≡ true → (has_read_out hold || has_write_out hold) ≡ true
+some_out hold j below home out =
     let cell = cell_at hold.cells j in
     elim (or_cases (is_asked cell.reading) (is_sent cell.writing) out) [
       | inl asked ↦
-          let reads : has_read_out hold ≡ true = any_true (λ c. not (is_out c.standing) && is_asked c.reading) hold.cells j below (λ i. not (is_out (in_sync i)) && asked i) in
+          let reads : has_read_out hold ≡ true = any_true (λ c. not (is_out c.standing) && is_asked c.reading) hold.cells j below (λ i. not (home i) && asked i) in
           ap (λ (b : Bool). b || has_write_out hold) reads
-      | inr sent ↦ or_second (has_read_out hold) (has_write_out hold) (any_true (λ c. not (is_out c.standing) && is_sent c.writing) hold.cells j below (λ i. not (is_out (in_sync i)) && sent i))
+      | inr sent ↦ or_second (has_read_out hold) (has_write_out hold) (any_true (λ c. not (is_out c.standing) && is_sent c.writing) hold.cells j below (λ i. not (home i) && sent i))
     ]
 
 -- ---- a row puts a command out
@@ -196,15 +195,21 @@ module _ (fs : Frames) (frame : ℕ) (h : HeldRow) (events : List Event) (positi
   below_away : position < length h.hold.away
   below_away = subst (λ (n : ℕ). position < n) (sym held.wide_away) put_below
 
-  in_sync : (cell_at before.hold.cells position).standing ≡ InSync
-  in_sync = elim (held_standing fs.geometry fs.shard fs.slots (prepared h before) p.held position put_below) [ inl e ↦ e | inr out ↦ absurd (u.not_out out) ]
+  -- the position wasn't out from the first
+  pub put_not_out : (cell_at h.hold.planned.hold.cells position).standing ≢ Out
+  put_not_out out = u.not_out ((p.like position).standing ∙ out)
 
-  -- the position was in sync from the first
-  pub put_in_sync : (cell_at h.hold.planned.hold.cells position).standing ≡ InSync
-  put_in_sync = sym (p.like position).standing ∙ in_sync
+  -- and is in sync if it is read
+  pub put_in_sync : kind ≡ command.Read → (cell_at h.hold.planned.hold.cells position).standing ≡ InSync
+  put_in_sync reads =
+      let asks : MayFollow before (Asks position) = subst (λ (k : CommandKind). MayFollow before (put_event position k buffer)) reads follows in
+      sym (p.like position).standing ∙ (step_by_rules before (Asks position) asks).in_sync
 
   standing_is : (j : ℕ) → (cell_at planned.hold.cells j).standing ≡ (cell_at before.hold.cells j).standing
   standing_is j = standing_stays before.hold (put_event position kind buffer) j (u.no_loss j)
+
+  home_then : is_out (cell_at planned.hold.cells position).standing ≡ false
+  home_then = home_is (cell_at planned.hold.cells position).standing (λ out. u.not_out (sym (standing_is position) ∙ out))
 
   here : cell_at planned.hold.cells position ≡ put_cell kind (cell_at before.hold.cells position)
   here = ap (λ (cells : List Cell). cell_at cells position) u.cells ∙ get_or-set_same before.hold.cells position (put_cell kind (cell_at before.hold.cells position)) no_cell u.below
@@ -215,13 +220,13 @@ module _ (fs : Frames) (frame : ℕ) (h : HeldRow) (events : List Event) (positi
   out_here : is_put_out (cell_at planned.hold.cells position) ≡ true
   out_here = ap is_put_out here ∙ u.put.is_out
 
-  away_are : (j : ℕ) → j < fs.geometry.slots → (cell_at before.hold.cells j).standing ≡ InSync → slice_index_or (set h.hold.away position true) j false ≡ is_put_out (cell_at planned.hold.cells j)
-  away_are j below in_sync =
+  away_are : (j : ℕ) → j < fs.geometry.slots → (cell_at before.hold.cells j).standing ≢ Out → slice_index_or (set h.hold.away position true) j false ≡ is_put_out (cell_at planned.hold.cells j)
+  away_are j below not_out =
       elim (cases_eq j position) [
         | inl e ↦
             subst (λ (k : ℕ). slice_index_or (set h.hold.away position true) k false ≡ is_put_out (cell_at planned.hold.cells k)) (sym e)
             (get_or-set_same h.hold.away position true false below_away ∙ sym out_here)
-        | inr ne ↦ get_or-set_other h.hold.away position j true false ne ∙ p.held.away j below in_sync ∙ sym (ap is_put_out (elsewhere j ne))
+        | inr ne ↦ get_or-set_other h.hold.away position j true false ne ∙ p.held.away j below not_out ∙ sym (ap is_put_out (elsewhere j ne))
       ]
 
   fewer : owed_by new + 1 ≤ owed_by h
@@ -248,7 +253,7 @@ module _ (fs : Frames) (frame : ℕ) (h : HeldRow) (events : List Event) (positi
       record {
         held = held_now;
         request = request_same frame h planned (set h.hold.away position true) (u.same_kind ∙ p.kind);
-        out = some_out planned.hold position (subst (λ (n : ℕ). position < n) (sym held_now.wide) put_below) (standing_is position ∙ in_sync) out_here;
+        out = some_out planned.hold position (subst (λ (n : ℕ). position < n) (sym held_now.wide) put_below) home_then out_here;
         puts = record {
           held = is;
           own = held.own;
@@ -257,8 +262,8 @@ module _ (fs : Frames) (frame : ℕ) (h : HeldRow) (events : List Event) (positi
           slot_below = slot_below;
           slot_is = slot_is;
           inverse = inverse;
-          home = p.held.away position put_below in_sync ∙ u.put.was_home;
-          not_out = ap is_out (standing_is position ∙ in_sync);
+          home = p.held.away position put_below u.not_out ∙ u.put.was_home;
+          not_out = home_then;
           sent = u.put.sent ∙ ap (λ (c : Cell). is_sent c.writing) (sym here);
           standing = λ j. standing_is j ∙ (p.like j).standing;
           others = λ j ne. ap (λ (c : Cell). is_sent c.writing) (elsewhere j ne) ∙ (p.like j).sent;

@@ -1,5 +1,5 @@
 -- What each call of the frames does to the shard.
-use Rattle.std.specs.Prelude.{◌≡◌, ◌≢◌, ℕ, ◌<◌, ◌≤◌, Bool, true, false, List, [], ◌∷◌, ◌++◌, length, map, slice_set, Option, MatchOption, IsTrue, ◌↔◌, Some, None, option_map}
+use Rattle.std.specs.Prelude.{◌≡◌, ◌≢◌, ℕ, ◌<◌, ◌≤◌, ◌||◌, Bool, true, false, List, [], ◌∷◌, ◌++◌, length, map, slice_set, Option, MatchOption, IsTrue, ◌↔◌, Some, None, option_map}
 use Rattle.std.specs.Global.{Vec}
 use Rattle.std.specs.List.{AllByRecursion}
 use Rattle.r6_kernels.specs.Blocks.{IsBlock}
@@ -20,10 +20,10 @@ use Rattle.r6_world.specs.PlainArray as world
 use Rattle.r6_world.specs.PlainArray.{Block}
 use Rattle.r6_world.specs.Layouts.{Layout, IsRowOf}
 use Rattle.r6_world.specs.Geometries.{layout_of}
-use Rattle.r6_world.specs.Tasks.{Hold, Task, Outcome, Classed, Skipped, end_of}
+use Rattle.r6_world.specs.Tasks.{Hold, Task, Outcome, Classed, Skipped, Rebuilt, GivenUp, end_of}
 use Rattle.r6_world.specs.ShardStates as shards
 use Rattle.r6_world.specs.ShardStates.{Shard, Held, LossOf, frames, begun}
-use Rattle.r6_world.specs.Changes.{Change, Ask, Prepare, Classify, Send, Come_home, Lose, Finish, abandoned_if, taken_out, after, Allowed}
+use Rattle.r6_world.specs.Changes.{Change, Ask, Prepare, Classify, Send, Come_home, Lose, Finish, abandoned_if, taken_out, with_row, AllBuilt, after, Allowed}
 use Rattle.r6_world.specs.Steps.{Event, No_command, Take_command, Step, Through, Takes, Good, Taken}
 use Rattle.r6_frames.specs.declared.op.Op.{Op}
 use Rattle.r6_frames.specs.declared.op.Request.{Request}
@@ -36,10 +36,14 @@ use Rattle.r6_frames.specs.declared.frames.Job.TheVariants as job
 use Rattle.r6_frames.specs.declared.frames.HeldRow.{HeldRow}
 use Rattle.r6_frames.specs.declared.frames.FrameUse.{FrameUse}
 use Rattle.r6_frames.specs.declared.frames.FrameUse.TheVariants as uses
+use Rattle.r6_frames.specs.declared.rebuilt.Rebuilt.{Rebuilt as RebuiltRows}
+use Rattle.r6_frames.specs.declared.rebuilt.Target.{Target}
 use Rattle.r6_frames.specs.declared.slots.Device.{Device}
-use Rattle.r6_frames.specs.Slots.{state_of, states_of, is_abandoned}
+use Rattle.r6_frames.specs.declared.slots.Device.TheVariants as device
+use Rattle.r6_frames.specs.Rebuilt.{IsNext}
+use Rattle.r6_frames.specs.Slots.{slot_in, state_of, states_of, is_abandoned}
 use Rattle.r6_frames.specs.declared.frames.Frames.{Frames}
-use Rattle.r6_frames.specs.Views.{op_of, buffer_of, outcome_of, task_for, scrub_task, requests_by, kind_in, held_for, plan_in, use_at, hold_at, held_requests, outstanding, world_command, Rest, shard_with, AreLive}
+use Rattle.r6_frames.specs.Views.{op_of, buffer_of, outcome_of, task_for, rebuilds, rebuild_task, scrub_task, requests_by, kind_in, held_for, plan_in, use_at, hold_at, held_requests, outstanding, world_command, Rest, shard_with, AreLive}
 use Rattle.r6_frames.specs.Owed.{owed}
 
 -- a relation of two shards, whatever they have beside their frames
@@ -129,14 +133,14 @@ abbrev pub told_row : (hears : Bool) → Shape → (slot : ℕ) → HeldRow → 
 told_row true shape slot h = record h { hold = lost h.hold (layout.position_at shape h.row slot) }
 told_row false shape slot h = h
 
--- it does if the slot's device was in sync for it
-abbrev pub hears : (was : shards.SlotState) → HeldRow → Bool
-hears was h = stripe.is_in_sync (shards.standing_of was h.row)
+-- it does if the slot's device was in sync for it, or it is rebuilt on a device of the slot
+abbrev pub hears : (was : shards.SlotState) → (slot : ℕ) → HeldRow → Bool
+hears was slot h = stripe.is_in_sync (shards.standing_of was h.row) || rebuilds h.job slot
 
 -- a held row is told of the loss of a slot that had this device
 abbrev pub told_use : Shape → (was : shards.SlotState) → (slot : ℕ) → FrameUse → FrameUse
 told_use shape was slot uses.Free = uses.Free
-told_use shape was slot (uses.Held h) = uses.Held (told_row (hears was h) shape slot h)
+told_use shape was slot (uses.Held h) = uses.Held (told_row (hears was slot h) shape slot h)
 told_use shape was slot (uses.Returning r) = uses.Returning r
 
 -- each held row is one of the array, as wide as the array
@@ -235,6 +239,30 @@ pub record BeginsScrub (old : Frames) (frame : ℕ) (scrub : Scrub) (row : ℕ) 
       Between (λ l n s s'. s' ≡ record s { frame = put s.frame frame (Some (begun l s.slot row (scrub_task scrub))) })
       old new
 
+-- the new device is in its slot, and the row is one of those that are rebuilt next on it
+pub record IsNextOn (fs : Frames) (target : Target) (row : ℕ) : Type 0 where
+  pub rebuilt : RebuiltRows
+  pub device : (slot_in fs.slots target.slot).device ≡ device.Building target.generation rebuilt
+  pub next : IsNext rebuilt row
+
+-- the row is held in the frame for its rebuild, and its hold begins
+pub record BeginsRebuild (old : Frames) (frame : ℕ) (target : Target) (row : ℕ) (new : Frames) : Type 0 where
+  pub requests : held_requests new ≡ held_requests old
+  pub shard :
+      Between (λ l n s s'. s' ≡ record s { frame = put s.frame frame (Some (begun l s.slot row (rebuild_task target))) })
+      old new
+
+-- the row is rebuilt on the device of the slot
+abbrev pub Marks : Frames → Target → (row : ℕ) → Frames → Type 0
+Marks old target row new =
+    Between (λ l n s s'. s' ≡ record s { slot = put s.slot target.slot (with_row (s.slot target.slot) row) }) old new
+
+-- and each row of the shard is: the device is in sync
+abbrev pub BringsIn : Frames → Target → (row : ℕ) → Frames → Type 0
+BringsIn old target row new =
+    Between (λ l n s s'. AllBuilt l n (with_row (s.slot target.slot) row)
+    × (s' ≡ record s { slot = put s.slot target.slot (shards.SlotState.Synced target.generation) })) old new
+
 -- ---- holds end
 
 -- what the hold was for, by the world, and how it has ended
@@ -242,11 +270,15 @@ abbrev pub ended_task : Ended → Task
 ended_task (ended.Request request) = task_for request.id request.op
 ended_task (ended.Classed scrub class) = scrub_task scrub
 ended_task (ended.Skipped scrub) = scrub_task scrub
+ended_task (ended.Rebuilt target row) = rebuild_task target
+ended_task (ended.GivenUp target) = rebuild_task target
 
 abbrev pub ended_outcome : Ended → Outcome
 ended_outcome (ended.Request request) = outcome_of request.op
 ended_outcome (ended.Classed scrub class) = Classed class
 ended_outcome (ended.Skipped scrub) = Skipped
+ended_outcome (ended.Rebuilt target row) = Rebuilt
+ended_outcome (ended.GivenUp target) = GivenUp
 
 -- the row was held for this
 abbrev pub IsEndedOf : HeldRow → Ended → Type 0
@@ -255,6 +287,8 @@ IsEndedOf h (ended.Request request) =
     × (length (buffer_of request.op) ≡ h.hold.planned.hold.size)
 IsEndedOf h (ended.Classed scrub class) = h.job ≡ job.Scrub scrub
 IsEndedOf h (ended.Skipped scrub) = h.job ≡ job.Scrub scrub
+IsEndedOf h (ended.Rebuilt target row) = (h.job ≡ job.Rebuild target) × (h.row ≡ row)
+IsEndedOf h (ended.GivenUp target) = h.job ≡ job.Rebuild target
 
 -- how a scrub has ended whose hold ends so
 abbrev pub ended_by : Scrub → Option End → Ended
@@ -264,11 +298,30 @@ ended_by scrub (Some end.Rebuilt) = ended.Skipped scrub
 ended_by scrub (Some (end.Classed class)) = ended.Classed scrub class
 ended_by scrub (Some end.GivenUp) = ended.Skipped scrub
 
+-- how a rebuild of the row has ended whose hold ends so
+abbrev pub rebuild_ended : Target → (row : ℕ) → Option End → Ended
+rebuild_ended target row None = ended.GivenUp target
+rebuild_ended target row (Some end.Done) = ended.GivenUp target
+rebuild_ended target row (Some end.Rebuilt) = ended.Rebuilt target row
+rebuild_ended target row (Some (end.Classed class)) = ended.GivenUp target
+rebuild_ended target row (Some end.GivenUp) = ended.GivenUp target
+
 -- the class is the one that the hold has found
 abbrev pub SaysClass : Option RowClass → Ended → Type 0
 SaysClass found (ended.Request request) = Unit {0}
 SaysClass found (ended.Classed scrub class) = found ≡ Some class
 SaysClass found (ended.Skipped scrub) = Unit {0}
+SaysClass found (ended.Rebuilt target row) = Unit {0}
+SaysClass found (ended.GivenUp target) = Unit {0}
+
+-- a row whose rebuild has ended may be marked
+abbrev pub MayMark : Frames → Ended → Type 0
+MayMark fs (ended.Request request) = Unit {0}
+MayMark fs (ended.Classed scrub class) = Unit {0}
+MayMark fs (ended.Skipped scrub) = Unit {0}
+MayMark fs (ended.GivenUp target) = Unit {0}
+MayMark fs (ended.Rebuilt target row) =
+    (target.slot < fs.geometry.slots) × IsRowOf (layout_of fs.geometry) fs.shard row × IsNextOn fs target row × NotHeldBy fs row
 
 -- what a hold that is over was told of its end
 abbrev pub IsTold : StripeHold → Option End → Type 0
@@ -288,12 +341,23 @@ Leaves old frame (ended.Request request) new =
     IsWith (held_requests new) frame (entry_of frame request) (held_requests old) × HasOneBlock old.geometry request
 Leaves old frame (ended.Classed scrub class) new = held_requests new ≡ held_requests old
 Leaves old frame (ended.Skipped scrub) new = held_requests new ≡ held_requests old
+Leaves old frame (ended.Rebuilt target row) new = held_requests new ≡ held_requests old
+Leaves old frame (ended.GivenUp target) new = held_requests new ≡ held_requests old
+
+-- a row that is rebuilt is the hold's
+abbrev pub IsOfRow : Hold → Ended → Type 0
+IsOfRow hold (ended.Request request) = Unit {0}
+IsOfRow hold (ended.Classed scrub class) = Unit {0}
+IsOfRow hold (ended.Skipped scrub) = Unit {0}
+IsOfRow hold (ended.Rebuilt target row) = hold.row ≡ row
+IsOfRow hold (ended.GivenUp target) = Unit {0}
 
 -- the frame's hold ends
 pub record Ends (old : Frames) (frame : ℕ) (ended : Ended) (new : Frames) : Type 0 where
   pub leaves : Leaves old frame ended new
   pub hold : Hold
   pub task : hold.task ≡ ended_task ended
+  pub row : IsOfRow hold ended
   pub may : Between (λ l n s s'. Allowed l n s (Finish frame hold (ended_outcome ended))) old new
   pub shard : Between (λ l n s s'. s' ≡ record s { frame = put s.frame frame None }) old new
 
@@ -302,9 +366,9 @@ pub record GivesUp (old : Frames) (frame : ℕ) (ended : Ended) (new : Frames) :
   pub leaves : Leaves old frame ended new
   pub shard : Between (λ l n s s'. s' ≡ record s { frame = put s.frame frame None }) old new
 
--- and it was a scrub's
+-- and it was of no request
 abbrev pub GivesScrubUp : Frames → ℕ → Frames → Type 0
-GivesScrubUp old frame new = (scrub : Scrub) × GivesUp old frame (ended.Skipped scrub) new
+GivesScrubUp old frame new = (e : Ended) × GivesUp old frame e new × (held_requests new ≡ held_requests old)
 
 -- ---- what a call leaves
 

@@ -1,5 +1,5 @@
 -- Which frames, commands and requests of the world's shard these are.
-use Rattle.std.specs.Prelude.{◌≡◌, ℕ, ◌+◌, ◌≤◌, nat_lt, Bool, true, false, List, [], ◌∷◌, ◌++◌, map, slice_index_or, Option, Some, None, option_map}
+use Rattle.std.specs.Prelude.{◌≡◌, ℕ, ◌+◌, ◌≤◌, ◌==◌, nat_lt, Bool, true, false, List, [], ◌∷◌, ◌++◌, map, slice_index_or, Option, Some, None, option_map}
 use Rattle.std.specs.FinMap as finite
 use Rattle.r6_layout.specs.Layout as layout
 use Rattle.r6_stripe.specs.Holds.{Kind}
@@ -12,7 +12,7 @@ use Rattle.r6_stripe.specs.declared.command.RowCommand.TheVariants as stripe
 use Rattle.r6_tables.specs.Table.{entries_of, next_of}
 use Rattle.r6_world.specs.PlainArray as world
 use Rattle.r6_world.specs.PlainArray.{Block}
-use Rattle.r6_world.specs.Tasks.{Task, ReadFor, WriteFor, Check, Repair, Hold, Outcome, Answered, Wrote}
+use Rattle.r6_world.specs.Tasks.{Task, ReadFor, WriteFor, Rebuild, Check, Repair, Hold, Outcome, Answered, Wrote}
 use Rattle.r6_world.specs.ShardStates as shards
 use Rattle.r6_world.specs.ShardStates.{Shard, Held, Transfer, Fetch, Store, Storing, Call}
 use Rattle.r6_frames.specs.declared.op.Op.{Op}
@@ -28,6 +28,7 @@ use Rattle.r6_frames.specs.declared.frames.Scrub.TheVariants as scrub
 use Rattle.r6_frames.specs.declared.frames.HeldRow.{HeldRow}
 use Rattle.r6_frames.specs.declared.frames.FrameUse.{FrameUse}
 use Rattle.r6_frames.specs.declared.frames.FrameUse.TheVariants as uses
+use Rattle.r6_frames.specs.declared.rebuilt.Target.{Target}
 use Rattle.r6_frames.specs.declared.slots.Slot.{Slot}
 use Rattle.r6_frames.specs.Slots.{states_of, count_out, is_abandoned}
 use Rattle.r6_frames.specs.declared.frames.Frames.{Frames}
@@ -90,18 +91,37 @@ abbrev pub is_scrub : Job → Bool
 is_scrub (job.Read served buffer) = false
 is_scrub (job.Write served) = false
 is_scrub (job.Scrub scrub) = true
+is_scrub (job.Rebuild target) = false
 
--- in which order holds end that are over together: from the oldest request to the newest, and then scrubs
+abbrev pub is_request : Job → Bool
+is_request (job.Read served buffer) = true
+is_request (job.Write served) = true
+is_request (job.Scrub scrub) = false
+is_request (job.Rebuild target) = false
+
+-- it rebuilds a row on a device of the slot
+abbrev pub rebuilds : Job → (slot : ℕ) → Bool
+rebuilds (job.Read served buffer) slot = false
+rebuilds (job.Write served) slot = false
+rebuilds (job.Scrub scrub) slot = false
+rebuilds (job.Rebuild target) slot = target.slot == slot
+
+abbrev pub rebuild_task : Target → Task
+rebuild_task target = Rebuild target.slot target.generation
+
+-- in which order holds end that are over together: from the oldest request to the newest, and then those of no request
 abbrev pub rank_of : Job → ℕ
 rank_of (job.Read served buffer) = served.id
 rank_of (job.Write served) = served.id
 rank_of (job.Scrub scrub) = 18446744073709551615
+rank_of (job.Rebuild target) = 18446744073709551615
 
 abbrev pub task_by : Job → Kind → Task
 task_by (job.Read served buffer) kind = ReadFor served.id served.block
 task_by (job.Write served) kind =
     WriteFor (record { id = served.id; block = served.block; new_data = new_data_of kind } ∷ [])
 task_by (job.Scrub scrub) kind = scrub_task scrub
+task_by (job.Rebuild target) kind = rebuild_task target
 
 abbrev pub kind_in : HeldRow → Kind
 kind_in h = h.hold.planned.hold.kind
@@ -138,6 +158,7 @@ abbrev pub requests_by : Job → Kind → List (ℕ × world.Op)
 requests_by (job.Read served buffer) kind = (served.id, world.Op.Read served.block) ∷ []
 requests_by (job.Write served) kind = (served.id, world.Op.Write served.block (new_data_of kind)) ∷ []
 requests_by (job.Scrub scrub) kind = []
+requests_by (job.Rebuild target) kind = []
 
 abbrev pub held_entry : ℕ → ℕ × world.Op → ℕ × shards.Request
 held_entry frame request = (request.0, record { op = request.1; stage = Held frame })

@@ -19,6 +19,13 @@ pub struct Rebuilt {
     pub(crate) next: [u64; MOST_WINDOW],
 }
 
+/// A new device on which a row is rebuilt.
+#[derive(Clone, Copy)]
+pub struct Target {
+    pub slot: usize,
+    pub generation: u32,
+}
+
 impl Rebuilt {
     /// No row of the shard that has this first row.
     pub fn none(start: u64) -> Rebuilt
