@@ -23,7 +23,7 @@ use Rattle.r6_core.specs.declared.state.State.{State}
 use Rattle.r6_core.specs.Shards.{state_of, rest_of, layout_in, requests_of, waiting_request, replied_requests, core_of}
 use Rattle.r6_core.specs.Order.{Agrees, SameReplies}
 use Rattle.r6_core.specs.Inside.{SameFrames, NoCalls, IsSound, bound, most_tokens, count_untold, SameCalls, Seen}
-use Rattle.r6_core.proofs.CountedRows.{counted_still, same_or_fewer}
+use Rattle.r6_core.proofs.CountedRows.{counted_kept, same_or_fewer}
 use Rattle.r6_core.proofs.Throughs.{through_both, through_in, through_one}
 use Rattle.r6_core.proofs.Kept.{own_rows_kept, requests_kept, sizes_kept}
 
@@ -106,7 +106,7 @@ sound_taken s slot device fs sound told takes is next owes requests rows =
       };
       tokens = subst (λ n. n ≤ most_tokens) (sym bounds) sound.tokens;
       accepted = sound.accepted;
-      counted = counted_still s.counts s.frames fs sound.counted (same_or_fewer s.frames fs sound.frames is rows) (omega (arith, next));
+      counted = counted_kept s.counts s.frames fs sound.counted (same_or_fewer s.frames fs sound.frames is rows) (omega (arith, next));
       next_rows = own_rows_kept s.frames fs s.check_row s.repair_row takes.0 takes.1 sound.next_rows;
     }
 

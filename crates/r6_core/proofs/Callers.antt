@@ -7,7 +7,7 @@ use Rattle.r6_world.specs.Changes.{Accept, after}
 use Rattle.r6_world.specs.Steps as steps
 use Rattle.r6_world.specs.ShardStates as shards
 use Rattle.r6_frames.specs.declared.op.Op.{Op}
-use Rattle.r6_frames.specs.declared.frames.Scrub.{Scrub}
+use Rattle.r6_frames.specs.declared.frames.Scrub.TheVariants as scrub
 use Rattle.r6_frames.specs.declared.command.Outstanding.{Outstanding}
 use Rattle.r6_frames.specs.declared.command.Command.{Command}
 use Rattle.r6_frames.specs.Views.{op_of, command_of, outstanding}
@@ -22,10 +22,12 @@ use Rattle.r6_core.specs.declared.refusal.Refusal.{Refusal}
 use Rattle.r6_core.specs.declared.refusal.Refusal.TheVariants.{UnknownCall}
 use Rattle.r6_core.specs.declared.state.State.{State}
 use Rattle.r6_core.specs.declared.turn.Turn.{Turn}
-use Rattle.r6_core.specs.Shards.{core_of, call_of, state_of, layout_in, Step, completion_of, receipt_of, buffer_in, reply_of, buffer_back}
-use Rattle.r6_core.specs.Refusals.{HasSubmitFault, submit_faults, IsOut, HasDeliverFault, deliver_faults, HasTurnFault, turn_faults, IsFirstFault, HasNone, AllTold}
+use Rattle.r6_core.specs.declared.turn.Turn.TheVariants.{Started}
+use Rattle.r6_core.specs.declared.turn.Task.TheVariants as task
+use Rattle.r6_core.specs.Shards.{core_of, core_with, call_of, state_of, layout_in, Step, completion_of, receipt_of, buffer_in, reply_of, buffer_back}
+use Rattle.r6_core.specs.Refusals.{HasSubmitFault, submit_faults, IsOut, HasDeliverFault, deliver_faults, HasRebuildFault, HasTurnFault, turn_faults, IsFirstFault, HasNone, AllTold}
 use Rattle.r6_core.specs.Order.{BringsBack, SameReplies, FinishesBy, LooksOn, TakesFirst, HasNoReply, HaveTurns, HaveTurnsBehind, HaveTurnsAfter}
-use Rattle.r6_core.specs.Effects.{Accepts, KeepsRequests, Turns, turn_event, Receives, LooksAt, IsCommandOf, Hears, RefusesAnswer, HandsReply, HandsNoReply}
+use Rattle.r6_core.specs.Effects.{Accepts, KeepsRequests, Rebuilds, Turns, turn_event, Receives, LooksAt, IsCommandOf, Hears, RefusesAnswer, HandsReply, HandsNoReply}
 use Rattle.r6_core.specs.Inside.{Seen, NoCalls, HasFault, next_row}
 
 -- ---- cases of a result
@@ -91,33 +93,39 @@ not_told s some none = some (no_calls s.calls.items none.0, none_untold s.untold
 
 -- ---- the calls
 
-pub accepts : {I E : Type 0} (number : I → ℕ) (result : Result I E) (s new : State) (o : Op)
+pub accepts : {I E : Type 0} (window : ℕ) (number : I → ℕ) (result : Result I E) (s new : State) (o : Op)
     → IfOk result (λ id. Step (core_of s) (steps.Submit (op_of o) (number id)) (core_of new))
     → IfOk result (λ _. HasNone (HasSubmitFault (core_of s) o) submit_faults)
     → IfOk result (λ _. Seen SameReplies s new)
     → IfOk result (λ _. new.unanswered ≡ s.unanswered + 1)
     → IfOk result (λ id. HaveTurns (core_of s) (after (layout_in s) (state_of s) (Accept (op_of o))) (s.waiting.items ++ record { id = number id; op = o } ∷ []) (core_of new))
-    → IfOk result (λ id. Accepts (core_of s) o (number id) (core_of new))
-accepts number (Ok id) s new o step right order unanswered turns =
+    → IfOk result (λ id. Accepts (core_with window s) o (number id) (core_with window new))
+accepts window number (Ok id) s new o step right order unanswered turns =
     record { step = step; right = right; order = order; unanswered = unanswered; turns = turns }
-accepts number (Err e) s new o step right order unanswered turns = tt
+accepts window number (Err e) s new o step right order unanswered turns = tt
 
-pub receives : {E : Type 0} (result : Result Receipt E) (s new : State) (token : ℕ) (completion : Result (List ℕ) DeviceFault)
+-- of whatever window
+finishes_by : (window : ℕ) (completion : Result (List ℕ) DeviceFault) (s new : State) → Seen (FinishesBy completion) s new
+    → FinishesBy completion (core_with window s) (core_with window new)
+finishes_by window (Ok block) s new is = is
+finishes_by window (Err fault) s new is = is
+
+pub receives : {E : Type 0} (window : ℕ) (result : Result Receipt E) (s new : State) (token : ℕ) (completion : Result (List ℕ) DeviceFault)
     → IfOk result (λ receipt. Step (core_of s) (steps.Deliver token (completion_of completion) (receipt_of receipt)) (core_of new))
     → IfOk result (λ _. HasNone (HasFault s token completion) deliver_faults)
     → IfOk result (λ _. Seen (FinishesBy completion) s new)
     → new.unanswered ≡ s.unanswered
     → IfOk result (λ receipt. HaveTurnsBehind (core_of s) token completion receipt (core_of new))
-    → IfOk result (λ receipt. Receives (core_of s) token completion receipt (core_of new))
-receives (Ok receipt) s new token completion step right order unanswered turns =
+    → IfOk result (λ receipt. Receives (core_with window s) token completion receipt (core_with window new))
+receives window (Ok receipt) s new token completion step right order unanswered turns =
     record {
       step = step;
       right = ((λ no. right.0 (λ is. no (out_of s token is))), right.1);
-      order = order;
+      order = finishes_by window completion s new order;
       unanswered = unanswered;
       turns = turns;
     }
-receives (Err e) s new token completion step right order unanswered turns = tt
+receives window (Err e) s new token completion step right order unanswered turns = tt
 
 pub first_fault : (s : State) (token : ℕ) (completion : Result (List ℕ) DeviceFault) (refusal : Refusal)
     → IsFirstFault (HasFault s token completion) deliver_faults refusal
@@ -127,50 +135,61 @@ first_fault s token completion refusal first = elim first [
   | inr known ↦ inr (λ no. known.0 (λ is. no (out_of s token is)), known.1)
 ]
 
-pub looks_at : {E : Type 0} (result : Result (Unit {0}) E) (s new : State) (seen : Snapshot)
+pub looks_at : {E : Type 0} (window : ℕ) (result : Result (Unit {0}) E) (s new : State) (seen : Snapshot)
     → IfOk result (λ _. Step (core_of s) (steps.Look seen) (core_of new))
     → IfOk result (λ _. NoCalls s)
     → IfOk result (λ _. LooksOn (core_of s) seen (core_of new))
     → new.unanswered ≡ s.unanswered
     → IfOk result (λ _. HaveTurnsAfter (core_of s) seen (core_of new))
-    → IfOk result (λ _. LooksAt (core_of s) seen (core_of new))
-looks_at (Ok x) s new seen step told order unanswered turns =
+    → IfOk result (λ _. LooksAt (core_with window s) seen (core_with window new))
+looks_at window (Ok x) s new seen step told order unanswered turns =
     record { step = step; told = told_all s told; order = order; unanswered = unanswered; turns = turns }
-looks_at (Err e) s new seen step told order unanswered turns = tt
+looks_at window (Err e) s new seen step told order unanswered turns = tt
 
-pub is_command : (s : State) (c : Command) → frames.IsCommandOf s.frames c → IsCommandOf (core_of s) c
-is_command s c is = record { block = is.block; slot = is.slot; row = is.row }
+pub is_command : (window : ℕ) (s : State) (c : Command) → frames.IsCommandOf s.frames c → IsCommandOf (core_with window s) c
+is_command window s c is = record { block = is.block; slot = is.slot; row = is.row }
 
-pub hears : {E : Type 0} (result : Result (Unit {0}) E) (s new : State) (call : Call) (answer : Told)
+pub hears : {E : Type 0} (window : ℕ) (result : Result (Unit {0}) E) (s new : State) (call : Call) (answer : Told)
     → IfOk result (λ _. Step (core_of s) (steps.Told (call_of call) answer) (core_of new))
     → IfOk result (λ _. s.untold ≡ Some call)
-    → IfOk result (λ _. Hears (core_of s) call answer (core_of new))
-hears (Ok x) s new call answer step known = record { step = step; known = ap (option_map call_of) known }
-hears (Err e) s new call answer step known = tt
+    → IfOk result (λ _. Hears (core_with window s) call answer (core_with window new))
+hears window (Ok x) s new call answer step known = record { step = step; known = ap (option_map call_of) known }
+hears window (Err e) s new call answer step known = tt
 
-pub refuses_answer : (s new : State) (call : Call) (refusal : Refusal) → (new ≡ s) × (refusal ≡ UnknownCall) × (s.untold ≢ Some call)
-    → RefusesAnswer (core_of s) call refusal (core_of new)
-refuses_answer s new call refusal is =
-    record { same = ap core_of is.0; refusal_is = is.1; unknown = λ e. is.2 (same_untold s.untold call e) }
+pub refuses_answer : (window : ℕ) (s new : State) (call : Call) (refusal : Refusal) → (new ≡ s) × (refusal ≡ UnknownCall) × (s.untold ≢ Some call)
+    → RefusesAnswer (core_with window s) call refusal (core_with window new)
+refuses_answer window s new call refusal is =
+    record { same = ap (core_with window) is.0; refusal_is = is.1; unknown = λ e. is.2 (same_untold s.untold call e) }
 
-pub hands_reply : {I : Type 0} (number : I → ℕ) (result : Option (I × Reply)) (s new : State)
+pub hands_reply : {I : Type 0} (window : ℕ) (number : I → ℕ) (result : Option (I × Reply)) (s new : State)
     → MatchOption result (Step (core_of s) steps.No_reply (core_of new)) (λ r. Step (core_of s) (steps.Take_reply (number r.0) (reply_of r.1)) (core_of new))
     → MatchOption result (HasNoReply (core_of s) × (new ≡ s)) (λ r. TakesFirst (core_of s) (number r.0) r.1 (core_of new))
     → IfSome result (λ r. BringsBack ((state_of s).request (number r.0)) r.1)
     → IfSome result (λ r. length (buffer_back r.1) ≡ s.frames.geometry.block)
     → IfSome result (λ _. new.unanswered + 1 ≡ s.unanswered)
     → new.waiting ≡ s.waiting
-    → MatchOption result (HandsNoReply (core_of s) (core_of new)) (λ r. HandsReply (core_of s) (number r.0) r.1 (core_of new))
-hands_reply number None s new step first brings sized unanswered waiting =
-    record { step = step; none = first.0; same = ap core_of first.1 }
-hands_reply number (Some r) s new step first brings sized unanswered waiting =
+    → MatchOption result (HandsNoReply (core_with window s) (core_with window new)) (λ r. HandsReply (core_with window s) (number r.0) r.1 (core_with window new))
+hands_reply window number None s new step first brings sized unanswered waiting =
+    record { step = step; none = first.0; same = ap (core_with window) first.1 }
+hands_reply window number (Some r) s new step first brings sized unanswered waiting =
     record { step = step; first = first; brings = brings; sized = sized; unanswered = unanswered; waiting = ap (λ b. b.items) waiting }
 
 -- ---- turns
 
-pub turns : {E : Type 0} (result : Result Turn E) (old new : State) (scrub : Scrub)
-    → IfOk result (λ turn. Step (core_of old) (turn_event turn scrub (next_row scrub old)) (core_of new))
-    → IfOk result (λ _. HasNone (HasTurnFault (core_of old) scrub) turn_faults) → Seen KeepsRequests old new → new.unanswered ≡ old.unanswered
-    → IfOk result (λ turn. Turns (core_of old) scrub turn (core_of new))
-turns (Ok turn) old new scrub step right kept unanswered = record { step = step; right = right; kept = kept; unanswered = unanswered }
-turns (Err refusal) old new scrub step right kept unanswered = tt
+pub checks : {E : Type 0} (window : ℕ) (result : Result Turn E) (old new : State) → IfOk result (λ turn. Step (core_of old) (turn_event turn scrub.Check (next_row scrub.Check old)) (core_of new))
+    → IfOk result (λ _. HasNone (HasTurnFault (core_of old) scrub.Check) turn_faults) → Seen KeepsRequests old new → new.unanswered ≡ old.unanswered
+    → IfOk result (λ turn. Turns (core_with window old) task.Check turn (core_with window new))
+checks window (Ok turn) old new step right kept unanswered = record { taken = step; right = right; kept = kept; unanswered = unanswered }
+checks window (Err refusal) old new step right kept unanswered = tt
+
+pub repairs : {E : Type 0} (window : ℕ) (result : Result Turn E) (old new : State) → IfOk result (λ turn. Step (core_of old) (turn_event turn scrub.Repair (next_row scrub.Repair old)) (core_of new))
+    → IfOk result (λ _. HasNone (HasTurnFault (core_of old) scrub.Repair) turn_faults) → Seen KeepsRequests old new → new.unanswered ≡ old.unanswered
+    → IfOk result (λ turn. Turns (core_with window old) task.Repair turn (core_with window new))
+repairs window (Ok turn) old new step right kept unanswered = record { taken = step; right = right; kept = kept; unanswered = unanswered }
+repairs window (Err refusal) old new step right kept unanswered = tt
+
+pub rebuilds : {E : Type 0} (window : ℕ) (result : Result Turn E) (old new : State) → IfOk result (λ turn. (turn ≡ Started) × Rebuilds window (core_with window old) (core_with window new))
+    → IfOk result (λ _. HasNone (HasRebuildFault (core_with window old) window) turn_faults) → Seen KeepsRequests old new → new.unanswered ≡ old.unanswered
+    → IfOk result (λ turn. Turns (core_with window old) task.Rebuild turn (core_with window new))
+rebuilds window (Ok turn) old new started right kept unanswered = record { taken = started; right = right; kept = kept; unanswered = unanswered }
+rebuilds window (Err refusal) old new started right kept unanswered = tt

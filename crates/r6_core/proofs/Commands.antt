@@ -19,10 +19,10 @@ use Rattle.r6_frames.specs.Slots.{count_out, states_of}
 use Rattle.r6_frames.specs.Sound as held
 use Rattle.r6_core.specs.Shards.{Step, layout_in, state_of, rest_of, requests_of, waiting_request, replied_requests, core_of}
 use Rattle.r6_core.specs.Effects.{HandsCommand}
-use Rattle.r6_world.specs.Tables.{count_below}
-use Rattle.r6_core.specs.Inside.{IsCore, IsSettled, count_missing, count_rows, is_missing}
+use Rattle.r6_core.specs.Inside.{IsCore, IsSettled, most_calls, count_rows}
+use Rattle.r6_core.proofs.SlotsKept.{calls_same}
 use Rattle.r6_frames.proofs.Lists.{table}
-use Rattle.r6_core.proofs.CountedRows.{counted_still}
+use Rattle.r6_core.proofs.CountedRows.{counted_kept}
 use Rattle.r6_core.proofs.Going.{no_rest}
 use Rattle.r6_core.proofs.Kept.{own_rows_kept, requests_kept, sizes_kept}
 use Rattle.r6_core.proofs.Waking.{none_more}
@@ -52,7 +52,7 @@ taken_core : (s : State) (new : Frames) → IsSettled s → IsTaken s.frames new
 taken_core s new core is =
     let sound = core.sound in
     let same = same_requests s new is.holds is.saw_failed in
-    let out : count_missing new ≡ count_missing s.frames = λ i. count_below (λ slot. is_missing (states_of (is.slots i) slot)) (is.geometry i).slots in
+    let out : most_calls new ≡ most_calls s.frames = calls_same s.frames new (ap states_of is.slots) is.geometry in
     record {
       sound = record {
         frames = is.sound;
@@ -76,7 +76,7 @@ taken_core s new core is =
             let owes = ap (λ held. owed_in held.items) is.holds in
             omega (arith, slots, owes, is.tokens, sound.tokens);
         accepted = sound.accepted;
-        counted = counted_still s.counts s.frames new sound.counted (let many = ap (λ held. count_rows is_scrub held.items) is.holds in omega (arith, many)) (let next = is.tokens in omega (arith, next));
+        counted = counted_kept s.counts s.frames new sound.counted (λ test. let many = ap (λ held. count_rows test held.items) is.holds in omega (arith, many)) (let next = is.tokens in omega (arith, next));
         next_rows = own_rows_kept s.frames new s.check_row s.repair_row is.geometry is.shard sound.next_rows;
       };
       rested = λ live frame.

@@ -10,7 +10,7 @@ use Rattle.r6_frames.specs.Calls.{KeepsHeld, KeepsOthers, KeepsRows}
 use Rattle.r6_frames.specs.Sound as held
 use Rattle.r6_tables.specs.Table.{next_of}
 use Rattle.r6_core.specs.declared.counts.Counts.{Counts}
-use Rattle.r6_core.specs.Inside.{AreCounted, count_rows, one_if, rows_found}
+use Rattle.r6_core.specs.Inside.{AreCounted, count_rows, is_turn, one_if, rows_found}
 
 -- what is held in a frame, as it is counted
 abbrev pub row_weight : (Job → Bool) → List FrameUse → ℕ → ℕ
@@ -48,8 +48,12 @@ pub rows_counted_still : (test : Job → Bool) (old new : Frames) → held.IsSou
     → count_rows test new.held.items ≡ count_rows test old.held.items
 rows_counted_still test old new before sound rows = same_rows test old.held.items new.held.items (as_many old new before sound) rows
 
-pub same_or_fewer : (old new : Frames) → held.IsSound old → held.IsSound new → KeepsRows old new → count_rows is_scrub new.held.items ≤ count_rows is_scrub old.held.items
-same_or_fewer old new before sound rows = let same = rows_counted_still is_scrub old new before sound rows in omega (arith, same)
+-- of none more than before
+abbrev pub NoMoreRows : Frames → Frames → Type 0
+NoMoreRows old new = (test : Job → Bool) → count_rows test new.held.items ≤ count_rows test old.held.items
+
+pub same_or_fewer : (old new : Frames) → held.IsSound old → held.IsSound new → KeepsRows old new → NoMoreRows old new
+same_or_fewer old new before sound rows = λ test. let same = rows_counted_still test old new before sound rows in omega (arith, same)
 
 -- and but for one frame
 pub rows_counted_but_one : (test : Job → Bool) (frame : ℕ) (old new : Frames) → held.IsSound old → held.IsSound new → KeepsOthers old frame new
@@ -75,6 +79,9 @@ rows_of_holds old new keeps frame =
     sym (held_for_in (hold_at new.held.items frame)) ∙ ap (option_map (λ plan. plan.0)) (keeps frame) ∙ held_for_in (hold_at old.held.items frame)
 
 -- the counts stay right where no more rows are held for checks and repairs, and no token was taken back
-pub counted_still : (k : Counts) (old new : Frames) → AreCounted k old → count_rows is_scrub new.held.items ≤ count_rows is_scrub old.held.items
-    → next_of old.commands ≤ next_of new.commands → AreCounted k new
-counted_still k old new counted rows next = record { found = omega (arith, counted.found, rows, next); skipped = omega (arith, counted.skipped, rows) }
+pub counted_still : (k : Counts) (old new : Frames) → AreCounted k old → count_rows is_turn new.held.items ≤ count_rows is_turn old.held.items
+    → count_rows is_scrub new.held.items ≤ count_rows is_scrub old.held.items → next_of old.commands ≤ next_of new.commands → AreCounted k new
+counted_still k old new counted turns scrubs next = record { found = omega (arith, counted.found, turns, next); skipped = omega (arith, counted.skipped, scrubs) }
+
+pub counted_kept : (k : Counts) (old new : Frames) → AreCounted k old → NoMoreRows old new → next_of old.commands ≤ next_of new.commands → AreCounted k new
+counted_kept k old new counted rows next = counted_still k old new counted (rows is_turn) (rows is_scrub) next

@@ -10,7 +10,8 @@ use Rattle.r6_layout.specs.Shape.{Shape}
 use Rattle.r6_tables.specs.Table.{next_of}
 use Rattle.r6_world.specs.Tables.{put}
 use Rattle.r6_world.specs.PlainArray as world
-use Rattle.r6_world.specs.Tasks.{Hold, Outcome}
+use Rattle.r6_world.specs.Tasks.{Hold, Outcome, Task}
+use Rattle.r6_frames.specs.declared.frames.Job.{Job}
 use Rattle.r6_world.specs.ShardStates as shards
 use Rattle.r6_world.specs.ShardStates.{Shard, Stage, Waiting, Held, Finished, Released}
 use Rattle.r6_world.specs.Changes.{Finish, finished, outcome_reply, slots_after, counted, after}
@@ -32,18 +33,18 @@ use Rattle.r6_frames.specs.Calls.{entry_of, ended_outcome, ended_task, Ends, IsE
 use Rattle.r6_frames.specs.Owed.{owed, IsDriven, IsOver}
 use Rattle.r6_frames.specs.Sound as held
 use Rattle.r6_core.specs.Shards.{answer_of, counts_of, state_of, rest_of, layout_in, requests_of, waiting_request, finished_request, replied_requests}
-use Rattle.r6_core.specs.Inside.{AreCounted, IsSound, numbered_op, one_if, requests_ended}
+use Rattle.r6_core.specs.Inside.{AreCounted, IsPlainEnd, IsSound, count_rows, is_turn, numbered_op, one_if, requests_ended}
 use Rattle.r6_frames.proofs.Lists.{Entries, table, looked_up, same_put, other}
 use Rattle.r6_frames.proofs.Held.{use_of_row}
 use Rattle.r6_core.proofs.CountedRows.{row_weight, rows_counted_but_one}
-use Rattle.r6_core.proofs.Scrubs.{counted_few, requests_for, requests_of_end, requests_of_job, scrub_weight, task_weight}
+use Rattle.r6_core.proofs.Scrubs.{Weighs, counted_few, requests_for, requests_of_end, requests_of_job, scrub_weight, scrubs_weigh, turn_weight, turns_weigh}
 use Rattle.r6_core.proofs.HeldRequests.{all_entries}
 use Rattle.r6_core.proofs.Replied.{all_replied, length_replied, more_replied}
 use Rattle.r6_core.proofs.Passed.{Passed, passed, all-append}
 use Rattle.r6_core.proofs.Throughs.{through_one}
 use Rattle.r6_core.proofs.Kept.{own_rows_kept, requests_kept, sizes_kept}
 use Rattle.r6_core.proofs.Going.{no_rest, SlotsStay}
-use Rattle.r6_core.proofs.SlotsKept.{missing_same}
+use Rattle.r6_core.proofs.SlotsKept.{calls_same}
 
 -- ---- the requests when one ends
 
@@ -73,12 +74,14 @@ slots_kept_by : (s : Shard) (h : Hold) (id : ℕ) (o : Op) → slots_after s h (
 slots_kept_by s h id (op.Read block buffer) = refl
 slots_kept_by s h id (op.Write block buffer) = refl
 
-slots_kept : (s : Shard) (h : Hold) (e : Ended) → slots_after s h (ended_task e) (ended_outcome e) ≡ s.slot
-slots_kept s h (ended.Request r) = slots_kept_by s h r.id r.op
-slots_kept s h (ended.Classed scrub.Check class) = refl
-slots_kept s h (ended.Classed scrub.Repair class) = refl
-slots_kept s h (ended.Skipped scrub.Check) = refl
-slots_kept s h (ended.Skipped scrub.Repair) = refl
+slots_kept : (s : Shard) (h : Hold) (e : Ended) → IsPlainEnd e → slots_after s h (ended_task e) (ended_outcome e) ≡ s.slot
+slots_kept s h (ended.Request r) plain = slots_kept_by s h r.id r.op
+slots_kept s h (ended.Classed scrub.Check class) plain = refl
+slots_kept s h (ended.Classed scrub.Repair class) plain = refl
+slots_kept s h (ended.Skipped scrub.Check) plain = refl
+slots_kept s h (ended.Skipped scrub.Repair) plain = refl
+slots_kept s h (ended.Rebuilt target row) plain = absurd plain
+slots_kept s h (ended.GivenUp target) plain = refl
 
 -- a hold that ends leaves the slots as they are
 pub ends_still : (old fs : Frames) (frame : ℕ) (e : Ended) → Ends old frame e fs → SlotsStay old fs
@@ -113,10 +116,10 @@ pub ended_requests : (old fs : Frames) (frame : ℕ) (e : Ended) (h : HeldRow) �
 ended_requests old fs frame e h ends is =
     sym (requests_of_end e) ∙ ap requests_for (sym (ended_for old fs frame e h ends is)) ∙ requests_of_job h.job (kind_in h)
 
-ended_weight : (old fs : Frames) (frame : ℕ) (e : Ended) (h : HeldRow) → Ends old frame e fs → hold_at old.held.items frame ≡ Some h
-    → row_weight is_scrub old.held.items frame ≡ scrub_weight (ended_task e)
-ended_weight old fs frame e h ends is =
-    ap (λ o. one_if is_scrub (option_map held_for o)) is ∙ task_weight h.row h.job (kind_in h) ∙ ap scrub_weight (ended_for old fs frame e h ends is)
+ended_weight : (test : Job → Bool) (weight : Task → ℕ) → Weighs test weight → (old fs : Frames) (frame : ℕ) (e : Ended) (h : HeldRow)
+    → Ends old frame e fs → hold_at old.held.items frame ≡ Some h → row_weight test old.held.items frame ≡ weight (ended_task e)
+ended_weight test weight weighs old fs frame e h ends is =
+    ap (λ o. one_if test (option_map held_for o)) is ∙ weighs.job h.row h.job (kind_in h) ∙ ap weight (ended_for old fs frame e h ends is)
 
 -- ---- no request stands in the frame of a check or repair
 
@@ -264,12 +267,22 @@ hold_ends s frame (ended.Skipped scrub) fs done counts h sound live ends is last
     let e = ended.Skipped scrub in
     none_ends s frame fs done counts (ended_outcome e) sound (ends_still s.frames fs frame e ends) ends.leaves
     (none_in_frame s.frames frame h is (sym (ended_requests s.frames fs frame e h ends is))) live last
+hold_ends s frame (ended.Rebuilt target row) fs done counts h sound live ends is last =
+    let e = ended.Rebuilt target row in
+    none_ends s frame fs done counts (ended_outcome e) sound (ends_still s.frames fs frame e ends) ends.leaves
+    (none_in_frame s.frames frame h is (sym (ended_requests s.frames fs frame e h ends is))) live last
+hold_ends s frame (ended.GivenUp target) fs done counts h sound live ends is last =
+    let e = ended.GivenUp target in
+    none_ends s frame fs done counts (ended_outcome e) sound (ends_still s.frames fs frame e ends) ends.leaves
+    (none_in_frame s.frames frame h is (sym (ended_requests s.frames fs frame e h ends is))) live last
 
 -- the buffer of a request that has ended is one block
 one_block : (old fs : Frames) (frame : ℕ) (e : Ended) → Ends old frame e fs → AllByRecursion (HasOneBlock old.geometry) (requests_ended e)
 one_block old fs frame (ended.Request r) ends = (ends.leaves.1, tt)
 one_block old fs frame (ended.Classed scrub class) ends = tt
 one_block old fs frame (ended.Skipped scrub) ends = tt
+one_block old fs frame (ended.Rebuilt target row) ends = tt
+one_block old fs frame (ended.GivenUp target) ends = tt
 
 -- ---- the state when a hold ends
 
@@ -282,21 +295,33 @@ module _ (s : State) (frame : ℕ) (e : Ended) (fs : Frames) (done : Buffer Requ
   requests : AreEnded frame (ended_outcome e) (requests_of s) (requests_of after_end)
   requests = hold_ends s frame e fs done counts h sound live ends is last
 
-  -- the hold's end is one change
-  pub one_ends : Through (layout_in s) s.frames.shard GoesOn (state_of s) (state_of after_end)
-  one_ends =
-      let old = state_of s in
-      let hold = ends.hold in
-      let outcome = ended_outcome e in
-      let left : Shard =
-      record old { frame = put old.frame frame None; request = λ q. finished frame outcome (old.request q); counts = counted old.counts (ended_task e) outcome } in
-      let after_finish : after (layout_in s) old (Finish frame hold outcome) ≡ left =
-      (λ i. record left { slot = slots_after old hold (ends.task i) outcome; counts = counted old.counts (ends.task i) outcome })
-      ∙ (λ i. record left { slot = slots_kept old hold e i }) in
-      let new : state_of after_end ≡ left =
+  -- the shard without the hold, its slots as they are
+  abbrev pub left : Shard
+  left =
+      record (state_of s) {
+        frame = put (state_of s).frame frame None;
+        request = λ q. finished frame (ended_outcome e) ((state_of s).request q);
+        counts = counted (state_of s).counts (ended_task e) (ended_outcome e);
+      }
+
+  pub ended_is : state_of after_end ≡ left
+  ended_is =
       ends.shard.2 (rest_of after_end)
-      ∙ (λ i. record old { frame = put old.frame frame None; request = requests.now i; counts = found i }) in
-      through_one (layout_in s) s.frames.shard GoesOn old (state_of after_end) (Finish frame hold outcome) (record {}) (ends.may.2 (rest_of s)) (new ∙ sym after_finish)
+      ∙ (λ i. record (state_of s) { frame = put (state_of s).frame frame None; request = requests.now i; counts = found i })
+
+  pub finish_is : after (layout_in s) (state_of s) (Finish frame ends.hold (ended_outcome e)) ≡ record left { slot = slots_after (state_of s) ends.hold (ended_task e) (ended_outcome e) }
+  finish_is = λ i.
+      record left {
+        slot = slots_after (state_of s) ends.hold (ends.task i) (ended_outcome e);
+        counts = counted (state_of s).counts (ends.task i) (ended_outcome e);
+      }
+
+  -- the hold's end is one change
+  pub one_ends : IsPlainEnd e → Through (layout_in s) s.frames.shard GoesOn (state_of s) (state_of after_end)
+  one_ends plain =
+      let kept : record left { slot = slots_after (state_of s) ends.hold (ended_task e) (ended_outcome e) } ≡ left = λ i. record left { slot = slots_kept (state_of s) ends.hold e plain i } in
+      through_one (layout_in s) s.frames.shard GoesOn (state_of s) (state_of after_end) (Finish frame ends.hold (ended_outcome e)) (record {}) (ends.may.2 (rest_of s))
+      (ended_is ∙ sym (finish_is ∙ kept))
 
   -- the request's buffer is one block, as are those of the others
   sizes_ended : AllByRecursion (HasOneBlock s.frames.geometry) done.items
@@ -304,18 +329,25 @@ module _ (s : State) (frame : ℕ) (e : Ended) (fs : Frames) (done : Buffer Requ
       let One = HasOneBlock s.frames.geometry in
       subst (AllByRecursion One) (sym last) (all-append One s.replies.items (requests_ended e) sound.requests.sized (one_block s.frames fs frame e ends))
 
-  -- a row less is held for a check or repair, if one is counted
+  -- a row less is held of which this is the weight
+  fewer_rows : (test : Job → Bool) (weight : Task → ℕ) → Weighs test weight → held.IsSound fs → KeepsOthers s.frames frame fs
+      → count_rows test fs.held.items + weight (ended_task e) ≡ count_rows test s.frames.held.items
+  fewer_rows test weight weighs frames others =
+      let rows = rows_counted_but_one test frame s.frames fs sound.frames frames others in
+      let one = ended_weight test weight weighs s.frames fs frame e h ends is in
+      let none : row_weight test fs.held.items frame ≡ 0 = ap (λ o. one_if test (option_map held_for o)) (freed s.frames fs frame e ends) in
+      omega (arith, rows, one, none)
+
   counts_ended : held.IsSound fs → KeepsOthers s.frames frame fs → next_of fs.commands ≡ next_of s.frames.commands → AreCounted counts fs
   counts_ended frames others next =
-      let rows = rows_counted_but_one is_scrub frame s.frames fs sound.frames frames others in
-      let one = ended_weight s.frames fs frame e h ends is in
-      let none : row_weight is_scrub fs.held.items frame ≡ 0 = ap (λ o. one_if is_scrub (option_map held_for o)) (freed s.frames fs frame e ends) in
+      let turns = fewer_rows is_turn turn_weight turns_weigh frames others in
+      let scrubs = fewer_rows is_scrub scrub_weight scrubs_weigh frames others in
       let few = counted_few s.counts counts e found in
       let found_few = few.0 in
       let passed_few = few.1 in
       record {
-        found = omega (arith, rows, one, none, found_few, next, sound.counted.found);
-        skipped = omega (arith, rows, one, none, passed_few, sound.counted.skipped);
+        found = omega (arith, turns, found_few, next, sound.counted.found);
+        skipped = omega (arith, scrubs, passed_few, sound.counted.skipped);
       }
 
   pub ended_sound : held.IsSound fs → KeepsOthers s.frames frame fs → owed fs ≤ owed s.frames → next_of fs.commands ≡ next_of s.frames.commands → done.capacity ≡ s.replies.capacity → IsSound after_end
@@ -336,7 +368,7 @@ module _ (s : State) (frame : ℕ) (e : Ended) (fs : Frames) (done : Buffer Requ
           waiting = sound.room.waiting;
           replies = capacity ∙ sound.room.replies;
           calls = sound.room.calls;
-          few_calls = let out = missing_same s.frames fs slots.0 ends.shard.0 in omega (arith, out, sound.room.few_calls);
+          few_calls = let out = calls_same s.frames fs slots.0 ends.shard.0 in omega (arith, out, sound.room.few_calls);
         };
         tokens = let slots = ap (λ (g : Shape). 2 * g.slots * length s.waiting.items) ends.shard.0 in omega (arith, slots, fewer, next, sound.tokens);
         accepted = sound.accepted;
@@ -362,3 +394,5 @@ pub few_ended : (e : Ended) → length (requests_ended e) ≤ 1
 few_ended (ended.Request r) = omega arith
 few_ended (ended.Classed scrub class) = omega arith
 few_ended (ended.Skipped scrub) = omega arith
+few_ended (ended.Rebuilt target row) = omega arith
+few_ended (ended.GivenUp target) = omega arith

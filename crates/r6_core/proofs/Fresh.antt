@@ -27,7 +27,7 @@ use Rattle.r6_frames.specs.Sound as held
 use Rattle.r6_core.specs.declared.counts.Counts.{Counts}
 use Rattle.r6_core.specs.Shards.{call_of, counts_of, devices_state, state_of, requests_of, waiting_request, replied_requests}
 use Rattle.r6_core.specs.Refusals.{most_unanswered}
-use Rattle.r6_core.specs.Inside.{AreOwnRows, CannotStart, IsCore, IsFresh, count_untold, none_counted, rows_found}
+use Rattle.r6_core.specs.Inside.{AreOwnRows, CannotStart, IsCore, IsFresh, count_untold, is_turn, none_counted, rows_found}
 use Rattle.r6_frames.proofs.Lists.{table}
 use Rattle.r6_core.proofs.CountedRows.{no_rows_counted}
 
@@ -55,7 +55,7 @@ fresh_rows s shape shard lawful below same_shape same_shard check repair =
     (own s.check_row check, own s.repair_row repair)
 
 pub fresh_core : (s : State) → s.accepted ≡ 0 → s.unanswered ≡ 0 → s.waiting ≡ buffer [] most_unanswered → s.replies ≡ buffer [] most_unanswered → s.released ≡ 0
-    → s.calls ≡ buffer [] 32 → s.untold ≡ None → s.counts ≡ none_counted
+    → s.calls ≡ buffer [] 64 → s.untold ≡ None → s.counts ≡ none_counted
     → (shape : Shape) (shard : ℕ) → IsShape shape → shard < shape.shards → s.frames.geometry ≡ shape → s.frames.shard ≡ shard
     → s.check_row ≡ first_row shape shard → s.repair_row ≡ first_row shape shard → held.IsSound s.frames → IsAtStart s.frames → IsCore s
 fresh_core s accepted unanswered waiting replies released calls untold counts shape shard lawful below same_shape same_shard check repair sound start =
@@ -88,8 +88,9 @@ fresh_core s accepted unanswered waiting replies released calls untold counts sh
           counted =
               let rows = ap rows_found counts in
               let passed = ap (λ (k : Counts). k.skipped) counts in
-              let held = no_rows_counted is_scrub s.frames.held.items (λ frame. ap row_in (start.0 frame)) in
-              record { found = omega (arith, rows, held); skipped = omega (arith, passed, held) };
+              let turns = no_rows_counted is_turn s.frames.held.items (λ frame. ap row_in (start.0 frame)) in
+              let scrubs = no_rows_counted is_scrub s.frames.held.items (λ frame. ap row_in (start.0 frame)) in
+              record { found = omega (arith, rows, turns); skipped = omega (arith, passed, scrubs) };
           next_rows = fresh_rows s shape shard lawful below same_shape same_shard check repair;
         };
         rested = λ live frame. (λ h is. let free = ap row_in (start.0 frame) in absurd (cc), λ over. let free = ap row_in (start.0 frame) in let is = over.1 in absurd (cc));

@@ -189,7 +189,7 @@ gathering_scrub s mid count fs is sound stopped gives others none owes =
       ];
       more = is.more;
       replies = is.replies;
-      all = subst (λ es. IsPermutation (unreplied s) ((map numbered_op mid.waiting.items ++ map held_op es) ++ map numbered_op is.more)) (sym gives.1.leaves) is.all;
+      all = subst (λ es. IsPermutation (unreplied s) ((map numbered_op mid.waiting.items ++ map held_op es) ++ map numbered_op is.more)) (sym gives.2) is.all;
       waiting_sized = is.waiting_sized;
       sized = is.sized;
       tokens = omega (arith, owes, fewer);

@@ -20,10 +20,10 @@ use Rattle.r6_frames.specs.Sound as held
 use Rattle.r6_core.specs.declared.call.Call.{Call}
 use Rattle.r6_core.specs.declared.state.State.{State}
 use Rattle.r6_core.specs.Shards.{state_of, layout_in, rest_of, requests_of, call_of, counts_of, waiting_request, replied_requests, table}
-use Rattle.r6_core.specs.Inside.{IsSound, count_missing, count_untold, none_counted}
-use Rattle.r6_core.proofs.CountedRows.{counted_still, same_or_fewer}
+use Rattle.r6_core.specs.Inside.{IsSound, most_calls, count_untold, none_counted}
+use Rattle.r6_core.proofs.CountedRows.{counted_kept, same_or_fewer}
 use Rattle.r6_core.proofs.Kept.{own_rows_kept, requests_kept, sizes_kept}
-use Rattle.r6_core.proofs.SlotsKept.{drives_keep, missing_same}
+use Rattle.r6_core.proofs.SlotsKept.{drives_keep, calls_same}
 use Rattle.r6_core.proofs.Throughs.{tokens_grow}
 
 -- ---- lists of changes of another shape
@@ -72,7 +72,7 @@ pub record Goes (s : State) (fs : Frames) (calls : Buffer Call) : Type 0 where
   pub tokens : next_of fs.commands + owed fs ≤ next_of s.frames.commands + owed s.frames
   pub given : next_of s.frames.commands ≤ next_of fs.commands
   pub room : calls.capacity ≡ s.calls.capacity
-  pub few : length calls.items + count_untold s.untold ≤ count_missing fs
+  pub few : length calls.items + count_untold s.untold ≤ most_calls fs
 
 abbrev pub gone_on : State → Frames → Buffer Call → State
 gone_on s fs calls = record s { frames = fs; calls = calls }
@@ -115,7 +115,7 @@ gone_sound s fs calls sound goes =
       };
       tokens = let slots = ap (λ (g : Shape). 2 * g.slots * length s.waiting.items) goes.geometry in omega (arith, slots, goes.tokens, sound.tokens);
       accepted = sound.accepted;
-      counted = counted_still s.counts s.frames fs sound.counted (same_or_fewer s.frames fs sound.frames goes.sound goes.rows) goes.given;
+      counted = counted_kept s.counts s.frames fs sound.counted (same_or_fewer s.frames fs sound.frames goes.sound goes.rows) goes.given;
       next_rows = own_rows_kept s.frames fs s.check_row s.repair_row goes.geometry goes.shard sound.next_rows;
     }
 
@@ -144,7 +144,7 @@ goes_still s fs sound frames geometry shard slots requests rows tokens given =
       given = given;
       room = refl;
       few =
-          let out = missing_same s.frames fs slots.0 geometry in
+          let out = calls_same s.frames fs slots.0 geometry in
           omega (arith, out, sound.room.few_calls);
     }
 

@@ -12,13 +12,17 @@ pub mod Entering
 pub mod Fresh
 pub mod Gathering
 pub mod Going
+pub mod HeldRebuilds
 pub mod HeldRequests
+pub mod HeldTurns
 pub mod Kept
 pub mod Known
 pub mod Looking
 pub mod Losing
 pub mod MayBegin
 pub mod Passed
+pub mod Rebuilding
+pub mod MarkedRows
 pub mod Releasing
 pub mod Replied
 pub mod Replies

@@ -21,27 +21,28 @@ use Rattle.r6_frames.specs.declared.frames.FrameUse.{FrameUse}
 use Rattle.r6_frames.specs.declared.frames.FrameUse.TheVariants as uses
 use Rattle.r6_frames.specs.declared.frames.Frames.{Frames}
 use Rattle.r6_frames.specs.declared.slots.Device.{Device}
+use Rattle.r6_stripe.specs.Holds.{cell_at}
 use Rattle.r6_frames.specs.declared.slots.Device.TheVariants as device
 use Rattle.r6_frames.specs.Slots.{state_of as state_of_device, slot_in, states_of, count_out, is_abandoned}
 use Rattle.r6_frames.specs.Views.{use_at, row_in, hold_at, outstanding, held_requests, shard_with, AreLive}
 use Rattle.r6_frames.specs.Calls.{Loses, KeepsRows}
 use Rattle.r6_frames.specs.Owed.{owed}
 use Rattle.r6_frames.specs.Sound as held
-use Rattle.r6_frames.specs.Sound.{is_away_from, place_of}
+use Rattle.r6_frames.specs.Sound.{Stands, is_away_from, place_of}
 use Rattle.r6_frames.proofs.Resting.{command-there}
 use Rattle.r6_core.specs.declared.call.Call.{Call}
 use Rattle.r6_core.specs.declared.call.Call.TheVariants as call
 use Rattle.r6_core.specs.declared.state.State.{State}
 use Rattle.r6_core.specs.Shards.{call_of, state_of, rest_of, layout_in}
-use Rattle.r6_core.specs.Inside.{IsSound, TakesThrough, count_missing, is_missing}
-use Rattle.r6_core.proofs.CallRoom.{count_below-le}
+use Rattle.r6_core.specs.Inside.{IsSound, TakesThrough, count_slots, most_calls, is_missing, is_settled}
+use Rattle.r6_core.proofs.CallRoom.{few_slots}
 use Rattle.r6_core.proofs.Going.{no_rest, Goes, gone_on, gone_state}
 use Rattle.r6_core.proofs.Throughs.{through_in}
 
 -- ---- counts
 
 -- one more passes
-count-more : (n k : ℕ) (p q : ℕ → Bool) → k < n → p k ≡ false → q k ≡ true → ((d : ℕ) → d ≢ k → q d ≡ p d) → count_below p n + 1 ≤ count_below q n
+pub count-more : (n k : ℕ) (p q : ℕ → Bool) → k < n → p k ≡ false → q k ≡ true → ((d : ℕ) → d ≢ k → q d ≡ p d) → count_below p n + 1 ≤ count_below q n
 count-more zero k p q below was is others = absurd (omega arith)
 count-more (suc n) k p q below was is others =
     elim (cases_eq n k) [
@@ -82,6 +83,15 @@ wanted_there fs token c sound is wanted =
       | inr stopped ↦ absurd (false≢true (sym wanted ∙ sound.commands.stopped stopped token c is))
     ]
   where
+    there_by : (h : HeldRow) (position : ℕ) → layout.slot_at fs.geometry h.row position ≡ c.slot → is_out (cell_at h.hold.planned.hold.cells position).standing ≡ false
+        → Stands fs.geometry fs.slots h.row h.job position (cell_at h.hold.planned.hold.cells position).standing → is_missing (states_of fs.slots c.slot) ≡ false
+    there_by h position slot home (inl as_slot) =
+        there_for (slot_in fs.slots c.slot).device h.row
+        (ap (λ (k : ℕ). is_out (standing_of (states_of fs.slots k) h.row)) (sym slot) ∙ ap is_out (sym as_slot) ∙ home)
+    there_by h position slot home (inr target) =
+        let at = target.1 in
+        ap (λ (k : ℕ). is_missing (states_of fs.slots k)) (sym slot ∙ at.slot) ∙ ap (λ (d : Device). is_missing (state_of_device d)) at.device
+
     of_row : AreLive fs → (h : HeldRow) → hold_at fs.held.items c.frame ≡ Some h → is_missing (states_of fs.slots c.slot) ≡ false
     of_row live h there =
         let of = (sound.commands.of_frame live token c is).held h there in
@@ -90,9 +100,8 @@ wanted_there fs token c sound is wanted =
         let place = (layouts fs.geometry sound.shape).there c.row c.slot inside.1.0 inside.0 in
         let stands = row.standing (place_of fs c) place.0 in
         let slot : layout.slot_at fs.geometry h.row (place_of fs c) ≡ c.slot = ap (λ (r : ℕ). layout.slot_at fs.geometry r (place_of fs c)) (sym of.row) ∙ place.1 in
-        let home : is_out (standing_of (states_of fs.slots c.slot) h.row) ≡ false =
-        ap (λ (k : ℕ). is_out (standing_of (states_of fs.slots k) h.row)) (sym slot) ∙ ap is_out (sym stands) ∙ sym of.abandoned ∙ wanted in
-        there_for (slot_in fs.slots c.slot).device h.row home
+        let home = sym of.abandoned ∙ wanted in
+        there_by h (place_of fs c) slot home stands
 
     by_use : AreLive fs → (u : FrameUse) → use_at fs.held.items c.frame ≡ u → is_missing (states_of fs.slots c.slot) ≡ false
     by_use live uses.Free u =
@@ -104,7 +113,7 @@ wanted_there fs token c sound is wanted =
 
 -- one more slot has no device
 lost_more : (old new : Frames) (token slot generation : ℕ) → held.IsSound old → Loses old token slot generation new
-    → count_missing old + 1 ≤ count_missing new
+    → most_calls old + 1 ≤ most_calls new
 lost_more old new token slot generation sound loses =
     let lost = loses.2 no_rest in
     let c = lost.0 in
@@ -117,15 +126,22 @@ lost_more old new token slot generation sound loses =
     let slots : states_of new.slots ≡ put (states_of old.slots) c.slot Missing = ap (λ (x : Shard). x.slot) lost.5 in
     let more = count-more old.geometry.slots c.slot (λ d. is_missing (states_of old.slots d)) (λ d. is_missing (put (states_of old.slots) c.slot Missing d)) (omega (arith, here, inside)) in_sync
     (ap is_missing (put-same (states_of old.slots) c.slot Missing c.slot refl)) (λ d ne. ap is_missing (put-other (states_of old.slots) c.slot Missing d ne)) in
-    let same : count_missing new ≡ count_below (λ d. is_missing (put (states_of old.slots) c.slot Missing d)) old.geometry.slots =
+    let same : count_slots is_missing new ≡ count_below (λ d. is_missing (put (states_of old.slots) c.slot Missing d)) old.geometry.slots =
     λ i. count_below (λ d. is_missing (slots i d)) (loses.0 i).slots in
-    omega (arith, more, same)
+    let still = count-le old.geometry.slots (λ d. is_settled (states_of old.slots d)) (λ d. is_settled (put (states_of old.slots) c.slot Missing d)) (λ d lt settled.
+    elim (cases_eq d c.slot) [
+      | inl e ↦ ap is_settled (put-same (states_of old.slots) c.slot Missing d e)
+      | inr ne ↦ ap is_settled (put-other (states_of old.slots) c.slot Missing d ne) ∙ settled
+    ]) in
+    let settled : count_slots is_settled new ≡ count_below (λ d. is_settled (put (states_of old.slots) c.slot Missing d)) old.geometry.slots =
+    λ i. count_below (λ d. is_settled (slots i d)) (loses.0 i).slots in
+    omega (arith, more, same, still, settled)
 
 -- there is room for the call that declares it
 pub loss_fits : (s : State) (fs : Frames) (token slot generation : ℕ) → IsSound s → Loses s.frames token slot generation fs → length s.calls.items < s.calls.capacity
 loss_fits s fs token slot generation sound loses =
     let more = lost_more s.frames fs token slot generation sound.frames loses in
-    let all : count_missing fs ≤ fs.geometry.slots = count_below-le (λ d. is_missing (states_of fs.slots d)) fs.geometry.slots in
+    let all = few_slots fs in
     let wide = ap (λ (g : Shape). g.slots) loses.0 in
     omega (arith, more, all, wide, sound.room.few_calls, sound.room.calls, sound.frames.shape.slots_allowed.1)
 

@@ -1,5 +1,5 @@
 -- What a hold is for: a request, or a check or repair, whose row is counted.
-use Rattle.std.proofs.Common.{◌≡◌, ℕ, ◌+◌, ◌*◌, ◌≤◌, List, [], ◌∷◌, map, refl, ap, Some, arith}
+use Rattle.std.proofs.Common.{Bool, ◌≡◌, ℕ, ◌+◌, ◌*◌, ◌≤◌, List, [], ◌∷◌, map, refl, ap, Some, arith}
 use Rattle.r6_recover.specs.declared.class.RowClass.TheVariants as class
 use Rattle.r6_stripe.specs.Holds.{Kind}
 use Rattle.r6_world.specs.PlainArray as world
@@ -17,7 +17,7 @@ use Rattle.r6_frames.specs.Views.{is_scrub, op_of, outcome_of, requests_by, task
 use Rattle.r6_frames.specs.Calls.{ended_task, ended_outcome}
 use Rattle.r6_core.specs.declared.counts.Counts.{Counts}
 use Rattle.r6_core.specs.Shards.{counts_of}
-use Rattle.r6_core.specs.Inside.{numbered_op, one_if, requests_ended, rows_found}
+use Rattle.r6_core.specs.Inside.{is_turn, numbered_op, one_if, requests_ended, rows_found}
 
 -- the requests of a task
 abbrev pub requests_for : Task → List (ℕ × world.Op)
@@ -33,6 +33,7 @@ requests_of_job (job.Read served buffer) kind = refl
 requests_of_job (job.Write served) kind = refl
 requests_of_job (job.Scrub scrub.Check) kind = refl
 requests_of_job (job.Scrub scrub.Repair) kind = refl
+requests_of_job (job.Rebuild target) kind = refl
 
 requests_of_op : (id : ℕ) (o : Op) → requests_for (task_for id o) ≡ (id, op_of o) ∷ []
 requests_of_op id (op.Read block buffer) = refl
@@ -44,8 +45,10 @@ requests_of_end (ended.Classed scrub.Check class) = refl
 requests_of_end (ended.Classed scrub.Repair class) = refl
 requests_of_end (ended.Skipped scrub.Check) = refl
 requests_of_end (ended.Skipped scrub.Repair) = refl
+requests_of_end (ended.Rebuilt target row) = refl
+requests_of_end (ended.GivenUp target) = refl
 
--- whether it is a check or repair
+-- whether it is a check or repair, and whether it is any of what a shard does by itself
 abbrev pub scrub_weight : Task → ℕ
 scrub_weight (ReadFor id block) = 0
 scrub_weight (WriteFor writes) = 0
@@ -53,32 +56,64 @@ scrub_weight (Rebuild slot generation) = 0
 scrub_weight Check = 1
 scrub_weight Repair = 1
 
-pub task_weight : (row : ℕ) (j : Job) (kind : Kind) → one_if is_scrub (Some (row, j)) ≡ scrub_weight (task_by j kind)
-task_weight row (job.Read served buffer) kind = refl
-task_weight row (job.Write served) kind = refl
-task_weight row (job.Scrub scrub.Check) kind = refl
-task_weight row (job.Scrub scrub.Repair) kind = refl
+abbrev pub turn_weight : Task → ℕ
+turn_weight (ReadFor id block) = 0
+turn_weight (WriteFor writes) = 0
+turn_weight (Rebuild slot generation) = 1
+turn_weight Check = 1
+turn_weight Repair = 1
 
-pub for_request : (id : ℕ) (o : Op) → scrub_weight (task_for id o) ≡ 0
-for_request id (op.Read block buffer) = refl
-for_request id (op.Write block buffer) = refl
+-- a test of what a row is held for counts as this weight of its task
+pub record Weighs (test : Job → Bool) (weight : Task → ℕ) : Type 0 where
+  pub job : (row : ℕ) (j : Job) (kind : Kind) → one_if test (Some (row, j)) ≡ weight (task_by j kind)
+  pub request : (id : ℕ) (o : Op) → weight (task_for id o) ≡ 0
+
+scrub_weighed : (row : ℕ) (j : Job) (kind : Kind) → one_if is_scrub (Some (row, j)) ≡ scrub_weight (task_by j kind)
+scrub_weighed row (job.Read served buffer) kind = refl
+scrub_weighed row (job.Write served) kind = refl
+scrub_weighed row (job.Scrub scrub.Check) kind = refl
+scrub_weighed row (job.Scrub scrub.Repair) kind = refl
+scrub_weighed row (job.Rebuild target) kind = refl
+
+turn_weighed : (row : ℕ) (j : Job) (kind : Kind) → one_if is_turn (Some (row, j)) ≡ turn_weight (task_by j kind)
+turn_weighed row (job.Read served buffer) kind = refl
+turn_weighed row (job.Write served) kind = refl
+turn_weighed row (job.Scrub scrub.Check) kind = refl
+turn_weighed row (job.Scrub scrub.Repair) kind = refl
+turn_weighed row (job.Rebuild target) kind = refl
+
+no_scrub : (id : ℕ) (o : Op) → scrub_weight (task_for id o) ≡ 0
+no_scrub id (op.Read block buffer) = refl
+no_scrub id (op.Write block buffer) = refl
+
+no_turn : (id : ℕ) (o : Op) → turn_weight (task_for id o) ≡ 0
+no_turn id (op.Read block buffer) = refl
+no_turn id (op.Write block buffer) = refl
+
+pub scrubs_weigh : Weighs is_scrub scrub_weight
+scrubs_weigh = record { job = scrub_weighed; request = no_scrub }
+
+pub turns_weigh : Weighs is_turn turn_weight
+turns_weigh = record { job = turn_weighed; request = no_turn }
 
 -- ---- the rows that are counted
 
 abbrev found_in : shards.Counts → ℕ
 found_in k = k.consistent + k.wrong_p + k.wrong_q + k.wrong_data + k.many + k.repaired + k.rebuilt
 
--- so many more are found, and so many passed over
-abbrev IsMore : shards.Counts → shards.Counts → ℕ → Type 0
-IsMore old new weight = (found_in new ≤ found_in old + 2 * weight) × (new.skipped ≤ old.skipped + weight)
+-- so many more at most are found, and passed over
+abbrev IsMore : shards.Counts → shards.Counts → Task → Type 0
+IsMore old new task = (found_in new ≤ found_in old + 2 * turn_weight task) × (new.skipped ≤ old.skipped + scrub_weight task)
 
-counted_none : (k : shards.Counts) (id : ℕ) (o : Op) → IsMore k (counted k (task_for id o) (outcome_of o)) (scrub_weight (task_for id o))
+counted_none : (k : shards.Counts) (id : ℕ) (o : Op) → IsMore k (counted k (task_for id o) (outcome_of o)) (task_for id o)
 counted_none k id (op.Read block buffer) = (omega arith, omega arith)
 counted_none k id (op.Write block buffer) = (omega arith, omega arith)
 
 -- the row of a check or repair is counted twice at most
-counted_rows : (k : shards.Counts) (e : Ended) → IsMore k (counted k (ended_task e) (ended_outcome e)) (scrub_weight (ended_task e))
+counted_rows : (k : shards.Counts) (e : Ended) → IsMore k (counted k (ended_task e) (ended_outcome e)) (ended_task e)
 counted_rows k (ended.Request r) = counted_none k r.id r.op
+counted_rows k (ended.Rebuilt target row) = (omega arith, omega arith)
+counted_rows k (ended.GivenUp target) = (omega arith, omega arith)
 counted_rows k (ended.Skipped scrub.Check) = (omega arith, omega arith)
 counted_rows k (ended.Skipped scrub.Repair) = (omega arith, omega arith)
 counted_rows k (ended.Classed scrub.Check class.Consistent) = (omega arith, omega arith)
@@ -93,7 +128,7 @@ counted_rows k (ended.Classed scrub.Repair (class.WrongData z)) = (omega arith, 
 counted_rows k (ended.Classed scrub.Repair class.Many) = (omega arith, omega arith)
 
 pub counted_few : (old new : Counts) (e : Ended) → counts_of new ≡ counted (counts_of old) (ended_task e) (ended_outcome e)
-    → (rows_found new ≤ rows_found old + 2 * scrub_weight (ended_task e)) × (new.skipped ≤ old.skipped + scrub_weight (ended_task e))
+    → (rows_found new ≤ rows_found old + 2 * turn_weight (ended_task e)) × (new.skipped ≤ old.skipped + scrub_weight (ended_task e))
 counted_few old new e is =
     let found = ap found_in is in
     let passed = ap (λ (k : shards.Counts). k.skipped) is in

@@ -21,6 +21,7 @@ use Rattle.r6_world.specs.ShardStates as shards
 use Rattle.r6_world.specs.ShardStates.{Shard, Released}
 use Rattle.r6_world.specs.Changes.{See_failed, abandoned_if, failed_stage, failed_request, after}
 use Rattle.r6_frames.specs.declared.op.Request.{Request}
+use Rattle.r6_frames.specs.declared.frames.Job.{Job}
 use Rattle.r6_frames.specs.declared.frames.Frames.{Frames}
 use Rattle.r6_frames.specs.declared.frames.FrameUse.{FrameUse}
 use Rattle.r6_frames.specs.declared.frames.FrameUse.TheVariants as uses
@@ -35,9 +36,9 @@ use Rattle.r6_core.specs.Shards.{state_of, rest_of, layout_in, requests_of, wait
 use Rattle.r6_core.specs.Refusals.{limit, most_unanswered}
 use Rattle.r6_core.specs.Order.{IsRising, FailsAll}
 use Rattle.r6_core.specs.Inside.{AreCounted, AreOwnRows, IsSound, IsSettled, Gathers, Seen, held_op, numbered_op, unreplied, count_untold}
-use Rattle.r6_core.proofs.CountedRows.{counted_still, no_rows_counted, rows_of_holds, same_or_fewer}
+use Rattle.r6_core.proofs.CountedRows.{counted_kept, no_rows_counted, rows_of_holds, same_or_fewer}
 use Rattle.r6_core.proofs.Kept.{own_rows_kept, requests_kept, sizes_kept}
-use Rattle.r6_core.proofs.SlotsKept.{missing_same}
+use Rattle.r6_core.proofs.SlotsKept.{calls_same}
 use Rattle.r6_core.proofs.Gathering.{none_from}
 use Rattle.r6_core.proofs.Passed.{all-append}
 use Rattle.r6_core.proofs.Replied.{as_many, keys_replied, keys_requests, numbers}
@@ -160,14 +161,14 @@ module _ (s : State) (fs : Frames) (sound : IsSound s) (sees : SeesFailure s.fra
           waiting = sound.room.waiting;
           replies = sound.room.replies;
           calls = sound.room.calls;
-          few_calls = let same = missing_same s.frames fs slots_seen sees.0 in omega (arith, same, sound.room.few_calls);
+          few_calls = let same = calls_same s.frames fs slots_seen sees.0 in omega (arith, same, sound.room.few_calls);
         };
         tokens =
             let slots = ap (λ (g : Shape). 2 * g.slots * length s.waiting.items) sees.0 in
             let next = ap (λ t. next_of t) commands in
             omega (arith, slots, next, owes, sound.tokens);
         accepted = sound.accepted;
-        counted = counted_still s.counts s.frames fs sound.counted (same_or_fewer s.frames fs sound.frames frames (rows_of_holds s.frames fs holds)) (let next = ap (λ t. next_of t) commands in omega (arith, next));
+        counted = counted_kept s.counts s.frames fs sound.counted (same_or_fewer s.frames fs sound.frames frames (rows_of_holds s.frames fs holds)) (let next = ap (λ t. next_of t) commands in omega (arith, next));
         next_rows = own_rows_kept s.frames fs s.check_row s.repair_row sees.0 sees.1 sound.next_rows;
       }
 
@@ -338,7 +339,7 @@ module _ (s : State) (fs : Frames) (mid : State) (sorted : Buffer Request) (soun
             replies = capacity ∙ gathers.room.1 ∙ sound.room.replies;
             calls = ap (λ b. b.capacity) gathers.rest.3.0 ∙ sound.room.calls;
             few_calls =
-                let same = missing_same s.frames mid.frames slots geometry in
+                let same = calls_same s.frames mid.frames slots geometry in
                 let calls : length mid.calls.items + count_untold mid.untold ≡ length s.calls.items + count_untold s.untold = λ i. length (gathers.rest.3.0 i).items + count_untold (gathers.rest.3.1 i) in
                 omega (arith, same, calls, sound.room.few_calls);
           };
@@ -349,10 +350,10 @@ module _ (s : State) (fs : Frames) (mid : State) (sorted : Buffer Request) (soun
               omega (arith, next, fewer, owes, none, sound.tokens);
           accepted = subst (λ (n : ℕ). n ≤ limit) (sym gathers.rest.0) sound.accepted;
           counted =
-              let none = no_rows_counted is_scrub mid.frames.held.items gathers.none_held in
+              let none = λ (test : Job → Bool). no_rows_counted test mid.frames.held.items gathers.none_held in
               let next : next_of mid.frames.commands ≡ next_of s.frames.commands = ap (λ (x : Shard). x.tokens) (shard_is (rest_of s)) in
               subst (λ k. AreCounted k mid.frames) (sym gathers.scrubs.2)
-              (counted_still s.counts s.frames mid.frames sound.counted (omega (arith, none)) (omega (arith, next)));
+              (counted_kept s.counts s.frames mid.frames sound.counted (λ test. let zero = none test in omega (arith, zero)) (omega (arith, next)));
           next_rows =
               subst (λ (rows : ℕ × ℕ). AreOwnRows mid.frames rows.0 rows.1) (λ i. (sym gathers.scrubs.0 i, sym gathers.scrubs.1 i))
               (own_rows_kept s.frames mid.frames s.check_row s.repair_row geometry (gathers.shard.1 ∙ sees.1) sound.next_rows);

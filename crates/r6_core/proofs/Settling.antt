@@ -17,14 +17,14 @@ use Rattle.r6_frames.specs.declared.frames.Job.{Job}
 use Rattle.r6_frames.specs.declared.frames.Job.TheVariants as job
 use Rattle.r6_frames.specs.declared.frames.FrameUse.TheVariants.{Free}
 use Rattle.r6_frames.specs.declared.frames.Frames.{Frames}
-use Rattle.r6_frames.specs.Views.{row_in, hold_at, held_entry, held_for, held_requests, is_scrub, kind_in, new_data_of, rank_of, request_at, requests_by, use_at, AreLive}
+use Rattle.r6_frames.specs.Views.{row_in, hold_at, held_entry, held_for, held_requests, is_request, kind_in, new_data_of, rank_of, request_at, requests_by, use_at, AreLive}
 use Rattle.r6_frames.specs.Calls.{KeepsOthers, KeepsRows, Drives}
 use Rattle.r6_frames.specs.Owed.{owed, IsDriven, IsOver, IsLowestOver}
 use Rattle.r6_frames.specs.Sound as held
 use Rattle.r6_core.specs.declared.state.State.{State}
 use Rattle.r6_core.specs.Shards.{core_of, state_of, layout_in, requests_of, table, waiting_request, replied_requests}
 use Rattle.r6_core.specs.Order.{IsRising, Finishes}
-use Rattle.r6_core.specs.Inside.{SameFrames, IsSound, IsSettled, IsRestedFrame, FinishesHeld, SameCalls, Seen, count_rows, numbered_op, one_if}
+use Rattle.r6_core.specs.Inside.{SameFrames, IsSound, IsSettled, IsRestedFrame, FinishesHeld, Seen, count_rows, numbered_op, one_if}
 use Rattle.r6_frames.proofs.Held.{held_goes, held_within, use_held}
 use Rattle.r6_frames.proofs.Lists.{Entries, all_parts, own, apart}
 use Rattle.r6_core.proofs.CountedRows.{row_weight, rows_counted_but_one}
@@ -75,27 +75,29 @@ held_ids s frame other r q sound here there ne same =
     ne frames
 
 -- the request of a job, whose number is its rank
-has_request : (j : Job) (kind : Kind) → is_scrub j ≡ false → (r : ℕ × world.Op) × (requests_by j kind ≡ r ∷ []) × (rank_of j ≡ r.0)
+has_request : (j : Job) (kind : Kind) → is_request j ≡ true → (r : ℕ × world.Op) × (requests_by j kind ≡ r ∷ []) × (rank_of j ≡ r.0)
 has_request (job.Read served buffer) kind request = ((served.id, world.Op.Read served.block), refl, refl)
 has_request (job.Write served) kind request = ((served.id, world.Op.Write served.block (new_data_of kind)), refl, refl)
 has_request (job.Scrub scrub) kind request = absurd (cc)
+has_request (job.Rebuild target) kind request = absurd (cc)
 
-last_rank : (j : Job) → is_scrub j ≡ true → rank_of j ≡ 18446744073709551615
+last_rank : (j : Job) → is_request j ≡ false → rank_of j ≡ 18446744073709551615
 last_rank (job.Read served buffer) is = absurd (cc)
 last_rank (job.Write served) is = absurd (cc)
 last_rank (job.Scrub scrub) is = refl
+last_rank (job.Rebuild target) is = refl
 
 -- the rank of a request in one frame is that of no row in another
 rank_apart : (s : State) (frame other : ℕ) (h i : HeldRow) → IsSound s → hold_at s.frames.held.items frame ≡ Some h → hold_at s.frames.held.items other ≡ Some i
-    → frame ≢ other → is_scrub h.job ≡ false → rank_of h.job ≢ rank_of i.job
+    → frame ≢ other → is_request h.job ≡ true → rank_of h.job ≢ rank_of i.job
 rank_apart s frame other h i sound here there ne request same =
     let own = has_request h.job (kind_in h) request in
     let at = among s frame h own.0 here own.1 in
-    elim (is_scrub i.job) as (λ b. is_scrub i.job ≡ b → ⊥) [
-      | true ↦ λ is.
+    elim (is_request i.job) as (λ b. is_request i.job ≡ b → ⊥) [
+      | false ↦ λ is.
           let lt = held_number s frame own.0 sound at in
           omega (arith, lt, own.2, same, last_rank i.job is, sound.accepted)
-      | false ↦ λ none.
+      | true ↦ λ none.
           let its = has_request i.job (kind_in i) none in
           held_ids s frame other own.0 its.0 sound at (among s other i its.0 there its.1) ne (sym own.2 ∙ same ∙ its.2)
     ] refl
@@ -116,20 +118,23 @@ lower_mapped : (rs : List Request) (rank : ℕ) → AllByRecursion (λ r. r.0 < 
 lower_mapped [] rank all = tt
 lower_mapped (r ∷ rs) rank all = (all.0, lower_mapped rs rank all.1)
 
-lower_by : (j : Job) (kind : Kind) (rank : ℕ) → (is_scrub j ≡ false → rank_of j < rank) → AllByRecursion (λ r. r.0 < rank) (requests_by j kind)
+lower_by : (j : Job) (kind : Kind) (rank : ℕ) → (is_request j ≡ true → rank_of j < rank) → AllByRecursion (λ r. r.0 < rank) (requests_by j kind)
 lower_by (job.Read served buffer) kind rank lower = (lower refl, tt)
 lower_by (job.Write served) kind rank lower = (lower refl, tt)
 lower_by (job.Scrub scrub) kind rank lower = tt
+lower_by (job.Rebuild target) kind rank lower = tt
 
 rank_is : (j : Job) (kind : Kind) (r : ℕ × world.Op) → requests_by j kind ≡ r ∷ [] → rank_of j ≡ r.0
 rank_is (job.Read served buffer) kind r is = let same : (served.id, world.Op.Read served.block) ≡ r = cc in ap (λ x. x.0) same
 rank_is (job.Write served) kind r is = let same : (served.id, world.Op.Write served.block (new_data_of kind)) ≡ r = cc in ap (λ x. x.0) same
 rank_is (job.Scrub scrub) kind r is = absurd (cc)
+rank_is (job.Rebuild target) kind r is = absurd (cc)
 
 few_by : (j : Job) (kind : Kind) → length (requests_by j kind) ≤ 1
 few_by (job.Read served buffer) kind = omega arith
 few_by (job.Write served) kind = omega arith
 few_by (job.Scrub scrub) kind = omega arith
+few_by (job.Rebuild target) kind = omega arith
 
 rising_more : (rs more : List Request) (j : Job) (kind : Kind) → map numbered_op more ≡ requests_by j kind → IsRising rs → AreLower rs (rank_of j) → IsRising (rs ++ more)
 rising_more rs [] j kind is rising lower = subst IsRising (sym (append-nil rs)) rising
@@ -153,7 +158,6 @@ pub record IsSettling (old now : State) : Type 0 where
   pub leads : Through (layout_in old) old.frames.shard GoesOn (state_of old) (state_of now)
   pub driven : (frame : ℕ) → IsDriven now.frames frame
   pub same : SameFrames old now
-  pub calls : SameCalls old now
   pub unanswered : now.unanswered ≡ old.unanswered
   pub waiting : now.waiting ≡ old.waiting
   pub released : now.released ≡ old.released
@@ -182,7 +186,6 @@ settling s fs goes drives sound live driven =
       leads = driven_leads s fs goes drives;
       driven = driven;
       same = (drives.0, drives.1);
-      calls = (refl, refl);
       unanswered = refl;
       waiting = refl;
       released = refl;
@@ -195,7 +198,7 @@ settling s fs goes drives sound live driven =
 -- the hold with the lowest number of those that are over ends
 module _ (old now new : State) (frame : ℕ) (before : IsSettling old now) (lowest : IsLowestOver now.frames frame)
     (sound : IsSound new) (live : AreLive new.frames) (leads : Through (layout_in now) now.frames.shard GoesOn (state_of now) (state_of new))
-    (rests : IsRestedFrame new frame) (others : KeepsOthers now.frames frame new.frames) (same : SameFrames now new) (calls : SameCalls now new)
+    (rests : IsRestedFrame new frame) (others : KeepsOthers now.frames frame new.frames) (same : SameFrames now new)
     (released : new.released ≡ now.released) (ends : FinishesHeld now frame new) (unanswered : new.unanswered ≡ now.unanswered) (waiting : new.waiting ≡ now.waiting) where
   abbrev h : HeldRow
   h = lowest.0.0
@@ -214,7 +217,7 @@ module _ (old now new : State) (frame : ℕ) (before : IsSettling old now) (lowe
             (ne, (over.0, sym kept ∙ over.1, over.2), sym kept ∙ is)
       ]
 
-  lower_than : (rank : ℕ) → (is_scrub h.job ≡ false → rank_of h.job < rank) → AreLower before.more rank → AreLower (before.more ++ ended.0) rank
+  lower_than : (rank : ℕ) → (is_request h.job ≡ true → rank_of h.job < rank) → AreLower before.more rank → AreLower (before.more ++ ended.0) rank
   lower_than rank lower all =
       let own : AreLower ended.0 rank = lower_mapped ended.0 rank (subst (AllByRecursion (λ r. r.0 < rank)) (sym ended.1) (lower_by h.job (kind_in h) rank lower)) in
       all-append (λ r. r.id < rank) before.more ended.0 all own
@@ -236,7 +239,6 @@ module _ (old now new : State) (frame : ℕ) (before : IsSettling old now) (lowe
             (through_in old.frames.geometry now.frames.geometry old.frames.shard now.frames.shard GoesOn (state_of now) (state_of new) before.same.0 before.same.1 leads);
         driven = driven_on;
         same = (same.0 ∙ before.same.0, same.1 ∙ before.same.1);
-        calls = (calls.0 ∙ before.calls.0, calls.1 ∙ before.calls.1);
         unanswered = unanswered ∙ before.unanswered;
         waiting = waiting ∙ before.waiting;
         released = released ∙ before.released;
@@ -246,7 +248,7 @@ module _ (old now new : State) (frame : ℕ) (before : IsSettling old now) (lowe
         lower = λ other i over is.
             let was = still_over other i over is in
             let le = lowest.1 other h i was.1 lowest.0.1 was.2 in
-            let higher : is_scrub h.job ≡ false → rank_of h.job < rank_of i.job = λ request.
+            let higher : is_request h.job ≡ true → rank_of h.job < rank_of i.job = λ request.
             let apart = rank_apart now frame other h i before.sound lowest.0.1 was.2 (λ e. was.0 (sym e)) request in
             omega (arith, le, apart) in
             lower_than (rank_of i.job) higher (before.lower other i was.1 was.2);

@@ -1,5 +1,5 @@
 -- Holds that put commands out, and rows that are held anew, leave the slots as they are.
-use Rattle.std.proofs.Common.{◌≡◌, ℕ, List, [], ◌∷◌, refl, ap, ◌∙◌}
+use Rattle.std.proofs.Common.{◌+◌, ◌≡◌, ℕ, List, [], ◌∷◌, refl, ap, ◌∙◌}
 use Rattle.r6_world.specs.Layouts.{Layout}
 use Rattle.r6_world.specs.Tables.{count_below}
 use Rattle.r6_world.specs.ShardStates.{Shard, is_away}
@@ -10,7 +10,7 @@ use Rattle.r6_frames.specs.declared.frames.Frames.{Frames}
 use Rattle.r6_frames.specs.Slots.{states_of, count_out}
 use Rattle.r6_frames.specs.Views.{Rest, shard_with}
 use Rattle.r6_frames.specs.Calls.{Drives, PutsOut}
-use Rattle.r6_core.specs.Inside.{is_missing, count_missing}
+use Rattle.r6_core.specs.Inside.{is_missing, is_settled, most_calls}
 
 slots_after-put : (l : Layout) (s : Shard) (change : Change) → PutsOut change → (after l s change).slot ≡ s.slot
 slots_after-put l s (Ask frame h slot generation) puts = refl
@@ -27,8 +27,9 @@ pub out_same : (old new : Frames) → states_of new.slots ≡ states_of old.slot
     → count_out new.slots new.geometry.slots ≡ count_out old.slots old.geometry.slots
 out_same old new slots geometry = λ i. count_below (λ slot. is_away (slots i slot)) (geometry i).slots
 
-pub missing_same : (old new : Frames) → states_of new.slots ≡ states_of old.slots → new.geometry ≡ old.geometry → count_missing new ≡ count_missing old
-missing_same old new slots geometry = λ i. count_below (λ slot. is_missing (slots i slot)) (geometry i).slots
+pub calls_same : (old new : Frames) → states_of new.slots ≡ states_of old.slots → new.geometry ≡ old.geometry → most_calls new ≡ most_calls old
+calls_same old new slots geometry = λ i.
+    count_below (λ slot. is_missing (slots i slot)) (geometry i).slots + count_below (λ slot. is_settled (slots i slot)) (geometry i).slots
 
 pub drives_keep : (rest : Rest) (old new : Frames) → Drives old new → states_of new.slots ≡ states_of old.slots
 drives_keep rest old new drives = let through = drives.2 rest in slots_led (layout_of old.geometry) old.shard (shard_with rest old) (shard_with rest new) through.0 through.1

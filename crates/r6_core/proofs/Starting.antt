@@ -15,7 +15,8 @@ use Rattle.r6_world.specs.PlainArray as world
 use Rattle.r6_world.specs.PlainArray.{block_of}
 use Rattle.r6_world.specs.Layouts.{Layout}
 use Rattle.r6_world.specs.Geometries.{layout_of}
-use Rattle.r6_world.specs.Tasks.{Hold}
+use Rattle.r6_world.specs.Tasks.{Hold, Task}
+use Rattle.r6_frames.specs.declared.frames.Job.{Job}
 use Rattle.r6_world.specs.ShardStates.{Shard, Request, Stage, Waiting, Held, NotHeld, begun}
 use Rattle.r6_world.specs.Changes.{Change, Start, Ask, Prepare, Send, after, MayStart, staged}
 use Rattle.r6_world.specs.Steps.{Through, Scans, IsRequest}
@@ -32,18 +33,18 @@ use Rattle.r6_frames.specs.Slots.{states_of}
 use Rattle.r6_frames.specs.Sound as held
 use Rattle.r6_core.specs.Shards.{state_of, rest_of, layout_in, requests_of, waiting_request, replied_requests, table}
 use Rattle.r6_core.specs.Order.{start_of, Starts}
-use Rattle.r6_core.specs.Inside.{CanStart, CannotStart, HasFreedOne, IsFirstToStart, IsSound, IsSettled, IsRestedFrame, NoMoreCanStart, count_missing, count_rows, count_untold, bound, most_tokens, one_if}
+use Rattle.r6_core.specs.Inside.{CanStart, CannotStart, HasFreedOne, IsFirstToStart, IsSound, IsSettled, IsRestedFrame, NoMoreCanStart, most_calls, count_rows, count_untold, bound, most_tokens, is_turn, one_if}
 use Rattle.r6_core.proofs.Waking.{row_stays, one_more}
 use Rattle.r6_frames.proofs.Lists.{Entries}
 use Rattle.r6_frames.proofs.Held.{put_own}
 use Rattle.r6_core.proofs.CountedRows.{counted_still, row_weight, rows_counted_but_one, rows_counted_still}
 use Rattle.r6_core.proofs.Going.{drives_give, no_rest}
-use Rattle.r6_core.proofs.Scrubs.{for_request, scrub_weight, task_weight}
+use Rattle.r6_core.proofs.Scrubs.{Weighs, scrub_weight, scrubs_weigh, turn_weight, turns_weigh}
 use Rattle.r6_core.proofs.Kept.{own_rows_kept, requests_kept, sizes_kept}
 use Rattle.r6_core.proofs.Passed.{Passed, passed, all-middle}
 use Rattle.r6_core.proofs.Throughs.{through_in, through_of}
 use Rattle.r6_frames.proofs.Resting.{frame-held, free_is}
-use Rattle.r6_core.proofs.SlotsKept.{missing_same, drives_keep}
+use Rattle.r6_core.proofs.SlotsKept.{calls_same, drives_keep}
 use Rattle.r6_core.proofs.Accepting.{others}
 use Rattle.r6_core.proofs.MayBegin.{may_begin}
 
@@ -241,24 +242,26 @@ module _ (s : State) (before : List Entered) (request : Entered) (behind : List 
       summed n0 n1 n2 o0 o1 o2 each few few' all a b c d e = omega arith
 
   -- as many slots are out as before
-  few_still : IsSound s → length s.calls.items + count_untold s.untold ≤ count_missing new
+  few_still : IsSound s → length s.calls.items + count_untold s.untold ≤ most_calls new
   few_still sound =
       let begun : states_of mid.slots ≡ states_of s.frames.slots = ap (λ (x : Shard). x.slot) (is.begins.shard.2 no_rest) in
-      omega (arith, missing_same s.frames new (drives_keep no_rest mid new is.drives ∙ begun) geometry_same, sound.room.few_calls)
+      omega (arith, calls_same s.frames new (drives_keep no_rest mid new is.drives ∙ begun) geometry_same, sound.room.few_calls)
 
   -- the row is held for the request, and not for a scrub
-  begun_for_request : (h : HeldRow) → hold_of h ≡ begun_for s.frames request → one_if is_scrub (Some (held_for h)) ≡ 0
-  begun_for_request h is = task_weight h.row h.job (kind_in h) ∙ ap (λ (hold : Hold). scrub_weight hold.task) is ∙ for_request request.id request.op
+  begun_for_request : (test : Job → Bool) (weight : Task → ℕ) → Weighs test weight → (h : HeldRow) → hold_of h ≡ begun_for s.frames request
+      → one_if test (Some (held_for h)) ≡ 0
+  begun_for_request test weight weighs h is =
+      weighs.job h.row h.job (kind_in h) ∙ ap (λ (hold : Hold). weight hold.task) is ∙ weighs.request request.id request.op
 
   -- as many rows are held for scrubs as before
-  started_scrubs : IsSound s → count_rows is_scrub new.held.items ≡ count_rows is_scrub s.frames.held.items
-  started_scrubs sound =
+  started_rows : (test : Job → Bool) (weight : Task → ℕ) → Weighs test weight → IsSound s → count_rows test new.held.items ≤ count_rows test s.frames.held.items
+  started_rows test weight weighs sound =
       let begun = frame-held mid frame (begun_for s.frames request) (begun_frame s.frames frame request mid is.begins) in
-      let first = rows_counted_but_one is_scrub frame s.frames mid sound.frames is.begun_sound is.begun_others in
-      let none : row_weight is_scrub s.frames.held.items frame ≡ 0 = ap (λ o. one_if is_scrub (option_map held_for o)) (no_row s.frames frame is.can.1) in
-      let own : row_weight is_scrub mid.held.items frame ≡ 0 =
-      ap (λ o. one_if is_scrub (option_map held_for o)) begun.1 ∙ begun_for_request begun.0 begun.2 in
-      let rest = rows_counted_still is_scrub mid new is.begun_sound is.sound is.rows in
+      let first = rows_counted_but_one test frame s.frames mid sound.frames is.begun_sound is.begun_others in
+      let none : row_weight test s.frames.held.items frame ≡ 0 = ap (λ o. one_if test (option_map held_for o)) (no_row s.frames frame is.can.1) in
+      let own : row_weight test mid.held.items frame ≡ 0 =
+      ap (λ o. one_if test (option_map held_for o)) begun.1 ∙ begun_for_request test weight weighs begun.0 begun.2 in
+      let rest = rows_counted_still test mid new is.begun_sound is.sound is.rows in
       omega (arith, first, none, own, rest)
 
   -- no token is taken back
@@ -289,7 +292,8 @@ module _ (s : State) (before : List Entered) (request : Entered) (behind : List 
           };
           tokens = omega (arith, started_bound, sound.tokens);
           accepted = sound.accepted;
-          counted = counted_still s.counts s.frames new sound.counted (let many = started_scrubs sound in omega (arith, many)) started_tokens;
+          counted =
+              counted_still s.counts s.frames new sound.counted (started_rows is_turn turn_weight turns_weigh sound) (started_rows is_scrub scrub_weight scrubs_weigh sound) started_tokens;
           next_rows = own_rows_kept s.frames new s.check_row s.repair_row geometry_same shard_same sound.next_rows;
         };
         rested = λ live f. elim (cases_eq f frame) [

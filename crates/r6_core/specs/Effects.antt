@@ -4,12 +4,15 @@ use Rattle.r6_layout.specs.Shape.{Shape}
 use Rattle.r6_world.specs.Layouts.{IsRowOf}
 use Rattle.r6_world.specs.Geometries.{layout_of}
 use Rattle.r6_world.specs.Registers.{Snapshot, Told}
-use Rattle.r6_world.specs.Changes.{Accept, after}
+use Rattle.r6_world.specs.Changes.{Accept, Start, Allowed, after}
+use Rattle.r6_world.specs.Tasks.{Task as WorldTask, Rebuild}
+use Rattle.r6_core.specs.Rebuilds.{IsNextRebuild}
 use Rattle.r6_world.specs.Steps as steps
 use Rattle.r6_world.specs.Worlds.{shard_at_start}
 use Rattle.r6_frames.specs.declared.op.Op.{Op}
 use Rattle.r6_frames.specs.declared.command.Command.{Command}
 use Rattle.r6_frames.specs.declared.frames.Scrub.{Scrub}
+use Rattle.r6_frames.specs.declared.frames.Scrub.TheVariants as scrub
 use Rattle.r6_frames.specs.Views.{op_of, scrub_task, world_command}
 use Rattle.r6_core.specs.declared.call.Call.{Call}
 use Rattle.r6_core.specs.declared.reply.Reply.{Reply}
@@ -17,10 +20,12 @@ use Rattle.r6_core.specs.declared.refusal.DeviceFault.{DeviceFault}
 use Rattle.r6_core.specs.declared.refusal.Receipt.{Receipt}
 use Rattle.r6_core.specs.declared.refusal.Refusal.{Refusal}
 use Rattle.r6_core.specs.declared.refusal.Refusal.TheVariants.{UntoldFirst, UnknownCall}
+use Rattle.r6_core.specs.declared.turn.Task.{Task}
+use Rattle.r6_core.specs.declared.turn.Task.TheVariants as task
 use Rattle.r6_core.specs.declared.turn.Turn.{Turn}
 use Rattle.r6_core.specs.declared.turn.Turn.TheVariants.{Started, Skipped}
-use Rattle.r6_core.specs.Shards.{CoreView, Step, turn_row, world_shard, core_layout, completion_of, receipt_of, buffer_in, reply_of, buffer_back, call_of}
-use Rattle.r6_core.specs.Refusals.{HasSubmitFault, submit_faults, HasDeliverFault, deliver_faults, HasTurnFault, turn_faults, IsFirstFault, HasNone, AllTold}
+use Rattle.r6_core.specs.Shards.{CoreView, SameShard, Step, turn_row, world_shard, core_layout, completion_of, receipt_of, buffer_in, reply_of, buffer_back, call_of}
+use Rattle.r6_core.specs.Refusals.{HasSubmitFault, submit_faults, HasDeliverFault, deliver_faults, HasRebuildFault, HasTurnFault, turn_faults, IsFirstFault, HasNone, AllTold}
 use Rattle.r6_core.specs.Order.{BringsBack, NoReplies, SameReplies, KeepsReplies, FinishesBy, LooksOn, TakesFirst, HasNoReply, HaveTurns, HaveTurnsBehind, HaveTurnsAfter}
 
 -- replies and what waits stay as they are
@@ -92,16 +97,46 @@ abbrev pub turn_event : Turn → Scrub → (row : ℕ) → steps.Event
 turn_event Started scrub row = steps.Turn_started (scrub_task scrub)
 turn_event Skipped scrub row = steps.Turn_skipped (scrub_task scrub) row
 
-pub record Turns (old : CoreView) (scrub : Scrub) (turn : Turn) (new : CoreView) : Type 0 where
-  pub step : Step old (turn_event turn scrub (turn_row scrub (world_shard old))) new
-  pub right : HasNone (HasTurnFault old scrub) turn_faults
+-- The row is held for the turn, and what the hold does first is done: a step by `Turn_started`, of this row
+abbrev pub StartsTurn : CoreView → WorldTask → (row : ℕ) → CoreView → Type 0
+StartsTurn old task row new =
+    let l = core_layout old in
+    let s = world_shard old in
+    SameShard old new × steps.IsTurn task × (frame : ℕ) × Allowed l old.shard s (Start frame row task)
+    × steps.Through l old.shard steps.Scans (after l s (Start frame row task)) (world_shard new)
+    × steps.AtRest l old.shard (world_shard new)
+
+-- the row that is rebuilt next is held for its rebuild
+abbrev pub Rebuilds : (window : ℕ) → CoreView → CoreView → Type 0
+Rebuilds window old new =
+    (slot : ℕ) × (generation : ℕ) × (row : ℕ) × IsNextRebuild old window slot generation row
+    × StartsTurn old (Rebuild slot generation) row new
+
+-- a check or repair takes the shard's next row up, or passes it over
+abbrev pub Scrubs : Scrub → CoreView → Turn → CoreView → Type 0
+Scrubs scrub old turn new = Step old (turn_event turn scrub (turn_row scrub (world_shard old))) new
+
+abbrev pub TakesTurn : CoreView → Task → Turn → CoreView → Type 0
+TakesTurn old task.Rebuild turn new = (turn ≡ Started) × Rebuilds old.window old new
+TakesTurn old task.Check turn new = Scrubs scrub.Check old turn new
+TakesTurn old task.Repair turn new = Scrubs scrub.Repair old turn new
+
+-- why it is refused; the first that holds
+abbrev pub HasTaskFault : CoreView → Task → Refusal → Type 0
+HasTaskFault core task.Rebuild = HasRebuildFault core core.window
+HasTaskFault core task.Check = HasTurnFault core scrub.Check
+HasTaskFault core task.Repair = HasTurnFault core scrub.Repair
+
+pub record Turns (old : CoreView) (task : Task) (turn : Turn) (new : CoreView) : Type 0 where
+  pub taken : TakesTurn old task turn new
+  pub right : HasNone (HasTaskFault old task) turn_faults
   pub kept : KeepsRequests old new
   pub unanswered : new.unanswered ≡ old.unanswered
 
 -- nothing changes
-pub record RefusesTurn (old : CoreView) (scrub : Scrub) (refusal : Refusal) (new : CoreView) : Type 0 where
+pub record RefusesTurn (old : CoreView) (task : Task) (refusal : Refusal) (new : CoreView) : Type 0 where
   pub same : new ≡ old
-  pub fault : IsFirstFault (HasTurnFault old scrub) turn_faults refusal
+  pub fault : IsFirstFault (HasTaskFault old task) turn_faults refusal
 
 -- ---- commands
 

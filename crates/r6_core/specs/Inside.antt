@@ -1,5 +1,5 @@
 -- What is true of a state between calls, and what internal calls do. No public clause needs it.
-use Rattle.std.specs.Prelude.{◌≡◌, ℕ, ◌+◌, ◌*◌, ◌<◌, ◌≤◌, nat_eq, Bool, true, false, List, [], ◌∷◌, ◌++◌, length, map, if◌then◌else◌, option_map, IsPermutation, Option, Some, None, Result}
+use Rattle.std.specs.Prelude.{◌≡◌, ℕ, ◌+◌, ◌*◌, ◌<◌, ◌≤◌, nat_eq, not, ◌⊎◌, Bool, true, false, List, [], ◌∷◌, ◌++◌, length, map, if◌then◌else◌, option_map, IsPermutation, Option, Some, None, Result}
 use Rattle.std.specs.List.{AllByRecursion, IsDistinct}
 use Rattle.std.specs.Map.{keys_of}
 use Rattle.r6_stripe.specs.Plans.{is_in_sync}
@@ -17,6 +17,9 @@ use Rattle.r6_world.specs.Steps.{Through, GoesOn, Takes}
 use Rattle.r6_frames.specs.declared.op.Op.{Op}
 use Rattle.r6_frames.specs.declared.op.Request.{Request}
 use Rattle.r6_core.specs.declared.call.Call.{Call}
+use Rattle.r6_core.specs.declared.call.Call.TheVariants as call
+use Rattle.circular_buffer.specs.Buffer.{buffer}
+use Rattle.r6_frames.specs.declared.rebuilt.Target.{Target}
 use Rattle.r6_core.specs.declared.reply.Reply.{Reply}
 use Rattle.r6_core.specs.declared.reply.Reply.TheVariants as reply
 use Rattle.r6_core.specs.declared.refusal.DeviceFault.{DeviceFault}
@@ -32,9 +35,11 @@ use Rattle.r6_frames.specs.declared.frames.FrameUse.{FrameUse}
 use Rattle.r6_frames.specs.declared.frames.Job.{Job}
 use Rattle.r6_frames.specs.declared.frames.Scrub.{Scrub}
 use Rattle.r6_frames.specs.declared.frames.HeldRow.{HeldRow}
+use Rattle.r6_frames.specs.declared.rebuilt.Rebuilt.{Rebuilt}
+use Rattle.r6_frames.specs.Rebuilt.{IsRebuilt, next_row as built_next}
 use Rattle.r6_frames.specs.Slots.{states_of}
-use Rattle.r6_frames.specs.Views.{op_of, buffer_of, is_scrub, held_for, row_in, kind_in, requests_by, held_requests, hold_at, AreLive}
-use Rattle.r6_frames.specs.Calls.{AreAllInSync, Between, HasOneBlock, IsAwaited, IsFreeFrame, IsRequestOf, KeepsOthers, NotHeldBy}
+use Rattle.r6_frames.specs.Views.{op_of, buffer_of, is_request, is_scrub, held_for, row_in, kind_in, requests_by, held_requests, hold_at, AreLive}
+use Rattle.r6_frames.specs.Calls.{AreAllInSync, Between, BringsIn, HasOneBlock, Marks, IsAwaited, IsFreeFrame, IsRequestOf, KeepsOthers, NotHeldBy}
 use Rattle.r6_frames.specs.Owed.{owed, IsDriven, IsOver}
 use Rattle.r6_frames.specs.Calls as frames
 use Rattle.r6_frames.specs.Sound as held
@@ -81,10 +86,14 @@ abbrev pub count_rows : (Job → Bool) → List FrameUse → ℕ
 count_rows test [] = 0
 count_rows test (u ∷ held) = one_if test (option_map held_for (row_in u)) + count_rows test held
 
+-- what the shard does by itself: a check, a repair or a rebuild
+abbrev pub is_turn : Job → Bool
+is_turn job = not (is_request job)
+
 -- A row that is held has put out a command, and is found at most twice, by its class and as repaired. None is passed
 -- over from the limit on, but for rows that are held then
 pub record AreCounted (k : Counts) (fs : Frames) : Type 0 where
-  pub found : rows_found k + 2 * count_rows is_scrub fs.held.items ≤ 2 * next_of fs.commands
+  pub found : rows_found k + 2 * count_rows is_turn fs.held.items ≤ 2 * next_of fs.commands
   pub skipped : k.skipped + count_rows is_scrub fs.held.items ≤ limit + shards.frames
 
 -- ---- between calls
@@ -109,15 +118,24 @@ is_missing (Synced generation) = false
 is_missing Missing = true
 is_missing (Building generation built) = false
 
-abbrev pub count_missing : Frames → ℕ
-count_missing fs = count_below (λ slot. is_missing (states_of fs.slots slot)) fs.geometry.slots
+abbrev pub is_settled : SlotState → Bool
+is_settled (Synced generation) = true
+is_settled Missing = true
+is_settled (Building generation built) = false
+
+abbrev pub count_slots : (SlotState → Bool) → Frames → ℕ
+count_slots test fs = count_below (λ slot. test (states_of fs.slots slot)) fs.geometry.slots
+
+-- As many calls may wait to be made, since a look had none to wait for: of a slot in sync its rebuild, and of one that is
+-- missing its loss behind it
+abbrev pub most_calls : Frames → ℕ
+most_calls fs = count_slots is_missing fs + count_slots is_settled fs
 
 pub record HasRoom (s : State) : Type 0 where
   pub waiting : s.waiting.capacity ≡ most_unanswered
   pub replies : s.replies.capacity ≡ most_unanswered
-  pub calls : s.calls.capacity ≡ 32
-  -- each call declares another slot lost, which has no device
-  pub few_calls : length s.calls.items + count_untold s.untold ≤ count_missing s.frames
+  pub calls : s.calls.capacity ≡ 64
+  pub few_calls : length s.calls.items + count_untold s.untold ≤ most_calls s.frames
 
 -- what was put out, with what may still come: each request that waits puts out at most two commands a position
 abbrev pub bound : State → ℕ
@@ -175,6 +193,27 @@ IsPassedOver s scrub = AreLive s.frames × HasSlotOut s.frames (next_row scrub s
 
 abbrev pub IsTakenUp : State → Scrub → (frame : ℕ) → Type 0
 IsTakenUp s scrub frame = AreAllInSync s.frames (next_row scrub s) × CanHold s.frames (next_row scrub s) frame
+
+-- The row of this number, among those that are rebuilt next, could be rebuilt: it is the shard's, and isn't held
+abbrev pub IsUnheldRow : Frames → Rebuilt → (number : ℕ) → Type 0
+IsUnheldRow fs rebuilt number =
+    (built_next rebuilt number < layout.first_row fs.geometry (fs.shard + 1)) × NotHeldBy fs (built_next rebuilt number)
+
+-- the first such row, within the window
+pub record IsFirstUnheld (fs : Frames) (rebuilt : Rebuilt) (window row : ℕ) : Type 0 where
+  pub number : ℕ
+  pub near : number < window
+  pub row_is : row ≡ built_next rebuilt number
+  pub unheld : IsUnheldRow fs rebuilt number
+  pub first : (other : ℕ) → other < number → IsUnheldRow fs rebuilt other → ⊥
+
+-- there is none in the window
+abbrev pub NoneUnheld : Frames → Rebuilt → (window : ℕ) → Type 0
+NoneUnheld fs rebuilt window = (number : ℕ) → number < window → IsUnheldRow fs rebuilt number → ⊥
+
+-- the rows that are rebuilt on a new device of the shard
+abbrev pub IsBuiltIn : Frames → Rebuilt → Type 0
+IsBuiltIn fs = IsRebuilt (layout.first_row fs.geometry fs.shard) (layout.first_row fs.geometry (fs.shard + 1))
 
 -- a waiting request can start in the frame, or can't: so it is of the row of its block
 abbrev pub CanStart : Frames → Request → ℕ → Type 0
@@ -268,6 +307,27 @@ abbrev pub requests_ended : Ended → List Request
 requests_ended (ended.Request request) = request ∷ []
 requests_ended (ended.Classed scrub class) = []
 requests_ended (ended.Skipped scrub) = []
+requests_ended (ended.Rebuilt target row) = []
+requests_ended (ended.GivenUp target) = []
+
+-- a row more is rebuilt
+abbrev pub one_rebuilt : Counts → Counts
+one_rebuilt k = record k { rebuilt = k.rebuilt + 1 }
+
+-- the row is rebuilt; with the last row of the shard its slot is in sync, and the register is to hear it
+abbrev pub IsMarked : State → Target → (row : ℕ) → State → Type 0
+IsMarked old target row new =
+    (Marks old.frames target row new.frames × (new.calls ≡ old.calls))
+    ⊎ (BringsIn old.frames target row new.frames
+    × (new.calls ≡ buffer (old.calls.items ++ call.ReportRebuilt target.slot target.generation ∷ []) old.calls.capacity))
+
+-- no row is rebuilt with it
+abbrev pub IsPlainEnd : Ended → Type 0
+IsPlainEnd (ended.Request request) = Unit {0}
+IsPlainEnd (ended.Classed scrub class) = Unit {0}
+IsPlainEnd (ended.Skipped scrub) = Unit {0}
+IsPlainEnd (ended.Rebuilt target row) = ⊥
+IsPlainEnd (ended.GivenUp target) = Unit {0}
 
 -- the frame's hold was over, and its request is finished, if it had one
 abbrev pub FinishesHeld : State → (frame : ℕ) → State → Type 0

@@ -1,4 +1,5 @@
 pub mod Shards
+pub mod Rebuilds
 pub mod Refusals
 pub mod Order
 pub mod Effects

@@ -13,6 +13,7 @@ use Rattle.r6_core.specs.declared.refusal.Refusal.TheVariants.{NoSuchBlock, Wron
 use Rattle.r6_frames.specs.declared.frames.Scrub.{Scrub}
 use Rattle.r6_frames.specs.Views.{op_of, buffer_of}
 use Rattle.r6_core.specs.Shards.{CoreView, core_layout, turn_row, world_shard}
+use Rattle.r6_core.specs.Rebuilds.{NoneToRebuild}
 
 abbrev pub error_number : CoreError → ℕ
 error_number NoMemory = 1
@@ -106,6 +107,16 @@ HasTurnFault core scrub NoFrame =
     IsTurnWhole core scrub × ((frame : ℕ) → IsFree (core_layout core) (world_shard core) frame → ⊥)
 -- for no other reason
 HasTurnFault core scrub _ = ⊥
+
+-- why a rebuild's turn is refused, the first that holds, with this many rows under way at one time
+abbrev pub HasRebuildFault : CoreView → (window : ℕ) → Refusal → Type 0
+HasRebuildFault core window ArrayFailed = (world_shard core).saw_failed ≡ true
+HasRebuildFault core window Exhausted = limit ≤ (world_shard core).tokens
+HasRebuildFault core window NothingToDo =
+    (IsLive (core_layout core) (world_shard core) → ⊥) ⊎ NoneToRebuild core window
+HasRebuildFault core window NoFrame = (frame : ℕ) → IsFree (core_layout core) (world_shard core) frame → ⊥
+-- for no other reason
+HasRebuildFault core window _ = ⊥
 
 abbrev pub turn_faults : List Refusal
 turn_faults = ArrayFailed ∷ Exhausted ∷ NothingToDo ∷ NoFrame ∷ []

@@ -113,10 +113,11 @@ pub record CoreView : Type 0 where
   pub finished : List Request  -- in the order in which they finished
   pub released : List Request  -- in the order in which they were released
   pub unanswered : ℕ  -- how many were accepted whose replies were not taken
+  pub window : ℕ  -- as many rows of a rebuild may be under way at one time
   inside : State
 
-abbrev pub core_of : State → CoreView
-core_of s =
+abbrev pub core_with : (window : ℕ) → State → CoreView
+core_with window s =
     record {
       shape = s.frames.geometry;
       shard = s.frames.shard;
@@ -124,15 +125,20 @@ core_of s =
       finished = drop s.released s.replies.items;
       released = take s.released s.replies.items;
       unanswered = s.unanswered;
+      window = window;
       inside = s;
     }
 
+-- where nobody asks for the window
+abbrev pub core_of : State → CoreView
+core_of s = core_with 0 s
+
 -- a core as the tuple of its fields, by which a proof tells cores apart
 abbrev pub Fields : Type 0
-Fields = Shape × (ℕ × (List Request × (List Request × (List Request × (ℕ × State)))))
+Fields = Shape × (ℕ × (List Request × (List Request × (List Request × (ℕ × (ℕ × State))))))
 
 abbrev pub fields : CoreView → Fields
-fields core = (core.shape, (core.shard, (core.waiting, (core.finished, (core.released, (core.unanswered, core.inside))))))
+fields core = (core.shape, (core.shard, (core.waiting, (core.finished, (core.released, (core.unanswered, (core.window, core.inside)))))))
 
 abbrev pub of_fields : Fields → CoreView
 of_fields f =
@@ -143,7 +149,8 @@ of_fields f =
       finished = f.1.1.1.0;
       released = f.1.1.1.1.0;
       unanswered = f.1.1.1.1.1.0;
-      inside = f.1.1.1.1.1.1;
+      window = f.1.1.1.1.1.1.0;
+      inside = f.1.1.1.1.1.1.1;
     }
 
 -- the row of a shard's next check or repair

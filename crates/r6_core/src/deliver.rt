@@ -5,18 +5,19 @@ ghost use Rattle.circular_buffer.specs.Buffer.{buffer};
 ghost use Rattle.r6_world.specs.Changes.{counted};
 ghost use Rattle.r6_world.specs.Steps.{Deliver, Good, Error, Taken, GoesOn};
 ghost use Rattle.r6_frames.specs.Views.{AreLive};
-ghost use Rattle.r6_frames.specs.Calls.{IsAwaited, IsAbandoned, IsHeldFrame, KeepsOthers, ended_task, ended_outcome};
+ghost use Rattle.r6_frames.specs.Calls.{IsAwaited, IsAbandoned, IsHeldFrame, KeepsHolds, KeepsOthers, MayMark, ended_task, ended_outcome};
+ghost use Rattle.r6_frames.specs.Sound as held;
 ghost use Rattle.r6_frames.specs.Owed.{IsDriven};
 ghost use Rattle.r6_core.specs.Shards.{Step, core_of, completion_of, receipt_of, counts_of};
 ghost use Rattle.r6_core.specs.Refusals.{IsFirstFault, HasNone, deliver_faults};
 ghost use Rattle.r6_core.specs.Order.{MayFinish, Finishes, FinishesBy, HaveTurnsBehind};
-ghost use Rattle.r6_core.specs.Inside.{IsSound, IsSettled, IsCore, IsRestedFrame, HasFault, HasFreed, FinishesHeld, requests_ended, rows_counted, KeepsWaiting, Leads, SameCalls, Seen, TakesThrough};
+ghost use Rattle.r6_core.specs.Inside.{IsSound, IsSettled, IsCore, IsMarked, IsPlainEnd, IsRestedFrame, one_rebuilt, HasFault, HasFreed, FinishesHeld, requests_ended, rows_counted, KeepsWaiting, Leads, Seen, TakesThrough};
 
 use crate::call::Call;
 use crate::refusal::{DeviceFault, Receipt, Refusal, Refused};
 use crate::scan::Freed;
 use crate::state::State;
-use r6_frames::Ended;
+use r6_frames::{Ended, Target};
 use r6_kernels::Buffer;
 
 impl State {
@@ -145,7 +146,6 @@ impl State {
         ensures core { IsSettled self.new }
         ensures leads { Leads GoesOn self.old self.new }
         ensures keeps { KeepsWaiting self.old self.new }
-        ensures calls { SameCalls self.old self.new }
         ensures order { Seen Finishes self.old self.new }
     {
         if !self.frames.is_live() {
@@ -171,13 +171,16 @@ impl State {
         // one request at most is finished, and nothing else changes
         ensures others { KeepsOthers self.old.frames frame self.new.frames }
         ensures keeps { KeepsWaiting self.old self.new }
-        ensures calls { SameCalls self.old self.new }
         ensures order { Seen MayFinish self.old self.new }
         ensures released { self.new.released ≡ self.old.released }
         ensures ends { FinishesHeld self.old frame self.new }
         ensures freed { (result ≡ Freed.OneFrame) ⊎ ((result ≡ Freed.Nothing) × (self.new ≡ self.old)) }
     {
         match self.frames.finish(frame) {
+            Some(Ended::Rebuilt(target, row)) => {
+                self.mark_rebuilt(target, row);
+                Freed::OneFrame
+            }
             Some(ended) => {
                 self.close(ended);
                 Freed::OneFrame
@@ -186,10 +189,39 @@ impl State {
         }
     }
 
+    // The row is rebuilt, and counted. With the last row of the shard the slot is in sync, and the register is to hear it.
+    fn mark_rebuilt(&mut self, target: Target, row: u64)
+        requires sound { held.IsSound self.old.frames }
+        requires live { AreLive self.old.frames }
+        requires may { MayMark self.old.frames (Ended.Rebuilt target row) }
+        requires room { length self.old.calls.items < self.old.calls.capacity }
+        requires counts { rows_counted self.old.counts < 2 ^ 63 }
+        ensures sound { held.IsSound self.new.frames }
+        ensures live { AreLive self.new.frames }
+        ensures marked { IsMarked self.old target row self.new }
+        ensures holds { KeepsHolds self.old.frames self.new.frames }
+        ensures commands { self.new.frames.commands ≡ self.old.frames.commands }
+        ensures same { self.new ≡ record self.old {
+          frames = self.new.frames;
+          calls = self.new.calls;
+          counts = one_rebuilt self.old.counts;
+        } }
+    {
+        self.counts.rebuilt += 1;
+        if self.frames.mark_rebuilt(target, row) {
+            let call = Call::ReportRebuilt(target.slot, target.generation);
+            let Ok(()) = self.calls.try_push_back(call) else {
+                unreachable!()
+            };
+        }
+    }
+
     // A request has its reply, and the row of a check or repair is counted.
     fn close(&mut self, ended: Ended)
+        requires plain { IsPlainEnd ended }
         requires room { length self.old.replies.items + length (requests_ended ended) ≤ self.old.replies.capacity }
         requires counts { rows_counted self.old.counts < 2 ^ 63 }
+        ensures plain { IsPlainEnd ended }
         ensures same { self.new ≡ record self.old {
           replies = buffer (self.old.replies.items ++ requests_ended ended) self.old.replies.capacity;
           counts = self.new.counts;
@@ -205,6 +237,8 @@ impl State {
             }
             Ended::Classed(scrub, class) => self.counts.add(scrub, class),
             Ended::Skipped(_) => self.counts.skipped += 1,
+            Ended::GivenUp(_) => {}
+            Ended::Rebuilt(..) => unreachable!(),
         }
     }
 }

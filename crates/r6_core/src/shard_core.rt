@@ -13,7 +13,7 @@ use crate::counts::Counts;
 use crate::refusal::{CoreError, DeviceFault, Receipt, Refusal, Refused};
 use crate::reply::{OpId, Reply};
 use crate::state::State;
-use crate::turn::Turn;
+use crate::turn::{Task, Turn};
 use r6_frames::{Command, Device, MOST_SLOTS, Op, Scrub};
 use r6_health::{Answer, Refusal as RegisterRefusal, SlotState, Snapshot};
 use r6_kernels::Buffer;
@@ -28,31 +28,32 @@ use std::marker::Model;
 /// [`Core::new`] takes memory.
 #[derive(Drop)]
 pub struct Core {
+    /// As many rows of a rebuild may be under way at one time.
+    window: usize,
     state: State,
 }
 
 impl Model for Core {
-    ghost use Rattle.std.specs.Prelude.{refl};
+    ghost use Rattle.std.specs.Prelude.{refl, ◌≤◌};
     ghost use Rattle.std.specs.Coded.{codes, code_by};
     ghost use Rattle.std.specs.FinMap as map;
     ghost use Rattle.circular_buffer.specs.Buffer.{buffer_code};
-    ghost use Rattle.r6_core.specs.Shards.{CoreView, Fields, core_of, fields, of_fields};
+    ghost use Rattle.r6_core.specs.Shards.{CoreView, Fields, core_with, fields, of_fields};
     ghost use Rattle.r6_core.specs.Inside.{IsCore};
 
     ghost Value = { CoreView };
 
     ghost coded = { code_by Fields (Prim.hlevel (codes, map.code, buffer_code)) fields of_fields (λ _. refl) };
 
-    ghost view = { λ core. core_of core.state };
+    ghost view = { λ core. core_with core.window core.state };
 
-    ghost invariant = { λ core. IsCore core.state };
+    ghost invariant = { λ core. IsCore core.state × (core.window ≤ 8) };
 }
 
 impl Core {
     /// The core of shard `shard` of the array, one of those of the geometry. All room is made here.
     ///
-    /// `window`, 1 to 8, is how many rows of a rebuild may be under way at one time; nothing depends on it yet, since cores
-    /// don't rebuild so far. The snapshot is of a register at which no device was attached, and that has not failed.
+    /// `window`, 1 to 8, is how many rows of a slot may be rebuilt at one time. The snapshot is of a register at which no device was attached, and that has not failed.
     ///
     /// # Errors
     /// 1 `NoMemory`.
@@ -69,9 +70,10 @@ impl Core {
         requires no_attach { snapshot.now.attaches ≡ 0 }
         requires unfailed { snapshot.now.failed ≡ false }
         ensures made { IfOk result (IsMade geometry snapshot.now shard) }
+        ensures window { IfOk result (λ core. core.window ≡ window) }
     {
         match State::new(alloc, geometry, shard, devices_at(snapshot)) {
-            Ok(state) => Ok(Core { state }),
+            Ok(state) => Ok(Core { window, state }),
             Err(_) => Err(CoreError::NoMemory),
         }
     }
@@ -84,6 +86,7 @@ impl Core {
     pub fn submit(&mut self, op: Op) -> Result<OpId, Refused<Op>>
         ensures accepted { IfOk result (λ id. Accepts self.old op id.0 self.new) }
         ensures refused { IfErr result (λ r. RefusesOp self.old op r.refusal r.back self.new) }
+        ensures window { self.new.window ≡ self.old.window }
     {
         self.state.submit(op)
     }
@@ -101,6 +104,7 @@ impl Core {
     ) -> Result<Receipt, Refused<Result<Buffer, DeviceFault>>>
         ensures received { IfOk result (λ receipt. Receives self.old token completion receipt self.new) }
         ensures refused { IfErr result (λ r. RefusesCompletion self.old token completion r.refusal r.back self.new) }
+        ensures window { self.new.window ≡ self.old.window }
     {
         self.state.deliver(token, completion)
     }
@@ -114,25 +118,37 @@ impl Core {
     pub fn look(&mut self, snapshot: &Snapshot) -> Result<(), Refusal>
         ensures looked { IfOk result (λ _. LooksAt self.old snapshot.now self.new) }
         ensures refused { IfErr result (λ refusal. RefusesLook self.old refusal self.new) }
+        ensures window { self.new.window ≡ self.old.window }
     {
         self.state.look(snapshot)
     }
 
-    /// Takes up the next row of a check or repair: all its blocks are read, its class is counted, and a repair writes P and
-    /// Q anew, each if it differs from that of the data. A row with a slot out is passed over, and counted as skipped, held
-    /// or not. Checks and repairs go each by themselves from the shard's first row to its last, and on from the first.
+    /// Takes up the next row of a task.
+    ///
+    /// A rebuild's is on the lowest slot with a new device that has one: the first that isn't held among the first
+    /// `window` rows of the shard that aren't rebuilt on it. Its block is restored from the others and written there. With
+    /// the last row the slot is in sync in the shard, and a call is to be made that reports it.
+    ///
+    /// Checks and repairs go each by themselves from the shard's first row to its last, and on from the first. All blocks
+    /// of the row are read and its class is counted; a repair writes P and Q anew, each if it differs from that of the
+    /// data. A row for which a slot isn't in sync is passed over, and counted as skipped, held or not.
     ///
     /// # Errors
-    /// In this order: 5 `ArrayFailed`, 6 `Exhausted`, 10 `NothingToDo` (three slots are out, or the row is held), 9
-    /// `NoFrame`. Nothing changes.
-    pub fn turn(&mut self, scrub: Scrub) -> Result<Turn, Refusal>
-        ensures turned { IfOk result (λ turn. Turns self.old scrub turn self.new) }
-        ensures refused { IfErr result (λ refusal. RefusesTurn self.old scrub refusal self.new) }
+    /// In this order: 5 `ArrayFailed`, 6 `Exhausted`, 10 `NothingToDo` (three slots are out, the row of a check or repair
+    /// is held, or no row is to be rebuilt), 9 `NoFrame`. Nothing changes.
+    pub fn turn(&mut self, task: Task) -> Result<Turn, Refusal>
+        ensures turned { IfOk result (λ turn. Turns self.old task turn self.new) }
+        ensures refused { IfErr result (λ refusal. RefusesTurn self.old task refusal self.new) }
+        ensures window { self.new.window ≡ self.old.window }
     {
-        self.state.turn(scrub)
+        match task {
+            Task::Rebuild => self.state.rebuild(self.window),
+            Task::Check => self.state.turn(Scrub::Check),
+            Task::Repair => self.state.turn(Scrub::Repair),
+        }
     }
 
-    /// What checks and repairs have counted since the core was made.
+    /// What turns have counted since the core was made.
     pub fn counts(&self) -> Counts
         ensures { counts_of result ≡ (world_shard self.now).counts }
     {
@@ -147,6 +163,7 @@ impl Core {
         ensures step { MatchOption result (Step self.old No_command self.new) (λ c. HandsCommand self.old c self.new) }
         ensures there { IfSome result (IsCommandOf self.old) }
         ensures kept { KeepsRequests self.old self.new }
+        ensures window { self.new.window ≡ self.old.window }
     {
         self.state.take_command()
     }
@@ -155,6 +172,7 @@ impl Core {
     pub fn take_call(&mut self) -> Option<Call>
         ensures step { MatchOption result (Step self.old No_call self.new) (λ call. HandsCall self.old call self.new) }
         ensures kept { KeepsRequests self.old self.new }
+        ensures window { self.new.window ≡ self.old.window }
     {
         self.state.take_call()
     }
@@ -172,6 +190,7 @@ impl Core {
         ensures heard { IfOk result (λ _. Hears self.old call answer self.new) }
         ensures refused { IfErr result (λ refusal. RefusesAnswer self.old call refusal self.new) }
         ensures kept { KeepsRequests self.old self.new }
+        ensures window { self.new.window ≡ self.old.window }
     {
         self.state.told(call, answer)
     }
@@ -179,6 +198,7 @@ impl Core {
     /// Takes the reply that was released first.
     pub fn take_reply(&mut self) -> Option<(OpId, Reply)>
         ensures reply { MatchOption result (HandsNoReply self.old self.new) (λ r. HandsReply self.old (r.0).0 r.1 self.new) }
+        ensures window { self.new.window ≡ self.old.window }
     {
         self.state.take_reply()
     }

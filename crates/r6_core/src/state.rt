@@ -81,7 +81,7 @@ impl State {
             waiting: HeapCircularBuffer::with_capacity(alloc, UNANSWERED)?,
             replies: HeapCircularBuffer::with_capacity(alloc, UNANSWERED)?,
             released: 0,
-            calls: HeapCircularBuffer::with_capacity(alloc, MOST_SLOTS)?,
+            calls: HeapCircularBuffer::with_capacity(alloc, 2 * MOST_SLOTS)?,
             untold: None,
             check_row: first_row,
             repair_row: first_row,

@@ -1,4 +1,4 @@
-//! Turns of checks and repairs.
+//! Turns, and those of checks and repairs.
 
 ghost use Rattle.std.specs.Prelude.{◌≡◌, ◌<◌, ◌^◌, true, false, MatchOption, IfOk, IfErr};
 ghost use Rattle.r6_tables.specs.Table.{next_of};
@@ -16,6 +16,17 @@ ghost use Rattle.r6_core.specs.Inside.{AreOwnRows, HasSlotOut, IsCore, IsPassedO
 use crate::refusal::Refusal;
 use crate::state::{LIMIT, State};
 use r6_frames::Scrub;
+
+/// What a turn is for.
+#[derive(Clone, Copy, PartialEq, Eq, Debug)]
+pub enum Task {
+    /// A row of a new device is rebuilt.
+    Rebuild,
+    /// A row is read, and its class found.
+    Check,
+    /// A row is read, its class found, and wrong parities are written anew.
+    Repair,
+}
 
 /// How a turn was taken.
 #[derive(Clone, Copy, PartialEq, Eq, Debug)]

@@ -5,7 +5,7 @@ ghost use Rattle.r6_layout.specs.Shape.{IsShape};
 
 use r6_core::{
     Call, Command, CommandKind, Core, Counts, DeviceFault, FaultKind, Op, OpId, Receipt, Refused,
-    Reply, Scrub, Turn,
+    Reply, Task, Turn,
 };
 use r6_dev::{BlockDevice, MemoryDevice};
 use r6_health::{Answer as RegisterAnswer, Refusal as RegisterRefusal, Snapshot};
@@ -59,8 +59,8 @@ pub(crate) enum Step {
     Reply,
     /// The generation of a slot is asked for.
     InSync(usize),
-    /// A check or repair has its turn.
-    Turn(Scrub),
+    /// A task has its turn.
+    Turn(Task),
     /// The counts are asked for.
     Counts,
     /// The block of a device in a row has this byte throughout from now on; nobody tells the core.
@@ -86,6 +86,8 @@ pub(crate) enum Answer {
     Driven(usize, usize),
     /// The slot and the generation whose loss is to be declared.
     Loss(usize, u32),
+    /// The slot and the generation that are to be reported as rebuilt.
+    Rebuilt(usize, u32),
     Heard,
     /// So many calls, and whether the array has failed.
     Told(usize, bool),
@@ -168,13 +170,19 @@ fn devices_of(alloc: Global, rows: u64) -> Result<Vec<MemoryDevice>, AllocError>
 }
 
 /// The core of shard 0 of an array with this register, to which no device was attached.
-fn core_of(alloc: Global, geometry: &Geometry, register: &Snapshot) -> Result<Core, Fail>
+fn core_of(
+    alloc: Global,
+    geometry: &Geometry,
+    register: &Snapshot,
+    window: usize,
+) -> Result<Core, Fail>
     requires { IsShape geometry.now }
 {
-    if geometry.shards() == 0 || register.failed() || register.attaches() > 0 {
+    let may_be = window > 0 && window <= 8 && geometry.shards() > 0;
+    if !may_be || register.failed() || register.attaches() > 0 {
         return Err(Fail::from("no start"));
     }
-    Ok(Core::new(alloc, *geometry, 0, 1, register)?)
+    Ok(Core::new(alloc, *geometry, 0, window, register)?)
 }
 
 /// The register of an array at whose start these slots are lost.
@@ -207,11 +215,22 @@ impl Bench {
         shards: usize,
         lost: &[usize],
     ) -> Result<Bench, Fail> {
+        Bench::with_window(alloc, rows, shards, lost, 1)
+    }
+
+    /// The same, of whose rows so many may be rebuilt at one time.
+    pub(crate) fn with_window(
+        alloc: Global,
+        rows: u64,
+        shards: usize,
+        lost: &[usize],
+        window: usize,
+    ) -> Result<Bench, Fail> {
         let geometry = Geometry::new(SLOTS, 1, BLOCK, rows, shards)?;
         let register = register_without(&geometry, lost);
         Ok(Bench {
             alloc,
-            core: core_of(alloc, &geometry, &register)?,
+            core: core_of(alloc, &geometry, &register, window)?,
             devices: devices_of(alloc, rows)?,
             rows,
             register,
@@ -250,7 +269,7 @@ impl Bench {
             Step::Look => self.look(),
             Step::Reply => self.take_reply(),
             Step::InSync(slot) => Answer::Generation(self.core.in_sync(slot)),
-            Step::Turn(scrub) => self.turn(scrub),
+            Step::Turn(task) => self.turn(task),
             Step::Counts => Answer::Counted(self.core.counts()),
             Step::Spoil(slot, row, byte) => self.spoil(slot, row, byte)?,
             Step::Stored(slot, row) => self.stored(slot, row)?,
@@ -383,7 +402,7 @@ impl Bench {
     fn take_call(&mut self) -> Answer {
         match self.core.take_call() {
             Some(Call::DeclareLost(slot, generation)) => Answer::Loss(slot, generation),
-            Some(Call::ReportRebuilt(..)) => Answer::Wrong,
+            Some(Call::ReportRebuilt(slot, generation)) => Answer::Rebuilt(slot, generation),
             None => Answer::Nothing,
         }
     }
@@ -426,8 +445,8 @@ impl Bench {
         }
     }
 
-    fn turn(&mut self, scrub: Scrub) -> Answer {
-        match self.core.turn(scrub) {
+    fn turn(&mut self, task: Task) -> Answer {
+        match self.core.turn(task) {
             Ok(turn) => Answer::Turned(turn),
             Err(refusal) => Answer::Refused(refusal.number()),
         }

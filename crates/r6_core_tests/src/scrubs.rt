@@ -3,7 +3,7 @@
 //! In rows 0 to 3 of the array the slots have, in order: Q, D0, D1, P; D0, D1, P, Q; D1, P, Q, D0; P, Q, D0, D1.
 
 use crate::bench::{Answer, Bench, Step, play};
-use r6_core::{Counts, Scrub, Turn};
+use r6_core::{Counts, Task, Turn};
 use std::test::Fail;
 
 const NONE: Counts = Counts {
@@ -22,9 +22,9 @@ const STARTED: Answer = Answer::Turned(Turn::Started);
 const SKIPPED: Answer = Answer::Turned(Turn::Skipped);
 
 /// A turn of this kind that reads a row of four slots and writes so many parities.
-fn passes(scrub: Scrub, writes: usize) -> [(Step, Answer); 2] {
+fn passes(task: Task, writes: usize) -> [(Step, Answer); 2] {
     [
-        (Step::Turn(scrub), STARTED),
+        (Step::Turn(task), STARTED),
         (Step::Drive(9), Answer::Driven(writes.saturating_add(4), 0)),
     ]
 }
@@ -45,7 +45,7 @@ fn a_check_counts_each_class_and_writes_nothing(rt: HostRuntime) -> Result<(), F
     let mut bench = Bench::new(rt.alloc(), 4, 1, &[])?;
     bench.play(&rt, &spoilt())?;
     for _ in 0..4 {
-        bench.play(&rt, &passes(Scrub::Check, 0))?;
+        bench.play(&rt, &passes(Task::Check, 0))?;
     }
     let all = Counts {
         wrong_p: 1,
@@ -56,7 +56,7 @@ fn a_check_counts_each_class_and_writes_nothing(rt: HostRuntime) -> Result<(), F
     };
     bench.play(&rt, &[(Step::Counts, Answer::Counted(all))])?;
     // behind the last row comes the first again
-    bench.play(&rt, &passes(Scrub::Check, 0))?;
+    bench.play(&rt, &passes(Task::Check, 0))?;
     let again = Counts { wrong_p: 2, ..all };
     bench.play(&rt, &[(Step::Counts, Answer::Counted(again))])
 }
@@ -66,9 +66,9 @@ fn a_check_counts_each_class_and_writes_nothing(rt: HostRuntime) -> Result<(), F
 fn a_repair_writes_the_wrong_parities_and_no_data(rt: HostRuntime) -> Result<(), Fail> {
     let mut bench = Bench::new(rt.alloc(), 4, 1, &[])?;
     bench.play(&rt, &spoilt())?;
-    bench.play(&rt, &passes(Scrub::Check, 0))?;
+    bench.play(&rt, &passes(Task::Check, 0))?;
     for writes in [1, 1, 2, 2] {
-        bench.play(&rt, &passes(Scrub::Repair, writes))?;
+        bench.play(&rt, &passes(Task::Repair, writes))?;
     }
     let repaired = Counts {
         wrong_p: 2,
@@ -92,7 +92,7 @@ fn a_repair_writes_the_wrong_parities_and_no_data(rt: HostRuntime) -> Result<(),
     ];
     bench.play(&rt, &stored)?;
     for _ in 0..4 {
-        bench.play(&rt, &passes(Scrub::Check, 0))?;
+        bench.play(&rt, &passes(Task::Check, 0))?;
     }
     let whole = Counts {
         consistent: 4,
@@ -104,9 +104,9 @@ fn a_repair_writes_the_wrong_parities_and_no_data(rt: HostRuntime) -> Result<(),
 #[test]
 fn a_request_waits_for_the_row_of_a_check(rt: HostRuntime) -> Result<(), Fail> {
     let course = [
-        (Step::Turn(Scrub::Check), STARTED),
+        (Step::Turn(Task::Check), STARTED),
         (Step::TakeAll, Answer::Commands(4)),
-        (Step::Turn(Scrub::Repair), Answer::Refused(10)),
+        (Step::Turn(Task::Repair), Answer::Refused(10)),
         (Step::Write(0, 0x5a), Answer::Accepted(0)),
         (Step::Take, Answer::Nothing),
         (Step::Do(0), Answer::Taken),
@@ -116,12 +116,12 @@ fn a_request_waits_for_the_row_of_a_check(rt: HostRuntime) -> Result<(), Fail> {
         (Step::Do(3), Answer::Taken),
         // D1 is read, D0, P and Q are written
         (Step::Take, Answer::Command(4, 2, 0)),
-        (Step::Turn(Scrub::Repair), Answer::Refused(10)),
+        (Step::Turn(Task::Repair), Answer::Refused(10)),
         (Step::Do(4), Answer::Taken),
         (Step::Drive(9), Answer::Driven(3, 0)),
         (Step::Look, Answer::Looked),
         (Step::Reply, Answer::Done(0, 0x5a)),
-        (Step::Turn(Scrub::Repair), STARTED),
+        (Step::Turn(Task::Repair), STARTED),
         (Step::Drive(9), Answer::Driven(4, 0)),
         (
             Step::Counts,
@@ -139,12 +139,12 @@ fn a_row_with_a_slot_out_is_passed_over_held_or_not(rt: HostRuntime) -> Result<(
     let course = [
         (Step::Read(0), Answer::Accepted(0)),
         (Step::Take, Answer::Command(0, 1, 0)),
-        (Step::Turn(Scrub::Check), Answer::Refused(10)),
+        (Step::Turn(Task::Check), Answer::Refused(10)),
         (Step::Lose(3), Answer::Lost),
         (Step::Look, Answer::Looked),
-        (Step::Turn(Scrub::Check), SKIPPED),
-        (Step::Turn(Scrub::Check), SKIPPED),
-        (Step::Turn(Scrub::Repair), SKIPPED),
+        (Step::Turn(Task::Check), SKIPPED),
+        (Step::Turn(Task::Check), SKIPPED),
+        (Step::Turn(Task::Repair), SKIPPED),
         (Step::Take, Answer::Nothing),
         (Step::Do(0), Answer::Taken),
         (Step::Counts, Answer::Counted(Counts { skipped: 3, ..NONE })),
@@ -157,7 +157,7 @@ fn a_row_with_a_slot_out_is_passed_over_held_or_not(rt: HostRuntime) -> Result<(
 fn a_check_that_loses_a_position_is_counted_as_skipped(rt: HostRuntime) -> Result<(), Fail> {
     let course = [
         (Step::Spoil(3, 0, 0x11), Answer::Spoilt),
-        (Step::Turn(Scrub::Repair), STARTED),
+        (Step::Turn(Task::Repair), STARTED),
         (Step::TakeAll, Answer::Commands(4)),
         (Step::Do(0), Answer::Taken),
         (Step::Fail(1), Answer::Taken),
@@ -176,7 +176,7 @@ fn a_check_that_loses_a_position_is_counted_as_skipped(rt: HostRuntime) -> Resul
 fn a_repair_that_loses_its_parity_is_counted_by_its_class(rt: HostRuntime) -> Result<(), Fail> {
     let course = [
         (Step::Spoil(3, 0, 0x11), Answer::Spoilt),
-        (Step::Turn(Scrub::Repair), STARTED),
+        (Step::Turn(Task::Repair), STARTED),
         (Step::Drive(4), Answer::Driven(4, 0)),
         (Step::Take, Answer::Command(4, 3, 0)),
         (Step::Counts, Answer::Counted(NONE)),
@@ -196,15 +196,15 @@ fn a_repair_that_loses_its_parity_is_counted_by_its_class(rt: HostRuntime) -> Re
 #[test]
 fn a_stopped_shard_has_nothing_to_do(rt: HostRuntime) -> Result<(), Fail> {
     let course = [
-        (Step::Turn(Scrub::Check), SKIPPED),
+        (Step::Turn(Task::Check), SKIPPED),
         (Step::Read(0), Answer::Accepted(0)),
         (Step::Take, Answer::Command(0, 1, 0)),
         (Step::Fail(0), Answer::Taken),
-        (Step::Turn(Scrub::Check), Answer::Refused(10)),
-        (Step::Turn(Scrub::Repair), Answer::Refused(10)),
+        (Step::Turn(Task::Check), Answer::Refused(10)),
+        (Step::Turn(Task::Repair), Answer::Refused(10)),
         (Step::TellAll, Answer::Told(1, true)),
         (Step::Look, Answer::Looked),
-        (Step::Turn(Scrub::Check), Answer::Refused(5)),
+        (Step::Turn(Task::Check), Answer::Refused(5)),
         (Step::Counts, Answer::Counted(Counts { skipped: 1, ..NONE })),
     ];
     play(&rt, rt.alloc(), 4, 1, &[2, 3], &course)
@@ -219,12 +219,12 @@ fn a_turn_needs_a_frame(rt: HostRuntime) -> Result<(), Fail> {
         bench.play(&rt, &[read])?;
     }
     let course = [
-        (Step::Turn(Scrub::Check), Answer::Refused(9)),
+        (Step::Turn(Task::Check), Answer::Refused(9)),
         (Step::TakeAll, Answer::Commands(64)),
         (Step::Do(63), Answer::Taken),
-        (Step::Turn(Scrub::Check), STARTED),
-        (Step::Turn(Scrub::Check), Answer::Refused(10)),
-        (Step::Turn(Scrub::Repair), Answer::Refused(10)),
+        (Step::Turn(Task::Check), STARTED),
+        (Step::Turn(Task::Check), Answer::Refused(10)),
+        (Step::Turn(Task::Repair), Answer::Refused(10)),
     ];
     bench.play(&rt, &course)
 }

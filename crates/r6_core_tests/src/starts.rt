@@ -1,12 +1,15 @@
 //! Cores that begin with slots lost, or that look at a slot under rebuild.
 
 use crate::bench::{Answer, Bench, Step, play};
+use r6_core::{Task, Turn};
 use r6_health::{Answer as RegisterAnswer, Register, ShardSet, SlotState, Snapshot};
 use r6_layout::Geometry;
 use std::alloc::Global;
 use std::process::Abort;
 use std::sync::Wait;
 use std::test::Fail;
+
+const STARTED: Answer = Answer::Turned(Turn::Started);
 
 #[test]
 fn slots_are_in_sync_with_generation_0(rt: HostRuntime) -> Result<(), Fail> {
@@ -80,5 +83,41 @@ fn a_rebuilding_slot_counts_as_out(rt: HostRuntime) -> Result<(), Fail> {
     bench.register = rebuilding(&rt, rt.alloc(), &Geometry::new(4, 1, 16, 4, 1)?)?;
     let is_empty = bench.register.slot(1) == SlotState::Rebuilding(1, ShardSet::empty());
     assert!(rt; is_empty);
+    bench.play(&rt, &course)
+}
+
+// Two rows of slot 1 are under way, and no third before one of them is rebuilt. In rows 0 to 3 slot 1 has D0, D1, P and Q.
+#[test]
+fn as_many_rows_are_rebuilt_at_one_time_as_the_window_says(rt: HostRuntime) -> Result<(), Fail> {
+    let course = [
+        (Step::Look, Answer::Looked),
+        (Step::Turn(Task::Rebuild), STARTED),
+        (Step::Turn(Task::Rebuild), STARTED),
+        (Step::Turn(Task::Rebuild), Answer::Refused(10)),
+        (Step::Take, Answer::Command(0, 2, 0)),
+        (Step::Take, Answer::Command(1, 3, 0)),
+        (Step::Take, Answer::Command(2, 0, 1)),
+        (Step::Take, Answer::Command(3, 2, 1)),
+        (Step::Take, Answer::Nothing),
+        // the later row is rebuilt first, and lets the one behind it in
+        (Step::Do(2), Answer::Taken),
+        (Step::Do(3), Answer::Taken),
+        (Step::Take, Answer::Command(4, 1, 1)),
+        (Step::Turn(Task::Rebuild), Answer::Refused(10)),
+        (Step::Do(4), Answer::Taken),
+        (Step::Turn(Task::Rebuild), STARTED),
+        (Step::Turn(Task::Rebuild), Answer::Refused(10)),
+        (Step::Drive(3), Answer::Driven(3, 0)),
+        (Step::Turn(Task::Rebuild), STARTED),
+        (Step::Turn(Task::Rebuild), Answer::Refused(10)),
+        (Step::Do(0), Answer::Taken),
+        (Step::Do(1), Answer::Taken),
+        (Step::InSync(1), Answer::Generation(None)),
+        (Step::Drive(9), Answer::Driven(4, 0)),
+        (Step::InSync(1), Answer::Generation(Some(1))),
+        (Step::TakeCall, Answer::Rebuilt(1, 1)),
+    ];
+    let mut bench = Bench::with_window(rt.alloc(), 4, 1, &[], 2)?;
+    bench.register = rebuilding(&rt, rt.alloc(), &Geometry::new(4, 1, 16, 4, 1)?)?;
     bench.play(&rt, &course)
 }

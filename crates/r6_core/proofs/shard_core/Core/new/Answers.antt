@@ -1,4 +1,4 @@
-use Rattle.std.proofs.Common.{ap, ◌∙◌}
+use Rattle.std.proofs.Common.{refl, ap, ◌∙◌}
 use Rattle.r6_frames.specs.Slots.{states_of}
 use Rattle.r6_core.proofs.Fresh.{fresh_start, none_waiting, states_before}
 use Rattle.r6_core.proofs.shard_core.Core.new.Goals as goal
@@ -16,4 +16,5 @@ returns-in-Ok c =
         replies = c.in-Ok.ensures.order;
         unanswered = c.in-Ok.ensures.unanswered;
       };
+      window = refl;
     }

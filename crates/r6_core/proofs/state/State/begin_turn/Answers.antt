@@ -1,4 +1,4 @@
-use Rattle.std.proofs.Common.{◌+◌, ◌*◌, sym, ap, subst, ◌∙◌}
+use Rattle.std.proofs.Common.{◌+◌, ◌*◌, sym, ap, subst, ◌∙◌, inr}
 use Rattle.r6_world.specs.Changes.{Start, after}
 use Rattle.r6_world.specs.Steps.{Scans, Through}
 use Rattle.r6_frames.specs.Views.{scrub_task}
@@ -7,28 +7,33 @@ use Rattle.r6_frames.specs.Calls.{KeepsOthers}
 use Rattle.r6_frames.specs.Owed.{owed}
 use Rattle.r6_core.specs.declared.state.State.{State}
 use Rattle.r6_core.specs.Inside.{IsCore, next_row}
-use Rattle.r6_core.proofs.Turning.{IsTurn, begins_next, begun_turn, turn_numbers, turned_allowed, turned_core, turned_leads}
+use Rattle.r6_core.proofs.HeldTurns.{IsTurnTaken, begun_turn, turn_numbers, turned_core, turned_leads}
+use Rattle.r6_core.proofs.Turning.{begins_next, scrub_allowed, turn_is}
 use Rattle.r6_core.proofs.state.State.begin_turn.Goals as goal
 
 pub drive-requires-clause-held : goal.drive-requires-clause-held
 drive-requires-clause-held c =
-    begun_turn c.args.self.now.frames c.begin_scrub.new.self c.args.scrub c.args.frame (next_row c.args.scrub c.args.self.now) (begins_next c.args.self.now c.pass.new.self c.args.scrub c.args.frame c.next_row-row.result c.begin_scrub.new.self (ap (λ (x : State). x.frames) c.pass.ensures.same) c.next_row-row.ensures c.begin_scrub.ensures.begins)
+    begun_turn c.args.self.now.frames c.args.frame (scrub_task c.args.scrub) (next_row c.args.scrub c.args.self.now) c.begin_scrub.new.self
+    (begins_next c.args.self.now c.pass.new.self c.args.scrub c.args.frame c.next_row-row.result c.begin_scrub.new.self (ap (λ (x : State). x.frames) c.pass.ensures.same) c.next_row-row.ensures c.begin_scrub.ensures.begins)
 
 pub drive-requires-clause-numbers : goal.drive-requires-clause-numbers
 drive-requires-clause-numbers c =
-    turn_numbers c.args.self.now c.args.scrub c.args.frame (next_row c.args.scrub c.args.self.now) c.begin_scrub.new.self c.requires.tokens c.begin_scrub.ensures.sound (begins_next c.args.self.now c.pass.new.self c.args.scrub c.args.frame c.next_row-row.result c.begin_scrub.new.self (ap (λ (x : State). x.frames) c.pass.ensures.same) c.next_row-row.ensures c.begin_scrub.ensures.begins)
+    turn_numbers c.args.self.now c.args.frame (scrub_task c.args.scrub) (next_row c.args.scrub c.args.self.now) c.begin_scrub.new.self c.requires.tokens c.begin_scrub.ensures.sound
+    (begins_next c.args.self.now c.pass.new.self c.args.scrub c.args.frame c.next_row-row.result c.begin_scrub.new.self (ap (λ (x : State). x.frames) c.pass.ensures.same) c.next_row-row.ensures c.begin_scrub.ensures.begins)
 
-turn : (c : goal.After-drive) → IsTurn c.args.self.now c.args.scrub c.args.frame c.pass.new.self.check_row c.pass.new.self.repair_row c.begin_scrub.new.self c.drive.new.self
+turn : (c : goal.After-drive) → IsTurnTaken c.args.self.now (scrub_task c.args.scrub) c.args.frame (next_row c.args.scrub c.args.self.now) c.pass.new.self.check_row c.pass.new.self.repair_row c.begin_scrub.new.self c.drive.new.self
 turn c =
     record {
       core = c.requires.core;
-      taken_up = c.requires.taken_up;
+      turn = turn_is c.args.scrub;
+      can = c.requires.taken_up.1;
       given = c.requires.tokens;
-      few = c.requires.skipped;
+      few = inr c.requires.skipped;
       own = c.pass.ensures.own;
       check = c.pass.ensures.check;
       repair = c.pass.ensures.repair;
-      begins = begins_next c.args.self.now c.pass.new.self c.args.scrub c.args.frame c.next_row-row.result c.begin_scrub.new.self (ap (λ (x : State). x.frames) c.pass.ensures.same) c.next_row-row.ensures c.begin_scrub.ensures.begins;
+      begins =
+          begins_next c.args.self.now c.pass.new.self c.args.scrub c.args.frame c.next_row-row.result c.begin_scrub.new.self (ap (λ (x : State). x.frames) c.pass.ensures.same) c.next_row-row.ensures c.begin_scrub.ensures.begins;
       begun_sound = c.begin_scrub.ensures.sound;
       begun_others = subst (λ (x : State). KeepsOthers x.frames c.args.frame c.begin_scrub.new.self) c.pass.ensures.same c.begin_scrub.ensures.others;
       begun_owed = c.begin_scrub.ensures.owed ∙ ap (λ (x : State). owed x.frames + 2 * x.frames.geometry.slots) c.pass.ensures.same;
@@ -46,16 +51,18 @@ turn c =
 
 pub returns-clause-core : goal.returns-clause-core
 returns-clause-core c =
+    let s = c.args.self.now in
+    let scrub = c.args.scrub in
     subst (λ (x : State). IsCore (record x { frames = c.drive.new.self })) (sym c.pass.ensures.same)
-    (turned_core c.args.self.now c.args.scrub c.args.frame c.pass.new.self.check_row c.pass.new.self.repair_row c.begin_scrub.new.self c.drive.new.self (turn c))
+    (turned_core s (scrub_task scrub) c.args.frame (next_row scrub s) c.pass.new.self.check_row c.pass.new.self.repair_row c.begin_scrub.new.self c.drive.new.self (turn c))
 
 pub returns-clause-allowed : goal.returns-clause-allowed
-returns-clause-allowed c =
-    turned_allowed c.args.self.now c.args.scrub c.args.frame c.pass.new.self.check_row c.pass.new.self.repair_row c.begin_scrub.new.self c.drive.new.self (turn c)
+returns-clause-allowed c = scrub_allowed c.args.self.now c.args.scrub c.args.frame c.requires.core.settled.sound c.requires.taken_up
 
 pub returns-clause-leads : goal.returns-clause-leads
 returns-clause-leads c =
     let s = c.args.self.now in
-    let start = Start c.args.frame (next_row c.args.scrub s) (scrub_task c.args.scrub) in
+    let scrub = c.args.scrub in
+    let start = Start c.args.frame (next_row scrub s) (scrub_task scrub) in
     subst (λ (x : State). Through (layout_in s) s.frames.shard Scans (after (layout_in s) (state_of s) start) (state_of (record x { frames = c.drive.new.self }))) (sym c.pass.ensures.same)
-    (turned_leads s c.args.scrub c.args.frame c.pass.new.self.check_row c.pass.new.self.repair_row c.begin_scrub.new.self c.drive.new.self (turn c))
+    (turned_leads s (scrub_task scrub) c.args.frame (next_row scrub s) c.pass.new.self.check_row c.pass.new.self.repair_row c.begin_scrub.new.self c.drive.new.self (turn c))

@@ -11,13 +11,13 @@ pub loop-frame-smaller : goal.loop-frame-smaller
 loop-frame-smaller c =
     let done = c.finish.ensures in
     fewer_left c.args.self.now c.loop-frame.self c.finish.new.self c.in-Some.frame c.loop-frame.invariant c.in-Some.ensures
-    done.sound done.live done.leads done.rests done.others done.keeps.0 done.calls done.released done.ends done.keeps.2 done.keeps.1
+    done.sound done.live done.leads done.rests done.others done.keeps.0 done.released done.ends done.keeps.2 done.keeps.1
 
 pub loop-frame-preserved : goal.loop-frame-preserved
 loop-frame-preserved c =
     let done = c.finish.ensures in
     settling_on c.args.self.now c.loop-frame.self c.finish.new.self c.in-Some.frame c.loop-frame.invariant c.in-Some.ensures
-    done.sound done.live done.leads done.rests done.others done.keeps.0 done.calls done.released done.ends done.keeps.2 done.keeps.1
+    done.sound done.live done.leads done.rests done.others done.keeps.0 done.released done.ends done.keeps.2 done.keeps.1
 
 pub returns-clause-core : goal.returns-clause-core
 returns-clause-core c = settled c.args.self.now c.loop-frame.self c.loop-frame.invariant c.in_default.ensures

@@ -1,0 +1,287 @@
+-- A row is held for what a shard does by itself: a check, a repair or a rebuild.
+use Rattle.std.proofs.Common.{◌≡◌, ◌≢◌, ℕ, ◌+◌, ◌*◌, ◌^◌, ◌<◌, ◌≤◌, ◌⊎◌, Bool, true, false, List, [], ◌∷◌, ◌++◌, map, length, refl, sym, ap, subst, ◌∙◌, Option, Some, None, inl, inr, arith, length-append}
+use Rattle.std.specs.Prelude.{nat_eq, option_map, if◌then◌else◌}
+use Rattle.std.specs.List.{IsDistinct, AllByRecursion}
+use Rattle.std.specs.Map.{keys_of}
+use Rattle.std.proofs.Math.Nat.{add-mul, mul_comm, mul-le-mul}
+use Rattle.std.proofs.lemmas.Bool.{cases_eq}
+use Rattle.std.proofs.lemmas.List.{length-map}
+use Rattle.r6_tables.specs.Table.{next_of}
+use Rattle.r6_stripe.specs.Holds.{MayBegin}
+use Rattle.r6_world.specs.Tables.{put}
+use Rattle.r6_world.specs.Layouts.{IsRowOf, Layout}
+use Rattle.r6_world.specs.Geometries.{layout_of}
+use Rattle.r6_world.specs.Tasks.{Hold, Task, ReadFor, WriteFor, Rebuild, Check, Repair, kind_of}
+use Rattle.r6_world.specs.ShardStates.{Command, Shard, begun, found, frames}
+use Rattle.r6_world.specs.Changes.{MayStart, Start, Allowed, after, next_check, next_repair}
+use Rattle.r6_world.specs.Steps as steps
+use Rattle.r6_world.specs.Steps.{Through, Scans}
+use Rattle.r6_frames.specs.declared.frames.FrameUse.{FrameUse}
+use Rattle.r6_frames.specs.declared.frames.Frames.{Frames}
+use Rattle.r6_frames.specs.declared.frames.HeldRow.{HeldRow}
+use Rattle.r6_frames.specs.declared.frames.Job.{Job}
+use Rattle.r6_frames.specs.Views.{frame_of, held_for, held_requests, hold_at, hold_of, is_scrub, kind_in, row_in, shard_with, use_at, AreLive}
+use Rattle.r6_frames.specs.Calls.{Between, Drives, IsFreeFrame, IsHeldFrame, KeepsOthers, KeepsRows, PutsOut}
+use Rattle.r6_frames.specs.Owed.{owed, IsDriven, IsOver}
+use Rattle.r6_frames.specs.Slots.{states_of}
+use Rattle.r6_frames.specs.Sound as held
+use Rattle.r6_frames.proofs.Held.{put_own}
+use Rattle.r6_frames.proofs.Resting.{frame-held, free_is, goes_on}
+use Rattle.r6_core.specs.declared.state.State.{State}
+use Rattle.r6_core.specs.Refusals.{limit, most_unanswered}
+use Rattle.r6_core.specs.Shards.{layout_in, requests_of, rest_of, state_of, table, waiting_request, replied_requests}
+use Rattle.r6_core.specs.Inside.{AreCounted, AreOwnRows, CanHold, CannotStart, IsCore, IsRestedFrame, IsSettled, IsSound, count_rows, is_turn, one_if}
+use Rattle.r6_core.proofs.Accepting.{others, owed_in-le}
+use Rattle.r6_core.proofs.CountedRows.{row_weight, rows_counted_but_one, rows_counted_still}
+use Rattle.r6_core.proofs.Going.{no_rest}
+use Rattle.r6_core.proofs.Kept.{own_rows_kept, requests_kept, sizes_kept}
+use Rattle.r6_core.proofs.Scrubs.{Weighs, scrub_weight, scrubs_weigh, turn_weight, turns_weigh}
+use Rattle.r6_core.proofs.SlotsKept.{drives_keep, calls_same}
+use Rattle.r6_core.proofs.Starting.{no_row, not_held, scans}
+use Rattle.r6_core.proofs.Throughs.{keeps_or_gives, through_in, through_of}
+use Rattle.r6_core.proofs.Waking.{none_more}
+
+-- ---- the limits
+
+at_most_one : (test : Job → Bool) (o : Option (ℕ × Job)) → one_if test o ≤ 1
+at_most_one test None = omega arith
+at_most_one test (Some x) = by_test (test x.1)
+  where
+    by_test : (b : Bool) → (if b then 1 else 0) ≤ 1
+    by_test true = omega arith
+    by_test false = omega arith
+
+pub few_rows : (test : Job → Bool) (held : List FrameUse) → count_rows test held ≤ length held
+few_rows test [] = omega arith
+few_rows test (u ∷ held) = omega (arith, few_rows test held, at_most_one test (option_map held_for (row_in u)))
+
+-- with so few frames, and so few requests that wait, so many commands may come at most
+room_for_all : (slots waiting held owes : ℕ) → slots ≤ 32 → owes ≤ held * (2 * slots) → held ≡ frames → waiting ≤ most_unanswered
+    → owes + 2 * slots * waiting ≤ 2 * 32 * (most_unanswered + frames)
+room_for_all slots waiting held owes few at_most_owes count all =
+    let both : (held + waiting) * (2 * slots) ≡ held * (2 * slots) + waiting * (2 * slots) = add-mul held waiting (2 * slots) in
+    let turned : 2 * slots * waiting ≡ waiting * (2 * slots) = mul_comm (2 * slots) waiting in
+    let rows : held + waiting ≤ 320 = omega (arith, count, all) in
+    let commands : 2 * slots ≤ 64 = omega arith in
+    let at_most : (held + waiting) * (2 * slots) ≤ 320 * 64 = mul-le-mul rows commands in
+    omega (arith, both, turned, at_most, at_most_owes)
+
+-- what waits is as many requests as are unanswered at most
+few_waiting : (s : State) → IsSound s → length s.waiting.items ≤ most_unanswered
+few_waiting s sound =
+    let all = length-append (map waiting_request s.waiting.items) (others s) in
+    let many = length-map s.waiting.items waiting_request in
+    omega (arith, all, many, sound.requests.counted, sound.requests.few)
+
+-- ---- the row may be held
+
+-- a turn of the shard's own serves no request
+start_turn : (l : Layout) (x : Shard) (frame row : ℕ) (task : Task) → steps.IsTurn task → after l x (Start frame row task)
+    ≡ record x {
+      frame = put x.frame frame (Some (begun l x.slot row task));
+      check_row = next_check l task row x.check_row;
+      repair_row = next_repair l task row x.repair_row;
+    }
+start_turn l x frame row (ReadFor id block) turn = absurd turn
+start_turn l x frame row (WriteFor writes) turn = absurd turn
+start_turn l x frame row (Rebuild slot generation) turn = refl
+start_turn l x frame row Check turn = refl
+start_turn l x frame row Repair turn = refl
+
+one_turn : (task : Task) → turn_weight task ≤ 1
+one_turn (ReadFor id block) = omega arith
+one_turn (WriteFor writes) = omega arith
+one_turn (Rebuild slot generation) = omega arith
+one_turn Check = omega arith
+one_turn Repair = omega arith
+
+pub turn_allowed : (s : State) (task : Task) (frame row : ℕ) → IsSound s → CanHold s.frames row frame → IsRowOf (layout_in s) s.frames.shard row
+    → MayStart (layout_in s) (state_of s) row task → MayBegin (found (layout_in s) (states_of s.frames.slots) row) (kind_of (layout_in s) row task)
+    → Allowed (layout_in s) s.frames.shard (state_of s) (Start frame row task)
+turn_allowed s task frame row sound can own start begin =
+    (free_is (rest_of s) s.frames frame sound.frames can.0 can.1, not_held (rest_of s) s.frames row can.2, own, can.0, start, begin)
+
+-- ---- the row is held
+
+-- in the frame, for the task, and its hold begins
+pub record BeginsTurn (old : Frames) (frame : ℕ) (task : Task) (row : ℕ) (mid : Frames) : Type 0 where
+  pub requests : held_requests mid ≡ held_requests old
+  pub shard : Between (λ l n s s'. s' ≡ record s { frame = put s.frame frame (Some (begun l s.slot row task)) }) old mid
+
+begun_row : (old : Frames) (frame : ℕ) (task : Task) (row : ℕ) (mid : Frames) → BeginsTurn old frame task row mid
+    → (h : HeldRow) × (hold_at mid.held.items frame ≡ Some h) × (hold_of h ≡ begun (layout_of old.geometry) (states_of old.slots) row task)
+begun_row old frame task row mid begins =
+    let hold = begun (layout_of old.geometry) (states_of old.slots) row task in
+    frame-held mid frame hold (ap (λ (x : Shard). x.frame frame) (begins.shard.2 no_rest) ∙ put_own (frame_of old) frame (Some hold))
+
+pub begun_turn : (old : Frames) (frame : ℕ) (task : Task) (row : ℕ) (mid : Frames) → BeginsTurn old frame task row mid → IsHeldFrame mid frame
+begun_turn old frame task row mid begins = let there = begun_row old frame task row mid begins in (there.0, there.1)
+
+-- the tokens suffice for what may come
+pub turn_numbers : (s : State) (frame : ℕ) (task : Task) (row : ℕ) (mid : Frames) → next_of s.frames.commands < limit → held.IsSound mid → BeginsTurn s.frames frame task row mid
+    → next_of mid.commands + owed mid < 2 ^ 63
+turn_numbers s frame task row mid given sound begins =
+    let owes = owed_in-le mid.geometry.slots mid.held.items (λ f h is. (sound.frames.rows f h is).wide) in
+    let room = room_for_all mid.geometry.slots 0 (length mid.held.items) (owed mid) sound.shape.slots_allowed.1 owes sound.frames.count (omega arith) in
+    let tokens = ap (λ (x : Shard). x.tokens) (begins.shard.2 no_rest) in
+    omega (arith, room, tokens, given)
+
+-- and its commands are put out
+pub record IsTurnTaken (s : State) (task : Task) (frame row check_row repair_row : ℕ) (mid new : Frames) : Type 0 where
+  pub core : IsCore s
+  pub turn : steps.IsTurn task
+  pub can : CanHold s.frames row frame
+  pub given : next_of s.frames.commands < limit
+  pub few : (scrub_weight task ≡ 0) ⊎ (s.counts.skipped < limit)
+  pub own : AreOwnRows s.frames check_row repair_row
+  pub check : check_row ≡ next_check (layout_in s) task row s.check_row
+  pub repair : repair_row ≡ next_repair (layout_in s) task row s.repair_row
+  pub begins : BeginsTurn s.frames frame task row mid
+  pub begun_sound : held.IsSound mid
+  pub begun_others : KeepsOthers s.frames frame mid
+  pub begun_owed : owed mid ≡ owed s.frames + 2 * s.frames.geometry.slots
+  pub sound : held.IsSound new
+  pub drives : Drives mid new
+  pub driven : IsDriven new frame
+  pub held_still : IsHeldFrame new frame
+  pub others_kept : KeepsOthers mid frame new
+  pub rows : KeepsRows mid new
+  pub requests : held_requests new ≡ held_requests mid
+  pub all_owed : next_of new.commands + owed new ≤ next_of mid.commands + owed mid
+  pub live : AreLive new
+  pub goes_out : IsOver new frame → ⊥
+
+module _ (s : State) (task : Task) (frame row check_row repair_row : ℕ) (mid new : Frames) (is : IsTurnTaken s task frame row check_row repair_row mid new) where
+  abbrev pub turned : State
+  turned = record s { check_row = check_row; repair_row = repair_row; frames = new }
+
+  geometry_same : new.geometry ≡ s.frames.geometry
+  geometry_same = is.drives.0 ∙ is.begins.shard.0
+
+  shard_same : new.shard ≡ s.frames.shard
+  shard_same = is.drives.1 ∙ is.begins.shard.1
+
+  frames_same : (other : ℕ) → other ≢ frame → use_at new.held.items other ≡ use_at s.frames.held.items other
+  frames_same other ne = is.others_kept other ne ∙ is.begun_others other ne
+
+  requests_same : requests_of turned ≡ requests_of s
+  requests_same = λ i. map waiting_request s.waiting.items
+      ++ ((is.requests ∙ is.begins.requests) i ++ replied_requests ((is.live.1 ∙ sym is.can.0.1) i) s.released s.replies.items)
+
+  -- the frame was free, and its row is held
+  not_frame : (f : ℕ) → IsFreeFrame new f → f ≢ frame
+  not_frame f free e = let both : Some is.held_still.0 ≡ None = sym is.held_still.1 ∙ ap (hold_at new.held.items) (sym e) ∙ no_row new f free in absurd (cc)
+
+  turned_waits : AllByRecursion (CannotStart new) s.waiting.items
+  turned_waits =
+      none_more s.frames new s.waiting.items geometry_same (λ live. is.can.0)
+      (λ row unheld f h there.
+      let apart : f ≢ frame = λ e. let both : Some h ≡ None = sym there ∙ ap (hold_at s.frames.held.items) e ∙ no_row s.frames frame is.can.1 in absurd (cc) in
+      unheld f h (ap row_in (frames_same f apart) ∙ there))
+      (λ f free. (free.0, sym (frames_same f (not_frame f free)) ∙ free.1)) is.core.waits
+
+  -- the hold has put out a command
+  turned_tokens : next_of s.frames.commands < next_of new.commands
+  turned_tokens =
+      let rest = rest_of s in
+      let begun = shard_with rest mid in
+      let through = is.drives.2 rest in
+      let tokens = ap (λ (x : Shard). x.tokens) (is.begins.shard.2 rest) in
+      let held = is.held_still in
+      let out = goes_on rest new is.sound is.live frame (hold_of held.0) is.driven is.goes_out (ap (option_map hold_of) held.1) in
+      elim (keeps_or_gives (layout_of mid.geometry) mid.shard begun (shard_with rest new) through) [
+        | inr more ↦ omega (arith, more, tokens)
+        | inl same ↦
+            let before : (state_of s).command out.0 ≡ Some out.1 =
+            ap (λ (x : Shard). x.command out.0) (sym (is.begins.shard.2 rest)) ∙ ap (λ (command : ℕ → Option Command). command out.0) (sym same) ∙ out.2 in
+            absurd ((free_is rest s.frames frame is.core.settled.sound.frames is.can.0 is.can.1).2 out.0 out.1 before out.4)
+      ]
+
+  -- the row is held for the task, and the others for what they were
+  turned_rows : (test : Job → Bool) (weight : Task → ℕ) → Weighs test weight → count_rows test new.held.items ≡ count_rows test s.frames.held.items + weight task
+  turned_rows test weight weighs =
+      let sound = is.core.settled.sound.frames in
+      let there = begun_row s.frames frame task row mid is.begins in
+      let first = rows_counted_but_one test frame s.frames mid sound is.begun_sound is.begun_others in
+      let none : row_weight test s.frames.held.items frame ≡ 0 = ap (λ o. one_if test (option_map held_for o)) (no_row s.frames frame is.can.1) in
+      let own : row_weight test mid.held.items frame ≡ weight task =
+      ap (λ o. one_if test (option_map held_for o)) there.1 ∙ weighs.job there.0.row there.0.job (kind_in there.0) ∙ ap (λ (hold : Hold). weight hold.task) there.2 in
+      let rest = rows_counted_still test mid new is.begun_sound is.sound is.rows in
+      omega (arith, first, none, own, rest)
+
+  turned_counts : AreCounted s.counts new
+  turned_counts =
+      let counted = is.core.settled.sound.counted in
+      let scrubs = turned_rows is_scrub scrub_weight scrubs_weigh in
+      record {
+        found = let turns = turned_rows is_turn turn_weight turns_weigh in omega (arith, counted.found, turns, one_turn task, turned_tokens);
+        skipped = elim is.few [
+          | inl none ↦ omega (arith, counted.skipped, scrubs, none)
+          | inr few ↦ omega (arith, few_rows is_scrub new.held.items, is.sound.frames.count, few)
+        ];
+      }
+
+  turned_slots : states_of new.slots ≡ states_of s.frames.slots
+  turned_slots = drives_keep no_rest mid new is.drives ∙ ap (λ (x : Shard). x.slot) (is.begins.shard.2 no_rest)
+
+  turned_settled : IsSettled turned
+  turned_settled =
+      let sound = is.core.settled.sound in
+      let same = requests_same in
+      record {
+        sound = record {
+          frames = is.sound;
+          requests = record {
+            distinct = subst (λ es. IsDistinct nat_eq (keys_of es)) (sym same) sound.requests.distinct;
+            numbered = subst (λ es. AllByRecursion (λ id. id < s.accepted) (keys_of es)) (sym same) sound.requests.numbered;
+            counted = ap length same ∙ sound.requests.counted;
+            few = sound.requests.few;
+            waiting = requests_kept s.frames new s.waiting.items geometry_same shard_same sound.requests.waiting;
+            sized = sizes_kept s.frames.geometry new.geometry s.replies.items geometry_same sound.requests.sized;
+            marked = sound.requests.marked;
+          };
+          room = record {
+            waiting = sound.room.waiting;
+            replies = sound.room.replies;
+            calls = sound.room.calls;
+            few_calls = let out = calls_same s.frames new turned_slots geometry_same in omega (arith, out, sound.room.few_calls);
+          };
+          tokens =
+              let owes = owed_in-le mid.geometry.slots mid.held.items (λ f h there. (is.begun_sound.frames.rows f h there).wide) in
+              let room = room_for_all mid.geometry.slots (length s.waiting.items) (length mid.held.items) (owed mid) is.begun_sound.shape.slots_allowed.1 owes is.begun_sound.frames.count (few_waiting s sound) in
+              let slots = ap (λ g. 2 * g.slots * length s.waiting.items) is.drives.0 in
+              let next = ap (λ (x : Shard). x.tokens) (is.begins.shard.2 no_rest) in
+              omega (arith, room, slots, next, is.all_owed, is.given);
+          accepted = sound.accepted;
+          counted = turned_counts;
+          next_rows = own_rows_kept s.frames new check_row repair_row geometry_same shard_same is.own;
+        };
+        rested = λ live f. elim (cases_eq f frame) [
+          | inl e ↦ subst (IsRestedFrame turned) (sym e) (is.driven, is.goes_out)
+          | inr ne ↦
+              let kept = ap row_in (frames_same f ne) in
+              let rested = is.core.settled.rested is.can.0 f in
+              ((λ h there. rested.0 h (sym kept ∙ there)), (λ over. rested.1 (over.0, sym kept ∙ over.1, over.2)))
+        ];
+      }
+
+  pub turned_core : IsCore turned
+  turned_core = record { settled = turned_settled; waits = turned_waits }
+
+  turned_mid : shard_with (rest_of turned) mid ≡ after (layout_in s) (state_of s) (Start frame row task)
+  turned_mid =
+      is.begins.shard.2 (rest_of turned)
+      ∙ (λ i. record (state_of s) {
+        frame = put (frame_of s.frames) frame (Some (begun (layout_in s) (states_of s.frames.slots) row task));
+        request = table (requests_same i);
+        check_row = is.check i;
+        repair_row = is.repair i;
+      })
+      ∙ sym (start_turn (layout_in s) (state_of s) frame row task is.turn)
+
+  pub turned_leads : Through (layout_in s) s.frames.shard Scans (after (layout_in s) (state_of s) (Start frame row task)) (state_of turned)
+  turned_leads =
+      let begun_at = shard_with (rest_of turned) mid in
+      let here = through_in s.frames.geometry mid.geometry s.frames.shard mid.shard PutsOut begun_at (state_of turned) is.begins.shard.0 is.begins.shard.1 (is.drives.2 (rest_of turned)) in
+      subst (λ (from : Shard). Through (layout_in s) s.frames.shard Scans from (state_of turned)) turned_mid
+      (through_of (layout_in s) s.frames.shard PutsOut Scans scans begun_at (state_of turned) here)
