@@ -8,7 +8,7 @@ use Rattle.r6_script.specs.declared.script.Call.TheVariants.{Perform, Answer, Do
 use Rattle.r6_script.specs.declared.script.Completion.{Completion}
 use Rattle.r6_script.specs.declared.script.Completion.TheVariants.{Good, Error}
 use Rattle.r6_script.specs.declared.script.Task.{Task}
-use Rattle.r6_script.specs.declared.script.Task.TheVariants.{Check, Repair}
+use Rattle.r6_script.specs.declared.script.Task.TheVariants.{Rebuild, Check, Repair}
 use Rattle.r6_script.specs.declared.script.Event.{Event}
 use Rattle.r6_script.specs.declared.script.Event.TheVariants.{Read, Write, At, Fail, Attach}
 use Rattle.r6_script.specs.declared.script.Script.{Script}
@@ -45,6 +45,7 @@ IsCompletion completion = Unit {0}
 
 -- the word of a task
 abbrev pub task_word : Task → Text
+task_word Rebuild = codes "rebuild"
 task_word Check = codes "check"
 task_word Repair = codes "repair"
 

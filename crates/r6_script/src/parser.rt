@@ -136,6 +136,7 @@ fn parse_task(word: &str) -> Option<Task>
     ensures { Reads task_word IsTask word.now result }
 {
     match word {
+        "rebuild" => Some(Task::Rebuild),
         "check" => Some(Task::Check),
         "repair" => Some(Task::Repair),
         _ => None,

@@ -18,6 +18,8 @@ pub enum Completion {
 /// What a shard does to its rows, one in a turn.
 #[derive(Clone, Copy, PartialEq, Eq, Debug)]
 pub enum Task {
+    /// It rebuilds the row on a new device.
+    Rebuild,
     /// It finds the row's class.
     Check,
     /// It finds the row's class, and writes wrong parities anew.

@@ -21,8 +21,8 @@ use Rattle.r6_core.specs.declared.Op.{Op}
 use Rattle.r6_core.specs.declared.refusal.DeviceFault.{DeviceFault}
 use Rattle.r6_core.specs.declared.refusal.FaultKind.{FaultKind}
 use Rattle.r6_core.specs.declared.refusal.FaultKind.TheVariants.{ReadFault, WriteFault}
-use Rattle.r6_core.specs.declared.Scrub.{Scrub}
-use Rattle.r6_core.specs.declared.Scrub.TheVariants as scrub
+use Rattle.r6_core.specs.declared.turn.Task.{Task as CoreTask}
+use Rattle.r6_core.specs.declared.turn.Task.TheVariants as core
 use Rattle.r6_script.specs.declared.script.Task.{Task}
 use Rattle.r6_script.specs.declared.script.Task.TheVariants as task
 use Rattle.r6_script.specs.declared.script.Call.{Call}
@@ -183,18 +183,19 @@ pub record Looks (old : Shard) (register : OwnRegister) (outcome : Outcome) (new
 
 -- ---- turns
 
-abbrev pub scrub_of : Task → Scrub
-scrub_of task.Check = scrub.Check
-scrub_of task.Repair = scrub.Repair
+abbrev pub core_task : Task → CoreTask
+core_task task.Rebuild = core.Rebuild
+core_task task.Check = core.Check
+core_task task.Repair = core.Repair
 
 -- the core takes up its next row, or passes it over, or refuses
-abbrev pub TurnsTo : CoreView → Scrub → Outcome → CoreView → Type 0
-TurnsTo old scrub (Turned turn) new = Turns old scrub turn new
-TurnsTo old scrub (Refused refusal) new = RefusesTurn old scrub refusal new
-TurnsTo old scrub _ new = ⊥
+abbrev pub TurnsTo : CoreView → CoreTask → Outcome → CoreView → Type 0
+TurnsTo old task (Turned turn) new = Turns old task turn new
+TurnsTo old task (Refused refusal) new = RefusesTurn old task refusal new
+TurnsTo old task _ new = ⊥
 
 pub record TakesTurn (task : Task) (old : Shard) (outcome : Outcome) (new : Shard) : Type 0 where
-  pub core : TurnsTo old.core (scrub_of task) outcome new.core
+  pub core : TurnsTo old.core (core_task task) outcome new.core
   pub kept : KeepsFlight old new
 
 -- a call of the script

@@ -1,13 +1,13 @@
 //! A shard of an array in memory: its core, and what events do there.
 
 ghost use Rattle.std.specs.Prelude.{◌≡◌, ◌<◌, length, IfOk, IfSome, OnOk, string_bytes};
-ghost use Rattle.r6_simulate.specs.AtShards.{place_of, fault_of, Submits, Delivers, TakesBack, Performs, AnswersWith, AnswersGood, Does, is_unperformed, Tells, Looks, scrub_of, TakesTurn, Makes, PutsReplies, PutsCommands, Reports};
+ghost use Rattle.r6_simulate.specs.AtShards.{place_of, fault_of, Submits, Delivers, TakesBack, Performs, AnswersWith, AnswersGood, Does, is_unperformed, Tells, Looks, core_task, TakesTurn, Makes, PutsReplies, PutsCommands, Reports};
 
 use crate::devices::{Blocks, Devices};
 use crate::fault::SimulationFault;
 use crate::lines::{Answered, Made, Outcome, write_command, write_reply};
 use crate::register::OwnRegister;
-use r6_core::{Command, CommandKind, Core, DeviceFault, FaultKind, Op, Scrub};
+use r6_core::{Command, CommandKind, Core, DeviceFault, FaultKind, Op, Task as CoreTask};
 use r6_kernels::Buffer;
 use r6_script::{Call, Completion, Task};
 use std::fmt::Write as _;
@@ -179,7 +179,7 @@ impl Shard {
     pub fn turn(&mut self, task: Task) -> Outcome
         ensures { TakesTurn task self.old result self.new }
     {
-        match self.core.turn(scrub_of(task)) {
+        match self.core.turn(core_task(task)) {
             Ok(turn) => Outcome::Turned(turn),
             Err(refusal) => Outcome::Refused(refusal),
         }
@@ -242,12 +242,13 @@ impl Shard {
 }
 
 // What the core is asked to do with its next row.
-fn scrub_of(task: Task) -> Scrub
-    ensures { result ≡ scrub_of task }
+fn core_task(task: Task) -> CoreTask
+    ensures { result ≡ core_task task }
 {
     match task {
-        Task::Check => Scrub::Check,
-        Task::Repair => Scrub::Repair,
+        Task::Rebuild => CoreTask::Rebuild,
+        Task::Check => CoreTask::Check,
+        Task::Repair => CoreTask::Repair,
     }
 }
 

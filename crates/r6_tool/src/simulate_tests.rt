@@ -562,7 +562,7 @@ fn lines_out_of_the_grammar_are_refused(rt: HostRuntime) -> Result<(), Fail> {
         "answer 0:0|answer 0:0 |answer 0:0 OK|answer 0:0 okay|answer 0:0  ok|answer 0:0 ok |answer 0 ok",
         "answer 0:01 ok|do 0|do 0:0 ok|look|look 0:0|look 0 0|tell|tell 0:0|tell 00",
         "fail|fail 1 1|fail 01|fail 18446744073709551616|attach|attach 1 new.img|attach x",
-        "answer 0:0 error |answer 0:0 errors|answer 0:0 gone|turn 0 rebuild|reads 0|0|; comment",
+        "answer 0:0 error |answer 0:0 errors|answer 0:0 gone|turn 0 rebuilds|reads 0|0|; comment",
         "turn 0|turn 0 check 1|turn check|turn 00 check|turn 0 Check|turn 0 check |turn 0:0 check",
     ];
     for lines in lines {
@@ -640,6 +640,98 @@ look 0 -> looked | reply 0:0 failed
 turn 0 repair -> refused 5 ArrayFailed
 ";
     plays(&rt, rt.alloc(), transcript, 1)?;
+    Ok(())
+}
+
+// Row 0 is rebuilt on slot 1 and row 1 isn't: a write of row 0 writes the new device, one of row 1 leaves it alone. A
+// second new device begins with no row.
+#[test]
+fn a_write_goes_to_rows_that_are_rebuilt(rt: HostRuntime) -> Result<(), Fail> {
+    let transcript = "array 4 1 16 2 1 -> array
+turn 0 rebuild -> refused 10 NothingToDo
+fail 1 -> degraded
+attach 1 -> generation 1
+turn 0 rebuild -> refused 10 NothingToDo
+look 0 -> looked
+turn 0 rebuild -> started | 0:0 read slot 2 gen 0 row 0 | 0:1 read slot 3 gen 0 row 0
+turn 0 rebuild -> refused 10 NothingToDo
+do 0:0 -> taken
+do 0:1 -> taken | 0:2 write slot 1 gen 1 row 0 00
+do 0:2 -> taken
+write 0 5a -> op 0:0 | 0:3 read slot 2 gen 0 row 0
+do 0:3 -> taken | 0:4 write slot 1 gen 1 row 0 5a | 0:5 write slot 3 gen 0 row 0 5a | 0:6 write slot 0 gen 0 row 0 5a
+do 0:4 -> taken
+do 0:5 -> taken
+do 0:6 -> taken
+write 2 11 -> op 0:1 | 0:7 read slot 0 gen 0 row 1 | 0:8 read slot 2 gen 0 row 1
+do 0:7 -> taken
+do 0:8 -> taken | 0:9 write slot 0 gen 0 row 1 11 | 0:10 write slot 2 gen 0 row 1 11 | 0:11 write slot 3 gen 0 row 1 11
+do 0:9 -> taken
+do 0:10 -> taken
+do 0:11 -> taken
+fail 1 -> degraded
+attach 1 -> generation 2
+look 0 -> looked | reply 0:0 done | reply 0:1 done
+turn 0 rebuild -> started | 0:12 read slot 2 gen 0 row 0 | 0:13 read slot 3 gen 0 row 0
+do 0:12 -> taken
+do 0:13 -> taken | 0:14 write slot 1 gen 2 row 0 5a
+";
+    plays(&rt, rt.alloc(), transcript, 0)?;
+    Ok(())
+}
+
+// With its last row the slot is in sync in the shard, which reports it; the array is whole once both shards have.
+#[test]
+fn a_rebuilt_slot_is_reported_by_each_shard(rt: HostRuntime) -> Result<(), Fail> {
+    let transcript = "array 4 1 16 2 2 -> array
+fail 1 -> degraded
+attach 1 -> generation 1
+look 0 -> looked
+look 1 -> looked
+turn 0 check -> skipped
+turn 0 rebuild -> started | 0:0 read slot 2 gen 0 row 0 | 0:1 read slot 3 gen 0 row 0
+do 0:0 -> taken
+do 0:1 -> taken | 0:2 write slot 1 gen 1 row 0 00
+tell 0 -> nothing
+do 0:2 -> taken
+look 0 -> refused 8 UntoldFirst
+tell 0 -> report_rebuilt 1 1: more
+turn 0 rebuild -> refused 10 NothingToDo
+turn 0 check -> started | 0:3 read slot 1 gen 1 row 0 | 0:4 read slot 2 gen 0 row 0 | 0:5 read slot 3 gen 0 row 0 | 0:6 read slot 0 gen 0 row 0
+turn 1 rebuild -> started | 1:0 read slot 0 gen 0 row 1 | 1:1 read slot 2 gen 0 row 1
+do 1:0 -> taken
+do 1:1 -> taken | 1:2 write slot 1 gen 1 row 1 00
+do 1:2 -> taken
+tell 1 -> report_rebuilt 1 1: complete
+attach 1 -> refused 4 NotLost
+";
+    plays(&rt, rt.alloc(), transcript, 0)?;
+    Ok(())
+}
+
+// The reads of a row whose new device is lost come home, and nothing is written.
+#[test]
+fn a_rebuild_whose_device_is_lost_is_given_up(rt: HostRuntime) -> Result<(), Fail> {
+    let transcript = "array 4 1 16 2 1 -> array
+fail 1 -> degraded
+attach 1 -> generation 1
+look 0 -> looked
+turn 0 rebuild -> started | 0:0 read slot 2 gen 0 row 0 | 0:1 read slot 3 gen 0 row 0
+do 0:0 -> taken
+fail 1 -> degraded
+look 0 -> looked
+do 0:1 -> taken
+turn 0 rebuild -> refused 10 NothingToDo
+attach 1 -> generation 2
+look 0 -> looked
+turn 0 rebuild -> started | 0:2 read slot 2 gen 0 row 0 | 0:3 read slot 3 gen 0 row 0
+do 0:2 -> taken
+do 0:3 -> taken | 0:4 write slot 1 gen 2 row 0 00
+answer 0:4 error -> taken
+tell 0 -> declare_lost 1 2: degraded
+tell 0 -> nothing
+";
+    plays(&rt, rt.alloc(), transcript, 0)?;
     Ok(())
 }
 
