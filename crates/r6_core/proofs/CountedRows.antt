@@ -10,7 +10,7 @@ use Rattle.r6_frames.specs.Calls.{KeepsHeld, KeepsOthers, KeepsRows}
 use Rattle.r6_frames.specs.Sound as held
 use Rattle.r6_tables.specs.Table.{next_of}
 use Rattle.r6_core.specs.declared.counts.Counts.{Counts}
-use Rattle.r6_core.specs.Inside.{AreCounted, count_rows, is_turn, one_if, rows_found}
+use Rattle.r6_core.specs.Inside.{AreBounded, count_rows, is_turn, one_if, rows_found}
 
 -- what is held in a frame, as it is counted
 abbrev pub row_weight : (Job → Bool) → List FrameUse → ℕ → ℕ
@@ -79,9 +79,9 @@ rows_of_holds old new keeps frame =
     sym (held_for_in (hold_at new.held.items frame)) ∙ ap (option_map (λ plan. plan.0)) (keeps frame) ∙ held_for_in (hold_at old.held.items frame)
 
 -- the counts stay right where no more rows are held for checks and repairs, and no token was taken back
-pub counted_still : (k : Counts) (old new : Frames) → AreCounted k old → count_rows is_turn new.held.items ≤ count_rows is_turn old.held.items
-    → count_rows is_scrub new.held.items ≤ count_rows is_scrub old.held.items → next_of old.commands ≤ next_of new.commands → AreCounted k new
+pub counted_still : (k : Counts) (old new : Frames) → AreBounded k old → count_rows is_turn new.held.items ≤ count_rows is_turn old.held.items
+    → count_rows is_scrub new.held.items ≤ count_rows is_scrub old.held.items → next_of old.commands ≤ next_of new.commands → AreBounded k new
 counted_still k old new counted turns scrubs next = record { found = omega (arith, counted.found, turns, next); skipped = omega (arith, counted.skipped, scrubs) }
 
-pub counted_kept : (k : Counts) (old new : Frames) → AreCounted k old → NoMoreRows old new → next_of old.commands ≤ next_of new.commands → AreCounted k new
+pub counted_kept : (k : Counts) (old new : Frames) → AreBounded k old → NoMoreRows old new → next_of old.commands ≤ next_of new.commands → AreBounded k new
 counted_kept k old new counted rows next = counted_still k old new counted (rows is_turn) (rows is_scrub) next

@@ -33,7 +33,7 @@ use Rattle.r6_frames.specs.Calls.{entry_of, ended_outcome, ended_task, Ends, IsE
 use Rattle.r6_frames.specs.Owed.{owed, IsDriven, IsOver}
 use Rattle.r6_frames.specs.Sound as held
 use Rattle.r6_core.specs.Shards.{answer_of, counts_of, state_of, rest_of, layout_in, requests_of, waiting_request, finished_request, replied_requests}
-use Rattle.r6_core.specs.Inside.{AreCounted, IsPlainEnd, IsSound, count_rows, is_turn, numbered_op, one_if, requests_ended}
+use Rattle.r6_core.specs.Inside.{AreBounded, IsPlainEnd, IsSound, count_rows, is_turn, numbered_op, one_if, requests_ended}
 use Rattle.r6_frames.proofs.Lists.{Entries, table, looked_up, same_put, other}
 use Rattle.r6_frames.proofs.Held.{use_of_row}
 use Rattle.r6_core.proofs.CountedRows.{row_weight, rows_counted_but_one}
@@ -338,7 +338,7 @@ module _ (s : State) (frame : ℕ) (e : Ended) (fs : Frames) (done : Buffer Requ
       let none : row_weight test fs.held.items frame ≡ 0 = ap (λ o. one_if test (option_map held_for o)) (freed s.frames fs frame e ends) in
       omega (arith, rows, one, none)
 
-  counts_ended : held.IsSound fs → KeepsOthers s.frames frame fs → next_of fs.commands ≡ next_of s.frames.commands → AreCounted counts fs
+  counts_ended : held.IsSound fs → KeepsOthers s.frames frame fs → next_of fs.commands ≡ next_of s.frames.commands → AreBounded counts fs
   counts_ended frames others next =
       let turns = fewer_rows is_turn turn_weight turns_weigh frames others in
       let scrubs = fewer_rows is_scrub scrub_weight scrubs_weigh frames others in

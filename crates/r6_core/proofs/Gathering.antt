@@ -19,7 +19,7 @@ use Rattle.r6_frames.specs.declared.frames.Frames.{Frames}
 use Rattle.r6_frames.specs.declared.frames.FrameUse.{FrameUse}
 use Rattle.r6_frames.specs.declared.frames.FrameUse.TheVariants as uses
 use Rattle.r6_frames.specs.Views.{held_requests, requests_from, hold_at, hold_of, use_at, row_in, shard_with, AreLive}
-use Rattle.r6_frames.specs.Calls.{entry_of, Between, GivesUp, GivesScrubUp, IsWith, KeepsOthers, HasOneBlock}
+use Rattle.r6_frames.specs.Calls.{entry_of, Between, GivesUp, GivesTurnUp, IsWith, KeepsOthers, HasOneBlock}
 use Rattle.r6_frames.specs.Owed.{owed}
 use Rattle.r6_frames.specs.Sound as held
 use Rattle.r6_core.specs.declared.state.State.{State}
@@ -174,7 +174,7 @@ module _ (s mid : State) (count : ℕ) (r : Request) (is : IsGathering s mid cou
       }
 
 -- a check or repair is given up
-pub gathering_scrub : (s mid : State) (count : ℕ) (fs : Frames) → IsGathering s mid count → held.IsSound fs → (AreLive fs → ⊥) → GivesScrubUp mid.frames count fs
+pub gathering_scrub : (s mid : State) (count : ℕ) (fs : Frames) → IsGathering s mid count → held.IsSound fs → (AreLive fs → ⊥) → GivesTurnUp mid.frames count fs
     → KeepsOthers mid.frames count fs → hold_at fs.held.items count ≡ None → owed fs ≤ owed mid.frames → IsGathering s (record mid { frames = fs }) (count + 1)
 gathering_scrub s mid count fs is sound stopped gives others none owes =
     let fewer = is.tokens in

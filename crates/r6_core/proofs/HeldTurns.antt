@@ -30,7 +30,7 @@ use Rattle.r6_frames.proofs.Resting.{frame-held, free_is, goes_on}
 use Rattle.r6_core.specs.declared.state.State.{State}
 use Rattle.r6_core.specs.Refusals.{limit, most_unanswered}
 use Rattle.r6_core.specs.Shards.{layout_in, requests_of, rest_of, state_of, table, waiting_request, replied_requests}
-use Rattle.r6_core.specs.Inside.{AreCounted, AreOwnRows, CanHold, CannotStart, IsCore, IsRestedFrame, IsSettled, IsSound, count_rows, is_turn, one_if}
+use Rattle.r6_core.specs.Inside.{AreBounded, AreOwnRows, CanHold, CannotStart, IsCore, IsRestedFrame, IsSettled, IsSound, count_rows, is_turn, one_if}
 use Rattle.r6_core.proofs.Accepting.{others, owed_in-le}
 use Rattle.r6_core.proofs.CountedRows.{row_weight, rows_counted_but_one, rows_counted_still}
 use Rattle.r6_core.proofs.Going.{no_rest}
@@ -209,7 +209,7 @@ module _ (s : State) (task : Task) (frame row check_row repair_row : ℕ) (mid n
       let rest = rows_counted_still test mid new is.begun_sound is.sound is.rows in
       omega (arith, first, none, own, rest)
 
-  turned_counts : AreCounted s.counts new
+  turned_counts : AreBounded s.counts new
   turned_counts =
       let counted = is.core.settled.sound.counted in
       let scrubs = turned_rows is_scrub scrub_weight scrubs_weigh in

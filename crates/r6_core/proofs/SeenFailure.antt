@@ -35,7 +35,7 @@ use Rattle.r6_core.specs.declared.state.State.{State}
 use Rattle.r6_core.specs.Shards.{state_of, rest_of, layout_in, requests_of, waiting_request, finished_request, released_request, replied_requests, call_of, counts_of}
 use Rattle.r6_core.specs.Refusals.{limit, most_unanswered}
 use Rattle.r6_core.specs.Order.{IsRising, FailsAll}
-use Rattle.r6_core.specs.Inside.{AreCounted, AreOwnRows, IsSound, IsSettled, Gathers, Seen, held_op, numbered_op, unreplied, count_untold}
+use Rattle.r6_core.specs.Inside.{AreBounded, AreOwnRows, IsSound, IsSettled, Gathers, Seen, held_op, numbered_op, unreplied, count_untold}
 use Rattle.r6_core.proofs.CountedRows.{counted_kept, no_rows_counted, rows_of_holds, same_or_fewer}
 use Rattle.r6_core.proofs.Kept.{own_rows_kept, requests_kept, sizes_kept}
 use Rattle.r6_core.proofs.SlotsKept.{calls_same}
@@ -352,7 +352,7 @@ module _ (s : State) (fs : Frames) (mid : State) (sorted : Buffer Request) (soun
           counted =
               let none = λ (test : Job → Bool). no_rows_counted test mid.frames.held.items gathers.none_held in
               let next : next_of mid.frames.commands ≡ next_of s.frames.commands = ap (λ (x : Shard). x.tokens) (shard_is (rest_of s)) in
-              subst (λ k. AreCounted k mid.frames) (sym gathers.scrubs.2)
+              subst (λ k. AreBounded k mid.frames) (sym gathers.scrubs.2)
               (counted_kept s.counts s.frames mid.frames sound.counted (λ test. let zero = none test in omega (arith, zero)) (omega (arith, next)));
           next_rows =
               subst (λ (rows : ℕ × ℕ). AreOwnRows mid.frames rows.0 rows.1) (λ i. (sym gathers.scrubs.0 i, sym gathers.scrubs.1 i))

@@ -92,7 +92,7 @@ is_turn job = not (is_request job)
 
 -- A row that is held has put out a command, and is found at most twice, by its class and as repaired. None is passed
 -- over from the limit on, but for rows that are held then
-pub record AreCounted (k : Counts) (fs : Frames) : Type 0 where
+pub record AreBounded (k : Counts) (fs : Frames) : Type 0 where
   pub found : rows_found k + 2 * count_rows is_turn fs.held.items ≤ 2 * next_of fs.commands
   pub skipped : k.skipped + count_rows is_scrub fs.held.items ≤ limit + shards.frames
 
@@ -159,7 +159,7 @@ pub record IsSound (s : State) : Type 0 where
   pub room : HasRoom s
   pub tokens : bound s ≤ most_tokens
   pub accepted : s.accepted ≤ limit
-  pub counted : AreCounted s.counts s.frames
+  pub counted : AreBounded s.counts s.frames
   pub next_rows : AreOwnRows s.frames s.check_row s.repair_row
 
 -- each hold has put out all that comes next, and isn't over

@@ -53,7 +53,8 @@ impl Model for Core {
 impl Core {
     /// The core of shard `shard` of the array, one of those of the geometry. All room is made here.
     ///
-    /// `window`, 1 to 8, is how many rows of a slot may be rebuilt at one time. The snapshot is of a register at which no device was attached, and that has not failed.
+    /// `window`, 1 to 8, is how many rows of a slot may be rebuilt at one time. The snapshot is of a register at which no
+    /// device was attached, and that has not failed.
     ///
     /// # Errors
     /// 1 `NoMemory`.

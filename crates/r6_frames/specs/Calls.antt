@@ -367,8 +367,8 @@ pub record GivesUp (old : Frames) (frame : ℕ) (ended : Ended) (new : Frames) :
   pub shard : Between (λ l n s s'. s' ≡ record s { frame = put s.frame frame None }) old new
 
 -- and it was of no request
-abbrev pub GivesScrubUp : Frames → ℕ → Frames → Type 0
-GivesScrubUp old frame new = (e : Ended) × GivesUp old frame e new × (held_requests new ≡ held_requests old)
+abbrev pub GivesTurnUp : Frames → ℕ → Frames → Type 0
+GivesTurnUp old frame new = (e : Ended) × GivesUp old frame e new × (held_requests new ≡ held_requests old)
 
 -- ---- what a call leaves
 
