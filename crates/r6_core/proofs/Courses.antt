@@ -5,16 +5,17 @@ use Rattle.std.specs.Result.{result_ok}
 use Rattle.std.proofs.lemmas.Bool.{cases_eq}
 use Rattle.r6_layout.specs.Shape.{Shape, IsShape}
 use Rattle.r6_health.specs.Registers.{starting, without}
-use Rattle.r6_world.specs.Tables.{put}
+use Rattle.r6_world.specs.Tables.{put, put_in}
 use Rattle.r6_world.specs.PlainArray.{Block, Array, Read, Data}
 use Rattle.r6_world.specs.Layouts.{Layout}
 use Rattle.r6_world.specs.Geometries.{layout_of}
-use Rattle.r6_world.specs.Registers.{Snapshot, RegisterCall, Degraded, DeclareLost, answer_to, register_after}
-use Rattle.r6_world.specs.ShardStates.{Shard, Command, Transfer, Fetch, LossOf}
+use Rattle.r6_world.specs.Registers.{Snapshot, RegisterCall, RegisterAnswer, Degraded, DeclareLost, answer_to, register_after}
+use Rattle.r6_world.specs.ShardStates as shards
+use Rattle.r6_world.specs.ShardStates.{Shard, Command, Transfer, Fetch, Store, Storing, LossOf}
 use Rattle.r6_world.specs.Steps as steps
 use Rattle.r6_world.specs.Steps.{Event, Submit, Deliver, Good, Error, Taken, Look, Take_command, Take_call, Take_reply}
 use Rattle.r6_world.specs.Worlds as worlds
-use Rattle.r6_world.specs.Worlds.{World, Devices, MayCome, happened, next, started, given, performed_on, IsBrought}
+use Rattle.r6_world.specs.Worlds.{World, Devices, MayCome, happened, next, started, given, performed_on, IsBrought, as_made}
 use Rattle.r6_world.specs.Claims.{IsLawfulStart}
 use Rattle.r6_world.specs.Laws.{IsOfOutside}
 use Rattle.r6_world.specs.Witness.{smallest, small, after_all}
@@ -24,8 +25,8 @@ use Rattle.r6_core.specs.declared.refusal.DeviceFault.{DeviceFault}
 use Rattle.r6_core.specs.declared.refusal.Receipt.{Receipt}
 use Rattle.r6_core.specs.Shards.{CoreView, Step, world_shard, completion_of, receipt_of}
 use Rattle.r6_core.specs.Effects.{IsMade, Receives}
-use Rattle.r6_core.specs.Runs.{Happening, Call, Perform, Tell, Moment, in_world, moment_of, cores_after, MayHappen, CoresRun, AreMade, IsShard, AreShards, StayShards}
-use Rattle.r6_core.specs.Courses.{events_in, events_of, cores_behind, HasRun, Fails, Reads, Declares, RunsThroughLoss, two_shards, both, RunsBesideLoss}
+use Rattle.r6_core.specs.Runs.{Happening, Call, Perform, Tell, Outside, Moment, in_world, moment_of, cores_after, MayHappen, CoresRun, AreMade, IsShard, AreShards, StayShards}
+use Rattle.r6_core.specs.Courses.{events_in, events_of, cores_behind, HasRun, Fails, Reads, Writes, Tells, FindsLoss, ReadsAround, RunsThroughLoss, two_shards, both, RunsBesideLoss}
 use Rattle.r6_core.proofs.Runs.{are_runs}
 use Rattle.r6_core.proofs.Unperformed.{unperformed}
 
@@ -50,7 +51,7 @@ map-append : (a b : List Moment) → map moment_of (a ++ b) ≡ map moment_of a 
 map-append [] b = refl
 map-append (m ∷ a) b = ap (λ x. moment_of m ∷ x) (map-append a b)
 
-append-assoc : (a b c : List (ℕ × Event)) → (a ++ b) ++ c ≡ a ++ (b ++ c)
+pub append-assoc : (a b c : List (ℕ × Event)) → (a ++ b) ++ c ≡ a ++ (b ++ c)
 append-assoc [] b c = refl
 append-assoc (e ∷ a) b c = ap (λ x. e ∷ x) (append-assoc a b c)
 
@@ -77,12 +78,60 @@ shards-behind : (l : Layout) (Ours : ℕ → Type 0) (w : World) (cores : ℕ �
 shards-behind l Ours w cores [] x = x
 shards-behind l Ours w cores (m ∷ moments) x = shards-behind l Ours (next l w (moment_of m)) (cores_after cores m.happening) moments x.1
 
+-- ---- devices
+
+-- the devices with this block on a slot's device of a generation, in a row
+abbrev pub with_block : Devices → (slot generation row : ℕ) → Block → Devices
+with_block device slot generation row block = put_in device slot generation (put (device slot generation) row block)
+
+-- what devices do that hold the same
+same-put : {A : Type 0} (f g : ℕ → A) (key : ℕ) (a b : A) → ((n : ℕ) → f n ≡ g n) → a ≡ b → (n : ℕ) → put f key a n ≡ put g key b n
+same-put f g key a b same is n =
+    elim (cases_eq n key) [
+      | inl e ↦ put-same f key a n e ∙ is ∙ sym (put-same g key b n e)
+      | inr ne ↦ put-other f key a n ne ∙ same n ∙ sym (put-other g key b n ne)
+    ]
+
+same-block : (one two : Devices) (slot generation row : ℕ) (block : Block) → ((s g k : ℕ) → one s g k ≡ two s g k)
+    → (s g k : ℕ) → with_block one slot generation row block s g k ≡ with_block two slot generation row block s g k
+same-block one two slot generation row block same s g k =
+    elim (cases_eq s slot) [
+      | inl e ↦
+          ap (λ (f : ℕ → ℕ → Block). f g k) (put-same one slot _ s e)
+          ∙ at-generation ∙ ap (λ (f : ℕ → ℕ → Block). f g k) (sym (put-same two slot _ s e))
+      | inr ne ↦
+          ap (λ (f : ℕ → ℕ → Block). f g k) (put-other one slot _ s ne)
+          ∙ same s g k ∙ ap (λ (f : ℕ → ℕ → Block). f g k) (sym (put-other two slot _ s ne))
+    ]
+  where
+    at-generation : put (one slot) generation (put (one slot generation) row block) g k ≡ put (two slot) generation (put (two slot generation) row block) g k
+    at-generation = elim (cases_eq g generation) [
+      | inl e ↦
+          ap (λ (f : ℕ → Block). f k) (put-same (one slot) generation _ g e)
+          ∙ same-put (one slot generation) (two slot generation) row block block (same slot generation) refl k
+          ∙ ap (λ (f : ℕ → Block). f k) (sym (put-same (two slot) generation _ g e))
+      | inr ne ↦
+          ap (λ (f : ℕ → Block). f k) (put-other (one slot) generation _ g ne)
+          ∙ same slot g k ∙ ap (λ (f : ℕ → Block). f k) (sym (put-other (two slot) generation _ g ne))
+    ]
+
+same-given : (c : Command) (transfer : Transfer) (one two : Devices) → ((s g k : ℕ) → one s g k ≡ two s g k) → given one c transfer ≡ given two c transfer
+same-given c Fetch one two same = same c.slot c.generation c.row
+same-given c (Store b) one two same = refl
+same-given c Storing one two same = refl
+
+same-performing : (c : Command) (transfer : Transfer) (one two : Devices) → ((s g k : ℕ) → one s g k ≡ two s g k)
+    → (s g k : ℕ) → performed_on one c transfer s g k ≡ performed_on two c transfer s g k
+same-performing c Fetch one two same = same
+same-performing c (Store b) one two same = same-block one two c.slot c.generation c.row b same
+same-performing c Storing one two same = same
+
 -- ---- of cores made at a register with no slot lost
 
 -- one core has gone on, and the others are as they were
-record Becomes (Ours : ℕ → Type 0) (old : ℕ → CoreView) (n : ℕ) (core : CoreView) (new : ℕ → CoreView) : Type 0 where
-  own : new n ≡ core
-  others : (m : ℕ) → Ours m → m ≢ n → new m ≡ old m
+pub record Becomes (Ours : ℕ → Type 0) (old : ℕ → CoreView) (n : ℕ) (core : CoreView) (new : ℕ → CoreView) : Type 0 where
+  pub own : new n ≡ core
+  pub others : (m : ℕ) → Ours m → m ≢ n → new m ≡ old m
 
 module _ (shape : Shape) (limits : IsShape shape) (Ours : ℕ → Type 0) (Comes : RegisterCall → Type 0) (below : (n : ℕ) → Ours n → n < shape.shards)
     (device : Devices) (array : Array) (lawful : IsLawfulStart (layout_of shape) (starting 0) device array) where
@@ -92,8 +141,8 @@ module _ (shape : Shape) (limits : IsShape shape) (Ours : ℕ → Type 0) (Comes
   abbrev begins : World
   begins = started l (starting 0) device
 
-  -- a run, the world to which it leads, and what stands there
-  record Leads (events : List (ℕ × Event)) (cores : ℕ → CoreView) (w : World) : Type 0 where
+  -- a run, the world to which it leads, and what the devices after-it hold
+  pub record Leads (now : Devices) (events : List (ℕ × Event)) (cores : ℕ → CoreView) (w : World) : Type 0 where
     first : ℕ → CoreView
     made : AreMade shape Ours (starting 0) first
     moments : List Moment
@@ -101,19 +150,19 @@ module _ (shape : Shape) (limits : IsShape shape) (Ours : ℕ → Type 0) (Comes
     events_are : events_of moments ≡ events
     cores_are : (n : ℕ) → Ours n → cores_behind first moments n ≡ cores n
     world_is : after_all l begins (map moment_of moments) ≡ w
-    device_is : (slot g row : ℕ) → w.device slot g row ≡ device slot g row
+    device_is : (slot g row : ℕ) → w.device slot g row ≡ now slot g row
 
   -- what stands on a part that has answered an error stays there
   abbrev later : World → Happening → World
   later w h = next l w (moment_of (record { happening = h; noise = (happened l w (in_world h)).device }))
 
-  -- one more thing happens, and no device changes
-  go_on : (events : List (ℕ × Event)) (cores : ℕ → CoreView) (w : World) → (x : Leads events cores w) → (h : Happening) (new : ℕ → CoreView)
+  -- one more thing happens
+  go_on : (now : Devices) (events : List (ℕ × Event)) (cores : ℕ → CoreView) (w : World) → (x : Leads now events cores w) → (h : Happening) (new : ℕ → CoreView) (after-it : Devices)
       → MayHappen l Ours Comes w (cores_behind x.first x.moments) h
       → ((n : ℕ) → Ours n → cores_after (cores_behind x.first x.moments) h n ≡ new n)
-      → ((slot g row : ℕ) → (happened l w (in_world h)).device slot g row ≡ device slot g row)
-      → Leads (events ++ events_in h) new (later w h)
-  go_on events cores w x h new may becomes calm =
+      → ((slot g row : ℕ) → (happened l w (in_world h)).device slot g row ≡ after-it slot g row)
+      → Leads after-it (events ++ events_in h) new (later w h)
+  go_on now events cores w x h new after-it may becomes holds =
       let m : Moment = record { happening = h; noise = (happened l w (in_world h)).device } in
       let behind = cores_behind x.first x.moments in
       record {
@@ -125,7 +174,7 @@ module _ (shape : Shape) (limits : IsShape shape) (Ours : ℕ → Type 0) (Comes
         events_are = events-append x.moments (m ∷ []) ∙ ap (λ y. y ++ (events_in h ++ [])) x.events_are ∙ ap (λ y. events ++ y) (none-behind (events_in h));
         cores_are = λ n ours. ap (λ (y : ℕ → CoreView). y n) (cores-append x.first x.moments (m ∷ [])) ∙ becomes n ours;
         world_is = world-append l begins x.moments (m ∷ []) ∙ ap (λ (y : World). next l y (moment_of m)) x.world_is;
-        device_is = λ slot g row. unwrapped _ _ ∙ calm slot g row;
+        device_is = λ slot g row. unwrapped _ _ ∙ holds slot g row;
       }
     where
       none-behind : (es : List (ℕ × Event)) → es ++ [] ≡ es
@@ -142,130 +191,156 @@ module _ (shape : Shape) (limits : IsShape shape) (Ours : ℕ → Type 0) (Comes
       ]
 
   -- a call of a core
-  calls : (events : List (ℕ × Event)) (cores : ℕ → CoreView) (w : World) → Leads events cores w → (n : ℕ) → Ours n → (core : CoreView) → cores n ≡ core
+  pub calls : (now : Devices) (events : List (ℕ × Event)) (cores : ℕ → CoreView) (w : World) → Leads now events cores w → (n : ℕ) → Ours n → (core : CoreView) → cores n ≡ core
       → (event : Event) (new : CoreView) (news : ℕ → CoreView) → Becomes Ours cores n new news → MayCome w n event → Step core event new
-      → Leads (events ++ (n, event) ∷ []) news (later w (Call n event new))
-  calls events cores w x n ours core is event new news b comes step =
-      go_on events cores w x (Call n event new) news
+      → Leads now (events ++ (n, event) ∷ []) news (later w (Call n event new))
+  calls now events cores w x n ours core is event new news b comes step =
+      go_on now events cores w x (Call n event new) news now
       (ours, comes, subst (λ (y : CoreView). Step y event new) (sym (x.cores_are n ours ∙ is)) step)
       (put-behind (cores_behind x.first x.moments) cores news x.cores_are n new b) x.device_is
 
   -- the world's shard is the core
-  shard-is : (events : List (ℕ × Event)) (cores : ℕ → CoreView) (w : World) → (x : Leads events cores w) → (n : ℕ) → Ours n → w.shard n ≡ world_shard (cores n)
-  shard-is events cores w x n ours =
+  shard-is : (now : Devices) (events : List (ℕ × Event)) (cores : ℕ → CoreView) (w : World) → (x : Leads now events cores w) → (n : ℕ) → Ours n → w.shard n ≡ world_shard (cores n)
+  shard-is now events cores w x n ours =
       let stays = (are_runs shape Ours Comes below (starting 0) device x.first x.made x.moments x.run).1 in
       ap (λ (y : World). y.shard n) (sym x.world_is)
       ∙ shards-behind l Ours begins x.first x.moments stays n ours
       ∙ ap world_shard (x.cores_are n ours)
 
   -- a command that is there to be taken was not performed
-  fresh : (events : List (ℕ × Event)) (cores : ℕ → CoreView) (w : World) → (x : Leads events cores w) → (n : ℕ) → Ours n → (token : ℕ) (c : Command)
+  fresh : (now : Devices) (events : List (ℕ × Event)) (cores : ℕ → CoreView) (w : World) → (x : Leads now events cores w) → (n : ℕ) → Ours n → (token : ℕ) (c : Command)
       → (world_shard (cores n)).command token ≡ Some c → c.taken ≡ false → w.performed n token ≡ None
-  fresh events cores w x n ours token c there untaken =
+  fresh now events cores w x n ours token c there untaken =
       let as_world = (are_runs shape Ours Comes below (starting 0) device x.first x.made x.moments x.run).0 in
       subst (λ (y : World). y.performed n token ≡ None) x.world_is
       (unperformed l Ours Comes (layouts shape limits) (starting 0) device array lawful x.first x.moments x.run as_world n ours token c
-      (ap (λ (y : World). (y.shard n).command token) x.world_is ∙ ap (λ (s : Shard). s.command token) (shard-is events cores w x n ours) ∙ there)
+      (ap (λ (y : World). (y.shard n).command token) x.world_is ∙ ap (λ (s : Shard). s.command token) (shard-is now events cores w x n ours) ∙ there)
       untaken)
 
   -- one core goes on, to where another call leads it
-  put-first : (cores : ℕ → CoreView) (n : ℕ) (middle : CoreView) → Becomes Ours cores n middle (put cores n middle)
+  pub put-first : (cores : ℕ → CoreView) (n : ℕ) (middle : CoreView) → Becomes Ours cores n middle (put cores n middle)
   put-first cores n middle = record { own = put-same cores n middle n refl; others = λ m ours ne. put-other cores n middle m ne }
 
-  put-then : (cores : ℕ → CoreView) (n : ℕ) (middle new : CoreView) (news : ℕ → CoreView) → Becomes Ours cores n new news → Becomes Ours (put cores n middle) n new news
+  pub put-then : (cores : ℕ → CoreView) (n : ℕ) (middle new : CoreView) (news : ℕ → CoreView) → Becomes Ours cores n new news → Becomes Ours (put cores n middle) n new news
   put-then cores n middle new news b = record { own = b.own; others = λ m ours ne. b.others m ours ne ∙ sym (put-other cores n middle m ne) }
 
   -- where a run leads
-  abbrev Onward : World → List (ℕ × Event) → (ℕ → CoreView) → Type 0
-  Onward w events news = (w' : World) × (w'.register ≡ w.register) × Leads events news w'
+  abbrev pub Onward : Snapshot → Devices → List (ℕ × Event) → (ℕ → CoreView) → Type 0
+  Onward register now events news = (w : World) × (w.register ≡ register) × Leads now events news w
 
   -- a command is answered by an error
-  fails : (events : List (ℕ × Event)) (cores : ℕ → CoreView) (w : World) → Leads events cores w → (n : ℕ) → Ours n → (core : CoreView) → cores n ≡ core
+  fails : (now : Devices) (events : List (ℕ × Event)) (cores : ℕ → CoreView) (w : World) → Leads now events cores w → (n : ℕ) → Ours n → (core : CoreView) → cores n ≡ core
       → (new : CoreView) (news : ℕ → CoreView) → Becomes Ours cores n new news → (f : Fails core new)
-      → Onward w (events ++ (n, Take_command f.token f.command) ∷ (n, Deliver f.token Error Taken) ∷ []) news
-  fails events cores w x n ours core is new news b f =
+      → Onward w.register now (events ++ (n, Take_command f.token f.command) ∷ (n, Deliver f.token Error Taken) ∷ []) news
+  fails now events cores w x n ours core is new news b f =
       let mid = put cores n f.middle in
-      let taken = calls events cores w x n ours core is (Take_command f.token f.command) f.middle mid (put-first cores n f.middle) (record {}) f.taken in
+      let taken = calls now events cores w x n ours core is (Take_command f.token f.command) f.middle mid (put-first cores n f.middle) (record {}) f.taken in
       let w1 = later w (Call n (Take_command f.token f.command) f.middle) in
-      let done = calls (events ++ (n, Take_command f.token f.command) ∷ []) mid w1 taken n ours f.middle (put-same cores n f.middle n refl)
+      let done = calls now (events ++ (n, Take_command f.token f.command) ∷ []) mid w1 taken n ours f.middle (put-same cores n f.middle n refl)
       (Deliver f.token Error Taken) new news (put-then cores n f.middle new news b) (record {}) f.delivered in (
         later w1 (Call n (Deliver f.token Error Taken) new),
         refl,
-        subst (λ es. Leads es news (later w1 (Call n (Deliver f.token Error Taken) new)))
+        subst (λ es. Leads now es news (later w1 (Call n (Deliver f.token Error Taken) new)))
             (append-assoc events ((n, Take_command f.token f.command) ∷ []) ((n, Deliver f.token Error Taken) ∷ [])) done,
       )
 
-  fetched : (c : Command) (transfer : Transfer) → transfer ≡ Fetch → (now : Devices) → given now c transfer ≡ now c.slot c.generation c.row
-  fetched c transfer is now = ap (given now c) is
-
-  unchanged : (c : Command) (transfer : Transfer) → transfer ≡ Fetch → (now : Devices) → performed_on now c transfer ≡ now
-  unchanged c transfer is now = ap (performed_on now c) is
-
-  brings-block : (flying : Option Command) (gave : Option Block) (block : Block) (c : Command) → flying ≡ Some c → c.transfer ≡ Fetch → gave ≡ Some block → IsBrought flying gave block
-  brings-block flying gave block c flies is same =
-      subst (λ o. IsBrought o gave block) (sym flies) (subst (λ y. worlds.Brings y gave block) (sym is) same)
-
-  -- a read is performed, and answered with what stands on its slot
-  reads : (events : List (ℕ × Event)) (cores : ℕ → CoreView) (w : World) → Leads events cores w → (n : ℕ) → Ours n → (core : CoreView) → cores n ≡ core
-      → (slot row : ℕ) (block : Block) (new : CoreView) (news : ℕ → CoreView) → Becomes Ours cores n new news → device slot 0 row ≡ block → (r : Reads slot row block core new)
-      → Onward w (events ++ (n, Take_command r.token r.command) ∷ (n, Deliver r.token (Good block) Taken) ∷ []) news
-  reads events cores w x n ours core is slot row block new news b stands r =
-      let t = r.token in
-      let c = r.command in
-      let mid = put cores n r.middle in
-      let taken = calls events cores w x n ours core is (Take_command t c) r.middle mid (put-first cores n r.middle) (record {}) r.taken in
-      let w1 = later w (Call n (Take_command t c) r.middle) in
+  -- a command is taken and performed, and answered with what it gave
+  performs : (now : Devices) (events : List (ℕ × Event)) (cores : ℕ → CoreView) (w : World) → Leads now events cores w → (n : ℕ) → Ours n → (core : CoreView) → cores n ≡ core
+      → (t : ℕ) (c : Command) (block : Block) (middle new : CoreView) (news : ℕ → CoreView) → Becomes Ours cores n new news
+      → Step core (Take_command t c) middle → Step middle (Deliver t (Good block) Taken) new
+      → ((gave : Option Block) → gave ≡ Some (given w.device c c.transfer) → worlds.Brings c.transfer gave block)
+      → (after-it : Devices) → ((slot g row : ℕ) → performed_on w.device c c.transfer slot g row ≡ after-it slot g row)
+      → Onward w.register after-it (events ++ (n, Take_command t c) ∷ (n, Deliver t (Good block) Taken) ∷ []) news
+  performs now events cores w x n ours core is t c block middle new news b took delivered brings after-it holds =
+      let mid = put cores n middle in
+      let taken = calls now events cores w x n ours core is (Take_command t c) middle mid (put-first cores n middle) (record {}) took in
+      let w1 = later w (Call n (Take_command t c) middle) in
       let flies : w1.flight n t ≡ Some c =
       ap (λ (f : ℕ → Option Command). f t) (put-same w.flight n (put (w.flight n) t (Some c)) n refl) ∙ put-same (w.flight n) t (Some c) t refl in
-      let here : w1.shard n ≡ world_shard r.middle = put-same w.shard n (world_shard r.middle) n refl in
+      let here : w1.shard n ≡ world_shard middle = put-same w.shard n (world_shard middle) n refl in
       let out : (w1.shard n).command t ≢ None =
-      (λ none. None-not_Some _ (sym none ∙ ap (λ (s : Shard). s.command t) (here ∙ r.taken.1.1) ∙ put-same (world_shard core).command t _ t refl)) in
-      let there : (world_shard (cores n)).command t ≡ Some c = ap (λ (y : CoreView). (world_shard y).command t) is ∙ r.taken.1.0.0 in
-      let before : w1.performed n t ≡ None = fresh events cores w x n ours t c there r.taken.1.0.1 in
-      let calm : (slot g row : ℕ) → performed_on w1.device c c.transfer slot g row ≡ device slot g row =
-      (λ slot g row. ap (λ (y : Devices). y slot g row) (unchanged c c.transfer r.is_read w1.device) ∙ taken.device_is slot g row) in
-      let done = go_on (events ++ (n, Take_command t c) ∷ []) mid w1 taken (Perform n t c) mid (ours, (below n ours, flies, out, before)) taken.cores_are calm in
+      (λ none. None-not_Some _ (sym none ∙ ap (λ (s : Shard). s.command t) (here ∙ took.1.1) ∙ put-same (world_shard core).command t _ t refl)) in
+      let there : (world_shard (cores n)).command t ≡ Some c = ap (λ (y : CoreView). (world_shard y).command t) is ∙ took.1.0.0 in
+      let before : w1.performed n t ≡ None = fresh now events cores w x n ours t c there took.1.0.1 in
+      let devices : (slot g row : ℕ) → w1.device slot g row ≡ w.device slot g row = (λ slot g row. unwrapped _ _) in
+      let done = go_on now (events ++ (n, Take_command t c) ∷ []) mid w1 taken (Perform n t c) mid after-it (ours, (below n ours, flies, out, before)) taken.cores_are
+      (λ slot g row. same-performing c c.transfer w1.device w.device devices slot g row ∙ holds slot g row) in
       let w2 = later w1 (Perform n t c) in
-      let gave : w2.performed n t ≡ Some block =
+      let gave : w2.performed n t ≡ Some (given w.device c c.transfer) =
       ap (λ (f : ℕ → Option Block). f t) (put-same w1.performed n (put (w1.performed n) t (Some (given w1.device c c.transfer))) n refl)
       ∙ put-same (w1.performed n) t (Some (given w1.device c c.transfer)) t refl
-      ∙ ap (λ b. Some b) (fetched c c.transfer r.is_read w1.device ∙ taken.device_is c.slot c.generation c.row
-      ∙ ap (λ y. device y c.generation c.row) r.of_slot ∙ ap (λ y. device slot y c.row) r.of_generation ∙ ap (device slot 0) r.of_row ∙ stands) in
-      let answered = calls ((events ++ (n, Take_command t c) ∷ []) ++ []) mid w2 done n ours r.middle (put-same cores n r.middle n refl)
-      (Deliver t (Good block) Taken) new news (put-then cores n r.middle new news b)
-      (brings-block (w2.flight n t) (w2.performed n t) block c flies r.is_read gave) r.delivered in (
+      ∙ ap (λ b. Some b) (same-given c c.transfer w1.device w.device devices) in
+      let answered = calls after-it ((events ++ (n, Take_command t c) ∷ []) ++ []) mid w2 done n ours middle (put-same cores n middle n refl)
+      (Deliver t (Good block) Taken) new news (put-then cores n middle new news b)
+      (subst (λ o. IsBrought o (w2.performed n t) block) (sym flies) (brings (w2.performed n t) gave)) delivered in (
         later w2 (Call n (Deliver t (Good block) Taken) new),
         refl,
-        subst (λ es. Leads es news (later w2 (Call n (Deliver t (Good block) Taken) new)))
+        subst (λ es. Leads after-it es news (later w2 (Call n (Deliver t (Good block) Taken) new)))
             (append-assoc (events ++ (n, Take_command t c) ∷ []) [] ((n, Deliver t (Good block) Taken) ∷ [])
             ∙ append-assoc events ((n, Take_command t c) ∷ []) ((n, Deliver t (Good block) Taken) ∷ [])) answered,
       )
 
-  -- the loss of slot 1 is declared at the register
-  declares : (events : List (ℕ × Event)) (cores : ℕ → CoreView) (w : World) → Leads events cores w → (n : ℕ) → Ours n → (core : CoreView) → cores n ≡ core
-      → w.register ≡ starting 0 → answer_to l (starting 0) (DeclareLost 1 0) ≡ Ok Degraded
-      → (new : CoreView) (news : ℕ → CoreView) → Becomes Ours cores n new news → (d : Declares core new)
-      → (w' : World) × (w'.register ≡ without (starting 0) 1) × Leads (events ++ (n, Take_call (LossOf 1 0)) ∷ (n, steps.Told (LossOf 1 0) (Ok Degraded)) ∷ []) news w'
-  declares events cores w x n ours core is now answers new news b d =
-      let h = Tell n (LossOf 1 0) (Ok Degraded) d.middle new in (
+  -- a read is performed, and answered with what stands on its slot
+  pub reads : (now : Devices) (events : List (ℕ × Event)) (cores : ℕ → CoreView) (w : World) → Leads now events cores w → (n : ℕ) → Ours n → (core : CoreView) → cores n ≡ core
+      → (slot g row : ℕ) (block : Block) (new : CoreView) (news : ℕ → CoreView) → Becomes Ours cores n new news → now slot g row ≡ block → (r : Reads slot g row block core new)
+      → Onward w.register now (events ++ (n, Take_command r.token r.command) ∷ (n, Deliver r.token (Good block) Taken) ∷ []) news
+  reads now events cores w x n ours core is slot g row block new news b stands r =
+      let c = r.command in
+      let there : w.device c.slot c.generation c.row ≡ block =
+      x.device_is c.slot c.generation c.row ∙ ap (λ y. now y c.generation c.row) r.of_slot ∙ ap (λ y. now slot y c.row) r.of_generation ∙ ap (now slot g) r.of_row ∙ stands in
+      performs now events cores w x n ours core is r.token c block r.middle new news b r.taken r.delivered
+      (λ gave e. subst (λ y. worlds.Brings y gave block) (sym r.is_read) (e ∙ ap (λ b. Some b) (ap (given w.device c) r.is_read ∙ there)))
+      now (λ s h k. ap (λ (y : Devices). y s h k) (ap (performed_on w.device c) r.is_read) ∙ x.device_is s h k)
+
+  -- a write is performed, and confirmed
+  pub writes : (now : Devices) (events : List (ℕ × Event)) (cores : ℕ → CoreView) (w : World) → Leads now events cores w → (n : ℕ) → Ours n → (core : CoreView) → cores n ≡ core
+      → (slot g row : ℕ) (block : Block) (new : CoreView) (news : ℕ → CoreView) → Becomes Ours cores n new news → (r : Writes slot g row block core new)
+      → Onward w.register (with_block now slot g row block) (events ++ (n, Take_command r.token r.command) ∷ (n, Deliver r.token (Good block) Taken) ∷ []) news
+  writes now events cores w x n ours core is slot g row block new news b r =
+      let c = r.command in
+      performs now events cores w x n ours core is r.token c block r.middle new news b r.taken r.delivered
+      (λ gave e. subst (λ y. worlds.Brings y gave block) (sym r.is_write) (λ none. None-not_Some _ (sym none ∙ e)))
+      (with_block now slot g row block)
+      (λ s h k. ap (λ (y : Devices). y s h k) (ap (performed_on w.device c) r.is_write
+      ∙ ap (λ y. with_block w.device y c.generation c.row block) r.of_slot ∙ ap (λ y. with_block w.device slot y c.row block) r.of_generation
+      ∙ ap (λ y. with_block w.device slot g y block) r.of_row)
+      ∙ same-block w.device now slot g row block x.device_is s h k)
+
+  -- a call is made at the register, and answered
+  pub tells : (now : Devices) (events : List (ℕ × Event)) (cores : ℕ → CoreView) (w : World) → Leads now events cores w → (n : ℕ) → Ours n → (core : CoreView) → cores n ≡ core
+      → (register next : Snapshot) → w.register ≡ register → (call : shards.Call) (answer : RegisterAnswer) → answer_to l register (as_made n call) ≡ Ok answer
+      → register_after l register (as_made n call) (Ok answer) ≡ next → (new : CoreView) (news : ℕ → CoreView) → Becomes Ours cores n new news → Tells call answer core new
+      → Onward next now (events ++ (n, Take_call call) ∷ (n, steps.Told call (Ok answer)) ∷ []) news
+  tells now events cores w x n ours core is register next seen call answer answers leads new news b d =
+      let h = Tell n call (Ok answer) d.middle new in (
         later w h,
-        ap (λ (y : Snapshot). register_after l y (DeclareLost 1 0) (Ok Degraded)) now,
-        go_on events cores w x h news (
+        ap (λ (y : Snapshot). register_after l y (as_made n call) (Ok answer)) seen ∙ leads,
+        go_on now events cores w x h news now (
           ours,
-          inl (sym answers ∙ ap (λ (y : Snapshot). answer_to l y (DeclareLost 1 0)) (sym now)),
-          subst (λ (y : CoreView). Step y (Take_call (LossOf 1 0)) d.middle) (sym (x.cores_are n ours ∙ is)) d.taken,
+          inl (sym answers ∙ ap (λ (y : Snapshot). answer_to l y (as_made n call)) (sym seen)),
+          subst (λ (y : CoreView). Step y (Take_call call) d.middle) (sym (x.cores_are n ours ∙ is)) d.taken,
           d.told,
         ) (put-behind (cores_behind x.first x.moments) cores news x.cores_are n new b) x.device_is,
       )
 
+  -- a call comes at the register from outside
+  pub comes : (now : Devices) (events : List (ℕ × Event)) (cores : ℕ → CoreView) (w : World) → Leads now events cores w
+      → (register next : Snapshot) → w.register ≡ register → (call : RegisterCall) → Comes call → register_after l register call (answer_to l register call) ≡ next
+      → Onward next now (events ++ []) cores
+  comes now events cores w x register next seen call may leads = (
+    later w (Outside call),
+    ap (λ (y : Snapshot). register_after l y call (answer_to l y call)) seen ∙ leads,
+    go_on now events cores w x (Outside call) cores now may x.cores_are x.device_is,
+  )
+
   -- at the start
-  starts : (first : ℕ → CoreView) → AreMade shape Ours (starting 0) first → Leads [] first begins
+  pub starts : (first : ℕ → CoreView) → AreMade shape Ours (starting 0) first → Leads device [] first begins
   starts first made = record { first = first; made = made; moments = []; run = record {}; events_are = refl; cores_are = λ n ours. refl; world_is = refl; device_is = λ slot g row. refl }
 
   -- and at the end
-  ends : (events : List (ℕ × Event)) (cores : ℕ → CoreView) (w : World) → Leads events cores w → (register : Snapshot) → w.register ≡ register
+  pub ends : (now : Devices) (events : List (ℕ × Event)) (cores : ℕ → CoreView) (w : World) → Leads now events cores w → (register : Snapshot) → w.register ≡ register
       → HasRun shape Ours Comes (starting 0) device array events cores register
-  ends events cores w x register is =
+  ends now events cores w x register is =
       record {
         limits = limits;
         lawful = lawful;
@@ -292,39 +367,41 @@ declared-small : answer_to small (starting 0) (DeclareLost 1 0) ≡ Ok Degraded
 declared-small = refl
 
 pub through_loss : IsShape smallest → (c0 c1 c2 c3 c4 c5 c6 c7 : CoreView) (other parity block : Block) → IsMade smallest (starting 0) 0 c0
-    → Step c0 (Submit (Read 0) 0) c1 → Fails c1 c2 → Declares c2 c3 → Reads 2 0 other c3 c4 → Reads 3 0 parity c4 c5
+    → Step c0 (Submit (Read 0) 0) c1 → Fails c1 c2 → Tells (LossOf 1 0) Degraded c2 c3 → Reads 2 0 0 other c3 c4 → Reads 3 0 0 parity c4 c5
     → Step c5 (Look (without (starting 0) 1)) c6 → Step c6 (Take_reply 0 (Data block)) c7 → RunsThroughLoss other parity block c7
-through_loss limits c0 c1 c2 c3 c4 c5 c6 c7 other parity block made submitted f declared second third looked replied device array lawful on2 on3 =
-    let Ours = IsShard smallest in
-    let Comes = IsOfOutside in
-    let below : (n : ℕ) → Ours n → n < smallest.shards = λ n own. own in
-    let zeroth : Ours 0 = omega arith in
-    let only : (n : ℕ) → Ours n → 0 ≡ n = λ n own. omega (arith, own) in
-    let x0 = starts smallest limits Ours Comes below device array lawful (λ m. c0) (λ n own. subst (λ k. IsMade smallest (starting 0) k c0) (only n own) made) in
-    let x1 = calls smallest limits Ours Comes below device array lawful _ (λ m. c0) _ x0 0 zeroth c0 refl (Submit (Read 0) 0) c1 (λ m. c1) (alone c0 c1) (record {}) submitted in
-    let x2 = fails smallest limits Ours Comes below device array lawful _ (λ m. c1) _ x1 0 zeroth c1 refl c2 (λ m. c2) (alone c1 c2) f in
-    let x3 = declares smallest limits Ours Comes below device array lawful _ (λ m. c2) x2.0 x2.2 0 zeroth c2 refl x2.1 declared-small c3 (λ m. c3) (alone c2 c3) declared in
-    let x4 = reads smallest limits Ours Comes below device array lawful _ (λ m. c3) x3.0 x3.2 0 zeroth c3 refl 2 0 other c4 (λ m. c4) (alone c3 c4) on2 second in
-    let x5 = reads smallest limits Ours Comes below device array lawful _ (λ m. c4) x4.0 x4.2 0 zeroth c4 refl 3 0 parity c5 (λ m. c5) (alone c4 c5) on3 third in
-    let register : x5.0.register ≡ without (starting 0) 1 = x5.1 ∙ x4.1 ∙ x3.1 in
-    let x6 = calls smallest limits Ours Comes below device array lawful _ (λ m. c5) x5.0 x5.2 0 zeroth c5 refl (Look (without (starting 0) 1)) c6 (λ m. c6) (alone c5 c6) (sym register) looked in
-    let x7 = calls smallest limits Ours Comes below device array lawful _ (λ m. c6) _ x6 0 zeroth c6 refl (Take_reply 0 (Data block)) c7 (λ m. c7) (alone c6 c7) (record {}) replied in (
-      (f.token, f.command),
-      (second.token, second.command),
-      (third.token, third.command),
-      ends smallest limits Ours Comes below device array lawful _ (λ m. c7) _ x7 (without (starting 0) 1) register,
-    )
+through_loss limits c0 c1 c2 c3 c4 c5 c6 c7 other parity block made submitted f declared second third looked replied = record {
+  runs = λ device array lawful on2 on3.
+      let Ours = IsShard smallest in
+      let Comes = IsOfOutside in
+      let below : (n : ℕ) → Ours n → n < smallest.shards = λ n own. own in
+      let zeroth : Ours 0 = omega arith in
+      let only : (n : ℕ) → Ours n → 0 ≡ n = λ n own. omega (arith, own) in
+      let x0 = starts smallest limits Ours Comes below device array lawful (λ m. c0) (λ n own. subst (λ k. IsMade smallest (starting 0) k c0) (only n own) made) in
+      let x1 = calls smallest limits Ours Comes below device array lawful device _ (λ m. c0) _ x0 0 zeroth c0 refl (Submit (Read 0) 0) c1 (λ m. c1) (alone c0 c1) (record {}) submitted in
+      let x2 = fails smallest limits Ours Comes below device array lawful device _ (λ m. c1) _ x1 0 zeroth c1 refl c2 (λ m. c2) (alone c1 c2) f in
+      let x3 = tells smallest limits Ours Comes below device array lawful device _ (λ m. c2) x2.0 x2.2 0 zeroth c2 refl (starting 0) (without (starting 0) 1) x2.1 (LossOf 1 0) Degraded declared-small refl c3 (λ m. c3) (alone c2 c3) declared in
+      let x4 = reads smallest limits Ours Comes below device array lawful device _ (λ m. c3) x3.0 x3.2 0 zeroth c3 refl 2 0 0 other c4 (λ m. c4) (alone c3 c4) on2 second in
+      let x5 = reads smallest limits Ours Comes below device array lawful device _ (λ m. c4) x4.0 x4.2 0 zeroth c4 refl 3 0 0 parity c5 (λ m. c5) (alone c4 c5) on3 third in
+      let register : x5.0.register ≡ without (starting 0) 1 = x5.1 ∙ x4.1 ∙ x3.1 in
+      let x6 = calls smallest limits Ours Comes below device array lawful device _ (λ m. c5) x5.0 x5.2 0 zeroth c5 refl (Look (without (starting 0) 1)) c6 (λ m. c6) (alone c5 c6) (sym register) looked in
+      let x7 = calls smallest limits Ours Comes below device array lawful device _ (λ m. c6) _ x6 0 zeroth c6 refl (Take_reply 0 (Data block)) c7 (λ m. c7) (alone c6 c7) (record {}) replied in (
+        (f.token, f.command),
+        (second.token, second.command),
+        (third.token, third.command),
+        ends smallest limits Ours Comes below device array lawful device _ (λ m. c7) _ x7 (without (starting 0) 1) register,
+      );
+}
 
 -- ---- two cores
 
-first_goes : (a a' b : CoreView) → Becomes (IsShard two_shards) (both a b) 0 a' (both a' b)
+pub first_goes : (a a' b : CoreView) → Becomes (IsShard two_shards) (both a b) 0 a' (both a' b)
 first_goes a a' b = record { own = refl; others = rest }
   where
     rest : (m : ℕ) → m < 2 → m ≢ 0 → both a' b m ≡ both a b m
     rest zero below ne = absurd (ne refl)
     rest (suc m) below ne = refl
 
-second_goes : (a b b' : CoreView) → Becomes (IsShard two_shards) (both a b) 1 b' (both a b')
+pub second_goes : (a b b' : CoreView) → Becomes (IsShard two_shards) (both a b) 1 b' (both a b')
 second_goes a b b' = record { own = refl; others = rest }
   where
     rest : (m : ℕ) → m < 2 → m ≢ 1 → both a b' m ≡ both a b m
@@ -334,37 +411,47 @@ second_goes a b b' = record { own = refl; others = rest }
 declared-two : answer_to (layout_of two_shards) (starting 0) (DeclareLost 1 0) ≡ Ok Degraded
 declared-two = refl
 
-made-both : (a b : CoreView) → IsMade two_shards (starting 0) 0 a → IsMade two_shards (starting 0) 1 b → AreMade two_shards (IsShard two_shards) (starting 0) (both a b)
+pub made-both : (a b : CoreView) → IsMade two_shards (starting 0) 0 a → IsMade two_shards (starting 0) 1 b → AreMade two_shards (IsShard two_shards) (starting 0) (both a b)
 made-both a b first second zero below = first
 made-both a b first second (suc m) below =
     let one : suc m ≡ 1 = omega (arith, below) in
     subst (λ k. IsMade two_shards (starting 0) k b) (sym one) second
 
-pub beside_loss : IsShape two_shards → (a0 a1 a2 a3 b0 b1 b2 b3 b4 b5 b6 : CoreView) (other parity block : Block)
+beside_loss : IsShape two_shards → (a0 a1 a2 a3 b0 b1 b2 b3 b4 b5 b6 : CoreView) (other parity block : Block)
     → IsMade two_shards (starting 0) 0 a0 → IsMade two_shards (starting 0) 1 b0
-    → Step a0 (Submit (Read 0) 0) a1 → Fails a1 a2 → Declares a2 a3
-    → Step b0 (Look (without (starting 0) 1)) b1 → Step b1 (Submit (Read 3) 0) b2 → Reads 0 1 other b2 b3 → Reads 2 1 parity b3 b4
+    → Step a0 (Submit (Read 0) 0) a1 → Fails a1 a2 → Tells (LossOf 1 0) Degraded a2 a3
+    → Step b0 (Look (without (starting 0) 1)) b1 → Step b1 (Submit (Read 3) 0) b2 → Reads 0 0 1 other b2 b3 → Reads 2 0 1 parity b3 b4
     → Step b4 (Look (without (starting 0) 1)) b5 → Step b5 (Take_reply 0 (Data block)) b6 → RunsBesideLoss other parity block a3 b6
-beside_loss limits a0 a1 a2 a3 b0 b1 b2 b3 b4 b5 b6 other parity block first second submitted f declared saw asked here there looked replied device array lawful on0 on2 =
-    let Ours = IsShard two_shards in
-    let Comes = IsOfOutside in
-    let below : (n : ℕ) → n < 2 → n < two_shards.shards = λ n lt. lt in
-    let zeroth : 0 < 2 = omega arith in
-    let one : 1 < 2 = omega arith in
-    let seen = without (starting 0) 1 in
-    let x0 = starts two_shards limits Ours Comes below device array lawful (both a0 b0) (made-both a0 b0 first second) in
-    let x1 = calls two_shards limits Ours Comes below device array lawful _ (both a0 b0) _ x0 0 zeroth a0 refl (Submit (Read 0) 0) a1 (both a1 b0) (first_goes a0 a1 b0) (record {}) submitted in
-    let x2 = fails two_shards limits Ours Comes below device array lawful _ (both a1 b0) _ x1 0 zeroth a1 refl a2 (both a2 b0) (first_goes a1 a2 b0) f in
-    let x3 = declares two_shards limits Ours Comes below device array lawful _ (both a2 b0) x2.0 x2.2 0 zeroth a2 refl x2.1 declared-two a3 (both a3 b0) (first_goes a2 a3 b0) declared in
-    let x4 = calls two_shards limits Ours Comes below device array lawful _ (both a3 b0) x3.0 x3.2 1 one b0 refl (Look seen) b1 (both a3 b1) (second_goes a3 b0 b1) (sym x3.1) saw in
-    let x5 = calls two_shards limits Ours Comes below device array lawful _ (both a3 b1) _ x4 1 one b1 refl (Submit (Read 3) 0) b2 (both a3 b2) (second_goes a3 b1 b2) (record {}) asked in
-    let x6 = reads two_shards limits Ours Comes below device array lawful _ (both a3 b2) _ x5 1 one b2 refl 0 1 other b3 (both a3 b3) (second_goes a3 b2 b3) on0 here in
-    let x7 = reads two_shards limits Ours Comes below device array lawful _ (both a3 b3) x6.0 x6.2 1 one b3 refl 2 1 parity b4 (both a3 b4) (second_goes a3 b3 b4) on2 there in
-    let register : x7.0.register ≡ seen = x7.1 ∙ x6.1 ∙ x3.1 in
-    let x8 = calls two_shards limits Ours Comes below device array lawful _ (both a3 b4) x7.0 x7.2 1 one b4 refl (Look seen) b5 (both a3 b5) (second_goes a3 b4 b5) (sym register) looked in
-    let x9 = calls two_shards limits Ours Comes below device array lawful _ (both a3 b5) _ x8 1 one b5 refl (Take_reply 0 (Data block)) b6 (both a3 b6) (second_goes a3 b5 b6) (record {}) replied in (
-      (f.token, f.command),
-      (here.token, here.command),
-      (there.token, there.command),
-      ends two_shards limits Ours Comes below device array lawful _ (both a3 b6) _ x9 seen register,
-    )
+beside_loss limits a0 a1 a2 a3 b0 b1 b2 b3 b4 b5 b6 other parity block first second submitted f declared saw asked here there looked replied = record {
+  runs = λ device array lawful on0 on2.
+      let Ours = IsShard two_shards in
+      let Comes = IsOfOutside in
+      let below : (n : ℕ) → n < 2 → n < two_shards.shards = λ n lt. lt in
+      let zeroth : 0 < 2 = omega arith in
+      let one : 1 < 2 = omega arith in
+      let seen = without (starting 0) 1 in
+      let x0 = starts two_shards limits Ours Comes below device array lawful (both a0 b0) (made-both a0 b0 first second) in
+      let x1 = calls two_shards limits Ours Comes below device array lawful device _ (both a0 b0) _ x0 0 zeroth a0 refl (Submit (Read 0) 0) a1 (both a1 b0) (first_goes a0 a1 b0) (record {}) submitted in
+      let x2 = fails two_shards limits Ours Comes below device array lawful device _ (both a1 b0) _ x1 0 zeroth a1 refl a2 (both a2 b0) (first_goes a1 a2 b0) f in
+      let x3 = tells two_shards limits Ours Comes below device array lawful device _ (both a2 b0) x2.0 x2.2 0 zeroth a2 refl (starting 0) (without (starting 0) 1) x2.1 (LossOf 1 0) Degraded declared-two refl a3 (both a3 b0) (first_goes a2 a3 b0) declared in
+      let x4 = calls two_shards limits Ours Comes below device array lawful device _ (both a3 b0) x3.0 x3.2 1 one b0 refl (Look seen) b1 (both a3 b1) (second_goes a3 b0 b1) (sym x3.1) saw in
+      let x5 = calls two_shards limits Ours Comes below device array lawful device _ (both a3 b1) _ x4 1 one b1 refl (Submit (Read 3) 0) b2 (both a3 b2) (second_goes a3 b1 b2) (record {}) asked in
+      let x6 = reads two_shards limits Ours Comes below device array lawful device _ (both a3 b2) _ x5 1 one b2 refl 0 0 1 other b3 (both a3 b3) (second_goes a3 b2 b3) on0 here in
+      let x7 = reads two_shards limits Ours Comes below device array lawful device _ (both a3 b3) x6.0 x6.2 1 one b3 refl 2 0 1 parity b4 (both a3 b4) (second_goes a3 b3 b4) on2 there in
+      let register : x7.0.register ≡ seen = x7.1 ∙ x6.1 ∙ x3.1 in
+      let x8 = calls two_shards limits Ours Comes below device array lawful device _ (both a3 b4) x7.0 x7.2 1 one b4 refl (Look seen) b5 (both a3 b5) (second_goes a3 b4 b5) (sym register) looked in
+      let x9 = calls two_shards limits Ours Comes below device array lawful device _ (both a3 b5) _ x8 1 one b5 refl (Take_reply 0 (Data block)) b6 (both a3 b6) (second_goes a3 b5 b6) (record {}) replied in (
+        (f.token, f.command),
+        (here.token, here.command),
+        (there.token, there.command),
+        ends two_shards limits Ours Comes below device array lawful device _ (both a3 b6) _ x9 seen register,
+      );
+}
+
+pub by_both : IsShape two_shards → (a b c d : CoreView) (other parity block : Block) (register : Snapshot)
+    → IsMade two_shards (starting 0) 0 a → IsMade two_shards (starting 0) 1 c → register ≡ without (starting 0) 1
+    → FindsLoss a b → ReadsAround register other parity block c d → RunsBesideLoss other parity block b d
+by_both limits a b c d other parity block register first second is found around =
+    beside_loss limits a found.asking found.failing b c around.looking around.asking around.half around.whole around.seeing d other parity block first second
+    found.asked found.failed found.declared (subst (λ (r : Snapshot). Step c (Look r) around.looking) is around.saw) around.asked around.first around.second
+    (subst (λ (r : Snapshot). Step around.whole (Look r) around.seeing) is around.looked) around.replied

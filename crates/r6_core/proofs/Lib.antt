@@ -28,6 +28,7 @@ pub mod Replied
 pub mod Replies
 pub mod Runs
 pub mod Courses
+pub mod RebuildCourses
 pub mod Scanned
 pub mod Scrubs
 pub mod SeenFailure

@@ -4,8 +4,9 @@ use Rattle.r6_layout.specs.Shape.{Shape, IsShape, shape_of}
 use Rattle.r6_health.specs.Registers.{starting, without}
 use Rattle.r6_world.specs.PlainArray.{Block, Array, Read, Data}
 use Rattle.r6_world.specs.Geometries.{layout_of}
-use Rattle.r6_world.specs.Registers.{Snapshot, RegisterCall, Degraded}
-use Rattle.r6_world.specs.ShardStates.{Command, Fetch, LossOf}
+use Rattle.r6_world.specs.Registers.{Snapshot, RegisterCall, RegisterAnswer, Degraded}
+use Rattle.r6_world.specs.ShardStates as shards
+use Rattle.r6_world.specs.ShardStates.{Command, Fetch, Store, LossOf}
 use Rattle.r6_world.specs.Steps as steps
 use Rattle.r6_world.specs.Steps.{Event, Submit, Deliver, Good, Error, Taken, Look, Take_command, Take_call, Take_reply}
 use Rattle.r6_world.specs.Worlds.{Devices, started}
@@ -59,8 +60,8 @@ pub record Fails (old new : CoreView) : Type 0 where
   pub taken : Step old (Take_command token command) middle
   pub delivered : Step middle (Deliver token Error Taken) new
 
--- the read of a slot's block in a row is taken, and answered with this block
-pub record Reads (slot row : ℕ) (block : Block) (old new : CoreView) : Type 0 where
+-- the read of a slot's block in a row, from the device of a generation, is taken, and answered with this block
+pub record Reads (slot generation row : ℕ) (block : Block) (old new : CoreView) : Type 0 where
   pub token : ℕ
   pub command : Command
   pub middle : CoreView
@@ -68,33 +69,44 @@ pub record Reads (slot row : ℕ) (block : Block) (old new : CoreView) : Type 0 
   pub delivered : Step middle (Deliver token (Good block) Taken) new
   pub is_read : command.transfer ≡ Fetch
   pub of_slot : command.slot ≡ slot
-  pub of_generation : command.generation ≡ 0
+  pub of_generation : command.generation ≡ generation
   pub of_row : command.row ≡ row
 
--- the loss of slot 1 is declared at the register, which goes on without it
-pub record Declares (old new : CoreView) : Type 0 where
+-- the write of this block to a slot's row, on the device of a generation, is taken, and confirmed
+pub record Writes (slot generation row : ℕ) (block : Block) (old new : CoreView) : Type 0 where
+  pub token : ℕ
+  pub command : Command
   pub middle : CoreView
-  pub taken : Step old (Take_call (LossOf 1 0)) middle
-  pub told : Step middle (steps.Told (LossOf 1 0) (Ok Degraded)) new
+  pub taken : Step old (Take_command token command) middle
+  pub delivered : Step middle (Deliver token (Good block) Taken) new
+  pub is_write : command.transfer ≡ Store block
+  pub of_slot : command.slot ≡ slot
+  pub of_generation : command.generation ≡ generation
+  pub of_row : command.row ≡ row
+
+-- a call is taken, and told this answer
+pub record Tells (call : shards.Call) (answer : RegisterAnswer) (old new : CoreView) : Type 0 where
+  pub middle : CoreView
+  pub taken : Step old (Take_call call) middle
+  pub told : Step middle (steps.Told call (Ok answer)) new
 
 -- ---- one core
 
 -- A read of block 0 of the smallest array, whose device fails: its block stands on slot 1, the other data block of the row on
 -- slot 2 and P on slot 3. The core takes the slot out and reads the two others, its caller declares the loss, and after a
 -- look the read is answered with this block.
-abbrev pub RunsThroughLoss : (other parity block : Block) → CoreView → Type 0
-RunsThroughLoss other parity block core =
-    (device : Devices) (array : Array) → IsLawfulStart small (starting 0) device array → device 2 0 0 ≡ other → device 3 0 0 ≡ parity
-    → (failed second third : ℕ × Command)
-    × HasRun smallest (IsShard smallest) IsOfOutside (starting 0) device array
-    (of_core 0 (Submit (Read 0) 0
-    ∷ Take_command failed.0 failed.1 ∷ Deliver failed.0 Error Taken
-    ∷ Take_call (LossOf 1 0) ∷ steps.Told (LossOf 1 0) (Ok Degraded)
-    ∷ Take_command second.0 second.1 ∷ Deliver second.0 (Good other) Taken
-    ∷ Take_command third.0 third.1 ∷ Deliver third.0 (Good parity) Taken
-    ∷ Look (without (starting 0) 1)
-    ∷ Take_reply 0 (Data block) ∷ []))
-    (λ n. core) (without (starting 0) 1)
+pub record RunsThroughLoss (other parity block : Block) (core : CoreView) : Type 0 where
+  pub runs : (device : Devices) (array : Array) → IsLawfulStart small (starting 0) device array → device 2 0 0 ≡ other → device 3 0 0 ≡ parity
+      → (failed second third : ℕ × Command)
+      × HasRun smallest (IsShard smallest) IsOfOutside (starting 0) device array
+      (of_core 0 (Submit (Read 0) 0
+      ∷ Take_command failed.0 failed.1 ∷ Deliver failed.0 Error Taken
+      ∷ Take_call (LossOf 1 0) ∷ steps.Told (LossOf 1 0) (Ok Degraded)
+      ∷ Take_command second.0 second.1 ∷ Deliver second.0 (Good other) Taken
+      ∷ Take_command third.0 third.1 ∷ Deliver third.0 (Good parity) Taken
+      ∷ Look (without (starting 0) 1)
+      ∷ Take_reply 0 (Data block) ∷ []))
+      (λ n. core) (without (starting 0) 1)
 
 -- ---- two cores
 
@@ -106,21 +118,42 @@ abbrev pub both : (first second : CoreView) → ℕ → CoreView
 both first second zero = first
 both first second (suc n) = second
 
+-- the loss of slot 1 is found by a read of block 0, and declared
+pub record FindsLoss (old new : CoreView) : Type 0 where
+  pub asking : CoreView
+  pub asked : Step old (Submit (Read 0) 0) asking
+  pub failing : CoreView
+  pub failed : Fails asking failing
+  pub declared : Tells (LossOf 1 0) Degraded failing new
+
+-- the loss is seen, and block 3 read by the two others of its row
+pub record ReadsAround (register : Snapshot) (other parity block : Block) (old new : CoreView) : Type 0 where
+  pub looking : CoreView
+  pub saw : Step old (Look register) looking
+  pub asking : CoreView
+  pub asked : Step looking (Submit (Read 3) 0) asking
+  pub half : CoreView
+  pub first : Reads 0 0 1 other asking half
+  pub whole : CoreView
+  pub second : Reads 2 0 1 parity half whole
+  pub seeing : CoreView
+  pub looked : Step whole (Look register) seeing
+  pub replied : Step seeing (Take_reply 0 (Data block)) new
+
 -- Two cores at one register. The first reads block 0, whose device answers an error on slot 1, and declares the loss. The
 -- second sees it at a look. Block 3 stands on the lost slot, in the second's row, whose other data block is on slot 0 and P
 -- on slot 2: those it reads, and after a look its read is answered with this block.
-abbrev pub RunsBesideLoss : (other parity block : Block) → (first second : CoreView) → Type 0
-RunsBesideLoss other parity block first second =
-    (device : Devices) (array : Array) → IsLawfulStart (layout_of two_shards) (starting 0) device array → device 0 0 1 ≡ other → device 2 0 1 ≡ parity
-    → (failed here there : ℕ × Command)
-    × HasRun two_shards (IsShard two_shards) IsOfOutside (starting 0) device array
-    (of_core 0 (Submit (Read 0) 0
-    ∷ Take_command failed.0 failed.1 ∷ Deliver failed.0 Error Taken
-    ∷ Take_call (LossOf 1 0) ∷ steps.Told (LossOf 1 0) (Ok Degraded) ∷ [])
-    ++ of_core 1 (Look (without (starting 0) 1)
-    ∷ Submit (Read 3) 0
-    ∷ Take_command here.0 here.1 ∷ Deliver here.0 (Good other) Taken
-    ∷ Take_command there.0 there.1 ∷ Deliver there.0 (Good parity) Taken
-    ∷ Look (without (starting 0) 1)
-    ∷ Take_reply 0 (Data block) ∷ []))
-    (both first second) (without (starting 0) 1)
+pub record RunsBesideLoss (other parity block : Block) (first second : CoreView) : Type 0 where
+  pub runs : (device : Devices) (array : Array) → IsLawfulStart (layout_of two_shards) (starting 0) device array → device 0 0 1 ≡ other → device 2 0 1 ≡ parity
+      → (failed here there : ℕ × Command)
+      × HasRun two_shards (IsShard two_shards) IsOfOutside (starting 0) device array
+      (of_core 0 (Submit (Read 0) 0
+      ∷ Take_command failed.0 failed.1 ∷ Deliver failed.0 Error Taken
+      ∷ Take_call (LossOf 1 0) ∷ steps.Told (LossOf 1 0) (Ok Degraded) ∷ [])
+      ++ of_core 1 (Look (without (starting 0) 1)
+      ∷ Submit (Read 3) 0
+      ∷ Take_command here.0 here.1 ∷ Deliver here.0 (Good other) Taken
+      ∷ Take_command there.0 there.1 ∷ Deliver there.0 (Good parity) Taken
+      ∷ Look (without (starting 0) 1)
+      ∷ Take_reply 0 (Data block) ∷ []))
+      (both first second) (without (starting 0) 1)

@@ -2,8 +2,10 @@
 
 ghost use Rattle.std.specs.Prelude.{IfSome};
 ghost use Rattle.r6_world.specs.PlainArray.{Read, Data};
+ghost use Rattle.r6_world.specs.Registers.{Degraded};
+ghost use Rattle.r6_world.specs.ShardStates.{LossOf};
 ghost use Rattle.r6_world.specs.Steps.{Submit, Take_reply};
-ghost use Rattle.r6_core.specs.Courses.{Fails, Reads, Declares, RunsThroughLoss, RunsBesideLoss};
+ghost use Rattle.r6_core.specs.Courses.{Fails, Reads, Tells, FindsLoss, ReadsAround, RunsThroughLoss, RunsBesideLoss};
 ghost use Rattle.r6_core.specs.Shards.{Step};
 
 use crate::call::Call;
@@ -37,8 +39,8 @@ pub fn read_through_a_loss(
     submit_read(&mut core, 0, room)?;
     fail_command(&mut core)?;
     declare_loss(&mut core)?;
-    answer_read(&mut core, 2, 0, other)?;
-    answer_read(&mut core, 3, 0, parity)?;
+    answer_read(&mut core, 2, 0, 0, other)?;
+    answer_read(&mut core, 3, 0, 0, parity)?;
     core.look(&register.lose(1)).ok()?;
     let block = take_block(&mut core)?;
     Some((core, block))
@@ -64,21 +66,40 @@ pub fn read_beside_a_loss(
     let register = Snapshot::start(&geometry, 0);
     let mut first = Core::new(alloc, geometry, 0, 1, &register).ok()?;
     let mut second = Core::new(alloc, geometry, 1, 1, &register).ok()?;
-    submit_read(&mut first, 0, lost)?;
-    fail_command(&mut first)?;
-    declare_loss(&mut first)?;
-    let without = register.lose(1);
-    second.look(&without).ok()?;
-    submit_read(&mut second, 3, room)?;
-    answer_read(&mut second, 0, 1, other)?;
-    answer_read(&mut second, 2, 1, parity)?;
-    second.look(&without).ok()?;
-    let block = take_block(&mut second)?;
+    find_loss(&mut first, lost)?;
+    let block = read_around(&mut second, &register.lose(1), room, other, parity)?;
     Some((first, second, block))
 }
 
+// The core is handed a read of block 0, whose command is answered by an error, and the loss is declared.
+fn find_loss(core: &mut Core, room: Buffer) -> Option<()>
+    ensures { IfSome result (λ _. FindsLoss core.old core.new) }
+{
+    submit_read(core, 0, room)?;
+    fail_command(core)?;
+    declare_loss(core)
+}
+
+// The core sees the loss, and reads block 3 by the two others of its row.
+fn read_around(
+    core: &mut Core,
+    register: &Snapshot,
+    room: Buffer,
+    other: Buffer,
+    parity: Buffer,
+) -> Option<Buffer>
+    ensures { IfSome result (λ block. ReadsAround register.now other parity block core.old core.new) }
+{
+    core.look(register).ok()?;
+    submit_read(core, 3, room)?;
+    answer_read(core, 0, 0, 1, other)?;
+    answer_read(core, 2, 0, 1, parity)?;
+    core.look(register).ok()?;
+    take_block(core)
+}
+
 // The core's first request is the read of this block.
-fn submit_read(core: &mut Core, block: u64, room: Buffer) -> Option<()>
+pub(crate) fn submit_read(core: &mut Core, block: u64, room: Buffer) -> Option<()>
     ensures { IfSome result (λ _. Step core.old (Submit (Read block) 0) core.new) }
 {
     match core.submit(Op::Read(block, room)) {
@@ -102,12 +123,18 @@ fn fail_command(core: &mut Core) -> Option<()>
     }
 }
 
-// The next command is the read of this slot in this row, and is answered with this block.
-fn answer_read(core: &mut Core, slot: usize, row: u64, block: Buffer) -> Option<()>
-    ensures { IfSome result (λ _. Reads slot row block core.old core.new) }
+// The next command is the read of this slot in this row, from the device of this generation, and is answered with this block.
+pub(crate) fn answer_read(
+    core: &mut Core,
+    slot: usize,
+    generation: u32,
+    row: u64,
+    block: Buffer,
+) -> Option<()>
+    ensures { IfSome result (λ _. Reads slot generation row block core.old core.new) }
 {
     let command = core.take_command()?;
-    if command.slot != slot || command.generation != 0 || command.row != row {
+    if command.slot != slot || command.generation != generation || command.row != row {
         return None;
     }
     match command.kind {
@@ -121,7 +148,7 @@ fn answer_read(core: &mut Core, slot: usize, row: u64, block: Buffer) -> Option<
 }
 
 fn declare_loss(core: &mut Core) -> Option<()>
-    ensures { IfSome result (λ _. Declares core.old core.new) }
+    ensures { IfSome result (λ _. Tells (LossOf 1 0) Degraded core.old core.new) }
 {
     match core.take_call()? {
         Call::DeclareLost(1, 0) => {}
@@ -132,7 +159,7 @@ fn declare_loss(core: &mut Core) -> Option<()>
     Some(())
 }
 
-fn take_block(core: &mut Core) -> Option<Buffer>
+pub(crate) fn take_block(core: &mut Core) -> Option<Buffer>
     ensures { IfSome result (λ block. Step core.old (Take_reply 0 (Data block)) core.new) }
 {
     match core.take_reply()? {

@@ -19,6 +19,6 @@ returns-in-Taken c =
           (sym c.ok.ensures.value ∙ c.in_ok-ok.was) c.deliver.ensures.received);
       is_read = ap (λ kind. given_transfer kind command.buffer) c.in-Read.is;
       of_slot = c.if-command-slot.false;
-      of_generation = c.if-command-ne0.false;
+      of_generation = c.if-command-generation.false;
       of_row = c.if-command-row.false;
     }
