@@ -1,0 +1,6 @@
+pub mod Elements
+pub mod Rising
+pub mod Settled
+pub mod Sharing
+pub mod Tasks
+pub mod Totals

@@ -1,0 +1,24 @@
+//! The events of a run, as the types of its lists know them.
+
+ghost use Rattle.std.specs.Prelude.{List};
+ghost use Rattle.r6_layout.specs.Shape.{Shape};
+ghost use Rattle.r6_lists.specs.Events.{Event};
+
+use std::marker::Brand;
+use std::sync::ledger::Ledger;
+
+/// Which events of which array a ledger counts. A call picks them by `Brand`.
+pub trait Events: Ledger {
+    ghost shape: { Shape };
+
+    ghost events: { List Event };
+}
+
+impl Events for Brand {
+    ghost use Rattle.std.specs.Prelude.{[]};
+    ghost use Rattle.r6_layout.specs.Shape.{shape_of};
+
+    ghost shape = { shape_of 0 0 0 0 0 };
+
+    ghost events = { [] };
+}
