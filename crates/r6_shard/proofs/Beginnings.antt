@@ -1,0 +1,60 @@
+-- A shard's course begins.
+use Rattle.std.proofs.Common.{◌≡◌, ℕ, ◌<◌, ◌≤◌, List, [], ◌∷◌, length, Bool, false, inl, inr, refl, sym, ap, subst, ◌∙◌, Option, Some, None}
+use Rattle.r6_dev.specs.History.{Telling}
+use Rattle.r6_layout.specs.Shape.{Shape, IsShape}
+use Rattle.r6_health.specs.declared.history.View.{View}
+use Rattle.r6_health.specs.Histories.{held}
+use Rattle.r6_world.specs.PlainArray.{Array}
+use Rattle.r6_world.specs.Layouts.{Layout}
+use Rattle.r6_world.specs.Geometries.{layout_of}
+use Rattle.r6_world.specs.Registers.{Snapshot}
+use Rattle.r6_world.specs.ShardStates.{Shard}
+use Rattle.r6_world.specs.Worlds.{Devices, shard_at_start}
+use Rattle.r6_world.specs.Claims.{IsLawfulStart}
+use Rattle.r6_world.proofs.Geometries.{layouts}
+use Rattle.r6_world.proofs.Tables.{None-not_Some}
+use Rattle.r6_core.specs.Shards.{CoreView, world_shard}
+use Rattle.r6_core.specs.Effects.{IsMade}
+use Rattle.r6_course.specs.Courses.{Start, Follows, first_stand}
+use Rattle.r6_course.proofs.Calls.{courses_begin}
+use Rattle.r6_shard.specs.Beginnings.{IsFirstPass, start_of, Hold}
+use Rattle.r6_shard.specs.Kept.{AreNumbered, NoneIsTaken, NoneIsUntold, AreNamed, IsKept}
+use Rattle.r6_shard.specs.Courses.{stand_of, HasCourse}
+
+pub begun : (geometry : Shape) (number : ℕ) (snapshot : Snapshot) (device : Devices) (array : Array) (core : CoreView) (v : View)
+    (part : ℕ → ℕ → Option Telling) → IsShape geometry → number < geometry.shards → IsLawfulStart (layout_of geometry) snapshot device array
+    → Hold (start_of geometry number snapshot device array) part → IsMade geometry snapshot number core → IsFirstPass geometry snapshot v
+    → HasCourse (start_of geometry number snapshot device array) core v part [] [] []
+begun geometry number snapshot device array core v part limits below lawful hold made first =
+    let s = start_of geometry number snapshot device array in
+    let now : held v.start v.seen ≡ snapshot = ap (held v.start) first.seen ∙ first.began in
+    let y = courses_begin s part (λ slot generation telling there ok. hold slot generation telling there) in
+    record {
+      history = [];
+      tells = record { asked = refl; replied = refl; answered = refl; blocks = refl; linked = record {} };
+      course = record {
+        lawful = record { layout = layouts geometry limits; number = below; start = lawful };
+        layout = ap layout_of (sym made.geometry);
+        number = sym made.number;
+        pass = record { slots = first.slots; shards = first.shards; now = refl };
+        follows = record {
+          world = y.world;
+          reached = y.reached;
+          shard = y.shard ∙ sym made.start;
+          register = y.register ∙ sym now;
+          parts = y.parts;
+        };
+      };
+    }
+
+pub kept-at-start : (geometry : Shape) (number : ℕ) (snapshot : Snapshot) (core : CoreView) (named : List Bool) → IsShape geometry
+    → IsMade geometry snapshot number core → length named ≡ 32 → IsKept core number named 0
+kept-at-start geometry number snapshot core named limits made many = (
+  sym made.number,
+  subst (λ y. y ≤ 32) (ap (λ y. y.slots) (sym made.geometry)) limits.slots_allowed.1,
+  subst (λ (y : Shard). AreNumbered y 0) (sym made.start) (refl, λ id request e. absurd (None-not_Some request e)),
+  subst NoneIsTaken (sym made.start) (λ token c e. absurd (None-not_Some c e)),
+  subst NoneIsUntold (sym made.start) refl,
+  subst (λ (y : Shard). AreNamed y named) (sym made.start) (λ slot generation i. elim i [ inl none ↦ absurd none | inr e ↦ absurd (None-not_Some _ e) ]),
+  many,
+)

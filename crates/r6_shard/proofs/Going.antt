@@ -1,0 +1,156 @@
+-- The thread's lists and its course go on together.
+use Rattle.std.proofs.Common.{◌≡◌, ℕ, ◌+◌, ◌<◌, List, [], ◌∷◌, ◌++◌, length, map, get_or, refl, sym, ap, subst, ◌∙◌, arith, Option, Some, None, Result, Ok, Err, IfOk, IfErr}
+use Rattle.std.specs.Prelude.{MatchResult, slice_index_or, is_err, true}
+use Rattle.std.proofs.lemmas.Bool.{false≢true}
+use Rattle.std.proofs.lemmas.List.{length-map, map-append, get_or_append_left, length-append}
+use Rattle.r6_dev.specs.History.{Telling}
+use Rattle.r6_health.specs.declared.history.View.{View}
+use Rattle.r6_health.specs.Histories.{held}
+use Rattle.r6_health.specs.Views.{Looks, Answered}
+use Rattle.r6_world.specs.PlainArray as world
+use Rattle.r6_world.specs.PlainArray.{block_of}
+use Rattle.r6_world.specs.Registers.{Told as Answer}
+use Rattle.r6_world.specs.Steps as steps
+use Rattle.r6_world.specs.Steps.{Event, Submit, Deliver, Take_command, Take_call, Told, Take_reply}
+use Rattle.r6_world.specs.Worlds.{as_made}
+use Rattle.r6_frames.specs.Views.{world_command}
+use Rattle.r6_core.specs.declared.Command.{Command}
+use Rattle.r6_core.specs.declared.call.Call.{Call}
+use Rattle.r6_core.specs.declared.refusal.DeviceFault.{DeviceFault}
+use Rattle.r6_core.specs.Shards.{CoreView, Step, completion_of, call_of, reply_of}
+use Rattle.r6_course.specs.Courses.{Start, Mark, Asked, Replied, marked}
+use Rattle.r6_course.specs.Steps.{IsPlainCall}
+use Rattle.r6_shard.specs.declared.ledger.Asked.{Asked as Accepted}
+use Rattle.r6_shard.specs.declared.ledger.Entry.{Entry}
+use Rattle.r6_shard.specs.Performing.{Performed, Failed}
+use Rattle.r6_shard.specs.Histories.{asked_in, replied_in, answered_before, numbered}
+use Rattle.r6_shard.specs.Courses.{Course, Tells, AreOf, HasCourse, replied_of}
+use Rattle.r6_shard.proofs.Histories.{asked-more, replied-same, before-more, numbered-more, asked-same, replied-more, before-same}
+use Rattle.r6_shard.proofs.Courses.{goes, performed, seen, told}
+
+pub has-gone : (s : Start) (old new : CoreView) (v : View) (part : ℕ → ℕ → Option Telling) (accepted : List Accepted) (entries : List Entry)
+    (ops : List world.Op) (event : Event) → IsPlainCall (held v.start v.seen) event → ((history : List Mark) → marked event history ≡ history)
+    → Step old event new → HasCourse s old v part accepted entries ops → HasCourse s new v part accepted entries ops
+has-gone s old new v part accepted entries ops event plain unmarked step x =
+    record {
+      history = x.history;
+      tells = x.tells;
+      course = subst (Course s new v part) (unmarked x.history) (goes s old new v part x.history event plain step x.course);
+    }
+
+pub has-performed : (s : Start) (old mid new : CoreView) (v : View) (part part' : ℕ → ℕ → Option Telling) (accepted : List Accepted)
+    (entries : List Entry) (ops : List world.Op) (c : Command) (frame : ℕ) (abandoned : Rattle.std.proofs.Common.Bool) (receipt : steps.Receipt)
+    (completion : Result (List ℕ) DeviceFault) → Step old (Take_command c.token (world_command frame abandoned c)) mid
+    → Step mid (Deliver c.token (completion_of completion) receipt) new → MatchResult completion (Performed part part' c) (Failed part part' c)
+    → HasCourse s old v part accepted entries ops → HasCourse s new v part' accepted entries ops
+has-performed s old mid new v part part' accepted entries ops c frame abandoned receipt completion takes delivers did x =
+    record {
+      history = x.history;
+      tells = x.tells;
+      course = performed s old mid new v part part' x.history c frame abandoned receipt completion takes delivers did x.course;
+    }
+
+pub has-seen : (s : Start) (core : CoreView) (v w : View) (part : ℕ → ℕ → Option Telling) (accepted : List Accepted) (entries : List Entry)
+    (ops : List world.Op) → Looks v w → HasCourse s core v part accepted entries ops → HasCourse s core w part accepted entries ops
+has-seen s core v w part accepted entries ops look x =
+    record { history = x.history; tells = x.tells; course = seen s core v w part x.history look x.course }
+
+pub has-told : (s : Start) (old mid new : CoreView) (v w : View) (part : ℕ → ℕ → Option Telling) (accepted : List Accepted)
+    (entries : List Entry) (ops : List world.Op) (number : ℕ) (call : Call) (answer : Answer) → number ≡ old.shard
+    → Step old (Take_call (call_of call)) mid → Step mid (Told (call_of call) answer) new
+    → Answered v (as_made number (call_of call)) answer w
+    → HasCourse s old v part accepted entries ops → HasCourse s new w part accepted entries ops
+has-told s old mid new v w part accepted entries ops number call answer same takes tells answered x =
+    record {
+      history = x.history;
+      tells = x.tells;
+      course = told s old mid new v w part x.history number call answer same takes tells answered x.course;
+    }
+
+-- ---- requests and replies
+
+as-many : (accepted : List Accepted) (ops : List world.Op) → map (λ (a : Accepted). a.block) accepted ≡ map block_of ops → length ops ≡ length accepted
+as-many accepted ops e =
+    sym (length-map ops block_of) ∙ ap length (sym e) ∙ length-map accepted (λ (a : Accepted). a.block)
+
+longer : (f : Accepted → ℕ) (accepted : List Accepted) (a : Accepted) (at : ℕ) → at < length accepted
+    → slice_index_or (map f (accepted ++ a ∷ [])) at 0 ≡ slice_index_or (map f accepted) at 0
+longer f accepted a at below =
+    ap (λ xs. slice_index_or xs at 0) (map-append f accepted (a ∷ []))
+    ∙ get_or_append_left (map f accepted) (f a ∷ []) 0 at (subst (λ n. at < n) (sym (length-map accepted f)) below)
+
+linked-longer : (accepted : List Accepted) (a : Accepted) (entries : List Entry) → AreOf accepted entries → AreOf (accepted ++ a ∷ []) entries
+linked-longer accepted a [] x = record {}
+linked-longer accepted a (e ∷ entries) x = (
+  (let below = x.0 in let n = length-append accepted (a ∷ []) in omega arith),
+  longer (λ (b : Accepted). b.event) accepted a e.id.0 x.0 ∙ x.1,
+  longer (λ (b : Accepted). b.block) accepted a e.id.0 x.0 ∙ x.2,
+  linked-longer accepted a entries x.3,
+)
+
+linked-more : (accepted : List Accepted) (entries : List Entry) (e : Entry) → AreOf accepted entries → e.id.0 < length accepted
+    → slice_index_or (map (λ (a : Accepted). a.event) accepted) e.id.0 0 ≡ e.event
+    → slice_index_or (map (λ (a : Accepted). a.block) accepted) e.id.0 0 ≡ e.block
+    → AreOf accepted (entries ++ e ∷ [])
+linked-more accepted [] e x below event block = (below, event, block, record {})
+linked-more accepted (first ∷ entries) e x below event block = (x.0, x.1, x.2, linked-more accepted entries e x.3 below event block)
+
+pub has-submitted : (s : Start) (old new : CoreView) (v : View) (part : ℕ → ℕ → Option Telling) (accepted : List Accepted) (entries : List Entry)
+    (ops : List world.Op) (event : ℕ) (op : world.Op) (id : ℕ) → id ≡ length accepted → Step old (Submit op id) new
+    → HasCourse s old v part accepted entries ops
+    → HasCourse s new v part (accepted ++ record { event = event; block = block_of op; answered = length entries } ∷ []) entries (ops ++ op ∷ [])
+has-submitted s old new v part accepted entries ops event op id same step x =
+    let h = x.history in
+    let t = x.tells in
+    let a : Accepted = record { event = event; block = block_of op; answered = length entries } in
+    record {
+      history = h ++ Asked id op ∷ [];
+      tells = record {
+        asked = asked-more h id op ∙ ap (λ xs. xs ++ (id, op) ∷ []) t.asked
+            ∙ ap (λ (k : ℕ). numbered 0 ops ++ (k, op) ∷ []) (let n = as-many accepted ops t.blocks in omega arith) ∙ sym (numbered-more 0 ops op);
+        replied = replied-same h id op ∙ t.replied;
+        answered = before-more 0 h id op ∙ ap (λ xs. xs ++ (0 + length (replied_in h)) ∷ []) t.answered
+            ∙ ap (λ (k : ℕ). map (λ (b : Accepted). b.answered) accepted ++ k ∷ [])
+            (let n : length (replied_in h) ≡ length entries = ap length t.replied ∙ length-map entries replied_of in omega arith)
+            ∙ sym (map-append (λ (b : Accepted). b.answered) accepted (a ∷ []));
+        blocks = map-append (λ (b : Accepted). b.block) accepted (a ∷ []) ∙ ap (λ xs. xs ++ block_of op ∷ []) t.blocks
+            ∙ sym (map-append block_of ops (op ∷ []));
+        linked = linked-longer accepted a entries t.linked;
+      };
+      course = goes s old new v part h (Submit op id) (record {}) step x.course;
+    }
+
+pub has-collected : (s : Start) (old new : CoreView) (v : View) (part : ℕ → ℕ → Option Telling) (accepted : List Accepted) (entries : List Entry)
+    (ops : List world.Op) (e : Entry) → Step old (Take_reply e.id.0 (reply_of e.reply)) new → e.id.0 < length accepted
+    → slice_index_or (map (λ (a : Accepted). a.event) accepted) e.id.0 0 ≡ e.event
+    → slice_index_or (map (λ (a : Accepted). a.block) accepted) e.id.0 0 ≡ e.block
+    → HasCourse s old v part accepted entries ops → HasCourse s new v part accepted (entries ++ e ∷ []) ops
+has-collected s old new v part accepted entries ops e step below event block x =
+    let h = x.history in
+    let t = x.tells in
+    record {
+      history = h ++ Replied e.id.0 (reply_of e.reply) ∷ [];
+      tells = record {
+        asked = asked-same h e.id.0 (reply_of e.reply) ∙ t.asked;
+        replied = replied-more h e.id.0 (reply_of e.reply) ∙ ap (λ xs. xs ++ replied_of e ∷ []) t.replied
+            ∙ sym (map-append replied_of entries (e ∷ []));
+        answered = before-same 0 h e.id.0 (reply_of e.reply) ∙ t.answered;
+        blocks = t.blocks;
+        linked = linked-more accepted entries e t.linked below event block;
+      };
+      course = goes s old new v part h (Take_reply e.id.0 (reply_of e.reply)) (record {}) step x.course;
+    }
+
+-- ---- of a result
+
+pub either_way : {A E : Type 0} (r : Result A E) (P : A → Type 0) (Q : E → Type 0) (C : Type 0) → IfOk r P → IfErr r Q
+    → ((a : A) → P a → C) → ((e : E) → Q e → C) → C
+either_way (Ok a) P Q C p q on_ok on_err = on_ok a p
+either_way (Err e) P Q C p q on_ok on_err = on_err e q
+
+pub at_err : {A E : Type 0} (r : Result A E) (e : E) (Q : E → Type 0) → r ≡ Err e → IfErr r Q → Q e
+at_err r e Q is h = subst (λ y. IfErr y Q) is h
+
+pub refused_of : {A E : Type 0} (r : Result A E) (Q : E → Type 0) → is_err r ≡ true → IfErr r Q → (e : E) × Q e
+refused_of (Ok a) Q e h = absurd (false≢true e)
+refused_of (Err e) Q is h = (e, h)

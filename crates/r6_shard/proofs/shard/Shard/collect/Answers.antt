@@ -1,0 +1,38 @@
+use Rattle.std.proofs.Common.{◌≡◌, ℕ, ◌<◌, length, sym, ap, subst, ◌∙◌}
+use Rattle.std.proofs.lemmas.List.{get_or-map}
+use Rattle.r6_health.specs.Passes.{view_of}
+use Rattle.r6_world.specs.Steps.{No_reply, Take_reply}
+use Rattle.r6_core.specs.Shards.{reply_of}
+use Rattle.r6_shard.specs.declared.ledger.Asked.{Asked}
+use Rattle.r6_shard.specs.declared.ledger.Entry.{Entry}
+use Rattle.r6_shard.specs.Courses.{HasCourse}
+use Rattle.r6_shard.proofs.Keeping.{kept-plainly}
+use Rattle.r6_shard.proofs.Going.{has-collected}
+use Rattle.r6_shard.proofs.shard.Shard.collect.Goals as goal
+
+pub invariant_of-self-clause-kept : goal.invariant_of-self-clause-kept
+invariant_of-self-clause-kept g c =
+    let old = c.args.self.now in
+    kept-plainly old.core No_reply c.take_reply.new.self old.number old.named (length old.asked.items) (record {}) c.in_default.ensures.reply.step old.kept
+
+pub invariant_of-self-2-clause-kept : goal.invariant_of-self-2-clause-kept
+invariant_of-self-2-clause-kept g c =
+    let old = c.args.self.now in
+    kept-plainly old.core (Take_reply c.in-Some.id.0 (reply_of c.in-Some.reply)) c.take_reply.new.self old.number old.named
+    (length old.asked.items) (record {}) c.in-Some.ensures.reply.step old.kept
+
+pub returns-clause-course : goal.returns-clause-course
+returns-clause-course g c = λ s ops x.
+    let old = c.args.self.now in
+    let new = c.take_reply.new.self in
+    let part = g.P.Performs.tells old.parts in
+    let v = view_of old.pass in
+    let step = c.in-Some.ensures.reply.step in
+    let id = c.in-Some.id.0 in
+    let asked = c.index-asked.result.now in
+    let entry : Entry = record { event = asked.event; id = c.in-Some.id; block = asked.block; reply = c.in-Some.reply } in
+    let below : id < length old.asked.items = old.kept.2.1 id _ step.1.1 in
+    subst (λ z. HasCourse s new v part old.asked.items z ops) (sym c.push_reserved.ensures.items)
+    (has-collected s old.core new v part old.asked.items old.entries.items ops entry step below
+    (get_or-map (λ (a : Asked). a.event) old.asked.items id _ 0 below ∙ ap (λ (a : Asked). a.event) (sym c.index-asked.ensures))
+    (get_or-map (λ (a : Asked). a.block) old.asked.items id _ 0 below ∙ ap (λ (a : Asked). a.block) (sym c.index-asked.ensures)) x)

@@ -1,0 +1,45 @@
+use Rattle.std.proofs.Common.{◌≡◌, ℕ, ◌+◌, length, refl, sym, ap, subst, ◌∙◌}
+use Rattle.r6_health.specs.Passes.{view_of}
+use Rattle.r6_world.specs.PlainArray as world
+use Rattle.r6_world.specs.Steps.{Look}
+use Rattle.r6_core.specs.Shards.{CoreView}
+use Rattle.r6_core.specs.Effects.{LooksAt, RefusesLook}
+use Rattle.r6_shard.specs.Kept.{IsKept}
+use Rattle.r6_shard.specs.Courses.{HasCourse}
+use Rattle.r6_shard.proofs.Keeping.{kept-plainly}
+use Rattle.r6_shard.proofs.Going.{has-gone, has-seen, either_way}
+use Rattle.r6_shard.proofs.shard.Shard.look.Goals as goal
+
+pub invariant_of-self-clause-kept : goal.invariant_of-self-clause-kept
+invariant_of-self-clause-kept g c =
+    let old = c.args.self.now in
+    let new = c.look.new.self in
+    let snapshot = c.read-snapshot.result in
+    either_way c.look.result (λ _. LooksAt old.core snapshot new) (λ refusal. RefusesLook old.core refusal new)
+    (IsKept new old.number old.named (length old.asked.items)) c.look.ensures.looked c.look.ensures.refused
+    (λ _ looked. kept-plainly old.core (Look snapshot) new old.number old.named (length old.asked.items) (record {}) looked.step old.kept)
+    (λ refusal refused. subst (λ y. IsKept y old.number old.named (length old.asked.items)) (sym refused.same) old.kept)
+
+pub invariant_of-self-clause-counted : goal.invariant_of-self-clause-counted
+invariant_of-self-clause-counted g c =
+    let old = c.args.self.now in
+    let new = c.look.new.self in
+    let snapshot = c.read-snapshot.result in
+    either_way c.look.result (λ _. LooksAt old.core snapshot new) (λ refusal. RefusesLook old.core refusal new)
+    (new.unanswered + length old.entries.items ≡ length old.asked.items) c.look.ensures.looked c.look.ensures.refused
+    (λ _ looked. ap (λ y. y + length old.entries.items) looked.unanswered ∙ old.counted)
+    (λ refusal refused. ap (λ (y : CoreView). y.unanswered + length old.entries.items) refused.same ∙ old.counted)
+
+pub returns-clause-course : goal.returns-clause-course
+returns-clause-course g c = λ s ops x.
+    let old = c.args.self.now in
+    let new = c.look.new.self in
+    let part = g.P.Performs.tells old.parts in
+    let w = view_of c.read-snapshot.new.pass in
+    let snapshot = c.read-snapshot.result in
+    let y = has-seen s old.core (view_of old.pass) w part old.asked.items old.entries.items ops c.read-snapshot.ensures.looks x in
+    either_way c.look.result (λ _. LooksAt old.core snapshot new) (λ refusal. RefusesLook old.core refusal new)
+    (HasCourse s new w part old.asked.items old.entries.items ops) c.look.ensures.looked c.look.ensures.refused
+    (λ _ looked.
+    has-gone s old.core new w part old.asked.items old.entries.items ops (Look snapshot) c.read-snapshot.ensures.snapshot (λ history. refl) looked.step y)
+    (λ refusal refused. subst (λ z. HasCourse s z w part old.asked.items old.entries.items ops) (sym refused.same) y)

@@ -1,0 +1,18 @@
+use Rattle.std.proofs.Common.{[], sym, subst}
+use Rattle.r6_health.specs.Passes.{view_of}
+use Rattle.r6_shard.specs.Beginnings.{start_of}
+use Rattle.r6_shard.specs.Courses.{HasCourse}
+use Rattle.r6_shard.proofs.Beginnings.{begun}
+use Rattle.r6_shard.proofs.shard.Shard.new.Goals as goal
+
+pub returns-clause-begins : goal.returns-clause-begins
+returns-clause-begins g c = λ device array lawful hold.
+    let place = c.args.place in
+    let snapshot = c.args.snapshot.now in
+    let core = c.in-Ok.core in
+    let v = view_of c.args.pass in
+    let part = g.P.Performs.tells c.args.parts in
+    let s = start_of place.geometry place.number snapshot device array in
+    subst (λ y. HasCourse s core v part y c.in_ok-entries.entries.items []) (sym c.in_ok-asked.ensures.items)
+    (subst (λ y. HasCourse s core v part [] y []) (sym c.in_ok-entries.ensures.items)
+    (begun place.geometry place.number snapshot device array core v part c.requires.limits c.requires.number lawful hold c.in-Ok.ensures.made c.requires.pass))

@@ -1,0 +1,51 @@
+use Rattle.std.proofs.Common.{◌≡◌, ℕ, ◌<◌, length, sym, subst, arith}
+use Rattle.r6_world.specs.Steps.{No_command}
+use Rattle.r6_frames.specs.Views.{world_command}
+use Rattle.r6_core.specs.Shards.{core_layout, world_shard, receipt_of}
+use Rattle.r6_health.specs.Passes.{view_of}
+use Rattle.r6_shard.specs.Kept.{IsKept}
+use Rattle.r6_shard.proofs.Steps.{none-out}
+use Rattle.r6_shard.proofs.Keeping.{kept-plainly, kept-performing}
+use Rattle.r6_shard.proofs.Courses.{not-refused}
+use Rattle.r6_shard.proofs.Going.{has-gone, has-performed, at_err}
+use Rattle.r6_shard.proofs.shard.Shard.perform_next.Goals as goal
+
+pub invariant_of-self-clause-kept : goal.invariant_of-self-clause-kept
+invariant_of-self-clause-kept g c =
+    let old = c.args.self.now in
+    kept-plainly old.core No_command c.take_command.new.self old.number old.named (length old.asked.items) (record {}) c.in_default.ensures.step old.kept
+
+pub returns-in_default-clause-none : goal.returns-in_default-clause-none
+returns-in_default-clause-none g c = λ e.
+    let old = c.args.self.now in
+    none-out (core_layout old.core) old.core.shard (world_shard old.core) (world_shard c.take_command.new.self) c.in_default.ensures.step.1 old.kept.3
+
+pub unreachable-requires : goal.unreachable-requires
+unreachable-requires g c =
+    let tells = g.P.Performs.tells in
+    let old = c.args.self.now in
+    let t = c.in-Some.ensures.step in
+    let refused = at_err c.deliver.result c.in_default-deliver.field-0 _ c.in_default-deliver.is c.deliver.ensures.refused in
+    not-refused old.core c.take_command.new.self (tells old.parts) (tells c.perform-completion.new.self) c.in-Some.command t.0 t.1
+    c.perform-completion.result c.in_default-deliver.field-0.refusal t.2 c.in-Some.ensures.there c.perform-completion.ensures refused.fault
+
+pub invariant_of-self-2-clause-kept : goal.invariant_of-self-2-clause-kept
+invariant_of-self-2-clause-kept g c =
+    let old = c.args.self.now in
+    let new = c.deliver.new.self in
+    let command = c.in-Some.command in
+    let t = c.in-Some.ensures.step in
+    let below : command.slot < 32 = let some = c.in-Some.ensures.there.slot in let few = old.kept.1 in omega arith in
+    subst (λ y. IsKept new old.number y (length old.asked.items)) (sym c.name.ensures)
+    (kept-performing old.core c.take_command.new.self new command.token (world_command t.0 t.1 command) c.perform-completion.result
+    c.in-Ok.receipt old.number old.named (length old.asked.items) t.2 c.in-Ok.ensures.received.step below c.is_err-failed.result
+    c.is_err-failed.ensures.value old.kept)
+
+pub returns-clause-course : goal.returns-clause-course
+returns-clause-course g c = λ s ops x.
+    let tells = g.P.Performs.tells in
+    let old = c.args.self.now in
+    let t = c.in-Some.ensures.step in
+    has-performed s old.core c.take_command.new.self c.deliver.new.self (view_of old.pass) (tells old.parts) (tells c.perform-completion.new.self)
+    old.asked.items old.entries.items ops c.in-Some.command t.0 t.1 (receipt_of c.in-Ok.receipt) c.perform-completion.result
+    t.2 c.in-Ok.ensures.received.step c.perform-completion.ensures x

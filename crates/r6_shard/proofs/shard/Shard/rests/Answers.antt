@@ -1,0 +1,30 @@
+use Rattle.std.proofs.Common.{◌≡◌, length, vec_len, sym, ap, subst, ◌∙◌, rules, arith}
+use Rattle.r6_core.specs.declared.turn.Task.TheVariants as task
+use Rattle.r6_core.specs.Shards.{CoreView, world_shard}
+use Rattle.r6_core.specs.Effects.{HasTaskFault, RefusesTurn}
+use Rattle.r6_core.specs.Refusals.{IsFirstFault, turn_faults}
+use Rattle.r6_shard.specs.Kept.{NoneIsOut, NoneIsToTell}
+use Rattle.r6_shard.proofs.Going.{refused_of}
+use Rattle.r6_shard.proofs.shard.Shard.rests.Goals as goal
+
+pub returns-clause-rests : goal.returns-clause-rests
+returns-clause-rests g c = λ e.
+    let old = c.args.self.now in
+    let performed = c.perform_next.new.self in
+    let told = c.tell_next.new.self in
+    let new = c.turn.new.self in
+    let none = c.tell_next.ensures.none c.if-tell_next.false in
+    let refused = refused_of c.turn.result (λ refusal. RefusesTurn told.core task.Rebuild refusal new.core) (sym c.is_err.ensures.value ∙ e) c.turn.ensures.refused in
+    let entries : vec_len old.entries ≡ length old.entries.items = search rules in
+    let asked : vec_len old.asked ≡ length old.asked.items = search rules in
+    let here : length old.entries.items ≡ length old.asked.items = omega (arith, c.if-len.false, c.len.ensures, c.len-2.ensures, entries, asked) in
+    record {
+      answered =
+          ap length (c.turn.ensures.ledger.entries ∙ c.tell_next.ensures.ledger.entries ∙ c.perform_next.ensures.ledger.entries) ∙ here
+          ∙ sym (ap length (c.turn.ensures.ledger.asked ∙ c.tell_next.ensures.ledger.asked ∙ c.perform_next.ensures.ledger.asked));
+      none_out = subst (λ (y : CoreView). NoneIsOut (world_shard y)) (sym refused.1.same)
+          (subst NoneIsOut (sym none.0) (c.perform_next.ensures.none c.if-perform_next.false));
+      none_to_tell = subst (λ (y : CoreView). NoneIsToTell (world_shard y)) (sym refused.1.same) none.1;
+      refusal = refused.0;
+      none_to_rebuild = subst (λ (y : CoreView). IsFirstFault (HasTaskFault y task.Rebuild) turn_faults refused.0) (sym refused.1.same) refused.1.fault;
+    }

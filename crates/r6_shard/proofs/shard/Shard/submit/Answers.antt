@@ -1,0 +1,60 @@
+use Rattle.std.proofs.Common.{◌≡◌, ◌+◌, ℕ, ◌++◌, ◌∷◌, [], length, vec_len, subst, sym, ap, refl, ◌∙◌, rules}
+use Rattle.std.proofs.lemmas.List.{length-append}
+use Rattle.r6_health.specs.Passes.{view_of}
+use Rattle.r6_frames.specs.Views.{op_of}
+use Rattle.r6_world.specs.PlainArray.{block_of}
+use Rattle.r6_core.specs.Shards.{CoreView, core_layout, world_shard}
+use Rattle.r6_shard.specs.declared.ledger.Asked.{Asked}
+use Rattle.r6_shard.specs.Kept.{IsKept}
+use Rattle.r6_shard.specs.Courses.{HasCourse}
+use Rattle.r6_shard.proofs.Steps.{one-more}
+use Rattle.r6_shard.proofs.Keeping.{kept-submitting}
+use Rattle.r6_shard.proofs.Going.{has-submitted}
+use Rattle.r6_shard.proofs.shard.Shard.submit.Goals as goal
+
+pub invariant_of-self-clause-kept : goal.invariant_of-self-clause-kept
+invariant_of-self-clause-kept g c =
+    let old = c.args.self.now in
+    subst (IsKept c.submit.new.self old.number old.named)
+    (sym (ap length c.push_reserved.ensures.items ∙ length-append old.asked.items (record { event = c.args.event; block = c.block-block.result; answered = c.len-answered.result } ∷ [])))
+    (kept-submitting old.core (op_of c.args.op) c.in-Ok.id.0 c.submit.new.self old.number old.named (length old.asked.items) c.in-Ok.ensures.accepted.step old.kept)
+
+pub invariant_of-self-in-Err-1 : goal.invariant_of-self-in-Err-1
+invariant_of-self-in-Err-1 g c =
+    let old = c.args.self.now in
+    let same = c.in-Err.ensures.refused.same in
+    record {
+      kept = subst (λ y. IsKept y old.number old.named (length old.asked.items)) (sym same) old.kept;
+      counted = ap (λ (y : CoreView). y.unanswered + length old.entries.items) same ∙ old.counted;
+      within = old.within;
+      asked_room = old.asked_room;
+      entries_room = old.entries_room;
+    }
+
+pub returns-in-Ok-clause-accepted : goal.returns-in-Ok-clause-accepted
+returns-in-Ok-clause-accepted g c =
+    let old = c.args.self.now in
+    let op = c.args.op in
+    let new = c.submit.new.self in
+    let id = c.in-Ok.id.0 in
+    let step = c.in-Ok.ensures.accepted.step in
+    let part = g.P.Performs.tells old.parts in
+    let v = view_of old.pass in
+    let number : id ≡ length old.asked.items =
+    (one-more (core_layout old.core) old.core.shard (world_shard old.core) (world_shard new) (op_of op) id (length old.asked.items) step.1 old.kept.2).0 in
+    let many : vec_len old.entries ≡ length old.entries.items = search rules in
+    let asked : c.push_reserved.new.self.items
+    ≡ old.asked.items ++ record { event = c.args.event; block = block_of (op_of op); answered = length old.entries.items } ∷ [] =
+    c.push_reserved.ensures.items
+    ∙ ap (λ (b : ℕ). old.asked.items ++ record { event = c.args.event; block = b; answered = c.len-answered.result } ∷ []) c.block-block.ensures
+    ∙ ap (λ (n : ℕ). old.asked.items ++ record { event = c.args.event; block = block_of (op_of op); answered = n } ∷ []) (c.len-answered.ensures ∙ many) in
+    record {
+      course = λ s ops x.
+          subst (λ z. HasCourse s new v part z old.entries.items (ops ++ op_of op ∷ [])) (sym asked)
+          (has-submitted s old.core new v part old.asked.items old.entries.items ops c.args.event (op_of op) id number step x);
+      number = number;
+      asked = asked;
+      entries = refl;
+      room = refl;
+      pass = refl;
+    }

@@ -1,0 +1,35 @@
+use Rattle.std.proofs.Common.{length, ap}
+use Rattle.r6_world.specs.ShardStates.{Shard}
+use Rattle.r6_core.specs.Effects.{Hears, RefusesAnswer}
+use Rattle.r6_shard.specs.Kept.{IsKept}
+use Rattle.r6_health.specs.Passes.{view_of}
+use Rattle.r6_world.specs.Steps.{No_call}
+use Rattle.r6_core.specs.Shards.{call_of}
+use Rattle.r6_shard.proofs.Keeping.{kept-plainly, kept-telling}
+use Rattle.r6_shard.proofs.Going.{has-told, either_way}
+use Rattle.r6_shard.proofs.shard.Shard.tell_next.Goals as goal
+
+pub invariant_of-self-clause-kept : goal.invariant_of-self-clause-kept
+invariant_of-self-clause-kept g c =
+    let old = c.args.self.now in
+    kept-plainly old.core No_call c.take_call.new.self old.number old.named (length old.asked.items) (record {}) c.in_default.ensures.step old.kept
+
+pub invariant_of-self-2-clause-kept : goal.invariant_of-self-2-clause-kept
+invariant_of-self-2-clause-kept g c =
+    let old = c.args.self.now in
+    let mid = c.take_call.new.self in
+    let new = c.told.new.self in
+    let call = c.in-Some.call in
+    let answer = c.make-answer.result in
+    let takes = c.in-Some.ensures.step in
+    either_way c.told.result (λ _. Hears mid call answer new) (λ refusal. RefusesAnswer mid call refusal new)
+    (IsKept new old.number old.named (length old.asked.items)) c.told.ensures.heard c.told.ensures.refused
+    (λ _ heard. kept-telling old.core mid new (call_of call) answer old.number old.named (length old.asked.items) takes heard.step old.kept)
+    (λ refusal refused. absurd (refused.unknown (ap (λ (y : Shard). y.untold) takes.1.2)))
+
+pub returns-clause-course : goal.returns-clause-course
+returns-clause-course g c = λ s ops x.
+    let old = c.args.self.now in
+    has-told s old.core c.take_call.new.self c.told.new.self (view_of old.pass) (view_of c.make-answer.new.pass) (g.P.Performs.tells old.parts)
+    old.asked.items old.entries.items ops old.number c.in-Some.call c.make-answer.result old.kept.0 c.in-Some.ensures.step
+    c.in-Ok.ensures.heard.step c.make-answer.ensures.answered x

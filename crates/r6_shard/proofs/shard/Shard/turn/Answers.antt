@@ -1,0 +1,46 @@
+use Rattle.std.proofs.Common.{◌≡◌, ℕ, ◌+◌, length, refl, sym, ap, subst, ◌∙◌}
+use Rattle.r6_health.specs.Passes.{view_of}
+use Rattle.r6_health.specs.Histories.{held}
+use Rattle.r6_core.specs.Shards.{CoreView}
+use Rattle.r6_core.specs.Effects.{Turns, RefusesTurn}
+use Rattle.r6_shard.specs.Kept.{IsKept}
+use Rattle.r6_shard.specs.Courses.{HasCourse}
+use Rattle.r6_shard.proofs.Keeping.{kept-plainly, turned}
+use Rattle.r6_shard.proofs.Going.{has-gone, either_way}
+use Rattle.r6_shard.proofs.shard.Shard.turn.Goals as goal
+
+pub invariant_of-self-clause-kept : goal.invariant_of-self-clause-kept
+invariant_of-self-clause-kept g c =
+    let old = c.args.self.now in
+    let new = c.turn.new.self in
+    let task = c.args.task in
+    either_way c.turn.result (λ turn. Turns old.core task turn new) (λ refusal. RefusesTurn old.core task refusal new)
+    (IsKept new old.number old.named (length old.asked.items)) c.turn.ensures.turned c.turn.ensures.refused
+    (λ turn t.
+    let p = turned old.core task turn new t.taken in
+    kept-plainly old.core p.0 new old.number old.named (length old.asked.items) p.1 p.4 old.kept)
+    (λ refusal refused. subst (λ y. IsKept y old.number old.named (length old.asked.items)) (sym refused.same) old.kept)
+
+pub invariant_of-self-clause-counted : goal.invariant_of-self-clause-counted
+invariant_of-self-clause-counted g c =
+    let old = c.args.self.now in
+    let new = c.turn.new.self in
+    let task = c.args.task in
+    either_way c.turn.result (λ turn. Turns old.core task turn new) (λ refusal. RefusesTurn old.core task refusal new)
+    (new.unanswered + length old.entries.items ≡ length old.asked.items) c.turn.ensures.turned c.turn.ensures.refused
+    (λ turn t. ap (λ y. y + length old.entries.items) t.unanswered ∙ old.counted)
+    (λ refusal refused. ap (λ (y : CoreView). y.unanswered + length old.entries.items) refused.same ∙ old.counted)
+
+pub returns-clause-course : goal.returns-clause-course
+returns-clause-course g c = λ s ops x.
+    let old = c.args.self.now in
+    let new = c.turn.new.self in
+    let task = c.args.task in
+    let part = g.P.Performs.tells old.parts in
+    let v = view_of old.pass in
+    either_way c.turn.result (λ turn. Turns old.core task turn new) (λ refusal. RefusesTurn old.core task refusal new)
+    (HasCourse s new v part old.asked.items old.entries.items ops) c.turn.ensures.turned c.turn.ensures.refused
+    (λ turn t.
+    let p = turned old.core task turn new t.taken in
+    has-gone s old.core new v part old.asked.items old.entries.items ops p.0 (p.2 (held v.start v.seen)) p.3 p.4 x)
+    (λ refusal refused. subst (λ z. HasCourse s z v part old.asked.items old.entries.items ops) (sym refused.same) x)

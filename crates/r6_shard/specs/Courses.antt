@@ -1,0 +1,54 @@
+-- That all that a shard's thread did is a course of its shard.
+use Rattle.std.specs.Prelude.{◌≡◌, ℕ, ◌<◌, List, [], ◌∷◌, length, map, slice_index_or, Option}
+use Rattle.r6_dev.specs.History.{Telling}
+use Rattle.r6_health.specs.declared.history.View.{View}
+use Rattle.r6_health.specs.Histories.{held}
+use Rattle.r6_world.specs.PlainArray.{Op, Reply, block_of}
+use Rattle.r6_core.specs.Shards.{CoreView, core_layout, world_shard, reply_of}
+use Rattle.r6_course.specs.Courses.{Start, IsLawful, Mark, Stand, Follows}
+use Rattle.r6_course.specs.Steps.{Knows}
+use Rattle.r6_shard.specs.Histories.{asked_in, replied_in, answered_before, numbered}
+use Rattle.r6_shard.specs.declared.ledger.Asked.{Asked as Accepted}
+use Rattle.r6_shard.specs.declared.ledger.Entry.{Entry}
+
+-- where a core stands with its parts, beside a register that its pass has seen so far
+abbrev pub stand_of : CoreView → View → (ℕ → ℕ → Option Telling) → List Mark → Stand
+stand_of core v part history =
+    record { shard = world_shard core; register = held v.start v.seen; part = part; history = history }
+
+-- a run from this start leads there
+pub record Course (s : Start) (core : CoreView) (v : View) (part : ℕ → ℕ → Option Telling) (history : List Mark) : Type 0 where
+  pub lawful : IsLawful s
+  pub layout : s.layout ≡ core_layout core
+  pub number : s.number ≡ core.shard
+  pub pass : Knows s v (held v.start v.seen)
+  pub follows : Follows s (stand_of core v part history)
+
+-- ---- the history, as the thread's lists tell it
+
+abbrev pub replied_of : Entry → ℕ × Reply
+replied_of e = (e.id.0, reply_of e.reply)
+
+-- each entry is of one of the requests, by its number
+abbrev pub AreOf : List Accepted → List Entry → Type 0
+AreOf accepted [] = record {}
+AreOf accepted (e ∷ entries) =
+    (e.id.0 < length accepted)
+    × (slice_index_or (map (λ a. a.event) accepted) e.id.0 0 ≡ e.event)
+    × (slice_index_or (map (λ a. a.block) accepted) e.id.0 0 ≡ e.block)
+    × AreOf accepted entries
+
+-- the thread's lists tell a history in which these ops were handed in, in this order
+pub record Tells (accepted : List Accepted) (entries : List Entry) (ops : List Op) (history : List Mark) : Type 0 where
+  pub asked : asked_in history ≡ numbered 0 ops
+  pub replied : replied_in history ≡ map replied_of entries
+  pub answered : answered_before 0 history ≡ map (λ a. a.answered) accepted
+  pub blocks : map (λ a. a.block) accepted ≡ map block_of ops
+  pub linked : AreOf accepted entries
+
+-- A course of the shard with such a history
+pub record HasCourse (s : Start) (core : CoreView) (v : View) (part : ℕ → ℕ → Option Telling) (accepted : List Accepted)
+    (entries : List Entry) (ops : List Op) : Type 0 where
+  pub history : List Mark
+  pub tells : Tells accepted entries ops history
+  pub course : Course s core v part history

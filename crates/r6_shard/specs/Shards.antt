@@ -1,0 +1,69 @@
+-- What calls of a shard's thread do.
+use Rattle.std.specs.Prelude.{◌≡◌, ℕ, ◌+◌, ◌<◌, List, [], ◌∷◌, ◌++◌, Bool, true, false, length, Option, Some}
+use Rattle.r6_dev.specs.History.{Telling}
+use Rattle.r6_layout.specs.Shape.{Shape}
+use Rattle.r6_health.specs.declared.history.View.{View}
+use Rattle.r6_health.specs.Passes.{view_of}
+use Rattle.r6_world.specs.Geometries.{layout_of}
+use Rattle.r6_world.specs.PlainArray as world
+use Rattle.r6_world.specs.Registers.{Snapshot}
+use Rattle.r6_world.specs.Worlds.{Devices}
+use Rattle.r6_world.specs.Claims.{IsLawfulStart}
+use Rattle.r6_frames.specs.Views.{op_of}
+use Rattle.r6_core.specs.declared.Op.{Op}
+use Rattle.r6_core.specs.Shards.{world_shard}
+use Rattle.r6_core.specs.declared.refusal.Refusal.{Refusal}
+use Rattle.r6_core.specs.declared.turn.Task.TheVariants as task
+use Rattle.r6_core.specs.Refusals.{IsFirstFault, turn_faults}
+use Rattle.r6_core.specs.Effects.{HasTaskFault}
+use Rattle.r6_course.specs.Courses.{Start}
+use Rattle.r6_shard.specs.Beginnings.{Hold, start_of}
+use Rattle.r6_shard.specs.declared.shard.Shard.{Shard}
+use Rattle.r6_shard.specs.declared.ledger.Entry.{Entry}
+use Rattle.r6_shard.specs.Courses.{HasCourse}
+use Rattle.r6_shard.specs.Kept.{NoneIsOut, NoneIsToTell}
+
+-- the shard has had a course from this start, in which these ops were handed in, in this order
+abbrev pub CourseOf : {P : Type 0} → (P → ℕ → ℕ → Option Telling) → Start → List world.Op → Shard P → Type 0
+CourseOf tells s ops shard =
+    HasCourse s shard.core (view_of shard.pass) (tells shard.parts) shard.asked.items shard.entries.items ops
+
+-- whatever its course was, it has gone on
+abbrev pub GoesOn : {P : Type 0} → (P → ℕ → ℕ → Option Telling) → Shard P → Shard P → Type 0
+GoesOn tells old new = (s : Start) (ops : List world.Op) → CourseOf tells s ops old → CourseOf tells s ops new
+
+-- its ledger is as it was
+pub record SameLedger {P : Type 0} (old new : Shard P) : Type 0 where
+  pub asked : new.asked.items ≡ old.asked.items
+  pub entries : new.entries.items ≡ old.entries.items
+  pub room : new.room ≡ old.room
+
+-- a request of an event was handed in
+pub record Submits {P : Type 0} (tells : P → ℕ → ℕ → Option Telling) (event : ℕ) (op : Op) (old : Shard P) (id : ℕ) (new : Shard P) : Type 0 where
+  pub course : (s : Start) (ops : List world.Op) → CourseOf tells s ops old → CourseOf tells s (ops ++ op_of op ∷ []) new
+  pub number : id ≡ length old.asked.items
+  pub asked : new.asked.items
+      ≡ old.asked.items ++ record { event = event; block = world.block_of (op_of op); answered = length old.entries.items } ∷ []
+  pub entries : new.entries.items ≡ old.entries.items
+  pub room : new.room ≡ old.room
+  pub pass : new.pass ≡ old.pass
+
+-- a reply was taken, or none was there
+abbrev pub Collects : {P : Type 0} → Bool → Shard P → Shard P → Type 0
+Collects true old new = (entry : Entry) × (new.entries.items ≡ old.entries.items ++ entry ∷ [])
+Collects false old new = new.entries.items ≡ old.entries.items
+
+-- from every lawful start whose devices hold what the parts tell, this is where a course of the shard begins
+abbrev pub Begins : {P : Type 0} → (P → ℕ → ℕ → Option Telling) → Shape → (number : ℕ) → Snapshot → Shard P → Type 0
+Begins tells geometry number snapshot shard =
+    (device : Devices) (array : world.Array) → IsLawfulStart (layout_of geometry) snapshot device array
+    → Hold (start_of geometry number snapshot device array) (tells shard.parts)
+    → CourseOf tells (start_of geometry number snapshot device array) [] shard
+
+-- nothing is left to do: each request is answered, no command is out, no call is to be made, and no row is to be rebuilt
+pub record Rests {P : Type 0} (shard : Shard P) : Type 0 where
+  pub answered : length shard.entries.items ≡ length shard.asked.items
+  pub none_out : NoneIsOut (world_shard shard.core)
+  pub none_to_tell : NoneIsToTell (world_shard shard.core)
+  pub refusal : Refusal
+  pub none_to_rebuild : IsFirstFault (HasTaskFault shard.core task.Rebuild) turn_faults refusal

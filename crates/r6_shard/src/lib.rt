@@ -1,0 +1,16 @@
+//! One shard of an array in its thread: a core, the parts of the devices that serve its rows, a pass at the register,
+//! and the ledger of its requests.
+#![tactic(auto)]
+
+mod ledger;
+mod parts;
+mod performs;
+mod rounds;
+mod run;
+mod shard;
+
+pub use ledger::{Asked, Entry};
+pub use parts::{Part, Parts};
+pub use performs::Performs;
+pub use run::{Asking, Job, Served, serve};
+pub use shard::{Place, Shard};

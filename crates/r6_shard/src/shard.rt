@@ -1,0 +1,262 @@
+//! A shard in its thread.
+
+ghost use Rattle.std.specs.Prelude.{◌≡◌, ◌+◌, ◌<◌, ◌≤◌, ◌++◌, length, vec_capacity};
+ghost use Rattle.r6_health.specs.Passes.{view_of, IsPassOf};
+ghost use Rattle.r6_health.specs.Views.{Answered, made_by};
+ghost use Rattle.r6_world.specs.Worlds.{as_made};
+ghost use Rattle.r6_core.specs.Shards.{world_shard, call_of};
+ghost use Rattle.r6_shard.specs.Kept.{IsKept, named_by};
+
+use crate::ledger::{Asked, Entry};
+use crate::performs::Performs;
+use r6_core::{Call, Core, Op, OpId, Receipt, Refusal, Refused, Task, Turn};
+use r6_health::{Answer, Pass, Refusal as RegisterRefusal, Register, Snapshot};
+use r6_layout::Geometry;
+use std::alloc::{AllocError, Global};
+use std::sync::Wait;
+
+// No array has more.
+const MOST_SLOTS: usize = 32;
+
+/// Which shard of which array.
+#[derive(Clone, Copy, PartialEq, Eq, Debug)]
+pub struct Place {
+    pub geometry: Geometry,
+    pub number: usize,
+    /// Rows of a slot that may be rebuilt at one time, 1 to 8.
+    pub window: usize,
+}
+
+/// A shard of an array: its core, its parts of the devices, a pass at the array's register, and its ledger.
+///
+/// All room is made before the first command.
+#[derive(Drop)]
+pub struct Shard<P> {
+    pub core: Core,
+    /// Which shard of the array it is.
+    pub number: usize,
+    pub parts: P,
+    pub pass: Pass,
+    /// The requests that were accepted, by their numbers.
+    pub asked: Vec<Asked>,
+    /// In the order in which they were answered.
+    pub entries: Vec<Entry>,
+    /// As many requests may be accepted.
+    pub room: usize,
+    /// The slots of which a command that wasn't abandoned failed here.
+    pub named: [bool; MOST_SLOTS],
+    pub ghost kept: { IsKept core number named (length asked.items) },
+    pub ghost counted: { core.unanswered + length entries.items ≡ length asked.items },
+    pub ghost within: { length asked.items ≤ room },
+    pub ghost asked_room: { room ≤ vec_capacity asked },
+    pub ghost entries_room: { room ≤ vec_capacity entries },
+}
+
+// Makes a shard's call at the register.
+fn make<R: Wait>(
+    rt: &R,
+    number: usize,
+    register: &Register,
+    pass: &mut Pass,
+    call: Call,
+) -> Result<Answer, RegisterRefusal>
+    requires { IsPassOf register.now pass.old }
+    ensures pass { IsPassOf register.now pass.new }
+    ensures answered { Answered (view_of pass.old) (as_made number (call_of call)) result (view_of pass.new) }
+    ensures own { (view_of pass.new).mine
+        ≡ (view_of pass.old).mine ++ made_by (as_made number (call_of call)) result }
+{
+    match call {
+        Call::DeclareLost(slot, generation) => register.declare_lost(rt, pass, slot, generation),
+        Call::ReportRebuilt(slot, generation) => {
+            register.report_rebuilt(rt, pass, number, slot, generation)
+        }
+    }
+}
+
+// Names the slot of a command that failed and wasn't abandoned.
+fn name(named: &mut [bool; MOST_SLOTS], slot: usize, failed: bool, receipt: Receipt)
+    requires { slot < 32 }
+    ensures { named.new ≡ named_by failed receipt slot named.old }
+{
+    match receipt {
+        Receipt::Taken if failed => named[slot] = true,
+        _ => {}
+    }
+}
+
+impl<P: Performs + Drop> Shard<P> {
+    ghost use Rattle.std.specs.Prelude.{◌↔◌, false, [], IfOk, IfErr, IsTrue};
+    ghost use Rattle.r6_layout.specs.Shape.{IsShape};
+    ghost use Rattle.r6_shard.specs.Beginnings.{IsFirstPass};
+    ghost use Rattle.r6_core.specs.Effects.{RefusesOp, RefusesTurn};
+    ghost use Rattle.r6_shard.specs.Kept.{NoneIsOut, NoneIsToTell};
+    ghost use Rattle.r6_shard.specs.Shards.{GoesOn, SameLedger, Submits, Collects, Begins};
+
+    /// A shard of the array as it begins, with room for so many requests.
+    ///
+    /// `window`, 1 to 8, is how many rows of a slot may be rebuilt at one time. The snapshot is of the register as it
+    /// began, at which no device was attached, and the pass has seen nothing since.
+    ///
+    /// # Errors
+    /// `AllocError` where there is no memory for all room.
+    pub fn new(
+        alloc: Global,
+        place: Place,
+        snapshot: &Snapshot,
+        pass: Pass,
+        parts: P,
+        room: usize,
+    ) -> Result<Shard<P>, AllocError>
+        requires limits { IsShape place.geometry }
+        requires number { place.number < place.geometry.shards }
+        requires window { (1 ≤ place.window) × (place.window ≤ 8) }
+        requires no_attach { snapshot.now.attaches ≡ 0 }
+        requires unfailed { snapshot.now.failed ≡ false }
+        requires pass { IsFirstPass place.geometry snapshot.now (view_of pass) }
+        ensures begins { IfOk result (Begins P.tells place.geometry place.number snapshot.now) }
+        ensures parts { IfOk result (λ shard. shard.parts ≡ parts) }
+        ensures pass { IfOk result (λ shard. shard.pass ≡ pass) }
+        ensures empty { IfOk result (λ shard. shard.asked.items ≡ []) }
+        ensures room { IfOk result (λ shard. shard.room ≡ room) }
+    {
+        let asked = Vec::with_capacity(alloc, room)?;
+        let entries = Vec::with_capacity(alloc, room)?;
+        let Place {
+            geometry,
+            number,
+            window,
+        } = place;
+        let Ok(core) = Core::new(alloc, geometry, number, window, snapshot) else {
+            return Err(AllocError);
+        };
+        Ok(Shard {
+            core,
+            number,
+            parts,
+            pass,
+            asked,
+            entries,
+            room,
+            named: [false; MOST_SLOTS],
+        })
+    }
+
+    /// Whether one more request may be accepted.
+    pub fn has_room(&self) -> bool
+        ensures { IsTrue result ↔ (length self.now.asked.items < self.now.room) }
+    {
+        self.asked.len() < self.room
+    }
+
+    /// Hands a request in, of an event with this number.
+    ///
+    /// # Errors
+    /// Those of [`Core::submit`], with the request back. Nothing changes.
+    pub fn submit(&mut self, event: u64, op: Op) -> Result<OpId, Refused<Op>>
+        requires room { length self.old.asked.items < self.old.room }
+        ensures accepted { IfOk result (λ id. Submits P.tells event op self.old id.0 self.new) }
+        ensures refused { IfErr result (λ r. RefusesOp self.old.core op r.refusal r.back self.new.core) }
+        ensures same { IfErr result (λ _. self.new ≡ self.old) }
+    {
+        let block = op.block();
+        let answered = self.entries.len();
+        match self.core.submit(op) {
+            Ok(id) => {
+                self.asked.push_reserved(Asked {
+                    event,
+                    block,
+                    answered,
+                });
+                Ok(id)
+            }
+            Err(refused) => Err(refused),
+        }
+    }
+
+    /// Performs the command that was put out first, in place, and delivers its completion; whether there was one.
+    pub fn perform_next(&mut self) -> bool
+        ensures course { GoesOn P.tells self.old self.new }
+        ensures ledger { SameLedger self.old self.new }
+        ensures pass { self.new.pass ≡ self.old.pass }
+        ensures none { result ≡ false → NoneIsOut (world_shard self.new.core) }
+    {
+        let Some(command) = self.core.take_command() else {
+            return false;
+        };
+        let token = command.token;
+        let slot = command.slot;
+        let completion = self.parts.perform(command);
+        let failed = completion.is_err();
+        let Ok(receipt) = self.core.deliver(token, completion) else {
+            unreachable!()
+        };
+        name(&mut self.named, slot, failed, receipt);
+        true
+    }
+
+    /// Looks at the register as it is. Once every call was told, the core sees it.
+    pub fn look<R: Wait>(&mut self, rt: &R, register: &Register)
+        requires { IsPassOf register.now self.old.pass }
+        ensures pass { IsPassOf register.now self.new.pass }
+        ensures course { GoesOn P.tells self.old self.new }
+        ensures ledger { SameLedger self.old self.new }
+    {
+        let snapshot = register.read(rt, &mut self.pass);
+        let _ = self.core.look(&snapshot);
+    }
+
+    /// Makes the call at the register that is to be made next, and tells the core the answer; whether there was one. A
+    /// call that came between others' is to be made again.
+    pub fn tell_next<R: Wait>(&mut self, rt: &R, register: &Register) -> bool
+        requires { IsPassOf register.now self.old.pass }
+        ensures pass { IsPassOf register.now self.new.pass }
+        ensures course { GoesOn P.tells self.old self.new }
+        ensures ledger { SameLedger self.old self.new }
+        ensures none { result ≡ false → (world_shard self.new.core ≡ world_shard self.old.core)
+            × NoneIsToTell (world_shard self.new.core) }
+    {
+        let Some(call) = self.core.take_call() else {
+            return false;
+        };
+        let answer = make(rt, self.number, register, &mut self.pass, call);
+        let Ok(()) = self.core.told(call, answer) else {
+            unreachable!()
+        };
+        true
+    }
+
+    /// Takes the reply that was released first into the ledger; whether there was one.
+    pub fn collect(&mut self) -> bool
+        ensures course { GoesOn P.tells self.old self.new }
+        ensures ledger { Collects result self.old self.new }
+        ensures asked { self.new.asked ≡ self.old.asked }
+        ensures room { self.new.room ≡ self.old.room }
+        ensures pass { self.new.pass ≡ self.old.pass }
+    {
+        let Some((id, reply)) = self.core.take_reply() else {
+            return false;
+        };
+        let asked = self.asked[id.0 as usize];
+        self.entries.push_reserved(Entry {
+            event: asked.event,
+            id,
+            block: asked.block,
+            reply,
+        });
+        true
+    }
+
+    /// Takes up the next row of a task.
+    ///
+    /// # Errors
+    /// Those of [`Core::turn`]. Nothing changes.
+    pub fn turn(&mut self, task: Task) -> Result<Turn, Refusal>
+        ensures course { GoesOn P.tells self.old self.new }
+        ensures ledger { SameLedger self.old self.new }
+        ensures pass { self.new.pass ≡ self.old.pass }
+        ensures refused { IfErr result (λ refusal. RefusesTurn self.old.core task refusal self.new.core) }
+    {
+        self.core.turn(task)
+    }
+}
