@@ -3,6 +3,7 @@ pub mod Judged
 pub mod Quiet
 pub mod Headline
 pub mod Starts
+pub mod AnyStarts
 pub mod ArrayLaws
 pub mod Counts
 pub mod Sequentials

@@ -5,15 +5,16 @@ use Rattle.std.specs.Prelude.{◌≡◌, ℕ, ◌+◌, ◌<◌, List, [], ◌∷
 use Rattle.r6_recover.specs.declared.class.RowClass.{RowClass}
 use Rattle.r6_recover.specs.declared.class.RowClass.TheVariants.{Consistent, WrongP, WrongQ, WrongData, Many}
 use Rattle.r6_world.specs.Tables.{put, count_below}
-use Rattle.r6_world.specs.Layouts.{Layout}
+use Rattle.r6_world.specs.Layouts.{Layout, IsLayout}
 use Rattle.r6_world.specs.PlainArray.{Array}
-use Rattle.r6_world.specs.Registers.{RegisterCall}
+use Rattle.r6_world.specs.Registers.{Snapshot, RegisterCall}
 use Rattle.r6_world.specs.Tasks.{Task, ReadFor, WriteFor, Rebuild, Check, Repair, Hold, IsClassRead, Outcome, Rebuilt, Classed}
 use Rattle.r6_world.specs.ShardStates.{Shard, SlotState, Building, frames}
 use Rattle.r6_world.specs.Changes.{Change, Accept, Start, Classify, Finish, See_failed, Release, Skip_turn, Hand_command, Hand_call, Hear, Hand_reply, after}
 use Rattle.r6_world.specs.Steps.{Event, Submit, Deliver, Look, Turn_started, Turn_skipped, Take_command, No_command, Take_call, No_call, Told, Take_reply, No_reply, Looks, Step}
-use Rattle.r6_world.specs.Worlds.{World, Happening, Core, Perform, Tell, Outside, Moment, Possible, Run, next}
-use Rattle.r6_world.specs.Laws.{OfEveryRun, IsOfOutside}
+use Rattle.r6_world.specs.Worlds.{World, Devices, Happening, Core, Perform, Tell, Outside, Moment, Possible, Run, next, started}
+use Rattle.r6_world.specs.Claims.{IsLawfulStart}
+use Rattle.r6_world.specs.Laws.{OfEveryRun, IsOfOutside, AreOfShard, IsByAnyone}
 use Rattle.r6_world.specs.Witness.{after_all}
 
 -- ---- the small changes of shard n in a run, in order
@@ -220,14 +221,24 @@ pub record CountsHold (l : Layout) (start now : Shard) (turns_started turns_skip
   pub none_dropped : now.saw_failed ≡ false → dropped l start changes ≡ 0
   pub none_held : now.saw_failed ≡ true → checks_held now ≡ 0
 
--- of every shard, behind these moments
-abbrev pub AreCounted : Layout → Array → World → List Moment → Type 0
-AreCounted l array start moments =
-    (run : Run l IsOfOutside start moments) (n : ℕ) → n < l.shards →
+-- of a shard, behind these moments, where these calls may come at the register from outside
+abbrev pub IsCounted : Layout → (Comes : RegisterCall → Type 0) → (n : ℕ) → World → List Moment → Type 0
+IsCounted l Comes n start moments =
+    (run : Run l Comes start moments) →
     CountsHold l (start.shard n) ((after_all l start moments).shard n)
     (in_all (started_by n) moments) (in_all (skipped_by n) moments)
-    (changes_in l IsOfOutside n start moments run)
+    (changes_in l Comes n start moments run)
+
+-- and of every shard
+abbrev pub AreCounted : Layout → Array → World → List Moment → Type 0
+AreCounted l array start moments = (n : ℕ) → n < l.shards → IsCounted l IsOfOutside n start moments
 
 -- At every moment of a run: what is so behind every run is so at each moment, since a run up to a moment is one
 abbrev pub CountsLaw : Type 0
 CountsLaw = OfEveryRun AreCounted
+
+-- The same of one shard, beside a register that any calls change between its own
+abbrev pub ShardCountsLaw : Type 0
+ShardCountsLaw =
+    (l : Layout) → IsLayout l → (n : ℕ) → n < l.shards → (r : Snapshot) (device : Devices) (array : Array) → IsLawfulStart l r device array
+    → (moments : List Moment) → AreOfShard n moments → IsCounted l IsByAnyone n (started l r device) moments

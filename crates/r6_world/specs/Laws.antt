@@ -1,8 +1,9 @@
 -- The laws of an array: what every run keeps.
-use Rattle.std.specs.Prelude.{◌≡◌, ℕ, ◌<◌, List, [], ◌∷◌, None}
-use Rattle.r6_world.specs.Registers.{Snapshot, RegisterCall, Fail, DeclareLost, Attach, ReportRebuilt}
+use Rattle.std.specs.Prelude.{◌≡◌, ℕ, ◌<◌, ◌≤◌, List, [], ◌∷◌, None, Bool, if◌then◌else◌}
+use Rattle.r6_world.specs.Tables.{count_below}
+use Rattle.r6_world.specs.Registers.{Snapshot, Status, InSync, Lost, status_of, RegisterCall, Fail, DeclareLost, Attach, ReportRebuilt}
 use Rattle.r6_world.specs.PlainArray.{Array, Plain}
-use Rattle.r6_world.specs.Layouts.{Layout, IsLayout}
+use Rattle.r6_world.specs.Layouts.{Layout, IsLayout, IsArray}
 use Rattle.r6_world.specs.Worlds.{World, Devices, Happening, Core, Perform, Tell, Outside, Moment, Run, next, started}
 use Rattle.r6_world.specs.Claims.{IsLawfulStart, IsIdle, IsUnwritten, RowsHold, RebuiltEverywhere, RepliesArePlain, AnswersFail, IsQuiet, AllAnswered}
 use Rattle.r6_world.specs.ActingPoints.{acting, plain_after, MayAct}
@@ -50,6 +51,18 @@ OfEveryRun Law =
     (l : Layout) → IsLayout l → (r : Snapshot) (device : Devices) (array : Array) → IsLawfulStart l r device array
     → (moments : List Moment) → Run l IsOfOutside (started l r device) moments
     → Law l array (started l r device) moments
+
+-- a slot that was chosen is lost
+abbrev pub lost_if : Bool → Status
+lost_if chosen = if chosen then Lost else InSync
+
+-- Every array has a lawful start, whichever slots of it are lost, at most two: so no law of every run is empty for want of
+-- one
+abbrev pub StartLaw : Type 0
+StartLaw =
+    (l : Layout) → IsLayout l → (array : Array) → IsArray l array → (lost : ℕ → Bool) → count_below lost l.slots ≤ 2
+    → (r : Snapshot) × (device : Devices) × IsLawfulStart l r device array
+    × ((slot : ℕ) → slot < l.slots → status_of r slot ≡ lost_if (lost slot))
 
 -- The headline. For every list of steps, every request answered Data or Done acts at one step between its hand-over
 -- and its answer as on one plain array, and one answered ArrayFailed so or not at all; every idle row's in-sync slots

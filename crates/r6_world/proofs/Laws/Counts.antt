@@ -13,16 +13,16 @@ use Rattle.r6_stripe.specs.Holds.Event.{Asks, Restores, Computes, Writes, Gives,
 use Rattle.r6_stripe.specs.Plans.{Plan}
 use Rattle.r6_world.specs.Tables.{put, count_below}
 use Rattle.r6_world.specs.Layouts.{Layout}
-use Rattle.r6_world.specs.Registers.{Snapshot}
+use Rattle.r6_world.specs.Registers.{Snapshot, RegisterCall}
 use Rattle.r6_world.specs.Tasks.{Task, ReadFor, WriteFor, Rebuild, Check, Repair, Hold, kind_of, end_of, IsClassRead, Outcome, Answered, Wrote, Rebuilt, GivenUp, Classed, Skipped}
 use Rattle.r6_world.specs.ShardStates.{Shard, Counts, frames, begun}
 use Rattle.r6_world.specs.Changes.{Change, Accept, Start, Ask, Prepare, Classify, Send, Learn, Confirm, Come_home, Lose, Adopt, See_failed, Finish, Bring_in, Release, Skip_turn, Hand_command, Hand_call, Hear, Hand_reply, Allowed, after, counted, told_hold, lost_at, plan_lost_at, with_row, Ends}
 use Rattle.r6_world.specs.Steps.{Event, Submit, Deliver, Look, Turn_started, Turn_skipped, Take_command, No_command, Take_call, No_call, Told, Take_reply, No_reply, Looks, Step, Leads, Scans, GoesOn, TakesOver, Takes, Completion, Good, Error, Receipt, Taken, Late}
-use Rattle.r6_world.specs.Worlds.{World, Happening, Core, Perform, Tell, Outside, Moment, Possible, Run, next, started, shard_at_start}
-use Rattle.r6_world.specs.Laws.{IsOfOutside}
+use Rattle.r6_world.specs.Worlds.{World, Devices, Happening, Core, Perform, Tell, Outside, Moment, Possible, Run, next, started, shard_at_start}
+use Rattle.r6_world.specs.Laws.{IsOfOutside, IsByAnyone}
 use Rattle.r6_world.specs.Witness.{after_all}
-use Rattle.r6_world.specs.Counting.{changes_of_look, changes_of, changes_at, changes_in, is_check, started_by, skipped_by, in_all, holds_check, checks_held, dropped_by, dropped, Ended, read_after, class_of, ended_by, ended, IsEnd, is_consistent, is_wrong_p, is_wrong_q, is_wrong_data, is_many, of_class, without_class, is_repaired, Mark, marked_by, marked, IsMark, CountsHold, CountsLaw}
-use Rattle.r6_world.proofs.Tables.{put-same, put-other, put-cases, not_both, Some-inj}
+use Rattle.r6_world.specs.Counting.{changes_of_look, changes_of, changes_at, changes_in, is_check, started_by, skipped_by, in_all, holds_check, checks_held, dropped_by, dropped, Ended, read_after, class_of, ended_by, ended, IsEnd, is_consistent, is_wrong_p, is_wrong_q, is_wrong_data, is_many, of_class, without_class, is_repaired, Mark, marked_by, marked, IsMark, CountsHold, IsCounted, CountsLaw, ShardCountsLaw}
+use Rattle.r6_world.proofs.Tables.{put-same, put-other, put-cases, not_both, Some-inj, count-same}
 
 -- ---- lists
 
@@ -148,13 +148,6 @@ sounds-kept l n s read (Hear call answer) a x = same-sounds l s (after l s (Hear
 sounds-kept l n s read (Hand_reply id op reply) a x = same-sounds l s (after l s (Hand_reply id op reply)) read refl refl x
 
 -- ---- how many checks and repairs hold a row, after one frame was changed
-
-count-same : (p q : ℕ → Bool) (n : ℕ) → ((f : ℕ) → f < n → p f ≡ q f) → count_below p n ≡ count_below q n
-count-same p q zero same = refl
-count-same p q (suc n) same =
-    let here = same n (omega arith) in
-    let rest = count-same p q n (λ f below. same f (omega arith)) in
-    ap (λ b. one b + count_below p n) here ∙ ap (λ x. one (q n) + x) rest
 
 count-change : (p q : ℕ → Bool) (f n : ℕ) → f < n → ((g : ℕ) → (g ≡ f → ⊥) → p g ≡ q g) → one (q f) + count_below p n ≡ one (p f) + count_below q n
 count-change p q f zero below same = absurd (omega (arith, below))
@@ -366,7 +359,7 @@ finishes l s read f row Repair course plan own (Classed class) x owes ends =
 finishes l s read f row Repair course plan own Skipped x owes ends =
     (repair-skips s.counts (read f) row course plan own, alone (record { hold = hold_of row Repair course plan own; read = read f; class = None }) owes, All-nil IsMark)
 
-none-held : (p : ℕ → Bool) (n : ℕ) → ((f : ℕ) → p f ≡ false) → count_below p n ≡ 0
+pub none-held : (p : ℕ → Bool) (n : ℕ) → ((f : ℕ) → p f ≡ false) → count_below p n ≡ 0
 none-held p zero none = refl
 none-held p (suc n) none =
     let rest = none-held p n none in
@@ -620,34 +613,34 @@ no-turn : (a : Bool) → ◌≡◌ {A = ℕ} (if a then 0 else 0) 0
 no-turn true = refl
 no-turn false = refl
 
-happening-led : (l : Layout) (n : ℕ) (w : World) (m : Moment) (p : Possible l IsOfOutside w m.happening)
-    → Led l n (w.shard n) ((next l w m).shard n) (changes_at l IsOfOutside n w m.happening p) (started_by n m.happening) (skipped_by n m.happening)
-happening-led l n w m p = at m.happening p
+happening-led : (l : Layout) (Comes : RegisterCall → Type 0) (n : ℕ) (w : World) (m : Moment) (p : Possible l Comes w m.happening)
+    → Led l n (w.shard n) ((next l w m).shard n) (changes_at l Comes n w m.happening p) (started_by n m.happening) (skipped_by n m.happening)
+happening-led l Comes n w m p = at m.happening p
   where
-    at : (h : Happening) (p : Possible l IsOfOutside w h)
-        → Led l n (w.shard n) ((next l w (record { happening = h; noise = m.noise })).shard n) (changes_at l IsOfOutside n w h p) (started_by n h) (skipped_by n h)
+    at : (h : Happening) (p : Possible l Comes w h)
+        → Led l n (w.shard n) ((next l w (record { happening = h; noise = m.noise })).shard n) (changes_at l Comes n w h p) (started_by n h) (skipped_by n h)
     at (Core k event new) p =
-        led-as l n (w.shard n) (put w.shard k new n) (changes_at l IsOfOutside n w (Core k event new) p)
+        led-as l n (w.shard n) (put w.shard k new n) (changes_at l Comes n w (Core k event new) p)
         (if k == n then turn_started event else 0) (started_by n (Core k event new)) (if k == n then turn_skipped event else 0) (skipped_by n (Core k event new))
         (sym (started-is n k event new)) (sym (skipped-is n k event new))
         (led-if l n k w.shard new (changes_of l k (w.shard k) event new p.2) (turn_started event) (turn_skipped event) (step-led l k (w.shard k) event new p.2))
     at (Perform k token c) p = led-none l n (w.shard n) (w.shard n) refl
     at (Tell k call answer middle new) p =
-        led-as l n (w.shard n) (put w.shard k new n) (changes_at l IsOfOutside n w (Tell k call answer middle new) p)
+        led-as l n (w.shard n) (put w.shard k new n) (changes_at l Comes n w (Tell k call answer middle new) p)
         (if k == n then 0 else 0) 0 (if k == n then 0 else 0) 0 (no-turn (k == n)) (no-turn (k == n))
         (led-if l n k w.shard new _ 0 0
         (led-both l k (w.shard k) middle new (changes_of l k (w.shard k) (Take_call call) middle p.2) (changes_of l k middle (Told call answer) new p.3) 0 0 0 0
         (step-led l k (w.shard k) (Take_call call) middle p.2) (step-led l k middle (Told call answer) new p.3)))
     at (Outside call) p = led-none l n (w.shard n) (w.shard n) refl
 
-run-led : (l : Layout) (n : ℕ) (moments : List Moment) (w : World) (run : Run l IsOfOutside w moments)
-    → Led l n (w.shard n) ((after_all l w moments).shard n) (changes_in l IsOfOutside n w moments run) (in_all (started_by n) moments) (in_all (skipped_by n) moments)
-run-led l n [] w run = led-none l n (w.shard n) (w.shard n) refl
-run-led l n (m ∷ moments) w run =
+run-led : (l : Layout) (Comes : RegisterCall → Type 0) (n : ℕ) (moments : List Moment) (w : World) (run : Run l Comes w moments)
+    → Led l n (w.shard n) ((after_all l w moments).shard n) (changes_in l Comes n w moments run) (in_all (started_by n) moments) (in_all (skipped_by n) moments)
+run-led l Comes n [] w run = led-none l n (w.shard n) (w.shard n) refl
+run-led l Comes n (m ∷ moments) w run =
     led-both l n (w.shard n) ((next l w m).shard n) ((after_all l (next l w m) moments).shard n)
-    (changes_at l IsOfOutside n w m.happening run.0) (changes_in l IsOfOutside n (next l w m) moments run.1)
+    (changes_at l Comes n w m.happening run.0) (changes_in l Comes n (next l w m) moments run.1)
     (started_by n m.happening) (in_all (started_by n) moments) (skipped_by n m.happening) (in_all (skipped_by n) moments)
-    (happening-led l n w m run.0) (run-led l n moments (next l w m) run.1)
+    (happening-led l Comes n w m run.0) (run-led l Comes n moments (next l w m) run.1)
 
 -- ---- the law
 
@@ -709,7 +702,13 @@ holds-for l n r now changes starts skips x =
       none_held = λ saw. none-held (λ f. holds_check (now.frame f)) frames (λ f. ap holds_check (all.2.gone saw f));
     }
 
+is-counted : (l : Layout) (Comes : RegisterCall → Type 0) (n : ℕ) (r : Snapshot) (device : Devices) (moments : List Moment) → IsCounted l Comes n (started l r device) moments
+is-counted l Comes n r device moments run =
+    holds-for l n r ((after_all l (started l r device) moments).shard n) (changes_in l Comes n (started l r device) moments run)
+    (in_all (started_by n) moments) (in_all (skipped_by n) moments) (run-led l Comes n moments (started l r device) run)
+
 pub counts_law : CountsLaw
-counts_law l is r device array start moments run again n below =
-    holds-for l n r ((after_all l (started l r device) moments).shard n) (changes_in l IsOfOutside n (started l r device) moments again)
-    (in_all (started_by n) moments) (in_all (skipped_by n) moments) (run-led l n moments (started l r device) again)
+counts_law l is r device array start moments run n below = is-counted l IsOfOutside n r device moments
+
+pub shard_counts_law : ShardCountsLaw
+shard_counts_law l is n below r device array start moments all = is-counted l IsByAnyone n r device moments
