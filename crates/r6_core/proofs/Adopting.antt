@@ -14,7 +14,7 @@ use Rattle.r6_frames.specs.declared.frames.Frames.{Frames}
 use Rattle.r6_frames.specs.declared.slots.Device.{Device}
 use Rattle.r6_frames.specs.Slots as slots
 use Rattle.r6_frames.specs.Slots.{states_of}
-use Rattle.r6_frames.specs.Views.{held_requests, is_scrub, shard_with}
+use Rattle.r6_frames.specs.Views.{held_requests, shard_with}
 use Rattle.r6_frames.specs.Calls.{KeepsRows, TakesOut}
 use Rattle.r6_frames.specs.Owed.{owed}
 use Rattle.r6_frames.specs.Sound as held

@@ -12,7 +12,7 @@ use Rattle.r6_world.specs.Steps.{Take_command, No_command}
 use Rattle.r6_frames.specs.declared.command.Command.{Command}
 use Rattle.r6_frames.specs.declared.frames.Frames.{Frames}
 use Rattle.r6_core.specs.declared.state.State.{State}
-use Rattle.r6_frames.specs.Views.{world_command, held_requests, is_scrub, Rest, shard_with, hold_at, use_at, AreLive}
+use Rattle.r6_frames.specs.Views.{world_command, held_requests, Rest, shard_with, hold_at, use_at, AreLive}
 use Rattle.r6_frames.specs.Calls.{Steps, KeepsHolds}
 use Rattle.r6_frames.specs.Owed.{owed_in, IsDriven, IsOver}
 use Rattle.r6_frames.specs.Slots.{count_out, states_of}

@@ -1,5 +1,5 @@
 -- How many rows are held for what passes a test.
-use Rattle.std.proofs.Common.{◌≡◌, ◌≢◌, ℕ, zero, suc, ◌+◌, ◌*◌, ◌≤◌, Bool, List, [], ◌∷◌, length, sym, ap, ◌∙◌, refl, Option, Some, None, arith}
+use Rattle.std.proofs.Common.{◌≡◌, ◌≢◌, ℕ, zero, suc, ◌+◌, ◌≤◌, Bool, List, [], ◌∷◌, length, sym, ap, ◌∙◌, refl, Option, Some, None, arith}
 use Rattle.std.specs.Prelude.{option_map}
 use Rattle.r6_frames.specs.declared.frames.Job.{Job}
 use Rattle.r6_frames.specs.declared.frames.HeldRow.{HeldRow}
@@ -10,7 +10,7 @@ use Rattle.r6_frames.specs.Calls.{KeepsHeld, KeepsOthers, KeepsRows}
 use Rattle.r6_frames.specs.Sound as held
 use Rattle.r6_tables.specs.Table.{next_of}
 use Rattle.r6_core.specs.declared.counts.Counts.{Counts}
-use Rattle.r6_core.specs.Inside.{AreBounded, count_rows, is_turn, one_if, rows_found}
+use Rattle.r6_core.specs.Inside.{AreBounded, count_rows, is_turn, one_if}
 
 -- what is held in a frame, as it is counted
 abbrev pub row_weight : (Job → Bool) → List FrameUse → ℕ → ℕ

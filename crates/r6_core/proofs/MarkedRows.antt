@@ -1,5 +1,5 @@
 -- A rebuilt row is marked, and the last one brings its slot in sync.
-use Rattle.std.proofs.Common.{◌≡◌, ◌≢◌, ℕ, ◌+◌, ◌*◌, ◌<◌, ◌≤◌, ◌⊎◌, inl, inr, Bool, true, false, List, [], ◌∷◌, ◌++◌, map, length, refl, sym, ap, subst, ◌∙◌, Some, None, arith, append-nil, length-append}
+use Rattle.std.proofs.Common.{◌≡◌, ℕ, ◌+◌, ◌<◌, ◌≤◌, inl, inr, Bool, true, false, [], ◌∷◌, ◌++◌, map, length, refl, sym, ap, subst, ◌∙◌, Some, None, arith, append-nil, length-append}
 use mathlib.Core.Path.{fun_ext}
 use Rattle.std.specs.Prelude.{option_map}
 use Rattle.std.specs.Global.{Vec}
@@ -13,7 +13,7 @@ use Rattle.r6_world.proofs.Tables.{put-same, put-other}
 use Rattle.r6_world.specs.Geometries.{layout_of}
 use Rattle.r6_world.specs.Tasks.{Rebuilt}
 use Rattle.r6_world.specs.ShardStates.{Shard, SlotState, Synced, Building, RebuildOf, IsLive, is_away}
-use Rattle.r6_world.specs.Changes.{Bring_in, Finish, AllBuilt, Allowed, after, slots_after, with_row}
+use Rattle.r6_world.specs.Changes.{Bring_in, Finish, AllBuilt, Allowed, after, with_row}
 use Rattle.r6_world.specs.Steps.{GoesOn, Through}
 use Rattle.r6_frames.specs.declared.finish.Ended.{Ended}
 use Rattle.r6_frames.specs.declared.finish.Ended.TheVariants as ended

@@ -1,5 +1,5 @@
 -- A run of cores that rebuild goes on, row by row.
-use Rattle.std.proofs.Common.{◌≡◌, ℕ, zero, suc, ◌<◌, List, [], ◌∷◌, ◌++◌, map, refl, sym, ap, ◌∙◌, subst, arith, Result, Ok, Err, Some}
+use Rattle.std.proofs.Common.{◌≡◌, ℕ, ◌<◌, List, [], ◌∷◌, ◌++◌, refl, sym, ap, ◌∙◌, subst, arith, Result, Ok, Err, Some}
 use Rattle.std.specs.Prelude.{MatchResult}
 use Rattle.std.specs.Result.{result_ok}
 use Rattle.r6_layout.specs.Shape.{Shape, IsShape}

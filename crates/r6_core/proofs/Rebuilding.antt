@@ -10,7 +10,7 @@ use Rattle.r6_world.proofs.Geometries.{layouts}
 use Rattle.r6_frames.specs.declared.rebuilt.Rebuilt.{Rebuilt}
 use Rattle.r6_frames.specs.declared.slots.Device.{Device}
 use Rattle.r6_frames.specs.declared.slots.Device.TheVariants as device
-use Rattle.r6_frames.specs.Rebuilt.{IsNext, IsRebuilt, is_rebuilt, next_row}
+use Rattle.r6_frames.specs.Rebuilt.{IsRebuilt, is_rebuilt, next_row}
 use Rattle.r6_frames.specs.Calls.{IsNextOn, NotHeldBy}
 use Rattle.r6_frames.specs.Slots.{slot_in, state_of}
 use Rattle.r6_frames.specs.Sound as held

@@ -26,7 +26,7 @@ use Rattle.r6_frames.specs.declared.frames.Frames.{Frames}
 use Rattle.r6_frames.specs.declared.frames.FrameUse.{FrameUse}
 use Rattle.r6_frames.specs.declared.frames.FrameUse.TheVariants as uses
 use Rattle.r6_frames.specs.Slots.{states_of}
-use Rattle.r6_frames.specs.Views.{held_entry, held_requests, is_scrub, kind_in, requests_by, requests_from, Rest, shard_with}
+use Rattle.r6_frames.specs.Views.{held_entry, held_requests, kind_in, requests_by, requests_from, Rest, shard_with}
 use Rattle.r6_frames.specs.Calls.{SeesFailure, IsRequestOf, HasOneBlock, KeepsHeld}
 use Rattle.r6_frames.specs.Owed.{owed}
 use Rattle.r6_frames.specs.Sound as held

@@ -1,6 +1,6 @@
 use Rattle.std.proofs.Common.{ap, subst, IfOk, IfErr}
 use Rattle.r6_core.specs.declared.turn.Task.TheVariants as task
-use Rattle.r6_core.specs.Shards.{CoreView, core_with}
+use Rattle.r6_core.specs.Shards.{core_with}
 use Rattle.r6_core.specs.Effects.{RefusesTurn, Turns}
 use Rattle.r6_core.proofs.Callers.{checks, if_err, rebuilds, repairs}
 use Rattle.r6_core.proofs.shard_core.Core.turn.Goals as goal

@@ -1,10 +1,9 @@
-use Rattle.std.proofs.Common.{◌≡◌, ℕ, false, true, rules, refl, sym, subst, ◌∙◌, inl, inr}
-use Rattle.std.specs.Prelude.{IsTrue}
+use Rattle.std.proofs.Common.{◌≡◌, false, true, rules, refl, sym, subst, inl, inr}
 use Rattle.r6_frames.specs.Calls.{AreAllInSync, NotHeldBy}
 use Rattle.r6_frames.specs.Views.{AreLive}
 use Rattle.r6_core.specs.Shards.{rest_of}
 use Rattle.r6_core.specs.Inside.{HasSlotOut, next_row}
-use Rattle.r6_core.proofs.Turning.{held_for_turn, nothing_in_the_way, not_held_for_turn, not_whole, something_to_do, whole_for_turn}
+use Rattle.r6_core.proofs.Turning.{held_for_turn, nothing_in_the_way, not_whole, something_to_do, whole_for_turn}
 use Rattle.r6_frames.proofs.Resting.{free_frame_is, free_is}
 use Rattle.r6_core.proofs.state.State.frame_for_turn.Goals as goal
 
