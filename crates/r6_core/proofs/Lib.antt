@@ -20,6 +20,7 @@ pub mod Known
 pub mod Looking
 pub mod Losing
 pub mod MayBegin
+pub mod OneCore
 pub mod Passed
 pub mod Rebuilding
 pub mod MarkedRows
@@ -40,4 +41,3 @@ pub mod Throughs
 pub mod Turning
 pub mod Unperformed
 pub mod Waking
-pub mod Whole

@@ -1,5 +1,5 @@
 -- Runs of cores, which are runs of the world.
-use Rattle.std.specs.Prelude.{◌≡◌, ℕ, ◌<◌, List, [], ◌∷◌, map}
+use Rattle.std.specs.Prelude.{◌≡◌, ℕ, ◌+◌, ◌<◌, List, [], ◌∷◌, map, false, None}
 use Rattle.r6_layout.specs.Shape.{Shape, IsShape}
 use Rattle.r6_world.specs.Tables.{put}
 use Rattle.r6_world.specs.PlainArray.{Array}
@@ -7,14 +7,15 @@ use Rattle.r6_world.specs.Layouts.{Layout}
 use Rattle.r6_world.specs.Geometries.{layout_of}
 use Rattle.r6_world.specs.Registers.{Snapshot, RegisterCall, Told}
 use Rattle.r6_world.specs.ShardStates as shards
-use Rattle.r6_world.specs.ShardStates.{Command}
+use Rattle.r6_world.specs.ShardStates.{Command, Counts, IsLive}
 use Rattle.r6_world.specs.Steps as steps
-use Rattle.r6_world.specs.Steps.{Event, Take_call}
+use Rattle.r6_world.specs.Steps.{Event, Take_call, AtRest}
 use Rattle.r6_world.specs.Worlds as worlds
 use Rattle.r6_world.specs.Worlds.{World, Devices, MayCome, Possible, Run, IsAnswer, as_made, next, started}
 use Rattle.r6_world.specs.Claims.{IsLawfulStart, IsQuiet, AllAnswered}
 use Rattle.r6_world.specs.Laws.{ShardHolds, ArrayHolds, Explained, AtEach, IsOfOutside, IsByAnyone, at_start}
-use Rattle.r6_world.specs.Counting.{AreCounted}
+use Rattle.r6_world.specs.Counting.{AreCounted, IsCounted, changes_in, in_all, started_by, skipped_by, checks_held, dropped}
+use Rattle.r6_world.specs.Witness.{after_all}
 use Rattle.r6_world.specs.Sequential.{OneAtATime, FewOut, PlainThroughout}
 use Rattle.r6_core.specs.Shards.{CoreView, Step, world_shard}
 use Rattle.r6_core.specs.Effects.{IsMade}
@@ -140,3 +141,45 @@ ShardOfCores =
     → let start = started (layout_of shape) r device in
     ShardHolds (layout_of shape) n start start (at_start array)
     × Explained (layout_of shape) (ShardHolds (layout_of shape) n) start (at_start array) (map moment_of moments)
+
+-- ---- the counts of one core
+
+-- the cores behind these moments
+abbrev pub cores_behind : (ℕ → CoreView) → List Moment → ℕ → CoreView
+cores_behind cores [] = cores
+cores_behind cores (m ∷ moments) = cores_behind (cores_after cores m.happening) moments
+
+-- the turns of a core's checks and repairs that were answered Started or Skipped: each has passed a row
+abbrev pub rows_passed : ℕ → List Moment → ℕ
+rows_passed n moments = in_all (started_by n) (map moment_of moments) + in_all (skipped_by n) (map moment_of moments)
+
+-- the rows that were counted: by class, or as skipped
+abbrev pub rows_counted : Counts → ℕ
+rows_counted k = k.consistent + k.wrong_p + k.wrong_q + k.wrong_data + k.many + k.skipped
+
+-- of one core behind such a run, which began with this start
+pub record OneCoreCounts (l : Layout) (n : ℕ) (start : World) (moments : List Moment) (core : CoreView) : Type 0 where
+  -- each count is the number of what ended in the run so, as in the law of all shards
+  pub is_shard : (after_all l start (map moment_of moments)).shard n ≡ world_shard core
+  pub counted : IsCounted l IsByAnyone n start (map moment_of moments)
+  -- each row that was passed is counted, held yet, or was dropped when the core saw that the array failed
+  pub passed : (run : Run l IsByAnyone start (map moment_of moments))
+      → rows_passed n moments
+      ≡ rows_counted (world_shard core).counts + checks_held (world_shard core)
+      + dropped l (start.shard n) (changes_in l IsByAnyone n start (map moment_of moments) run)
+  -- until then none is dropped
+  pub unfailed : (world_shard core).saw_failed ≡ false
+      → rows_passed n moments ≡ rows_counted (world_shard core).counts + checks_held (world_shard core)
+  -- and of a live core at rest, with no command out, each row that was passed is counted
+  pub at_rest : IsLive l (world_shard core) → AtRest l n (world_shard core)
+      → ((token : ℕ) → (world_shard core).command token ≡ None)
+      → rows_passed n moments ≡ rows_counted (world_shard core).counts
+
+-- The counts of the core of one shard, whatever else happens at the register
+abbrev pub CountsOfOneCore : Type 0
+CountsOfOneCore =
+    (shape : Shape) → IsShape shape → (n : ℕ) → n < shape.shards
+    → (r : Snapshot) (device : Devices) (array : Array) → IsLawfulStart (layout_of shape) r device array
+    → (core : CoreView) → IsMade shape r n core
+    → (moments : List Moment) → CoresRun (layout_of shape) (IsThis n) IsByAnyone (started (layout_of shape) r device) (λ m. core) moments
+    → OneCoreCounts (layout_of shape) n (started (layout_of shape) r device) moments (cores_behind (λ m. core) moments n)

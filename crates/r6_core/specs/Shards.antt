@@ -5,7 +5,6 @@ use Rattle.r6_layout.specs.Shape.{Shape}
 use Rattle.r6_world.specs.PlainArray as world
 use Rattle.r6_world.specs.Layouts.{Layout}
 use Rattle.r6_world.specs.Geometries.{layout_of}
-use Rattle.r6_world.specs.Registers.{Snapshot, InSync, status_of}
 use Rattle.r6_world.specs.ShardStates as shards
 use Rattle.r6_world.specs.ShardStates.{Shard, Stage, Waiting, Finished, Released, SlotState, Synced, Missing, Building, LossOf, RebuildOf}
 use Rattle.r6_world.specs.Steps as steps
@@ -209,8 +208,3 @@ synced (Building generation built) = None
 -- the state of a slot with one of these devices; what is no slot is in sync
 abbrev pub devices_state : List Device → ℕ → SlotState
 devices_state devices slot = slots.state_of (slice_index_or devices slot (device.Synced 0))
-
--- no slot was lost and the array hasn't failed
-pub record IsWhole (snapshot : Snapshot) : Type 0 where
-  pub in_sync : (slot : ℕ) → status_of snapshot slot ≡ InSync
-  pub not_failed : snapshot.failed ≡ false

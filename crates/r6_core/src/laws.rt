@@ -4,7 +4,7 @@ ghost use Rattle.r6_world.specs.Counting.{CountsLaw};
 ghost use Rattle.r6_world.specs.Geometries.{LayoutLaw};
 ghost use Rattle.r6_world.specs.Laws.{ArrayLaw, QuietLaw, RebuiltLaw, ShardLaw};
 ghost use Rattle.r6_world.specs.Sequential.{SequentialLaw};
-ghost use Rattle.r6_core.specs.Runs.{RunsOfCores, RunsOfOneCore, ArrayOfCores, CountsOfCores, QuietOfCores, SequentialOfCores, ShardOfCores};
+ghost use Rattle.r6_core.specs.Runs.{RunsOfCores, RunsOfOneCore, ArrayOfCores, CountsOfCores, CountsOfOneCore, QuietOfCores, SequentialOfCores, ShardOfCores};
 
 /// The laws of an array whose shards are cores.
 ///
@@ -69,4 +69,17 @@ pub fn counts_law()
 {
     r6_world::layout_law();
     r6_world::counts_law();
+}
+
+/// What the counts of one core say, beside a register that anyone calls, at each moment.
+///
+/// The turns of its checks and repairs that were answered `Started` or `Skipped` are as many as the rows that it counts, by
+/// class or as skipped, those that they hold yet, and those that it dropped when it saw that the array failed. So of a core
+/// that has seen no failure, has at most two slots out, is at rest (as `submit`, `deliver`, `look` and `turn` leave it) and
+/// has no command out, they are the sum of the five classes and the skipped ones.
+pub fn counts_of_one_core()
+    ensures { CountsOfOneCore }
+{
+    r6_world::layout_law();
+    r6_world::shard_counts_law();
 }

@@ -20,7 +20,7 @@ mod turn;
 pub use call::Call;
 pub use counts::Counts;
 pub use course::{read_beside_a_loss, read_through_a_loss};
-pub use laws::{array_law, counts_law};
+pub use laws::{array_law, counts_law, counts_of_one_core};
 pub use r6_frames::{Command, CommandKind, Op};
 pub use rebuild_course::{LostRow, rebuild_in_two_shards};
 pub use refusal::{CoreError, DeviceFault, FaultKind, Receipt, Refusal, Refused};
