@@ -150,6 +150,16 @@ pub record IsSound (state : HoldState) : Type 0 where
   pub renewed : state.task ≡ Some task.Repair → computed ≡ true → IsRenewedBy state.class state.places.items
   pub course : Each (IsInCourse state.plan state.task (length state.places.items) computed) state.places.items
 
+-- 4 to 32 positions, a buffer for each, and two more, all at home and of one length
+pub record AreAllHome (state : HoldState) : Type 0 where
+  pub four_or_more : 4 ≤ length state.places.items
+  pub at_most : length state.places.items ≤ 32
+  pub wide : length state.blocks.items ≡ length state.places.items
+  pub sum : length state.sum ≡ state.len
+  pub weighted : length state.weighted ≡ state.len
+  pub long : (position : ℕ) → position < length state.places.items
+      → length (slice_index_or state.blocks.items position []) ≡ state.len
+
 -- a plan that serves a write
 abbrev pub IsWritePlan : Plan → Type 0
 IsWritePlan plan.One = ⊥

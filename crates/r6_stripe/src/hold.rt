@@ -11,8 +11,7 @@ ghost use Rattle.r6_stripe.specs.Steps.{Held, begun_held, PutsOut, answered, los
 ghost use Rattle.r6_stripe.specs.Views.{kind_of, kind_of_task};
 
 use crate::command::{Outcome, RowCommand, Task};
-use crate::frame::{Frame, settle};
-use crate::plan::Plan;
+use crate::frame::Frame;
 use crate::state::HoldState;
 use r6_kernels::Buffer;
 use std::marker::Model;
@@ -23,7 +22,7 @@ use std::marker::Model;
 /// for its [`Hold::outcome`].
 #[derive(Drop)]
 pub struct Hold {
-    state: HoldState,
+    state: Box<HoldState>,
 }
 
 impl Model for Hold {
@@ -50,28 +49,8 @@ impl Hold {
         requires task { IsTask frame.count frame.size (Some task) }
         ensures { result ≡ begun_held frame.size in_sync.now (kind_of_task task) }
     {
-        let Frame {
-            mut places,
-            blocks,
-            sum,
-            weighted,
-            len,
-            alloc,
-        } = frame;
-        settle(&mut places, in_sync, &task);
-        let mut state = HoldState {
-            task: Some(task),
-            plan: Plan::Recover,
-            cut_short: false,
-            class: None,
-            len,
-            places,
-            blocks,
-            sum,
-            weighted,
-            alloc,
-        };
-        state.plan = state.first_plan();
+        let Frame { mut state } = frame;
+        state.begin(task, in_sync);
         Hold { state }
     }
 
@@ -177,6 +156,7 @@ impl Hold {
         requires ended { self.planned.hold.kind ≡ Idle }
         ensures { result ≡ record { count = length self.planned.hold.cells; size = self.planned.hold.size } }
     {
-        self.state.into_frame()
+        let Hold { state } = self;
+        Frame { state }
     }
 }

@@ -1,17 +1,17 @@
 //! The fields of a hold, and what each event does to them.
 
-ghost use Rattle.std.specs.Prelude.{◌≡◌, ◌<◌, ℕ, List, length, slice_index_or, true, false, not, MatchOption};
+ghost use Rattle.std.specs.Prelude.{◌≡◌, ◌<◌, ℕ, List, length, slice_index_or, true, false, not, Some, MatchOption};
 ghost use Rattle.std.specs.List.{list_any};
 ghost use Rattle.r6_stripe.specs.Checks.{IsClassed};
 ghost use Rattle.r6_stripe.specs.Holds.{cell_at};
 ghost use Rattle.r6_stripe.specs.Places.{no_place};
 ghost use Rattle.r6_stripe.specs.Plans as plans;
-ghost use Rattle.r6_stripe.specs.Sound.{IsSound};
-ghost use Rattle.r6_stripe.specs.Steps.{asked, sent, answered, lost, closed, PutsOut, IsInSync, IsUnread, IsUnwritten, IsReady, IsUnknown, IsKnownAs, is_away};
-ghost use Rattle.r6_stripe.specs.Views.{hold_of, held_of, plan_of, kind_of};
+ghost use Rattle.r6_stripe.specs.Sound.{AreAllHome, IsSound, IsTask};
+ghost use Rattle.r6_stripe.specs.Steps.{begun_held, asked, sent, answered, lost, closed, PutsOut, IsInSync, IsUnread, IsUnwritten, IsReady, IsUnknown, IsKnownAs, is_away};
+ghost use Rattle.r6_stripe.specs.Views.{hold_of, held_of, plan_of, kind_of, kind_of_task};
 
 use crate::command::{RowCommand, Task};
-use crate::frame::Frame;
+use crate::frame::settle;
 use crate::place::{Place, ReadState, State, WriteState};
 use crate::plan::Plan;
 use r6_kernels::Buffer;
@@ -43,6 +43,22 @@ pub(crate) struct HoldState {
 }
 
 impl HoldState {
+    /// Begins a hold of a row, of whose positions these are in sync; the others are out.
+    pub(crate) fn begin(&mut self, task: Task, in_sync: &[bool])
+        requires home { AreAllHome self.old }
+        requires positions { length in_sync.now ≡ length self.old.places.items }
+        requires task { IsTask (length self.old.places.items) self.old.len (Some task) }
+        ensures held { held_of self.new ≡ begun_held self.old.len in_sync.now (kind_of_task task) }
+        ensures sound { IsSound self.new }
+        ensures classed { IsClassed (hold_of self.new) self.new.class }
+    {
+        settle(&mut self.places, in_sync, &task);
+        self.task = Some(task);
+        self.cut_short = false;
+        self.class = None;
+        self.plan = self.first_plan();
+    }
+
     /// Puts out a read of the position, whose buffer leaves with it.
     pub(crate) fn ask(&mut self, position: usize) -> Buffer
         requires sound { IsSound self.old }
@@ -182,34 +198,5 @@ impl HoldState {
         ensures { result ≡ not (list_any (λ away. away) (held_of self.now).away) }
     {
         !self.places.iter().any(|place| place.away)
-    }
-
-    /// The frame, with all its buffers.
-    pub(crate) fn into_frame(self) -> Frame
-        requires sound { IsSound self }
-        requires home { list_any (λ away. away) (held_of self).away ≡ false }
-        ensures { result ≡ record { count = length self.places.items; size = self.len } }
-    {
-        let block_len = self.len;
-        let HoldState {
-            task: _,
-            plan: _,
-            cut_short: _,
-            class: _,
-            len: _,
-            places,
-            blocks,
-            sum,
-            weighted,
-            alloc,
-        } = self;
-        Frame {
-            places,
-            blocks,
-            sum,
-            weighted,
-            len: block_len,
-            alloc,
-        }
     }
 }

@@ -1,0 +1,71 @@
+use Rattle.std.proofs.Common.{◌≡◌, ℕ, true, false, List, length, map, sym, ◌∙◌, ap, subst, arith, Some, None}
+use Rattle.r6_stripe.specs.Holds.{Hold, Cell}
+use Rattle.r6_stripe.specs.Places.{cells_of, away_of, is_lent}
+use Rattle.r6_stripe.specs.Sound.{Each, IsInCourse, IsTask, IsSettled, IsTargetOf, MayLend}
+use Rattle.r6_stripe.specs.declared.place.Place.{Place}
+use Rattle.r6_stripe.specs.declared.plan.Plan.TheVariants as plan
+use Rattle.r6_stripe.specs.Holds.{Standing, resting, begun}
+use Rattle.r6_stripe.specs.Plans.{first_plan, parities_in_sync}
+use Rattle.r6_stripe.specs.Steps.{standing_if}
+use Rattle.r6_stripe.specs.Views.{begun_places, kind_of_task, plan_of}
+use Rattle.r6_stripe.proofs.Checks.{begun_whole, begun_unclassed}
+use Rattle.r6_stripe.proofs.Begins.{begun_cells, begun_away, begun_settled, begun_course, begun_lends, begun_targets, length-begun, LacksParities, lacks_parities, LacksIts, lacks_its}
+use Rattle.r6_stripe.proofs.state.HoldState.begin.Goals as goal
+
+pub returns-clause-sound : goal.returns-clause-sound
+returns-clause-sound c =
+    let s = c.args.self.now in
+    let in_sync = c.args.in_sync.now in
+    let task = c.args.task in
+    let new = c.settle.new.places.items in
+    let q = c.first_plan-self.result in
+    let e : new ≡ begun_places task in_sync = c.settle.ensures in
+    let count : length new ≡ length s.places.items = ap length e ∙ length-begun task in_sync ∙ c.requires.positions in
+    let wide : length (begun_places task in_sync) ≡ length in_sync = length-begun task in_sync in
+    let lacks : LacksParities q (length (begun_places task in_sync)) in_sync =
+    subst (λ (n : ℕ). LacksParities q n in_sync) (sym wide)
+    (lacks_parities q s.len task in_sync s.blocks.items c.first_plan-self.ensures.suits (omega (arith, c.requires.home.four_or_more, count, ap length e, wide))
+    (subst (λ (xs : List Place). q ≡ plan.Overwrite → parities_in_sync (record { size = s.len; kind = kind_of_task task; cells = cells_of xs s.blocks.items; cut_short = false }) ≡ 0) e c.first_plan-self.ensures.overwrites)) in
+    let its : LacksIts q (Some task) in_sync =
+    lacks_its q s.len task in_sync s.blocks.items
+    (subst (λ (xs : List Place). plan_of q ≡ first_plan (record { size = s.len; kind = kind_of_task task; cells = cells_of xs s.blocks.items; cut_short = false }) (kind_of_task task)) e c.first_plan-self.ensures.plan)
+    (subst (λ (n : ℕ). IsTask n s.len (Some task)) (sym c.requires.positions) c.requires.task) in
+    record {
+      four_or_more = omega (arith, c.requires.home.four_or_more, count);
+      at_most = omega (arith, c.requires.home.at_most, count);
+      wide = c.requires.home.wide ∙ sym count;
+      sum = λ none. c.requires.home.sum;
+      weighted = c.requires.home.weighted;
+      fits = subst (λ (n : ℕ). IsTask n s.len (Some task)) (sym count) c.requires.task;
+      at_home = λ j below home. c.requires.home.long j (omega (arith, below, count));
+      settled = subst (λ (xs : List Place). Each (λ position place. IsSettled place) xs) (sym e) (begun_settled task in_sync);
+      lends = subst (λ (xs : List Place). Each (λ position place. is_lent place ≡ true → MayLend (Some task) position) xs) (sym e) (begun_lends (Some task) task in_sync);
+      targets = subst (λ (xs : List Place). Each (IsTargetOf (Some task)) xs) (sym e) (begun_targets task in_sync);
+      cut = begun_whole task;
+      computed = false;
+      renewed = λ repairs computed. absurd cc;
+      course = subst (λ (xs : List Place). Each (IsInCourse q (Some task) (length xs) false) xs) (sym e) (begun_course q task (length (begun_places task in_sync)) in_sync c.first_plan-self.ensures.suits lacks its);
+    }
+
+pub returns-clause-classed : goal.returns-clause-classed
+returns-clause-classed c =
+    let s = c.args.self.now in
+    let in_sync = c.args.in_sync.now in
+    let task = c.args.task in
+    let e : c.settle.new.places.items ≡ begun_places task in_sync = c.settle.ensures in
+    begun_unclassed s.len task in_sync c.settle.new.places.items s.blocks.items e (omega (arith, c.requires.home.four_or_more, ap length e, c.requires.positions, length-begun task in_sync))
+
+pub returns-clause-held : goal.returns-clause-held
+returns-clause-held c =
+    let s = c.args.self.now in
+    let in_sync = c.args.in_sync.now in
+    let blocks = s.blocks.items in
+    let kind = kind_of_task c.args.task in
+    let e : c.settle.new.places.items ≡ begun_places c.args.task in_sync = c.settle.ensures in
+    let standings : List Standing = map standing_if in_sync in
+    let hold : ◌≡◌ {A = Hold} (record { size = s.len; kind = kind; cells = cells_of c.settle.new.places.items blocks; cut_short = false }) (begun (resting s.len standings) kind) =
+    ap (λ (xs : List Place). record { size = s.len; kind = kind; cells = cells_of xs blocks; cut_short = false }) e
+    ∙ ap (λ (cells : List Cell). record { size = s.len; kind = kind; cells = cells; cut_short = false }) (begun_cells c.args.task in_sync blocks) in
+    let first = c.first_plan-self.ensures.plan ∙ ap (λ (h : Hold). first_plan h kind) hold in
+    let away = ap away_of e ∙ begun_away c.args.task in_sync in
+    (λ k. record { planned = record { hold = hold k; plan = first k }; away = away k; class = None })
