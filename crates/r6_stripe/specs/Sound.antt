@@ -58,7 +58,8 @@ IsRebuilding target computed position place =
 
 -- where a place stands in the course of the plan, before or after the new blocks were computed
 abbrev pub IsInCourse : Plan → Option Task → ℕ → Bool → ℕ → Place → Type 0
-IsInCourse plan.One (Some (task.Read index)) count computed position place = (place.write ≡ write.Unwritten) × (place.read ≢ read.Replaced)
+IsInCourse plan.One (Some (task.Read index)) count computed position place =
+    (place.write ≡ write.Unwritten) × (place.read ≢ read.Replaced) × (position ≢ index → place.read ≡ read.Unread)
 IsInCourse plan.Reconstruct (Some (task.Write index block)) count false position place =
     (place.write ≡ write.Unwritten) × (place.read ≢ read.Replaced) × (IsPut count index position → place.read ≢ read.Asked)
 IsInCourse plan.Modify (Some (task.Write index block)) count false position place = (place.write ≡ write.Unwritten) × (place.read ≢ read.Replaced)

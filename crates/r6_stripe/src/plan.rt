@@ -1,6 +1,6 @@
 //! What a hold reads, which command comes next, and when it is over.
 
-ghost use Rattle.std.specs.Prelude.{◌≡◌, ◌≢◌, ◌⊎◌, ◌+◌, ◌<◌, ◌≤◌, ◌||◌, ◌&&◌, ℕ, length, not, option_map, false, IsTrue, List, [], ◌∷◌, true, Some, if◌then◌else◌};
+ghost use Rattle.std.specs.Prelude.{◌≡◌, ◌≢◌, ◌⊎◌, ◌+◌, ◌<◌, ◌≤◌, ◌||◌, ◌&&◌, ℕ, length, not, option_map, false, IsTrue, List, [], ◌∷◌, true, Some, IfSome, if◌then◌else◌};
 ghost use Rattle.r6_recover.specs.declared.class.RowClass.{RowClass};
 ghost use Rattle.r6_stripe.specs.Checks.{IsClassed, IsEnd, KnowsWhatDiffers};
 ghost use Rattle.r6_stripe.specs.Holds as holds;
@@ -322,12 +322,25 @@ impl HoldState {
         !self.has_read_out() && self.is_enough()
     }
 
+    /// The position of a read, where its block is all that the plan reads.
+    pub(crate) fn its_index(&self) -> Option<usize>
+        ensures { IfSome result (λ index. (self.now.plan ≡ Plan.One) × (self.now.task ≡ Some (Task.Read index))) }
+    {
+        match (self.plan, &self.task) {
+            (Plan::One, Some(Task::Read(index))) => Some(*index),
+            _ => None,
+        }
+    }
+
     /// Whether nothing is put out, and nothing comes next.
     pub(crate) fn is_over(&self) -> bool
         requires sound { IsSound self.now }
         requires classed { IsClassed (hold_of self.now) self.now.class }
         ensures { result ≡ plans.is_over (planned_of self.now) }
     {
+        if let Some(index) = self.its_index() {
+            return self.places[index].is_known();
+        }
         if self.gives_up() {
             return self.is_quiet();
         }

@@ -131,6 +131,9 @@ impl HoldState {
         ensures sound { IsSound self.new }
         ensures classed { IsClassed (hold_of self.new) self.new.class }
     {
+        if let Some(index) = self.its_index() {
+            return self.read_one(index);
+        }
         if self.gives_up() {
             return None;
         }
@@ -149,6 +152,23 @@ impl HoldState {
             }
             None => None,
         }
+    }
+
+    // Puts out the one read of the plan, if it wasn't.
+    fn read_one(&mut self, index: usize) -> Option<RowCommand>
+        requires sound { IsSound self.old }
+        requires classed { IsClassed (hold_of self.old) self.old.class }
+        requires plan { self.old.plan ≡ Plan.One }
+        requires reads { self.old.task ≡ Some (Task.Read index) }
+        ensures puts_out { PutsOut (held_of self.old) result (held_of self.new) }
+        ensures sound { IsSound self.new }
+        ensures classed { IsClassed (hold_of self.new) self.new.class }
+    {
+        if !self.places[index].is_readable() {
+            return None;
+        }
+        let buffer = self.ask(index);
+        Some(RowCommand::Read(index, buffer))
     }
 
     /// The block of the position, if it is known.
