@@ -1,0 +1,7 @@
+//! Tests of shards: requests served over devices in memory, beside the register of their array.
+#![tactic(auto)]
+
+#[cfg(test)]
+mod bench;
+#[cfg(test)]
+mod served;
