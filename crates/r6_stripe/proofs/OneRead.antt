@@ -108,8 +108,11 @@ module _ (hold : Hold) (index : ℕ) (one : IsOne hold index) where
 
   pub reads_it : is_readable cell ≡ true → plans.next_read plans.Plan.One hold ≡ Some (Next.ReadAt index)
   reads_it readable =
-      rw (none_computed, first_is (plans.is_next_read plans.Plan.One hold) 0 (length hold.cells) index (omega arith) (omega (arith, one.below)) (next_here ∙ readable)
-      (λ k from before. not_next k (wants_no_other k (λ e. omega (arith, before, e))))) refl
+      rw (
+        none_computed,
+        first_is (plans.is_next_read plans.Plan.One hold) 0 (length hold.cells) index (omega arith) (omega (arith, one.below)) (next_here ∙ readable)
+            (λ k from before. not_next k (wants_no_other k (λ e. omega (arith, before, e)))),
+      ) refl
 
   reads_none : is_readable cell ≡ false → plans.next_read plans.Plan.One hold ≡ None
   reads_none readable =
