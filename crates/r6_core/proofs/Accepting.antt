@@ -11,7 +11,6 @@ use Rattle.r6_layout.specs.Layout.{shard_of, row_of}
 use Rattle.r6_stripe.specs.Holds.{Cell}
 use Rattle.r6_stripe.specs.Plans.{count_where, is_unread}
 use Rattle.r6_world.specs.Tables.{put}
-use Rattle.r6_tables.specs.Table.{next_of}
 use Rattle.r6_world.specs.PlainArray.{block_of}
 use Rattle.r6_world.specs.ShardStates.{Request, Waiting, frames}
 use Rattle.r6_world.specs.Changes.{Accept, after}
@@ -126,7 +125,7 @@ accepted_core s o core right sized =
     let sound = core.sound in
     let r : Entered = record { id = s.accepted; op = o } in
     let more = accepted s r sound.requests refl in
-    let tokens : next_of s.frames.commands < limit = lt_of_not-le (λ le. right.1.1.1.1.0 (inl le)) in
+    let tokens : s.frames.commands.next < limit = lt_of_not-le (λ le. right.1.1.1.1.0 (inl le)) in
     let fresh : s.accepted < limit = lt_of_not-le (λ le. right.1.1.1.1.0 (inr le)) in
     let few : s.unanswered < most_unanswered = lt_of_not-le right.1.1.1.1.1.0 in
     let longer : length (s.waiting.items ++ r ∷ []) ≡ length s.waiting.items + 1 = length-append s.waiting.items (r ∷ []) in
@@ -134,8 +133,8 @@ accepted_core s o core right sized =
     ap (λ n. n + (length (held_requests s.frames) + length (replied_requests s.frames.saw_failed s.released s.replies.items))) (sym (length-map s.waiting.items waiting_request))
     ∙ ap (λ n. length (map waiting_request s.waiting.items) + n) (sym (length-append (held_requests s.frames) (replied_requests s.frames.saw_failed s.released s.replies.items)))
     ∙ sym (length-append (map waiting_request s.waiting.items) (others s)) ∙ sound.requests.counted in
-    let owes = owed_in-le s.frames.geometry.slots s.frames.held.items (λ frame h is. (sound.frames.frames.rows frame h is).wide) in
-    let room = room_for s.frames.geometry.slots (length s.waiting.items) (length s.frames.held.items) (owed s.frames) sound.frames.shape.slots_allowed.1 owes sound.frames.frames.count (omega (arith, counted, few)) in
+    let owes = owed_in-le s.frames.geometry.slots s.frames.held (λ frame h is. (sound.frames.frames.rows frame h is).wide) in
+    let room = room_for s.frames.geometry.slots (length s.waiting.items) (length s.frames.held) (owed s.frames) sound.frames.shape.slots_allowed.1 owes sound.frames.frames.count (omega (arith, counted, few)) in
     let all : bound s + 0 ≡ bound s = omega arith in
     record {
       sound = record {
@@ -155,7 +154,7 @@ accepted_core s o core right sized =
           calls = sound.room.calls;
           few_calls = sound.room.few_calls;
         };
-        tokens = subst (λ n. next_of s.frames.commands + owed s.frames + 2 * s.frames.geometry.slots * n ≤ most_tokens) (sym longer) (omega (arith, room, tokens));
+        tokens = subst (λ n. s.frames.commands.next + owed s.frames + 2 * s.frames.geometry.slots * n ≤ most_tokens) (sym longer) (omega (arith, room, tokens));
         accepted = omega (arith, fresh);
         counted = sound.counted;
         next_rows = sound.next_rows;

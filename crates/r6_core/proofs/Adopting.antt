@@ -4,7 +4,6 @@ use Rattle.std.specs.Prelude.{nat_eq}
 use Rattle.std.specs.List.{IsDistinct, AllByRecursion}
 use Rattle.std.specs.Map.{keys_of}
 use Rattle.std.proofs.lemmas.Bool.{cases_lt, ne_eqb, eq-eqb}
-use Rattle.r6_tables.specs.Table.{next_of}
 use Rattle.r6_world.specs.Tables.{put}
 use Rattle.r6_world.specs.Registers.{Snapshot, status_of}
 use Rattle.r6_world.specs.ShardStates.{Shard}
@@ -81,7 +80,7 @@ module _ (s : State) (slot : ℕ) (device : Device) (fs : Frames) (takes : Takes
 
 -- a slot went out, while no call is to be made
 sound_taken : (s : State) (slot : ℕ) (device : Device) (fs : Frames) → IsSound s → NoCalls s → TakesOut s.frames slot device fs → held.IsSound fs
-    → next_of fs.commands ≡ next_of s.frames.commands → owed fs ≡ owed s.frames → held_requests fs ≡ held_requests s.frames → KeepsRows s.frames fs → IsSound (with_frames s fs)
+    → fs.commands.next ≡ s.frames.commands.next → owed fs ≡ owed s.frames → held_requests fs ≡ held_requests s.frames → KeepsRows s.frames fs → IsSound (with_frames s fs)
 sound_taken s slot device fs sound told takes is next owes requests rows =
     let same = requests-taken s slot device fs takes requests in
     let no_calls = ap length told.0 in
@@ -114,7 +113,7 @@ sound_taken s slot device fs sound told takes is next owes requests rows =
 pub adopting_out : (s mid : State) (seen : Snapshot) (slot : ℕ) (went_out : Bool) (device : Device) (fs : Frames) → NoCalls s → IsAdopting s mid seen slot went_out
     → slot < mid.frames.geometry.slots → differs (states_of mid.frames.slots slot) (status_of seen slot) ≡ true
     → slots.state_of device ≡ adopted (states_of mid.frames.slots slot) (status_of seen slot)
-    → TakesOut mid.frames slot device fs → held.IsSound fs → next_of fs.commands ≡ next_of mid.frames.commands → owed fs ≡ owed mid.frames → held_requests fs ≡ held_requests mid.frames
+    → TakesOut mid.frames slot device fs → held.IsSound fs → fs.commands.next ≡ mid.frames.commands.next → owed fs ≡ owed mid.frames → held_requests fs ≡ held_requests mid.frames
     → KeepsRows mid.frames fs → IsAdopting s (with_frames mid fs) seen (slot + 1) true
 adopting_out s mid seen slot went_out device fs told is lt other becomes takes sound next owes requests rows =
     let status = status_of seen slot in

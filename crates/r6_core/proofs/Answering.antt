@@ -3,7 +3,6 @@ use Rattle.std.proofs.Common.{◌≡◌, ◌⊎◌, ℕ, ◌+◌, ◌≤◌, Lis
 use Rattle.std.specs.List.{AllByRecursion}
 use Rattle.std.proofs.lemmas.Bool.{cases_eq, cases_lt}
 use Rattle.circular_buffer.specs.Buffer.{Buffer}
-use Rattle.r6_tables.specs.Table.{next_of}
 use Rattle.r6_world.specs.Changes.{after}
 use Rattle.r6_world.specs.Steps.{GoesOn, Through, Good, Taken}
 use Rattle.r6_frames.specs.declared.op.Request.{Request}
@@ -39,7 +38,7 @@ pub equal_unless : (a b : ℕ) → ((a ≡ b → ⊥) → ⊥) → a ≡ b
 equal_unless a b there = elim (cases_eq a b) [ inl e ↦ e | inr ne ↦ absurd (there ne) ]
 
 -- a frame that has what it had
-pub rested_kept : (old new : Frames) (frame : ℕ) → hold_at new.held.items frame ≡ hold_at old.held.items frame → IsDriven old frame × (IsOver old frame → ⊥) → IsDriven new frame × (IsOver new frame → ⊥)
+pub rested_kept : (old new : Frames) (frame : ℕ) → hold_at new.held frame ≡ hold_at old.held frame → IsDriven old frame × (IsOver old frame → ⊥) → IsDriven new frame × (IsOver new frame → ⊥)
 rested_kept old new frame same rested = (λ h is. rested.0 h (sym same ∙ is), λ over. rested.1 (over.0, sym same ∙ over.1, over.2))
 
 pub live_still : (old new : Frames) → new.geometry ≡ old.geometry → SlotsStay old new → AreLive new → AreLive old
@@ -48,15 +47,15 @@ live_still old new geometry slots live =
     (omega (arith, out, live.0), sym slots.1 ∙ live.1)
 
 pub answered_goes : (s : State) (fs : Frames) (token : ℕ) (block : List ℕ) → IsSound s → held.IsSound fs → Answers s.frames token block fs → held_requests fs ≡ held_requests s.frames
-    → KeepsRows s.frames fs → (owed fs ≡ owed s.frames) × (next_of fs.commands ≡ next_of s.frames.commands) → Goes s fs s.calls
+    → KeepsRows s.frames fs → (owed fs ≡ owed s.frames) × (fs.commands.next ≡ s.frames.commands.next) → Goes s fs s.calls
 answered_goes s fs token block sound frames answers requests rows tokens =
     goes_still s fs sound frames answers.0 answers.1 (answers_still s.frames fs token block answers) requests rows (let a = tokens.0 in let b = tokens.1 in omega (arith, a, b)) (let b = tokens.1 in omega (arith, b))
 
 -- the command is answered, and its hold puts out what comes next
 module _ (s : State) (token : ℕ) (block : List ℕ) (middle driven : Frames) (core : IsSettled s) (sound : held.IsSound middle) (live : AreLive middle) (answers : Answers s.frames token block middle)
-    (requests : held_requests middle ≡ held_requests s.frames) (rows : KeepsRows s.frames middle) (tokens : (owed middle ≡ owed s.frames) × (next_of middle.commands ≡ next_of s.frames.commands))
+    (requests : held_requests middle ≡ held_requests s.frames) (rows : KeepsRows s.frames middle) (tokens : (owed middle ≡ owed s.frames) × (middle.commands.next ≡ s.frames.commands.next))
     (driven_sound : held.IsSound driven) (driven_live : AreLive driven) (drives : Drives middle driven) (driven_requests : held_requests driven ≡ held_requests middle)
-    (more_rows : KeepsRows middle driven) (driven_tokens : next_of driven.commands + owed driven ≤ next_of middle.commands + owed middle) where
+    (more_rows : KeepsRows middle driven) (driven_tokens : driven.commands.next + owed driven ≤ middle.commands.next + owed middle) where
   abbrev answered_state : State
   answered_state = record s { frames = middle }
 
@@ -125,7 +124,7 @@ module _ (s : State) (token : ℕ) (block : List ℕ) (middle driven : Frames) (
             let there = row_stays s.frames driven at h (λ f. more_rows f ∙ rows f) is in
             unheld at there.0 there.1 (there.2 ∙ at_row))
             (λ at free. elim (cases_eq at frame) [
-              | inl e ↦ absurd (let is = ap (hold_at driven.held.items) e in let none : None ≡ Some held.0 = sym (ap row_in free.1) ∙ is ∙ held.1 in cc)
+              | inl e ↦ absurd (let is = ap (hold_at driven.held) e in let none : None ≡ Some held.0 = sym (ap row_in free.1) ∙ is ∙ held.1 in cc)
               | inr ne ↦ (free.0, sym (still at ne ∙ kept at ne) ∙ free.1)
             ])
             waits))

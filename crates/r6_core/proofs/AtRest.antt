@@ -68,8 +68,8 @@ at_rest s core =
       goes_on = λ live frame h is. goes_on (rest_of s) s.frames core.settled.sound.frames live frame h (core.settled.rested live frame).0 (core.settled.rested live frame).1 is;
       nothing_next = λ live frame h is. nothing_next s.frames frame h (core.settled.rested live frame).0 is;
       none_could_start = λ live id op is free_row frame free.
-          let rest : Entries Request = requests_from 0 s.frames.held.items ++ replied_requests s.frames.saw_failed s.released s.replies.items in
-          let past = all-append (λ e. IsPast e.1.stage) (requests_from 0 s.frames.held.items) _ (all_held (λ e. IsPast e.1.stage) (λ f r. tt) 0 s.frames.held.items) (all_replied (λ e. IsPast e.1.stage) s.frames.saw_failed (λ r. tt) (ended_past s.frames.saw_failed) s.released s.replies.items) in
+          let rest : Entries Request = requests_from 0 s.frames.held ++ replied_requests s.frames.saw_failed s.released s.replies.items in
+          let past = all-append (λ e. IsPast e.1.stage) (requests_from 0 s.frames.held) _ (all_held (λ e. IsPast e.1.stage) (λ f r. tt) 0 s.frames.held) (all_replied (λ e. IsPast e.1.stage) s.frames.saw_failed (λ r. tt) (ended_past s.frames.saw_failed) s.released s.replies.items) in
           let there = waits_at (CannotStart s.frames) s.waiting.items rest id op past core.waits is in
           let row = ap (λ o. layout.row_of s.frames.geometry (world.block_of o)) there.2 in
           there.1 live (not_held_by s _ (λ f h held at. free_row f h held (at ∙ sym row))) frame (free_frame_is (rest_of s) s.frames frame core.settled.sound.frames live free);

@@ -4,7 +4,6 @@ use Rattle.std.specs.Prelude.{nat_eq}
 use Rattle.std.specs.List.{IsDistinct, AllByRecursion}
 use Rattle.std.specs.Map.{keys_of}
 use Rattle.r6_layout.specs.Shape.{Shape}
-use Rattle.r6_tables.specs.Table.{next_of}
 use Rattle.r6_world.specs.ShardStates as shards
 use Rattle.r6_world.specs.ShardStates.{Shard}
 use Rattle.r6_world.specs.Steps as steps
@@ -28,7 +27,7 @@ use Rattle.r6_core.proofs.Kept.{own_rows_kept, requests_kept, sizes_kept}
 use Rattle.r6_core.proofs.Waking.{none_more}
 
 -- a frame that has what it had
-pub rested_kept : (old new : Frames) (frame : ℕ) → hold_at new.held.items frame ≡ hold_at old.held.items frame → IsDriven old frame × (IsOver old frame → ⊥) → IsDriven new frame × (IsOver new frame → ⊥)
+pub rested_kept : (old new : Frames) (frame : ℕ) → hold_at new.held frame ≡ hold_at old.held frame → IsDriven old frame × (IsOver old frame → ⊥) → IsDriven new frame × (IsOver new frame → ⊥)
 rested_kept old new frame same rested = (λ h is. rested.0 h (sym same ∙ is), λ over. rested.1 (over.0, sym same ∙ over.1, over.2))
 
 -- the frames with the holds of before
@@ -37,7 +36,7 @@ pub record IsTaken (old new : Frames) : Type 0 where
   pub holds : KeepsHolds old new
   pub geometry : new.geometry ≡ old.geometry
   pub shard : new.shard ≡ old.shard
-  pub tokens : next_of new.commands ≡ next_of old.commands
+  pub tokens : new.commands.next ≡ old.commands.next
   pub slots : new.slots ≡ old.slots
   pub saw_failed : new.saw_failed ≡ old.saw_failed
 
@@ -73,14 +72,14 @@ taken_core s new core is =
         };
         tokens =
             let slots = ap (λ (g : Shape). 2 * g.slots * length s.waiting.items) is.geometry in
-            let owes = ap (λ held. owed_in held.items) is.holds in
+            let owes = ap (λ held. owed_in held) is.holds in
             omega (arith, slots, owes, is.tokens, sound.tokens);
         accepted = sound.accepted;
-        counted = counted_kept s.counts s.frames new sound.counted (λ test. let many = ap (λ held. count_rows test held.items) is.holds in omega (arith, many)) (let next = is.tokens in omega (arith, next));
+        counted = counted_kept s.counts s.frames new sound.counted (λ test. let many = ap (λ held. count_rows test held) is.holds in omega (arith, many)) (let next = is.tokens in omega (arith, next));
         next_rows = own_rows_kept s.frames new s.check_row s.repair_row is.geometry is.shard sound.next_rows;
       };
       rested = λ live frame.
-          rested_kept s.frames new frame (ap (λ held. hold_at held.items frame) is.holds) (core.rested (live_before s.frames new is live) frame);
+          rested_kept s.frames new frame (ap (λ held. hold_at held frame) is.holds) (core.rested (live_before s.frames new is live) frame);
     }
 
 step_of : (s : State) (new : Frames) (event : steps.Event) → KeepsHolds s.frames new → new.saw_failed ≡ s.frames.saw_failed → Steps s.frames event new → Step (core_of s) event (core_of (record s { frames = new }))
@@ -108,8 +107,8 @@ taken_rests s new result core sound holds same took =
     record {
       settled = taken_core s new core.settled is;
       waits = none_more s.frames new s.waiting.items is.geometry (live_before s.frames new is)
-          (λ row unheld frame h there. unheld frame h (ap (λ held. hold_at held.items frame) is.holds ∙ there))
-          (λ frame free. (free.0, ap (λ held. use_at held.items frame) (sym is.holds) ∙ free.1)) core.waits;
+          (λ row unheld frame h there. unheld frame h (ap (λ held. hold_at held frame) is.holds ∙ there))
+          (λ frame free. (free.0, ap (λ held. use_at held frame) (sym is.holds) ∙ free.1)) core.waits;
     }
 
 pub taken_step : (s : State) (new : Frames) (result : Option Command) → KeepsHolds s.frames new → SameSlots s.frames new → TakesCommand s.frames result new

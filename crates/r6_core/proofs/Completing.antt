@@ -5,7 +5,6 @@ use Rattle.circular_buffer.specs.Buffer.{Buffer}
 use Rattle.r6_layout.specs.Shape.{Shape}
 use Rattle.r6_stripe.specs.Plans.{Planned, next}
 use Rattle.r6_stripe.specs.Steps.{has_outcome}
-use Rattle.r6_tables.specs.Table.{next_of}
 use Rattle.r6_world.specs.Geometries.{layout_of}
 use Rattle.r6_world.specs.ShardStates as shards
 use Rattle.r6_world.specs.ShardStates.{Shard}
@@ -46,9 +45,9 @@ planned_before (Some x) new h same is =
 
 rested_still : (old new : Frames) (frame : ℕ) → KeepsHeld old new → IsDriven old frame × (IsOver old frame → ⊥) → IsDriven new frame × (IsOver new frame → ⊥)
 rested_still old new frame keeps rested = (
-  λ h is. let before = planned_before (hold_at old.held.items frame) (hold_at new.held.items frame) h (keeps frame) is in ap next before.2 ∙ rested.0 before.0 before.1,
+  λ h is. let before = planned_before (hold_at old.held frame) (hold_at new.held frame) h (keeps frame) is in ap next before.2 ∙ rested.0 before.0 before.1,
   λ over.
-      let before = planned_before (hold_at old.held.items frame) (hold_at new.held.items frame) over.0 (keeps frame) over.1 in
+      let before = planned_before (hold_at old.held frame) (hold_at new.held frame) over.0 (keeps frame) over.1 in
       rested.1 (before.0, before.1, ap has_outcome (sym before.2) ∙ over.2),
 )
 
@@ -56,7 +55,7 @@ comes_still : (old new : Frames) (token : ℕ) → ComesHome old token new → S
 comes_still old new token comes = let is = (comes.2 no_rest).3 in (ap (λ (x : Shard). x.slot) is, ap (λ (x : Shard). x.saw_failed) is)
 
 module _ (s : State) (token : ℕ) (fs : Frames) (core : IsSettled s) (sound : held.IsSound fs) (comes : ComesHome s.frames token fs)
-    (tokens : (owed fs ≡ owed s.frames) × (next_of fs.commands ≡ next_of s.frames.commands)) (requests : held_requests fs ≡ held_requests s.frames) (keeps : KeepsHeld s.frames fs) where
+    (tokens : (owed fs ≡ owed s.frames) × (fs.commands.next ≡ s.frames.commands.next)) (requests : held_requests fs ≡ held_requests s.frames) (keeps : KeepsHeld s.frames fs) where
   late_goes : Goes s fs s.calls
   late_goes =
       goes_still s fs core.sound sound comes.0 comes.1 (comes_still s.frames fs token comes) requests (rows_of_holds s.frames fs keeps) (let a = tokens.0 in let b = tokens.1 in omega (arith, a, b)) (let b = tokens.1 in omega (arith, b))

@@ -7,7 +7,6 @@ use Rattle.std.specs.Map.{keys_of}
 use Rattle.std.proofs.lemmas.Bool.{cases_eq, ne_eqb, eq-eqb}
 use Rattle.circular_buffer.specs.Buffer.{Buffer, buffer}
 use Rattle.r6_layout.specs.Shape.{Shape}
-use Rattle.r6_tables.specs.Table.{next_of}
 use Rattle.r6_world.specs.Tables.{put}
 use Rattle.r6_world.specs.PlainArray as world
 use Rattle.r6_world.specs.Tasks.{Hold, Outcome, Task}
@@ -94,30 +93,30 @@ none_of_mapped f None e = refl
 none_of_mapped f (Some a) e = absurd (cc)
 
 -- and its frame without a row
-pub freed : (old fs : Frames) (frame : ℕ) (e : Ended) → Ends old frame e fs → hold_at fs.held.items frame ≡ None
+pub freed : (old fs : Frames) (frame : ℕ) (e : Ended) → Ends old frame e fs → hold_at fs.held frame ≡ None
 freed old fs frame e ends =
-    let is : option_map hold_of (hold_at fs.held.items frame) ≡ cond (nat_eq frame frame) None (option_map hold_of (hold_at old.held.items frame)) =
+    let is : option_map hold_of (hold_at fs.held frame) ≡ cond (nat_eq frame frame) None (option_map hold_of (hold_at old.held frame)) =
     ap (λ (x : Shard). x.frame frame) (ends.shard.2 no_rest) in
-    none_of_mapped hold_of (hold_at fs.held.items frame) (is ∙ ap (λ (b : Bool). cond b None (option_map hold_of (hold_at old.held.items frame))) (eq-eqb frame frame refl))
+    none_of_mapped hold_of (hold_at fs.held frame) (is ∙ ap (λ (b : Bool). cond b None (option_map hold_of (hold_at old.held frame))) (eq-eqb frame frame refl))
 
-pub none_rested : (fs : Frames) (frame : ℕ) → hold_at fs.held.items frame ≡ None → IsDriven fs frame × (IsOver fs frame → ⊥)
+pub none_rested : (fs : Frames) (frame : ℕ) → hold_at fs.held frame ≡ None → IsDriven fs frame × (IsOver fs frame → ⊥)
 none_rested fs frame none = (λ h is. absurd (cc), λ over. let is = over.1 in absurd (cc))
 
 -- what ends is what the row was held for
-ended_for : (old fs : Frames) (frame : ℕ) (e : Ended) (h : HeldRow) → Ends old frame e fs → hold_at old.held.items frame ≡ Some h
+ended_for : (old fs : Frames) (frame : ℕ) (e : Ended) (h : HeldRow) → Ends old frame e fs → hold_at old.held frame ≡ Some h
     → task_by h.job (kind_in h) ≡ ended_task e
 ended_for old fs frame e h ends is =
     let there : Some (hold_of h) ≡ Some ends.hold = sym (ap (option_map hold_of) is) ∙ (ends.may.2 no_rest).0 in
     let same : hold_of h ≡ ends.hold = cc in
     ap (λ (x : Hold). x.task) same ∙ ends.task
 
-pub ended_requests : (old fs : Frames) (frame : ℕ) (e : Ended) (h : HeldRow) → Ends old frame e fs → hold_at old.held.items frame ≡ Some h
+pub ended_requests : (old fs : Frames) (frame : ℕ) (e : Ended) (h : HeldRow) → Ends old frame e fs → hold_at old.held frame ≡ Some h
     → map numbered_op (requests_ended e) ≡ requests_by h.job (kind_in h)
 ended_requests old fs frame e h ends is =
     sym (requests_of_end e) ∙ ap requests_for (sym (ended_for old fs frame e h ends is)) ∙ requests_of_job h.job (kind_in h)
 
 ended_weight : (test : Job → Bool) (weight : Task → ℕ) → Weighs test weight → (old fs : Frames) (frame : ℕ) (e : Ended) (h : HeldRow)
-    → Ends old frame e fs → hold_at old.held.items frame ≡ Some h → row_weight test old.held.items frame ≡ weight (ended_task e)
+    → Ends old frame e fs → hold_at old.held frame ≡ Some h → row_weight test old.held frame ≡ weight (ended_task e)
 ended_weight test weight weighs old fs frame e h ends is =
     ap (λ o. one_if test (option_map held_for o)) is ∙ weighs.job h.row h.job (kind_in h) ∙ ap weight (ended_for old fs frame e h ends is)
 
@@ -152,12 +151,12 @@ held_elsewhere start frame (u ∷ held) none =
 request_at_row : (frame : ℕ) (u : FrameUse) (h : HeldRow) → row_in u ≡ Some h → request_at frame u ≡ map (held_entry frame) (requests_by h.job (kind_in h))
 request_at_row frame u h is = ap (request_at frame) (use_of_row u h is)
 
-none_in_frame : (fs : Frames) (frame : ℕ) (h : HeldRow) → hold_at fs.held.items frame ≡ Some h → requests_by h.job (kind_in h) ≡ []
+none_in_frame : (fs : Frames) (frame : ℕ) (h : HeldRow) → hold_at fs.held frame ≡ Some h → requests_by h.job (kind_in h) ≡ []
     → AllByRecursion (IsElsewhere frame) (held_requests fs)
 none_in_frame fs frame h is none =
-    held_elsewhere 0 frame fs.held.items (λ at e.
+    held_elsewhere 0 frame fs.held (λ at e.
     let here : at ≡ frame = omega (arith, e) in
-    request_at_row (0 + at) (use_at fs.held.items at) h (ap (hold_at fs.held.items) here ∙ is) ∙ ap (map (held_entry (0 + at))) none)
+    request_at_row (0 + at) (use_at fs.held at) h (ap (hold_at fs.held) here ∙ is) ∙ ap (map (held_entry (0 + at))) none)
 
 -- ---- the requests when a hold ends
 
@@ -256,7 +255,7 @@ module _ (s : State) (frame : ℕ) (fs : Frames) (done : Buffer Request) (counts
       }
 
 hold_ends : (s : State) (frame : ℕ) (e : Ended) (fs : Frames) (done : Buffer Request) (counts : Counts) (h : HeldRow) → IsSound s → AreLive s.frames
-    → Ends s.frames frame e fs → hold_at s.frames.held.items frame ≡ Some h → done.items ≡ s.replies.items ++ requests_ended e
+    → Ends s.frames frame e fs → hold_at s.frames.held frame ≡ Some h → done.items ≡ s.replies.items ++ requests_ended e
     → AreEnded frame (ended_outcome e) (requests_of s) (requests_of (ended_state s fs done counts))
 hold_ends s frame (ended.Request r) fs done counts h sound live ends is last = request_ends s frame r fs done counts sound live ends last
 hold_ends s frame (ended.Classed scrub class) fs done counts h sound live ends is last =
@@ -287,7 +286,7 @@ one_block old fs frame (ended.GivenUp target) ends = tt
 -- ---- the state when a hold ends
 
 module _ (s : State) (frame : ℕ) (e : Ended) (fs : Frames) (done : Buffer Request) (counts : Counts) (h : HeldRow) (sound : IsSound s) (live : AreLive s.frames)
-    (ends : Ends s.frames frame e fs) (is : hold_at s.frames.held.items frame ≡ Some h) (last : done.items ≡ s.replies.items ++ requests_ended e)
+    (ends : Ends s.frames frame e fs) (is : hold_at s.frames.held frame ≡ Some h) (last : done.items ≡ s.replies.items ++ requests_ended e)
     (found : counts_of counts ≡ counted (counts_of s.counts) (ended_task e) (ended_outcome e)) where
   abbrev after_end : State
   after_end = ended_state s fs done counts
@@ -331,14 +330,14 @@ module _ (s : State) (frame : ℕ) (e : Ended) (fs : Frames) (done : Buffer Requ
 
   -- a row less is held of which this is the weight
   fewer_rows : (test : Job → Bool) (weight : Task → ℕ) → Weighs test weight → held.IsSound fs → KeepsOthers s.frames frame fs
-      → count_rows test fs.held.items + weight (ended_task e) ≡ count_rows test s.frames.held.items
+      → count_rows test fs.held + weight (ended_task e) ≡ count_rows test s.frames.held
   fewer_rows test weight weighs frames others =
       let rows = rows_counted_but_one test frame s.frames fs sound.frames frames others in
       let one = ended_weight test weight weighs s.frames fs frame e h ends is in
-      let none : row_weight test fs.held.items frame ≡ 0 = ap (λ o. one_if test (option_map held_for o)) (freed s.frames fs frame e ends) in
+      let none : row_weight test fs.held frame ≡ 0 = ap (λ o. one_if test (option_map held_for o)) (freed s.frames fs frame e ends) in
       omega (arith, rows, one, none)
 
-  counts_ended : held.IsSound fs → KeepsOthers s.frames frame fs → next_of fs.commands ≡ next_of s.frames.commands → AreBounded counts fs
+  counts_ended : held.IsSound fs → KeepsOthers s.frames frame fs → fs.commands.next ≡ s.frames.commands.next → AreBounded counts fs
   counts_ended frames others next =
       let turns = fewer_rows is_turn turn_weight turns_weigh frames others in
       let scrubs = fewer_rows is_scrub scrub_weight scrubs_weigh frames others in
@@ -350,7 +349,7 @@ module _ (s : State) (frame : ℕ) (e : Ended) (fs : Frames) (done : Buffer Requ
         skipped = omega (arith, scrubs, passed_few, sound.counted.skipped);
       }
 
-  pub ended_sound : held.IsSound fs → KeepsOthers s.frames frame fs → owed fs ≤ owed s.frames → next_of fs.commands ≡ next_of s.frames.commands → done.capacity ≡ s.replies.capacity → IsSound after_end
+  pub ended_sound : held.IsSound fs → KeepsOthers s.frames frame fs → owed fs ≤ owed s.frames → fs.commands.next ≡ s.frames.commands.next → done.capacity ≡ s.replies.capacity → IsSound after_end
   ended_sound frames others fewer next capacity =
       let slots = ends_still s.frames fs frame e ends in
       record {
@@ -378,7 +377,7 @@ module _ (s : State) (frame : ℕ) (e : Ended) (fs : Frames) (done : Buffer Requ
 
 -- there is room for the reply of the request, if one ends
 pub room_to_end : (s : State) (frame : ℕ) (e : Ended) (fs : Frames) (h : HeldRow) → IsSound s → AreLive s.frames → Ends s.frames frame e fs
-    → hold_at s.frames.held.items frame ≡ Some h → length s.replies.items + length (requests_ended e) ≤ s.replies.capacity
+    → hold_at s.frames.held frame ≡ Some h → length s.replies.items + length (requests_ended e) ≤ s.replies.capacity
 room_to_end s frame e fs h sound live ends is =
     let done = buffer (s.replies.items ++ requests_ended e) s.replies.capacity in
     let ended = hold_ends s frame e fs done s.counts h sound live ends is refl in

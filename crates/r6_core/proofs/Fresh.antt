@@ -83,13 +83,13 @@ fresh_core s accepted unanswered waiting replies released calls untold counts sh
             calls = ap (λ b. b.capacity) calls;
             few_calls = let none : length s.calls.items + count_untold s.untold ≡ 0 = λ i. length (calls i).items + count_untold (untold i) in omega (arith, none);
           };
-          tokens = omega (arith, some, nothing_owed s.frames.held.items start.0, start.1);
+          tokens = omega (arith, some, nothing_owed s.frames.held start.0, start.1);
           accepted = omega (arith, accepted);
           counted =
               let rows = ap rows_found counts in
               let passed = ap (λ (k : Counts). k.skipped) counts in
-              let turns = no_rows_counted is_turn s.frames.held.items (λ frame. ap row_in (start.0 frame)) in
-              let scrubs = no_rows_counted is_scrub s.frames.held.items (λ frame. ap row_in (start.0 frame)) in
+              let turns = no_rows_counted is_turn s.frames.held (λ frame. ap row_in (start.0 frame)) in
+              let scrubs = no_rows_counted is_scrub s.frames.held (λ frame. ap row_in (start.0 frame)) in
               record { found = omega (arith, rows, turns); skipped = omega (arith, passed, scrubs) };
           next_rows = fresh_rows s shape shard lawful below same_shape same_shard check repair;
         };

@@ -44,7 +44,7 @@ pass before x behind done =
 pub record IsGathering (s new : State) (count : ℕ) : Type 0 where
   pub frames : held.IsSound new.frames
   pub stopped : AreLive new.frames → ⊥
-  pub none_held : (frame : ℕ) → frame < count → hold_at new.frames.held.items frame ≡ None
+  pub none_held : (frame : ℕ) → frame < count → hold_at new.frames.held frame ≡ None
   pub more : List Request
   pub replies : new.replies.items ≡ s.replies.items ++ more
   pub all : IsPermutation (unreplied s) (unreplied new ++ map numbered_op more)
@@ -130,7 +130,7 @@ module _ (s mid : State) (count : ℕ) (r : Request) (is : IsGathering s mid cou
       }
 
   pub gathering_held : (fs : Frames) → held.IsSound fs → (AreLive fs → ⊥) → GivesUp mid.frames count (ended.Request r) fs
-      → KeepsOthers mid.frames count fs → hold_at fs.held.items count ≡ None → owed fs ≤ owed mid.frames → replies.capacity ≡ mid.replies.capacity
+      → KeepsOthers mid.frames count fs → hold_at fs.held count ≡ None → owed fs ≤ owed mid.frames → replies.capacity ≡ mid.replies.capacity
       → IsGathering s (record mid { frames = fs; replies = replies }) (count + 1)
   gathering_held fs sound stopped gives others none owes long =
       let fewer = is.tokens in
@@ -146,9 +146,9 @@ module _ (s mid : State) (count : ℕ) (r : Request) (is : IsGathering s mid cou
         stopped = stopped;
         none_held = λ frame lt. elim (cases_lt frame count) [
           | inl lower ↦
-              let same : use_at fs.held.items frame ≡ use_at mid.frames.held.items frame = others frame (λ e. absurd (omega arith)) in
+              let same : use_at fs.held frame ≡ use_at mid.frames.held frame = others frame (λ e. absurd (omega arith)) in
               ap row_in same ∙ is.none_held frame lower
-          | inr higher ↦ let same : count ≡ frame = omega arith in subst (λ f. hold_at fs.held.items f ≡ None) same none
+          | inr higher ↦ let same : count ≡ frame = omega arith in subst (λ f. hold_at fs.held f ≡ None) same none
         ];
         more = more;
         replies = replies_more;
@@ -175,7 +175,7 @@ module _ (s mid : State) (count : ℕ) (r : Request) (is : IsGathering s mid cou
 
 -- a check or repair is given up
 pub gathering_scrub : (s mid : State) (count : ℕ) (fs : Frames) → IsGathering s mid count → held.IsSound fs → (AreLive fs → ⊥) → GivesTurnUp mid.frames count fs
-    → KeepsOthers mid.frames count fs → hold_at fs.held.items count ≡ None → owed fs ≤ owed mid.frames → IsGathering s (record mid { frames = fs }) (count + 1)
+    → KeepsOthers mid.frames count fs → hold_at fs.held count ≡ None → owed fs ≤ owed mid.frames → IsGathering s (record mid { frames = fs }) (count + 1)
 gathering_scrub s mid count fs is sound stopped gives others none owes =
     let fewer = is.tokens in
     record {
@@ -183,9 +183,9 @@ gathering_scrub s mid count fs is sound stopped gives others none owes =
       stopped = stopped;
       none_held = λ frame lt. elim (cases_lt frame count) [
         | inl lower ↦
-            let same : use_at fs.held.items frame ≡ use_at mid.frames.held.items frame = others frame (λ e. absurd (omega arith)) in
+            let same : use_at fs.held frame ≡ use_at mid.frames.held frame = others frame (λ e. absurd (omega arith)) in
             ap row_in same ∙ is.none_held frame lower
-        | inr higher ↦ let same : count ≡ frame = omega arith in subst (λ f. hold_at fs.held.items f ≡ None) same none
+        | inr higher ↦ let same : count ≡ frame = omega arith in subst (λ f. hold_at fs.held f ≡ None) same none
       ];
       more = is.more;
       replies = is.replies;
@@ -210,14 +210,14 @@ gathering_scrub s mid count fs is sound stopped gives others none owes =
       scrubs = is.scrubs;
     }
 
-pub gathering_skips : (s mid : State) (count : ℕ) → IsGathering s mid count → hold_at mid.frames.held.items count ≡ None → IsGathering s mid (count + 1)
+pub gathering_skips : (s mid : State) (count : ℕ) → IsGathering s mid count → hold_at mid.frames.held count ≡ None → IsGathering s mid (count + 1)
 gathering_skips s mid count is none =
     record {
       frames = is.frames;
       stopped = is.stopped;
       none_held = λ frame lt. elim (cases_lt frame count) [
         | inl lower ↦ is.none_held frame lower
-        | inr higher ↦ let same : count ≡ frame = omega arith in subst (λ f. hold_at mid.frames.held.items f ≡ None) same none
+        | inr higher ↦ let same : count ≡ frame = omega arith in subst (λ f. hold_at mid.frames.held f ≡ None) same none
       ];
       more = is.more;
       replies = is.replies;
@@ -242,13 +242,13 @@ none_from n (uses.Free ∷ held) none = none_from (n + 1) held (λ frame. none (
 none_from n (uses.Held h ∷ held) none = absurd (let bad = none 0 in cc)
 none_from n (uses.Returning r ∷ held) none = none_from (n + 1) held (λ frame. none (suc frame))
 
-pub gathered : (s new : State) (count : ℕ) → IsGathering s new count → length new.frames.held.items ≤ count → new.waiting.items ≡ [] → Gathers s new
+pub gathered : (s new : State) (count : ℕ) → IsGathering s new count → length new.frames.held ≤ count → new.waiting.items ≡ [] → Gathers s new
 gathered s new count is past none =
-    let no_row : (frame : ℕ) → hold_at new.frames.held.items frame ≡ None = λ frame. elim (cases_lt frame count) [
+    let no_row : (frame : ℕ) → hold_at new.frames.held frame ≡ None = λ frame. elim (cases_lt frame count) [
       | inl lower ↦ is.none_held frame lower
-      | inr higher ↦ ap row_in (get_or_past new.frames.held.items frame uses.Free (omega arith))
+      | inr higher ↦ ap row_in (get_or_past new.frames.held frame uses.Free (omega arith))
     ] in
-    let nothing : unreplied new ≡ [] = λ i. map numbered_op (none i) ++ map held_op (none_from 0 new.frames.held.items no_row i) in
+    let nothing : unreplied new ≡ [] = λ i. map numbered_op (none i) ++ map held_op (none_from 0 new.frames.held no_row i) in
     record {
       frames = is.frames;
       stopped = is.stopped;

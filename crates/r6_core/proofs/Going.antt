@@ -5,7 +5,6 @@ use Rattle.std.specs.List.{IsDistinct, AllByRecursion}
 use Rattle.std.specs.Map.{keys_of}
 use Rattle.circular_buffer.specs.Buffer.{Buffer}
 use Rattle.r6_layout.specs.Shape.{Shape}
-use Rattle.r6_tables.specs.Table.{next_of}
 use Rattle.r6_world.specs.Layouts.{Layout}
 use Rattle.r6_world.specs.Geometries.{layout_of}
 use Rattle.r6_world.specs.ShardStates.{Shard}
@@ -69,8 +68,8 @@ pub record Goes (s : State) (fs : Frames) (calls : Buffer Call) : Type 0 where
   pub seen : fs.saw_failed ≡ s.frames.saw_failed
   pub requests : held_requests fs ≡ held_requests s.frames
   pub rows : KeepsRows s.frames fs
-  pub tokens : next_of fs.commands + owed fs ≤ next_of s.frames.commands + owed s.frames
-  pub given : next_of s.frames.commands ≤ next_of fs.commands
+  pub tokens : fs.commands.next + owed fs ≤ s.frames.commands.next + owed s.frames
+  pub given : s.frames.commands.next ≤ fs.commands.next
   pub room : calls.capacity ≡ s.calls.capacity
   pub few : length calls.items + count_untold s.untold ≤ most_calls fs
 
@@ -130,8 +129,8 @@ abbrev pub SlotsStay : Frames → Frames → Type 0
 SlotsStay old new = (states_of new.slots ≡ states_of old.slots) × (new.saw_failed ≡ old.saw_failed)
 
 pub goes_still : (s : State) (fs : Frames) → IsSound s → held.IsSound fs → fs.geometry ≡ s.frames.geometry → fs.shard ≡ s.frames.shard → SlotsStay s.frames fs
-    → held_requests fs ≡ held_requests s.frames → KeepsRows s.frames fs → next_of fs.commands + owed fs ≤ next_of s.frames.commands + owed s.frames
-    → next_of s.frames.commands ≤ next_of fs.commands → Goes s fs s.calls
+    → held_requests fs ≡ held_requests s.frames → KeepsRows s.frames fs → fs.commands.next + owed fs ≤ s.frames.commands.next + owed s.frames
+    → s.frames.commands.next ≤ fs.commands.next → Goes s fs s.calls
 goes_still s fs sound frames geometry shard slots requests rows tokens given =
     record {
       sound = frames;
@@ -152,7 +151,7 @@ pub drives_still : (old new : Frames) → AreLive old → AreLive new → Drives
 drives_still old new live still drives = (drives_keep no_rest old new drives, still.1 ∙ sym live.1)
 
 -- no token is taken back
-pub drives_give : (old new : Frames) → Drives old new → next_of old.commands ≤ next_of new.commands
+pub drives_give : (old new : Frames) → Drives old new → old.commands.next ≤ new.commands.next
 drives_give old new drives = tokens_grow (layout_of old.geometry) old.shard PutsOut (shard_with no_rest old) (shard_with no_rest new) (drives.2 no_rest)
 
 pub answers_still : (old new : Frames) (token : ℕ) (block : List ℕ) → Answers old token block new → SlotsStay old new

@@ -6,7 +6,6 @@ use Rattle.std.specs.Map.{keys_of}
 use Rattle.std.proofs.Math.Nat.{add-mul, mul_comm, mul-le-mul}
 use Rattle.std.proofs.lemmas.Bool.{cases_eq}
 use Rattle.std.proofs.lemmas.List.{length-map}
-use Rattle.r6_tables.specs.Table.{next_of}
 use Rattle.r6_stripe.specs.Holds.{MayBegin}
 use Rattle.r6_world.specs.Tables.{put}
 use Rattle.r6_world.specs.Layouts.{IsRowOf, Layout}
@@ -109,7 +108,7 @@ pub record BeginsTurn (old : Frames) (frame : ℕ) (task : Task) (row : ℕ) (mi
   pub shard : Between (λ l n s s'. s' ≡ record s { frame = put s.frame frame (Some (begun l s.slot row task)) }) old mid
 
 begun_row : (old : Frames) (frame : ℕ) (task : Task) (row : ℕ) (mid : Frames) → BeginsTurn old frame task row mid
-    → (h : HeldRow) × (hold_at mid.held.items frame ≡ Some h) × (hold_of h ≡ begun (layout_of old.geometry) (states_of old.slots) row task)
+    → (h : HeldRow) × (hold_at mid.held frame ≡ Some h) × (hold_of h ≡ begun (layout_of old.geometry) (states_of old.slots) row task)
 begun_row old frame task row mid begins =
     let hold = begun (layout_of old.geometry) (states_of old.slots) row task in
     frame-held mid frame hold (ap (λ (x : Shard). x.frame frame) (begins.shard.2 no_rest) ∙ put_own (frame_of old) frame (Some hold))
@@ -118,11 +117,11 @@ pub begun_turn : (old : Frames) (frame : ℕ) (task : Task) (row : ℕ) (mid : F
 begun_turn old frame task row mid begins = let there = begun_row old frame task row mid begins in (there.0, there.1)
 
 -- the tokens suffice for what may come
-pub turn_numbers : (s : State) (frame : ℕ) (task : Task) (row : ℕ) (mid : Frames) → next_of s.frames.commands < limit → held.IsSound mid → BeginsTurn s.frames frame task row mid
-    → next_of mid.commands + owed mid < 2 ^ 63
+pub turn_numbers : (s : State) (frame : ℕ) (task : Task) (row : ℕ) (mid : Frames) → s.frames.commands.next < limit → held.IsSound mid → BeginsTurn s.frames frame task row mid
+    → mid.commands.next + owed mid < 2 ^ 63
 turn_numbers s frame task row mid given sound begins =
-    let owes = owed_in-le mid.geometry.slots mid.held.items (λ f h is. (sound.frames.rows f h is).wide) in
-    let room = room_for_all mid.geometry.slots 0 (length mid.held.items) (owed mid) sound.shape.slots_allowed.1 owes sound.frames.count (omega arith) in
+    let owes = owed_in-le mid.geometry.slots mid.held (λ f h is. (sound.frames.rows f h is).wide) in
+    let room = room_for_all mid.geometry.slots 0 (length mid.held) (owed mid) sound.shape.slots_allowed.1 owes sound.frames.count (omega arith) in
     let tokens = ap (λ (x : Shard). x.tokens) (begins.shard.2 no_rest) in
     omega (arith, room, tokens, given)
 
@@ -131,7 +130,7 @@ pub record IsTurnTaken (s : State) (task : Task) (frame row check_row repair_row
   pub core : IsCore s
   pub turn : steps.IsTurn task
   pub can : CanHold s.frames row frame
-  pub given : next_of s.frames.commands < limit
+  pub given : s.frames.commands.next < limit
   pub few : (scrub_weight task ≡ 0) ⊎ (s.counts.skipped < limit)
   pub own : AreOwnRows s.frames check_row repair_row
   pub check : check_row ≡ next_check (layout_in s) task row s.check_row
@@ -147,7 +146,7 @@ pub record IsTurnTaken (s : State) (task : Task) (frame row check_row repair_row
   pub others_kept : KeepsOthers mid frame new
   pub rows : KeepsRows mid new
   pub requests : held_requests new ≡ held_requests mid
-  pub all_owed : next_of new.commands + owed new ≤ next_of mid.commands + owed mid
+  pub all_owed : new.commands.next + owed new ≤ mid.commands.next + owed mid
   pub live : AreLive new
   pub goes_out : IsOver new frame → ⊥
 
@@ -161,7 +160,7 @@ module _ (s : State) (task : Task) (frame row check_row repair_row : ℕ) (mid n
   shard_same : new.shard ≡ s.frames.shard
   shard_same = is.drives.1 ∙ is.begins.shard.1
 
-  frames_same : (other : ℕ) → other ≢ frame → use_at new.held.items other ≡ use_at s.frames.held.items other
+  frames_same : (other : ℕ) → other ≢ frame → use_at new.held other ≡ use_at s.frames.held other
   frames_same other ne = is.others_kept other ne ∙ is.begun_others other ne
 
   requests_same : requests_of turned ≡ requests_of s
@@ -170,18 +169,18 @@ module _ (s : State) (task : Task) (frame row check_row repair_row : ℕ) (mid n
 
   -- the frame was free, and its row is held
   not_frame : (f : ℕ) → IsFreeFrame new f → f ≢ frame
-  not_frame f free e = let both : Some is.held_still.0 ≡ None = sym is.held_still.1 ∙ ap (hold_at new.held.items) (sym e) ∙ no_row new f free in absurd (cc)
+  not_frame f free e = let both : Some is.held_still.0 ≡ None = sym is.held_still.1 ∙ ap (hold_at new.held) (sym e) ∙ no_row new f free in absurd (cc)
 
   turned_waits : AllByRecursion (CannotStart new) s.waiting.items
   turned_waits =
       none_more s.frames new s.waiting.items geometry_same (λ live. is.can.0)
       (λ row unheld f h there.
-      let apart : f ≢ frame = λ e. let both : Some h ≡ None = sym there ∙ ap (hold_at s.frames.held.items) e ∙ no_row s.frames frame is.can.1 in absurd (cc) in
+      let apart : f ≢ frame = λ e. let both : Some h ≡ None = sym there ∙ ap (hold_at s.frames.held) e ∙ no_row s.frames frame is.can.1 in absurd (cc) in
       unheld f h (ap row_in (frames_same f apart) ∙ there))
       (λ f free. (free.0, sym (frames_same f (not_frame f free)) ∙ free.1)) is.core.waits
 
   -- the hold has put out a command
-  turned_tokens : next_of s.frames.commands < next_of new.commands
+  turned_tokens : s.frames.commands.next < new.commands.next
   turned_tokens =
       let rest = rest_of s in
       let begun = shard_with rest mid in
@@ -198,13 +197,13 @@ module _ (s : State) (task : Task) (frame row check_row repair_row : ℕ) (mid n
       ]
 
   -- the row is held for the task, and the others for what they were
-  turned_rows : (test : Job → Bool) (weight : Task → ℕ) → Weighs test weight → count_rows test new.held.items ≡ count_rows test s.frames.held.items + weight task
+  turned_rows : (test : Job → Bool) (weight : Task → ℕ) → Weighs test weight → count_rows test new.held ≡ count_rows test s.frames.held + weight task
   turned_rows test weight weighs =
       let sound = is.core.settled.sound.frames in
       let there = begun_row s.frames frame task row mid is.begins in
       let first = rows_counted_but_one test frame s.frames mid sound is.begun_sound is.begun_others in
-      let none : row_weight test s.frames.held.items frame ≡ 0 = ap (λ o. one_if test (option_map held_for o)) (no_row s.frames frame is.can.1) in
-      let own : row_weight test mid.held.items frame ≡ weight task =
+      let none : row_weight test s.frames.held frame ≡ 0 = ap (λ o. one_if test (option_map held_for o)) (no_row s.frames frame is.can.1) in
+      let own : row_weight test mid.held frame ≡ weight task =
       ap (λ o. one_if test (option_map held_for o)) there.1 ∙ weighs.job there.0.row there.0.job (kind_in there.0) ∙ ap (λ (hold : Hold). weight hold.task) there.2 in
       let rest = rows_counted_still test mid new is.begun_sound is.sound is.rows in
       omega (arith, first, none, own, rest)
@@ -217,7 +216,7 @@ module _ (s : State) (task : Task) (frame row check_row repair_row : ℕ) (mid n
         found = let turns = turned_rows is_turn turn_weight turns_weigh in omega (arith, counted.found, turns, one_turn task, turned_tokens);
         skipped = elim is.few [
           | inl none ↦ omega (arith, counted.skipped, scrubs, none)
-          | inr few ↦ omega (arith, few_rows is_scrub new.held.items, is.sound.frames.count, few)
+          | inr few ↦ omega (arith, few_rows is_scrub new.held, is.sound.frames.count, few)
         ];
       }
 
@@ -247,8 +246,8 @@ module _ (s : State) (task : Task) (frame row check_row repair_row : ℕ) (mid n
             few_calls = let out = calls_same s.frames new turned_slots geometry_same in omega (arith, out, sound.room.few_calls);
           };
           tokens =
-              let owes = owed_in-le mid.geometry.slots mid.held.items (λ f h there. (is.begun_sound.frames.rows f h there).wide) in
-              let room = room_for_all mid.geometry.slots (length s.waiting.items) (length mid.held.items) (owed mid) is.begun_sound.shape.slots_allowed.1 owes is.begun_sound.frames.count (few_waiting s sound) in
+              let owes = owed_in-le mid.geometry.slots mid.held (λ f h there. (is.begun_sound.frames.rows f h there).wide) in
+              let room = room_for_all mid.geometry.slots (length s.waiting.items) (length mid.held) (owed mid) is.begun_sound.shape.slots_allowed.1 owes is.begun_sound.frames.count (few_waiting s sound) in
               let slots = ap (λ g. 2 * g.slots * length s.waiting.items) is.drives.0 in
               let next = ap (λ (x : Shard). x.tokens) (is.begins.shard.2 no_rest) in
               omega (arith, room, slots, next, is.all_owed, is.given);

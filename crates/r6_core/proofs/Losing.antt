@@ -4,7 +4,6 @@ use Rattle.std.proofs.lemmas.Bool.{cases_eq, cases_lt, false≢true}
 use Rattle.std.proofs.lemmas.List.{map-append}
 use Rattle.circular_buffer.specs.Buffer.{Buffer, buffer}
 use Rattle.r6_layout.specs.Layout as layout
-use Rattle.r6_tables.specs.Table.{next_of}
 use Rattle.r6_stripe.specs.Plans.{is_out}
 use Rattle.r6_layout.specs.Shape.{Shape}
 use Rattle.r6_world.specs.Tables.{put, count_below}
@@ -79,7 +78,7 @@ there_for (device.Building generation rebuilt) row home = refl
 pub wanted_there : (fs : Frames) (token : ℕ) (c : Outstanding) → held.IsSound fs → outstanding fs token ≡ Some c → is_abandoned fs.slots token c ≡ false → is_missing (states_of fs.slots c.slot) ≡ false
 wanted_there fs token c sound is wanted =
     elim (live_or_not fs) [
-      | inl live ↦ by_use live (use_at fs.held.items c.frame) refl
+      | inl live ↦ by_use live (use_at fs.held c.frame) refl
       | inr stopped ↦ absurd (false≢true (sym wanted ∙ sound.commands.stopped stopped token c is))
     ]
   where
@@ -92,7 +91,7 @@ wanted_there fs token c sound is wanted =
         let at = target.1 in
         ap (λ (k : ℕ). is_missing (states_of fs.slots k)) (sym slot ∙ at.slot) ∙ ap (λ (d : Device). is_missing (state_of_device d)) at.device
 
-    of_row : AreLive fs → (h : HeldRow) → hold_at fs.held.items c.frame ≡ Some h → is_missing (states_of fs.slots c.slot) ≡ false
+    of_row : AreLive fs → (h : HeldRow) → hold_at fs.held c.frame ≡ Some h → is_missing (states_of fs.slots c.slot) ≡ false
     of_row live h there =
         let of = (sound.commands.of_frame live token c is).held h there in
         let row = sound.frames.rows c.frame h there in
@@ -103,7 +102,7 @@ wanted_there fs token c sound is wanted =
         let home = sym of.abandoned ∙ wanted in
         there_by h (place_of fs c) slot home stands
 
-    by_use : AreLive fs → (u : FrameUse) → use_at fs.held.items c.frame ≡ u → is_missing (states_of fs.slots c.slot) ≡ false
+    by_use : AreLive fs → (u : FrameUse) → use_at fs.held c.frame ≡ u → is_missing (states_of fs.slots c.slot) ≡ false
     by_use live uses.Free u =
         absurd (false≢true (sym (ap (λ (u : FrameUse). is_away_from u (place_of fs c)) u) ∙ (sound.commands.of_frame live token c is).away))
     by_use live (uses.Held h) u = of_row live h (ap row_in u)
@@ -146,7 +145,7 @@ loss_fits s fs token slot generation sound loses =
     omega (arith, more, all, wide, sound.room.few_calls, sound.room.calls, sound.frames.shape.slots_allowed.1)
 
 pub lost_goes : (s : State) (fs : Frames) (calls : Buffer Call) (token slot generation : ℕ) → IsSound s → held.IsSound fs → Loses s.frames token slot generation fs
-    → (owed fs ≡ owed s.frames) × (next_of fs.commands ≡ next_of s.frames.commands) → held_requests fs ≡ held_requests s.frames → KeepsRows s.frames fs
+    → (owed fs ≡ owed s.frames) × (fs.commands.next ≡ s.frames.commands.next) → held_requests fs ≡ held_requests s.frames → KeepsRows s.frames fs
     → calls ≡ buffer (s.calls.items ++ call.DeclareLost slot generation ∷ []) s.calls.capacity → Goes s fs calls
 lost_goes s fs calls token slot generation sound frames loses tokens requests rows pushed =
     record {

@@ -1,13 +1,11 @@
 -- A rebuilt row is marked, and the last one brings its slot in sync.
-use Rattle.std.proofs.Common.{◌≡◌, ℕ, ◌+◌, ◌<◌, ◌≤◌, inl, inr, Bool, true, false, [], ◌∷◌, ◌++◌, map, length, refl, sym, ap, subst, ◌∙◌, Some, None, arith, append-nil, length-append}
+use Rattle.std.proofs.Common.{◌≡◌, ℕ, ◌+◌, ◌<◌, ◌≤◌, inl, inr, Bool, true, false, List, [], ◌∷◌, ◌++◌, map, length, refl, sym, ap, subst, ◌∙◌, Some, None, arith, append-nil, length-append}
 use mathlib.Core.Path.{fun_ext}
 use Rattle.std.specs.Prelude.{option_map}
-use Rattle.std.specs.Global.{Vec}
 use Rattle.std.proofs.lemmas.Bool.{cases_eq}
 use Rattle.std.proofs.lemmas.List.{map-append}
 use Rattle.circular_buffer.specs.Buffer.{Buffer}
 use Rattle.r6_layout.specs.Shape.{Shape}
-use Rattle.r6_tables.specs.Table.{next_of}
 use Rattle.r6_world.specs.Tables.{put, count_below}
 use Rattle.r6_world.proofs.Tables.{put-same, put-other}
 use Rattle.r6_world.specs.Geometries.{layout_of}
@@ -17,6 +15,7 @@ use Rattle.r6_world.specs.Changes.{Bring_in, Finish, AllBuilt, Allowed, after, w
 use Rattle.r6_world.specs.Steps.{GoesOn, Through}
 use Rattle.r6_frames.specs.declared.finish.Ended.{Ended}
 use Rattle.r6_frames.specs.declared.finish.Ended.TheVariants as ended
+use Rattle.r6_frames.specs.FramesState.{Commands}
 use Rattle.r6_frames.specs.declared.frames.FrameUse.{FrameUse}
 use Rattle.r6_frames.specs.declared.frames.Frames.{Frames}
 use Rattle.r6_frames.specs.declared.frames.HeldRow.{HeldRow}
@@ -59,8 +58,8 @@ put_again f k v w =
     ])
 
 module _ (s : State) (frame : ℕ) (target : Target) (row : ℕ) (fs : Frames) (h : HeldRow) (sound : IsSound s) (live : AreLive s.frames)
-    (ends : Ends s.frames frame (ended.Rebuilt target row) fs) (is : hold_at s.frames.held.items frame ≡ Some h)
-    (fs_sound : held.IsSound fs) (others : KeepsOthers s.frames frame fs) (fewer : owed fs ≤ owed s.frames) (next : next_of fs.commands ≡ next_of s.frames.commands)
+    (ends : Ends s.frames frame (ended.Rebuilt target row) fs) (is : hold_at s.frames.held frame ≡ Some h)
+    (fs_sound : held.IsSound fs) (others : KeepsOthers s.frames frame fs) (fewer : owed fs ≤ owed s.frames) (next : fs.commands.next ≡ s.frames.commands.next)
     (may : MayMark fs (ended.Rebuilt target row)) where
   abbrev end : Ended
   end = ended.Rebuilt target row
@@ -103,13 +102,13 @@ module _ (s : State) (frame : ℕ) (target : Target) (row : ℕ) (fs : Frames) (
           geometry = geometry;
           shard = shard;
           seen = seen;
-          requests = ap (λ (held : Vec FrameUse). requests_from 0 held.items) holds;
-          rows = λ other. ap (λ (held : Vec FrameUse). option_map held_for (hold_at held.items other)) holds;
+          requests = ap (λ (held : List FrameUse). requests_from 0 held) holds;
+          rows = λ other. ap (λ (held : List FrameUse). option_map held_for (hold_at held other)) holds;
           tokens =
-              let given = ap next_of commands in
-              let owes = ap (λ (held : Vec FrameUse). owed_in held.items) holds in
+              let given = ap (λ (t : Commands). t.next) commands in
+              let owes = ap (λ (held : List FrameUse). owed_in held) holds in
               omega (arith, given, owes);
-          given = let given = ap next_of commands in omega (arith, given);
+          given = let given = ap (λ (t : Commands). t.next) commands in omega (arith, given);
           room = room;
           few = few;
         }
@@ -235,14 +234,14 @@ module _ (s : State) (frame : ℕ) (target : Target) (row : ℕ) (fs : Frames) (
     marked_frames (inl m) = (m.0.0 ∙ ends.shard.0, m.0.1 ∙ ends.shard.1)
     marked_frames (inr b) = (b.0.0 ∙ ends.shard.0, b.0.1 ∙ ends.shard.1)
 
-    none_now : hold_at new.frames.held.items frame ≡ None
-    none_now = ap (λ (held : Vec FrameUse). hold_at held.items frame) holds ∙ freed s.frames fs frame end ends
+    none_now : hold_at new.frames.held frame ≡ None
+    none_now = ap (λ (held : List FrameUse). hold_at held frame) holds ∙ freed s.frames fs frame end ends
 
     pub marked_rests : IsRestedFrame new frame
     marked_rests = none_rested new.frames frame none_now
 
     pub marked_others : KeepsOthers s.frames frame new.frames
-    marked_others other ne = ap (λ (held : Vec FrameUse). use_at held.items other) holds ∙ others other ne
+    marked_others other ne = ap (λ (held : List FrameUse). use_at held other) holds ∙ others other ne
 
     pub marked_ends : FinishesHeld s frame new
     marked_ends i there over = ([], ended_requests s.frames fs frame end i ends there, ap (λ (x : State). x.replies.items) same ∙ last, none_now)

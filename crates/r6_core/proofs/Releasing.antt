@@ -70,7 +70,7 @@ all_go s replied is =
     let p = replied_requests s.frames.saw_failed s.released s.replies.items in
     map-append entry_released w (h ++ p)
     ∙ ap (λ es. map entry_released w ++ es) (map-append entry_released h p)
-    ∙ (λ i. waiting_stay s.waiting.items i ++ (held_stay 0 s.frames.held.items i ++ is i))
+    ∙ (λ i. waiting_stay s.waiting.items i ++ (held_stay 0 s.frames.held i ++ is i))
 
 look-up : (s : State) (es : Entries shards.Request) → map entry_released (requests_of s) ≡ es → table es ≡ (λ q. released (table (requests_of s) q))
 look-up s es is = fun_ext (λ q. ap (λ xs. table xs q) (sym is) ∙ table-released (requests_of s) q)

@@ -62,7 +62,7 @@ none_released s empty id op reply is =
     let es = λ (released : List Request). map waiting_request s.waiting.items ++ (held_requests s.frames ++ (map released_request released ++ map (finished_request s.frames.saw_failed) finished)) in
     let all : AllUnreleased (es []) =
     all-append (λ e. P e.1) _ _ (waiting_unreleased s.waiting.items)
-    (all-append (λ e. P e.1) _ _ (all_held (λ e. P e.1) (λ f r. tt) 0 s.frames.held.items) (ended_unreleased s.frames.saw_failed finished empty.1)) in
+    (all-append (λ e. P e.1) _ _ (all_held (λ e. P e.1) (λ f r. tt) 0 s.frames.held) (ended_unreleased s.frames.saw_failed finished empty.1)) in
     looked_up P id (es []) _ all (ap (λ rs. table (es rs) id) (sym empty.0) ∙ is)
 
 -- no reply is ready

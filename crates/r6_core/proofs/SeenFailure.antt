@@ -14,12 +14,12 @@ use Rattle.std.proofs.lemmas.List.Sorted.{IsNonDecreasingBy-drop, IsPermutation-
 use Rattle.std.proofs.lemmas.Map.Views.{Contains-from_lookup, lookup-from_Contains}
 use Rattle.std.proofs.lemmas.Map.Keys.{IsDistinct-head, IsDistinct-tail, IsDistinct-IsPermutation}
 use Rattle.r6_layout.specs.Shape.{Shape}
-use Rattle.r6_tables.specs.Table.{next_of}
 use Rattle.r6_world.specs.PlainArray as world
 use Rattle.r6_world.specs.PlainArray.{ArrayFailed}
 use Rattle.r6_world.specs.ShardStates as shards
 use Rattle.r6_world.specs.ShardStates.{Shard, Released}
 use Rattle.r6_world.specs.Changes.{See_failed, abandoned_if, failed_stage, failed_request, after}
+use Rattle.r6_frames.specs.FramesState.{Commands}
 use Rattle.r6_frames.specs.declared.op.Request.{Request}
 use Rattle.r6_frames.specs.declared.frames.Job.{Job}
 use Rattle.r6_frames.specs.declared.frames.Frames.{Frames}
@@ -127,7 +127,7 @@ all_fail s =
     let p' = failed_behind s.released s.replies.items in
     map-append failed w (h ++ p)
     ∙ ap (λ es. map failed w ++ es) (map-append failed h p)
-    ∙ (λ i. waiting_fail s.waiting.items i ++ (held_fail 0 s.frames.held.items i ++ replied_fail s.frames.saw_failed s.released s.replies.items i))
+    ∙ (λ i. waiting_fail s.waiting.items i ++ (held_fail 0 s.frames.held i ++ replied_fail s.frames.saw_failed s.released s.replies.items i))
     ∙ sym (append_assoc (map answered w') (map answered h') p')
     ∙ ap (λ es. es ++ p') (sym (map-append answered w' h'))
 
@@ -165,10 +165,10 @@ module _ (s : State) (fs : Frames) (sound : IsSound s) (sees : SeesFailure s.fra
         };
         tokens =
             let slots = ap (λ (g : Shape). 2 * g.slots * length s.waiting.items) sees.0 in
-            let next = ap (λ t. next_of t) commands in
+            let next = ap (λ (t : Commands). t.next) commands in
             omega (arith, slots, next, owes, sound.tokens);
         accepted = sound.accepted;
-        counted = counted_kept s.counts s.frames fs sound.counted (same_or_fewer s.frames fs sound.frames frames (rows_of_holds s.frames fs holds)) (let next = ap (λ t. next_of t) commands in omega (arith, next));
+        counted = counted_kept s.counts s.frames fs sound.counted (same_or_fewer s.frames fs sound.frames frames (rows_of_holds s.frames fs holds)) (let next = ap (λ (t : Commands). t.next) commands in omega (arith, next));
         next_rows = own_rows_kept s.frames fs s.check_row s.repair_row sees.0 sees.1 sound.next_rows;
       }
 
@@ -228,7 +228,7 @@ module _ (s : State) (fs : Frames) (mid : State) (sorted : Buffer Request) (soun
       (IsPermutation-append_right (take mid.released mid.replies.items) (drop mid.released mid.replies.items) (drop mid.released sorted.items) same))
 
   none_held : held_requests mid.frames ≡ []
-  none_held = none_from 0 mid.frames.held.items gathers.none_held
+  none_held = none_from 0 mid.frames.held gathers.none_held
 
   shard_is : (rest : Rest) → shard_with rest mid.frames ≡ record (shard_with rest s.frames) { saw_failed = true; command = λ t. abandoned_if true ((shard_with rest s.frames).command t); frame = λ f. None }
   shard_is rest = gathers.shard.2 rest ∙ ap (λ (x : Shard). record x { frame = λ f. None }) (sees.2 rest)
@@ -344,14 +344,14 @@ module _ (s : State) (fs : Frames) (mid : State) (sorted : Buffer Request) (soun
                 omega (arith, same, calls, sound.room.few_calls);
           };
           tokens =
-              let next : next_of mid.frames.commands ≡ next_of s.frames.commands = ap (λ (x : Shard). x.tokens) (shard_is (rest_of s)) in
+              let next : mid.frames.commands.next ≡ s.frames.commands.next = ap (λ (x : Shard). x.tokens) (shard_is (rest_of s)) in
               let fewer = gathers.tokens in
               let none : 2 * mid.frames.geometry.slots * length mid.waiting.items ≡ 0 = ap (λ (rs : List Request). 2 * mid.frames.geometry.slots * length rs) gathers.none_waiting ∙ (omega arith) in
               omega (arith, next, fewer, owes, none, sound.tokens);
           accepted = subst (λ (n : ℕ). n ≤ limit) (sym gathers.rest.0) sound.accepted;
           counted =
-              let none = λ (test : Job → Bool). no_rows_counted test mid.frames.held.items gathers.none_held in
-              let next : next_of mid.frames.commands ≡ next_of s.frames.commands = ap (λ (x : Shard). x.tokens) (shard_is (rest_of s)) in
+              let none = λ (test : Job → Bool). no_rows_counted test mid.frames.held gathers.none_held in
+              let next : mid.frames.commands.next ≡ s.frames.commands.next = ap (λ (x : Shard). x.tokens) (shard_is (rest_of s)) in
               subst (λ k. AreBounded k mid.frames) (sym gathers.scrubs.2)
               (counted_kept s.counts s.frames mid.frames sound.counted (λ test. let zero = none test in omega (arith, zero)) (omega (arith, next)));
           next_rows =

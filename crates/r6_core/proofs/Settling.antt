@@ -5,7 +5,6 @@ use Rattle.std.specs.List.{IsDistinct, AllByRecursion}
 use Rattle.std.specs.Map.{keys_of}
 use Rattle.std.proofs.lemmas.Bool.{cases_eq}
 use Rattle.std.proofs.lemmas.List.{drop-append-le, take-append-le}
-use Rattle.r6_tables.specs.Table.{next_of}
 use Rattle.r6_stripe.specs.Holds.{Kind}
 use Rattle.r6_world.specs.PlainArray as world
 use Rattle.r6_world.specs.ShardStates as shards
@@ -40,13 +39,13 @@ record IsAmong (s : State) (frame : ℕ) (r : ℕ × world.Op) : Type 0 where
   pub behind : Entries shards.Request
   pub parts : requests_of s ≡ before ++ held_entry frame r ∷ behind
 
-among : (s : State) (frame : ℕ) (h : HeldRow) (r : ℕ × world.Op) → hold_at s.frames.held.items frame ≡ Some h → requests_by h.job (kind_in h) ≡ r ∷ [] → IsAmong s frame r
+among : (s : State) (frame : ℕ) (h : HeldRow) (r : ℕ × world.Op) → hold_at s.frames.held frame ≡ Some h → requests_by h.job (kind_in h) ≡ r ∷ [] → IsAmong s frame r
 among s frame h r is only =
     let w = map waiting_request s.waiting.items in
     let rest = replied_requests s.frames.saw_failed s.released s.replies.items in
-    let entry : request_at frame (use_at s.frames.held.items frame) ≡ held_entry frame r ∷ [] =
-    ap (request_at frame) (use_held s.frames.held.items frame h is) ∙ ap (map (held_entry frame)) only in
-    let place = held_goes 0 s.frames.held.items frame frame Free (held_entry frame r) (held_within s.frames.held.items frame h is) refl (omega arith) entry in
+    let entry : request_at frame (use_at s.frames.held frame) ≡ held_entry frame r ∷ [] =
+    ap (request_at frame) (use_held s.frames.held frame h is) ∙ ap (map (held_entry frame)) only in
+    let place = held_goes 0 s.frames.held frame frame Free (held_entry frame r) (held_within s.frames.held frame h is) refl (omega arith) entry in
     record {
       before = w ++ place.before;
       behind = place.behind ++ rest;
@@ -88,7 +87,7 @@ last_rank (job.Scrub scrub) is = refl
 last_rank (job.Rebuild target) is = refl
 
 -- the rank of a request in one frame is that of no row in another
-rank_apart : (s : State) (frame other : ℕ) (h i : HeldRow) → IsSound s → hold_at s.frames.held.items frame ≡ Some h → hold_at s.frames.held.items other ≡ Some i
+rank_apart : (s : State) (frame other : ℕ) (h i : HeldRow) → IsSound s → hold_at s.frames.held frame ≡ Some h → hold_at s.frames.held other ≡ Some i
     → frame ≢ other → is_request h.job ≡ true → rank_of h.job ≢ rank_of i.job
 rank_apart s frame other h i sound here there ne request same =
     let own = has_request h.job (kind_in h) request in
@@ -164,11 +163,11 @@ pub record IsSettling (old now : State) : Type 0 where
   pub more : List Request
   pub rising : IsRising more
   pub items : now.replies.items ≡ old.replies.items ++ more
-  pub lower : (frame : ℕ) (h : HeldRow) → IsOver now.frames frame → hold_at now.frames.held.items frame ≡ Some h → AreLower more (rank_of h.job)
+  pub lower : (frame : ℕ) (h : HeldRow) → IsOver now.frames frame → hold_at now.frames.held frame ≡ Some h → AreLower more (rank_of h.job)
 
 -- all commands that come next were put out
 pub driven_goes : (s : State) (fs : Frames) → IsSound s → AreLive s.frames → held.IsSound fs → AreLive fs → Drives s.frames fs → held_requests fs ≡ held_requests s.frames
-    → KeepsRows s.frames fs → next_of fs.commands + owed fs ≤ next_of s.frames.commands + owed s.frames → Goes s fs s.calls
+    → KeepsRows s.frames fs → fs.commands.next + owed fs ≤ s.frames.commands.next + owed s.frames → Goes s fs s.calls
 driven_goes s fs sound live frames still drives requests rows tokens =
     goes_still s fs sound frames drives.0 drives.1 (drives_still s.frames fs live still drives) requests rows tokens (drives_give s.frames fs drives)
 
@@ -203,15 +202,15 @@ module _ (old now new : State) (frame : ℕ) (before : IsSettling old now) (lowe
   abbrev h : HeldRow
   h = lowest.0.0
 
-  pub ended : (more : List Request) × (map numbered_op more ≡ requests_by h.job (kind_in h)) × (new.replies.items ≡ now.replies.items ++ more) × (hold_at new.frames.held.items frame ≡ None)
+  pub ended : (more : List Request) × (map numbered_op more ≡ requests_by h.job (kind_in h)) × (new.replies.items ≡ now.replies.items ++ more) × (hold_at new.frames.held frame ≡ None)
   ended = ends h lowest.0.1 lowest.0
 
   -- a hold that is over still was over before, in another frame
-  still_over : (other : ℕ) (i : HeldRow) → IsOver new.frames other → hold_at new.frames.held.items other ≡ Some i
-      → (other ≢ frame) × IsOver now.frames other × (hold_at now.frames.held.items other ≡ Some i)
+  still_over : (other : ℕ) (i : HeldRow) → IsOver new.frames other → hold_at new.frames.held other ≡ Some i
+      → (other ≢ frame) × IsOver now.frames other × (hold_at now.frames.held other ≡ Some i)
   still_over other i over is =
       elim (cases_eq other frame) [
-        | inl e ↦ let none = ap (hold_at new.frames.held.items) e ∙ ended.3 in absurd (let no : None ≡ Some i = sym none ∙ is in cc)
+        | inl e ↦ let none = ap (hold_at new.frames.held) e ∙ ended.3 in absurd (let no : None ≡ Some i = sym none ∙ is in cc)
         | inr ne ↦
             let kept = ap row_in (others other ne) in
             (ne, (over.0, sym kept ∙ over.1, over.2), sym kept ∙ is)
@@ -255,12 +254,12 @@ module _ (old now new : State) (frame : ℕ) (before : IsSettling old now) (lowe
       }
 
   -- a row less is held
-  pub fewer_left : count_rows (λ job. true) new.frames.held.items < count_rows (λ job. true) now.frames.held.items
+  pub fewer_left : count_rows (λ job. true) new.frames.held < count_rows (λ job. true) now.frames.held
   fewer_left =
       let any : Job → Bool = λ job. true in
       let rows = rows_counted_but_one any frame now.frames new.frames before.sound.frames sound.frames others in
-      let one : row_weight any now.frames.held.items frame ≡ 1 = ap (λ o. one_if any (option_map held_for o)) lowest.0.1 in
-      let none : row_weight any new.frames.held.items frame ≡ 0 = ap (λ o. one_if any (option_map held_for o)) ended.3 in
+      let one : row_weight any now.frames.held frame ≡ 1 = ap (λ o. one_if any (option_map held_for o)) lowest.0.1 in
+      let none : row_weight any new.frames.held frame ≡ 0 = ap (λ o. one_if any (option_map held_for o)) ended.3 in
       omega (arith, rows, one, none)
 
 pub settled_order : (old now : State) → IsSound old → IsSettling old now → Seen Finishes old now

@@ -9,7 +9,6 @@ use Rattle.std.proofs.lemmas.Bool.{cases_eq, eqb-true}
 use Rattle.std.proofs.lemmas.List.{map-append, length-map}
 use Rattle.r6_layout.specs.Layout.{row_of}
 use Rattle.r6_layout.proofs.Places.{row_of-lt}
-use Rattle.r6_tables.specs.Table.{next_of}
 use Rattle.r6_world.specs.Tables.{put}
 use Rattle.r6_world.specs.PlainArray as world
 use Rattle.r6_world.specs.PlainArray.{block_of}
@@ -93,7 +92,7 @@ not_held rest fs row free frame hold is at =
     free frame there.0 there.1 (ap (λ (h : Hold). h.row) there.2 ∙ at)
 
 -- a frame that is free or returning has no row
-pub no_row : (fs : Frames) (frame : ℕ) → IsFreeFrame fs frame → hold_at fs.held.items frame ≡ None
+pub no_row : (fs : Frames) (frame : ℕ) → IsFreeFrame fs frame → hold_at fs.held frame ≡ None
 no_row fs frame free = ap row_in free.1
 
 -- ---- a row is held for the request
@@ -108,18 +107,18 @@ module _ (old : Frames) (frame : ℕ) (request : Entered) (mid : Frames) (begins
   pub begun_held : IsHeldFrame mid frame
   begun_held = let there = frame-held mid frame (begun_for old request) begun_frame in (there.0, there.1)
 
-  pub begun_tokens : next_of mid.commands ≡ next_of old.commands
+  pub begun_tokens : mid.commands.next ≡ old.commands.next
   begun_tokens = ap (λ (s : Shard). s.tokens) begun_shard
 
   -- the tokens suffice for what may come
   pub begun_numbers : (s : State) (rest : List Entered) → IsSound s → length s.waiting.items ≡ length rest + 1 → old ≡ s.frames → owed mid ≡ owed old + 2 * old.geometry.slots
-      → next_of mid.commands + owed mid < 2 ^ 63
+      → mid.commands.next + owed mid < 2 ^ 63
   begun_numbers s rest sound items same owes =
       let slots = s.frames.geometry.slots in
       let all : 2 * slots * length s.waiting.items ≡ 2 * slots * length rest + 2 * slots = ap (λ n. 2 * slots * n) (let more : length s.waiting.items ≡ suc (length rest) = omega (arith, items) in more) ∙ mul-suc (2 * slots) (length rest) in
-      let tokens = begun_tokens ∙ ap (λ fs. next_of fs.commands) same in
+      let tokens = begun_tokens ∙ ap (λ fs. fs.commands.next) same in
       let more : owed mid ≡ owed s.frames + 2 * slots = owes ∙ ap (λ fs. owed fs + 2 * fs.geometry.slots) same in
-      few (next_of s.frames.commands) (next_of mid.commands) (owed s.frames) (owed mid) (2 * slots) (2 * slots * length rest) (2 * slots * length s.waiting.items) tokens more all sound.tokens
+      few s.frames.commands.next mid.commands.next (owed s.frames) (owed mid) (2 * slots) (2 * slots * length rest) (2 * slots * length s.waiting.items) tokens more all sound.tokens
     where
       few : (n0 n1 o0 o1 each fewer all : ℕ) → n1 ≡ n0 → o1 ≡ o0 + each → all ≡ fewer + each → n0 + o0 + all ≤ most_tokens → n1 + o1 < 2 ^ 63
       few n0 n1 o0 o1 each fewer all a b c d = omega arith
@@ -140,7 +139,7 @@ pub record IsStart (s : State) (before : List Entered) (request : Entered) (behi
   pub others_kept : KeepsOthers mid frame new
   pub rows : KeepsRows mid new
   pub requests : held_requests new ≡ held_requests mid
-  pub all_owed : next_of new.commands + owed new ≤ next_of mid.commands + owed mid
+  pub all_owed : new.commands.next + owed new ≤ mid.commands.next + owed mid
   pub live : AreLive new
   pub goes_out : IsOver new frame → ⊥
 
@@ -160,7 +159,7 @@ module _ (s : State) (before : List Entered) (request : Entered) (behind : List 
   shard_same : new.shard ≡ s.frames.shard
   shard_same = is.drives.1 ∙ is.begins.shard.1
 
-  frames_same : (other : ℕ) → other ≢ frame → use_at new.held.items other ≡ use_at s.frames.held.items other
+  frames_same : (other : ℕ) → other ≢ frame → use_at new.held other ≡ use_at s.frames.held other
   frames_same other ne = is.others_kept other ne ∙ is.begun_others other ne
 
   unfailed_same : new.saw_failed ≡ s.frames.saw_failed
@@ -234,7 +233,7 @@ module _ (s : State) (before : List Entered) (request : Entered) (behind : List 
       let more : length s.waiting.items ≡ suc (length rest) = omega (arith, ap length is.items, longer before request behind) in
       let fewer : 2 * slots * length s.waiting.items ≡ 2 * slots * length rest + 2 * slots = ap (λ n. 2 * slots * n) more ∙ mul-suc (2 * slots) (length rest) in
       let same : 2 * new.geometry.slots * length rest ≡ 2 * slots * length rest = ap (λ g. 2 * g.slots * length rest) geometry_same in
-      summed (next_of s.frames.commands) (next_of mid.commands) (next_of new.commands) (owed s.frames) (owed mid) (owed new) (2 * slots)
+      summed s.frames.commands.next mid.commands.next new.commands.next (owed s.frames) (owed mid) (owed new) (2 * slots)
       (2 * new.geometry.slots * length rest) (2 * slots * length rest) (2 * slots * length s.waiting.items)
       (begun_tokens s.frames frame request mid is.begins) is.begun_owed is.all_owed same fewer
     where
@@ -254,18 +253,18 @@ module _ (s : State) (before : List Entered) (request : Entered) (behind : List 
       weighs.job h.row h.job (kind_in h) ∙ ap (λ (hold : Hold). weight hold.task) is ∙ weighs.request request.id request.op
 
   -- as many rows are held for scrubs as before
-  started_rows : (test : Job → Bool) (weight : Task → ℕ) → Weighs test weight → IsSound s → count_rows test new.held.items ≤ count_rows test s.frames.held.items
+  started_rows : (test : Job → Bool) (weight : Task → ℕ) → Weighs test weight → IsSound s → count_rows test new.held ≤ count_rows test s.frames.held
   started_rows test weight weighs sound =
       let begun = frame-held mid frame (begun_for s.frames request) (begun_frame s.frames frame request mid is.begins) in
       let first = rows_counted_but_one test frame s.frames mid sound.frames is.begun_sound is.begun_others in
-      let none : row_weight test s.frames.held.items frame ≡ 0 = ap (λ o. one_if test (option_map held_for o)) (no_row s.frames frame is.can.1) in
-      let own : row_weight test mid.held.items frame ≡ 0 =
+      let none : row_weight test s.frames.held frame ≡ 0 = ap (λ o. one_if test (option_map held_for o)) (no_row s.frames frame is.can.1) in
+      let own : row_weight test mid.held frame ≡ 0 =
       ap (λ o. one_if test (option_map held_for o)) begun.1 ∙ begun_for_request test weight weighs begun.0 begun.2 in
       let rest = rows_counted_still test mid new is.begun_sound is.sound is.rows in
       omega (arith, first, none, own, rest)
 
   -- no token is taken back
-  started_tokens : next_of s.frames.commands ≤ next_of new.commands
+  started_tokens : s.frames.commands.next ≤ new.commands.next
   started_tokens = let begun = begun_tokens s.frames frame request mid is.begins in let more = drives_give mid new is.drives in omega (arith, begun, more)
 
   pub started_core : IsSettled s → IsSettled (with_frames s rest new)
@@ -308,15 +307,15 @@ module _ (s : State) (before : List Entered) (request : Entered) (behind : List 
   -- what could not start can't start now
   pub started_no_more : NoMoreCanStart s (with_frames s rest new)
   started_no_more other cannot live free_row f free =
-      let apart : f ≢ frame = λ e. let both : Some is.held_still.0 ≡ None = sym is.held_still.1 ∙ ap (hold_at new.held.items) (sym e) ∙ no_row new f free in absurd (cc) in
+      let apart : f ≢ frame = λ e. let both : Some is.held_still.0 ≡ None = sym is.held_still.1 ∙ ap (hold_at new.held) (sym e) ∙ no_row new f free in absurd (cc) in
       cannot is.can.0
       (λ g h held_row row.
-      let other_frame : g ≢ frame = λ e. let both : Some h ≡ None = sym held_row ∙ ap (hold_at s.frames.held.items) e ∙ no_row s.frames frame is.can.1 in absurd (cc) in
+      let other_frame : g ≢ frame = λ e. let both : Some h ≡ None = sym held_row ∙ ap (hold_at s.frames.held) e ∙ no_row s.frames frame is.can.1 in absurd (cc) in
       free_row g h (ap row_in (frames_same g other_frame) ∙ held_row) (row ∙ ap (λ shape. row_of shape (block_of (op_of other.op))) (sym geometry_same)))
       f (free.0, sym (frames_same f apart) ∙ free.1)
 
   -- the row is held in the frame
-  pub started_row : (h : HeldRow) × (hold_at new.held.items frame ≡ Some h) × (h.row ≡ row_of s.frames.geometry (block_of (op_of request.op)))
+  pub started_row : (h : HeldRow) × (hold_at new.held frame ≡ Some h) × (h.row ≡ row_of s.frames.geometry (block_of (op_of request.op)))
   started_row =
       let begun = frame-held mid frame (begun_for s.frames request) (begun_frame s.frames frame request mid is.begins) in
       let there = row_stays mid new frame begun.0 is.rows begun.1 in

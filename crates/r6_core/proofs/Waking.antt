@@ -20,9 +20,9 @@ same_row : (o : Option HeldRow) (h : HeldRow) → option_map held_for o ≡ Some
 same_row None h is = absurd (cc)
 same_row (Some i) h is = (i, refl, (let same : held_for i ≡ held_for h = cc in ap (λ (x : ℕ × Job). x.0) same))
 
-pub row_stays : (old new : Frames) (frame : ℕ) (h : HeldRow) → KeepsRows old new → hold_at old.held.items frame ≡ Some h
-    → (i : HeldRow) × (hold_at new.held.items frame ≡ Some i) × (i.row ≡ h.row)
-row_stays old new frame h rows is = same_row (hold_at new.held.items frame) h (rows frame ∙ ap (option_map held_for) is)
+pub row_stays : (old new : Frames) (frame : ℕ) (h : HeldRow) → KeepsRows old new → hold_at old.held frame ≡ Some h
+    → (i : HeldRow) × (hold_at new.held frame ≡ Some i) × (i.row ≡ h.row)
+row_stays old new frame h rows is = same_row (hold_at new.held frame) h (rows frame ∙ ap (option_map held_for) is)
 
 -- ---- none can start where each row is held still, and no frame became free
 
@@ -39,13 +39,13 @@ none_more old new (r ∷ rs) geometry live rows free all = (
 -- ---- one starts after one frame has changed
 
 -- a free frame holds no row
-frees : (fs : Frames) (frame : ℕ) (h : HeldRow) → IsFreeFrame fs frame → hold_at fs.held.items frame ≡ Some h → ⊥
+frees : (fs : Frames) (frame : ℕ) (h : HeldRow) → IsFreeFrame fs frame → hold_at fs.held frame ≡ Some h → ⊥
 frees fs frame h free is = let both : None ≡ Some h = sym (ap row_in free.1) ∙ is in absurd (cc)
 
 module _ (before : Frames) (changed : ℕ) (mid : Frames) (frame : ℕ) (new : Frames) (started : Entered) (shape : mid.geometry ≡ before.geometry) (shape' : new.geometry ≡ mid.geometry)
     (live : AreLive mid → AreLive before) (others : KeepsOthers before changed mid) (can : CanStart mid started frame)
-    (kept : (other : ℕ) → other ≢ frame → use_at new.held.items other ≡ use_at mid.held.items other)
-    (held : (h : HeldRow) × (hold_at new.held.items frame ≡ Some h) × (h.row ≡ row_of mid.geometry (block_of (op_of started.op))))
+    (kept : (other : ℕ) → other ≢ frame → use_at new.held other ≡ use_at mid.held other)
+    (held : (h : HeldRow) × (hold_at new.held frame ≡ Some h) × (h.row ≡ row_of mid.geometry (block_of (op_of started.op))))
     (could_not : CannotStart before started) where
   -- of two frames that are free one was free before
   one_free : (other : ℕ) → other ≢ frame → IsFreeFrame mid other → (f : ℕ) × IsFreeFrame before f
@@ -68,15 +68,15 @@ module _ (before : Frames) (changed : ℕ) (mid : Frames) (frame : ℕ) (new : F
       let row : h.row ≡ row_of mid.geometry (block_of (op_of r.op)) = at ∙ row_in_mid r in
       elim (cases_eq k changed) [
         | inr ne ↦
-            let in_mid : hold_at mid.held.items k ≡ Some h = ap row_in (others k ne) ∙ is in
-            let not_frame : k ≢ frame = λ e. frees mid frame h can.1 (ap (hold_at mid.held.items) (sym e) ∙ in_mid) in
+            let in_mid : hold_at mid.held k ≡ Some h = ap row_in (others k ne) ∙ is in
+            let not_frame : k ≢ frame = λ e. frees mid frame h can.1 (ap (hold_at mid.held) (sym e) ∙ in_mid) in
             unheld k h (ap row_in (kept k not_frame) ∙ in_mid) (row ∙ ap (λ (g : Shape). row_of g (block_of (op_of r.op))) (sym shape'))
         | inl e ↦
             could_not lives (λ j i there same.
             elim (cases_eq j changed) [
               | inr ne ↦ can.2 j i (ap row_in (others j ne) ∙ there) (same ∙ row_in_mid started)
               | inl e' ↦
-                  let both : Some i ≡ Some h = sym there ∙ ap (hold_at before.held.items) (e' ∙ sym e) ∙ is in
+                  let both : Some i ≡ Some h = sym there ∙ ap (hold_at before.held) (e' ∙ sym e) ∙ is in
                   let one : i ≡ h = cc in
                   let rows : row_of mid.geometry (block_of (op_of started.op)) ≡ row_of mid.geometry (block_of (op_of r.op)) = sym (same ∙ row_in_mid started) ∙ ap (λ (x : HeldRow). x.row) one ∙ row in
                   unheld frame held.0 held.1 (held.2 ∙ rows ∙ ap (λ (g : Shape). row_of g (block_of (op_of r.op))) (sym shape'))

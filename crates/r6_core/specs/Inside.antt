@@ -3,7 +3,6 @@ use Rattle.std.specs.Prelude.{◌≡◌, ℕ, ◌+◌, ◌*◌, ◌<◌, ◌≤�
 use Rattle.std.specs.List.{AllByRecursion, IsDistinct}
 use Rattle.std.specs.Map.{keys_of}
 use Rattle.r6_stripe.specs.Plans.{is_in_sync}
-use Rattle.r6_tables.specs.Table.{next_of}
 use Rattle.r6_layout.specs.Layout as layout
 use Rattle.r6_world.specs.PlainArray as world
 use Rattle.r6_world.specs.Layouts.{IsRowOf}
@@ -93,8 +92,8 @@ is_turn job = not (is_request job)
 -- A row that is held has put out a command, and is found at most twice, by its class and as repaired. None is passed
 -- over from the limit on, but for rows that are held then
 pub record AreBounded (k : Counts) (fs : Frames) : Type 0 where
-  pub found : rows_found k + 2 * count_rows is_turn fs.held.items ≤ 2 * next_of fs.commands
-  pub skipped : k.skipped + count_rows is_scrub fs.held.items ≤ limit + shards.frames
+  pub found : rows_found k + 2 * count_rows is_turn fs.held ≤ 2 * fs.commands.next
+  pub skipped : k.skipped + count_rows is_scrub fs.held ≤ limit + shards.frames
 
 -- ---- between calls
 
@@ -139,7 +138,7 @@ pub record HasRoom (s : State) : Type 0 where
 
 -- what was put out, with what may still come: each request that waits puts out at most two commands a position
 abbrev pub bound : State → ℕ
-bound s = next_of s.frames.commands + owed s.frames + 2 * s.frames.geometry.slots * length s.waiting.items
+bound s = s.frames.commands.next + owed s.frames + 2 * s.frames.geometry.slots * length s.waiting.items
 
 -- so many may still come at the limit: for each frame, and each request that waits
 abbrev pub most_tokens : ℕ
@@ -332,9 +331,9 @@ IsPlainEnd (ended.GivenUp target) = Unit {0}
 -- the frame's hold was over, and its request is finished, if it had one
 abbrev pub FinishesHeld : State → (frame : ℕ) → State → Type 0
 FinishesHeld old frame new =
-    (h : HeldRow) → hold_at old.frames.held.items frame ≡ Some h → IsOver old.frames frame
+    (h : HeldRow) → hold_at old.frames.held frame ≡ Some h → IsOver old.frames frame
     → (more : List Request) × (map numbered_op more ≡ requests_by h.job (kind_in h))
-    × (new.replies.items ≡ old.replies.items ++ more) × (hold_at new.frames.held.items frame ≡ None)
+    × (new.replies.items ≡ old.replies.items ++ more) × (hold_at new.frames.held frame ≡ None)
 
 -- the reply to a request: its answer, if it is released, and else that the array has failed
 abbrev pub reply_for : (is_released : Bool) → Op → Reply
@@ -356,7 +355,7 @@ unreplied s = map numbered_op s.waiting.items ++ map held_op (held_requests s.fr
 pub record Gathers (old new : State) : Type 0 where
   pub frames : held.IsSound new.frames
   pub stopped : AreLive new.frames → ⊥
-  pub none_held : (frame : ℕ) → hold_at new.frames.held.items frame ≡ None
+  pub none_held : (frame : ℕ) → hold_at new.frames.held frame ≡ None
   pub none_waiting : new.waiting.items ≡ []
   pub more : List Request
   pub replies : new.replies.items ≡ old.replies.items ++ more

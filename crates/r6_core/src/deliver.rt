@@ -191,7 +191,6 @@ impl State {
 
     // The row is rebuilt, and counted. With the last row of the shard the slot is in sync, and the register is to hear it.
     fn mark_rebuilt(&mut self, target: Target, row: u64)
-        requires sound { held.IsSound self.old.frames }
         requires live { AreLive self.old.frames }
         requires may { MayMark self.old.frames (Ended.Rebuilt target row) }
         requires room { length self.old.calls.items < self.old.calls.capacity }

@@ -1,7 +1,6 @@
 //! Rebuilds: which row a turn takes, and how it is held.
 
 ghost use Rattle.std.specs.Prelude.{◌≡◌, ◌≤◌, ◌<◌, MatchOption, IfOk, IfErr};
-ghost use Rattle.r6_tables.specs.Table.{next_of};
 ghost use Rattle.r6_world.specs.Changes.{Start, Allowed, after};
 ghost use Rattle.r6_world.specs.Steps.{Scans, Through};
 ghost use Rattle.r6_world.specs.Layouts.{IsRowOf};
@@ -57,7 +56,7 @@ impl State {
             IsNextRebuild (core_with window self.now) window next.target.slot next.target.generation next.row) }
         ensures on { IfOk result (λ next. IsNextOn self.now.frames next.target next.row) }
         ensures frame { IfOk result (λ next. CanHold self.now.frames next.row next.frame) }
-        ensures tokens { IfOk result (λ _. next_of self.now.frames.commands < limit) }
+        ensures tokens { IfOk result (λ _. self.now.frames.commands.next < limit) }
     {
         if self.frames.saw_failed() {
             return Err(Refusal::ArrayFailed);
@@ -120,7 +119,7 @@ impl State {
         requires row { IsRowOf (layout_in self.old) self.old.frames.shard row }
         requires next { IsNextOn self.old.frames target row }
         requires can { CanHold self.old.frames row frame }
-        requires tokens { next_of self.old.frames.commands < limit }
+        requires tokens { self.old.frames.commands.next < limit }
         ensures core { IsCore self.new }
         ensures allowed { Allowed (layout_in self.old) self.old.frames.shard (state_of self.old)
             (Start frame row (rebuild_task target)) }

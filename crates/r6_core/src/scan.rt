@@ -8,7 +8,6 @@ ghost use Rattle.r6_world.specs.PlainArray as world;
 ghost use Rattle.r6_world.specs.Steps.{Scans};
 ghost use Rattle.r6_frames.specs.Views.{op_of};
 ghost use Rattle.r6_frames.specs.Calls.{IsRequestOf, IsPlaceOf, NotHeldBy};
-ghost use Rattle.r6_frames.specs.Sound as held;
 ghost use Rattle.r6_core.specs.Inside.{IsSettled, IsCore, NoneCanStart, CannotStart, CannotHold, CanHold, HasFreed, HasFreedOne, IsFirstToStart, StartsAt, NoMoreCanStart, Leads, OnlyStarts, WaitingHaveTurns};
 
 use crate::state::State;
@@ -100,7 +99,6 @@ impl State {
 
     // Whether the row of the request's block is held.
     fn is_row_held(&self, request: &Request) -> bool
-        requires sound { held.IsSound self.now.frames }
         requires request { IsRequestOf self.now.frames request.now }
         ensures { let row = layout.row_of self.now.frames.geometry (world.block_of (op_of request.now.op)) in
             IsTrue result ↔ (NotHeldBy self.now.frames row → ⊥) }
@@ -121,7 +119,6 @@ impl State {
 
     /// A free frame, if the row can be held: holds go on, and it isn't held.
     pub(crate) fn frame_for(&self, row: u64) -> Option<usize>
-        requires { held.IsSound self.now.frames }
         ensures { MatchOption result (CannotHold self.now.frames row) (CanHold self.now.frames row) }
     {
         if !self.frames.is_live() {

@@ -1,7 +1,6 @@
 //! Turns, and those of checks and repairs.
 
 ghost use Rattle.std.specs.Prelude.{◌≡◌, ◌<◌, ◌^◌, true, false, MatchOption, IfOk, IfErr};
-ghost use Rattle.r6_tables.specs.Table.{next_of};
 ghost use Rattle.r6_world.specs.Changes.{Start, Skip_turn, Allowed, after, next_check, next_repair, row_behind};
 ghost use Rattle.r6_world.specs.Steps.{Scans, Through};
 ghost use Rattle.r6_world.specs.Layouts.{IsRowOf};
@@ -95,7 +94,7 @@ impl State {
     fn begin_turn(&mut self, frame: usize, scrub: Scrub)
         requires core { IsCore self.old }
         requires taken_up { IsTakenUp self.old scrub frame }
-        requires tokens { next_of self.old.frames.commands < limit }
+        requires tokens { self.old.frames.commands.next < limit }
         requires skipped { self.old.counts.skipped < limit }
         ensures core { IsCore self.new }
         ensures allowed { Allowed (layout_in self.old) self.old.frames.shard (state_of self.old)

@@ -1,9 +1,7 @@
 -- A hold that begins on a row in a free frame.
-use Rattle.std.proofs.Common.{◌≡◌, ◌≢◌, ◌⊎◌, ℕ, zero, suc, ◌+◌, ◌*◌, ◌<◌, ◌≤◌, Bool, true, false, List, [], ◌∷◌, ◌++◌, length, map, set, take, get_or, slice_index_or, refl, sym, ap, subst, ◌∙◌, Some, None, inl, inr, arith, add-one, vec_capacity, Vec, Global}
+use Rattle.std.proofs.Common.{◌≡◌, ◌≢◌, ◌⊎◌, ℕ, zero, suc, ◌+◌, ◌*◌, ◌<◌, ◌≤◌, Bool, true, false, List, [], ◌∷◌, ◌++◌, length, map, set, take, get_or, slice_index_or, refl, sym, ap, subst, ◌∙◌, Some, None, inl, inr, arith, add-one}
 use Rattle.std.specs.Prelude.{option_map, if◌then◌else◌}
-use Rattle.std.specs.List.{All}
 use Rattle.std.proofs.lemmas.Bool.{cases_eq}
-use Rattle.std.proofs.lemmas.List.Elements.{All-pop}
 use Rattle.std.proofs.lemmas.List.{length-set, length-map, map-append, take_more, get_or-set_same, get_or-set_other}
 use Rattle.r6_layout.specs.Shape.{Shape}
 use Rattle.r6_layout.specs.Layout as layout
@@ -28,7 +26,7 @@ use Rattle.r6_frames.specs.declared.frames.Job.{Job}
 use Rattle.r6_frames.specs.declared.frames.HeldRow.{HeldRow}
 use Rattle.r6_frames.specs.declared.frames.FrameUse.{FrameUse}
 use Rattle.r6_frames.specs.declared.frames.FrameUse.TheVariants.{Free, Held as HeldIn, Returning}
-use Rattle.r6_frames.specs.declared.frames.Frames.{Frames}
+use Rattle.r6_frames.specs.FramesState.{FramesState}
 use Rattle.r6_frames.specs.Slots.{states_of}
 use Rattle.r6_frames.specs.Views.{task_by, use_at, row_in, hold_at, hold_of, Rest, shard_with, is_synced_at, AreLive}
 use Rattle.r6_frames.specs.Calls.{Holds, IsFreeFrame, KeepsOthers, KeepsSlots, NotHeldBy}
@@ -58,10 +56,10 @@ stands state row = elim (stands-in-or-out state row) [
   | inr out ↦ ap (λ (s : Standing). standing_if (is_in_sync s)) out ∙ sym out
 ]
 
-abbrev pub found_in : Frames → ℕ → Hold
+abbrev pub found_in : FramesState → ℕ → Hold
 found_in fs row = found (layout_of fs.geometry) (states_of fs.slots) row
 
-found_is : (fs : Frames) (row : ℕ) → resting fs.geometry.block (map standing_if (synced fs row)) ≡ found_in fs row
+found_is : (fs : FramesState) (row : ℕ) → resting fs.geometry.block (map standing_if (synced fs row)) ≡ found_in fs row
 found_is fs row =
     ap (resting fs.geometry.block)
     (map_first standing_if fs.geometry.slots (is_synced_at fs row)
@@ -92,7 +90,7 @@ all_home (b ∷ in_sync) = omega (arith, all_home in_sync)
 -- ---- the row that is held
 
 -- the row as the code makes it
-pub begun_as : (fs : Frames) (row first size : ℕ) (in_sync : List Bool) (what : Job) (task : RowTask) (hold : Held)
+pub begun_as : (fs : FramesState) (row first size : ℕ) (in_sync : List Bool) (what : Job) (task : RowTask) (hold : Held)
     → first ≡ layout.slot_at fs.geometry row 0 → size ≡ fs.geometry.block → in_sync ≡ synced fs row → hold ≡ begun_held size in_sync (kind_of_task task)
     → record { row = row; first = first; job = what; hold = hold } ≡ begun_row fs row what task
 begun_as fs row first size in_sync what task hold first_is size_is sync_is hold_is =
@@ -103,7 +101,7 @@ begun_as fs row first size in_sync what task hold first_is size_is sync_is hold_
 pub fits_as : (shape : Shape) (frame : buffers.Shape) (task : RowTask) → IsForRow shape frame → IsTask shape.slots shape.block (Some task) → IsTask frame.count frame.size (Some task)
 fits_as shape frame task is fits = subst (λ (f : buffers.Shape). IsTask f.count f.size (Some task)) (sym is) fits
 
-module _ (fs : Frames) (row : ℕ) (what : Job) (task : RowTask) where
+module _ (fs : FramesState) (row : ℕ) (what : Job) (task : RowTask) where
   abbrev kind : Kind
   kind = kind_of_task task
 
@@ -211,44 +209,37 @@ free_some (HeldIn h ∷ held) (suc f) below free = free_some held f (omega arith
 free_some (Returning r ∷ held) zero below free = absurd (cc)
 free_some (Returning r ∷ held) (suc f) below free = free_some held f (omega arith) free
 
-abbrev pub with_held : Frames → Vec FrameUse Global → Vec buffers.Shape Global → Frames
+abbrev pub with_held : FramesState → List FrameUse → ℕ → FramesState
 with_held fs held spare = record fs { held = held; spare = spare }
 
-pub inside : (fs : Frames) (frame : ℕ) → IsSound fs → IsFreeFrame fs frame → frame < length fs.held.items
+pub inside : (fs : FramesState) (frame : ℕ) → IsSound fs → IsFreeFrame fs frame → frame < length fs.held
 inside fs frame sound free = let count = sound.frames.count in omega (arith, free.0)
 
--- the last of the spare frames has the shape
-pub shape_is : (fs : Frames) (last : buffers.Shape) (rest : List buffers.Shape) → IsSound fs → fs.spare.items ≡ rest ++ last ∷ [] → IsForRow fs.geometry last
-shape_is fs last rest sound items = (All-pop (IsForRow fs.geometry) fs.spare.items rest (Some last) items sound.frames.spare_shape).1
-
-module _ (fs : Frames) (frame row : ℕ) (what : Job) (task : RowTask) (held : Vec FrameUse Global) (spare : Vec buffers.Shape Global)
+module _ (fs : FramesState) (frame row : ℕ) (what : Job) (task : RowTask) (held : List FrameUse) (spare : ℕ)
     (sound : IsSound fs) (free : IsFreeFrame fs frame) (may : MayHold fs row what task) (unheld : NotHeldBy fs row)
-    (held_is : held.items ≡ set fs.held.items frame (HeldIn (begun_row fs row what task))) where
-  here : frame < length fs.held.items
+    (held_is : held ≡ set fs.held frame (HeldIn (begun_row fs row what task))) where
+  here : frame < length fs.held
   here = inside fs frame sound free
 
-  own : use_at held.items frame ≡ HeldIn (begun_row fs row what task)
-  own = ap (λ items. use_at items frame) held_is ∙ use_at_own fs.held.items frame (HeldIn (begun_row fs row what task)) here
+  own : use_at held frame ≡ HeldIn (begun_row fs row what task)
+  own = ap (λ items. use_at items frame) held_is ∙ use_at_own fs.held frame (HeldIn (begun_row fs row what task)) here
 
-  other : (f : ℕ) → f ≢ frame → use_at held.items f ≡ use_at fs.held.items f
-  other f ne = ap (λ items. use_at items f) held_is ∙ use_at_other fs.held.items frame (HeldIn (begun_row fs row what task)) f ne
+  other : (f : ℕ) → f ≢ frame → use_at held f ≡ use_at fs.held f
+  other f ne = ap (λ items. use_at items f) held_is ∙ use_at_other fs.held frame (HeldIn (begun_row fs row what task)) f ne
 
   -- what is held in the frame now is the row
-  row_here : (f : ℕ) (h : HeldRow) → f ≡ frame → hold_at held.items f ≡ Some h → begun_row fs row what task ≡ h
-  row_here f h e is = let both : Some h ≡ Some (begun_row fs row what task) = sym is ∙ ap (hold_at held.items) e ∙ ap row_in own in cc
+  row_here : (f : ℕ) (h : HeldRow) → f ≡ frame → hold_at held f ≡ Some h → begun_row fs row what task ≡ h
+  row_here f h e is = let both : Some h ≡ Some (begun_row fs row what task) = sym is ∙ ap (hold_at held) e ∙ ap row_in own in cc
 
-  frames_sound : length fs.spare.items ≡ length spare.items + 1 → vec_capacity spare ≡ vec_capacity fs.spare
-      → All (IsForRow fs.geometry) spare.items
-      → AreFrames (with_held fs held spare)
-  frames_sound one_less same_room shapes =
+  frames_sound : fs.spare ≡ spare + 1 → AreFrames (with_held fs held spare)
+  frames_sound one_less =
       let was = sound.frames in
-      let free_frames = free_set fs.held.items frame (HeldIn (begun_row fs row what task)) here in
-      let free_here : free_at (use_at fs.held.items frame) ≡ 1 = ap free_at free.1 in
+      let free_frames = free_set fs.held frame (HeldIn (begun_row fs row what task)) here in
+      let free_here : free_at (use_at fs.held frame) ≡ 1 = ap free_at free.1 in
       let free_now = ap count_free held_is in
       let all = was.spare in
-      let room = was.spare_room in
       record {
-        count = ap length held_is ∙ length-set fs.held.items frame (HeldIn (begun_row fs row what task)) ∙ was.count;
+        count = ap length held_is ∙ length-set fs.held frame (HeldIn (begun_row fs row what task)) ∙ was.count;
         rows = λ f h is.
             elim (cases_eq f frame) [
               | inl e ↦ subst (IsHeld fs.geometry fs.shard fs.slots) (row_here f h e is) (begun_is_held fs row what task may)
@@ -256,22 +247,20 @@ module _ (fs : Frames) (frame row : ℕ) (what : Job) (task : RowTask) (held : V
             ];
         returning = λ f r is.
             elim (cases_eq f frame) [
-              | inl e ↦ let both : Returning r ≡ HeldIn (begun_row fs row what task) = sym is ∙ ap (use_at held.items) e ∙ own in absurd (cc)
+              | inl e ↦ let both : Returning r ≡ HeldIn (begun_row fs row what task) = sym is ∙ ap (use_at held) e ∙ own in absurd (cc)
               | inr ne ↦ was.returning f r (sym (other f ne) ∙ is)
             ];
         one_holder =
             subst AreApart (sym held_is)
-            (apart_put fs.held.items frame (begun_row fs row what task) here was.one_holder (λ f h is same. absurd (unheld f h is same)));
+            (apart_put fs.held frame (begun_row fs row what task) here was.one_holder (λ f h is same. absurd (unheld f h is same)));
         spare = omega arith;
-        spare_room = omega arith;
-        spare_shape = shapes;
       }
 
   commands_sound : AreCommands (with_held fs held spare)
   commands_sound =
       let was = sound.commands in
-      let homes = home_set fs.geometry.slots fs.held.items frame (HeldIn (begun_row fs row what task)) here in
-      let home_here : home_at fs.geometry.slots (use_at fs.held.items frame) ≡ fs.geometry.slots = ap (home_at fs.geometry.slots) free.1 in
+      let homes = home_set fs.geometry.slots fs.held frame (HeldIn (begun_row fs row what task)) here in
+      let home_here : home_at fs.geometry.slots (use_at fs.held frame) ≡ fs.geometry.slots = ap (home_at fs.geometry.slots) free.1 in
       let home_all = home_in_row fs row what task in
       let home_now = ap (home_in fs.geometry.slots) held_is in
       let room = was.room in
@@ -286,7 +275,7 @@ module _ (fs : Frames) (frame row : ℕ) (what : Job) (task : RowTask) (held : V
         of_frame = λ live token c is.
             let old = was.of_frame live token c is in
             let apart : c.frame ≢ frame =
-            λ e. let home = ap (λ what. is_away_from what (layout.position_at fs.geometry c.row c.slot)) (ap (use_at fs.held.items) e ∙ free.1) in let away = old.away in absurd (cc) in
+            λ e. let home = ap (λ what. is_away_from what (layout.position_at fs.geometry c.row c.slot)) (ap (use_at fs.held) e ∙ free.1) in let away = old.away in absurd (cc) in
             let same = other c.frame apart in
             record {
               away = ap (λ what. is_away_from what (layout.position_at fs.geometry c.row c.slot)) same ∙ old.away;
@@ -296,7 +285,7 @@ module _ (fs : Frames) (frame row : ℕ) (what : Job) (task : RowTask) (held : V
         there = λ live f position below away.
             elim (cases_eq f frame) [
               | inl e ↦
-                  let home = ap (λ what. is_away_from what position) (ap (use_at held.items) e ∙ own) ∙ at_home fs row what task position in
+                  let home = ap (λ what. is_away_from what position) (ap (use_at held) e ∙ own) ∙ at_home fs row what task position in
                   absurd (cc)
               | inr ne ↦ was.there live f position below (ap (λ what. is_away_from what position) (sym (other f ne)) ∙ away)
             ];
@@ -304,25 +293,23 @@ module _ (fs : Frames) (frame row : ℕ) (what : Job) (task : RowTask) (held : V
         room = omega arith;
       }
 
-  pub begun_sound : length fs.spare.items ≡ length spare.items + 1 → vec_capacity spare ≡ vec_capacity fs.spare
-      → All (IsForRow fs.geometry) spare.items
-      → IsSound (with_held fs held spare)
-  begun_sound one_less same_room shapes =
-      record { shape = sound.shape; shard = sound.shard; live = sound.live; devices = sound.devices; frames = frames_sound one_less same_room shapes; commands = commands_sound }
+  pub begun_sound : fs.spare ≡ spare + 1 → IsSound (with_held fs held spare)
+  begun_sound one_less =
+      record { shape = sound.shape; shard = sound.shard; live = sound.live; devices = sound.devices; frames = frames_sound one_less; commands = commands_sound }
 
   -- a hold comes
   pub begun_shard : (asked : Task) → task_by what (kind_of_task task) ≡ asked → kind_of (layout_of fs.geometry) row asked ≡ kind_of_task task → (rest : Rest)
       → shard_with rest (with_held fs held spare)
       ≡ record (shard_with rest fs) { frame = put (shard_with rest fs).frame frame (Some (begun (layout_of fs.geometry) (states_of fs.slots) row asked)) }
   begun_shard asked task_is kind_is rest =
-      let frames_are = ap (λ items. λ x. option_map hold_of (hold_at items x)) held_is ∙ frame_put fs.held.items frame (HeldIn (begun_row fs row what task)) here
-      ∙ ap (λ hold. put (λ x. option_map hold_of (hold_at fs.held.items x)) frame (Some hold)) (hold_is fs row what task asked task_is kind_is) in
+      let frames_are = ap (λ items. λ x. option_map hold_of (hold_at items x)) held_is ∙ frame_put fs.held frame (HeldIn (begun_row fs row what task)) here
+      ∙ ap (λ hold. put (λ x. option_map hold_of (hold_at fs.held x)) frame (Some hold)) (hold_is fs row what task asked task_is kind_is) in
       λ i. record (shard_with rest fs) { frame = frames_are i }
 
-  pub begun_owed : owed_in held.items ≡ owed_in fs.held.items + 2 * fs.geometry.slots
+  pub begun_owed : owed_in held ≡ owed_in fs.held + 2 * fs.geometry.slots
   begun_owed =
-      let sums = owed_set fs.held.items frame (HeldIn (begun_row fs row what task)) here in
-      let owed_here : owed_at (use_at fs.held.items frame) ≡ 0 = ap owed_at free.1 in
+      let sums = owed_set fs.held frame (HeldIn (begun_row fs row what task)) here in
+      let owed_here : owed_at (use_at fs.held frame) ≡ 0 = ap owed_at free.1 in
       let now = ap owed_in held_is in
       let new = all_owed fs row what task may in
       omega arith
@@ -335,9 +322,9 @@ module _ (fs : Frames) (frame row : ℕ) (what : Job) (task : RowTask) (held : V
 
 -- ---- a frame holds one row more, and nothing else changes
 
-pub others_kept : (old : Frames) (frame : ℕ) (h : HeldRow) (new : Frames) → Holds old frame h new → KeepsOthers old frame new
+pub others_kept : (old : FramesState) (frame : ℕ) (h : HeldRow) (new : FramesState) → Holds old frame h new → KeepsOthers old frame new
 others_kept old frame h new holds other ne =
-    ap (λ (fs : Frames). use_at fs.held.items other) holds.same ∙ ap (λ items. use_at items other) holds.put ∙ use_at_other old.held.items frame (HeldIn h) other ne
+    ap (λ (fs : FramesState). use_at fs.held other) holds.same ∙ ap (λ items. use_at items other) holds.put ∙ use_at_other old.held frame (HeldIn h) other ne
 
-pub slots_kept : (old : Frames) (frame : ℕ) (h : HeldRow) (new : Frames) → Holds old frame h new → KeepsSlots old new
-slots_kept old frame h new holds = (ap (λ (fs : Frames). fs.slots) holds.same, ap (λ (fs : Frames). fs.saw_failed) holds.same)
+pub slots_kept : (old : FramesState) (frame : ℕ) (h : HeldRow) (new : FramesState) → Holds old frame h new → KeepsSlots old new
+slots_kept old frame h new holds = (ap (λ (fs : FramesState). fs.slots) holds.same, ap (λ (fs : FramesState). fs.saw_failed) holds.same)

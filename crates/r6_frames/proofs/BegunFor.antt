@@ -22,7 +22,7 @@ use Rattle.r6_frames.specs.declared.frames.Job.TheVariants as job
 use Rattle.r6_frames.specs.declared.frames.Scrub.{Scrub}
 use Rattle.r6_frames.specs.declared.frames.Scrub.TheVariants as scrub
 use Rattle.r6_frames.specs.declared.frames.FrameUse.TheVariants.{Held as HeldIn}
-use Rattle.r6_frames.specs.declared.frames.Frames.{Frames}
+use Rattle.r6_frames.specs.FramesState.{FramesState}
 use Rattle.r6_frames.specs.declared.rebuilt.Target.{Target}
 use Rattle.r6_frames.specs.declared.slots.Device.{Device}
 use Rattle.r6_frames.specs.Rebuilt.{IsRebuilt, is_rebuilt}
@@ -55,7 +55,7 @@ job_is : (shape : Shape) (id : ℕ) (o : Op) → block_of (op_of o) < blocks sha
 job_is shape id (op.Read block buffer) there sized = ((there, refl), refl, sized)
 job_is shape id (op.Write block buffer) there sized = ((there, refl), buffer, refl, sized)
 
-may_begin : (fs : Frames) (row index : ℕ) (o : Op) → index < data_slots fs.geometry → IsBlock fs.geometry.block (buffer_of o) → MayBegin (found_in fs row) (kind_of_task (row_task index o))
+may_begin : (fs : FramesState) (row index : ℕ) (o : Op) → index < data_slots fs.geometry → IsBlock fs.geometry.block (buffer_of o) → MayBegin (found_in fs row) (kind_of_task (row_task index o))
 may_begin fs row index (op.Read block buffer) below sized = let wide = found-long (layout_of fs.geometry) (states_of fs.slots) row in omega arith
 may_begin fs row index (op.Write block buffer) below sized =
     let wide = found-long (layout_of fs.geometry) (states_of fs.slots) row in (λ none. (cc), (omega arith, sized, λ none. none, tt))
@@ -69,7 +69,7 @@ no_target index (op.Read block buffer) cells = refl
 no_target index (op.Write block buffer) cells = refl
 
 -- the row of its block may be held for it
-pub may_hold : (fs : Frames) (request : Request) → IsShape fs.geometry → IsRequestOf fs request → MayHold fs (row_of fs request) (job_for request.id request.op) (task_in fs.geometry request)
+pub may_hold : (fs : FramesState) (request : Request) → IsShape fs.geometry → IsRequestOf fs request → MayHold fs (row_of fs request) (job_for request.id request.op) (task_in fs.geometry request)
 may_hold fs request shape right =
     let placed = (layouts fs.geometry shape).placed (block_in request) right.there in
     let index = layout.index_of fs.geometry (block_in request) in
@@ -81,13 +81,13 @@ may_hold fs request shape right =
       targets = inl (no_target index request.op);
     }
 
-pub begins : (fs new : Frames) (frame : ℕ) (request : Request) → IsSound fs → IsFreeFrame fs frame → IsRequestOf fs request → NotHeldBy fs (row_of fs request)
+pub begins : (fs new : FramesState) (frame : ℕ) (request : Request) → IsSound fs → IsFreeFrame fs frame → IsRequestOf fs request → NotHeldBy fs (row_of fs request)
     → Holds fs frame (begun_row fs (row_of fs request) (job_for request.id request.op) (task_in fs.geometry request)) new → Begins fs frame request new
 begins fs new frame request sound free right unheld holds =
     let row = begun_row fs (row_of fs request) (job_for request.id request.op) (task_in fs.geometry request) in
     let index = layout.index_of fs.geometry (block_in request) in
     let entry = ap (map (held_entry frame)) (one_request index request.id request.op) in
-    let came = held_comes 0 fs.held.items frame frame (HeldIn row) (entry_of frame request) (inside fs frame sound free) (ap row_in free.1) (omega arith) entry in
+    let came = held_comes 0 fs.held frame frame (HeldIn row) (entry_of frame request) (inside fs frame sound free) (ap row_in free.1) (omega arith) entry in
     subst (Begins fs frame request) (sym holds.same) (record {
       requests = record {
         before = came.before;
@@ -107,7 +107,7 @@ begins fs new frame request sound free right unheld holds =
 
 -- ---- a scrub
 
-all_in_sync : (fs : Frames) (row position : ℕ) → IsShape fs.geometry → AreAllInSync fs row → row < fs.geometry.rows → position < length (found_in fs row).cells
+all_in_sync : (fs : FramesState) (row position : ℕ) → IsShape fs.geometry → AreAllInSync fs row → row < fs.geometry.rows → position < length (found_in fs row).cells
     → (cell_at (found_in fs row).cells position).standing ≡ InSync
 all_in_sync fs row position shape whole below inside =
     let wide = found-long (layout_of fs.geometry) (states_of fs.slots) row in
@@ -117,7 +117,7 @@ all_in_sync fs row position shape whole below inside =
     ∙ stands_in (states_of fs.slots slot) row (whole slot ((layouts fs.geometry shape).back row position below within).0)
 
 -- each row of the shard may be held for it, while every slot is in sync
-pub may_scrub : (fs : Frames) (scrub : Scrub) (row : ℕ) → IsShape fs.geometry → AreAllInSync fs row → IsRowOf (layout_of fs.geometry) fs.shard row → MayHold fs row (job.Scrub scrub) (scrub_row_task scrub)
+pub may_scrub : (fs : FramesState) (scrub : Scrub) (row : ℕ) → IsShape fs.geometry → AreAllInSync fs row → IsRowOf (layout_of fs.geometry) fs.shard row → MayHold fs row (job.Scrub scrub) (scrub_row_task scrub)
 may_scrub fs scrub.Check row shape whole own =
     record { own = own; job = refl; fits = tt; may_begin = λ position inside. all_in_sync fs row position shape whole own.0 inside; targets = inl (λ cells. refl) }
 may_scrub fs scrub.Repair row shape whole own =
@@ -127,12 +127,12 @@ scrub_kind_is : (shape : Shape) (row : ℕ) (scrub : Scrub) → kind_of (layout_
 scrub_kind_is shape row scrub.Check = refl
 scrub_kind_is shape row scrub.Repair = refl
 
-pub begins_scrub : (fs new : Frames) (frame : ℕ) (scrub : Scrub) (row : ℕ) → IsSound fs → IsFreeFrame fs frame → AreAllInSync fs row → IsRowOf (layout_of fs.geometry) fs.shard row → NotHeldBy fs row
+pub begins_scrub : (fs new : FramesState) (frame : ℕ) (scrub : Scrub) (row : ℕ) → IsSound fs → IsFreeFrame fs frame → AreAllInSync fs row → IsRowOf (layout_of fs.geometry) fs.shard row → NotHeldBy fs row
     → Holds fs frame (begun_row fs row (job.Scrub scrub) (scrub_row_task scrub)) new → BeginsScrub fs frame scrub row new
 begins_scrub fs new frame scrub row sound free whole own unheld holds =
     let held = begun_row fs row (job.Scrub scrub) (scrub_row_task scrub) in
     subst (BeginsScrub fs frame scrub row) (sym holds.same) (record {
-      requests = ap (requests_from 0) holds.put ∙ same_requests 0 fs.held.items frame frame (HeldIn held) (omega arith) (sym (ap (request_at frame) free.1));
+      requests = ap (requests_from 0) holds.put ∙ same_requests 0 fs.held frame frame (HeldIn held) (omega arith) (sym (ap (request_at frame) free.1));
       shard = (
         refl,
         refl,
@@ -145,14 +145,14 @@ begins_scrub fs new frame scrub row sound free whole own unheld holds =
 -- ---- a rebuild
 
 -- the row isn't rebuilt yet
-pub unbuilt_on : (fs : Frames) (target : Target) (row : ℕ) → IsSound fs → (on : IsNextOn fs target row) → is_rebuilt on.rebuilt row ≡ false
+pub unbuilt_on : (fs : FramesState) (target : Target) (row : ℕ) → IsSound fs → (on : IsNextOn fs target row) → is_rebuilt on.rebuilt row ≡ false
 unbuilt_on fs target row sound on =
     let there : IsRebuilt (layout.first_row fs.geometry fs.shard) (layout.first_row fs.geometry (fs.shard + 1)) on.rebuilt =
     subst (λ (d : Device). IsDeviceOf (layout_of fs.geometry) fs.shard d) on.device (sound.devices target.slot) in
     ap (is_rebuilt on.rebuilt) (sym on.next.2) ∙ next_unbuilt on.rebuilt on.next.0 (omega (arith, on.next.1, there.next.count))
 
 -- the row is the target's
-target_at : (fs : Frames) (target : Target) (row : ℕ) → IsSound fs → IsRowOf (layout_of fs.geometry) fs.shard row → target.slot < fs.geometry.slots → (on : IsNextOn fs target row)
+target_at : (fs : FramesState) (target : Target) (row : ℕ) → IsSound fs → IsRowOf (layout_of fs.geometry) fs.shard row → target.slot < fs.geometry.slots → (on : IsNextOn fs target row)
     → IsTargetAt fs.geometry fs.slots row (job.Rebuild target) (layout.position_at fs.geometry row target.slot)
 target_at fs target row sound own below on =
     record {
@@ -165,7 +165,7 @@ target_at fs target row sound own below on =
       unbuilt = unbuilt_on fs target row sound on;
     }
 
-pub may_rebuild : (fs : Frames) (target : Target) (row : ℕ) → IsSound fs → IsRowOf (layout_of fs.geometry) fs.shard row → target.slot < fs.geometry.slots → IsNextOn fs target row
+pub may_rebuild : (fs : FramesState) (target : Target) (row : ℕ) → IsSound fs → IsRowOf (layout_of fs.geometry) fs.shard row → target.slot < fs.geometry.slots → IsNextOn fs target row
     → MayHold fs row (job.Rebuild target) (asks.Rebuild (layout.position_at fs.geometry row target.slot))
 may_rebuild fs target row sound own below on =
     let at = target_at fs target row sound own below on in
@@ -183,14 +183,14 @@ may_rebuild fs target row sound own below on =
       targets = inr (layout.position_at fs.geometry row target.slot, place.0, refl, at);
     }
 
-pub begins_rebuild : (fs new : Frames) (frame : ℕ) (target : Target) (row : ℕ) → IsSound fs → IsFreeFrame fs frame → IsRowOf (layout_of fs.geometry) fs.shard row → target.slot < fs.geometry.slots
+pub begins_rebuild : (fs new : FramesState) (frame : ℕ) (target : Target) (row : ℕ) → IsSound fs → IsFreeFrame fs frame → IsRowOf (layout_of fs.geometry) fs.shard row → target.slot < fs.geometry.slots
     → IsNextOn fs target row → NotHeldBy fs row
     → Holds fs frame (begun_row fs row (job.Rebuild target) (asks.Rebuild (layout.position_at fs.geometry row target.slot))) new → BeginsRebuild fs frame target row new
 begins_rebuild fs new frame target row sound free own below on unheld holds =
     let task = asks.Rebuild (layout.position_at fs.geometry row target.slot) in
     let held = begun_row fs row (job.Rebuild target) task in
     subst (BeginsRebuild fs frame target row) (sym holds.same) (record {
-      requests = ap (requests_from 0) holds.put ∙ same_requests 0 fs.held.items frame frame (HeldIn held) (omega arith) (sym (ap (request_at frame) free.1));
+      requests = ap (requests_from 0) holds.put ∙ same_requests 0 fs.held frame frame (HeldIn held) (omega arith) (sym (ap (request_at frame) free.1));
       shard = (
         refl,
         refl,

@@ -4,13 +4,11 @@ use Rattle.std.specs.Prelude.{slice_index_or, option_map}
 use Rattle.std.specs.Ordering.{nat_cmp}
 use Rattle.std.specs.FinMap as map
 use Rattle.std.specs.FinMap.{FinMap}
-use Rattle.std.specs.Vec.{with_item}
 use Rattle.std.proofs.lemmas.Bool.{cases_eq, ne_eqb, le-ltb}
 use Rattle.r6_layout.specs.Layout.{position_at, slot_at}
 use Rattle.r6_stripe.specs.Holds.{cell_at}
 use Rattle.r6_stripe.specs.Plans.{Planned, is_sent, is_out}
 use Rattle.r6_stripe.specs.Steps.{is_away}
-use Rattle.r6_tables.specs.Table.{Numbered, capacity_of, next_of, entries_of}
 use Rattle.r6_world.specs.Tables.{put}
 use Rattle.r6_world.specs.Layouts.{IsRowOf}
 use Rattle.r6_world.specs.Geometries.{layout_of}
@@ -20,18 +18,18 @@ use Rattle.r6_frames.specs.declared.command.Outstanding.{Outstanding}
 use Rattle.r6_frames.specs.declared.frames.HeldRow.{HeldRow}
 use Rattle.r6_frames.specs.declared.frames.FrameUse.{FrameUse}
 use Rattle.r6_frames.specs.declared.frames.FrameUse.TheVariants.{Held as HeldIn}
-use Rattle.r6_frames.specs.declared.frames.Frames.{Frames}
+use Rattle.r6_frames.specs.FramesState.{FramesState, Commands}
 use Rattle.r6_frames.specs.Slots.{slot_in, is_abandoned}
 use Rattle.r6_frames.specs.Views.{use_at, hold_at, outstanding, command_of, transfer_of, AreLive}
-use Rattle.r6_frames.specs.Sound.{AreCommands, IsOfHold, IsOfFrame, HasCommand, is_away_from, place_of, is_write, count_home, home_in}
+use Rattle.r6_frames.specs.Sound.{most_commands, AreCommands, IsOfHold, IsOfFrame, HasCommand, is_away_from, place_of, is_write, count_home, home_in}
 use Rattle.r6_frames.proofs.Lists.{same_put}
 use Rattle.r6_frames.proofs.Tables.{inserted-own, inserted-other, len-inserted}
 use Rattle.r6_frames.proofs.Held.{held_within, held_put, use_held, use_at_own, use_at_other, hold_at_own, hold_at_other, home_at, home_set}
 use Rattle.r6_frames.proofs.HeldRows.{Prepared, prepared}
 
 -- the frames with another row held in the frame
-abbrev pub with_row : Frames → ℕ → HeldRow → Frames
-with_row fs frame h = record fs { held = with_item fs.held frame (HeldIn h) }
+abbrev pub with_row : FramesState → ℕ → HeldRow → FramesState
+with_row fs frame h = record fs { held = set fs.held frame (HeldIn h) }
 
 -- what is held in a frame when another row is in this one
 pub held_then : (held : List FrameUse) (frame : ℕ) (h new : HeldRow) (other : ℕ) (x : HeldRow) → hold_at held frame ≡ Some h → hold_at (set held frame (HeldIn new)) other ≡ Some x
@@ -41,20 +39,20 @@ held_then held frame h new other x is there = held_put held frame new other x (h
 -- ---- the commands of a frame whose row goes on
 
 -- the command of the frame's row is one of the row as it is now
-pub record StaysOf (fs : Frames) (c : Outstanding) (h new : HeldRow) : Type 0 where
+pub record StaysOf (fs : FramesState) (c : Outstanding) (h new : HeldRow) : Type 0 where
   pub row : new.row ≡ h.row
   pub away : is_away h.hold (place_of fs c) ≡ true → is_away new.hold (place_of fs c) ≡ true
   pub standing : (cell_at new.hold.planned.hold.cells (place_of fs c)).standing ≡ (cell_at h.hold.planned.hold.cells (place_of fs c)).standing
   pub sent : is_sent (cell_at new.hold.planned.hold.cells (place_of fs c)).writing ≡ is_sent (cell_at h.hold.planned.hold.cells (place_of fs c)).writing
 
-pub of_frame_stays : (fs : Frames) (frame : ℕ) (h new : HeldRow) (token : ℕ) (c : Outstanding) → hold_at fs.held.items frame ≡ Some h → (c.frame ≡ frame → StaysOf fs c h new)
+pub of_frame_stays : (fs : FramesState) (frame : ℕ) (h new : HeldRow) (token : ℕ) (c : Outstanding) → hold_at fs.held frame ≡ Some h → (c.frame ≡ frame → StaysOf fs c h new)
     → IsOfFrame fs token c → IsOfFrame (with_row fs frame new) token c
 of_frame_stays fs frame h new token c is stays o =
     elim (cases_eq c.frame frame) [
       | inl e ↦
           let s = stays e in
-          let was : hold_at fs.held.items c.frame ≡ Some h = ap (hold_at fs.held.items) e ∙ is in
-          let now : hold_at (set fs.held.items frame (HeldIn new)) c.frame ≡ Some new = ap (hold_at (set fs.held.items frame (HeldIn new))) e ∙ hold_at_own fs.held.items frame (HeldIn new) inside in
+          let was : hold_at fs.held c.frame ≡ Some h = ap (hold_at fs.held) e ∙ is in
+          let now : hold_at (set fs.held frame (HeldIn new)) c.frame ≡ Some new = ap (hold_at (set fs.held frame (HeldIn new))) e ∙ hold_at_own fs.held frame (HeldIn new) inside in
           let of_h = o.held h was in
           let own : IsOfHold (with_row fs frame new) token c new = record {
             row = of_h.row ∙ sym s.row;
@@ -62,14 +60,14 @@ of_frame_stays fs frame h new token c is stays o =
             kind = λ kept. of_h.kind kept ∙ sym s.sent;
           } in
           record {
-            away = ap (λ (u : FrameUse). is_away_from u (place_of fs c)) (use_held (set fs.held.items frame (HeldIn new)) c.frame new now)
-                ∙ s.away (sym (ap (λ (u : FrameUse). is_away_from u (place_of fs c)) (use_held fs.held.items c.frame h was)) ∙ o.away);
+            away = ap (λ (u : FrameUse). is_away_from u (place_of fs c)) (use_held (set fs.held frame (HeldIn new)) c.frame new now)
+                ∙ s.away (sym (ap (λ (u : FrameUse). is_away_from u (place_of fs c)) (use_held fs.held c.frame h was)) ∙ o.away);
             held = λ x there. let both : Some new ≡ Some x = sym now ∙ there in let same : new ≡ x = cc in subst (IsOfHold (with_row fs frame new) token c) same own;
             ended = λ none. absurd (let both : Some new ≡ None = sym now ∙ none in cc);
           }
       | inr ne ↦
-          let same = use_at_other fs.held.items frame (HeldIn new) c.frame ne in
-          let held_same = hold_at_other fs.held.items frame (HeldIn new) c.frame ne in
+          let same = use_at_other fs.held frame (HeldIn new) c.frame ne in
+          let held_same = hold_at_other fs.held frame (HeldIn new) c.frame ne in
           record {
             away = ap (λ (u : FrameUse). is_away_from u (place_of fs c)) same ∙ o.away;
             held = λ x there. let of_x = o.held x (sym held_same ∙ there) in record { row = of_x.row; abandoned = of_x.abandoned; kind = of_x.kind };
@@ -77,27 +75,27 @@ of_frame_stays fs frame h new token c is stays o =
           }
     ]
   where
-    inside : frame < length fs.held.items
-    inside = held_within fs.held.items frame h is
+    inside : frame < length fs.held
+    inside = held_within fs.held frame h is
 
 -- ---- a hold prepares: its commands stay
 
-module _ (fs : Frames) (frame : ℕ) (h : HeldRow) (planned : Planned) (live : AreLive fs) (is : hold_at fs.held.items frame ≡ Some h)
+module _ (fs : FramesState) (frame : ℕ) (h : HeldRow) (planned : Planned) (live : AreLive fs) (is : hold_at fs.held frame ≡ Some h)
     (p : Prepared fs.geometry fs.shard fs.slots h (prepared h planned)) where
-  abbrev prepared_frames : Frames
+  abbrev prepared_frames : FramesState
   prepared_frames = with_row fs frame (prepared h planned)
 
-  inside : frame < length fs.held.items
-  inside = held_within fs.held.items frame h is
+  inside : frame < length fs.held
+  inside = held_within fs.held frame h is
 
-  away_same : (f position : ℕ) → is_away_from (use_at (set fs.held.items frame (HeldIn (prepared h planned))) f) position ≡ is_away_from (use_at fs.held.items f) position
+  away_same : (f position : ℕ) → is_away_from (use_at (set fs.held frame (HeldIn (prepared h planned))) f) position ≡ is_away_from (use_at fs.held f) position
   away_same f position =
       elim (cases_eq f frame) [
         | inl e ↦
-            ap (λ (k : ℕ). is_away_from (use_at (set fs.held.items frame (HeldIn (prepared h planned))) k) position) e
-            ∙ ap (λ (u : FrameUse). is_away_from u position) (use_at_own fs.held.items frame (HeldIn (prepared h planned)) inside)
-            ∙ sym (ap (λ (k : ℕ). is_away_from (use_at fs.held.items k) position) e ∙ ap (λ (u : FrameUse). is_away_from u position) (use_held fs.held.items frame h is))
-        | inr ne ↦ ap (λ (u : FrameUse). is_away_from u position) (use_at_other fs.held.items frame (HeldIn (prepared h planned)) f ne)
+            ap (λ (k : ℕ). is_away_from (use_at (set fs.held frame (HeldIn (prepared h planned))) k) position) e
+            ∙ ap (λ (u : FrameUse). is_away_from u position) (use_at_own fs.held frame (HeldIn (prepared h planned)) inside)
+            ∙ sym (ap (λ (k : ℕ). is_away_from (use_at fs.held k) position) e ∙ ap (λ (u : FrameUse). is_away_from u position) (use_held fs.held frame h is))
+        | inr ne ↦ ap (λ (u : FrameUse). is_away_from u position) (use_at_other fs.held frame (HeldIn (prepared h planned)) f ne)
       ]
 
   pub commands_prepared : AreCommands fs → AreCommands prepared_frames
@@ -116,16 +114,16 @@ module _ (fs : Frames) (frame : ℕ) (h : HeldRow) (planned : Planned) (live : A
     there = λ live f position below away. all.there live f position below (sym (away_same f position) ∙ away);
     stopped = λ not_live. absurd (not_live live);
     room =
-        let home = home_set fs.geometry.slots fs.held.items frame (HeldIn (prepared h planned)) inside in
-        let was : home_at fs.geometry.slots (use_at fs.held.items frame) ≡ count_home h.hold.away = ap (home_at fs.geometry.slots) (use_held fs.held.items frame h is) in
+        let home = home_set fs.geometry.slots fs.held frame (HeldIn (prepared h planned)) inside in
+        let was : home_at fs.geometry.slots (use_at fs.held frame) ≡ count_home h.hold.away = ap (home_at fs.geometry.slots) (use_held fs.held frame h is) in
         let room = all.room in
         omega arith;
   }
 
 -- ---- a command comes
 
-abbrev pub pushed : Numbered Outstanding → Outstanding → Numbered Outstanding
-pushed table c = (capacity_of table, (next_of table + 1, map.insert (entries_of table) (next_of table) c))
+abbrev pub pushed : Commands → Outstanding → Commands
+pushed table c = record { next = table.next + 1; entries = map.insert table.entries table.next c }
 
 -- the row with its buffer away
 abbrev pub sent_off : HeldRow → Planned → ℕ → HeldRow
@@ -135,13 +133,13 @@ abbrev pub new_command : ℕ → ℕ → ℕ → ℕ → CommandKind → List �
 new_command frame slot generation row kind buffer = record { frame = frame; slot = slot; generation = generation; row = row; kind = kind; buffer = Some buffer }
 
 -- the frames with the command of the frame's hold put out
-abbrev pub with_command : Frames → ℕ → HeldRow → Planned → (position slot generation : ℕ) → CommandKind → List ℕ → Frames
+abbrev pub with_command : FramesState → ℕ → HeldRow → Planned → (position slot generation : ℕ) → CommandKind → List ℕ → FramesState
 with_command fs frame h planned position slot generation kind buffer =
     record (with_row fs frame (sent_off h planned position)) { commands = pushed fs.commands (new_command frame slot generation h.row kind buffer) }
 
 -- a command of this kind is put out at the position, whose buffer was home
-pub record PutsOutAt (fs : Frames) (frame : ℕ) (h : HeldRow) (planned : Planned) (position slot : ℕ) (kind : CommandKind) (buffer : List ℕ) : Type 0 where
-  pub held : hold_at fs.held.items frame ≡ Some h
+pub record PutsOutAt (fs : FramesState) (frame : ℕ) (h : HeldRow) (planned : Planned) (position slot : ℕ) (kind : CommandKind) (buffer : List ℕ) : Type 0 where
+  pub held : hold_at fs.held frame ≡ Some h
   pub own : IsRowOf (layout_of fs.geometry) fs.shard h.row
   pub wide : length h.hold.away ≡ fs.geometry.slots
   pub below : position < fs.geometry.slots
@@ -181,13 +179,13 @@ command_came slots m handed next c below kept =
     (ap (option_map (command_of slots handed next)) (inserted-own m next c) ∙ (λ i. Some (record (command_of slots handed next c) { taken = untaken i; abandoned = kept i })))
     (λ q e. ap (option_map (command_of slots handed q)) (inserted-other m next c q e))
 
-module _ (fs : Frames) (frame : ℕ) (h : HeldRow) (planned : Planned) (position slot generation : ℕ) (kind : CommandKind) (buffer : List ℕ)
+module _ (fs : FramesState) (frame : ℕ) (h : HeldRow) (planned : Planned) (position slot generation : ℕ) (kind : CommandKind) (buffer : List ℕ)
     (live : AreLive fs) (can : PutsOutAt fs frame h planned position slot kind buffer) (all : AreCommands fs) where
   abbrev m : FinMap nat_cmp Outstanding
-  m = entries_of fs.commands
+  m = fs.commands.entries
 
   abbrev next : ℕ
-  next = next_of fs.commands
+  next = fs.commands.next
 
   abbrev new : HeldRow
   new = sent_off h planned position
@@ -195,20 +193,20 @@ module _ (fs : Frames) (frame : ℕ) (h : HeldRow) (planned : Planned) (position
   abbrev c : Outstanding
   c = new_command frame slot generation h.row kind buffer
 
-  abbrev later : Frames
+  abbrev later : FramesState
   later = with_command fs frame h planned position slot generation kind buffer
 
-  within : frame < length fs.held.items
-  within = held_within fs.held.items frame h can.held
+  within : frame < length fs.held
+  within = held_within fs.held frame h can.held
 
   within_away : position < length h.hold.away
   within_away = subst (λ (n : ℕ). position < n) (sym can.wide) can.below
 
-  own_use : use_at (set fs.held.items frame (HeldIn new)) frame ≡ HeldIn new
-  own_use = use_at_own fs.held.items frame (HeldIn new) within
+  own_use : use_at (set fs.held frame (HeldIn new)) frame ≡ HeldIn new
+  own_use = use_at_own fs.held frame (HeldIn new) within
 
-  own_row : hold_at (set fs.held.items frame (HeldIn new)) frame ≡ Some new
-  own_row = hold_at_own fs.held.items frame (HeldIn new) within
+  own_row : hold_at (set fs.held frame (HeldIn new)) frame ≡ Some new
+  own_row = hold_at_own fs.held frame (HeldIn new) within
 
   own : outstanding later next ≡ Some c
   own = inserted-own m next c
@@ -230,7 +228,7 @@ module _ (fs : Frames) (frame : ℕ) (h : HeldRow) (planned : Planned) (position
   -- no old command of the frame is at the command's position
   home_still : (token : ℕ) (d : Outstanding) → outstanding fs token ≡ Some d → d.frame ≡ frame → place_of fs d ≢ position
   home_still token d out e at =
-      let here : use_at fs.held.items d.frame ≡ HeldIn h = ap (use_at fs.held.items) e ∙ use_held fs.held.items frame h can.held in
+      let here : use_at fs.held d.frame ≡ HeldIn h = ap (use_at fs.held) e ∙ use_held fs.held frame h can.held in
       let away : is_away h.hold position ≡ true =
       ap (is_away h.hold) (sym at) ∙ sym (ap (λ (u : FrameUse). is_away_from u (place_of fs d)) here) ∙ (all.of_frame live token d out).away in
       let home = can.home in
@@ -292,16 +290,16 @@ module _ (fs : Frames) (frame : ℕ) (h : HeldRow) (planned : Planned) (position
         | inl e ↦ (next, c, own, refl, can.inverse ∙ sym e)
         | inr ne ↦
             let was : is_away h.hold at ≡ true = sym (get_or-set_other h.hold.away position at true false ne) ∙ away in
-            kept frame at (all.there live frame at below (ap (λ (u : FrameUse). is_away_from u at) (use_held fs.held.items frame h can.held) ∙ was))
+            kept frame at (all.there live frame at below (ap (λ (u : FrameUse). is_away_from u at) (use_held fs.held frame h can.held) ∙ was))
       ]
 
-  there_then : (f at : ℕ) → at < fs.geometry.slots → is_away_from (use_at (set fs.held.items frame (HeldIn new)) f) at ≡ true → HasCommand later f at
+  there_then : (f at : ℕ) → at < fs.geometry.slots → is_away_from (use_at (set fs.held frame (HeldIn new)) f) at ≡ true → HasCommand later f at
   there_then f at below away =
       elim (cases_eq f frame) [
         | inl e ↦
-            let here : use_at (set fs.held.items frame (HeldIn new)) f ≡ HeldIn new = ap (use_at (set fs.held.items frame (HeldIn new))) e ∙ own_use in
+            let here : use_at (set fs.held frame (HeldIn new)) f ≡ HeldIn new = ap (use_at (set fs.held frame (HeldIn new))) e ∙ own_use in
             subst (λ (k : ℕ). HasCommand later k at) (sym e) (there_new at below (sym (ap (λ (u : FrameUse). is_away_from u at) here) ∙ away))
-        | inr ne ↦ kept f at (all.there live f at below (sym (ap (λ (u : FrameUse). is_away_from u at) (use_at_other fs.held.items frame (HeldIn new) f ne)) ∙ away))
+        | inr ne ↦ kept f at (all.there live f at below (sym (ap (λ (u : FrameUse). is_away_from u at) (use_at_other fs.held frame (HeldIn new) f ne)) ∙ away))
       ]
 
   untaken_then : (token : ℕ) → fs.handed ≤ token → token < next + 1 → (d : Outstanding) × (outstanding later token ≡ Some d) × (d.buffer ≢ None)
@@ -325,22 +323,22 @@ module _ (fs : Frames) (frame : ℕ) (h : HeldRow) (planned : Planned) (position
         | inr old ↦ all.lawful token d old
       ]
 
-  was_home : home_at fs.geometry.slots (use_at fs.held.items frame) ≡ count_home h.hold.away
-  was_home = ap (home_at fs.geometry.slots) (use_held fs.held.items frame h can.held)
+  was_home : home_at fs.geometry.slots (use_at fs.held frame) ≡ count_home h.hold.away
+  was_home = ap (home_at fs.geometry.slots) (use_held fs.held frame h can.held)
 
   -- there was room for it
-  pub room_for : map.len m < capacity_of fs.commands
+  pub room_for : map.len m < most_commands fs.geometry
   room_for =
       let home = count_home-set h.hold.away position within_away can.home in
-      let sum = home_set fs.geometry.slots fs.held.items frame (HeldIn new) within in
+      let sum = home_set fs.geometry.slots fs.held frame (HeldIn new) within in
       let was = was_home in
       let room = all.room in
       omega arith
 
-  room_then : map.len (map.insert m next c) + home_in fs.geometry.slots (set fs.held.items frame (HeldIn new)) ≤ capacity_of fs.commands
+  room_then : map.len (map.insert m next c) + home_in fs.geometry.slots (set fs.held frame (HeldIn new)) ≤ most_commands fs.geometry
   room_then =
       let home = count_home-set h.hold.away position within_away can.home in
-      let sum = home_set fs.geometry.slots fs.held.items frame (HeldIn new) within in
+      let sum = home_set fs.geometry.slots fs.held frame (HeldIn new) within in
       let was = was_home in
       let more = len-inserted m next c (no_number m next (λ d out. let below = all.given next d out in absurd (omega arith))) in
       let room = all.room in

@@ -1,13 +1,11 @@
 -- What the answer to a command does to the held rows and their commands.
 use Rattle.std.proofs.Common.{◌≡◌, ◌≢◌, ℕ, ◌+◌, ◌%◌, ◌<◌, Bool, true, false, List, [], ◌∷◌, map, set, refl, sym, ap, subst, ◌∙◌, Option, Some, None, inl, inr, arith, get_or-set_same, get_or-set_other}
 use Rattle.std.specs.Prelude.{option_map, slice_index_or}
-use Rattle.std.specs.Vec.{with_item}
 use Rattle.std.specs.FinMap as finite
 use Rattle.std.proofs.lemmas.Bool.{and_parts, lt-ltb}
 use Rattle.r6_layout.specs.Shape.{IsShape}
 use Rattle.r6_layout.specs.Layout.{position_at}
 use Rattle.r6_layout.proofs.Roles.{position_at-lt}
-use Rattle.r6_tables.specs.Table.{Numbered, entries_of, next_of, capacity_of}
 use Rattle.r6_stripe.specs.Holds.{Cell, Event, Kind, cell_at, no_cell, wants_all, after_event}
 use Rattle.r6_recover.specs.declared.class.RowClass.{RowClass}
 use Rattle.r6_stripe.specs.Checks.{IsClassAfter, IsClassIf, IsClassRead, is_read_whole}
@@ -32,7 +30,7 @@ use Rattle.r6_frames.specs.declared.frames.Scrub.TheVariants as scrub
 use Rattle.r6_frames.specs.declared.frames.HeldRow.{HeldRow}
 use Rattle.r6_frames.specs.declared.frames.FrameUse.{FrameUse}
 use Rattle.r6_frames.specs.declared.frames.FrameUse.TheVariants.{Held as HeldIn}
-use Rattle.r6_frames.specs.declared.frames.Frames.{Frames}
+use Rattle.r6_frames.specs.FramesState.{FramesState, Commands}
 use Rattle.r6_frames.specs.Slots.{is_abandoned}
 use Rattle.r6_frames.specs.Views.{hold_at, hold_of, kind_in, task_by, held_entry, requests_by, request_at, held_requests, outstanding, command_of, transfer_of, Rest, shard_with, AreLive}
 use Rattle.r6_frames.specs.Calls.{Answers, Classifies, IsAwaited, IsAbandoned, KeepsOthers, KeepsRows}
@@ -47,16 +45,16 @@ use Rattle.r6_frames.proofs.BuffersHome.{GoesOn, IsHome, live_cases, home_back, 
 
 -- ---- a command and its row
 
-pub place_within : (fs : Frames) (c : Outstanding) → IsSound fs → place_of fs c < fs.geometry.slots
+pub place_within : (fs : FramesState) (c : Outstanding) → IsSound fs → place_of fs c < fs.geometry.slots
 place_within fs c sound = position_at-lt fs.geometry c.row c.slot (some_slots sound.shape)
 
 -- the command was taken and not abandoned, and is one of the held row
-pub record IsOut (fs : Frames) (token : ℕ) (c : Outstanding) (h : HeldRow) : Type 0 where
+pub record IsOut (fs : FramesState) (token : ℕ) (c : Outstanding) (h : HeldRow) : Type 0 where
   pub live : AreLive fs
   pub taken : token < fs.handed
   pub there : outstanding fs token ≡ Some c
   pub wanted : is_abandoned fs.slots token c ≡ false
-  pub held : hold_at fs.held.items c.frame ≡ Some h
+  pub held : hold_at fs.held c.frame ≡ Some h
   pub whole : IsHeld fs.geometry fs.shard fs.slots h
   pub row : c.row ≡ h.row
   pub inside : place_of fs c < fs.geometry.slots
@@ -64,7 +62,7 @@ pub record IsOut (fs : Frames) (token : ℕ) (c : Outstanding) (h : HeldRow) : T
   pub not_out : (cell_at h.hold.planned.hold.cells (place_of fs c)).standing ≢ Out
   pub kind : is_write c.kind ≡ plans.is_sent (cell_at h.hold.planned.hold.cells (place_of fs c)).writing
 
-not_abandoned : (fs : Frames) (token : ℕ) (c : Outstanding) → outstanding fs token ≡ Some c → (IsAbandoned fs token → ⊥) → is_abandoned fs.slots token c ≡ false
+not_abandoned : (fs : FramesState) (token : ℕ) (c : Outstanding) → outstanding fs token ≡ Some c → (IsAbandoned fs token → ⊥) → is_abandoned fs.slots token c ≡ false
 not_abandoned fs token c there wanted =
     elim (is_abandoned fs.slots token c) as (λ b. is_abandoned fs.slots token c ≡ b → is_abandoned fs.slots token c ≡ false) [
       | true ↦ λ e. absurd (wanted (c, there, e))
@@ -72,7 +70,7 @@ not_abandoned fs token c there wanted =
     ] refl
 
 -- a command that isn't abandoned is one of a held row, and holds go on
-pub out_of : (fs : Frames) (token : ℕ) (c : Outstanding) → IsSound fs → IsAwaited fs token → (IsAbandoned fs token → ⊥) → outstanding fs token ≡ Some c → (h : HeldRow) × IsOut fs token c h
+pub out_of : (fs : FramesState) (token : ℕ) (c : Outstanding) → IsSound fs → IsAwaited fs token → (IsAbandoned fs token → ⊥) → outstanding fs token ≡ Some c → (h : HeldRow) × IsOut fs token c h
 out_of fs token c sound awaited wanted there =
     let still = not_abandoned fs token c there wanted in
     let live : AreLive fs = elim (live_cases fs) [
@@ -81,7 +79,7 @@ out_of fs token c sound awaited wanted there =
     ] in
     let of = sound.commands.of_frame live token c there in
     let inside = place_within fs c sound in
-    elim (hold_at fs.held.items c.frame) as (λ o. hold_at fs.held.items c.frame ≡ o → (h : HeldRow) × IsOut fs token c h) [
+    elim (hold_at fs.held c.frame) as (λ o. hold_at fs.held c.frame ≡ o → (h : HeldRow) × IsOut fs token c h) [
       | None ↦ λ none. absurd (let abandoned = of.ended none in cc)
       | Some h ↦ λ held.
           let mine = of.held h held in
@@ -96,7 +94,7 @@ out_of fs token c sound awaited wanted there =
               whole = whole;
               row = mine.row;
               inside = inside;
-              away = sym (ap (λ v. is_away_from v (place_of fs c)) (use_held fs.held.items c.frame h held)) ∙ of.away;
+              away = sym (ap (λ v. is_away_from v (place_of fs c)) (use_held fs.held c.frame h held)) ∙ of.away;
               not_out = not_out_is (cell_at h.hold.planned.hold.cells (place_of fs c)).standing (sym mine.abandoned ∙ still);
               kind = mine.kind still;
             },
@@ -104,22 +102,22 @@ out_of fs token c sound awaited wanted there =
     ] refl
 
 -- the use of the command's frame, as it is read
-pub out_there : (fs : Frames) (token : ℕ) (c : Outstanding) (read : FrameUse) → IsSound fs → IsAwaited fs token → (IsAbandoned fs token → ⊥) → outstanding fs token ≡ Some c
-    → read ≡ slice_index_or fs.held.items c.frame read → (h : HeldRow) × (read ≡ HeldIn h) × IsOut fs token c h
+pub out_there : (fs : FramesState) (token : ℕ) (c : Outstanding) (read : FrameUse) → IsSound fs → IsAwaited fs token → (IsAbandoned fs token → ⊥) → outstanding fs token ≡ Some c
+    → read ≡ slice_index_or fs.held c.frame read → (h : HeldRow) × (read ≡ HeldIn h) × IsOut fs token c h
 out_there fs token c read sound awaited wanted there value =
     let out = out_of fs token c sound awaited wanted there in
-    let below = held_within fs.held.items c.frame out.0 out.1.held in
-    (out.0, sym (use_found fs.held.items c.frame read read below value refl) ∙ use_held fs.held.items c.frame out.0 out.1.held, out.1)
+    let below = held_within fs.held c.frame out.0 out.1.held in
+    (out.0, sym (use_found fs.held c.frame read read below value refl) ∙ use_held fs.held c.frame out.0 out.1.held, out.1)
 
-pub out_row : (fs : Frames) (token : ℕ) (c : Outstanding) (h : HeldRow) (read : FrameUse) → IsSound fs → IsAwaited fs token → (IsAbandoned fs token → ⊥) → outstanding fs token ≡ Some c
-    → read ≡ slice_index_or fs.held.items c.frame read → read ≡ HeldIn h → IsOut fs token c h
+pub out_row : (fs : FramesState) (token : ℕ) (c : Outstanding) (h : HeldRow) (read : FrameUse) → IsSound fs → IsAwaited fs token → (IsAbandoned fs token → ⊥) → outstanding fs token ≡ Some c
+    → read ≡ slice_index_or fs.held c.frame read → read ≡ HeldIn h → IsOut fs token c h
 out_row fs token c h read sound awaited wanted there value is =
     let out = out_there fs token c read sound awaited wanted there value in
     let same : out.0 ≡ h = let both = sym out.1 ∙ is in cc in
     subst (IsOut fs token c) same out.2
 
 -- its place, as far from the row's first slot
-pub place_left : (fs : Frames) (token : ℕ) (c : Outstanding) (h : HeldRow) (position : ℕ) → IsShape fs.geometry → IsOut fs token c h → position < fs.geometry.slots
+pub place_left : (fs : FramesState) (token : ℕ) (c : Outstanding) (h : HeldRow) (position : ℕ) → IsShape fs.geometry → IsOut fs token c h → position < fs.geometry.slots
     → (position + h.first) % fs.geometry.slots ≡ c.slot → position ≡ place_of fs c
 place_left fs token c h position shape out below is =
     position_left fs.geometry (some_slots shape) h.row h.first position c.slot out.whole.first below is
@@ -127,7 +125,7 @@ place_left fs token c h position shape out below is =
 
 -- ---- the state
 
-module _ (fs : Frames) (token : ℕ) (c : Outstanding) (h : HeldRow) (out : IsOut fs token c h) where
+module _ (fs : FramesState) (token : ℕ) (c : Outstanding) (h : HeldRow) (out : IsOut fs token c h) where
   abbrev at : ℕ
   at = place_of fs c
 
@@ -135,8 +133,8 @@ module _ (fs : Frames) (token : ℕ) (c : Outstanding) (h : HeldRow) (out : IsOu
   abbrev row_of : Event → Option RowClass → HeldRow
   row_of event class = with_class (answered_row h at event) class
 
-  abbrev answered_of : Event → Option RowClass → Frames
-  answered_of event class = left_of fs token (with_item fs.held c.frame (HeldIn (row_of event class))) fs.spare
+  abbrev answered_of : Event → Option RowClass → FramesState
+  answered_of event class = left_of fs token (set fs.held c.frame (HeldIn (row_of event class))) fs.spare
 
   module _ (sound : IsSound fs) (block : Block) (event : Event) (a : Answered h.hold.planned at block event) (class : Option RowClass) where
     abbrev h' : HeldRow
@@ -144,9 +142,9 @@ module _ (fs : Frames) (token : ℕ) (c : Outstanding) (h : HeldRow) (out : IsOu
 
     answered_home : IsHome fs c (HeldIn h')
     answered_home =
-        let of_row = use_held fs.held.items c.frame h out.held in
+        let of_row = use_held fs.held c.frame h out.held in
         record {
-          below = held_within fs.held.items c.frame h out.held;
+          below = held_within fs.held c.frame h out.held;
           home = get_or-set_same h.hold.away at false false (omega (arith, out.whole.wide_away, out.inside));
           others = λ j other. get_or-set_other h.hold.away at j false false other ∙ sym (ap (λ v. is_away_from v j) of_row);
           more = let back = home_back h.hold.away at out.away in let here = ap (home_at fs.geometry.slots) of_row in omega (arith, back, here);
@@ -165,20 +163,20 @@ module _ (fs : Frames) (token : ℕ) (c : Outstanding) (h : HeldRow) (out : IsOu
 
     pub answered_sound : IsSound (answered_of event class)
     answered_sound =
-        let of_row = use_held fs.held.items c.frame h out.held in
-        sound_left fs token c out.there (with_item fs.held c.frame (HeldIn h')) fs.spare (HeldIn h') refl answered_home sound out.taken
-        (omega (arith, ap free_at of_row)) refl sound.frames.spare_shape
+        let of_row = use_held fs.held c.frame h out.held in
+        sound_left fs token c out.there (set fs.held c.frame (HeldIn h')) fs.spare (HeldIn h') refl answered_home sound out.taken
+        (omega (arith, ap free_at of_row))
 
     pub answered_owed : owed (answered_of event class) ≡ owed fs
     answered_owed =
-        let of_row = use_held fs.held.items c.frame h out.held in
-        owed_left fs token c out.there (with_item fs.held c.frame (HeldIn h')) fs.spare (HeldIn h') refl answered_home
+        let of_row = use_held fs.held c.frame h out.held in
+        owed_left fs token c out.there (set fs.held c.frame (HeldIn h')) fs.spare (HeldIn h') refl answered_home
         (answered_owes fs.geometry fs.shard fs.slots h at block event out.whole out.inside a ∙ sym (ap owed_at of_row))
 
     pub answered_requests : kind_in h' ≡ kind_in h → held_requests (answered_of event class) ≡ held_requests fs
     answered_requests same =
-        let of_row = use_held fs.held.items c.frame h out.held in
-        requests_left fs token c out.there (with_item fs.held c.frame (HeldIn h')) fs.spare (HeldIn h') refl answered_home
+        let of_row = use_held fs.held c.frame h out.held in
+        requests_left fs token c out.there (set fs.held c.frame (HeldIn h')) fs.spare (HeldIn h') refl answered_home
         (ap (λ k. map (held_entry c.frame) (requests_by h.job k)) same ∙ sym (ap (request_at c.frame) of_row))
 
   stores : (block : Option Block) → transfer_of command.Write block ≢ Fetch
@@ -186,14 +184,14 @@ module _ (fs : Frames) (token : ℕ) (c : Outstanding) (h : HeldRow) (out : IsOu
   stores (Some block) e = cc
 
   -- the frame's hold as the world has it
-  frame_is : (event : Event) (class : Option RowClass) → (λ x. option_map hold_of (hold_at (answered_of event class).held.items x))
-      ≡ put (λ x. option_map hold_of (hold_at fs.held.items x)) c.frame (Some (hold_of (row_of event class)))
-  frame_is event class = frame_put fs.held.items c.frame (HeldIn (row_of event class)) (held_within fs.held.items c.frame h out.held)
+  frame_is : (event : Event) (class : Option RowClass) → (λ x. option_map hold_of (hold_at (answered_of event class).held x))
+      ≡ put (λ x. option_map hold_of (hold_at fs.held x)) c.frame (Some (hold_of (row_of event class)))
+  frame_is event class = frame_put fs.held c.frame (HeldIn (row_of event class)) (held_within fs.held c.frame h out.held)
 
   -- the shard when the command was answered
   shard_is : (rest : Rest) (event : Event) (class : Option RowClass) → shard_with rest (answered_of event class)
       ≡ record (shard_with rest fs) { frame = put (shard_with rest fs).frame c.frame (Some (hold_of (row_of event class))); command = put (shard_with rest fs).command token None }
-  shard_is rest event class = λ i. record (shard_with rest fs) { frame = frame_is event class i; command = commands_gone fs.slots (entries_of fs.commands) fs.handed token i }
+  shard_is rest event class = λ i. record (shard_with rest fs) { frame = frame_is event class i; command = commands_gone fs.slots fs.commands.entries fs.handed token i }
 
   -- then the row is classified, if the whole of it was read
   classifies : (rest : Rest) (event : Event) (class : Option RowClass) → IsClassAfter (after_event h.hold.planned.hold event) h.hold.class class
@@ -230,7 +228,7 @@ module _ (fs : Frames) (token : ℕ) (c : Outstanding) (h : HeldRow) (out : IsOu
         (
           record {},
           (
-            ap (λ (g : ℕ → Option Hold). g c.frame) (frame_is event h.hold.class) ∙ put_own (λ x. option_map hold_of (hold_at fs.held.items x)) c.frame (Some first),
+            ap (λ (g : ℕ → Option Hold). g c.frame) (frame_is event h.hold.class) ∙ put_own (λ x. option_map hold_of (hold_at fs.held x)) c.frame (Some first),
             out.live,
             subst (λ (k : Kind). IsChecked (task_by h.job k)) (sym kind) (checked (sym (ap wants_all kind) ∙ (and_parts (wants_all first.course.kind) _ whole).0)),
             unclassed,
@@ -298,10 +296,10 @@ module _ (fs : Frames) (token : ℕ) (c : Outstanding) (h : HeldRow) (out : IsOu
 -- ---- the call
 
 -- what the call leaves, when the hold has heard the answer
-pub record Completed (fs : Frames) (token : ℕ) (block : Block) (frame : ℕ) (h : HeldRow) (new : Frames) : Type 0 where
+pub record Completed (fs : FramesState) (token : ℕ) (block : Block) (frame : ℕ) (h : HeldRow) (new : FramesState) : Type 0 where
   pub sound : IsSound new
   pub answers : Answers fs token block new
-  pub held : hold_at new.held.items frame ≡ Some h
+  pub held : hold_at new.held frame ≡ Some h
   pub rows : KeepsRows fs new
   pub others : KeepsOthers fs frame new
   pub owed : owed new ≡ owed fs
@@ -311,25 +309,25 @@ same_kind : (h : HeldRow) (position : ℕ) (kind : CommandKind) (block : Block) 
 same_kind h position command.Read block = refl
 same_kind h position command.Write block = refl
 
-pub completed : (fs : Frames) (token : ℕ) (c : Outstanding) (h : HeldRow) (block : Block) (position : ℕ) (hold : HeldHold) (commands : Numbered Outstanding) → IsSound fs → IsOut fs token c h
+pub completed : (fs : FramesState) (token : ℕ) (c : Outstanding) (h : HeldRow) (block : Block) (position : ℕ) (hold : HeldHold) (commands : Commands) → IsSound fs → IsOut fs token c h
     → position ≡ place_of fs c → hold ≡ record (answered h.hold position block) { class = hold.class } → IsClassAfter hold.planned.hold h.hold.class hold.class
-    → commands ≡ (capacity_of fs.commands, (next_of fs.commands, finite.remove (entries_of fs.commands) token))
-    → Completed fs token block c.frame (record h { hold = hold }) (record fs { held = with_item fs.held c.frame (HeldIn (record h { hold = hold })); commands = commands })
+    → commands ≡ record { next = fs.commands.next; entries = finite.remove fs.commands.entries token }
+    → Completed fs token block c.frame (record h { hold = hold }) (record fs { held = set fs.held c.frame (HeldIn (record h { hold = hold })); commands = commands })
 completed fs token c h block position hold commands sound out at done found rest =
     let event = answer_event c.kind (place_of fs c) block in
     let a = answer_at fs.geometry fs.shard fs.slots h (place_of fs c) block c.kind out.whole out.inside out.not_out out.away out.kind in
     let goes : hold ≡ (with_class (answered_row h (place_of fs c) event) hold.class).hold =
     done ∙ ap (λ p. record (answered h.hold p block) { class = hold.class }) at ∙ (λ i. record { planned = a.is i; away = set h.hold.away (place_of fs c) false; class = hold.class }) in
-    let same : record fs { held = with_item fs.held c.frame (HeldIn (record h { hold = hold })); commands = commands } ≡ answered_of fs token c h out event hold.class =
-    λ i. record fs { held = with_item fs.held c.frame (HeldIn (record h { hold = goes i })); commands = rest i } in
+    let same : record fs { held = set fs.held c.frame (HeldIn (record h { hold = hold })); commands = commands } ≡ answered_of fs token c h out event hold.class =
+    λ i. record fs { held = set fs.held c.frame (HeldIn (record h { hold = goes i })); commands = rest i } in
     let after : IsClassAfter (after_event h.hold.planned.hold event) h.hold.class hold.class =
     subst (λ (x : HeldHold). IsClassAfter x.planned.hold h.hold.class hold.class) goes found in
     record {
       sound = subst IsSound (sym same) (answered_sound fs token c h out sound block event a hold.class);
       answers = subst (Answers fs token block) (sym same) (answers fs token c h out block hold.class after);
-      held = hold_at_own fs.held.items c.frame (HeldIn (record h { hold = hold })) (held_within fs.held.items c.frame h out.held);
-      rows = rows_stay fs.held.items c.frame h (record h { hold = hold }) out.held refl;
-      others = λ other ne. use_at_other fs.held.items c.frame (HeldIn (record h { hold = hold })) other ne;
+      held = hold_at_own fs.held c.frame (HeldIn (record h { hold = hold })) (held_within fs.held c.frame h out.held);
+      rows = rows_stay fs.held c.frame h (record h { hold = hold }) out.held refl;
+      others = λ other ne. use_at_other fs.held c.frame (HeldIn (record h { hold = hold })) other ne;
       owed = ap owed same ∙ answered_owed fs token c h out sound block event a hold.class;
       requests = ap held_requests same ∙ answered_requests fs token c h out sound block event a hold.class (same_kind h (place_of fs c) c.kind block);
     }

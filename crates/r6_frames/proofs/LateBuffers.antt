@@ -1,13 +1,12 @@
 -- What the buffer of an abandoned command does when it comes home.
-use Rattle.std.proofs.Common.{◌≡◌, ◌≢◌, ℕ, ◌+◌, ◌<◌, Bool, true, false, List, [], ◌∷◌, ◌++◌, length, set, refl, sym, ap, subst, ◌∙◌, Some, arith, get_or-set_same, get_or-set_other, length-append}
-use Rattle.std.specs.Prelude.{option_map, slice_index_or, if◌then◌else◌, vec_capacity}
+use Rattle.std.proofs.Common.{◌≡◌, ◌≢◌, ℕ, ◌+◌, ◌<◌, Bool, true, false, List, [], ◌∷◌, length, set, refl, sym, ap, subst, ◌∙◌, Some, arith, get_or-set_same, get_or-set_other}
+use Rattle.std.specs.Prelude.{option_map, slice_index_or, if◌then◌else◌}
 use mathlib.Core.Path.{fun_ext}
 use Rattle.std.specs.FinMap as map
 use Rattle.std.specs.List.{All}
-use Rattle.std.specs.Global.{Vec}
 use Rattle.std.proofs.lemmas.Bool.{lt-ltb}
-use Rattle.std.proofs.lemmas.List.{append-nil, length-set}
-use Rattle.std.proofs.lemmas.List.Elements.{All-append, All-cons, All-nil}
+use Rattle.std.proofs.lemmas.List.{length-set}
+use Rattle.std.proofs.lemmas.List.Elements.{All-cons, All-nil}
 use Rattle.r6_stripe.specs.Frames as buffers
 use Rattle.r6_stripe.specs.Holds.{Event, Kind, cell_at}
 use Rattle.r6_stripe.specs.Holds.Standing.{Out}
@@ -16,13 +15,13 @@ use Rattle.r6_stripe.specs.Plans.{Planned, is_out, is_sent, planned_after}
 use Rattle.r6_stripe.specs.Steps.{Held as StripeHold, is_away, answered, with_answer}
 use Rattle.r6_stripe.proofs.Course.{kind_after, size_after, width_after}
 use Rattle.r6_stripe.proofs.Steps.{out_is}
-use Rattle.r6_tables.specs.Table.{Numbered, entries_of, next_of, capacity_of}
 use Rattle.r6_world.specs.PlainArray.{Block}
+use Rattle.r6_world.specs.ShardStates.{frames}
 use Rattle.r6_frames.specs.declared.command.Outstanding.{Outstanding}
 use Rattle.r6_frames.specs.declared.frames.HeldRow.{HeldRow}
 use Rattle.r6_frames.specs.declared.frames.FrameUse.{FrameUse}
 use Rattle.r6_frames.specs.declared.frames.FrameUse.TheVariants.{Free, Held as HeldIn, Returning}
-use Rattle.r6_frames.specs.declared.frames.Frames.{Frames}
+use Rattle.r6_frames.specs.FramesState.{FramesState, Commands}
 use Rattle.r6_frames.specs.Slots.{is_abandoned}
 use Rattle.r6_frames.specs.Views.{use_at, row_in, hold_at, hold_of, plan_in, request_at, held_requests, outstanding, command_of, shard_with, AreLive}
 use Rattle.r6_frames.specs.Calls.{ComesHome, IsAwaited, IsAbandoned, KeepsHeld, KeepsOthers}
@@ -37,24 +36,24 @@ use Rattle.r6_frames.proofs.BuffersHome.{GoesOn, IsHome, home_back, left_of, com
 use Rattle.r6_frames.proofs.Completions.{place_within}
 
 -- what the call leaves
-pub record CameHome (fs : Frames) (token : ℕ) (new : Frames) : Type 0 where
+pub record CameHome (fs : FramesState) (token : ℕ) (new : FramesState) : Type 0 where
   pub sound : IsSound new
   pub comes : ComesHome fs token new
   pub holds : KeepsHeld fs new
   pub others : (frame : ℕ) × KeepsOthers fs frame new
   pub owed : owed new ≡ owed fs
-  pub next : next_of new.commands ≡ next_of fs.commands
+  pub next : new.commands.next ≡ fs.commands.next
   pub requests : held_requests new ≡ held_requests fs
 
-abandoned_one : (fs : Frames) (token : ℕ) (c : Outstanding) → IsAbandoned fs token → outstanding fs token ≡ Some c → is_abandoned fs.slots token c ≡ true
+abandoned_one : (fs : FramesState) (token : ℕ) (c : Outstanding) → IsAbandoned fs token → outstanding fs token ≡ Some c → is_abandoned fs.slots token c ≡ true
 abandoned_one fs token c abandoned there =
     let same : abandoned.0 ≡ c = let both = sym abandoned.1 ∙ there in cc in
     sym (ap (is_abandoned fs.slots token) same) ∙ abandoned.2
 
 -- ---- the change of the shard
 
-comes_home : (fs : Frames) (token : ℕ) (c : Outstanding) (held : Vec FrameUse) (spare : Vec buffers.Shape) → IsAwaited fs token → IsAbandoned fs token → outstanding fs token ≡ Some c
-    → ((frame : ℕ) → option_map hold_of (hold_at held.items frame) ≡ option_map hold_of (hold_at fs.held.items frame)) → ComesHome fs token (left_of fs token held spare)
+comes_home : (fs : FramesState) (token : ℕ) (c : Outstanding) (held : List FrameUse) (spare : ℕ) → IsAwaited fs token → IsAbandoned fs token → outstanding fs token ≡ Some c
+    → ((frame : ℕ) → option_map hold_of (hold_at held frame) ≡ option_map hold_of (hold_at fs.held frame)) → ComesHome fs token (left_of fs token held spare)
 comes_home fs token c held spare awaited abandoned there same = (
   refl,
   refl,
@@ -62,17 +61,17 @@ comes_home fs token c held spare awaited abandoned there same = (
     command_of fs.slots fs.handed token c,
     lt-ltb token fs.handed awaited.2,
     (ap (option_map (command_of fs.slots fs.handed token)) there, abandoned_one fs token c abandoned there),
-    λ i. record (shard_with rest fs) { frame = fun_ext same i; command = commands_gone fs.slots (entries_of fs.commands) fs.handed token i },
+    λ i. record (shard_with rest fs) { frame = fun_ext same i; command = commands_gone fs.slots fs.commands.entries fs.handed token i },
   ),
 )
 
 -- ---- holds don't go on
 
-pub stopped_home : (fs : Frames) (token : ℕ) (c : Outstanding) (commands : Numbered Outstanding) → IsSound fs → IsAwaited fs token → IsAbandoned fs token → outstanding fs token ≡ Some c
-    → (AreLive fs → ⊥) → commands ≡ (capacity_of fs.commands, (next_of fs.commands, map.remove (entries_of fs.commands) token))
+pub stopped_home : (fs : FramesState) (token : ℕ) (c : Outstanding) (commands : Commands) → IsSound fs → IsAwaited fs token → IsAbandoned fs token → outstanding fs token ≡ Some c
+    → (AreLive fs → ⊥) → commands ≡ record { next = fs.commands.next; entries = map.remove fs.commands.entries token }
     → CameHome fs token (record fs { commands = commands })
 stopped_home fs token c commands sound awaited abandoned there stopped rest =
-    subst (λ (t : Numbered Outstanding). CameHome fs token (record fs { commands = t })) (sym rest) (record {
+    subst (λ (t : Commands). CameHome fs token (record fs { commands = t })) (sym rest) (record {
       sound = record {
         shape = sound.shape;
         shard = sound.shard;
@@ -84,8 +83,6 @@ stopped_home fs token c commands sound awaited abandoned there stopped rest =
           returning = sound.frames.returning;
           one_holder = sound.frames.one_holder;
           spare = sound.frames.spare;
-          spare_room = sound.frames.spare_room;
-          spare_shape = sound.frames.spare_shape;
         };
         commands = commands_left fs token c there fs.held fs.spare sound.commands awaited.2 (λ live. absurd (stopped live)) (λ live. absurd (stopped live)) (omega arith);
       };
@@ -100,23 +97,23 @@ stopped_home fs token c commands sound awaited abandoned there stopped rest =
 -- ---- holds go on
 
 -- the command was taken and abandoned, and left with a buffer of its frame
-pub record IsLate (fs : Frames) (token : ℕ) (c : Outstanding) : Type 0 where
+pub record IsLate (fs : FramesState) (token : ℕ) (c : Outstanding) : Type 0 where
   pub awaited : IsAwaited fs token
   pub abandoned : IsAbandoned fs token
   pub there : outstanding fs token ≡ Some c
-  pub below : c.frame < length fs.held.items
+  pub below : c.frame < length fs.held
   pub inside : place_of fs c < fs.geometry.slots
-  pub away : is_away_from (use_at fs.held.items c.frame) (place_of fs c) ≡ true
-  pub out : (h : HeldRow) → hold_at fs.held.items c.frame ≡ Some h → (cell_at h.hold.planned.hold.cells (place_of fs c)).standing ≡ Out
+  pub away : is_away_from (use_at fs.held c.frame) (place_of fs c) ≡ true
+  pub out : (h : HeldRow) → hold_at fs.held c.frame ≡ Some h → (cell_at h.hold.planned.hold.cells (place_of fs c)).standing ≡ Out
 
-pub is_late : (fs : Frames) (token : ℕ) (c : Outstanding) → IsSound fs → AreLive fs → IsAwaited fs token → IsAbandoned fs token → outstanding fs token ≡ Some c → IsLate fs token c
+pub is_late : (fs : FramesState) (token : ℕ) (c : Outstanding) → IsSound fs → AreLive fs → IsAwaited fs token → IsAbandoned fs token → outstanding fs token ≡ Some c → IsLate fs token c
 is_late fs token c sound live awaited abandoned there =
     let of = sound.commands.of_frame live token c there in
     record {
       awaited = awaited;
       abandoned = abandoned;
       there = there;
-      below = use_within fs.held.items c.frame (λ free. let home = sym (ap (λ v. is_away_from v (place_of fs c)) free) ∙ of.away in absurd (cc));
+      below = use_within fs.held c.frame (λ free. let home = sym (ap (λ v. is_away_from v (place_of fs c)) free) ∙ of.away in absurd (cc));
       inside = place_within fs c sound;
       away = of.away;
       out = λ h held.
@@ -131,13 +128,11 @@ record IsSameRow (old new : FrameUse) : Type 0 where
   owed : owed_at new ≡ owed_at old
   requests : (frame : ℕ) → request_at frame new ≡ request_at frame old
 
-module _ (fs : Frames) (token : ℕ) (c : Outstanding) (sound : IsSound fs) (late : IsLate fs token c) where
-  came_home : (held : Vec FrameUse) (spare : Vec buffers.Shape) (old new : FrameUse) → use_at fs.held.items c.frame ≡ old → held.items ≡ set fs.held.items c.frame new → IsHome fs c new → IsSameRow old new
-      → length spare.items + free_at old ≡ length fs.spare.items + free_at new → vec_capacity spare ≡ vec_capacity fs.spare
-      → All (IsForRow fs.geometry) spare.items
-      → CameHome fs token (left_of fs token held spare)
-  came_home held spare old new was items home same more capacity shapes = record {
-    sound = sound_left fs token c late.there held spare new items home sound late.awaited.2 (ap (λ v. length spare.items + free_at v) was ∙ more) capacity shapes;
+module _ (fs : FramesState) (token : ℕ) (c : Outstanding) (sound : IsSound fs) (late : IsLate fs token c) where
+  came_home : (held : List FrameUse) (spare : ℕ) (old new : FrameUse) → use_at fs.held c.frame ≡ old → held ≡ set fs.held c.frame new → IsHome fs c new → IsSameRow old new
+      → spare + free_at old ≡ fs.spare + free_at new → CameHome fs token (left_of fs token held spare)
+  came_home held spare old new was items home same more = record {
+    sound = sound_left fs token c late.there held spare new items home sound late.awaited.2 (ap (λ v. spare + free_at v) was ∙ more);
     comes = comes_home fs token c held spare late.awaited late.abandoned late.there
         (each_same fs token c late.there held spare new items home (λ v. option_map hold_of (row_in v)) (same.hold ∙ sym (ap (λ v. option_map hold_of (row_in v)) was)));
     holds = each_same fs token c late.there held spare new items home (λ v. option_map plan_in (row_in v)) (same.plan ∙ sym (ap (λ v. option_map plan_in (row_in v)) was));
@@ -149,12 +144,12 @@ module _ (fs : Frames) (token : ℕ) (c : Outstanding) (sound : IsSound fs) (lat
 
   -- ---- to a held row
 
-  module _ (h : HeldRow) (is : hold_at fs.held.items c.frame ≡ Some h) where
+  module _ (h : HeldRow) (is : hold_at fs.held c.frame ≡ Some h) where
     whole : IsHeld fs.geometry fs.shard fs.slots h
     whole = sound.frames.rows c.frame h is
 
-    held_was : use_at fs.held.items c.frame ≡ HeldIn h
-    held_was = use_held fs.held.items c.frame h is
+    held_was : use_at fs.held c.frame ≡ HeldIn h
+    held_was = use_held fs.held c.frame h is
 
     away_from_row : is_away h.hold (place_of fs c) ≡ true
     away_from_row = sym (ap (λ v. is_away_from v (place_of fs c)) held_was) ∙ late.away
@@ -178,16 +173,15 @@ module _ (fs : Frames) (token : ℕ) (c : Outstanding) (sound : IsSound fs) (lat
       returning = λ r there. absurd (cc);
     }
 
-    pub held_home : (position : ℕ) (block : Block) (held : Vec FrameUse) (spare : Vec buffers.Shape) → position ≡ place_of fs c
-        → held.items ≡ set fs.held.items c.frame (use_home (HeldIn h) position block) → spare.items ≡ fs.spare.items → vec_capacity spare ≡ vec_capacity fs.spare
+    pub held_home : (position : ℕ) (block : Block) (held : List FrameUse) (spare : ℕ) → position ≡ place_of fs c
+        → held ≡ set fs.held c.frame (use_home (HeldIn h) position block) → spare ≡ fs.spare
         → CameHome fs token (left_of fs token held spare)
-    held_home position block held spare at items same room =
+    held_home position block held spare at items same =
         let goes : answered h.hold position block ≡ (late_row h (place_of fs c)).hold =
         ap (λ p. answered h.hold p block) at ∙ (λ i. record { planned = late_is h.hold.planned (place_of fs c) block (late.out h is) i; away = set h.hold.away (place_of fs c) false; class = h.hold.class }) in
         came_home held spare (HeldIn h) (HeldIn (late_row h (place_of fs c))) held_was
-        (items ∙ ap (λ (hold : StripeHold). set fs.held.items c.frame (HeldIn (record h { hold = hold }))) goes) late_home
-        (record { hold = refl; plan = refl; owed = refl; requests = λ frame. refl }) (ap (λ (xs : List buffers.Shape). length xs + 0) same) room
-        (subst (All (IsForRow fs.geometry)) (sym same) sound.frames.spare_shape)
+        (items ∙ ap (λ (hold : StripeHold). set fs.held c.frame (HeldIn (record h { hold = hold }))) goes) late_home
+        (record { hold = refl; plan = refl; owed = refl; requests = λ frame. refl }) (ap (λ (n : ℕ). n + 0) same)
 
     pub row_size : h.hold.planned.hold.size ≡ fs.geometry.block
     row_size = whole.size
@@ -200,7 +194,7 @@ module _ (fs : Frames) (token : ℕ) (c : Outstanding) (sound : IsSound fs) (lat
 
   -- ---- to a frame whose hold has ended
 
-  module _ (r : StripeHold) (was : use_at fs.held.items c.frame ≡ Returning r) where
+  module _ (r : StripeHold) (was : use_at fs.held c.frame ≡ Returning r) where
     returns : IsReturning fs.geometry r
     returns = sound.frames.returning c.frame r was
 
@@ -250,11 +244,11 @@ module _ (fs : Frames) (token : ℕ) (c : Outstanding) (sound : IsSound fs) (lat
       now_home : is_away hold (place_of fs c) ≡ false
       now_home = ap (λ away. slice_index_or away (place_of fs c) false) away_is ∙ get_or-set_same r.away (place_of fs c) false false (omega (arith, returns.wide_away, late.inside))
 
-      others_same : (j : ℕ) → j ≢ place_of fs c → is_away hold j ≡ is_away_from (use_at fs.held.items c.frame) j
+      others_same : (j : ℕ) → j ≢ place_of fs c → is_away hold j ≡ is_away_from (use_at fs.held c.frame) j
       others_same j other =
           ap (λ away. slice_index_or away j false) away_is ∙ get_or-set_other r.away (place_of fs c) j false false other ∙ sym (ap (λ v. is_away_from v j) was)
 
-      one_more : home_at fs.geometry.slots (Returning hold) ≡ home_at fs.geometry.slots (use_at fs.held.items c.frame) + 1
+      one_more : home_at fs.geometry.slots (Returning hold) ≡ home_at fs.geometry.slots (use_at fs.held c.frame) + 1
       one_more =
           ap (λ away. home_at fs.geometry.slots (Returning (record hold { away = away }))) away_is ∙ home_back r.away (place_of fs c) away_from_frame
           ∙ sym (ap (λ v. home_at fs.geometry.slots v + 1) was)
@@ -298,49 +292,57 @@ module _ (fs : Frames) (token : ℕ) (c : Outstanding) (sound : IsSound fs) (lat
       own : IsForRow fs.geometry mine
       own i = record { count = wide i; size = size i }
 
-      pub returning_home : (held : Vec FrameUse) (spare : Vec buffers.Shape) → held.items ≡ set fs.held.items c.frame (use_home (Returning r) position block)
-          → spare.items ≡ fs.spare.items ++ spared_home (Returning r) position block → vec_capacity spare ≡ vec_capacity fs.spare
-          → CameHome fs token (left_of fs token held spare)
-      returning_home held spare items more room = by_away (has_away hold) refl items more
+      pub returning_home : (held : List FrameUse) (spare : ℕ) → held ≡ set fs.held c.frame (use_home (Returning r) position block)
+          → spare ≡ fs.spare + length (spared_home (Returning r) position block) → CameHome fs token (left_of fs token held spare)
+      returning_home held spare items more = by_away (has_away hold) refl items more
         where
-          by_away : (away : Bool) → has_away hold ≡ away → held.items ≡ set fs.held.items c.frame (if away then Returning hold else Free)
-              → spare.items ≡ fs.spare.items ++ (if away then [] else mine ∷ []) → CameHome fs token (left_of fs token held spare)
+          by_away : (away : Bool) → has_away hold ≡ away → held ≡ set fs.held c.frame (if away then Returning hold else Free)
+              → spare ≡ fs.spare + length (if away then [] else mine ∷ []) → CameHome fs token (left_of fs token held spare)
           by_away true away at spares =
-              let same = spares ∙ append-nil fs.spare.items in
               came_home held spare (Returning r) (Returning hold) was at (away_home away)
-              (record { hold = refl; plan = refl; owed = refl; requests = λ frame. refl }) (ap (λ (xs : List buffers.Shape). length xs + 0) same) room
-              (subst (All (IsForRow fs.geometry)) (sym same) sound.frames.spare_shape)
+              (record { hold = refl; plan = refl; owed = refl; requests = λ frame. refl }) (omega (arith, spares))
           by_away false home at spares =
               came_home held spare (Returning r) Free was at (free_home home)
               (record { hold = refl; plan = refl; owed = refl; requests = λ frame. refl })
-              (omega (arith, ap length spares, length-append fs.spare.items (mine ∷ []))) room
-              (subst (All (IsForRow fs.geometry)) (sym spares)
-              (All-append (IsForRow fs.geometry) fs.spare.items (mine ∷ []) sound.frames.spare_shape (All-cons (IsForRow fs.geometry) mine [] own (All-nil (IsForRow fs.geometry)))))
+              (omega (arith, spares))
+
+      pub spared_returning : All (IsForRow fs.geometry) (spared_home (Returning r) position block)
+      spared_returning = by_away (has_away hold)
+        where
+          by_away : (away : Bool) → All (IsForRow fs.geometry) (if away then [] else mine ∷ [])
+          by_away true = All-nil (IsForRow fs.geometry)
+          by_away false = All-cons (IsForRow fs.geometry) mine [] own (All-nil (IsForRow fs.geometry))
 
   -- ---- whatever the frame is used for
 
-  pub brought_home : (u : FrameUse) (position : ℕ) (block : Block) (held : Vec FrameUse) (spare : Vec buffers.Shape) → use_at fs.held.items c.frame ≡ u → position ≡ place_of fs c
-      → held.items ≡ set fs.held.items c.frame (use_home u position block) → spare.items ≡ fs.spare.items ++ spared_home u position block
-      → vec_capacity spare ≡ vec_capacity fs.spare → CameHome fs token (left_of fs token held spare)
-  brought_home Free position block held spare was at items more room =
+  pub brought_home : (u : FrameUse) (position : ℕ) (block : Block) (held : List FrameUse) (spare : ℕ) → use_at fs.held c.frame ≡ u → position ≡ place_of fs c
+      → held ≡ set fs.held c.frame (use_home u position block) → spare ≡ fs.spare + length (spared_home u position block)
+      → CameHome fs token (left_of fs token held spare)
+  brought_home Free position block held spare was at items more =
       absurd (let home = ap (λ v. is_away_from v (place_of fs c)) was in let away = late.away in cc)
-  brought_home (HeldIn h) position block held spare was at items more room =
-      held_home h (ap row_in was) position block held spare at items (more ∙ append-nil fs.spare.items) room
-  brought_home (Returning r) position block held spare was at items more room = returning_home r was position block at held spare items more room
+  brought_home (HeldIn h) position block held spare was at items more =
+      held_home h (ap row_in was) position block held spare at items (omega (arith, more))
+  brought_home (Returning r) position block held spare was at items more = returning_home r was position block at held spare items more
 
-  pub awaits_buffer : (u : FrameUse) (position : ℕ) (block : Block) → use_at fs.held.items c.frame ≡ u → position ≡ place_of fs c → length block ≡ fs.geometry.block
+  -- the buffers that are spare then are for a row of the array
+  pub spared_shapes : (u : FrameUse) (position : ℕ) (block : Block) → use_at fs.held c.frame ≡ u → position ≡ place_of fs c → All (IsForRow fs.geometry) (spared_home u position block)
+  spared_shapes Free position block was at = All-nil (IsForRow fs.geometry)
+  spared_shapes (HeldIn h) position block was at = All-nil (IsForRow fs.geometry)
+  spared_shapes (Returning r) position block was at = spared_returning r was position block at
+
+  pub awaits_buffer : (u : FrameUse) (position : ℕ) (block : Block) → use_at fs.held c.frame ≡ u → position ≡ place_of fs c → length block ≡ fs.geometry.block
       → AwaitsBuffer u position block
   awaits_buffer Free position block was at sized = absurd (let home = ap (λ v. is_away_from v (place_of fs c)) was in let away = late.away in cc)
   awaits_buffer (HeldIn h) position block was at sized = (row_away h (ap row_in was) position at, sized ∙ sym (row_size h (ap row_in was)), row_out h (ap row_in was) position at)
   awaits_buffer (Returning r) position block was at sized =
       (returning_away r was position at, sized ∙ sym (returning_size r was), (returns r was).ended)
 
-  pub has_room : length fs.spare.items < vec_capacity fs.spare
+  pub has_room : fs.spare < frames
   has_room =
-      let one = free_set fs.held.items c.frame Free late.below in
-      let none = not_free (use_at fs.held.items c.frame) late.away in
-      let few = count_free-le (set fs.held.items c.frame Free) in
-      omega (arith, one, none, few, length-set fs.held.items c.frame Free, sound.frames.spare, sound.frames.spare_room, sound.frames.count)
+      let one = free_set fs.held c.frame Free late.below in
+      let none = not_free (use_at fs.held c.frame) late.away in
+      let few = count_free-le (set fs.held c.frame Free) in
+      omega (arith, one, none, few, length-set fs.held c.frame Free, sound.frames.spare, sound.frames.count)
     where
       not_free : (u : FrameUse) → is_away_from u (place_of fs c) ≡ true → free_at u ≡ 0
       not_free Free away = absurd (cc)

@@ -14,7 +14,7 @@ use Rattle.r6_world.specs.Tables.{put}
 use Rattle.r6_world.proofs.Geometries.{layouts}
 use Rattle.r6_world.proofs.Tables.{count-le, put-other}
 use Rattle.r6_frames.specs.declared.command.Outstanding.{Outstanding}
-use Rattle.r6_frames.specs.declared.frames.Frames.{Frames}
+use Rattle.r6_frames.specs.FramesState.{FramesState}
 use Rattle.r6_frames.specs.declared.frames.HeldRow.{HeldRow}
 use Rattle.r6_frames.specs.declared.rebuilt.Rebuilt.{Rebuilt}
 use Rattle.r6_frames.specs.declared.rebuilt.Target.{Target}
@@ -32,19 +32,19 @@ use Rattle.r6_frames.proofs.Marking.{at_most, built}
 -- ---- a slot whose device is in sync for one row more
 
 -- what stays for the other rows
-pub record StaysFor (fs : Frames) (generation : ℕ) (r : Rebuilt) (row : ℕ) (d : Device) : Type 0 where
+pub record StaysFor (fs : FramesState) (generation : ℕ) (r : Rebuilt) (row : ℕ) (d : Device) : Type 0 where
   pub stands : (other : ℕ) → IsRowOf (layout_of fs.geometry) fs.shard other → other ≢ row
       → standing_of (state_of d) other ≡ standing_of (SlotState.Building generation (is_rebuilt r)) other
   pub target : (other : ℕ) → IsRowOf (layout_of fs.geometry) fs.shard other → other ≢ row → IsNext r other → is_rebuilt r other ≡ false
       → (now : Rebuilt) × (d ≡ device.Building generation now) × IsNext now other × (is_rebuilt now other ≡ false)
   pub lawful : IsDeviceOf (layout_of fs.geometry) fs.shard d
 
-module _ (fs : Frames) (slot generation : ℕ) (r : Rebuilt) (row : ℕ) (d : Device) (sound : IsSound fs) (live : AreLive fs) (below : slot < fs.geometry.slots) (within : slot < length fs.slots)
+module _ (fs : FramesState) (slot generation : ℕ) (r : Rebuilt) (row : ℕ) (d : Device) (sound : IsSound fs) (live : AreLive fs) (below : slot < fs.geometry.slots) (within : slot < length fs.slots)
     (old_is : (slot_in fs.slots slot).device ≡ device.Building generation r) (unheld : NotHeldBy fs row) (stays : StaysFor fs generation r row d) where
   abbrev now_slot : Slot
   now_slot = record (slot_in fs.slots slot) { device = d }
 
-  abbrev pub marked : Frames
+  abbrev pub marked : FramesState
   marked = record fs { slots = set fs.slots slot now_slot }
 
   at_slot : slot_in marked.slots slot ≡ now_slot
@@ -163,8 +163,6 @@ module _ (fs : Frames) (slot generation : ℕ) (r : Rebuilt) (row : ℕ) (d : De
           returning = frames.returning;
           one_holder = frames.one_holder;
           spare = frames.spare;
-          spare_room = frames.spare_room;
-          spare_shape = frames.spare_shape;
         };
         commands = record {
           handed = commands.handed;
@@ -206,7 +204,7 @@ pub record HasMarked (r : Rebuilt) (row : ℕ) (now : Rebuilt) : Type 0 where
   pub rows : (end : ℕ) → AreNext end r → row < end → AreNext end now
   pub others : (other : ℕ) → IsNext r other → other ≢ row → IsNext now other
 
-module _ (fs : Frames) (generation : ℕ) (r : Rebuilt) (row : ℕ) (now : Rebuilt) (sound : IsSound fs) (own : IsRowOf (layout_of fs.geometry) fs.shard row)
+module _ (fs : FramesState) (generation : ℕ) (r : Rebuilt) (row : ℕ) (now : Rebuilt) (sound : IsSound fs) (own : IsRowOf (layout_of fs.geometry) fs.shard row)
     (lawful : IsRebuilt (layout.first_row fs.geometry fs.shard) (layout.first_row fs.geometry (fs.shard + 1)) r) (is : HasMarked r row now) where
   abbrev end : ℕ
   end = layout.first_row fs.geometry (fs.shard + 1)
@@ -250,7 +248,7 @@ module _ (fs : Frames) (generation : ℕ) (r : Rebuilt) (row : ℕ) (now : Rebui
 
 -- ---- what the code puts in the slot
 
-module _ (fs : Frames) (target : Target) (generation : ℕ) (r : Rebuilt) (row : ℕ) (now : Rebuilt) (d : Device) (sound : IsSound fs) (live : AreLive fs) (below : target.slot < fs.geometry.slots)
+module _ (fs : FramesState) (target : Target) (generation : ℕ) (r : Rebuilt) (row : ℕ) (now : Rebuilt) (d : Device) (sound : IsSound fs) (live : AreLive fs) (below : target.slot < fs.geometry.slots)
     (within : target.slot < length fs.slots) (old_is : (slot_in fs.slots target.slot).device ≡ device.Building generation r) (unheld : NotHeldBy fs row)
     (own : IsRowOf (layout_of fs.geometry) fs.shard row) (on : IsNextOn fs target row) (is : HasMarked r row now) where
   lawful : IsRebuilt (layout.first_row fs.geometry fs.shard) (layout.first_row fs.geometry (fs.shard + 1)) r
@@ -271,7 +269,7 @@ module _ (fs : Frames) (target : Target) (generation : ℕ) (r : Rebuilt) (row :
   chosen_stays (inl last) = subst (StaysFor fs generation r row) (sym last.0) (stays_synced fs generation r row now sound own lawful is last.1)
   chosen_stays (inr left) = subst (StaysFor fs generation r row) (sym left.0) (stays_building fs generation r row now sound own lawful is left.1)
 
-  abbrev pub then : Frames
+  abbrev pub then : FramesState
   then = record fs { slots = set fs.slots target.slot (record (slot_in fs.slots target.slot) { device = d }) }
 
   pub chosen_sound : IsChosen → IsSound then

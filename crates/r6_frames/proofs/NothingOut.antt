@@ -9,7 +9,7 @@ use Rattle.r6_world.specs.Geometries.{layout_of}
 use Rattle.r6_world.specs.Steps.{Through}
 use Rattle.r6_frames.specs.declared.frames.HeldRow.{HeldRow}
 use Rattle.r6_frames.specs.declared.frames.FrameUse.TheVariants.{Held as HeldIn}
-use Rattle.r6_frames.specs.declared.frames.Frames.{Frames}
+use Rattle.r6_frames.specs.FramesState.{FramesState}
 use Rattle.r6_frames.specs.Views.{hold_at, hold_of, held_requests, shard_with, AreLive}
 use Rattle.r6_frames.specs.Calls.{PutsOut, Drives}
 use Rattle.r6_frames.specs.Owed.{owed, HasOut, IsOver, OwesCommands, IsDriven}
@@ -39,7 +39,7 @@ has_prepared h new puts =
       nothing = puts.1;
     }
 
-module _ (fs : Frames) (frame : ℕ) (h : HeldRow) (new : Held) (is : hold_at fs.held.items frame ≡ Some h) (sound : IsSound fs) (live : AreLive fs) (puts : PutsOutNext h.hold None new) where
+module _ (fs : FramesState) (frame : ℕ) (h : HeldRow) (new : Held) (is : hold_at fs.held frame ≡ Some h) (sound : IsSound fs) (live : AreLive fs) (puts : PutsOutNext h.hold None new) where
   abbrev row : HeldRow
   row = record h { hold = new }
 
@@ -55,8 +55,8 @@ module _ (fs : Frames) (frame : ℕ) (h : HeldRow) (new : Held) (is : hold_at fs
   p : Prepared fs.geometry fs.shard fs.slots h ready
   p = are_prepared fs.geometry fs.shard fs.slots h has.events held has.silent has.may
 
-  pub none_held : hold_at (set fs.held.items frame (HeldIn row)) frame ≡ Some row
-  none_held = hold_at_own fs.held.items frame (HeldIn row) (held_within fs.held.items frame h is)
+  pub none_held : hold_at (set fs.held frame (HeldIn row)) frame ≡ Some row
+  none_held = hold_at_own fs.held frame (HeldIn row) (held_within fs.held frame h is)
 
   pub none_sound : IsSound (with_row fs frame row)
   none_sound =
@@ -70,7 +70,7 @@ module _ (fs : Frames) (frame : ℕ) (h : HeldRow) (new : Held) (is : hold_at fs
     refl,
     λ rest.
         let s = shard_with rest fs in
-        let frames_are = frame_put fs.held.items frame (HeldIn ready) (held_within fs.held.items frame h is) in
+        let frames_are = frame_put fs.held frame (HeldIn ready) (held_within fs.held frame h is) in
         subst (λ (r : HeldRow). Through (layout_of fs.geometry) fs.shard PutsOut s (shard_with rest (with_row fs frame r))) has.same
         (prepare_leads (layout_of fs.geometry) fs.shard s (shard_with rest (with_row fs frame ready)) frame h has.events [] (ap (option_map hold_of) is) live has.silent has.may
         (λ i. record s { frame = frames_are i })),

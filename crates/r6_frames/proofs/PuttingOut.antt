@@ -8,7 +8,6 @@ use Rattle.r6_stripe.specs.Holds.Event.{Asks, Restores, Computes, Writes, Gives,
 use Rattle.r6_stripe.specs.Plans.{Planned, planned_after, planned_at, MayFollow, IsPlanned, IsSilent, AreSilent}
 use Rattle.r6_stripe.specs.Steps.{Held, PutsOut as PutsOutNext}
 use Rattle.r6_stripe.proofs.Steps.{step_by_rules}
-use Rattle.r6_tables.specs.Table.{next_of, entries_of}
 use Rattle.r6_world.specs.Tables.{put}
 use Rattle.r6_world.specs.Layouts.{Layout}
 use Rattle.r6_world.specs.Geometries.{layout_of}
@@ -20,7 +19,7 @@ use Rattle.r6_frames.specs.declared.command.CommandKind.{CommandKind}
 use Rattle.r6_frames.specs.declared.command.CommandKind.TheVariants as command
 use Rattle.r6_frames.specs.declared.frames.HeldRow.{HeldRow}
 use Rattle.r6_frames.specs.declared.frames.FrameUse.TheVariants.{Held as HeldIn}
-use Rattle.r6_frames.specs.declared.frames.Frames.{Frames}
+use Rattle.r6_frames.specs.FramesState.{FramesState}
 use Rattle.r6_frames.specs.Slots.{slot_in, states_of}
 use Rattle.r6_frames.specs.Views.{hold_at, hold_of, frame_of, row_command, Rest, shard_with, AreLive}
 use Rattle.r6_frames.specs.Calls.{PutsOut}
@@ -80,9 +79,9 @@ abbrev pub MayGo : CommandKind → Task → (slot generation : ℕ) → SlotStat
 MayGo command.Read task slot generation state row = InSyncFor state row generation
 MayGo command.Write task slot generation state row = InSyncFor state row generation ⊎ IsTarget task slot generation state
 
-module _ (fs : Frames) (frame : ℕ) (h : HeldRow) (planned : Planned) (position slot generation : ℕ) (buffer : List ℕ) (rest : Rest)
-    (is : hold_at fs.held.items frame ≡ Some h) (inverse : position_at fs.geometry h.row slot ≡ position) (below : slot < fs.geometry.slots) (live : AreLive fs)
-    (handed : fs.handed ≤ next_of fs.commands) (since : (slot_in fs.slots slot).since ≤ next_of fs.commands) where
+module _ (fs : FramesState) (frame : ℕ) (h : HeldRow) (planned : Planned) (position slot generation : ℕ) (buffer : List ℕ) (rest : Rest)
+    (is : hold_at fs.held frame ≡ Some h) (inverse : position_at fs.geometry h.row slot ≡ position) (below : slot < fs.geometry.slots) (live : AreLive fs)
+    (handed : fs.handed ≤ fs.commands.next) (since : (slot_in fs.slots slot).since ≤ fs.commands.next) where
   abbrev l : Layout
   l = layout_of fs.geometry
 
@@ -93,17 +92,17 @@ module _ (fs : Frames) (frame : ℕ) (h : HeldRow) (planned : Planned) (position
   abbrev ready : Shard
   ready = let s = shard_with rest fs in record s { frame = put s.frame frame (Some mid) }
 
-  abbrev with_put : CommandKind → Frames
+  abbrev with_put : CommandKind → FramesState
   with_put kind = with_command fs frame h (planned_after planned (put_event position kind buffer)) position slot generation kind buffer
 
-  not_abandoned : nat_lt (next_of fs.commands) (slot_in fs.slots slot).since ≡ false
-  not_abandoned = le-ltb (next_of fs.commands) (slot_in fs.slots slot).since since
+  not_abandoned : nat_lt fs.commands.next (slot_in fs.slots slot).since ≡ false
+  not_abandoned = le-ltb fs.commands.next (slot_in fs.slots slot).since since
 
   frame_then : (event : ℕ → Event) (new : HeldRow) → hold_of new ≡ record mid { course = after_event planned.hold (event position) }
-      → (λ x. option_map hold_of (hold_at (set fs.held.items frame (HeldIn new)) x))
+      → (λ x. option_map hold_of (hold_at (set fs.held frame (HeldIn new)) x))
       ≡ put (put (frame_of fs) frame (Some mid)) frame (Some (record mid { course = after_event planned.hold (event (position_at fs.geometry h.row slot)) }))
   frame_then event new same =
-      frame_put fs.held.items frame (HeldIn new) (held_within fs.held.items frame h is)
+      frame_put fs.held frame (HeldIn new) (held_within fs.held frame h is)
       ∙ ap (λ x. put (frame_of fs) frame (Some x)) (same ∙ ap (λ p. record mid { course = after_event planned.hold (event p) }) (sym inverse))
       ∙ sym (put_twice (frame_of fs) frame (Some mid) (Some (record mid { course = after_event planned.hold (event (position_at fs.geometry h.row slot)) })))
 
@@ -111,7 +110,7 @@ module _ (fs : Frames) (frame : ℕ) (h : HeldRow) (planned : Planned) (position
   put_leads command.Read goes follows =
       let new = sent_off h (planned_after planned (Asks position)) position in
       let frames_are = frame_then Asks new refl in
-      let commands_are = command_came fs.slots (entries_of fs.commands) fs.handed (next_of fs.commands) (new_command frame slot generation h.row command.Read buffer) handed not_abandoned in
+      let commands_are = command_came fs.slots fs.commands.entries fs.handed fs.commands.next (new_command frame slot generation h.row command.Read buffer) handed not_abandoned in
       let s = shard_with rest fs in
       let may : MayAsk planned.hold position = step_by_rules planned (Asks position) follows in (
         record {},
@@ -123,12 +122,12 @@ module _ (fs : Frames) (frame : ℕ) (h : HeldRow) (planned : Planned) (position
           subst (λ (p : ℕ). MayAsk planned.hold p) (sym inverse) may,
           subst (λ (p : ℕ). MayFollow planned (Asks p)) (sym inverse) follows,
         ),
-        λ i. record s { frame = frames_are i; command = commands_are i; tokens = next_of fs.commands + 1 },
+        λ i. record s { frame = frames_are i; command = commands_are i; tokens = fs.commands.next + 1 },
       )
   put_leads command.Write goes follows =
       let new = sent_off h (planned_after planned (Writes position buffer)) position in
       let frames_are = frame_then (λ p. Writes p buffer) new refl in
-      let commands_are = command_came fs.slots (entries_of fs.commands) fs.handed (next_of fs.commands) (new_command frame slot generation h.row command.Write buffer) handed not_abandoned in
+      let commands_are = command_came fs.slots fs.commands.entries fs.handed fs.commands.next (new_command frame slot generation h.row command.Write buffer) handed not_abandoned in
       let s = shard_with rest fs in
       let may : MayWrite planned.hold position buffer = step_by_rules planned (Writes position buffer) follows in (
         record {},
@@ -140,7 +139,7 @@ module _ (fs : Frames) (frame : ℕ) (h : HeldRow) (planned : Planned) (position
           subst (λ (p : ℕ). MayWrite planned.hold p buffer) (sym inverse) may,
           subst (λ (p : ℕ). MayFollow planned (Writes p buffer)) (sym inverse) follows,
         ),
-        λ i. record s { frame = frames_are i; command = commands_are i; tokens = next_of fs.commands + 1 },
+        λ i. record s { frame = frames_are i; command = commands_are i; tokens = fs.commands.next + 1 },
       )
 
 -- ---- what the hold answered

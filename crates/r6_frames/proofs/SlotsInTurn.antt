@@ -5,7 +5,7 @@ use Rattle.std.proofs.lemmas.Nat.{mod_below}
 use Rattle.r6_layout.specs.Shape.{Shape, IsShape}
 use Rattle.r6_layout.specs.Layout.{p_slot, chunk_row_of, slot_at, position_at}
 use Rattle.r6_frames.specs.declared.frames.HeldRow.{HeldRow}
-use Rattle.r6_frames.specs.declared.frames.Frames.{Frames}
+use Rattle.r6_frames.specs.FramesState.{FramesState}
 use Rattle.r6_frames.specs.Views.{hold_at}
 use Rattle.r6_frames.specs.Sound.{IsSound}
 use Rattle.r6_layout.proofs.Rotation.{mod_unique, position_in-slot_in}
@@ -65,7 +65,7 @@ pub record IsSlotAt (shape : Shape) (row position slot : ℕ) : Type 0 where
   pub value : slot ≡ slot_at shape row position
   pub inverse : position_at shape row slot ≡ position
 
-pub slot_of_row : (fs : Frames) (frame : ℕ) (h : HeldRow) (position slot : ℕ) → hold_at fs.held.items frame ≡ Some h → IsSound fs → position < fs.geometry.slots
+pub slot_of_row : (fs : FramesState) (frame : ℕ) (h : HeldRow) (position slot : ℕ) → hold_at fs.held frame ≡ Some h → IsSound fs → position < fs.geometry.slots
     → slot ≡ (h.first + position) % fs.geometry.slots → IsSlotAt fs.geometry h.row position slot
 slot_of_row fs frame h position slot is sound below right =
     let some = some_slots sound.shape in

@@ -13,13 +13,11 @@ use Rattle.r6_stripe.specs.Steps.{is_idle, has_outcome}
 use Rattle.r6_stripe.proofs.Bound.{within}
 use Rattle.r6_stripe.proofs.Places.{any_true}
 use Rattle.r6_stripe.proofs.Steps.{step_by_rules, not_false}
-use Rattle.r6_tables.specs.Table.{Numbered}
 use Rattle.r6_frames.specs.declared.command.CommandKind.{CommandKind}
 use Rattle.r6_frames.specs.declared.command.CommandKind.TheVariants as command
-use Rattle.r6_frames.specs.declared.command.Outstanding.{Outstanding}
 use Rattle.r6_frames.specs.declared.frames.HeldRow.{HeldRow}
 use Rattle.r6_frames.specs.declared.frames.FrameUse.TheVariants.{Held as HeldIn, Returning}
-use Rattle.r6_frames.specs.declared.frames.Frames.{Frames}
+use Rattle.r6_frames.specs.FramesState.{FramesState, Commands}
 use Rattle.r6_frames.specs.Views.{use_at, hold_at, held_entry, requests_by, request_at, requests_from, kind_in}
 use Rattle.r6_frames.specs.Owed.{is_unsent, owed_by, owed_in, HasOut, IsOver}
 use Rattle.r6_frames.specs.Sound.{IsHeld, IsSound, AreFrames, AreCommands, is_put_out, is_write}
@@ -31,47 +29,45 @@ use Rattle.r6_frames.proofs.PuttingOut.{put_event}
 -- ---- frames with another row in one of them
 
 -- the frames with another row in the frame, and other commands
-abbrev pub changed : Frames → ℕ → HeldRow → Numbered Outstanding → Frames
+abbrev pub changed : FramesState → ℕ → HeldRow → Commands → FramesState
 changed fs frame h commands = record (with_row fs frame h) { commands = commands }
 
-module _ (fs : Frames) (frame : ℕ) (h new : HeldRow) (commands : Numbered Outstanding) (is : hold_at fs.held.items frame ≡ Some h) where
-  inside : frame < length fs.held.items
-  inside = held_within fs.held.items frame h is
+module _ (fs : FramesState) (frame : ℕ) (h new : HeldRow) (commands : Commands) (is : hold_at fs.held frame ≡ Some h) where
+  inside : frame < length fs.held
+  inside = held_within fs.held frame h is
 
   pub frames_changed : IsHeld fs.geometry fs.shard fs.slots new → new.row ≡ h.row → AreFrames fs → AreFrames (changed fs frame new commands)
   frames_changed held same_row all = record {
-    count = length-set fs.held.items frame (HeldIn new) ∙ all.count;
-    rows = λ other x there. elim (held_then fs.held.items frame h new other x is there) [
+    count = length-set fs.held frame (HeldIn new) ∙ all.count;
+    rows = λ other x there. elim (held_then fs.held frame h new other x is there) [
       | inl mine ↦ subst (λ (x : HeldRow). IsHeld fs.geometry fs.shard fs.slots x) mine.1 held
       | inr old ↦ all.rows other x old.1
     ];
     returning = λ other r there. elim (cases_eq other frame) [
       | inl e ↦
-          absurd (let both : HeldIn new ≡ Returning r = sym (ap (use_at (set fs.held.items frame (HeldIn new))) e ∙ use_at_own fs.held.items frame (HeldIn new) inside) ∙ there in cc)
-      | inr ne ↦ all.returning other r (sym (use_at_other fs.held.items frame (HeldIn new) other ne) ∙ there)
+          absurd (let both : HeldIn new ≡ Returning r = sym (ap (use_at (set fs.held frame (HeldIn new))) e ∙ use_at_own fs.held frame (HeldIn new) inside) ∙ there in cc)
+      | inr ne ↦ all.returning other r (sym (use_at_other fs.held frame (HeldIn new) other ne) ∙ there)
     ];
-    one_holder = apart_still fs.held.items frame h new is same_row all.one_holder;
+    one_holder = apart_still fs.held frame h new is same_row all.one_holder;
     spare =
-        let free = free_set fs.held.items frame (HeldIn new) inside in
-        let was : free_at (use_at fs.held.items frame) ≡ 0 = ap free_at (use_held fs.held.items frame h is) in
+        let free = free_set fs.held frame (HeldIn new) inside in
+        let was : free_at (use_at fs.held frame) ≡ 0 = ap free_at (use_held fs.held frame h is) in
         let spare = all.spare in
         omega arith;
-    spare_room = all.spare_room;
-    spare_shape = all.spare_shape;
   }
 
   pub sound_changed : IsSound fs → IsHeld fs.geometry fs.shard fs.slots new → new.row ≡ h.row → AreCommands (changed fs frame new commands) → IsSound (changed fs frame new commands)
   sound_changed sound held same_row are = record { shape = sound.shape; shard = sound.shard; live = sound.live; devices = sound.devices; frames = frames_changed held same_row sound.frames; commands = are }
 
-  pub owed_changed : owed_in (set fs.held.items frame (HeldIn new)) + owed_by h ≡ owed_in fs.held.items + owed_by new
+  pub owed_changed : owed_in (set fs.held frame (HeldIn new)) + owed_by h ≡ owed_in fs.held + owed_by new
   owed_changed =
-      let sum = owed_set fs.held.items frame (HeldIn new) inside in
-      let was : owed_at (use_at fs.held.items frame) ≡ owed_by h = ap owed_at (use_held fs.held.items frame h is) in
+      let sum = owed_set fs.held frame (HeldIn new) inside in
+      let was : owed_at (use_at fs.held frame) ≡ owed_by h = ap owed_at (use_held fs.held frame h is) in
       omega arith
 
-  pub requests_changed : request_at frame (HeldIn new) ≡ request_at frame (HeldIn h) → requests_from 0 (set fs.held.items frame (HeldIn new)) ≡ requests_from 0 fs.held.items
+  pub requests_changed : request_at frame (HeldIn new) ≡ request_at frame (HeldIn h) → requests_from 0 (set fs.held frame (HeldIn new)) ≡ requests_from 0 fs.held
   requests_changed same =
-      same_requests 0 fs.held.items frame frame (HeldIn new) (omega arith) (same ∙ sym (ap (request_at frame) (use_held fs.held.items frame h is)))
+      same_requests 0 fs.held frame frame (HeldIn new) (omega arith) (same ∙ sym (ap (request_at frame) (use_held fs.held frame h is)))
 
 pub request_same : (frame : ℕ) (h : HeldRow) (planned : Planned) (away : List Bool) → planned.hold.kind ≡ kind_in h
     → request_at frame (HeldIn (record h { hold = record { planned = planned; away = away; class = h.hold.class } })) ≡ request_at frame (HeldIn h)
@@ -164,15 +160,15 @@ some_out hold j below home out =
 -- ---- a row puts a command out
 
 -- what a row is once its hold has put a command out at the position
-pub record HasPutOut (fs : Frames) (frame : ℕ) (h new : HeldRow) (planned : Planned) (position slot : ℕ) (kind : CommandKind) (buffer : List ℕ) : Type 0 where
+pub record HasPutOut (fs : FramesState) (frame : ℕ) (h new : HeldRow) (planned : Planned) (position slot : ℕ) (kind : CommandKind) (buffer : List ℕ) : Type 0 where
   pub held : IsHeld fs.geometry fs.shard fs.slots new
   pub request : request_at frame (HeldIn new) ≡ request_at frame (HeldIn h)
   pub out : (has_read_out new.hold.planned.hold || has_write_out new.hold.planned.hold) ≡ true
   pub puts : PutsOutAt fs frame h planned position slot kind buffer
   pub fewer : owed_by new + 1 ≤ owed_by h
 
-module _ (fs : Frames) (frame : ℕ) (h : HeldRow) (events : List Event) (position slot : ℕ) (kind : CommandKind) (buffer : List ℕ)
-    (is : hold_at fs.held.items frame ≡ Some h) (held : IsHeld fs.geometry fs.shard fs.slots h) (silent : AreSilent events) (may : IsPlanned h.hold.planned events)
+module _ (fs : FramesState) (frame : ℕ) (h : HeldRow) (events : List Event) (position slot : ℕ) (kind : CommandKind) (buffer : List ℕ)
+    (is : hold_at fs.held frame ≡ Some h) (held : IsHeld fs.geometry fs.shard fs.slots h) (silent : AreSilent events) (may : IsPlanned h.hold.planned events)
     (follows : MayFollow (planned_at h.hold.planned events) (put_event position kind buffer)) where
   abbrev before : Planned
   before = planned_at h.hold.planned events
@@ -274,7 +270,7 @@ module _ (fs : Frames) (frame : ℕ) (h : HeldRow) (events : List Event) (positi
 
 -- ---- a hold with a command out isn't over
 
-pub over_not : (fs : Frames) (frame : ℕ) → HasOut fs frame → IsOver fs frame → ⊥
+pub over_not : (fs : FramesState) (frame : ℕ) → HasOut fs frame → IsOver fs frame → ⊥
 over_not fs frame has over =
     let both : Some has.0 ≡ Some over.0 = sym has.1 ∙ over.1 in
     let same : over.0 ≡ has.0 = cc in

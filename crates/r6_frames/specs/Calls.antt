@@ -1,20 +1,17 @@
 -- What each call of the frames does to the shard.
 use Rattle.std.specs.Prelude.{◌≡◌, ◌≢◌, ℕ, ◌<◌, ◌≤◌, ◌||◌, Bool, true, false, List, [], ◌∷◌, ◌++◌, length, map, slice_set, Option, MatchOption, IsTrue, ◌↔◌, Some, None, option_map}
-use Rattle.std.specs.Global.{Vec}
 use Rattle.std.specs.List.{AllByRecursion}
 use Rattle.r6_kernels.specs.Blocks.{IsBlock}
 use Rattle.r6_layout.specs.Shape.{Shape, blocks}
 use Rattle.r6_layout.specs.Layout as layout
 use Rattle.r6_layout.specs.declared.place.Place.{Place}
 use Rattle.r6_recover.specs.declared.class.RowClass.{RowClass}
-use Rattle.r6_stripe.specs.Frames as buffers
 use Rattle.r6_stripe.specs.Checks.{IsEnd}
 use Rattle.r6_stripe.specs.Holds.{MayEnd}
 use Rattle.r6_stripe.specs.Plans as stripe
 use Rattle.r6_stripe.specs.Steps.{Held as StripeHold, lost, has_outcome}
 use Rattle.r6_stripe.specs.declared.command.Outcome.{Outcome as End}
 use Rattle.r6_stripe.specs.declared.command.Outcome.TheVariants as end
-use Rattle.r6_tables.specs.Table.{next_of}
 use Rattle.r6_world.specs.Tables.{put}
 use Rattle.r6_world.specs.PlainArray as world
 use Rattle.r6_world.specs.PlainArray.{Block}
@@ -42,12 +39,12 @@ use Rattle.r6_frames.specs.declared.slots.Device.{Device}
 use Rattle.r6_frames.specs.declared.slots.Device.TheVariants as device
 use Rattle.r6_frames.specs.Rebuilt.{IsNext}
 use Rattle.r6_frames.specs.Slots.{slot_in, state_of, states_of, is_abandoned}
-use Rattle.r6_frames.specs.declared.frames.Frames.{Frames}
+use Rattle.r6_frames.specs.FramesState.{FramesState}
 use Rattle.r6_frames.specs.Views.{op_of, buffer_of, outcome_of, task_for, rebuilds, rebuild_task, scrub_task, requests_by, kind_in, held_for, plan_in, use_at, hold_at, held_requests, outstanding, world_command, Rest, shard_with, AreLive}
 use Rattle.r6_frames.specs.Owed.{owed}
 
 -- a relation of two shards, whatever they have beside their frames
-abbrev pub Between : (Layout → ℕ → Shard → Shard → Type 0) → Frames → Frames → Type 0
+abbrev pub Between : (Layout → ℕ → Shard → Shard → Type 0) → FramesState → FramesState → Type 0
 Between Leads old new =
     (new.geometry ≡ old.geometry) × (new.shard ≡ old.shard)
     × ((rest : Rest) → Leads (layout_of old.geometry) old.shard (shard_with rest old) (shard_with rest new))
@@ -61,15 +58,15 @@ PutsOut (Prepare frame h event) = record {}
 PutsOut (Send frame h slot generation block) = record {}
 PutsOut change = ⊥
 
-abbrev pub Drives : Frames → Frames → Type 0
+abbrev pub Drives : FramesState → FramesState → Type 0
 Drives old new = Between (λ l n. Through l n PutsOut) old new
 
 -- one step of the shard
-abbrev pub Steps : Frames → Event → Frames → Type 0
+abbrev pub Steps : FramesState → Event → FramesState → Type 0
 Steps old event new = Between (λ l n s s'. Step l n s event s') old new
 
 -- the oldest command that wasn't taken is handed over, if there is one
-abbrev pub HandsOver : Frames → Option Command → Frames → Type 0
+abbrev pub HandsOver : FramesState → Option Command → FramesState → Type 0
 HandsOver old result new =
     MatchOption result (Steps old No_command new)
     (λ c. (frame : ℕ) × (abandoned : Bool) × Steps old (Take_command c.token (world_command frame abandoned c)) new)
@@ -80,35 +77,35 @@ Classifies (Classify frame h class) = record {}
 Classifies change = ⊥
 
 -- the good completion of a command is taken; with the last block of a scrub the row is classified
-abbrev pub Answers : Frames → (token : ℕ) → Block → Frames → Type 0
+abbrev pub Answers : FramesState → (token : ℕ) → Block → FramesState → Type 0
 Answers old token block new =
     Between (λ l n s s'. (change : Change) × Takes token (Good block) Taken change × Allowed l n s change
     × Through l n Classifies (after l s change) s') old new
 
 -- the buffer of an abandoned command comes home
-abbrev pub ComesHome : Frames → (token : ℕ) → Frames → Type 0
+abbrev pub ComesHome : FramesState → (token : ℕ) → FramesState → Type 0
 ComesHome old token new =
     Between (λ l n s s'. (c : shards.Command) × (c.taken ≡ true) × Allowed l n s (Come_home token c)
     × (s' ≡ after l s (Come_home token c))) old new
 
 -- a command that the array can perform: one block, for a slot, in a row of the shard
-pub record IsCommandOf (fs : Frames) (c : Command) : Type 0 where
+pub record IsCommandOf (fs : FramesState) (c : Command) : Type 0 where
   pub block : length c.buffer ≡ fs.geometry.block
   pub slot : c.slot < fs.geometry.slots
   pub row : IsRowOf (layout_of fs.geometry) fs.shard c.row
 
 -- a command was taken and isn't answered
-abbrev pub IsAwaited : Frames → ℕ → Type 0
+abbrev pub IsAwaited : FramesState → ℕ → Type 0
 IsAwaited fs token = (c : Outstanding) × (outstanding fs token ≡ Some c) × (token < fs.handed)
 
 -- and was abandoned
-abbrev pub IsAbandoned : Frames → ℕ → Type 0
+abbrev pub IsAbandoned : FramesState → ℕ → Type 0
 IsAbandoned fs token = (c : Outstanding) × (outstanding fs token ≡ Some c) × (is_abandoned fs.slots token c ≡ true)
 
 -- ---- slots go out
 
 -- The device of this slot and generation, to which the command went, is lost. A call is to be made at the register
-abbrev pub Loses : Frames → (token slot generation : ℕ) → Frames → Type 0
+abbrev pub Loses : FramesState → (token slot generation : ℕ) → FramesState → Type 0
 Loses old token slot generation new =
     (new.geometry ≡ old.geometry) × (new.shard ≡ old.shard)
     × ((rest : Rest) →
@@ -119,11 +116,11 @@ Loses old token slot generation new =
     × (shard_with (record rest { calls = rest.calls ++ LossOf slot generation ∷ [] }) new ≡ after l s (Lose token c)))
 
 -- the slot has another device, and the one before is taken out
-abbrev pub TakesOut : Frames → (slot : ℕ) → Device → Frames → Type 0
+abbrev pub TakesOut : FramesState → (slot : ℕ) → Device → FramesState → Type 0
 TakesOut old slot device new = Between (λ l n s s'. s' ≡ taken_out l s slot (state_of device)) old new
 
 -- a look has seen that the array failed: all commands are abandoned
-abbrev pub SeesFailure : Frames → Frames → Type 0
+abbrev pub SeesFailure : FramesState → FramesState → Type 0
 SeesFailure old new =
     Between (λ l n s s'. s' ≡ record s { saw_failed = true; command = λ token. abandoned_if true (s.command token) })
     old new
@@ -150,15 +147,15 @@ AreHeldRows shape held =
     → (h.row < shape.rows) × (length h.hold.planned.hold.cells ≡ shape.slots)
 
 -- the slot has another device, the held rows have heard of the loss of the one before, and whether holds go on is known
-pub record IsWithout (old : Frames) (slot : ℕ) (device : Device) (new : Frames) : Type 0 where
-  pub held : Vec FrameUse
+pub record IsWithout (old : FramesState) (slot : ℕ) (device : Device) (new : FramesState) : Type 0 where
+  pub held : List FrameUse
   pub live : Bool
   pub goes_on : IsTrue live ↔ AreLive new
-  pub told : held.items ≡ map (told_use old.geometry (states_of old.slots slot) slot) old.held.items
+  pub told : held ≡ map (told_use old.geometry (states_of old.slots slot) slot) old.held
   pub same :
       new
       ≡ record old {
-        slots = slice_set old.slots slot (record { device = device; since = next_of old.commands });
+        slots = slice_set old.slots slot (record { device = device; since = old.commands.next });
         live = live;
         held = held;
       }
@@ -166,21 +163,21 @@ pub record IsWithout (old : Frames) (slot : ℕ) (device : Device) (new : Frames
 -- ---- rows are held
 
 -- no row is held, and no command was put out
-abbrev pub IsAtStart : Frames → Type 0
-IsAtStart fs = ((frame : ℕ) → use_at fs.held.items frame ≡ uses.Free) × (next_of fs.commands ≡ 0)
+abbrev pub IsAtStart : FramesState → Type 0
+IsAtStart fs = ((frame : ℕ) → use_at fs.held frame ≡ uses.Free) × (fs.commands.next ≡ 0)
     × ((token : ℕ) → outstanding fs token ≡ None) × (held_requests fs ≡ [])
 
-abbrev pub IsFreeFrame : Frames → ℕ → Type 0
-IsFreeFrame fs frame = (frame < frames) × (use_at fs.held.items frame ≡ uses.Free)
+abbrev pub IsFreeFrame : FramesState → ℕ → Type 0
+IsFreeFrame fs frame = (frame < frames) × (use_at fs.held frame ≡ uses.Free)
 
-abbrev pub IsHeldFrame : Frames → ℕ → Type 0
-IsHeldFrame fs frame = (h : HeldRow) × (hold_at fs.held.items frame ≡ Some h)
+abbrev pub IsHeldFrame : FramesState → ℕ → Type 0
+IsHeldFrame fs frame = (h : HeldRow) × (hold_at fs.held frame ≡ Some h)
 
-abbrev pub NotHeldBy : Frames → (row : ℕ) → Type 0
-NotHeldBy fs row = (frame : ℕ) (h : HeldRow) → hold_at fs.held.items frame ≡ Some h → h.row ≢ row
+abbrev pub NotHeldBy : FramesState → (row : ℕ) → Type 0
+NotHeldBy fs row = (frame : ℕ) (h : HeldRow) → hold_at fs.held frame ≡ Some h → h.row ≢ row
 
 -- a request that may begin: for a block of the shard's rows, with a buffer of one block
-pub record IsRequestOf (fs : Frames) (request : Request) : Type 0 where
+pub record IsRequestOf (fs : FramesState) (request : Request) : Type 0 where
   pub there : world.block_of (op_of request.op) < blocks fs.geometry
   pub own : layout.shard_of fs.geometry (layout.row_of fs.geometry (world.block_of (op_of request.op))) ≡ fs.shard
   pub sized : IsBlock fs.geometry.block (buffer_of request.op)
@@ -211,54 +208,54 @@ abbrev pub entry_of : ℕ → Request → ℕ × shards.Request
 entry_of frame request = (request.id, record { op = op_of request.op; stage = Held frame })
 
 -- the frame holds the row, and nothing else changes
-pub record Holds (old : Frames) (frame : ℕ) (h : HeldRow) (new : Frames) : Type 0 where
-  pub held : Vec FrameUse
-  pub spare : Vec buffers.Shape
-  pub put : held.items ≡ slice_set old.held.items frame (uses.Held h)
+pub record Holds (old : FramesState) (frame : ℕ) (h : HeldRow) (new : FramesState) : Type 0 where
+  pub held : List FrameUse
+  pub spare : ℕ
+  pub put : held ≡ slice_set old.held frame (uses.Held h)
   pub same : new ≡ record old { held = held; spare = spare }
 
 -- the row of the request's block is held in the frame, and its hold begins
-abbrev pub begun_for : Frames → Request → Hold
+abbrev pub begun_for : FramesState → Request → Hold
 begun_for fs request =
     let row = layout.row_of fs.geometry (world.block_of (op_of request.op)) in
     begun (layout_of fs.geometry) (states_of fs.slots) row (task_for request.id request.op)
 
-pub record Begins (old : Frames) (frame : ℕ) (request : Request) (new : Frames) : Type 0 where
+pub record Begins (old : FramesState) (frame : ℕ) (request : Request) (new : FramesState) : Type 0 where
   pub requests : IsWith (held_requests old) frame (entry_of frame request) (held_requests new)
   pub shard : Between (λ l n s s'. s' ≡ record s { frame = put s.frame frame (Some (begun_for old request)) }) old new
 
 -- every slot is in sync for the row
-abbrev pub AreAllInSync : Frames → (row : ℕ) → Type 0
+abbrev pub AreAllInSync : FramesState → (row : ℕ) → Type 0
 AreAllInSync fs row = (slot : ℕ) → slot < fs.geometry.slots
     → stripe.is_in_sync (shards.standing_of (states_of fs.slots slot) row) ≡ true
 
 -- the row is held in the frame for a scrub, and its hold begins
-pub record BeginsScrub (old : Frames) (frame : ℕ) (scrub : Scrub) (row : ℕ) (new : Frames) : Type 0 where
+pub record BeginsScrub (old : FramesState) (frame : ℕ) (scrub : Scrub) (row : ℕ) (new : FramesState) : Type 0 where
   pub requests : held_requests new ≡ held_requests old
   pub shard :
       Between (λ l n s s'. s' ≡ record s { frame = put s.frame frame (Some (begun l s.slot row (scrub_task scrub))) })
       old new
 
 -- the new device is in its slot, and the row is one of those that are rebuilt next on it
-pub record IsNextOn (fs : Frames) (target : Target) (row : ℕ) : Type 0 where
+pub record IsNextOn (fs : FramesState) (target : Target) (row : ℕ) : Type 0 where
   pub rebuilt : RebuiltRows
   pub device : (slot_in fs.slots target.slot).device ≡ device.Building target.generation rebuilt
   pub next : IsNext rebuilt row
 
 -- the row is held in the frame for its rebuild, and its hold begins
-pub record BeginsRebuild (old : Frames) (frame : ℕ) (target : Target) (row : ℕ) (new : Frames) : Type 0 where
+pub record BeginsRebuild (old : FramesState) (frame : ℕ) (target : Target) (row : ℕ) (new : FramesState) : Type 0 where
   pub requests : held_requests new ≡ held_requests old
   pub shard :
       Between (λ l n s s'. s' ≡ record s { frame = put s.frame frame (Some (begun l s.slot row (rebuild_task target))) })
       old new
 
 -- the row is rebuilt on the device of the slot
-abbrev pub Marks : Frames → Target → (row : ℕ) → Frames → Type 0
+abbrev pub Marks : FramesState → Target → (row : ℕ) → FramesState → Type 0
 Marks old target row new =
     Between (λ l n s s'. s' ≡ record s { slot = put s.slot target.slot (with_row (s.slot target.slot) row) }) old new
 
 -- and each row of the shard is: the device is in sync
-abbrev pub BringsIn : Frames → Target → (row : ℕ) → Frames → Type 0
+abbrev pub BringsIn : FramesState → Target → (row : ℕ) → FramesState → Type 0
 BringsIn old target row new =
     Between (λ l n s s'. AllBuilt l n (with_row (s.slot target.slot) row)
     × (s' ≡ record s { slot = put s.slot target.slot (shards.SlotState.Synced target.generation) })) old new
@@ -315,7 +312,7 @@ SaysClass found (ended.Rebuilt target row) = Unit {0}
 SaysClass found (ended.GivenUp target) = Unit {0}
 
 -- a row whose rebuild has ended may be marked
-abbrev pub MayMark : Frames → Ended → Type 0
+abbrev pub MayMark : FramesState → Ended → Type 0
 MayMark fs (ended.Request request) = Unit {0}
 MayMark fs (ended.Classed scrub class) = Unit {0}
 MayMark fs (ended.Skipped scrub) = Unit {0}
@@ -336,7 +333,7 @@ TellsEnd hold e =
     → (end_of (ended_outcome e) ≡ outcome) × SaysClass hold.class e
 
 -- the request that has ended is held no more, and its buffer is one block; a scrub has none
-abbrev pub Leaves : Frames → (frame : ℕ) → Ended → Frames → Type 0
+abbrev pub Leaves : FramesState → (frame : ℕ) → Ended → FramesState → Type 0
 Leaves old frame (ended.Request request) new =
     IsWith (held_requests new) frame (entry_of frame request) (held_requests old) × HasOneBlock old.geometry request
 Leaves old frame (ended.Classed scrub class) new = held_requests new ≡ held_requests old
@@ -353,7 +350,7 @@ IsOfRow hold (ended.Rebuilt target row) = hold.row ≡ row
 IsOfRow hold (ended.GivenUp target) = Unit {0}
 
 -- the frame's hold ends
-pub record Ends (old : Frames) (frame : ℕ) (ended : Ended) (new : Frames) : Type 0 where
+pub record Ends (old : FramesState) (frame : ℕ) (ended : Ended) (new : FramesState) : Type 0 where
   pub leaves : Leaves old frame ended new
   pub hold : Hold
   pub task : hold.task ≡ ended_task ended
@@ -362,42 +359,42 @@ pub record Ends (old : Frames) (frame : ℕ) (ended : Ended) (new : Frames) : Ty
   pub shard : Between (λ l n s s'. s' ≡ record s { frame = put s.frame frame None }) old new
 
 -- the frame's hold ends as it stands
-pub record GivesUp (old : Frames) (frame : ℕ) (ended : Ended) (new : Frames) : Type 0 where
+pub record GivesUp (old : FramesState) (frame : ℕ) (ended : Ended) (new : FramesState) : Type 0 where
   pub leaves : Leaves old frame ended new
   pub shard : Between (λ l n s s'. s' ≡ record s { frame = put s.frame frame None }) old new
 
 -- and it was of no request
-abbrev pub GivesTurnUp : Frames → ℕ → Frames → Type 0
+abbrev pub GivesTurnUp : FramesState → ℕ → FramesState → Type 0
 GivesTurnUp old frame new = (e : Ended) × GivesUp old frame e new × (held_requests new ≡ held_requests old)
 
 -- ---- what a call leaves
 
 -- the other frames have what they had
-abbrev pub KeepsOthers : Frames → ℕ → Frames → Type 0
-KeepsOthers old frame new = (other : ℕ) → other ≢ frame → use_at new.held.items other ≡ use_at old.held.items other
+abbrev pub KeepsOthers : FramesState → ℕ → FramesState → Type 0
+KeepsOthers old frame new = (other : ℕ) → other ≢ frame → use_at new.held other ≡ use_at old.held other
 
 -- all frames have what they had
-abbrev pub KeepsHolds : Frames → Frames → Type 0
+abbrev pub KeepsHolds : FramesState → FramesState → Type 0
 KeepsHolds old new = new.held ≡ old.held
 
 -- the rows that are held are those that were, each in its frame and for the same
-abbrev pub KeepsRows : Frames → Frames → Type 0
+abbrev pub KeepsRows : FramesState → FramesState → Type 0
 KeepsRows old new = (frame : ℕ)
-    → option_map held_for (hold_at new.held.items frame) ≡ option_map held_for (hold_at old.held.items frame)
+    → option_map held_for (hold_at new.held frame) ≡ option_map held_for (hold_at old.held frame)
 
 -- a frame in which no row is held has none still, and each hold is as it was, its buffers aside
-abbrev pub KeepsHeld : Frames → Frames → Type 0
+abbrev pub KeepsHeld : FramesState → FramesState → Type 0
 KeepsHeld old new = (frame : ℕ)
-    → option_map plan_in (hold_at new.held.items frame) ≡ option_map plan_in (hold_at old.held.items frame)
+    → option_map plan_in (hold_at new.held frame) ≡ option_map plan_in (hold_at old.held frame)
 
 -- the slots are as they were, and no look has seen more
-abbrev pub KeepsSlots : Frames → Frames → Type 0
+abbrev pub KeepsSlots : FramesState → FramesState → Type 0
 KeepsSlots old new = (new.slots ≡ old.slots) × (new.saw_failed ≡ old.saw_failed)
 
 -- as much is owed, and no command was put out
-abbrev pub KeepsOwed : Frames → Frames → Type 0
-KeepsOwed old new = (owed new ≡ owed old) × (next_of new.commands ≡ next_of old.commands)
+abbrev pub KeepsOwed : FramesState → FramesState → Type 0
+KeepsOwed old new = (owed new ≡ owed old) × (new.commands.next ≡ old.commands.next)
 
 -- no more is owed, and no command was put out
-abbrev pub OwesNoMore : Frames → Frames → Type 0
-OwesNoMore old new = (owed new ≤ owed old) × (next_of new.commands ≡ next_of old.commands)
+abbrev pub OwesNoMore : FramesState → FramesState → Type 0
+OwesNoMore old new = (owed new ≤ owed old) × (new.commands.next ≡ old.commands.next)

@@ -4,45 +4,44 @@ use Rattle.r6_stripe.specs.Holds.{Cell, Event as RowEvent}
 use Rattle.r6_stripe.specs.Plans as plans
 use Rattle.r6_stripe.specs.Plans.{IsPlanned, AreSilent, planned_at, is_over, has_read_out, has_write_out}
 use Rattle.r6_stripe.specs.Steps.{has_outcome}
-use Rattle.r6_tables.specs.Table.{next_of}
 use Rattle.r6_frames.specs.declared.frames.HeldRow.{HeldRow}
 use Rattle.r6_frames.specs.declared.frames.FrameUse.{FrameUse}
 use Rattle.r6_frames.specs.declared.frames.FrameUse.TheVariants as uses
-use Rattle.r6_frames.specs.declared.frames.Frames.{Frames}
+use Rattle.r6_frames.specs.FramesState.{FramesState}
 use Rattle.r6_frames.specs.Views.{hold_at, rank_of}
 
 -- ---- commands and ends
 
 -- nothing comes next in the frame's hold
-abbrev pub IsDriven : Frames → ℕ → Type 0
-IsDriven fs frame = (h : HeldRow) → hold_at fs.held.items frame ≡ Some h → plans.next h.hold.planned ≡ None
+abbrev pub IsDriven : FramesState → ℕ → Type 0
+IsDriven fs frame = (h : HeldRow) → hold_at fs.held frame ≡ Some h → plans.next h.hold.planned ≡ None
 
 -- the frame's hold may end
-abbrev pub IsOver : Frames → ℕ → Type 0
-IsOver fs frame = (h : HeldRow) × (hold_at fs.held.items frame ≡ Some h) × (has_outcome h.hold.planned ≡ true)
+abbrev pub IsOver : FramesState → ℕ → Type 0
+IsOver fs frame = (h : HeldRow) × (hold_at fs.held frame ≡ Some h) × (has_outcome h.hold.planned ≡ true)
 
 -- it may, and its row has this rank
-abbrev pub IsOverWith : Frames → ℕ → (rank : ℕ) → Type 0
+abbrev pub IsOverWith : FramesState → ℕ → (rank : ℕ) → Type 0
 IsOverWith fs frame rank =
-    IsOver fs frame × ((h : HeldRow) → hold_at fs.held.items frame ≡ Some h → rank_of h.job ≡ rank)
+    IsOver fs frame × ((h : HeldRow) → hold_at fs.held frame ≡ Some h → rank_of h.job ≡ rank)
 
 -- of the frames that may end, this one has the oldest request, or none has one
-abbrev pub IsLowestOver : Frames → ℕ → Type 0
+abbrev pub IsLowestOver : FramesState → ℕ → Type 0
 IsLowestOver fs frame =
     IsOver fs frame
-    × ((other : ℕ) (h i : HeldRow) → IsOver fs other → hold_at fs.held.items frame ≡ Some h
-    → hold_at fs.held.items other ≡ Some i → rank_of h.job ≤ rank_of i.job)
+    × ((other : ℕ) (h i : HeldRow) → IsOver fs other → hold_at fs.held frame ≡ Some h
+    → hold_at fs.held other ≡ Some i → rank_of h.job ≤ rank_of i.job)
 
 -- a command of the frame's hold is put out that is neither answered nor abandoned
-abbrev pub HasOut : Frames → ℕ → Type 0
+abbrev pub HasOut : FramesState → ℕ → Type 0
 HasOut fs frame =
-    (h : HeldRow) × (hold_at fs.held.items frame ≡ Some h)
+    (h : HeldRow) × (hold_at fs.held frame ≡ Some h)
     × ((has_read_out h.hold.planned.hold || has_write_out h.hold.planned.hold) ≡ true)
 
 -- the frame's hold isn't over, whatever it restores or computes first
-abbrev pub OwesCommands : Frames → ℕ → Type 0
+abbrev pub OwesCommands : FramesState → ℕ → Type 0
 OwesCommands fs frame =
-    (h : HeldRow) → hold_at fs.held.items frame ≡ Some h
+    (h : HeldRow) → hold_at fs.held frame ≡ Some h
     → (events : List RowEvent) → AreSilent events → IsPlanned h.hold.planned events
     → is_over (planned_at h.hold.planned events) ≡ false
 
@@ -62,9 +61,9 @@ owed_in (uses.Free ∷ held) = owed_in held
 owed_in (uses.Held h ∷ held) = owed_by h + owed_in held
 owed_in (uses.Returning r ∷ held) = owed_in held
 
-abbrev pub owed : Frames → ℕ
-owed fs = owed_in fs.held.items
+abbrev pub owed : FramesState → ℕ
+owed fs = owed_in fs.held
 
 -- the token that comes next once all that is owed was put out
-abbrev pub last_token : Frames → ℕ
-last_token fs = next_of fs.commands + owed fs
+abbrev pub last_token : FramesState → ℕ
+last_token fs = fs.commands.next + owed fs

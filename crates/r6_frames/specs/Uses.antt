@@ -17,7 +17,7 @@ use Rattle.r6_frames.specs.declared.frames.Job.{Job}
 use Rattle.r6_frames.specs.declared.frames.HeldRow.{HeldRow}
 use Rattle.r6_frames.specs.declared.frames.FrameUse.{FrameUse}
 use Rattle.r6_frames.specs.declared.frames.FrameUse.TheVariants as uses
-use Rattle.r6_frames.specs.declared.frames.Frames.{Frames}
+use Rattle.r6_frames.specs.FramesState.{FramesState}
 use Rattle.r6_frames.specs.Views.{op_of, row_task, is_synced_at}
 
 abbrev pub none_held : ℕ → List FrameUse
@@ -36,15 +36,15 @@ block_in request = block_of (op_of request.op)
 abbrev pub task_in : Shape → Request → RowTask
 task_in shape request = row_task (layout.index_of shape (block_in request)) request.op
 
-abbrev pub row_of : Frames → Request → ℕ
+abbrev pub row_of : FramesState → Request → ℕ
 row_of fs request = layout.row_of fs.geometry (block_in request)
 
 -- which positions of the row are in sync
-abbrev pub synced : Frames → ℕ → List Bool
+abbrev pub synced : FramesState → ℕ → List Bool
 synced fs row = first fs.geometry.slots (is_synced_at fs row)
 
 -- the row as its hold begins
-abbrev pub begun_row : Frames → (row : ℕ) → Job → RowTask → HeldRow
+abbrev pub begun_row : FramesState → (row : ℕ) → Job → RowTask → HeldRow
 begun_row fs row what task =
     record {
       row = row;

@@ -9,7 +9,6 @@ use Rattle.r6_stripe.specs.declared.command.Task.{Task as RowTask}
 use Rattle.r6_stripe.specs.declared.command.Task.TheVariants as asks
 use Rattle.r6_stripe.specs.declared.command.RowCommand.{RowCommand}
 use Rattle.r6_stripe.specs.declared.command.RowCommand.TheVariants as stripe
-use Rattle.r6_tables.specs.Table.{entries_of, next_of}
 use Rattle.r6_world.specs.PlainArray as world
 use Rattle.r6_world.specs.PlainArray.{Block}
 use Rattle.r6_world.specs.Tasks.{Task, ReadFor, WriteFor, Rebuild, Check, Repair, Hold, Outcome, Answered, Wrote}
@@ -31,7 +30,7 @@ use Rattle.r6_frames.specs.declared.frames.FrameUse.TheVariants as uses
 use Rattle.r6_frames.specs.declared.rebuilt.Target.{Target}
 use Rattle.r6_frames.specs.declared.slots.Slot.{Slot}
 use Rattle.r6_frames.specs.Slots.{states_of, count_out, is_abandoned}
-use Rattle.r6_frames.specs.declared.frames.Frames.{Frames}
+use Rattle.r6_frames.specs.FramesState.{FramesState}
 
 -- ---- requests
 
@@ -150,8 +149,8 @@ row_in (uses.Returning hold) = None
 abbrev pub hold_at : List FrameUse → ℕ → Option HeldRow
 hold_at held frame = row_in (use_at held frame)
 
-abbrev pub frame_of : Frames → ℕ → Option Hold
-frame_of fs frame = option_map hold_of (hold_at fs.held.items frame)
+abbrev pub frame_of : FramesState → ℕ → Option Hold
+frame_of fs frame = option_map hold_of (hold_at fs.held frame)
 
 -- the requests that rows are held for, each with its number, in the order of the frames
 abbrev pub requests_by : Job → Kind → List (ℕ × world.Op)
@@ -172,11 +171,11 @@ abbrev pub requests_from : ℕ → List FrameUse → List (ℕ × shards.Request
 requests_from frame [] = []
 requests_from frame (u ∷ held) = request_at frame u ++ requests_from (frame + 1) held
 
-abbrev pub held_requests : Frames → List (ℕ × shards.Request)
-held_requests fs = requests_from 0 fs.held.items
+abbrev pub held_requests : FramesState → List (ℕ × shards.Request)
+held_requests fs = requests_from 0 fs.held
 
 -- the device at the position of the row is in sync for it
-abbrev pub is_synced_at : Frames → (row position : ℕ) → Bool
+abbrev pub is_synced_at : FramesState → (row position : ℕ) → Bool
 is_synced_at fs row position = plans.is_in_sync (shards.standing_of (states_of fs.slots (layout.slot_at fs.geometry row position)) row)
 
 -- ---- commands
@@ -213,8 +212,8 @@ abbrev pub world_command : ℕ → Bool → Command → shards.Command
 world_command frame abandoned c =
     record { frame = frame; slot = c.slot; generation = c.generation; row = c.row; transfer = given_transfer c.kind c.buffer; taken = false; abandoned = abandoned }
 
-abbrev pub outstanding : Frames → ℕ → Option Outstanding
-outstanding fs token = finite.get (entries_of fs.commands) token
+abbrev pub outstanding : FramesState → ℕ → Option Outstanding
+outstanding fs token = finite.get fs.commands.entries token
 
 -- ---- the shard
 
@@ -229,13 +228,13 @@ pub record Rest : Type 0 where
   pub repair_row : ℕ
   pub counts : shards.Counts
 
-abbrev pub shard_with : Rest → Frames → Shard
+abbrev pub shard_with : Rest → FramesState → Shard
 shard_with rest fs =
     record {
       accepted = rest.accepted;
       request = rest.request;
       frame = frame_of fs;
-      tokens = next_of fs.commands;
+      tokens = fs.commands.next;
       command = λ token. option_map (command_of fs.slots fs.handed token) (outstanding fs token);
       slot = states_of fs.slots;
       calls = rest.calls;
@@ -247,5 +246,5 @@ shard_with rest fs =
     }
 
 -- holds go on: at most two slots are out, and no look has seen that the array failed
-abbrev pub AreLive : Frames → Type 0
+abbrev pub AreLive : FramesState → Type 0
 AreLive fs = (count_out fs.slots fs.geometry.slots ≤ 2) × (fs.saw_failed ≡ false)

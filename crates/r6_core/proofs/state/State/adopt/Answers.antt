@@ -1,8 +1,8 @@
 use Rattle.std.proofs.Common.{◌≡◌, ◌+◌, Bool, true, false, is_some, sym, ap, subst, ◌∙◌, arith}
 use Rattle.r6_layout.specs.Shape.{Shape}
-use Rattle.r6_tables.specs.Table.{next_of}
 use Rattle.r6_world.specs.Registers.{status_of}
 use Rattle.r6_world.specs.Changes.{adopted, differs}
+use Rattle.r6_frames.specs.FramesState.{Commands}
 use Rattle.r6_frames.specs.Slots.{state_of, states_of}
 use Rattle.r6_core.specs.declared.state.State.{State}
 use Rattle.r6_core.proofs.Adopting.{IsAdopting, adopting_none, adopting_out, adopting_stay, adopted_all, adopted_none, adopted_some}
@@ -30,7 +30,7 @@ loop-slot-preserved c =
           let other : differs state (status_of seen slot) ≡ true = ap (differs state) (sym c.slot.ensures.value) ∙ ap (λ x. differs x c.slot.result) (sym here) ∙ sym c.renewed.ensures.differs ∙ ap is_some w.in-Some.is in
           let becomes = w.in-Some.ensures.device.0 ∙ ap (λ x. adopted x c.slot.result) here ∙ ap (adopted state) c.slot.ensures.value in
           let out = adopting_out s mid seen slot c.loop-slot.went_out w.in-Some.device w.take_out.new.self c.requires.told inv
-          (omega (arith, lt, c.slots-slot-end.ensures.value, count, geometry)) other becomes took.takes took.sound (ap next_of took.commands.0) took.owed took.requests took.rows in
+          (omega (arith, lt, c.slots-slot-end.ensures.value, count, geometry)) other becomes took.takes took.sound (ap (λ (t : Commands). t.next) took.commands.0) took.owed took.requests took.rows in
           subst (λ (x : State). IsAdopting s x seen (slot + 1) c.match-renewed.went_out) (sym w.self-is)
           (subst (λ (b : Bool). IsAdopting s (record mid { frames = w.take_out.new.self }) seen (slot + 1) b) (sym w.went_out-is) out)
       | in_default w ↦

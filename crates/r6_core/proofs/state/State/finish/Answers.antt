@@ -103,7 +103,7 @@ returns-in-Some c =
       leads = subst (λ (x : State). Through (layout_in s) s.frames.shard GoesOn (state_of s) (state_of x)) (sym same)
           (one_ends s c.args.frame e fs replies c.close.new.self.counts held.0 c.requires.sound c.requires.live ends held.1 refl c.close.ensures.counted c.close.ensures.plain);
       rests = subst (λ (x : State). IsRestedFrame x c.args.frame) (sym same) (none_rested fs c.args.frame (freed s.frames fs c.args.frame e ends));
-      others = λ other ne. ap (λ (x : State). use_at x.frames.held.items other) same ∙ left.others other ne;
+      others = λ other ne. ap (λ (x : State). use_at x.frames.held other) same ∙ left.others other ne;
       keeps = (
         (ap (λ (x : State). x.frames.geometry) same ∙ ends.shard.0, ap (λ (x : State). x.frames.shard) same ∙ ends.shard.1),
         ap (λ (x : State). x.waiting) same,
@@ -115,7 +115,7 @@ returns-in-Some c =
         more,
         ended_requests s.frames fs c.args.frame e h ends is,
         ap (λ (x : State). x.replies.items) same,
-        ap (λ (x : State). hold_at x.frames.held.items c.args.frame) same ∙ freed s.frames fs c.args.frame e ends,
+        ap (λ (x : State). hold_at x.frames.held c.args.frame) same ∙ freed s.frames fs c.args.frame e ends,
       );
       freed = inl refl;
     }

@@ -4,8 +4,8 @@ use Rattle.r6_core.proofs.Answering.{awaited}
 use Rattle.r6_core.proofs.Completing.{late_core, late_freed, late_takes, finishes_none, if_ok_all}
 use Rattle.r6_core.proofs.state.State.take.Goals as goal
 
-pub is_abandoned-requires-clause-awaited : goal.is_abandoned-requires-clause-awaited
-is_abandoned-requires-clause-awaited c = awaited c.args.self.now.frames c.args.token c.requires.right.0
+pub is_abandoned-requires : goal.is_abandoned-requires
+is_abandoned-requires c = record { awaited = awaited c.args.self.now.frames c.args.token c.requires.right.0 }
 
 pub returns-then-is_abandoned-clause-settled : goal.returns-then-is_abandoned-clause-settled
 returns-then-is_abandoned-clause-settled c =

@@ -1,0 +1,37 @@
+use Rattle.std.proofs.Common.{sym, subst, arith}
+use Rattle.r6_stripe.specs.declared.command.Task.TheVariants as asks
+use Rattle.r6_frames.specs.Inside.{view_of}
+use Rattle.r6_frames.specs.declared.frames.Job.TheVariants as job
+use Rattle.r6_frames.specs.Calls.{Holds}
+use Rattle.r6_frames.specs.Uses.{begun_row}
+use Rattle.r6_frames.specs.Sound.{MayHold}
+use Rattle.r6_frames.proofs.Beginning.{others_kept, slots_kept}
+use Rattle.r6_frames.proofs.BegunFor.{may_rebuild, begins_rebuild}
+use Rattle.r6_frames.proofs.rows.Rows.begin_rebuild.Goals as goal
+
+pub slot_at-first-requires-clause-row_within : goal.slot_at-first-requires-clause-row_within
+slot_at-first-requires-clause-row_within c = c.requires.row.0
+
+pub slot_at-first-requires-clause-position_within : goal.slot_at-first-requires-clause-position_within
+slot_at-first-requires-clause-position_within c = let least = c.requires.sound.shape.slots_allowed.0 in omega (arith, least)
+
+pub position_at-position-requires-clause-row_within : goal.position_at-position-requires-clause-row_within
+position_at-position-requires-clause-row_within c = c.requires.row.0
+
+pub hold-requires-clause-may : goal.hold-requires-clause-may
+hold-requires-clause-may c =
+    let fs = view_of c.args.self.now in
+    subst (λ (p : _). MayHold fs c.args.row (job.Rebuild c.args.target) (asks.Rebuild p)) (sym c.position_at-position.ensures.value)
+    (may_rebuild fs c.args.target c.args.row c.requires.sound c.requires.row c.requires.slot c.requires.next)
+
+pub returns-clause-begins : goal.returns-clause-begins
+returns-clause-begins c =
+    let fs = view_of c.args.self.now in
+    begins_rebuild fs (view_of c.hold.new.self) c.args.frame c.args.target c.args.row c.requires.sound c.requires.free c.requires.row c.requires.slot c.requires.next c.requires.unheld
+    (subst (λ (p : _). Holds fs c.args.frame (begun_row fs c.args.row (job.Rebuild c.args.target) (asks.Rebuild p)) (view_of c.hold.new.self)) c.position_at-position.ensures.value c.hold.ensures.holds)
+
+pub returns-clause-same : goal.returns-clause-same
+returns-clause-same c = slots_kept (view_of c.args.self.now) c.args.frame _ (view_of c.hold.new.self) c.hold.ensures.holds
+
+pub returns-clause-others : goal.returns-clause-others
+returns-clause-others c = others_kept (view_of c.args.self.now) c.args.frame _ (view_of c.hold.new.self) c.hold.ensures.holds

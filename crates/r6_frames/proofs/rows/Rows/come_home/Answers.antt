@@ -1,0 +1,102 @@
+use Rattle.std.proofs.Common.{◌≤◌, length, arith, set, sym, ap, subst, ◌∙◌}
+use Rattle.std.proofs.lemmas.List.{length-append, set-set}
+use Rattle.std.specs.List.{All}
+use Rattle.std.proofs.lemmas.List.Elements.{All-append}
+use Rattle.r6_world.specs.ShardStates.{frames}
+use Rattle.r6_frames.specs.Uses.{IsForRow, spared_home}
+use Rattle.r6_tables.specs.Table.{Numbered}
+use Rattle.r6_frames.specs.Inside.{view_of, commands_in}
+use Rattle.r6_frames.specs.declared.command.Outstanding.{Outstanding}
+use Rattle.r6_frames.proofs.HeldRows.{use_found}
+use Rattle.r6_frames.proofs.LateBuffers.{CameHome, is_late, stopped_home, brought_home, spared_shapes, awaits_buffer, has_room}
+use Rattle.r6_frames.proofs.rows.Rows.come_home.Goals as goal
+
+pub position_at-position-requires-clause-row_within : goal.position_at-position-requires-clause-row_within
+position_at-position-requires-clause-row_within c =
+    (c.requires.sound.commands.lawful c.args.token c.in-Some.command (sym c.remove.ensures.entry ∙ c.in-Some.is)).1.0
+
+pub position_at-position-requires-clause-slot_within : goal.position_at-position-requires-clause-slot_within
+position_at-position-requires-clause-slot_within c =
+    (c.requires.sound.commands.lawful c.args.token c.in-Some.command (sym c.remove.ensures.entry ∙ c.in-Some.is)).0
+
+pub bring_home-used-requires-clause-away : goal.bring_home-used-requires-clause-away
+bring_home-used-requires-clause-away c =
+    let fs = view_of c.args.self.now in
+    let command = c.in-Some.command in
+    let late =
+    is_late fs c.args.token command c.requires.sound (c.is_live.ensures.0 c.if-is_live.true) c.requires.awaited c.requires.abandoned (sym c.remove.ensures.entry ∙ c.in-Some.is) in
+    let was = use_found fs.held command.frame c.index_mut.result.now c.replace-used.result late.below c.index_mut.ensures.value (sym c.replace-used.ensures.value) in
+    awaits_buffer fs c.args.token command c.requires.sound late c.replace-used.result c.position_at-position.result c.args.buffer was c.position_at-position.ensures.value c.requires.size
+
+pub bring_home-used-requires-clause-room : goal.bring_home-used-requires-clause-room
+bring_home-used-requires-clause-room c =
+    let fs = view_of c.args.self.now in
+    let command = c.in-Some.command in
+    let late =
+    is_late fs c.args.token command c.requires.sound (c.is_live.ensures.0 c.if-is_live.true) c.requires.awaited c.requires.abandoned (sym c.remove.ensures.entry ∙ c.in-Some.is) in
+    omega (arith, has_room fs c.args.token command c.requires.sound late, c.requires.room.buffer_room)
+
+came : (c : goal.Joined-command) → CameHome (view_of c.args.self.now) c.args.token (record (view_of c.args.self.now) { held = c.put.new.held.items; spare = length c.bring_home-used.new.spare.items; commands = commands_in c.remove.new.self })
+came c =
+    let fs = view_of c.args.self.now in
+    let command = c.in-Some.command in
+    let late =
+    is_late fs c.args.token command c.requires.sound (c.is_live.ensures.0 c.if-is_live.true) c.requires.awaited c.requires.abandoned (sym c.remove.ensures.entry ∙ c.in-Some.is) in
+    let was = use_found fs.held command.frame c.index_mut.result.now c.replace-used.result late.below c.index_mut.ensures.value (sym c.replace-used.ensures.value) in
+    let home = c.bring_home-used in
+    let items =
+    c.put.ensures ∙ set-set fs.held command.frame c.replace-used.new.dest home.result ∙ ap (set fs.held command.frame) home.ensures.left in
+    subst (λ (t : Numbered Outstanding). CameHome fs c.args.token (record fs { held = c.put.new.held.items; spare = length home.new.spare.items; commands = commands_in t })) (sym c.remove.ensures.rest)
+    (brought_home fs c.args.token command c.requires.sound late c.replace-used.result c.position_at-position.result c.args.buffer c.put.new.held.items (length home.new.spare.items) was
+    c.position_at-position.ensures.value items
+    (ap length home.ensures.spare ∙ length-append c.args.self.now.spare.items (spared_home c.replace-used.result c.position_at-position.result c.args.buffer)))
+
+pub returns-then-is_live-clause-sound : goal.returns-then-is_live-clause-sound
+returns-then-is_live-clause-sound c = (came c).sound
+
+pub returns-then-is_live-clause-room : goal.returns-then-is_live-clause-room
+returns-then-is_live-clause-room c =
+    let fs = view_of c.args.self.now in
+    let IsFor = IsForRow fs.geometry in
+    let command = c.in-Some.command in
+    let late =
+    is_late fs c.args.token command c.requires.sound (c.is_live.ensures.0 c.if-is_live.true) c.requires.awaited c.requires.abandoned (sym c.remove.ensures.entry ∙ c.in-Some.is) in
+    let was = use_found fs.held command.frame c.index_mut.result.now c.replace-used.result late.below c.index_mut.ensures.value (sym c.replace-used.ensures.value) in
+    let home = c.bring_home-used in
+    let more = spared_shapes fs c.args.token command c.requires.sound late c.replace-used.result c.position_at-position.result c.args.buffer was c.position_at-position.ensures.value in
+    record {
+      buffer_room = subst (λ n. frames ≤ n) (sym home.ensures.room) c.requires.room.buffer_room;
+      shapes = subst (All IsFor) (sym home.ensures.spare)
+          (All-append IsFor c.args.self.now.spare.items (spared_home c.replace-used.result c.position_at-position.result c.args.buffer) c.requires.room.shapes more);
+      command_room = ap (λ t. t.0) c.remove.ensures.rest ∙ c.requires.room.command_room;
+    }
+
+pub returns-then-is_live-clause-comes : goal.returns-then-is_live-clause-comes
+returns-then-is_live-clause-comes c = (came c).comes
+
+pub returns-then-is_live-clause-holds : goal.returns-then-is_live-clause-holds
+returns-then-is_live-clause-holds c = (came c).holds
+
+pub returns-then-is_live-clause-others : goal.returns-then-is_live-clause-others
+returns-then-is_live-clause-others c = (came c).others
+
+pub returns-then-is_live-clause-owed : goal.returns-then-is_live-clause-owed
+returns-then-is_live-clause-owed c = ((came c).owed, (came c).next)
+
+pub returns-then-is_live-clause-requests : goal.returns-then-is_live-clause-requests
+returns-then-is_live-clause-requests c = (came c).requests
+
+-- the shard has stopped
+stopped : (c : goal.After-drop-buffer-inside) → CameHome (view_of c.args.self.now) c.args.token (record (view_of c.args.self.now) { commands = commands_in c.remove.new.self })
+stopped c =
+    stopped_home (view_of c.args.self.now) c.args.token c.in-Some.command (commands_in c.remove.new.self) c.requires.sound c.requires.awaited c.requires.abandoned (sym c.remove.ensures.entry ∙ c.in-Some.is)
+    (λ live. let is = c.is_live.ensures.1 live in let none = c.if-is_live.false in absurd (cc)) (ap commands_in c.remove.ensures.rest)
+
+pub returns-else-is_live-clause-sound : goal.returns-else-is_live-clause-sound
+returns-else-is_live-clause-sound c = (stopped c).sound
+
+pub returns-else-is_live-clause-room : goal.returns-else-is_live-clause-room
+returns-else-is_live-clause-room c = record { buffer_room = c.requires.room.buffer_room; shapes = c.requires.room.shapes; command_room = ap (λ t. t.0) c.remove.ensures.rest ∙ c.requires.room.command_room }
+
+pub returns-else-is_live-clause-comes : goal.returns-else-is_live-clause-comes
+returns-else-is_live-clause-comes c = (stopped c).comes

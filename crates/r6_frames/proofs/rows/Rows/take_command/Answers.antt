@@ -1,0 +1,39 @@
+use Rattle.std.proofs.Common.{◌≡◌, ◌<◌, ◌+◌, Some, sym, ap, subst, ◌∙◌, arith}
+use Rattle.std.specs.Prelude.{option_copied}
+use Rattle.r6_frames.specs.Inside.{view_of, commands_in}
+use Rattle.r6_frames.specs.Views.{outstanding}
+use Rattle.r6_frames.specs.Slots.{is_abandoned}
+use Rattle.r6_frames.specs.Sound.{IsSound}
+use Rattle.r6_frames.proofs.Takings.{taken_of, taken_sound, taken_fits, taken_step}
+use Rattle.r6_frames.proofs.rows.Rows.take_command.Goals as goal
+
+pub returns-clause-sound : goal.returns-clause-sound
+returns-clause-sound c =
+    let fs = view_of c.args.self.now in
+    let old = c.in-Some.command.now in
+    let is : outstanding fs fs.handed ≡ Some old = sym c.get.ensures ∙ ap option_copied c.in-Some.is in
+    let ne = c.if-self-next.false in
+    let below : fs.handed < fs.commands.next = omega (arith, ne, c.next.ensures, c.requires.sound.commands.handed) in
+    subst (λ t. IsSound (record fs { handed = fs.handed + 1; commands = t })) (sym (ap commands_in c.in-Ok-Some.ensures.there)) (taken_sound fs old c.requires.sound below is)
+
+pub returns-clause-step : goal.returns-clause-step
+returns-clause-step c =
+    let fs = view_of c.args.self.now in
+    let old = c.in-Ok-Some.field-0 in
+    let is : outstanding fs fs.handed ≡ Some old = c.in-Ok-Some.ensures.entry in
+    let read : outstanding fs fs.handed ≡ Some c.in-Some.command.now = sym c.get.ensures ∙ ap option_copied c.in-Some.is in
+    let same : c.in-Some.command.now ≡ old = cc in
+    let full : old.buffer ≡ Some c.in-Ok-Some.buffer = cc in (
+      old.frame,
+      is_abandoned fs.slots fs.handed old,
+      taken_step fs old c.in-Ok-Some.buffer (commands_in c.replace.new.self) is full
+          (ap commands_in c.in-Ok-Some.ensures.there ∙ ap (λ x. (taken_of fs x).commands) same),
+    )
+
+pub returns-clause-there : goal.returns-clause-there
+returns-clause-there c =
+    let fs = view_of c.args.self.now in
+    let old = c.in-Ok-Some.field-0 in
+    let is : outstanding fs fs.handed ≡ Some old = c.in-Ok-Some.ensures.entry in
+    let full : old.buffer ≡ Some c.in-Ok-Some.buffer = cc in
+    taken_fits fs old c.in-Ok-Some.buffer c.requires.sound is full

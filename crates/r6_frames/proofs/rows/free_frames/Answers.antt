@@ -1,0 +1,16 @@
+use Rattle.std.proofs.Common.{[], ◌∷◌, ◌++◌, length, ap, ◌∙◌, arith}
+use Rattle.std.proofs.lemmas.List.{length-replicate, replicate_more}
+use Rattle.r6_frames.specs.declared.frames.FrameUse.TheVariants.{Free}
+use Rattle.r6_frames.proofs.rows.free_frames.Goals as goal
+
+pub push_reserved-requires : goal.push_reserved-requires
+push_reserved-requires c =
+    let held = ap length c.loop.invariant.held ∙ length-replicate c.loop.counter Free in
+    let room = c.loop.invariant.room in
+    omega arith
+
+pub loop-preserved : goal.loop-preserved
+loop-preserved c = record {
+  held = c.push_reserved.ensures.items ∙ ap (λ held. held ++ Free ∷ []) c.loop.invariant.held ∙ replicate_more c.loop.counter Free;
+  room = let room = c.loop.invariant.room in let same = c.push_reserved.ensures.capacity in omega arith;
+}

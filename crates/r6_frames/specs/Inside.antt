@@ -1,0 +1,43 @@
+-- What the code has of the rows, and the room that it keeps.
+use Rattle.std.specs.Prelude.{◌≡◌, ◌≤◌, length, vec_capacity}
+use Rattle.std.specs.List.{All}
+use Rattle.std.specs.Global.{Vec}
+use Rattle.r6_layout.specs.Shape.{Shape}
+use Rattle.r6_stripe.specs.Frames as buffers
+use Rattle.r6_tables.specs.Table.{Numbered, capacity_of, next_of, entries_of}
+use Rattle.r6_world.specs.ShardStates.{frames}
+use Rattle.r6_frames.specs.declared.command.Outstanding.{Outstanding}
+use Rattle.r6_frames.specs.declared.rows.Rows.{Rows}
+use Rattle.r6_frames.specs.FramesState.{FramesState, Commands}
+use Rattle.r6_frames.specs.Sound.{most_commands, IsSound}
+use Rattle.r6_frames.specs.Uses.{IsForRow}
+
+abbrev pub commands_in : Numbered Outstanding → Commands
+commands_in table = record { next = next_of table; entries = entries_of table }
+
+-- the rows as callers see them
+abbrev pub view_of : Rows → FramesState
+view_of rows =
+    record {
+      geometry = rows.geometry;
+      shard = rows.shard;
+      slots = rows.slots;
+      saw_failed = rows.saw_failed;
+      live = rows.live;
+      held = rows.held.items;
+      spare = length rows.spare.items;
+      commands = commands_in rows.commands;
+      handed = rows.handed;
+    }
+
+-- there is room for the buffers of all frames, each frame's are for a row of the array, and each buffer may have a command
+pub record IsRoom (shape : Shape) (spare : Vec buffers.Shape) (commands : Numbered Outstanding) : Type 0 where
+  pub buffer_room : frames ≤ vec_capacity spare
+  pub shapes : All (IsForRow shape) spare.items
+  pub command_room : capacity_of commands ≡ most_commands shape
+
+abbrev pub HasRoom : Rows → Type 0
+HasRoom rows = IsRoom rows.geometry rows.spare rows.commands
+
+abbrev pub IsSoundInside : Rows → Type 0
+IsSoundInside rows = IsSound (view_of rows) × HasRoom rows

@@ -1,0 +1,363 @@
+//! The rows that a shard holds, each in a frame, and their commands, as the code has them.
+
+ghost use Rattle.std.specs.Prelude.{◌≡◌, ◌<◌, ◌≤◌, ◌+◌, ◌*◌, ◌↔◌, ℕ, length, map, replicate, vec_capacity, slice_index_or, slice_set, false, MatchOption, IfOk, IsTrue};
+ghost use Rattle.r6_layout.specs.Shape.{IsShape};
+ghost use Rattle.r6_layout.specs.Layout as layout;
+ghost use Rattle.r6_stripe.specs.Sound.{IsTask};
+ghost use Rattle.r6_tables.specs.Table.{next_of};
+ghost use Rattle.r6_world.specs.PlainArray.{block_of};
+ghost use Rattle.r6_world.specs.Layouts.{IsRowOf};
+ghost use Rattle.r6_world.specs.Geometries.{layout_of};
+ghost use Rattle.r6_world.specs.ShardStates.{frames};
+ghost use Rattle.r6_frames.specs.Views.{op_of, job_for, row_task, AreLive, is_synced_at};
+ghost use Rattle.r6_frames.specs.Calls.{IsFreeFrame, IsNextOn, NotHeldBy, IsRequestOf, IsPlaceOf, Begins, BeginsRebuild, BeginsScrub, AreAllInSync, Holds, KeepsOthers, IsAtStart, KeepsSlots};
+ghost use Rattle.r6_frames.specs.Owed.{owed, OwesCommands};
+ghost use Rattle.r6_frames.specs.Slots.{slot_before, slot_in, AreUsed};
+ghost use Rattle.r6_frames.specs.Inside.{view_of, HasRoom};
+ghost use Rattle.r6_frames.specs.Sound.{IsSound, IsToldLive, MayHold};
+ghost use Rattle.r6_frames.specs.Uses.{begun_row, none_held, IsForRow};
+
+use crate::command::Outstanding;
+use crate::frames::{FRAMES, FrameUse, HeldRow, Job, Scrub, Served};
+use crate::op::{Op, Request};
+use crate::rebuilt::Target;
+use crate::slots::{Device, MOST_SLOTS, Slot};
+use crate::turns::{left_of, right_of};
+use r6_layout::{Geometry, Place};
+use r6_stripe::{Frame, Hold, Task};
+use r6_tables::Table;
+use std::alloc::{AllocError, Global};
+
+/// What [`crate::frames::Frames`] stores. Its calls are those, of what is sound.
+#[derive(Drop)]
+pub(crate) struct Rows {
+    pub(crate) geometry: Geometry,
+    pub(crate) shard: usize,
+    pub(crate) slots: [Slot; MOST_SLOTS],
+    /// A look has seen that the array failed.
+    pub(crate) saw_failed: bool,
+    /// Holds go on: at most two slots are out, and no look has seen that the array failed.
+    pub(crate) live: bool,
+    pub(crate) held: Vec<FrameUse>,
+    /// The buffers of the frames that are free.
+    pub(crate) spare: Vec<Frame>,
+    pub(crate) commands: Table<Outstanding>,
+    /// How many commands were taken: they are taken in the order of their tokens.
+    pub(crate) handed: u64,
+}
+
+impl Rows {
+    pub(crate) fn new(
+        alloc: Global,
+        geometry: Geometry,
+        shard: usize,
+        devices: [Device; MOST_SLOTS],
+    ) -> Result<Rows, AllocError>
+        requires limits { IsShape geometry }
+        requires shard { shard < geometry.shards }
+        requires devices { AreUsed devices }
+        ensures sound { IfOk result (λ rows. IsSound (view_of rows)) }
+        ensures room { IfOk result HasRoom }
+        ensures start { IfOk result (λ rows. IsAtStart (view_of rows)
+            × (rows.geometry ≡ geometry) × (rows.shard ≡ shard)) }
+        ensures slots { IfOk result (λ rows. (rows.slots ≡ map slot_before devices) × (rows.saw_failed ≡ false)) }
+    {
+        let slots = geometry.slots();
+        let spare = spare_frames(alloc, slots, geometry.block())?;
+        let held = free_frames(alloc)?;
+        let commands = Table::with_capacity(alloc, FRAMES * slots)?;
+        let mut rows = Rows {
+            geometry,
+            shard,
+            slots: with_devices(devices),
+            saw_failed: false,
+            live: false,
+            held,
+            spare,
+            commands,
+            handed: 0,
+        };
+        rows.live = rows.goes_on();
+        Ok(rows)
+    }
+
+    pub(crate) fn geometry(&self) -> &Geometry
+        ensures { result.now ≡ self.now.geometry }
+    {
+        &self.geometry
+    }
+
+    pub(crate) fn shard(&self) -> usize
+        ensures { result ≡ self.now.shard }
+    {
+        self.shard
+    }
+
+    pub(crate) fn device(&self, slot: usize) -> Device
+        requires { slot < 32 }
+        ensures { result ≡ (slot_in self.now.slots slot).device }
+    {
+        self.slots[slot].device
+    }
+
+    pub(crate) fn saw_failed(&self) -> bool
+        ensures { result ≡ self.now.saw_failed }
+    {
+        self.saw_failed
+    }
+
+    pub(crate) fn is_live(&self) -> bool
+        requires { IsToldLive (view_of self.now) }
+        ensures { IsTrue result ↔ AreLive (view_of self.now) }
+    {
+        self.live
+    }
+
+    // The same, counted.
+    pub(crate) fn goes_on(&self) -> bool
+        requires { IsShape self.now.geometry }
+        ensures { IsTrue result ↔ AreLive (view_of self.now) }
+    {
+        let slots = &self.slots[..self.geometry.slots()];
+        !self.saw_failed && slots.iter().filter(|slot| slot.device.is_out()).count() <= 2
+    }
+
+    pub(crate) fn free_frame(&self) -> Option<usize>
+        requires { IsSound (view_of self.now) }
+        ensures { MatchOption result ((frame : ℕ) → IsFreeFrame (view_of self.now) frame → ⊥)
+            (IsFreeFrame (view_of self.now)) }
+    {
+        if self.spare.is_empty() {
+            return None;
+        }
+        for (frame, held) in self.held.iter().enumerate() {
+            if let FrameUse::Free = held {
+                return Some(frame);
+            }
+        }
+        None
+    }
+
+    pub(crate) fn is_held(&self, row: u64) -> bool
+        ensures { IsTrue result ↔ (NotHeldBy (view_of self.now) row → ⊥) }
+    {
+        for held in &self.held {
+            if let FrameUse::Held(held) = held {
+                if held.row == row {
+                    return true;
+                }
+            }
+        }
+        false
+    }
+
+    pub(crate) fn begin(&mut self, frame: usize, request: Request, place: Place)
+        requires sound { IsSound (view_of self.old) }
+        requires room { HasRoom self.old }
+        requires live { AreLive (view_of self.old) }
+        requires free { IsFreeFrame (view_of self.old) frame }
+        requires request { IsRequestOf (view_of self.old) request }
+        requires place { IsPlaceOf self.old.geometry request.op place }
+        requires unheld { NotHeldBy (view_of self.old) (layout.row_of self.old.geometry (block_of (op_of request.op))) }
+
+        // The row is held.
+        ensures sound { IsSound (view_of self.new) }
+        ensures room { HasRoom self.new }
+        ensures begins { Begins (view_of self.old) frame request (view_of self.new) }
+
+        // All else is as it was.
+        ensures same { KeepsSlots (view_of self.old) (view_of self.new) }
+        ensures others { KeepsOthers (view_of self.old) frame (view_of self.new) }
+
+        // The hold owes at most a read and a write of each position, and at least one command.
+        ensures owed { owed (view_of self.new) ≡ owed (view_of self.old) + 2 * self.old.geometry.slots }
+        ensures owes { OwesCommands (view_of self.new) frame }
+    {
+        let (job, task) = parts(request, place.index);
+        let first = left_of(place.slot, place.index, self.geometry.slots());
+        self.hold(frame, place.row, first, job, task);
+    }
+
+    pub(crate) fn begin_scrub(&mut self, frame: usize, scrub: Scrub, row: u64)
+        requires sound { IsSound (view_of self.old) }
+        requires room { HasRoom self.old }
+        requires live { AreLive (view_of self.old) }
+        requires free { IsFreeFrame (view_of self.old) frame }
+        requires row { IsRowOf (layout_of self.old.geometry) self.old.shard row }
+        requires whole { AreAllInSync (view_of self.old) row }
+        requires unheld { NotHeldBy (view_of self.old) row }
+
+        // The row is held.
+        ensures sound { IsSound (view_of self.new) }
+        ensures room { HasRoom self.new }
+        ensures begins { BeginsScrub (view_of self.old) frame scrub row (view_of self.new) }
+
+        // All else is as it was.
+        ensures same { KeepsSlots (view_of self.old) (view_of self.new) }
+        ensures others { KeepsOthers (view_of self.old) frame (view_of self.new) }
+
+        // The hold owes at most a read and a write of each position, and at least one command.
+        ensures owed { owed (view_of self.new) ≡ owed (view_of self.old) + 2 * self.old.geometry.slots }
+        ensures owes { OwesCommands (view_of self.new) frame }
+    {
+        let first = self.geometry.slot_at(row, 0);
+        self.hold(frame, row, first, Job::Scrub(scrub), scrub.task());
+    }
+
+    pub(crate) fn begin_rebuild(&mut self, frame: usize, target: Target, row: u64)
+        requires sound { IsSound (view_of self.old) }
+        requires room { HasRoom self.old }
+        requires live { AreLive (view_of self.old) }
+        requires free { IsFreeFrame (view_of self.old) frame }
+        requires row { IsRowOf (layout_of self.old.geometry) self.old.shard row }
+        requires slot { target.slot < self.old.geometry.slots }
+        requires next { IsNextOn (view_of self.old) target row }
+        requires unheld { NotHeldBy (view_of self.old) row }
+
+        // The row is held.
+        ensures sound { IsSound (view_of self.new) }
+        ensures room { HasRoom self.new }
+        ensures begins { BeginsRebuild (view_of self.old) frame target row (view_of self.new) }
+
+        // All else is as it was.
+        ensures same { KeepsSlots (view_of self.old) (view_of self.new) }
+        ensures others { KeepsOthers (view_of self.old) frame (view_of self.new) }
+
+        // The hold owes at most a read and a write of each position, and at least one command.
+        ensures owed { owed (view_of self.new) ≡ owed (view_of self.old) + 2 * self.old.geometry.slots }
+        ensures owes { OwesCommands (view_of self.new) frame }
+    {
+        let first = self.geometry.slot_at(row, 0);
+        let position = self.geometry.position_at(row, target.slot);
+        self.hold(
+            frame,
+            row,
+            first,
+            Job::Rebuild(target),
+            Task::Rebuild(position),
+        );
+    }
+
+    // Holds the row, whose first position stands on this slot, in a free frame.
+    fn hold(&mut self, frame: usize, row: u64, first: usize, job: Job, task: Task)
+        requires sound { IsSound (view_of self.old) }
+        requires room { HasRoom self.old }
+        requires live { AreLive (view_of self.old) }
+        requires free { IsFreeFrame (view_of self.old) frame }
+        requires may { MayHold (view_of self.old) row job task }
+        requires first { first ≡ layout.slot_at self.old.geometry row 0 }
+        requires unheld { NotHeldBy (view_of self.old) row }
+        ensures sound { IsSound (view_of self.new) }
+        ensures room { HasRoom self.new }
+        ensures holds { Holds (view_of self.old) frame (begun_row (view_of self.old) row job task) (view_of self.new) }
+        ensures owed { owed (view_of self.new) ≡ owed (view_of self.old) + 2 * self.old.geometry.slots }
+        ensures owes { OwesCommands (view_of self.new) frame }
+    {
+        let Some(spare) = self.spare.pop() else {
+            unreachable!()
+        };
+        let held = self.row_for(row, first, job, task, spare);
+        put(&mut self.held, frame, FrameUse::Held(held));
+    }
+
+    // The row as its hold begins, in this frame of buffers.
+    fn row_for(&self, row: u64, first: usize, job: Job, task: Task, spare: Frame) -> HeldRow
+        requires shape { IsShape self.now.geometry }
+        requires first { first ≡ layout.slot_at self.now.geometry row 0 }
+        requires task { IsTask self.now.geometry.slots self.now.geometry.block (Some task) }
+        requires spare { IsForRow self.now.geometry spare }
+        ensures { result ≡ begun_row (view_of self.now) row job task }
+    {
+        let in_sync = self.in_sync(row, first);
+        let hold = Hold::begin(spare, task, &in_sync[..self.geometry.slots()]);
+        HeldRow {
+            row,
+            first,
+            job,
+            hold,
+        }
+    }
+
+    // Which positions are in sync of the row, whose first one stands on this slot.
+    fn in_sync(&self, row: u64, first: usize) -> [bool; MOST_SLOTS]
+        requires shape { IsShape self.now.geometry }
+        requires first { first ≡ layout.slot_at self.now.geometry row 0 }
+        ensures { (position : ℕ) → position < self.now.geometry.slots
+            → slice_index_or result position false ≡ is_synced_at (view_of self.now) row position }
+    {
+        let slots = self.geometry.slots();
+        let mut in_sync = [false; MOST_SLOTS];
+        for position in 0..slots {
+            let slot = right_of(first, position, slots);
+            in_sync[position] = self.slots[slot].device.is_in_sync(row);
+        }
+        in_sync
+    }
+
+    pub(crate) fn tokens(&self) -> u64
+        ensures { result ≡ next_of self.now.commands }
+    {
+        self.commands.next()
+    }
+}
+
+// Frames of so many buffers of the length, which are spare.
+fn spare_frames(alloc: Global, slots: usize, block: usize) -> Result<Vec<Frame>, AllocError>
+    requires at_least { 4 ≤ slots }
+    requires at_most { slots ≤ 32 }
+    ensures spare { IfOk result (λ spare. spare.items ≡ replicate frames (record { count = slots; size = block })) }
+    ensures room { IfOk result (λ spare. frames ≤ vec_capacity spare) }
+{
+    let mut spare = Vec::with_capacity(alloc, FRAMES)?;
+    for _ in 0..FRAMES {
+        spare.push_reserved(Frame::new(alloc, slots, block)?);
+    }
+    Ok(spare)
+}
+
+// Frames in which no row is held.
+fn free_frames(alloc: Global) -> Result<Vec<FrameUse>, AllocError>
+    ensures { IfOk result (λ held. held.items ≡ none_held frames) }
+{
+    let mut held = Vec::with_capacity(alloc, FRAMES)?;
+    for _ in 0..FRAMES {
+        held.push_reserved(FrameUse::Free);
+    }
+    Ok(held)
+}
+
+// The frame is used for this in place of what it was used for.
+pub(crate) fn put(held: &mut Vec<FrameUse>, frame: usize, used: FrameUse)
+    requires { frame < length held.old.items }
+    ensures { held.new.items ≡ slice_set held.old.items frame used }
+{
+    held[frame] = used;
+}
+
+// Slots with these devices, to which no command was put out.
+fn with_devices(devices: [Device; MOST_SLOTS]) -> [Slot; MOST_SLOTS]
+    ensures { result ≡ map slot_before devices }
+{
+    let mut slots = [Slot {
+        device: Device::Missing,
+        since: 0,
+    }; MOST_SLOTS];
+    for slot in 0..MOST_SLOTS {
+        slots[slot].device = devices[slot];
+    }
+    slots
+}
+
+// What the row is held for, and what the hold is asked to do at the index.
+fn parts(request: Request, index: usize) -> (Job, Task)
+    ensures job { result.0 ≡ job_for request.id request.op }
+    ensures task { result.1 ≡ row_task index request.op }
+{
+    let Request { id, op } = request;
+    let block = op.block();
+    let served = Served { id, block };
+    match op {
+        Op::Read(_, buffer) => (Job::Read(served, buffer), Task::Read(index)),
+        Op::Write(_, buffer) => (Job::Write(served), Task::Write(index, buffer)),
+    }
+}
