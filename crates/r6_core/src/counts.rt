@@ -1,4 +1,4 @@
-//! What checks and repairs have found.
+//! What checks, repairs and rebuilds have found and done.
 
 ghost use Rattle.std.specs.Prelude.{◌≡◌, ◌<◌, ◌^◌};
 ghost use Rattle.r6_world.specs.Changes.{counted};
@@ -18,7 +18,7 @@ pub struct Counts {
     pub wrong_q: u64,
     pub wrong_data: u64,
     pub many: u64,
-    /// Rows passed over, since a slot was out.
+    /// Rows passed over, since a slot was out, and those of which a slot was lost while they were read.
     pub skipped: u64,
     /// Rows that a repair found wrong.
     pub repaired: u64,

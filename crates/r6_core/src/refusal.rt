@@ -42,7 +42,7 @@ pub enum Refusal {
     UntoldFirst = 8,
     /// All frames are in use.
     NoFrame = 9,
-    /// The next row is held, or at least three slots are out.
+    /// No row is to be rebuilt, the row of a check or repair is held, or at least three slots are out.
     NothingToDo = 10,
     /// The call isn't the one that was taken last and whose answer isn't told.
     UnknownCall = 11,
