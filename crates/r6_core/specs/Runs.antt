@@ -9,7 +9,7 @@ use Rattle.r6_world.specs.Registers.{Snapshot, RegisterCall, Told}
 use Rattle.r6_world.specs.ShardStates as shards
 use Rattle.r6_world.specs.ShardStates.{Command, Counts, IsLive}
 use Rattle.r6_world.specs.Steps as steps
-use Rattle.r6_world.specs.Steps.{Event, Take_call, AtRest}
+use Rattle.r6_world.specs.Steps.{Event, Take_call}
 use Rattle.r6_world.specs.Worlds as worlds
 use Rattle.r6_world.specs.Worlds.{World, Devices, MayCome, Possible, Run, IsAnswer, as_made, next, started}
 use Rattle.r6_world.specs.Claims.{IsLawfulStart, IsQuiet, AllAnswered}
@@ -170,8 +170,8 @@ pub record OneCoreCounts (l : Layout) (n : ℕ) (start : World) (moments : List 
   -- until then none is dropped
   pub unfailed : (world_shard core).saw_failed ≡ false
       → rows_passed n moments ≡ rows_counted (world_shard core).counts + checks_held (world_shard core)
-  -- and of a live core at rest, with no command out, each row that was passed is counted
-  pub at_rest : IsLive l (world_shard core) → AtRest l n (world_shard core)
+  -- and of a live core with no command out each row that was passed is counted
+  pub at_rest : IsLive l (world_shard core)
       → ((token : ℕ) → (world_shard core).command token ≡ None)
       → rows_passed n moments ≡ rows_counted (world_shard core).counts
 

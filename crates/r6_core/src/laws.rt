@@ -79,8 +79,8 @@ pub fn counts_law()
 ///
 /// The turns of its checks and repairs that were answered `Started` or `Skipped` are as many as the rows that it counts, by
 /// class or as skipped, those that they hold yet, and those that it dropped when it saw that the array failed. So of a core
-/// that has seen no failure, has at most two slots out, is at rest (as `submit`, `deliver`, `look` and `turn` leave it) and
-/// has no command out, they are the sum of the five classes and the skipped ones.
+/// that has seen no failure, has at most two slots out and no command out, they are the sum of the five classes and the
+/// skipped ones.
 pub fn counts_of_one_core()
     ensures { CountsOfOneCore }
 {
