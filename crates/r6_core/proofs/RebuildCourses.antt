@@ -9,6 +9,7 @@ use Rattle.r6_world.specs.PlainArray.{Block, Array, Read, Data}
 use Rattle.r6_world.specs.Layouts.{Layout}
 use Rattle.r6_world.specs.Geometries.{layout_of}
 use Rattle.r6_world.specs.Registers.{Snapshot, RegisterCall, RegisterAnswer, Fail, Attach, ReportRebuilt, More, Complete, answer_to, register_after}
+use Rattle.r6_world.specs.Tasks.{Rebuild}
 use Rattle.r6_world.specs.ShardStates as shards
 use Rattle.r6_world.specs.ShardStates.{Command, RebuildOf}
 use Rattle.r6_world.specs.Steps as steps
@@ -33,7 +34,8 @@ of_match (Err x) P Q a e p = absurd (None-not_Some a e)
 abbrev turned_by : {one another row : ℕ} {blocks : LostRow} {answer : RegisterAnswer} {old new : CoreView} → RebuildsRow one another row blocks answer old new → Turned
 turned_by r =
     record {
-      task = r.turned.task;
+      slot = r.turned.slot;
+      generation = r.turned.generation;
       first = (r.first.token, r.first.command);
       second = (r.second.token, r.second.command);
       write = (r.write.token, r.write.command);
@@ -104,7 +106,7 @@ module _ (shape : Shape) (limits : IsShape shape) (Ours : ℕ → Type 0) (Comes
       → (r : RebuildsRow one another row blocks answer core new)
       → Goes next (with_block now 1 1 row blocks.lost) (events ++ of_core n (rebuild_events (turned_by r) blocks answer)) news
   rebuilds register next now events cores x n ours core is one another row blocks answer answers leads new news b on_one on_other r =
-      let turn = Turn_started r.turned.task in
+      let turn = Turn_started (Rebuild r.turned.slot r.turned.generation) in
       let c1 = put cores n r.held in
       let c2 = put c1 n r.half in
       let c3 = put c2 n r.whole in

@@ -4,7 +4,7 @@ use Rattle.r6_health.specs.Registers.{starting, after}
 use Rattle.r6_world.specs.PlainArray.{Block, Array, Read, Data}
 use Rattle.r6_world.specs.Geometries.{layout_of}
 use Rattle.r6_world.specs.Registers.{Snapshot, RegisterAnswer, Fail, Attach, ReportRebuilt, More, Complete}
-use Rattle.r6_world.specs.Tasks.{Task}
+use Rattle.r6_world.specs.Tasks.{Rebuild}
 use Rattle.r6_world.specs.ShardStates.{Command, RebuildOf}
 use Rattle.r6_world.specs.Steps as steps
 use Rattle.r6_world.specs.Steps.{Event, Submit, Deliver, Good, Taken, Look, Turn_started, Take_command, Take_call, Take_reply}
@@ -18,8 +18,9 @@ use Rattle.r6_core.specs.Courses.{of_core, HasRun, Reads, Writes, Tells, two_sha
 
 -- a rebuild's turn is taken
 pub record TakesUp (old new : CoreView) : Type 0 where
-  pub task : Task
-  pub started : Step old (Turn_started task) new
+  pub slot : ℕ
+  pub generation : ℕ
+  pub started : Step old (Turn_started (Rebuild slot generation)) new
 
 -- A row of slot 1 is rebuilt on the slot's first new device, from these blocks of two other slots, and the shard's report
 -- has this answer
@@ -70,16 +71,17 @@ pub record ReadsBack (register : Snapshot) (restored block : Block) (old new : C
   pub looked : Step reading (Look register) seeing
   pub replied : Step seeing (Take_reply 0 (Data block)) new
 
--- a turn, and the commands of its row
+-- a rebuild's turn, and the commands of its row
 pub record Turned : Type 0 where
-  pub task : Task
+  pub slot : ℕ
+  pub generation : ℕ
   pub first : ℕ × Command
   pub second : ℕ × Command
   pub write : ℕ × Command
 
 abbrev pub rebuild_events : Turned → LostRow → RegisterAnswer → List Event
 rebuild_events t blocks answer =
-    Turn_started t.task
+    Turn_started (Rebuild t.slot t.generation)
     ∷ Take_command t.first.0 t.first.1 ∷ Deliver t.first.0 (Good blocks.other) Taken
     ∷ Take_command t.second.0 t.second.1 ∷ Deliver t.second.0 (Good blocks.parity) Taken
     ∷ Take_command t.write.0 t.write.1 ∷ Deliver t.write.0 (Good blocks.lost) Taken

@@ -1,5 +1,4 @@
 use Rattle.std.proofs.Common.{◌∙◌, sym}
-use Rattle.r6_world.specs.Tasks.{Rebuild}
 use Rattle.r6_core.specs.declared.turn.Task.TheVariants as task
 use Rattle.r6_core.specs.Effects.{Turns}
 use Rattle.r6_core.proofs.Courses.{of_ok}
@@ -12,6 +11,7 @@ returns-in-Started c =
     let next = turns.taken.1 in
     let starts = next.4 in
     record {
-      task = Rebuild next.0 next.1;
+      slot = next.0;
+      generation = next.1;
       started = (starts.0, (starts.1, starts.2, next.2, starts.3, starts.4, starts.5));
     }
