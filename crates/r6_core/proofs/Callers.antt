@@ -1,16 +1,20 @@
 -- What callers see of the calls of a state.
-use Rattle.std.proofs.Common.{◌≡◌, ◌≢◌, ℕ, ◌+◌, List, [], ◌∷◌, ◌++◌, map, refl, sym, ap, ◌∙◌, inl, inr, Option, Some, None, MatchOption, IfSome, Result, Ok, Err, IfOk, IfErr, length}
-use Rattle.std.specs.Prelude.{option_map}
-use Rattle.std.proofs.lemmas.Bool.{lt-ltb, ltb-true}
+use Rattle.std.proofs.Common.{◌≡◌, ◌≢◌, ℕ, ◌+◌, ◌<◌, ◌≤◌, Bool, true, false, arith, List, [], ◌∷◌, ◌++◌, map, refl, sym, ap, ◌∙◌, inl, inr, Option, Some, None, MatchOption, IfSome, Result, Ok, Err, IfOk, IfErr, length}
+use Rattle.std.specs.Prelude.{nat_lt, option_map}
+use Rattle.std.proofs.lemmas.Bool.{lt-ltb, ltb-true, ltb-false}
 use Rattle.r6_world.specs.Registers.{Snapshot, Told}
 use Rattle.r6_world.specs.Changes.{Accept, after}
+use Rattle.r6_world.specs.Tables.{put}
+use Rattle.r6_world.proofs.Tables.{put-same, put-other}
 use Rattle.r6_world.specs.Steps as steps
 use Rattle.r6_world.specs.ShardStates as shards
+use Rattle.r6_world.specs.ShardStates.{handed}
 use Rattle.r6_frames.specs.declared.op.Op.{Op}
 use Rattle.r6_frames.specs.declared.frames.Scrub.TheVariants as scrub
 use Rattle.r6_frames.specs.declared.command.Outstanding.{Outstanding}
 use Rattle.r6_frames.specs.declared.command.Command.{Command}
-use Rattle.r6_frames.specs.Views.{op_of, command_of, outstanding}
+use Rattle.r6_frames.specs.Views.{op_of, command_of, outstanding, world_command}
+use Rattle.r6_frames.specs.declared.slots.Slot.{Slot}
 use Rattle.r6_frames.specs.Calls as frames
 use Rattle.r6_frames.specs.Calls.{IsAwaited}
 use Rattle.r6_core.specs.declared.call.Call.{Call}
@@ -27,7 +31,7 @@ use Rattle.r6_core.specs.declared.turn.Task.TheVariants as task
 use Rattle.r6_core.specs.Shards.{core_of, core_with, call_of, state_of, layout_in, Step, completion_of, receipt_of, buffer_in, reply_of, buffer_back}
 use Rattle.r6_core.specs.Refusals.{HasSubmitFault, submit_faults, IsOut, HasDeliverFault, deliver_faults, HasRebuildFault, HasTurnFault, turn_faults, IsFirstFault, HasNone, AllTold}
 use Rattle.r6_core.specs.Order.{BringsBack, SameReplies, FinishesBy, LooksOn, TakesFirst, HasNoReply, HaveTurns, HaveTurnsBehind, HaveTurnsAfter}
-use Rattle.r6_core.specs.Effects.{Accepts, KeepsRequests, Rebuilds, Turns, turn_event, Receives, LooksAt, IsCommandOf, Hears, RefusesAnswer, HandsReply, HandsNoReply}
+use Rattle.r6_core.specs.Effects.{Accepts, KeepsRequests, Rebuilds, Turns, turn_event, Receives, LooksAt, HandsCommand, IsOldestUntaken, IsCommandOf, Hears, RefusesAnswer, HandsReply, HandsNoReply}
 use Rattle.r6_core.specs.Inside.{Seen, NoCalls, HasFault, next_row}
 
 -- ---- cases of a result
@@ -58,6 +62,43 @@ awaited_of s token is = at (outstanding s.frames token) refl
         let there : Some (command_of s.frames.slots s.frames.handed token c) ≡ Some is.0 = ap (option_map (command_of s.frames.slots s.frames.handed token)) (sym e) ∙ is.1 in
         let same : command_of s.frames.slots s.frames.handed token c ≡ is.0 = cc in
         (c, e, ltb-true token s.frames.handed (ap (λ (x : shards.Command). x.taken) same ∙ is.2))
+
+-- ---- the command that is handed out
+
+taken_as : (slots : List Slot) (handed token : ℕ) (o : Option Outstanding) (c : shards.Command)
+    → option_map (command_of slots handed token) o ≡ Some c → c.taken ≡ nat_lt token handed
+taken_as slots handed token None c e = absurd (cc)
+taken_as slots handed token (Some o) c e =
+    let same : command_of slots handed token o ≡ c = cc in
+    ap (λ (x : shards.Command). x.taken) (sym same)
+
+-- those with a token below that of one that was just taken are taken
+taken_before : (old new : State) (token : ℕ) (c : shards.Command) → Step (core_of old) (steps.Take_command token c) (core_of new)
+    → (other : ℕ) (d : shards.Command) → (state_of old).command other ≡ Some d → other < token → d.taken ≡ true
+taken_before old new token c step other d there below =
+    let given : shards.Command = record c { taken = true; transfer = handed c.transfer } in
+    let commands : (state_of new).command ≡ put (state_of old).command token (Some given) = ap (λ (s : shards.Shard). s.command) step.1.1 in
+    let here : (state_of new).command token ≡ Some given =
+    ap (λ (table : ℕ → Option shards.Command). table token) commands ∙ put-same (state_of old).command token (Some given) token refl in
+    let still : (state_of new).command other ≡ Some d =
+    ap (λ (table : ℕ → Option shards.Command). table other) commands
+    ∙ put-other (state_of old).command token (Some given) other (λ same. omega (arith, same, below)) ∙ there in
+    let known : nat_lt token new.frames.handed ≡ true = sym (taken_as new.frames.slots new.frames.handed token (outstanding new.frames token) given here) in
+    let behind : token < new.frames.handed = ltb-true token new.frames.handed known in
+    taken_as new.frames.slots new.frames.handed other (outstanding new.frames other) d still ∙ lt-ltb other new.frames.handed (omega (arith, below, behind))
+
+oldest_of : (old new : State) (token : ℕ) (c : shards.Command) → Step (core_of old) (steps.Take_command token c) (core_of new) → IsOldestUntaken (core_of old) token
+oldest_of old new token c step other d there untaken = at (nat_lt other token) refl
+  where
+    at : (b : Bool) → nat_lt other token ≡ b → token ≤ other
+    at true e = absurd (let taken : d.taken ≡ true = taken_before old new token c step other d there (ltb-true other token e) in cc)
+    at false e = ltb-false other token e
+
+pub oldest_of_result : (old new : State) (result : Option Command)
+    → MatchOption result (Step (core_of old) steps.No_command (core_of new)) (λ c. HandsCommand (core_of old) c (core_of new))
+    → IfSome result (λ c. IsOldestUntaken (core_of old) c.token)
+oldest_of_result old new None step = tt
+oldest_of_result old new (Some c) step = oldest_of old new c.token (world_command step.0 step.1 c) step.2
 
 -- ---- calls at the register
 

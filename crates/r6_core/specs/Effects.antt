@@ -1,5 +1,5 @@
 -- What each call of a core does.
-use Rattle.std.specs.Prelude.{◌≡◌, ◌≢◌, ℕ, ◌+◌, ◌<◌, Bool, List, [], ◌∷◌, ◌++◌, length, Some, Result}
+use Rattle.std.specs.Prelude.{◌≡◌, ◌≢◌, ℕ, ◌+◌, ◌<◌, ◌≤◌, Bool, false, List, [], ◌∷◌, ◌++◌, length, Some, Result}
 use Rattle.r6_layout.specs.Shape.{Shape}
 use Rattle.r6_world.specs.Layouts.{IsRowOf}
 use Rattle.r6_world.specs.Geometries.{layout_of}
@@ -7,6 +7,7 @@ use Rattle.r6_world.specs.Registers.{Snapshot, Told}
 use Rattle.r6_world.specs.Changes.{Accept, Start, Allowed, after}
 use Rattle.r6_world.specs.Tasks.{Task as WorldTask, Rebuild}
 use Rattle.r6_core.specs.Rebuilds.{IsNextRebuild}
+use Rattle.r6_world.specs.ShardStates as shards
 use Rattle.r6_world.specs.Steps as steps
 use Rattle.r6_world.specs.Worlds.{shard_at_start}
 use Rattle.r6_frames.specs.declared.op.Op.{Op}
@@ -148,6 +149,10 @@ pub record IsCommandOf (core : CoreView) (c : Command) : Type 0 where
 
 abbrev pub HandsCommand : CoreView → Command → CoreView → Type 0
 HandsCommand old c new = (frame : ℕ) × (abandoned : Bool) × Step old (steps.Take_command c.token (world_command frame abandoned c)) new
+
+-- no command that wasn't taken has a lower token
+abbrev pub IsOldestUntaken : CoreView → (token : ℕ) → Type 0
+IsOldestUntaken core token = (t : ℕ) (c : shards.Command) → (world_shard core).command t ≡ Some c → c.taken ≡ false → token ≤ t
 
 -- ---- calls at the register
 

@@ -6,7 +6,7 @@ ghost use Rattle.r6_world.specs.Registers.{status_of};
 ghost use Rattle.r6_world.specs.Worlds.{slot_at_start};
 ghost use Rattle.r6_world.specs.Steps.{No_command, No_call};
 ghost use Rattle.r6_core.specs.Shards.{Step, counts_of, world_shard, devices_state, synced};
-ghost use Rattle.r6_core.specs.Effects.{KeepsRequests, IsMade, Accepts, RefusesOp, Receives, RefusesCompletion, LooksAt, RefusesLook, Turns, RefusesTurn, IsCommandOf, HandsCommand, HandsCall, Hears, RefusesAnswer, HandsReply, HandsNoReply};
+ghost use Rattle.r6_core.specs.Effects.{KeepsRequests, IsMade, Accepts, RefusesOp, Receives, RefusesCompletion, LooksAt, RefusesLook, Turns, RefusesTurn, IsCommandOf, HandsCommand, IsOldestUntaken, HandsCall, Hears, RefusesAnswer, HandsReply, HandsNoReply};
 
 use crate::call::Call;
 use crate::counts::Counts;
@@ -167,6 +167,7 @@ impl Core {
     /// away until then, and the frames of their rows with them. Any completion does, also with an error.
     pub fn take_command(&mut self) -> Option<Command>
         ensures step { MatchOption result (Step self.old No_command self.new) (λ c. HandsCommand self.old c self.new) }
+        ensures oldest { IfSome result (λ c. IsOldestUntaken self.old c.token) }
         ensures there { IfSome result (IsCommandOf self.old) }
         ensures kept { KeepsRequests self.old self.new }
         ensures window { self.new.window ≡ self.old.window }
