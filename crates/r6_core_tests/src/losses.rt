@@ -183,6 +183,28 @@ fn holds_that_hear_of_one_loss_go_on_in_the_order_of_their_frames(
     play(&rt, rt.alloc(), 4, 1, &[], &course)
 }
 
+// The third takes over the frame of the first, in front of that of the second. Its block and the second's stand in slot 1.
+#[test]
+fn a_hold_that_begins_takes_the_lowest_free_frame(rt: HostRuntime) -> Result<(), Fail> {
+    let course = [
+        (Step::Read(2), Answer::Accepted(0)),
+        (Step::Read(0), Answer::Accepted(1)),
+        (Step::Take, Answer::Command(0, 0, 1)),
+        (Step::Take, Answer::Command(1, 1, 0)),
+        (Step::Do(0), Answer::Taken),
+        (Step::Read(3), Answer::Accepted(2)),
+        (Step::Take, Answer::Command(2, 1, 1)),
+        (Step::Fail(1), Answer::Taken),
+        // row 1 goes on before row 0
+        (Step::Take, Answer::Command(3, 0, 1)),
+        (Step::Take, Answer::Command(4, 2, 1)),
+        (Step::Take, Answer::Command(5, 2, 0)),
+        (Step::Take, Answer::Command(6, 3, 0)),
+        (Step::Take, Answer::Nothing),
+    ];
+    play(&rt, rt.alloc(), 4, 1, &[], &course)
+}
+
 // Of rows 0, 1, 4, 5, 8 and so on the block in slot 1 is read, and then, without it, from two other slots each, while the
 // first commands are out.
 #[test]
