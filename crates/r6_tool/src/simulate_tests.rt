@@ -709,6 +709,27 @@ attach 1 -> refused 4 NotLost
     Ok(())
 }
 
+// The device is replaced before the shard reports it: the report is refused, and the next device begins with no row.
+#[test]
+fn a_report_of_a_replaced_device_is_stale(rt: HostRuntime) -> Result<(), Fail> {
+    let transcript = "array 4 1 16 1 1 -> array
+fail 1 -> degraded
+attach 1 -> generation 1
+look 0 -> looked
+turn 0 rebuild -> started | 0:0 read slot 2 gen 0 row 0 | 0:1 read slot 3 gen 0 row 0
+do 0:0 -> taken
+do 0:1 -> taken | 0:2 write slot 1 gen 1 row 0 00
+do 0:2 -> taken
+fail 1 -> degraded
+attach 1 -> generation 2
+tell 0 -> report_rebuilt 1 1: refused 3 Stale
+look 0 -> looked
+turn 0 rebuild -> started | 0:3 read slot 2 gen 0 row 0 | 0:4 read slot 3 gen 0 row 0
+";
+    plays(&rt, rt.alloc(), transcript, 0)?;
+    Ok(())
+}
+
 // The reads of a row whose new device is lost come home, and nothing is written.
 #[test]
 fn a_rebuild_whose_device_is_lost_is_given_up(rt: HostRuntime) -> Result<(), Fail> {
