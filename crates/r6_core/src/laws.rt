@@ -15,21 +15,23 @@ ghost use Rattle.r6_core.specs.Runs.{RunsOfCores, RunsOfOneCore, ArrayOfCores, C
 /// - A good completion is only of a command that its device performed, and that of a read brings the block that the device
 ///   gave. An error may come at any time. After a part of a device (the rows of one shard on it) has answered an error, no
 ///   completion of a command that it performed later is delivered before that error.
-/// - A command is performed at most once, after it was taken and before its completion is delivered, and only by the device
-///   of its slot and generation. So nothing on the way repeats a write that has its completion, and none that is late gets
-///   to a disk that was attached anew since.
+/// - A command is performed at most once, after it was taken and before its completion is delivered, and only by the
+///   device of its slot and generation. So nothing on the way repeats a write that has its completion, and none that
+///   is late gets to a disk that was attached anew since.
 /// - A call that is taken is made at the register and told with no event of that core between.
 /// - A look sees the register as it is at that moment.
 ///
-/// `cores`: from cores as [`Core::new`](crate::Core::new) makes them, every such run is a run of the world, whose shards are
-/// the cores at each moment. So of every run of the cores of all shards holds (`array_of_cores`): each request that is
-/// answered `Data` or `Done` acted at the end of its hold, between its hand-over and its answer, as on one plain array, each
-/// such reply is that array's, one answered `ArrayFailed` acted so or not at all, and every idle row's slots in sync hold
-/// that array's blocks, P and Q, in each shard with at most two slots out that has not seen the failure; a slot whose
-/// rebuild completed is in sync with that generation in each such shard in which no command to it has failed since; once a
-/// third slot is out in the register, every answer that a look gives is `ArrayFailed`; and (`quiet_of_cores`): when a core has no command out and its last event, takings aside, was a look at the register as it
-/// is, each request that it accepted has its reply ready, or it was taken. With one shard, one request at a time and at most
-/// two slots out, the replies are the plain array's in the order of the requests (`sequential_of_cores`).
+/// `cores`: from cores as [`Core::new`](crate::Core::new) makes them, every such run is a run of the world, whose
+/// shards are the cores at each moment. So of every run of the cores of all shards holds (`array_of_cores`): each
+/// request that is answered `Data` or `Done` acted at the end of its hold, between its hand-over and its answer, as on
+/// one plain array, each such reply is that array's, one answered `ArrayFailed` acted so or not at all, and every idle
+/// row's slots in sync hold that array's blocks, P and Q, in each shard with at most two slots out that has not seen
+/// the failure; a slot whose rebuild completed is in sync with that generation in each such shard in which no command
+/// to it has failed since; once a third slot is out in the register, every answer that a look gives is `ArrayFailed`;
+/// and (`quiet_of_cores`): when a core has no command out and its last event, takings aside, was a look at the
+/// register as it is, each request that it accepted has its reply ready, or it was taken. With one shard, one request
+/// at a time and at most two slots out, the replies are the plain array's in the order of the requests
+/// (`sequential_of_cores`).
 ///
 /// `one_core`, `shard_of_cores`: the run of one core alone, beside a register that anyone calls, is a run of the world too,
 /// and its answers and rows are so as well: the thread of a core need know nothing of the other shards.

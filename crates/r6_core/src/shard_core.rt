@@ -28,9 +28,9 @@ use std::marker::Model;
 /// [`Core::new`] takes memory.
 ///
 /// No call asks for more than its conditions. The laws of what blocks hold ([`array_law`](crate::array_law)) suppose a
-/// little order: a call is taken, made and told with no event of this core between, and a look follows the reading of its
-/// snapshot so. A device performs each command at most once, before its completion is delivered, and an error of a device
-/// is delivered before any completion of a command that this device performed later.
+/// little order: a call is taken, made and told with no event of this core between, and a look follows the reading of
+/// its snapshot so. A device performs each command at most once, before its completion is delivered, and an error of a
+/// device is delivered before any completion of a command that this device performed later.
 #[derive(Drop)]
 pub struct Core {
     /// As many rows of a rebuild may be under way at one time.

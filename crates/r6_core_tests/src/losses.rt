@@ -183,7 +183,8 @@ fn holds_that_hear_of_one_loss_go_on_in_the_order_of_their_frames(
     play(&rt, rt.alloc(), 4, 1, &[], &course)
 }
 
-// The third takes over the frame of the first, in front of that of the second. Its block and the second's stand in slot 1.
+// The third takes over the frame of the first, in front of that of the second. Its block and the second's stand in
+// slot 1.
 #[test]
 fn a_hold_that_begins_takes_the_lowest_free_frame(rt: HostRuntime) -> Result<(), Fail> {
     let course = [
