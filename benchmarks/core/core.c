@@ -11,13 +11,17 @@
 #include <string.h>
 #include <time.h>
 
-enum { ARENA = 64 << 20, LINE = 64, TRIES = 40 };
+/* a round of a rebuild is short beside what is made before the first, and gets more tries */
+enum { ARENA = 64 << 20, LINE = 64, TRIES = 40, REBUILD_TRIES = 400 };
 
 enum rows { APART, ONE_ROW, DEGRADED };
 
 uint8_t r6_core_serve(size_t slots, uint8_t rows, bool writes, size_t width, uint64_t rounds);
 uint8_t r6_core_alone(size_t slots, uint8_t rows, bool writes, size_t width, uint64_t rounds);
 uint8_t r6_core_agrees(size_t slots, uint8_t rows, size_t width, uint64_t rounds);
+uint8_t r6_core_rebuild(bool eight, uint64_t rounds);
+uint8_t r6_core_rebuild_alone(uint64_t rows);
+uint8_t r6_core_rebuild_agrees(bool eight, uint64_t rounds);
 uint8_t r6_core_deliver(bool one_row, bool writes, uint64_t requests, uint64_t rounds);
 uint8_t r6_table_rounds(uint32_t capacity, uint32_t entries, uint64_t rounds);
 uint8_t r6_core_make(size_t slots, uint64_t chunk, size_t block, uint64_t rows);
@@ -94,11 +98,11 @@ static double seconds(void)
 
 /* what is measured */
 struct work {
-    enum { SERVE, ALONE, DELIVER, TABLE } kind;
+    enum { SERVE, ALONE, REBUILD, REBUILD_ALONE, DELIVER, TABLE } kind;
     enum rows rows;
     bool writes;
     uint32_t slots; /* or a table's room */
-    uint32_t count; /* requests, or entries */
+    uint32_t count; /* requests, entries, or rows at a time */
     uint64_t rounds;
 };
 
@@ -111,6 +115,12 @@ static void do_rounds(const struct work *work, uint64_t rounds)
     case ALONE:
         check(r6_core_alone(work->slots, work->rows, work->writes, work->count, rounds));
         break;
+    case REBUILD:
+        check(r6_core_rebuild(work->count == 8, rounds));
+        break;
+    case REBUILD_ALONE:
+        check(r6_core_rebuild_alone(work->count * rounds));
+        break;
     case DELIVER:
         check(r6_core_deliver(work->rows == ONE_ROW, work->writes, work->count, rounds));
         break;
@@ -120,20 +130,16 @@ static void do_rounds(const struct work *work, uint64_t rounds)
     }
 }
 
-/* the least time of so many rounds, with all that is made before the first */
-static double least_seconds_of(const struct work *work, uint64_t rounds)
+/* the time of so many rounds, with all that is made before the first */
+static double seconds_of(const struct work *work, uint64_t rounds)
 {
-    double least = 1e9;
-    for (int i = 0; i < TRIES; i++) {
-        empty_arena();
-        double begun = seconds();
-        do_rounds(work, rounds);
-        double time = seconds() - begun;
-        if (time < least)
-            least = time;
-    }
-    return least;
+    empty_arena();
+    double begun = seconds();
+    do_rounds(work, rounds);
+    return seconds() - begun;
 }
+
+static double lesser(double one, double other) { return one < other ? one : other; }
 
 /* how many blocks the heap hands out for so many rounds */
 static uint64_t blocks_of(const struct work *work, uint64_t rounds)
@@ -143,15 +149,30 @@ static uint64_t blocks_of(const struct work *work, uint64_t rounds)
     return blocks_handed_out;
 }
 
-/* the least time of a round, without that of making the array */
-static double seconds_a_round(const struct work *work)
+/* the first rounds may take room for a queue, and later ones nothing */
+static void check_memory(const struct work *work, uint64_t few, uint64_t many)
 {
-    /* the first rounds may take room for a queue, and later ones nothing */
-    if (blocks_of(work, 300) != blocks_of(work, 600)) {
+    if (blocks_of(work, few) != blocks_of(work, many)) {
         fprintf(stderr, "a round took memory\n");
         exit(1);
     }
-    return (least_seconds_of(work, work->rounds) - least_seconds_of(work, 0)) / (double)work->rounds;
+}
+
+static bool is_rebuild(const struct work *work) { return work->kind == REBUILD || work->kind == REBUILD_ALONE; }
+
+/* the least time of a round, without that of making the array: tries with and without rounds take turns */
+static double seconds_a_round(const struct work *work)
+{
+    if (is_rebuild(work))
+        check_memory(work, work->rounds / 2, work->rounds);
+    else
+        check_memory(work, 300, 600);
+    double with = 1e9, without = 1e9;
+    for (int i = 0; i < (is_rebuild(work) ? REBUILD_TRIES : TRIES); i++) {
+        with = lesser(with, seconds_of(work, work->rounds));
+        without = lesser(without, seconds_of(work, 0));
+    }
+    return (with - without) / (double)work->rounds;
 }
 
 static const struct {
@@ -179,6 +200,21 @@ static void print_requests(void)
             printf("%-8s %6u %10s %6u %10.0f %10.0f %10.0f\n", writes ? "writes" : "reads", work.slots, words[work.rows],
                    width, served, alone, served - alone);
         }
+    }
+}
+
+/* each row is rebuilt once, so that there are no more rounds than rows */
+enum { ROWS = 256 };
+
+static void print_rebuilds(void)
+{
+    printf("\n%-8s %10s %10s %10s\n", "rebuilds", "core ns", "alone ns", "ratio");
+    for (uint32_t width = 1; width <= 8; width += 7) {
+        struct work work = {REBUILD, APART, true, 6, width, ROWS / width};
+        double served = seconds_a_round(&work) / width * 1e9;
+        work.kind = REBUILD_ALONE;
+        double alone = seconds_a_round(&work) / width * 1e9;
+        printf("%-8u %10.0f %10.0f %10.2f\n", width, served, alone, served / alone);
     }
 }
 
@@ -231,12 +267,20 @@ static void compare_blocks(void)
             exit(1);
         }
     }
+    for (int eight = 0; eight <= 1; eight++) {
+        empty_arena();
+        if (r6_core_rebuild_agrees(eight, eight ? ROWS / 8 : ROWS) != 0) {
+            fprintf(stderr, "the core's rebuild leaves other blocks than that alone\n");
+            exit(1);
+        }
+    }
 }
 
 int main(void)
 {
     compare_blocks();
     print_requests();
+    print_rebuilds();
     print_completions();
     print_tables();
     print_memory();

@@ -1,7 +1,11 @@
 //! Whether the core's writes leave what the same writes leave that are done alone.
 
+ghost use Rattle.std.specs.Prelude.{◌≤◌};
+
 use crate::alone::alone;
 use crate::array::{BLOCK, Failed, Work};
+use crate::rebuild::{geometry_of, rebuild};
+use crate::rebuild_alone::rebuild_alone;
 use crate::serve::serve;
 use r6_dev::{BlockDevice, MemoryDevice};
 use r6_kernels::Buffer;
@@ -12,6 +16,16 @@ pub(crate) fn agree(alloc: Global, work: &Work) -> Result<bool, Failed> {
     let rows = work.geometry()?.rows();
     let mut served = serve(alloc, work)?;
     let mut alone = alone(alloc, work)?;
+    have_same_blocks(alloc, rows, &mut served, &mut alone)
+}
+
+/// Rebuilds rows both ways, and says whether the devices have the same blocks then.
+pub(crate) fn agree_on_rebuild(alloc: Global, width: usize, rounds: u64) -> Result<bool, Failed>
+    requires { (1 ≤ width) × (width ≤ 8) }
+{
+    let rows = geometry_of()?.rows();
+    let mut served = rebuild(alloc, width, rounds)?;
+    let mut alone = rebuild_alone(alloc, (width as u64).wrapping_mul(rounds))?;
     have_same_blocks(alloc, rows, &mut served, &mut alone)
 }
 

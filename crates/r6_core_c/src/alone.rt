@@ -15,10 +15,10 @@ const MOST_RECONSTRUCTED: usize = 4;
 /// Where the blocks of a row stand.
 #[derive(Copy, Clone)]
 pub(crate) struct Place {
-    row: u64,
+    pub(crate) row: u64,
     // The slot of the first block of data. The next stands in the next slot.
-    first: usize,
-    slots: usize,
+    pub(crate) first: usize,
+    pub(crate) slots: usize,
 }
 
 impl Place {
@@ -69,7 +69,7 @@ fn places_of(alloc: Global, geometry: &Geometry, work: &Work) -> Result<Vec<Plac
 }
 
 impl Row {
-    fn new(alloc: Global, count: usize) -> Result<Row, Failed>
+    pub(crate) fn new(alloc: Global, count: usize) -> Result<Row, Failed>
         requires count { 2 ≤ count }
         requires few { count ≤ 30 }
         ensures { IfOk result IsSized }
@@ -203,7 +203,7 @@ impl Row {
     }
 }
 
-fn get(
+pub(crate) fn get(
     devices: &mut Vec<MemoryDevice>,
     place: &Place,
     position: usize,
@@ -216,7 +216,7 @@ fn get(
     Ok(())
 }
 
-fn put(
+pub(crate) fn put(
     devices: &mut Vec<MemoryDevice>,
     place: &Place,
     position: usize,

@@ -126,18 +126,20 @@ fn without_slot_0(geometry: &Geometry) -> Snapshot
     Snapshot::start(geometry, 1)
 }
 
-/// The core of an array in one shard.
+/// The core of an array in one shard, which rebuilds so many rows at a time.
 pub(crate) fn core_of(
     alloc: Global,
     geometry: &Geometry,
+    window: usize,
     snapshot: &Snapshot,
 ) -> Result<Core, Failed>
+    requires window { (1 ≤ window) × (window ≤ 8) }
     requires limits { IsShape geometry.now }
     requires one { geometry.now.shards ≡ 1 }
     requires no_attach { snapshot.now.attaches ≡ 0 }
     requires unfailed { snapshot.now.failed ≡ false }
 {
-    Ok(Core::new(alloc, *geometry, 0, 1, snapshot)?)
+    Ok(Core::new(alloc, *geometry, 0, window, snapshot)?)
 }
 
 /// A device for each slot, of zeros.

@@ -27,7 +27,7 @@ pub(crate) fn deliver(
 ) -> Result<(), Failed> {
     let geometry = Geometry::new(SLOTS, 1, SHORTEST, ROWS, 1)?;
     let snapshot = whole(&geometry);
-    let mut core = core_of(alloc, &geometry, &snapshot)?;
+    let mut core = core_of(alloc, &geometry, 1, &snapshot)?;
     let rows = if one_row { 1 } else { ROWS };
     for number in 0..requests {
         let buffer = Buffer::new(alloc, SHORTEST)?;

@@ -10,6 +10,8 @@ mod agree;
 mod alone;
 mod array;
 mod deliver;
+mod rebuild;
+mod rebuild_alone;
 mod serve;
 mod table;
 
@@ -71,6 +73,47 @@ pub extern "C" fn r6_core_agrees(
         Ok(false) => 1,
         Err(Failed) => 1,
     }
+}
+
+/// Rebuilds rows of a slot by the core of an array of 6 slots, one or eight in each round, at most 256 in all.
+#[unsafe(no_mangle)]
+pub extern "C" fn r6_core_rebuild(alloc: Global, eight: bool, rounds: u64) -> u8
+    ensures { result ≤ 1 }
+{
+    match rebuild::rebuild(alloc, width_of(eight), rounds) {
+        Ok(_) => 0,
+        Err(Failed) => 1,
+    }
+}
+
+/// Does the reads, the recovery and the write of as many rows of the same devices, without a core.
+#[unsafe(no_mangle)]
+pub extern "C" fn r6_core_rebuild_alone(alloc: Global, rows: u64) -> u8
+    ensures { result ≤ 1 }
+{
+    match rebuild_alone::rebuild_alone(alloc, rows) {
+        Ok(_) => 0,
+        Err(Failed) => 1,
+    }
+}
+
+/// Answers 0 if a rebuild leaves the same blocks on the devices, by the core and alone.
+#[unsafe(no_mangle)]
+pub extern "C" fn r6_core_rebuild_agrees(alloc: Global, eight: bool, rounds: u64) -> u8
+    ensures { result ≤ 1 }
+{
+    match agree::agree_on_rebuild(alloc, width_of(eight), rounds) {
+        Ok(true) => 0,
+        Ok(false) => 1,
+        Err(Failed) => 1,
+    }
+}
+
+// How many rows are rebuilt at a time.
+fn width_of(eight: bool) -> usize
+    ensures { (1 ≤ result) × (result ≤ 8) }
+{
+    if eight { 8 } else { 1 }
 }
 
 fn work(slots: usize, rows: u8, writes: bool, width: usize, rounds: u64) -> Work
@@ -139,5 +182,5 @@ pub extern "C" fn r6_core_make(
 
 fn make(alloc: Global, slots: usize, chunk: u64, block: usize, rows: u64) -> Result<Core, Failed> {
     let geometry = Geometry::new(slots, chunk, block, rows, 1)?;
-    array::core_of(alloc, &geometry, &array::whole(&geometry))
+    array::core_of(alloc, &geometry, 1, &array::whole(&geometry))
 }

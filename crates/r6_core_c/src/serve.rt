@@ -11,7 +11,7 @@ use std::collections::VecDeque;
 pub(crate) fn serve(alloc: Global, work: &Work) -> Result<Vec<MemoryDevice>, Failed> {
     let geometry = work.geometry()?;
     let snapshot = work.snapshot(&geometry);
-    let mut core = core_of(alloc, &geometry, &snapshot)?;
+    let mut core = core_of(alloc, &geometry, 1, &snapshot)?;
     let mut devices = devices_of(alloc, &geometry)?;
     let mut buffers = buffers_of(alloc, BLOCK, work.width)?;
     for _ in 0..work.rounds {
@@ -38,7 +38,7 @@ fn submit_all(core: &mut Core, buffers: &mut VecDeque<Buffer>, work: &Work) {
 }
 
 // Takes every command, which its device performs and whose completion is delivered.
-fn drive(core: &mut Core, devices: &mut Vec<MemoryDevice>) {
+pub(crate) fn drive(core: &mut Core, devices: &mut Vec<MemoryDevice>) {
     for _ in 0..u64::MAX {
         let Some(command) = core.take_command() else {
             return;

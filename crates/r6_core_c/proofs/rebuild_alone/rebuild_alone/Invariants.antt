@@ -1,0 +1,5 @@
+use Rattle.r6_core_c.specs.Alone.{IsSized}
+use Rattle.r6_core_c.proofs.rebuild_alone.rebuild_alone.Given as goal
+
+abbrev pub invariant-loop-number : goal.invariant-loop-number
+invariant-loop-number l = IsSized l.room
