@@ -8,12 +8,12 @@ use Rattle.r6_world.specs.ShardStates.{Shard}
 use Rattle.r6_world.specs.Steps.{Event, Submit, Look, Turn_started, Turn_skipped, No_command, No_call, Take_reply, No_reply, Step}
 use Rattle.r6_world.specs.Worlds.{World, Happening, Core, Moment, MayCome, happened, next, broken_by}
 use Rattle.r6_world.proofs.Tables.{put-same}
-use Rattle.r6_course.specs.Courses.{Start, first_world, marked, Stand, Tells, Follows}
+use Rattle.r6_course.specs.Courses.{Start, first_world, marked, looked_by, Stand, Tells, Follows}
 use Rattle.r6_course.specs.Steps.{CoursesBegin, IsPlainCall, CallsGoOn}
-use Rattle.r6_course.proofs.Reached.{begins, reach}
+use Rattle.r6_course.proofs.Reached.{begins, reach, begins-looked, reach-looked}
 
 pub courses_begin : CoursesBegin
-courses_begin s part tells = record { world = first_world s; reached = begins s; shard = refl; register = refl; parts = tells }
+courses_begin s part tells = record { world = first_world s; reached = begins s; shard = refl; register = refl; looked = begins-looked s; parts = tells }
 
 pub both : {A : Type 0} (b : Bool) (x : A) → (if b then x else x) ≡ x
 both true x = refl
@@ -67,7 +67,7 @@ calls : (s : Start) (at : Stand) (x : Follows s at) (event : Event) (new : Shard
     → MayCome x.world s.number event
     → Step s.layout s.number at.shard event new
     → broken_by (x.world.shard s.number) event (x.world.broken s.number) ≡ x.world.broken s.number
-    → Follows s (record at { shard = new; history = marked event at.history })
+    → Follows s (record at { shard = new; looked = looked_by event at.looked; history = marked event at.history })
 calls s at x event new below come step unbroken =
     let n = s.number in
     let w = x.world in
@@ -78,6 +78,7 @@ calls s at x event new below come step unbroken =
       reached = reach s w at.history x.reached m (below, come, subst (λ (y : Shard). Step l n y event new) (sym x.shard) step) refl;
       shard = put-same w.shard n new n refl;
       register = x.register;
+      looked = reach-looked s w at.history x.reached m _ _ at.looked x.looked;
       parts = λ slot g telling there ok.
           shown-tells s w (Core n event new) (λ slot g row. refl) slot g telling
           (x.parts slot g telling there (ap (λ (y : ℕ → ℕ → Bool). y slot g) (sym (put-same w.broken n _ n refl ∙ unbroken)) ∙ ok));

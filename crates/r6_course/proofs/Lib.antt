@@ -3,6 +3,7 @@ pub mod Reached
 pub mod Calls
 pub mod Performing
 pub mod Register
+pub mod Looked
 pub mod Handing
 pub mod Acting
 pub mod Requests

@@ -13,9 +13,9 @@ use Rattle.r6_world.specs.Worlds.{World, Devices, Core, Perform, Moment, next, b
 use Rattle.r6_world.proofs.Tables.{put-same, put-other, None-not_Some, Some-inj}
 use Rattle.r6_world.proofs.Acts.Points.{put_in-same, put_in-other, put_in-apart}
 use Rattle.r6_world.proofs.Rows.Flights.{not-flying}
-use Rattle.r6_course.specs.Courses.{Start, IsLawful, Reached, Stand, Tells, Follows}
+use Rattle.r6_course.specs.Courses.{Start, IsLawful, Reached, looked_of, Stand, Tells, Follows}
 use Rattle.r6_course.specs.Steps.{PerformingGoesOn, Does, FailureGoesOn}
-use Rattle.r6_course.proofs.Reached.{reach, kept, unflown}
+use Rattle.r6_course.proofs.Reached.{reach, reach-looked, kept, unflown}
 use Rattle.r6_course.proofs.Calls.{both, shown, tells-alike}
 
 -- a command that isn't taken is not in flight, so it was not performed
@@ -45,6 +45,7 @@ record Taken (s : Start) (at : Stand) (x : Follows s at) (token : ℕ) (c : Comm
   reached : Reached s world at.history
   shard : world.shard s.number ≡ middle
   register : world.register ≡ x.world.register
+  looked : looked_of 0 reached.moments ≡ at.looked
   flies : world.flight s.number token ≡ Some c
   performed : world.performed s.number token ≡ None
   broken : (d g : ℕ) → world.broken s.number d g ≡ x.world.broken s.number d g
@@ -78,6 +79,7 @@ takes s lawful at x token c middle block step =
           (lawful.number, record {}, subst (λ (y : Shard). Step l n y (Take_command token c) middle) (sym x.shard) step) refl;
       shard = put-same w.shard n middle n refl;
       register = refl;
+      looked = reach-looked s w at.history x.reached m _ _ at.looked x.looked;
       flies = put_in-same w.flight n token (Some c) token refl;
       performed = unperformed s lawful at x token c middle step;
       broken = broken-same;
@@ -195,6 +197,7 @@ performing_goes_on s lawful at token c block receipt new behind x p =
           (lawful.number, brought, subst (λ (y : Shard). Step l n y (Deliver token (Good block) receipt) new) (sym t.shard) p.delivered) refl;
       shard = put-same w'.shard n new n refl;
       register = t.register ∙ x.register;
+      looked = reach-looked s w' at.history reached' m' _ _ at.looked (reach-looked s w at.history t.reached m _ _ at.looked t.looked);
       parts = λ slot g found there ok.
           tells-alike s (performed_on w.device c c.transfer slot g) (w''.device slot g) found (λ row in'. device-is slot g row)
           (elim (part-cases at.part c.slot c.generation behind slot g found there) [
@@ -258,6 +261,7 @@ failure_goes_on s lawful at token c receipt new part x p others =
           (lawful.number, record {}, subst (λ (y : Shard). Step l n y (Deliver token Error receipt) new) (sym t.shard) p.delivered) refl;
       shard = put-same w.shard n new n refl;
       register = t.register ∙ x.register;
+      looked = reach-looked s w at.history t.reached m _ _ at.looked t.looked;
       parts = λ slot g found at' ok.
           let other : (slot ≡ c.slot) × (g ≡ c.generation) → ⊥ =
           (λ same. true≢false (sym (broken-own out (record c { taken = true; transfer = handed c.transfer }) (w.broken n) there)

@@ -1,5 +1,5 @@
 -- Runs of a shard go on, one happening at a time.
-use Rattle.std.proofs.Common.{◌≡◌, ℕ, List, [], ◌∷◌, ◌++◌, inl, inr, refl, sym, ap, subst, ◌∙◌, Option, Some, None}
+use Rattle.std.proofs.Common.{◌≡◌, ℕ, List, [], ◌∷◌, ◌++◌, append_assoc, inl, inr, refl, sym, ap, subst, ◌∙◌, Option, Some, None}
 use Rattle.std.proofs.lemmas.Bool.{cases_eq}
 use Rattle.r6_world.specs.PlainArray.{Block, Plain}
 use Rattle.r6_world.specs.Layouts.{Layout}
@@ -14,9 +14,10 @@ use Rattle.r6_world.proofs.Witness.Pieces.{after-append}
 use Rattle.r6_world.proofs.Laws.Judged.{IsIn as IsOfJudged}
 use Rattle.r6_world.proofs.Laws.Headline.{Kept, one_step}
 use Rattle.r6_world.proofs.Laws.Starts.{kept-start}
-use Rattle.r6_course.specs.Courses.{Start, first_world, IsLawful, Mark, history_after, history_of, Reached}
+use Rattle.r6_course.specs.Courses.{Start, first_world, IsLawful, Mark, history_after, history_of, looked_after, looked_of, Reached}
+use Rattle.r6_course.proofs.Lists.{none-behind}
 
-run-append : (l : Layout) (w : World) (a b : List Moment) → Run l IsByAnyone w a
+pub run-append : (l : Layout) (w : World) (a b : List Moment) → Run l IsByAnyone w a
     → Run l IsByAnyone (after_all l w a) b → Run l IsByAnyone w (a ++ b)
 run-append l w [] b r s = s
 run-append l w (m ∷ a) b r s = (r.0, run-append l (next l w m) a b r.1 s)
@@ -29,6 +30,12 @@ history-append : (history : List Mark) (a b : List Moment)
     → history_of history (a ++ b) ≡ history_of (history_of history a) b
 history-append history [] b = refl
 history-append history (m ∷ a) b = history-append (history_after m.happening history) a b
+
+-- what the core looked at last, once one more thing has happened
+pub looked-more : (looked : ℕ) (moments : List Moment) (m : Moment)
+    → looked_of looked (moments ++ m ∷ []) ≡ looked_after m.happening (looked_of looked moments)
+looked-more looked [] m = refl
+looked-more looked (first ∷ moments) m = looked-more (looked_after first.happening looked) moments m
 
 -- nothing has happened
 pub begins : (s : Start) → Reached s (first_world s) []
@@ -48,6 +55,17 @@ reach s w history x m possible own =
       marks = history-append [] x.moments (m ∷ []) ∙ ap (history_after m.happening) x.marks;
     }
 
+-- what the core looked at last, where one more thing happens
+pub reach-looked : (s : Start) (w : World) (history : List Mark) (x : Reached s w history) (m : Moment)
+    (possible : Possible s.layout IsByAnyone w m.happening) (own : IsOfShard s.number m.happening) (looked : ℕ)
+    → looked_of 0 x.moments ≡ looked → looked_of 0 (reach s w history x m possible own).moments ≡ looked_after m.happening looked
+unfolding reach
+reach-looked s w history x m possible own looked same = looked-more 0 x.moments m ∙ ap (looked_after m.happening) same
+
+pub begins-looked : (s : Start) → looked_of 0 (begins s).moments ≡ 0
+unfolding begins
+begins-looked s = refl
+
 -- ---- what each step keeps holds of every world that is reached
 
 pub is-of : (n : ℕ) (h : Happening) → IsOfShard n h → IsOfJudged (λ m. m ≡ n) h
@@ -60,8 +78,35 @@ is-of n (Outside call) e = e
 abbrev pub IsKept : (s : Start) → IsLawful s → World → Plain → Type 0
 IsKept s lawful w plain = Kept s.layout lawful.layout (λ m. m ≡ s.number) IsByAnyone w plain
 
-module _ (s : Start) (lawful : IsLawful s) (P : World → List Mark → Plain → Type 0) where
+module _ (s : Start) (lawful : IsLawful s) (P : World → List Moment → Plain → Type 0) where
   -- one step keeps it
+  abbrev pub MomentKeeps : Type 0
+  MomentKeeps =
+      (w : World) (before : List Moment) (plain : Plain) (m : Moment) → IsKept s lawful w plain → P w before plain
+      → Possible s.layout IsByAnyone w m.happening → IsOfShard s.number m.happening
+      → let new = next s.layout w m in let plain' = plain_after w (acting s.layout w new) plain in
+      IsKept s lawful new plain' → P new (before ++ m ∷ []) plain'
+
+  along : MomentKeeps → (moments before : List Moment) (w : World) (plain : Plain) → IsKept s lawful w plain → P w before plain
+      → AreOfShard s.number moments → Run s.layout IsByAnyone w moments
+      → (last : Plain) × IsKept s lawful (after_all s.layout w moments) last × P (after_all s.layout w moments) (before ++ moments) last
+  along keeps [] before w plain x p own run = (plain, x, subst (λ y. P w y plain) (sym (none-behind before)) p)
+  along keeps (m ∷ moments) before w plain x p own run =
+      let new = next s.layout w m in
+      let step = one_step s.layout lawful.layout (λ k. k ≡ s.number) IsByAnyone m.happening m.noise w plain x (is-of s.number m.happening own.0) run.0 in
+      let rest = along keeps moments (before ++ m ∷ []) new (plain_after w (acting s.layout w new) plain) step.1
+      (keeps w before plain m x p run.0 own.0 step.1) own.1 run.1 in
+      (rest.0, rest.1, subst (λ y. P (after_all s.layout new moments) y rest.0) (append_assoc before (m ∷ []) moments) rest.2)
+
+  pub holds-along : P (first_world s) [] (at_start s.array) → MomentKeeps → (w : World) (history : List Mark) (x : Reached s w history)
+      → (plain : Plain) × IsKept s lawful w plain × P w x.moments plain
+  holds-along first keeps w history x =
+      let start = kept-start s.layout lawful.layout (λ m. m ≡ s.number) IsByAnyone s.register s.device s.array lawful.start in
+      let last = along keeps x.moments [] (first_world s) (at_start s.array) start first x.own x.run in
+      (last.0, subst (λ y. IsKept s lawful y last.0) x.world last.1, subst (λ y. P y x.moments last.0) x.world last.2)
+
+-- the same, of what the users saw
+module _ (s : Start) (lawful : IsLawful s) (P : World → List Mark → Plain → Type 0) where
   abbrev pub StepKeeps : Type 0
   StepKeeps =
       (w : World) (history : List Mark) (plain : Plain) (m : Moment) → IsKept s lawful w plain → P w history plain
@@ -69,25 +114,15 @@ module _ (s : Start) (lawful : IsLawful s) (P : World → List Mark → Plain �
       → let new = next s.layout w m in let plain' = plain_after w (acting s.layout w new) plain in
       IsKept s lawful new plain' → P new (history_after m.happening history) plain'
 
-  along : StepKeeps → (moments : List Moment) (w : World) (history : List Mark) (plain : Plain) → IsKept s lawful w plain → P w history plain
-      → AreOfShard s.number moments → Run s.layout IsByAnyone w moments
-      → (last : Plain) × IsKept s lawful (after_all s.layout w moments) last × P (after_all s.layout w moments) (history_of history moments) last
-  along keeps [] w history plain x p own run = (plain, x, p)
-  along keeps (m ∷ moments) w history plain x p own run =
-      let new = next s.layout w m in
-      let step = one_step s.layout lawful.layout (λ k. k ≡ s.number) IsByAnyone m.happening m.noise w plain x (is-of s.number m.happening own.0) run.0 in
-      along keeps moments new (history_after m.happening history) (plain_after w (acting s.layout w new) plain) step.1
-      (keeps w history plain m x p run.0 own.0 step.1) own.1 run.1
-
   pub holds-throughout : P (first_world s) [] (at_start s.array) → StepKeeps → (w : World) (history : List Mark) → Reached s w history
       → (plain : Plain) × IsKept s lawful w plain × P w history plain
   holds-throughout first keeps w history x =
-      let start = kept-start s.layout lawful.layout (λ m. m ≡ s.number) IsByAnyone s.register s.device s.array lawful.start in
-      let last = along keeps x.moments (first_world s) [] (at_start s.array) start first x.own x.run in (
-        last.0,
-        subst (λ y. IsKept s lawful y last.0) x.world last.1,
-        subst (λ y. P w y last.0) x.marks (subst (λ y. P y (history_of [] x.moments) last.0) x.world last.2),
-      )
+      let y = holds-along s lawful (λ w before plain. P w (history_of [] before) plain) first
+      (λ w before plain m k p possible own k'.
+      let new = next s.layout w m in
+      subst (λ z. P new z (plain_after w (acting s.layout w new) plain)) (sym (history-append [] before (m ∷ [])))
+      (keeps w (history_of [] before) plain m k p possible own k')) w history x in
+      (y.0, y.1, subst (λ z. P w z y.0) x.marks y.2)
 
 -- the world is as the laws of r6_world keep it
 pub kept : (s : Start) (lawful : IsLawful s) (w : World) (history : List Mark) → Reached s w history

@@ -12,7 +12,7 @@ use Rattle.r6_world.specs.Worlds.{World, Devices, Moment, slot_at_start}
 use Rattle.r6_world.specs.Witness.{small, after_all, CourseFrom}
 use Rattle.r6_world.proofs.Tables.{not_both, Some-inj, count-le}
 use Rattle.r6_world.proofs.Witness.Course as world
-use Rattle.r6_course.specs.Courses.{Start, first_world, IsLawful, marked, history_of, Stand, Tells, Follows}
+use Rattle.r6_course.specs.Courses.{Start, first_world, IsLawful, marked, history_of, looked_of, Stand, Tells, Follows}
 use Rattle.r6_course.specs.Witness.{all_tell, small_start, BeginsHeld, AnswersFrom, WitnessLaw}
 use Rattle.r6_course.proofs.Calls.{calls_go_on}
 
@@ -81,12 +81,19 @@ answers r device array new_data lawful c =
     let s : Start = small_start r device array in
     let moments : List Moment = c.write ++ c.loss ++ c.degraded_read ++ c.attach ++ c.rebuild ++ c.read in
     let w : World = after_all small (first_world s) moments in
-    let before : Stand = record { shard = w.shard 0; register = w.register; part = all_tell w.device; history = history_of [] moments } in
+    let before : Stand = record {
+      shard = w.shard 0;
+      register = w.register;
+      looked = looked_of 0 moments;
+      part = all_tell w.device;
+      history = history_of [] moments;
+    } in
     let run : Follows s before = record {
       world = w;
       reached = record { moments = moments; own = c.is_run.of_shard; run = c.is_run.beside_anyone; world = refl; marks = refl };
       shard = refl;
       register = refl;
+      looked = refl;
       parts = λ slot g telling there ok. tells-all s w.device slot g telling there;
     } in
     let new : Shard = after small (w.shard 0) (Hand_reply 2 (Read 0) (Data new_data)) in

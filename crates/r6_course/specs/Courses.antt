@@ -6,7 +6,7 @@ use Rattle.r6_world.specs.PlainArray.{Block, Array, Op, Reply}
 use Rattle.r6_world.specs.Layouts.{Layout, IsLayout, IsRowOf}
 use Rattle.r6_world.specs.Registers.{Snapshot}
 use Rattle.r6_world.specs.ShardStates.{Shard}
-use Rattle.r6_world.specs.Steps.{Event, Submit, Take_reply}
+use Rattle.r6_world.specs.Steps.{Event, Submit, Look, Take_reply}
 use Rattle.r6_world.specs.Worlds.{World, Devices, Happening, Core, Perform, Tell, Outside, Moment, Run}
 use Rattle.r6_world.specs.Worlds.{started, shard_at_start}
 use Rattle.r6_world.specs.Claims.{IsLawfulStart}
@@ -50,6 +50,21 @@ abbrev pub history_of : List Mark → List Moment → List Mark
 history_of history [] = history
 history_of history (m ∷ moments) = history_of (history_after m.happening history) moments
 
+-- the attaches of the register that the core saw when it looked last, at first 0
+abbrev pub looked_by : Event → ℕ → ℕ
+looked_by (Look seen) looked = seen.attaches
+looked_by event looked = looked
+
+abbrev pub looked_after : Happening → ℕ → ℕ
+looked_after (Core n event new) looked = looked_by event looked
+looked_after (Perform n token c) looked = looked
+looked_after (Tell n call answer middle new) looked = looked
+looked_after (Outside call) looked = looked
+
+abbrev pub looked_of : ℕ → List Moment → ℕ
+looked_of looked [] = looked
+looked_of looked (m ∷ moments) = looked_of (looked_after m.happening looked) moments
+
 -- a run of the shard, beside calls that anyone makes at the register, leads from its start to this world, and its users
 -- saw this
 pub record Reached (s : Start) (w : World) (history : List Mark) : Type 0 where
@@ -59,11 +74,12 @@ pub record Reached (s : Start) (w : World) (history : List Mark) : Type 0 where
   pub world : after_all s.layout (first_world s) moments ≡ w
   pub marks : history_of [] moments ≡ history
 
--- where a shard stands: its core, the register as it was last seen, what its parts tell by slot and generation (none:
--- no part is there), and what its users saw
+-- where a shard stands: its core, the register as its pass saw it last, the attaches that its core saw when it looked
+-- last, what its parts tell by slot and generation (none: no part is there), and what its users saw
 pub record Stand : Type 0 where
   pub shard : Shard
   pub register : Snapshot
+  pub looked : ℕ
   pub part : ℕ → ℕ → Option Telling
   pub history : List Mark
 
@@ -84,9 +100,16 @@ pub record Follows (s : Start) (at : Stand) : Type 0 where
   pub reached : Reached s world at.history
   pub shard : world.shard s.number ≡ at.shard
   pub register : world.register ≡ at.register
+  pub looked : looked_of 0 reached.moments ≡ at.looked
   pub parts : AreParts s world.device (world.broken s.number) at.part
 
 -- at the start the core is made with the register, and its users saw nothing
 abbrev pub first_stand : Start → (ℕ → ℕ → Option Telling) → Stand
 first_stand s part =
-    record { shard = shard_at_start s.layout s.register s.number; register = s.register; part = part; history = [] }
+    record {
+      shard = shard_at_start s.layout s.register s.number;
+      register = s.register;
+      looked = 0;
+      part = part;
+      history = [];
+    }

@@ -11,8 +11,8 @@ use Rattle.r6_world.specs.Registers.{Snapshot, Told as Answer}
 use Rattle.r6_world.specs.ShardStates.{Shard, Command, Transfer, Fetch, Store, Storing, Call}
 use Rattle.r6_world.specs.Steps.{Event, Submit, Deliver, Good, Error, Receipt, Look, Take_command, No_command, Take_call}
 use Rattle.r6_world.specs.Steps.{No_call, Told, Take_reply, No_reply, Turn_started, Turn_skipped, Step}
-use Rattle.r6_world.specs.Worlds.{as_made}
-use Rattle.r6_course.specs.Courses.{Start, IsLawful, Stand, Tells, AreParts, Follows, first_stand, marked}
+use Rattle.r6_world.specs.Worlds.{Devices, as_made}
+use Rattle.r6_course.specs.Courses.{Start, IsLawful, Stand, Tells, AreParts, Follows, first_stand, marked, looked_by}
 
 -- parts that tell what the devices have at the start
 abbrev pub CoursesBegin : Type 0
@@ -37,7 +37,7 @@ abbrev pub CallsGoOn : Type 0
 CallsGoOn =
     (s : Start) → IsLawful s → (at : Stand) (event : Event) (new : Shard) → Follows s at
     → IsPlainCall at.register event → Step s.layout s.number at.shard event new
-    → Follows s (record at { shard = new; history = marked event at.history })
+    → Follows s (record at { shard = new; looked = looked_by event at.looked; history = marked event at.history })
 
 -- what a part does with a command: a read gives the block, a write puts the command's own
 abbrev pub Does : Telling → Transfer → (row : ℕ) → Block → Telling → Type 0
@@ -99,13 +99,19 @@ TellingGoesOn =
     → Step s.layout s.number middle (Told call answer) new → Answered v (as_made s.number call) answer w
     → Follows s (record at { shard = new; register = held w.start w.seen }) × Knows s w (held w.start w.seen)
 
--- A part is handed in of a device that is attached later: the world has the blocks of devices to come from the start
--- on, and until the attach they stay
+-- the other devices have the same blocks
+abbrev pub OthersAreAlike : (slot generation : ℕ) → Devices → Devices → Type 0
+OthersAreAlike slot generation old new =
+    (other g : ℕ) → ((other ≡ slot) × (g ≡ generation) → ⊥) → new other g ≡ old other g
+
+-- A part is handed in of a device that the core hasn't looked at yet, though it may be attached already. The world has
+-- the blocks of devices to come from the start on, and until the core sees the attach they play no part: whatever they
+-- were taken to be, the same leads there from the start where they are what the part tells
 abbrev pub HandingGoesOn : Type 0
 HandingGoesOn =
-    (s : Start) → IsLawful s → (at : Stand) (slot generation : ℕ) (telling : Telling) → Follows s at
-    → at.register.attaches < generation → Tells s (s.device slot generation) telling
-    → Follows s (record at { part = put_in at.part slot generation (Some telling) })
+    (s : Start) → IsLawful s → (device : Devices) (at : Stand) (slot generation : ℕ) (telling : Telling) → Follows s at
+    → at.looked < generation → OthersAreAlike slot generation s.device device → Tells s (device slot generation) telling
+    → Follows (record s { device = device }) (record at { part = put_in at.part slot generation (Some telling) })
 
 -- parts are let go
 abbrev pub LettingGoesOn : Type 0

@@ -11,7 +11,7 @@ ghost use Rattle.r6_course.specs.Witness.{WitnessLaw};
 /// Parts that tell what the devices have are where a course begins. It goes on by each call of the core; by a
 /// command that is taken, performed in place and delivered; by one that fails, whatever its part tells from then
 /// on; by a look at the register, which others may have changed; by the shard's own call there; by a part that is
-/// handed in of a device which isn't attached yet; and by parts that are let go.
+/// handed in of a device which the core hasn't looked at yet; and by parts that are let go.
 pub fn courses_go_on()
     ensures begins { CoursesBegin }
     ensures calls { CallsGoOn }

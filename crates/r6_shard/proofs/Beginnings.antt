@@ -1,30 +1,28 @@
 -- A shard's course begins.
-use Rattle.std.proofs.Common.{◌≡◌, ℕ, ◌<◌, ◌≤◌, List, [], ◌∷◌, length, Bool, false, inl, inr, refl, sym, ap, subst, ◌∙◌, Option, Some, None}
+use Rattle.std.proofs.Common.{◌≡◌, ℕ, ◌<◌, ◌≤◌, List, [], length, Bool, inl, inr, refl, sym, ap, subst, ◌∙◌, Option}
 use Rattle.r6_dev.specs.History.{Telling}
 use Rattle.r6_layout.specs.Shape.{Shape, IsShape}
 use Rattle.r6_health.specs.declared.history.View.{View}
 use Rattle.r6_health.specs.Histories.{held}
 use Rattle.r6_world.specs.PlainArray.{Array}
-use Rattle.r6_world.specs.Layouts.{Layout}
 use Rattle.r6_world.specs.Geometries.{layout_of}
 use Rattle.r6_world.specs.Registers.{Snapshot}
 use Rattle.r6_world.specs.ShardStates.{Shard}
-use Rattle.r6_world.specs.Worlds.{Devices, shard_at_start}
+use Rattle.r6_world.specs.Worlds.{Devices}
 use Rattle.r6_world.specs.Claims.{IsLawfulStart}
 use Rattle.r6_world.proofs.Geometries.{layouts}
 use Rattle.r6_world.proofs.Tables.{None-not_Some}
-use Rattle.r6_core.specs.Shards.{CoreView, world_shard}
+use Rattle.r6_core.specs.Shards.{CoreView}
 use Rattle.r6_core.specs.Effects.{IsMade}
-use Rattle.r6_course.specs.Courses.{Start, Follows, first_stand}
 use Rattle.r6_course.proofs.Calls.{courses_begin}
 use Rattle.r6_shard.specs.Beginnings.{IsFirstPass, start_of, Hold}
 use Rattle.r6_shard.specs.Kept.{AreNumbered, NoneIsTaken, NoneIsUntold, AreNamed, IsKept}
-use Rattle.r6_shard.specs.Courses.{stand_of, HasCourse}
+use Rattle.r6_shard.specs.Courses.{HasCourse}
 
 pub begun : (geometry : Shape) (number : ℕ) (snapshot : Snapshot) (device : Devices) (array : Array) (core : CoreView) (v : View)
     (part : ℕ → ℕ → Option Telling) → IsShape geometry → number < geometry.shards → IsLawfulStart (layout_of geometry) snapshot device array
     → Hold (start_of geometry number snapshot device array) part → IsMade geometry snapshot number core → IsFirstPass geometry snapshot v
-    → HasCourse (start_of geometry number snapshot device array) core v part [] [] []
+    → HasCourse (start_of geometry number snapshot device array) core v 0 part [] [] []
 begun geometry number snapshot device array core v part limits below lawful hold made first =
     let s = start_of geometry number snapshot device array in
     let now : held v.start v.seen ≡ snapshot = ap (held v.start) first.seen ∙ first.began in
@@ -42,6 +40,7 @@ begun geometry number snapshot device array core v part limits below lawful hold
           reached = y.reached;
           shard = y.shard ∙ sym made.start;
           register = y.register ∙ sym now;
+          looked = y.looked;
           parts = y.parts;
         };
       };

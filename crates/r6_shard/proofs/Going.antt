@@ -18,53 +18,53 @@ use Rattle.r6_core.specs.declared.Command.{Command}
 use Rattle.r6_core.specs.declared.call.Call.{Call}
 use Rattle.r6_core.specs.declared.refusal.DeviceFault.{DeviceFault}
 use Rattle.r6_core.specs.Shards.{CoreView, Step, completion_of, call_of, reply_of}
-use Rattle.r6_course.specs.Courses.{Start, Mark, Asked, Replied, marked}
+use Rattle.r6_course.specs.Courses.{Start, Mark, Asked, Replied, marked, looked_by}
 use Rattle.r6_course.specs.Steps.{IsPlainCall}
 use Rattle.r6_shard.specs.declared.ledger.Asked.{Asked as Accepted}
 use Rattle.r6_shard.specs.declared.ledger.Entry.{Entry}
 use Rattle.r6_shard.specs.Performing.{Performed, Failed}
-use Rattle.r6_shard.specs.Histories.{asked_in, replied_in, answered_before, numbered}
-use Rattle.r6_shard.specs.Courses.{Course, Tells, AreOf, HasCourse, replied_of}
+use Rattle.r6_shard.specs.Histories.{replied_in, numbered}
+use Rattle.r6_shard.specs.Courses.{Course, AreOf, HasCourse, replied_of}
 use Rattle.r6_shard.proofs.Histories.{asked-more, replied-same, before-more, numbered-more, asked-same, replied-more, before-same}
 use Rattle.r6_shard.proofs.Courses.{goes, performed, seen, told}
 
-pub has-gone : (s : Start) (old new : CoreView) (v : View) (part : ℕ → ℕ → Option Telling) (accepted : List Accepted) (entries : List Entry)
+pub has-gone : (s : Start) (old new : CoreView) (v : View) (looked : ℕ) (part : ℕ → ℕ → Option Telling) (accepted : List Accepted) (entries : List Entry)
     (ops : List world.Op) (event : Event) → IsPlainCall (held v.start v.seen) event → ((history : List Mark) → marked event history ≡ history)
-    → Step old event new → HasCourse s old v part accepted entries ops → HasCourse s new v part accepted entries ops
-has-gone s old new v part accepted entries ops event plain unmarked step x =
+    → Step old event new → HasCourse s old v looked part accepted entries ops → HasCourse s new v (looked_by event looked) part accepted entries ops
+has-gone s old new v looked part accepted entries ops event plain unmarked step x =
     record {
       history = x.history;
       tells = x.tells;
-      course = subst (Course s new v part) (unmarked x.history) (goes s old new v part x.history event plain step x.course);
+      course = subst (Course s new v (looked_by event looked) part) (unmarked x.history) (goes s old new v looked part x.history event plain step x.course);
     }
 
-pub has-performed : (s : Start) (old mid new : CoreView) (v : View) (part part' : ℕ → ℕ → Option Telling) (accepted : List Accepted)
+pub has-performed : (s : Start) (old mid new : CoreView) (v : View) (looked : ℕ) (part part' : ℕ → ℕ → Option Telling) (accepted : List Accepted)
     (entries : List Entry) (ops : List world.Op) (c : Command) (frame : ℕ) (abandoned : Rattle.std.proofs.Common.Bool) (receipt : steps.Receipt)
     (completion : Result (List ℕ) DeviceFault) → Step old (Take_command c.token (world_command frame abandoned c)) mid
     → Step mid (Deliver c.token (completion_of completion) receipt) new → MatchResult completion (Performed part part' c) (Failed part part' c)
-    → HasCourse s old v part accepted entries ops → HasCourse s new v part' accepted entries ops
-has-performed s old mid new v part part' accepted entries ops c frame abandoned receipt completion takes delivers did x =
+    → HasCourse s old v looked part accepted entries ops → HasCourse s new v looked part' accepted entries ops
+has-performed s old mid new v looked part part' accepted entries ops c frame abandoned receipt completion takes delivers did x =
     record {
       history = x.history;
       tells = x.tells;
-      course = performed s old mid new v part part' x.history c frame abandoned receipt completion takes delivers did x.course;
+      course = performed s old mid new v looked part part' x.history c frame abandoned receipt completion takes delivers did x.course;
     }
 
-pub has-seen : (s : Start) (core : CoreView) (v w : View) (part : ℕ → ℕ → Option Telling) (accepted : List Accepted) (entries : List Entry)
-    (ops : List world.Op) → Looks v w → HasCourse s core v part accepted entries ops → HasCourse s core w part accepted entries ops
-has-seen s core v w part accepted entries ops look x =
-    record { history = x.history; tells = x.tells; course = seen s core v w part x.history look x.course }
+pub has-seen : (s : Start) (core : CoreView) (v w : View) (looked : ℕ) (part : ℕ → ℕ → Option Telling) (accepted : List Accepted) (entries : List Entry)
+    (ops : List world.Op) → Looks v w → HasCourse s core v looked part accepted entries ops → HasCourse s core w looked part accepted entries ops
+has-seen s core v w looked part accepted entries ops look x =
+    record { history = x.history; tells = x.tells; course = seen s core v w looked part x.history look x.course }
 
-pub has-told : (s : Start) (old mid new : CoreView) (v w : View) (part : ℕ → ℕ → Option Telling) (accepted : List Accepted)
+pub has-told : (s : Start) (old mid new : CoreView) (v w : View) (looked : ℕ) (part : ℕ → ℕ → Option Telling) (accepted : List Accepted)
     (entries : List Entry) (ops : List world.Op) (number : ℕ) (call : Call) (answer : Answer) → number ≡ old.shard
     → Step old (Take_call (call_of call)) mid → Step mid (Told (call_of call) answer) new
     → Answered v (as_made number (call_of call)) answer w
-    → HasCourse s old v part accepted entries ops → HasCourse s new w part accepted entries ops
-has-told s old mid new v w part accepted entries ops number call answer same takes tells answered x =
+    → HasCourse s old v looked part accepted entries ops → HasCourse s new w looked part accepted entries ops
+has-told s old mid new v w looked part accepted entries ops number call answer same takes tells answered x =
     record {
       history = x.history;
       tells = x.tells;
-      course = told s old mid new v w part x.history number call answer same takes tells answered x.course;
+      course = told s old mid new v w looked part x.history number call answer same takes tells answered x.course;
     }
 
 -- ---- requests and replies
@@ -95,11 +95,11 @@ linked-more : (accepted : List Accepted) (entries : List Entry) (e : Entry) → 
 linked-more accepted [] e x below event block = (below, event, block, record {})
 linked-more accepted (first ∷ entries) e x below event block = (x.0, x.1, x.2, linked-more accepted entries e x.3 below event block)
 
-pub has-submitted : (s : Start) (old new : CoreView) (v : View) (part : ℕ → ℕ → Option Telling) (accepted : List Accepted) (entries : List Entry)
+pub has-submitted : (s : Start) (old new : CoreView) (v : View) (looked : ℕ) (part : ℕ → ℕ → Option Telling) (accepted : List Accepted) (entries : List Entry)
     (ops : List world.Op) (event : ℕ) (op : world.Op) (id : ℕ) → id ≡ length accepted → Step old (Submit op id) new
-    → HasCourse s old v part accepted entries ops
-    → HasCourse s new v part (accepted ++ record { event = event; block = block_of op; answered = length entries } ∷ []) entries (ops ++ op ∷ [])
-has-submitted s old new v part accepted entries ops event op id same step x =
+    → HasCourse s old v looked part accepted entries ops
+    → HasCourse s new v looked part (accepted ++ record { event = event; block = block_of op; answered = length entries } ∷ []) entries (ops ++ op ∷ [])
+has-submitted s old new v looked part accepted entries ops event op id same step x =
     let h = x.history in
     let t = x.tells in
     let a : Accepted = record { event = event; block = block_of op; answered = length entries } in
@@ -117,15 +117,15 @@ has-submitted s old new v part accepted entries ops event op id same step x =
             ∙ sym (map-append block_of ops (op ∷ []));
         linked = linked-longer accepted a entries t.linked;
       };
-      course = goes s old new v part h (Submit op id) (record {}) step x.course;
+      course = goes s old new v looked part h (Submit op id) (record {}) step x.course;
     }
 
-pub has-collected : (s : Start) (old new : CoreView) (v : View) (part : ℕ → ℕ → Option Telling) (accepted : List Accepted) (entries : List Entry)
+pub has-collected : (s : Start) (old new : CoreView) (v : View) (looked : ℕ) (part : ℕ → ℕ → Option Telling) (accepted : List Accepted) (entries : List Entry)
     (ops : List world.Op) (e : Entry) → Step old (Take_reply e.id.0 (reply_of e.reply)) new → e.id.0 < length accepted
     → slice_index_or (map (λ (a : Accepted). a.event) accepted) e.id.0 0 ≡ e.event
     → slice_index_or (map (λ (a : Accepted). a.block) accepted) e.id.0 0 ≡ e.block
-    → HasCourse s old v part accepted entries ops → HasCourse s new v part accepted (entries ++ e ∷ []) ops
-has-collected s old new v part accepted entries ops e step below event block x =
+    → HasCourse s old v looked part accepted entries ops → HasCourse s new v looked part accepted (entries ++ e ∷ []) ops
+has-collected s old new v looked part accepted entries ops e step below event block x =
     let h = x.history in
     let t = x.tells in
     record {
@@ -138,7 +138,7 @@ has-collected s old new v part accepted entries ops e step below event block x =
         blocks = t.blocks;
         linked = linked-more accepted entries e t.linked below event block;
       };
-      course = goes s old new v part h (Take_reply e.id.0 (reply_of e.reply)) (record {}) step x.course;
+      course = goes s old new v looked part h (Take_reply e.id.0 (reply_of e.reply)) (record {}) step x.course;
     }
 
 -- ---- of a result
@@ -147,6 +147,14 @@ pub either_way : {A E : Type 0} (r : Result A E) (P : A → Type 0) (Q : E → T
     → ((a : A) → P a → C) → ((e : E) → Q e → C) → C
 either_way (Ok a) P Q C p q on_ok on_err = on_ok a p
 either_way (Err e) P Q C p q on_ok on_err = on_err e q
+
+pub both_ok : {A E : Type 0} (r : Result A E) (P Q : A → Type 0) → IfOk r P → IfOk r Q → IfOk r (λ a. P a × Q a)
+both_ok (Ok a) P Q p q = (p, q)
+both_ok (Err e) P Q p q = p
+
+pub both_err : {A E : Type 0} (r : Result A E) (P Q : E → Type 0) → IfErr r P → IfErr r Q → IfErr r (λ e. P e × Q e)
+both_err (Ok a) P Q p q = p
+both_err (Err e) P Q p q = (p, q)
 
 pub at_err : {A E : Type 0} (r : Result A E) (e : E) (Q : E → Type 0) → r ≡ Err e → IfErr r Q → Q e
 at_err r e Q is h = subst (λ y. IfErr y Q) is h

@@ -1,13 +1,13 @@
 -- What a shard keeps, it keeps with each call.
-use Rattle.std.proofs.Common.{◌≡◌, ◌≢◌, ℕ, ◌+◌, ◌<◌, ◌≤◌, ◌⊎◌, List, [], ◌∷◌, length, Bool, true, false, inl, inr, refl, sym, ap, subst, ◌∙◌, arith, get_or-set_same, get_or-set_other, Option, Some, None, Result, Ok, Err}
+use Rattle.std.proofs.Common.{◌≡◌, ℕ, ◌+◌, ◌<◌, ◌≤◌, ◌⊎◌, List, [], length, Bool, true, false, inl, inr, refl, sym, ap, subst, ◌∙◌, arith, get_or-set_same, get_or-set_other, None, Result, Ok, Err}
 use Rattle.std.specs.Prelude.{slice_index_or, slice_set, is_err}
 use Rattle.std.proofs.lemmas.Bool.{cases_eq}
 use Rattle.std.proofs.lemmas.List.{length-set}
-use Rattle.r6_world.specs.PlainArray.{Op, Reply}
+use Rattle.r6_world.specs.PlainArray.{Op}
 use Rattle.r6_world.specs.Layouts.{Layout}
 use Rattle.r6_world.specs.Registers.{Snapshot, Told as Answer}
 use Rattle.r6_world.specs.ShardStates.{Shard, Command, LossOf, Call}
-use Rattle.r6_world.specs.Changes.{Hand_call, Hear, after}
+use Rattle.r6_world.specs.Changes.{Hand_call, Hear}
 use Rattle.r6_world.specs.Steps as steps
 use Rattle.r6_world.specs.Steps.{Event, Submit, Deliver, Completion, Good, Error, Receipt, Taken, Late, Take_command, No_command, Take_call, No_call, Told}
 use Rattle.r6_world.specs.Refusals.{IsToTell, IsNoError}
@@ -23,10 +23,10 @@ use Rattle.r6_core.specs.declared.turn.Task.TheVariants as task
 use Rattle.r6_core.specs.declared.turn.Turn.{Turn}
 use Rattle.r6_core.specs.declared.turn.Turn.TheVariants.{Started, Skipped}
 use Rattle.r6_core.specs.Effects.{TakesTurn}
-use Rattle.r6_course.specs.Courses.{Start, Stand, Mark, marked}
-use Rattle.r6_course.specs.Steps.{Fails, IsPlainCall}
+use Rattle.r6_course.specs.Courses.{Start, Stand, Mark, marked, looked_by}
+use Rattle.r6_course.specs.Steps.{IsPlainCall}
 use Rattle.r6_course.proofs.Ends.{loss_law}
-use Rattle.r6_shard.specs.Kept.{AreNumbered, NoneIsTaken, NoneIsUntold, AreNamed, named_by, IsKept}
+use Rattle.r6_shard.specs.Kept.{NoneIsUntold, AreNamed, named_by, IsKept}
 use Rattle.r6_shard.proofs.Steps.{still-numbered, one-more, IsBeside, still-untaken, answered-untaken}
 
 -- ---- calls at the register
@@ -131,6 +131,7 @@ abbrev dummy-stand : CoreView → Stand
 dummy-stand core = record {
   shard = world_shard core;
   register = record { slots = []; attaches = 0; failed = false };
+  looked = 0;
   part = λ d g. None;
   history = [];
 }
@@ -236,12 +237,12 @@ kept-performing old mid new token c completion receipt number named count takes 
 -- a turn is a step that leaves no mark
 pub turned : (old : CoreView) (task : Task) (turn : Turn) (new : CoreView) → TakesTurn old task turn new
     → (event : Event) × IsPlain event × ((register : Snapshot) → IsPlainCall register event)
-    × ((history : List Mark) → marked event history ≡ history) × Step old event new
+    × ((history : List Mark) → marked event history ≡ history) × ((looked : ℕ) → looked_by event looked ≡ looked) × Step old event new
 turned old task.Rebuild turn new x =
     let r = x.1 in
     let p = r.4 in
-    (steps.Turn_started (Rebuild r.0 r.1), record {}, λ register. record {}, λ history. refl, (p.0, (p.1, p.2, r.2, p.3, p.4, p.5)))
-turned old task.Check Started new x = (steps.Turn_started Check, record {}, λ register. record {}, λ history. refl, x)
-turned old task.Check Skipped new x = (steps.Turn_skipped Check _, record {}, λ register. record {}, λ history. refl, x)
-turned old task.Repair Started new x = (steps.Turn_started Repair, record {}, λ register. record {}, λ history. refl, x)
-turned old task.Repair Skipped new x = (steps.Turn_skipped Repair _, record {}, λ register. record {}, λ history. refl, x)
+    (steps.Turn_started (Rebuild r.0 r.1), record {}, λ register. record {}, λ history. refl, λ looked. refl, (p.0, (p.1, p.2, r.2, p.3, p.4, p.5)))
+turned old task.Check Started new x = (steps.Turn_started Check, record {}, λ register. record {}, λ history. refl, λ looked. refl, x)
+turned old task.Check Skipped new x = (steps.Turn_skipped Check _, record {}, λ register. record {}, λ history. refl, λ looked. refl, x)
+turned old task.Repair Started new x = (steps.Turn_started Repair, record {}, λ register. record {}, λ history. refl, λ looked. refl, x)
+turned old task.Repair Skipped new x = (steps.Turn_skipped Repair _, record {}, λ register. record {}, λ history. refl, λ looked. refl, x)

@@ -1,5 +1,5 @@
 -- From a shard's course to its ledger.
-use Rattle.std.proofs.Common.{◌≡◌, ℕ, ◌⊎◌, List, [], ◌∷◌, ◌++◌, true, false, inl, inr, refl, sym, ap, subst, ◌∙◌, append_assoc, length, arith, Option, Some, None}
+use Rattle.std.proofs.Common.{◌≡◌, ℕ, List, [], ◌∷◌, ◌++◌, inl, inr, refl, sym, ap, subst, ◌∙◌, append_assoc, length, arith, Option}
 use Rattle.r6_dev.specs.History.{Telling}
 use Rattle.r6_health.specs.Passes.{view_of}
 use Rattle.r6_world.specs.PlainArray as world
@@ -11,7 +11,6 @@ use Rattle.r6_world.specs.Claims.{IsLawfulStart}
 use Rattle.r6_world.proofs.Tables.{not_both}
 use Rattle.r6_frames.specs.Views.{op_of}
 use Rattle.r6_core.specs.declared.refusal.Refusal.{Refusal}
-use Rattle.r6_core.specs.Shards.{world_shard}
 use Rattle.r6_course.specs.Courses.{Start}
 use Rattle.r6_course.proofs.Lists.{none-behind}
 use Rattle.r6_course.proofs.Ledger.{order_law}
@@ -27,7 +26,7 @@ use Rattle.r6_shard.specs.Runs.{AreServed, IsLedger, HandsOver, KeepsAsked, Serv
 pub ledger : {P : Type 0} (tells : P → ℕ → ℕ → Option Telling) (s : Start) (ops : List world.Op) (shard : Shard P)
     → CourseOf tells s ops shard → IsLedger tells s ops shard
 ledger tells s ops shard x =
-    let at = stand_of shard.core (view_of shard.pass) (tells shard.parts) x.history in
+    let at = stand_of shard.core (view_of shard.pass) shard.looked (tells shard.parts) x.history in
     let lawful = x.course.lawful in
     record {
       history = x.history;

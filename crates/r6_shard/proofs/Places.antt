@@ -1,9 +1,9 @@
 -- One part of a list of parts.
-use Rattle.std.proofs.Common.{◌≡◌, ◌≢◌, ℕ, ◌+◌, ◌<◌, zero, suc, List, [], ◌∷◌, length, get_or, Bool, true, false, inl, inr, refl, sym, ap, ◌∙◌, subst, arith, Option, Some, None, Result, Ok, Err}
+use Rattle.std.proofs.Common.{◌≡◌, ℕ, ◌<◌, zero, suc, List, [], ◌∷◌, length, get_or, true, false, inl, inr, sym, ap, ◌∙◌, arith, Some, Result, Ok, Err}
 use Rattle.std.specs.Prelude.{slice_set, MatchResult, ◌==◌, ◌&&◌}
 use Rattle.std.specs.List.{position}
 use Rattle.std.proofs.lemmas.List.Quantifiers.{position-Some}
-use Rattle.std.proofs.lemmas.Bool.{cases_eq, cases_Bool, false≢true, and_parts, eqb-true}
+use Rattle.std.proofs.lemmas.Bool.{cases_Bool, and_parts, eqb-true}
 use Rattle.r6_dev.specs.History.{Telling}
 use Rattle.r6_frames.specs.Views.{given_transfer}
 use Rattle.r6_core.specs.declared.Command.{Command}

@@ -1,19 +1,19 @@
 -- What steps of a shard keep, of what its thread relies on.
-use Rattle.std.proofs.Common.{◌≡◌, ◌≢◌, ℕ, ◌+◌, ◌<◌, ◌⊎◌, List, [], ◌∷◌, ◌++◌, Bool, true, false, inl, inr, refl, sym, ap, subst, ◌∙◌, arith, Option, Some, None, Err}
-use Rattle.std.specs.Prelude.{◌==◌, ◌||◌, nat_lt}
-use Rattle.std.proofs.lemmas.Bool.{cases_eq, cases_Bool, true≢false}
-use Rattle.r6_world.specs.Tables.{put, count_below}
-use Rattle.r6_world.specs.PlainArray.{Op, Reply}
+use Rattle.std.proofs.Common.{◌≡◌, ◌≢◌, ℕ, ◌+◌, List, [], ◌∷◌, Bool, true, false, inl, inr, refl, sym, ap, subst, ◌∙◌, arith, Option, Some, None}
+use Rattle.std.specs.Prelude.{◌==◌, ◌||◌}
+use Rattle.std.proofs.lemmas.Bool.{cases_Bool, true≢false}
+use Rattle.r6_world.specs.Tables.{put}
+use Rattle.r6_world.specs.PlainArray.{Op}
 use Rattle.r6_world.specs.Layouts.{Layout}
 use Rattle.r6_world.specs.Tasks.{serves, Outcome}
-use Rattle.r6_world.specs.ShardStates.{Shard, Stage, Held, Request, Command, Fetch, Store, handed, is_away, LossOf, Call}
-use Rattle.r6_world.specs.Changes.{Change, Accept, Start, Ask, Send, Learn, Confirm, Come_home, Lose, Adopt, See_failed, Finish, Release, Hand_command, Hand_call, Hear, Hand_reply, Skip_turn, after, staged, finished, released, failed_request, abandoned_to, abandoned_if, adopted}
+use Rattle.r6_world.specs.ShardStates.{Shard, Stage, Held, Request, Command, Fetch, Store}
+use Rattle.r6_world.specs.Changes.{Change, Accept, Start, Ask, Send, Learn, Confirm, Come_home, Lose, Adopt, See_failed, Finish, Release, Hand_command, Hand_call, Hear, Hand_reply, Skip_turn, after, staged, finished, released, failed_request, abandoned_to, abandoned_if}
 use Rattle.r6_world.specs.Steps.{Event, Submit, Deliver, Completion, Good, Error, Receipt, Taken, Late, Takes, Take_command, No_command, Take_call, No_call, Told, Take_reply, No_reply, Step, Look, Looks, Turn_started, Turn_skipped, Scans, GoesOn, TakesOver, Leads, Through}
-use Rattle.r6_world.specs.Registers.{Snapshot, Told as Answer}
-use Rattle.r6_world.proofs.Tables.{put-same, put-other, put-cases, not_both, Some-inj}
+use Rattle.r6_world.specs.Registers.{Snapshot}
+use Rattle.r6_world.proofs.Tables.{put-other, put-cases, not_both, Some-inj}
 use Rattle.r6_world.proofs.Acts.Requests.{held_now-served, held_now-other}
 use Rattle.r6_world.proofs.Changes.{Keeps, step-kept, through-scans}
-use Rattle.r6_shard.specs.Kept.{AreNumbered, NoneIsTaken, NoneIsUntold, NoneIsOut}
+use Rattle.r6_shard.specs.Kept.{AreNumbered, NoneIsTaken, NoneIsOut}
 
 -- ---- numbers of requests
 

@@ -11,18 +11,20 @@ use Rattle.r6_shard.specs.Histories.{asked_in, replied_in, answered_before, numb
 use Rattle.r6_shard.specs.declared.ledger.Asked.{Asked as Accepted}
 use Rattle.r6_shard.specs.declared.ledger.Entry.{Entry}
 
--- where a core stands with its parts, beside a register that its pass has seen so far
-abbrev pub stand_of : CoreView → View → (ℕ → ℕ → Option Telling) → List Mark → Stand
-stand_of core v part history =
-    record { shard = world_shard core; register = held v.start v.seen; part = part; history = history }
+-- where a core stands with its parts, beside a register that its pass has seen so far and of which it looked at so many
+-- attaches
+abbrev pub stand_of : CoreView → View → (looked : ℕ) → (ℕ → ℕ → Option Telling) → List Mark → Stand
+stand_of core v looked part history =
+    record { shard = world_shard core; register = held v.start v.seen; looked = looked; part = part; history = history }
 
 -- a run from this start leads there
-pub record Course (s : Start) (core : CoreView) (v : View) (part : ℕ → ℕ → Option Telling) (history : List Mark) : Type 0 where
+pub record Course (s : Start) (core : CoreView) (v : View) (looked : ℕ) (part : ℕ → ℕ → Option Telling)
+    (history : List Mark) : Type 0 where
   pub lawful : IsLawful s
   pub layout : s.layout ≡ core_layout core
   pub number : s.number ≡ core.shard
   pub pass : Knows s v (held v.start v.seen)
-  pub follows : Follows s (stand_of core v part history)
+  pub follows : Follows s (stand_of core v looked part history)
 
 -- ---- the history, as the thread's lists tell it
 
@@ -47,8 +49,8 @@ pub record Tells (accepted : List Accepted) (entries : List Entry) (ops : List O
   pub linked : AreOf accepted entries
 
 -- A course of the shard with such a history
-pub record HasCourse (s : Start) (core : CoreView) (v : View) (part : ℕ → ℕ → Option Telling) (accepted : List Accepted)
-    (entries : List Entry) (ops : List Op) : Type 0 where
+pub record HasCourse (s : Start) (core : CoreView) (v : View) (looked : ℕ) (part : ℕ → ℕ → Option Telling)
+    (accepted : List Accepted) (entries : List Entry) (ops : List Op) : Type 0 where
   pub history : List Mark
   pub tells : Tells accepted entries ops history
-  pub course : Course s core v part history
+  pub course : Course s core v looked part history

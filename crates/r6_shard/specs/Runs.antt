@@ -49,7 +49,7 @@ pub record KeepsAsked {P : Type 0} (tells : P → ℕ → ℕ → Option Telling
 pub record IsLedger {P : Type 0} (tells : P → ℕ → ℕ → Option Telling) (s : Start) (ops : List world.Op) (shard : Shard P) : Type 0 where
   pub history : List Mark
   pub told : Tells shard.asked.items shard.entries.items ops history
-  pub explained : HasLedger s (stand_of shard.core (view_of shard.pass) (tells shard.parts) history)
+  pub explained : HasLedger s (stand_of shard.core (view_of shard.pass) shard.looked (tells shard.parts) history)
   pub failure : (id : ℕ) → IsIn (Replied id ArrayFailed) history → (world_shard shard.core).saw_failed ≡ true
   pub idle : Rests shard → IsLive s.layout (world_shard shard.core) → (row : ℕ) → IsIdle (world_shard shard.core) row
 

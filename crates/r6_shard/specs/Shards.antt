@@ -1,8 +1,7 @@
 -- What calls of a shard's thread do.
-use Rattle.std.specs.Prelude.{◌≡◌, ℕ, ◌+◌, ◌<◌, List, [], ◌∷◌, ◌++◌, Bool, true, false, length, Option, Some}
+use Rattle.std.specs.Prelude.{◌≡◌, ℕ, List, [], ◌∷◌, ◌++◌, Bool, true, false, length, Option}
 use Rattle.r6_dev.specs.History.{Telling}
 use Rattle.r6_layout.specs.Shape.{Shape}
-use Rattle.r6_health.specs.declared.history.View.{View}
 use Rattle.r6_health.specs.Passes.{view_of}
 use Rattle.r6_world.specs.Geometries.{layout_of}
 use Rattle.r6_world.specs.PlainArray as world
@@ -26,7 +25,7 @@ use Rattle.r6_shard.specs.Kept.{NoneIsOut, NoneIsToTell}
 -- the shard has had a course from this start, in which these ops were handed in, in this order
 abbrev pub CourseOf : {P : Type 0} → (P → ℕ → ℕ → Option Telling) → Start → List world.Op → Shard P → Type 0
 CourseOf tells s ops shard =
-    HasCourse s shard.core (view_of shard.pass) (tells shard.parts) shard.asked.items shard.entries.items ops
+    HasCourse s shard.core (view_of shard.pass) shard.looked (tells shard.parts) shard.asked.items shard.entries.items ops
 
 -- whatever its course was, it has gone on
 abbrev pub GoesOn : {P : Type 0} → (P → ℕ → ℕ → Option Telling) → Shard P → Shard P → Type 0

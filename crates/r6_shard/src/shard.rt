@@ -1,7 +1,8 @@
 //! A shard in its thread.
 
-ghost use Rattle.std.specs.Prelude.{◌≡◌, ◌+◌, ◌<◌, ◌≤◌, ◌++◌, length, vec_capacity};
+ghost use Rattle.std.specs.Prelude.{◌≡◌, ◌+◌, ◌<◌, ◌≤◌, ◌++◌, length, vec_capacity, IfOk, IfErr};
 ghost use Rattle.r6_health.specs.Passes.{view_of, IsPassOf};
+ghost use Rattle.r6_health.specs.Registers.{attaches_of};
 ghost use Rattle.r6_health.specs.Views.{Answered, made_by};
 ghost use Rattle.r6_world.specs.Worlds.{as_made};
 ghost use Rattle.r6_core.specs.Shards.{world_shard, call_of};
@@ -45,6 +46,8 @@ pub struct Shard<P> {
     pub room: usize,
     /// The slots of which a command that wasn't abandoned failed here.
     pub named: [bool; MOST_SLOTS],
+    /// The attaches that the core saw when it looked last; at first 0.
+    pub looked: u32,
     pub ghost kept: { IsKept core number named (length asked.items) },
     pub ghost counted: { core.unanswered + length entries.items ≡ length asked.items },
     pub ghost within: { length asked.items ≤ room },
@@ -85,8 +88,19 @@ fn name(named: &mut [bool; MOST_SLOTS], slot: usize, failed: bool, receipt: Rece
     }
 }
 
+// The attaches that were looked at last, once a look was accepted or refused.
+fn looked_by(look: Result<(), Refusal>, snapshot: &Snapshot, looked: u32) -> u32
+    ensures accepted { IfOk look (λ _. result ≡ attaches_of snapshot.now) }
+    ensures refused { IfErr look (λ _. result ≡ looked) }
+{
+    match look {
+        Ok(()) => snapshot.attaches(),
+        Err(_) => looked,
+    }
+}
+
 impl<P: Performs + Drop> Shard<P> {
-    ghost use Rattle.std.specs.Prelude.{◌↔◌, false, [], IfOk, IfErr, IsTrue};
+    ghost use Rattle.std.specs.Prelude.{◌↔◌, false, [], IsTrue};
     ghost use Rattle.r6_layout.specs.Shape.{IsShape};
     ghost use Rattle.r6_shard.specs.Beginnings.{IsFirstPass};
     ghost use Rattle.r6_core.specs.Effects.{RefusesOp, RefusesTurn};
@@ -139,6 +153,7 @@ impl<P: Performs + Drop> Shard<P> {
             entries,
             room,
             named: [false; MOST_SLOTS],
+            looked: 0,
         })
     }
 
@@ -203,7 +218,7 @@ impl<P: Performs + Drop> Shard<P> {
         ensures ledger { SameLedger self.old self.new }
     {
         let snapshot = register.read(rt, &mut self.pass);
-        let _ = self.core.look(&snapshot);
+        self.looked = looked_by(self.core.look(&snapshot), &snapshot, self.looked);
     }
 
     /// Makes the call at the register that is to be made next, and tells the core the answer; whether there was one. A

@@ -1,4 +1,4 @@
-use Rattle.std.proofs.Common.{◌≡◌, ◌+◌, ◌≤◌, ◌++◌, ◌∷◌, [], ℕ, List, length, vec_len, deque_len, vec_capacity, refl, sym, ap, subst, ◌∙◌, arith, rules}
+use Rattle.std.proofs.Common.{◌≡◌, ◌+◌, ◌∷◌, [], List, length, deque_len, sym, ap, subst, ◌∙◌, arith, rules}
 use Rattle.std.proofs.lemmas.List.{length-append}
 use Rattle.r6_health.specs.Passes.{IsPassOf}
 use Rattle.r6_shard.specs.declared.run.Asking.{Asking}

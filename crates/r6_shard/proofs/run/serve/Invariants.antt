@@ -1,4 +1,4 @@
-use Rattle.std.proofs.Common.{◌≡◌, ◌+◌, ◌≤◌, ℕ, length, vec_capacity}
+use Rattle.std.proofs.Common.{◌+◌, ◌≤◌, length, vec_capacity}
 use Rattle.r6_health.specs.Passes.{IsPassOf}
 use Rattle.r6_shard.proofs.Ledgers.{UnderWay}
 use Rattle.r6_shard.proofs.run.serve.Given as goal

@@ -1,4 +1,4 @@
-use Rattle.std.proofs.Common.{◌≡◌, ℕ, ◌<◌, length, sym, ap, subst, ◌∙◌}
+use Rattle.std.proofs.Common.{◌<◌, length, sym, ap, subst, ◌∙◌}
 use Rattle.std.proofs.lemmas.List.{get_or-map}
 use Rattle.r6_health.specs.Passes.{view_of}
 use Rattle.r6_world.specs.Steps.{No_reply, Take_reply}
@@ -32,7 +32,7 @@ returns-clause-course g c = λ s ops x.
     let asked = c.index-asked.result.now in
     let entry : Entry = record { event = asked.event; id = c.in-Some.id; block = asked.block; reply = c.in-Some.reply } in
     let below : id < length old.asked.items = old.kept.2.1 id _ step.1.1 in
-    subst (λ z. HasCourse s new v part old.asked.items z ops) (sym c.push_reserved.ensures.items)
-    (has-collected s old.core new v part old.asked.items old.entries.items ops entry step below
+    subst (λ z. HasCourse s new v old.looked part old.asked.items z ops) (sym c.push_reserved.ensures.items)
+    (has-collected s old.core new v old.looked part old.asked.items old.entries.items ops entry step below
     (get_or-map (λ (a : Asked). a.event) old.asked.items id _ 0 below ∙ ap (λ (a : Asked). a.event) (sym c.index-asked.ensures))
     (get_or-map (λ (a : Asked). a.block) old.asked.items id _ 0 below ∙ ap (λ (a : Asked). a.block) (sym c.index-asked.ensures)) x)

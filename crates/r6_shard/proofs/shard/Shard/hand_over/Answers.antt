@@ -1,4 +1,4 @@
-use Rattle.std.proofs.Common.{◌≡◌, ◌++◌, ◌∷◌, [], length, refl, sym, ap, subst, ◌∙◌}
+use Rattle.std.proofs.Common.{◌++◌, ◌∷◌, [], length, refl, sym, ap, subst, ◌∙◌}
 use Rattle.r6_world.specs.PlainArray.{block_of}
 use Rattle.r6_frames.specs.Views.{op_of}
 use Rattle.r6_shard.specs.declared.ledger.Asked.{Asked}

@@ -1,13 +1,12 @@
 use Rattle.std.proofs.Common.{◌≡◌, ℕ, ◌+◌, length, refl, sym, ap, subst, ◌∙◌}
 use Rattle.r6_health.specs.Passes.{view_of}
-use Rattle.r6_world.specs.PlainArray as world
 use Rattle.r6_world.specs.Steps.{Look}
 use Rattle.r6_core.specs.Shards.{CoreView}
 use Rattle.r6_core.specs.Effects.{LooksAt, RefusesLook}
 use Rattle.r6_shard.specs.Kept.{IsKept}
 use Rattle.r6_shard.specs.Courses.{HasCourse}
 use Rattle.r6_shard.proofs.Keeping.{kept-plainly}
-use Rattle.r6_shard.proofs.Going.{has-gone, has-seen, either_way}
+use Rattle.r6_shard.proofs.Going.{has-gone, has-seen, either_way, both_ok, both_err}
 use Rattle.r6_shard.proofs.shard.Shard.look.Goals as goal
 
 pub invariant_of-self-clause-kept : goal.invariant_of-self-clause-kept
@@ -37,9 +36,17 @@ returns-clause-course g c = λ s ops x.
     let part = g.P.Performs.tells old.parts in
     let w = view_of c.read-snapshot.new.pass in
     let snapshot = c.read-snapshot.result in
-    let y = has-seen s old.core (view_of old.pass) w part old.asked.items old.entries.items ops c.read-snapshot.ensures.looks x in
-    either_way c.look.result (λ _. LooksAt old.core snapshot new) (λ refusal. RefusesLook old.core refusal new)
-    (HasCourse s new w part old.asked.items old.entries.items ops) c.look.ensures.looked c.look.ensures.refused
+    let attaches : ℕ = snapshot.attaches in
+    let y = has-seen s old.core (view_of old.pass) w old.looked part old.asked.items old.entries.items ops c.read-snapshot.ensures.looks x in
+    either_way c.look.result (λ _. LooksAt old.core snapshot new × (c.looked_by-self.result ≡ attaches))
+    (λ refusal. RefusesLook old.core refusal new × (c.looked_by-self.result ≡ old.looked))
+    (HasCourse s new w c.looked_by-self.result part old.asked.items old.entries.items ops)
+    (both_ok c.look.result (λ _. LooksAt old.core snapshot new) (λ _. c.looked_by-self.result ≡ attaches) c.look.ensures.looked c.looked_by-self.ensures.accepted)
+    (both_err c.look.result (λ refusal. RefusesLook old.core refusal new) (λ _. c.looked_by-self.result ≡ old.looked) c.look.ensures.refused c.looked_by-self.ensures.refused)
     (λ _ looked.
-    has-gone s old.core new w part old.asked.items old.entries.items ops (Look snapshot) c.read-snapshot.ensures.snapshot (λ history. refl) looked.step y)
-    (λ refusal refused. subst (λ z. HasCourse s z w part old.asked.items old.entries.items ops) (sym refused.same) y)
+    subst (λ z. HasCourse s new w z part old.asked.items old.entries.items ops) (sym looked.1)
+    (has-gone s old.core new w old.looked part old.asked.items old.entries.items ops (Look snapshot) c.read-snapshot.ensures.snapshot (λ history. refl)
+    looked.0.step y))
+    (λ refusal refused.
+    subst (λ z. HasCourse s new w z part old.asked.items old.entries.items ops) (sym refused.1)
+    (subst (λ z. HasCourse s z w old.looked part old.asked.items old.entries.items ops) (sym refused.0.same) y))

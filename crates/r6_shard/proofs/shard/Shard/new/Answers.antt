@@ -13,6 +13,6 @@ returns-clause-begins g c = λ device array lawful hold.
     let v = view_of c.args.pass in
     let part = g.P.Performs.tells c.args.parts in
     let s = start_of place.geometry place.number snapshot device array in
-    subst (λ y. HasCourse s core v part y c.in_ok-entries.entries.items []) (sym c.in_ok-asked.ensures.items)
-    (subst (λ y. HasCourse s core v part [] y []) (sym c.in_ok-entries.ensures.items)
+    subst (λ y. HasCourse s core v 0 part y c.in_ok-entries.entries.items []) (sym c.in_ok-asked.ensures.items)
+    (subst (λ y. HasCourse s core v 0 part [] y []) (sym c.in_ok-entries.ensures.items)
     (begun place.geometry place.number snapshot device array core v part c.requires.limits c.requires.number lawful hold c.in-Ok.ensures.made c.requires.pass))

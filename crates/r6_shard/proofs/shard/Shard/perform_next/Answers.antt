@@ -1,4 +1,4 @@
-use Rattle.std.proofs.Common.{◌≡◌, ℕ, ◌<◌, length, sym, subst, arith}
+use Rattle.std.proofs.Common.{◌<◌, length, sym, subst, arith}
 use Rattle.r6_world.specs.Steps.{No_command}
 use Rattle.r6_frames.specs.Views.{world_command}
 use Rattle.r6_core.specs.Shards.{core_layout, world_shard, receipt_of}
@@ -7,7 +7,7 @@ use Rattle.r6_shard.specs.Kept.{IsKept}
 use Rattle.r6_shard.proofs.Steps.{none-out}
 use Rattle.r6_shard.proofs.Keeping.{kept-plainly, kept-performing}
 use Rattle.r6_shard.proofs.Courses.{not-refused}
-use Rattle.r6_shard.proofs.Going.{has-gone, has-performed, at_err}
+use Rattle.r6_shard.proofs.Going.{has-performed, at_err}
 use Rattle.r6_shard.proofs.shard.Shard.perform_next.Goals as goal
 
 pub invariant_of-self-clause-kept : goal.invariant_of-self-clause-kept
@@ -46,6 +46,6 @@ returns-clause-course g c = λ s ops x.
     let tells = g.P.Performs.tells in
     let old = c.args.self.now in
     let t = c.in-Some.ensures.step in
-    has-performed s old.core c.take_command.new.self c.deliver.new.self (view_of old.pass) (tells old.parts) (tells c.perform-completion.new.self)
+    has-performed s old.core c.take_command.new.self c.deliver.new.self (view_of old.pass) old.looked (tells old.parts) (tells c.perform-completion.new.self)
     old.asked.items old.entries.items ops c.in-Some.command t.0 t.1 (receipt_of c.in-Ok.receipt) c.perform-completion.result
     t.2 c.in-Ok.ensures.received.step c.perform-completion.ensures x

@@ -4,7 +4,6 @@ use Rattle.r6_health.specs.Passes.{view_of}
 use Rattle.r6_frames.specs.Views.{op_of}
 use Rattle.r6_world.specs.PlainArray.{block_of}
 use Rattle.r6_core.specs.Shards.{CoreView, core_layout, world_shard}
-use Rattle.r6_shard.specs.declared.ledger.Asked.{Asked}
 use Rattle.r6_shard.specs.Kept.{IsKept}
 use Rattle.r6_shard.specs.Courses.{HasCourse}
 use Rattle.r6_shard.proofs.Steps.{one-more}
@@ -50,8 +49,8 @@ returns-in-Ok-clause-accepted g c =
     ∙ ap (λ (n : ℕ). old.asked.items ++ record { event = c.args.event; block = block_of (op_of op); answered = n } ∷ []) (c.len-answered.ensures ∙ many) in
     record {
       course = λ s ops x.
-          subst (λ z. HasCourse s new v part z old.entries.items (ops ++ op_of op ∷ [])) (sym asked)
-          (has-submitted s old.core new v part old.asked.items old.entries.items ops c.args.event (op_of op) id number step x);
+          subst (λ z. HasCourse s new v old.looked part z old.entries.items (ops ++ op_of op ∷ [])) (sym asked)
+          (has-submitted s old.core new v old.looked part old.asked.items old.entries.items ops c.args.event (op_of op) id number step x);
       number = number;
       asked = asked;
       entries = refl;

@@ -30,6 +30,6 @@ invariant_of-self-2-clause-kept g c =
 pub returns-clause-course : goal.returns-clause-course
 returns-clause-course g c = λ s ops x.
     let old = c.args.self.now in
-    has-told s old.core c.take_call.new.self c.told.new.self (view_of old.pass) (view_of c.make-answer.new.pass) (g.P.Performs.tells old.parts)
+    has-told s old.core c.take_call.new.self c.told.new.self (view_of old.pass) (view_of c.make-answer.new.pass) old.looked (g.P.Performs.tells old.parts)
     old.asked.items old.entries.items ops old.number c.in-Some.call c.make-answer.result old.kept.0 c.in-Some.ensures.step
     c.in-Ok.ensures.heard.step c.make-answer.ensures.answered x

@@ -1,4 +1,4 @@
-use Rattle.std.proofs.Common.{◌≡◌, ℕ, ◌+◌, length, refl, sym, ap, subst, ◌∙◌}
+use Rattle.std.proofs.Common.{◌≡◌, ◌+◌, length, sym, ap, subst, ◌∙◌}
 use Rattle.r6_health.specs.Passes.{view_of}
 use Rattle.r6_health.specs.Histories.{held}
 use Rattle.r6_core.specs.Shards.{CoreView}
@@ -18,7 +18,7 @@ invariant_of-self-clause-kept g c =
     (IsKept new old.number old.named (length old.asked.items)) c.turn.ensures.turned c.turn.ensures.refused
     (λ turn t.
     let p = turned old.core task turn new t.taken in
-    kept-plainly old.core p.0 new old.number old.named (length old.asked.items) p.1 p.4 old.kept)
+    kept-plainly old.core p.0 new old.number old.named (length old.asked.items) p.1 p.5 old.kept)
     (λ refusal refused. subst (λ y. IsKept y old.number old.named (length old.asked.items)) (sym refused.same) old.kept)
 
 pub invariant_of-self-clause-counted : goal.invariant_of-self-clause-counted
@@ -39,8 +39,9 @@ returns-clause-course g c = λ s ops x.
     let part = g.P.Performs.tells old.parts in
     let v = view_of old.pass in
     either_way c.turn.result (λ turn. Turns old.core task turn new) (λ refusal. RefusesTurn old.core task refusal new)
-    (HasCourse s new v part old.asked.items old.entries.items ops) c.turn.ensures.turned c.turn.ensures.refused
+    (HasCourse s new v old.looked part old.asked.items old.entries.items ops) c.turn.ensures.turned c.turn.ensures.refused
     (λ turn t.
     let p = turned old.core task turn new t.taken in
-    has-gone s old.core new v part old.asked.items old.entries.items ops p.0 (p.2 (held v.start v.seen)) p.3 p.4 x)
-    (λ refusal refused. subst (λ z. HasCourse s z v part old.asked.items old.entries.items ops) (sym refused.same) x)
+    subst (λ y. HasCourse s new v y part old.asked.items old.entries.items ops) (p.4 old.looked)
+    (has-gone s old.core new v old.looked part old.asked.items old.entries.items ops p.0 (p.2 (held v.start v.seen)) p.3 p.5 x))
+    (λ refusal refused. subst (λ z. HasCourse s z v old.looked part old.asked.items old.entries.items ops) (sym refused.same) x)
