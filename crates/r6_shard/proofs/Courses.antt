@@ -60,7 +60,7 @@ goes s old new v looked part history event plain step x =
 
 -- ---- a command in place
 
-put-alike : (part part' : ℕ → ℕ → Option Telling) (slot generation : ℕ) (behind : Telling) → part' slot generation ≡ Some behind
+pub put-alike : (part part' : ℕ → ℕ → Option Telling) (slot generation : ℕ) (behind : Telling) → part' slot generation ≡ Some behind
     → OthersAreKept slot generation part part' → (other g : ℕ) → part' other g ≡ put_in part slot generation (Some behind) other g
 put-alike part part' slot generation behind is others other g = elim (cases_eq other slot) [
   | inl same ↦ elim (cases_eq g generation) [

@@ -2,7 +2,9 @@ pub mod Steps
 pub mod Histories
 pub mod Courses
 pub mod Places
+pub mod Handed
 pub mod Keeping
 pub mod Going
 pub mod Beginnings
 pub mod Ledgers
+pub mod FromStarts

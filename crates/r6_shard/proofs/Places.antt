@@ -13,11 +13,11 @@ use Rattle.r6_shard.specs.declared.parts.Part.{Part}
 use Rattle.r6_shard.specs.Parts.{is_of, part_in}
 use Rattle.r6_shard.specs.Performing.{Performed, Failed}
 
-first-of : {D : Type 0} (told : D → Telling) (part : Part D) (parts : List (Part D)) (slot generation : ℕ) → is_of slot generation part ≡ true
+pub first-of : {D : Type 0} (told : D → Telling) (part : Part D) (parts : List (Part D)) (slot generation : ℕ) → is_of slot generation part ≡ true
     → part_in told (part ∷ parts) slot generation ≡ Some (told part.device)
 first-of told part parts slot generation e = rw e
 
-behind : {D : Type 0} (told : D → Telling) (part : Part D) (parts : List (Part D)) (slot generation : ℕ) → is_of slot generation part ≡ false
+pub behind : {D : Type 0} (told : D → Telling) (part : Part D) (parts : List (Part D)) (slot generation : ℕ) → is_of slot generation part ≡ false
     → part_in told (part ∷ parts) slot generation ≡ part_in told parts slot generation
 behind told part parts slot generation e = rw e
 
@@ -31,7 +31,7 @@ found told (part ∷ parts) (suc at) d slot generation below is before =
     behind told part parts slot generation (before 0 (omega arith))
     ∙ found told parts at d slot generation (omega arith) is (λ k low. before (suc k) (omega arith))
 
-replaced : {D : Type 0} (told : D → Telling) (parts : List (Part D)) (at : ℕ) (d new : Part D) (slot generation : ℕ) → at < length parts
+pub replaced : {D : Type 0} (told : D → Telling) (parts : List (Part D)) (at : ℕ) (d new : Part D) (slot generation : ℕ) → at < length parts
     → is_of slot generation new ≡ true → ((k : ℕ) → k < at → is_of slot generation (get_or parts k d) ≡ false)
     → part_in told (slice_set parts at new) slot generation ≡ Some (told new.device)
 replaced told [] at d new slot generation below is before = absurd (omega arith)
@@ -41,7 +41,7 @@ replaced told (part ∷ parts) (suc at) d new slot generation below is before =
     ∙ replaced told parts at d new slot generation (omega arith) is (λ k low. before (suc k) (omega arith))
 
 -- of another slot or generation nothing changes
-elsewhere : {D : Type 0} (told : D → Telling) (parts : List (Part D)) (at : ℕ) (d new : Part D) (other g : ℕ) → at < length parts
+pub elsewhere : {D : Type 0} (told : D → Telling) (parts : List (Part D)) (at : ℕ) (d new : Part D) (other g : ℕ) → at < length parts
     → is_of other g new ≡ false → is_of other g (get_or parts at d) ≡ false
     → part_in told (slice_set parts at new) other g ≡ part_in told parts other g
 elsewhere told [] at d new other g below is was = absurd (omega arith)
@@ -54,7 +54,7 @@ elsewhere told (part ∷ parts) (suc at) d new other g below is was = elim (case
       ∙ sym (behind told part parts other g no')
 ]
 
-not-both : {D : Type 0} (part : Part D) (slot generation other g : ℕ) → is_of slot generation part ≡ true
+pub not-both : {D : Type 0} (part : Part D) (slot generation other g : ℕ) → is_of slot generation part ≡ true
     → ((other ≡ slot) × (g ≡ generation) → ⊥) → is_of other g part ≡ false
 not-both part slot generation other g is ne = elim (cases_Bool (is_of other g part)) [
   | inl yes' ↦

@@ -5,4 +5,6 @@ pub mod Histories
 pub mod Courses
 pub mod Beginnings
 pub mod Shards
+pub mod Handing
 pub mod Runs
+pub mod Laws

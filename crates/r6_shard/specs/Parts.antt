@@ -1,6 +1,7 @@
 -- The parts that a shard has.
-use Rattle.std.specs.Prelude.{ℕ, ◌==◌, ◌&&◌, Bool, List, [], ◌∷◌, if◌then◌else◌, Option, Some, None}
+use Rattle.std.specs.Prelude.{◌≡◌, ℕ, ◌≤◌, ◌==◌, ◌&&◌, Bool, List, [], ◌∷◌, length, if◌then◌else◌, Option, Some, None}
 use Rattle.r6_dev.specs.History.{Telling}
+use Rattle.r6_course.specs.Steps.{OthersAreKept}
 use Rattle.r6_shard.specs.declared.parts.Part.{Part}
 
 abbrev pub is_of : {D : Type 0} → (slot generation : ℕ) → Part D → Bool
@@ -11,3 +12,21 @@ abbrev pub part_in : {D : Type 0} → (D → Telling) → List (Part D) → (slo
 part_in told [] slot generation = None
 part_in told (part ∷ parts) slot generation =
     if is_of slot generation part then Some (told part.device) else part_in told parts slot generation
+
+-- that part
+abbrev pub part_of : {D : Type 0} → List (Part D) → (slot generation : ℕ) → Option (Part D)
+part_of [] slot generation = None
+part_of (part ∷ parts) slot generation = if is_of slot generation part then Some part else part_of parts slot generation
+
+-- a part is taken in: from now on it is the one of its slot and generation, no other changes, and back comes the one
+-- that was there
+pub record TakesIn {D : Type 0} (told : D → Telling) (part : Part D) (earlier : Option (Part D))
+    (old new : List (Part D)) : Type 0 where
+  pub back : earlier ≡ part_of old part.slot part.generation
+  pub there : part_of new part.slot part.generation ≡ Some part
+  pub tells : part_in told new part.slot part.generation ≡ Some (told part.device)
+  pub others : OthersAreKept part.slot part.generation (part_in told old) (part_in told new)
+
+-- it would be one more than there is room for
+abbrev pub HasNoRoom : {D : Type 0} → Part D → List (Part D) → (capacity : ℕ) → Type 0
+HasNoRoom part parts capacity = (part_of parts part.slot part.generation ≡ None) × (capacity ≤ length parts)

@@ -52,12 +52,18 @@ abbrev pub Collects : {P : Type 0} → Bool → Shard P → Shard P → Type 0
 Collects true old new = (entry : Entry) × (new.entries.items ≡ old.entries.items ++ entry ∷ [])
 Collects false old new = new.entries.items ≡ old.entries.items
 
--- from every lawful start whose devices hold what the parts tell, this is where a course of the shard begins
-abbrev pub Begins : {P : Type 0} → (P → ℕ → ℕ → Option Telling) → Shape → (number : ℕ) → Snapshot → Shard P → Type 0
-Begins tells geometry number snapshot shard =
+-- from every lawful start whose devices hold what is told here a course leads to the shard, in which these ops were
+-- handed in
+abbrev pub ComesFrom : {P : Type 0} → (P → ℕ → ℕ → Option Telling) → Shape → (number : ℕ) → Snapshot
+    → (taken : ℕ → ℕ → Option Telling) → List world.Op → Shard P → Type 0
+ComesFrom tells geometry number snapshot taken ops shard =
     (device : Devices) (array : world.Array) → IsLawfulStart (layout_of geometry) snapshot device array
-    → Hold (start_of geometry number snapshot device array) (tells shard.parts)
-    → CourseOf tells (start_of geometry number snapshot device array) [] shard
+    → Hold (start_of geometry number snapshot device array) taken
+    → CourseOf tells (start_of geometry number snapshot device array) ops shard
+
+-- what its parts tell is where a course of the shard begins
+abbrev pub Begins : {P : Type 0} → (P → ℕ → ℕ → Option Telling) → Shape → (number : ℕ) → Snapshot → Shard P → Type 0
+Begins tells geometry number snapshot shard = ComesFrom tells geometry number snapshot (tells shard.parts) [] shard
 
 -- nothing is left to do: each request is answered, no command is out, no call is to be made, and no row is to be rebuilt
 pub record Rests {P : Type 0} (shard : Shard P) : Type 0 where

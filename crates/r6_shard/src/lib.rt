@@ -2,6 +2,8 @@
 //! and the ledger of its requests.
 #![tactic(auto)]
 
+mod handing;
+mod laws;
 mod ledger;
 mod parts;
 mod performs;
@@ -9,6 +11,8 @@ mod rounds;
 mod run;
 mod shard;
 
+pub use handing::{PartRefusal, RefusedPart};
+pub use laws::{handed_law, ledger_law};
 pub use ledger::{Asked, Entry};
 pub use parts::{Part, Parts};
 pub use performs::Performs;

@@ -62,7 +62,7 @@ impl<D: BlockDevice + Drop> Parts<D> {
     ghost use Rattle.r6_shard.specs.Parts.{is_of};
 
     // Where the part of a slot and generation stands.
-    fn place_of(&self, slot: usize, generation: u32) -> Option<usize>
+    pub(crate) fn place_of(&self, slot: usize, generation: u32) -> Option<usize>
         ensures place { result ≡ position (is_of slot generation) self.now.parts.items }
         ensures within { IfSome result (λ at. at < length self.now.parts.items) }
     {

@@ -1,0 +1,184 @@
+-- A part is handed in.
+use Rattle.std.proofs.Common.{◌≡◌, ℕ, ◌<◌, ◌≤◌, zero, suc, List, [], ◌∷◌, ◌++◌, length, get_or, true, false, inl, inr, refl, sym, ap, ◌∙◌, arith, Option, Some, None}
+use Rattle.std.specs.Prelude.{slice_set, ◌==◌, ◌&&◌, nat_lt, cond}
+use Rattle.std.specs.List.{position, position_or_len}
+use Rattle.std.proofs.lemmas.List.Quantifiers.{position-Some}
+use Rattle.std.proofs.lemmas.Bool.{cases_Bool, ltb-false, eq-eqb}
+use Rattle.r6_dev.specs.History.{Telling}
+use Rattle.r6_health.specs.declared.history.View.{View}
+use Rattle.r6_world.specs.Tables.{put_in}
+use Rattle.r6_world.specs.PlainArray as world
+use Rattle.r6_world.specs.Layouts.{Layout}
+use Rattle.r6_world.specs.Registers.{Snapshot}
+use Rattle.r6_world.specs.Worlds.{Devices}
+use Rattle.r6_world.specs.Claims.{IsLawfulStart}
+use Rattle.r6_world.proofs.Tables.{None-not_Some}
+use Rattle.r6_core.specs.Shards.{CoreView}
+use Rattle.r6_course.specs.Courses as courses
+use Rattle.r6_course.specs.Courses.{Start}
+use Rattle.r6_course.specs.Steps.{OthersAreKept, OthersAreAlike}
+use Rattle.r6_course.proofs.Handing.{handing_goes_on, letting_goes_on}
+use Rattle.r6_shard.specs.declared.parts.Part.{Part}
+use Rattle.r6_shard.specs.declared.ledger.Asked.{Asked as Accepted}
+use Rattle.r6_shard.specs.declared.ledger.Entry.{Entry}
+use Rattle.r6_shard.specs.Parts.{is_of, part_in, part_of, TakesIn}
+use Rattle.r6_shard.specs.Courses.{stand_of, HasCourse}
+use Rattle.r6_shard.proofs.Courses.{put-alike}
+use Rattle.r6_shard.proofs.Places.{first-of, behind, replaced, elsewhere, not-both}
+
+of-first : {D : Type 0} (part : Part D) (parts : List (Part D)) (slot generation : ℕ) → is_of slot generation part ≡ true
+    → part_of (part ∷ parts) slot generation ≡ Some part
+of-first part parts slot generation e = rw e
+
+of-behind : {D : Type 0} (part : Part D) (parts : List (Part D)) (slot generation : ℕ) → is_of slot generation part ≡ false
+    → part_of (part ∷ parts) slot generation ≡ part_of parts slot generation
+of-behind part parts slot generation e = rw e
+
+own : {D : Type 0} (part : Part D) → is_of part.slot part.generation part ≡ true
+own part = ap (λ y. y && (part.generation == part.generation)) (eq-eqb part.slot part.slot refl) ∙ eq-eqb part.generation part.generation refl
+
+-- ---- in the place of another
+
+part-found : {D : Type 0} (parts : List (Part D)) (at : ℕ) (d : Part D) (slot generation : ℕ) → at < length parts
+    → is_of slot generation (get_or parts at d) ≡ true → ((k : ℕ) → k < at → is_of slot generation (get_or parts k d) ≡ false)
+    → part_of parts slot generation ≡ Some (get_or parts at d)
+part-found [] at d slot generation below is before = absurd (omega arith)
+part-found (part ∷ parts) zero d slot generation below is before = of-first part parts slot generation is
+part-found (part ∷ parts) (suc at) d slot generation below is before =
+    of-behind part parts slot generation (before 0 (omega arith))
+    ∙ part-found parts at d slot generation (omega arith) is (λ k low. before (suc k) (omega arith))
+
+part-replaced : {D : Type 0} (parts : List (Part D)) (at : ℕ) (d new : Part D) (slot generation : ℕ) → at < length parts
+    → is_of slot generation new ≡ true → ((k : ℕ) → k < at → is_of slot generation (get_or parts k d) ≡ false)
+    → part_of (slice_set parts at new) slot generation ≡ Some new
+part-replaced [] at d new slot generation below is before = absurd (omega arith)
+part-replaced (part ∷ parts) zero d new slot generation below is before = of-first new parts slot generation is
+part-replaced (part ∷ parts) (suc at) d new slot generation below is before =
+    of-behind part (slice_set parts at new) slot generation (before 0 (omega arith))
+    ∙ part-replaced parts at d new slot generation (omega arith) is (λ k low. before (suc k) (omega arith))
+
+pub takes-place : {D : Type 0} (told : D → Telling) (parts : List (Part D)) (at : ℕ) (earlier part : Part D)
+    → position (is_of part.slot part.generation) parts ≡ Some at → get_or parts at earlier ≡ earlier
+    → TakesIn told part (Some earlier) parts (slice_set parts at part)
+takes-place told parts at earlier part place here =
+    let p = position-Some (is_of part.slot part.generation) parts at earlier place in
+    let was : is_of part.slot part.generation earlier ≡ true = ap (is_of part.slot part.generation) (sym here) ∙ p.1 in
+    record {
+      back = ap Some (sym here) ∙ sym (part-found parts at earlier part.slot part.generation p.0 p.1 p.2);
+      there = part-replaced parts at earlier part part.slot part.generation p.0 (own part) p.2;
+      tells = replaced told parts at earlier part part.slot part.generation p.0 (own part) p.2;
+      others = λ other g ne.
+          elsewhere told parts at earlier part other g p.0 (not-both part part.slot part.generation other g (own part) ne)
+          (ap (is_of other g) here ∙ not-both earlier part.slot part.generation other g was ne);
+    }
+
+-- ---- behind the others
+
+unplaced : {D : Type 0} (parts : List (Part D)) (slot generation : ℕ) → length parts ≤ position_or_len (is_of slot generation) parts
+    → part_of parts slot generation ≡ None
+unplaced [] slot generation none = refl
+unplaced (part ∷ parts) slot generation none = elim (cases_Bool (is_of slot generation part)) [
+  | inl yes' ↦ absurd (at-once yes' none)
+  | inr no' ↦ of-behind part parts slot generation no' ∙ unplaced parts slot generation (later no' none)
+]
+  where
+    at-once : is_of slot generation part ≡ true → suc (length parts) ≤ position_or_len (is_of slot generation) (part ∷ parts) → ⊥
+    at-once e low = let first : position_or_len (is_of slot generation) (part ∷ parts) ≡ 0 = rw e in omega arith
+
+    later : is_of slot generation part ≡ false → suc (length parts) ≤ position_or_len (is_of slot generation) (part ∷ parts)
+        → length parts ≤ position_or_len (is_of slot generation) parts
+    later e low =
+        let next : position_or_len (is_of slot generation) (part ∷ parts) ≡ suc (position_or_len (is_of slot generation) parts) = rw e (omega arith) in
+        omega arith
+
+pub none-of : {D : Type 0} (parts : List (Part D)) (slot generation : ℕ) → position (is_of slot generation) parts ≡ None
+    → part_of parts slot generation ≡ None
+none-of parts slot generation e =
+    let at = position_or_len (is_of slot generation) parts in
+    unplaced parts slot generation (elim (cases_Bool (nat_lt at (length parts))) [
+      | inl yes' ↦ absurd (None-not_Some at (sym e ∙ ap (λ b. cond b (Some at) None) yes'))
+      | inr no' ↦ ltb-false at (length parts) no'
+    ])
+
+part-added : {D : Type 0} (parts : List (Part D)) (new : Part D) → part_of parts new.slot new.generation ≡ None
+    → part_of (parts ++ new ∷ []) new.slot new.generation ≡ Some new
+part-added [] new none = of-first new [] new.slot new.generation (own new)
+part-added (part ∷ parts) new none = elim (cases_Bool (is_of new.slot new.generation part)) [
+  | inl yes' ↦ absurd (None-not_Some part (sym none ∙ of-first part parts new.slot new.generation yes'))
+  | inr no' ↦
+      of-behind part (parts ++ new ∷ []) new.slot new.generation no'
+      ∙ part-added parts new (sym (of-behind part parts new.slot new.generation no') ∙ none)
+]
+
+tells-added : {D : Type 0} (told : D → Telling) (parts : List (Part D)) (new : Part D) → part_of parts new.slot new.generation ≡ None
+    → part_in told (parts ++ new ∷ []) new.slot new.generation ≡ Some (told new.device)
+tells-added told [] new none = first-of told new [] new.slot new.generation (own new)
+tells-added told (part ∷ parts) new none = elim (cases_Bool (is_of new.slot new.generation part)) [
+  | inl yes' ↦ absurd (None-not_Some part (sym none ∙ of-first part parts new.slot new.generation yes'))
+  | inr no' ↦
+      behind told part (parts ++ new ∷ []) new.slot new.generation no'
+      ∙ tells-added told parts new (sym (of-behind part parts new.slot new.generation no') ∙ none)
+]
+
+others-added : {D : Type 0} (told : D → Telling) (parts : List (Part D)) (new : Part D) (other g : ℕ) → is_of other g new ≡ false
+    → part_in told (parts ++ new ∷ []) other g ≡ part_in told parts other g
+others-added told [] new other g e = behind told new [] other g e
+others-added told (part ∷ parts) new other g e = elim (cases_Bool (is_of other g part)) [
+  | inl yes' ↦ first-of told part (parts ++ new ∷ []) other g yes' ∙ sym (first-of told part parts other g yes')
+  | inr no' ↦
+      behind told part (parts ++ new ∷ []) other g no' ∙ others-added told parts new other g e ∙ sym (behind told part parts other g no')
+]
+
+pub takes-behind : {D : Type 0} (told : D → Telling) (parts : List (Part D)) (part : Part D) → part_of parts part.slot part.generation ≡ None
+    → TakesIn told part None parts (parts ++ part ∷ [])
+takes-behind told parts part none =
+    record {
+      back = sym none;
+      there = part-added parts part none;
+      tells = tells-added told parts part none;
+      others = λ other g ne. others-added told parts part other g (not-both part part.slot part.generation other g (own part) ne);
+    }
+
+-- ---- the course
+
+-- a start stays lawful where a device of a later generation has other blocks
+pub still-start : (l : Layout) (r : Snapshot) (device device' : Devices) (array : world.Array) (slot generation looked : ℕ) → looked < generation
+    → OthersAreAlike slot generation device device' → IsLawfulStart l r device array → IsLawfulStart l r device' array
+still-start l r device device' array slot generation looked above alike x =
+    record {
+      many_slots = x.many_slots;
+      fresh = x.fresh;
+      no_others = x.no_others;
+      few_lost = x.few_lost;
+      no_attach = x.no_attach;
+      not_failed = x.not_failed;
+      sized = x.sized;
+      full_rows = λ row d in-row below sync.
+          ap (λ (y : ℕ → world.Block). y row) (alike d 0 (λ there. let same = there.1 in absurd (omega arith)))
+          ∙ x.full_rows row d in-row below sync;
+    }
+
+pub has-handed : (s : Start) (device : Devices) (core : CoreView) (v : View) (looked : ℕ) (part part' : ℕ → ℕ → Option Telling)
+    (accepted : List Accepted) (entries : List Entry) (ops : List world.Op) (slot generation : ℕ) (telling : Telling) → looked < generation
+    → OthersAreAlike slot generation s.device device → courses.Tells s (device slot generation) telling
+    → part' slot generation ≡ Some telling → OthersAreKept slot generation part part'
+    → HasCourse s core v looked part accepted entries ops → HasCourse (record s { device = device }) core v looked part' accepted entries ops
+has-handed s device core v looked part part' accepted entries ops slot generation telling above alike tells is others x =
+    let t : Start = record s { device = device } in
+    let y = handing_goes_on s x.course.lawful device (stand_of core v looked part x.history) slot generation telling x.course.follows above alike tells in
+    record {
+      history = x.history;
+      tells = x.tells;
+      course = record {
+        lawful = record {
+          layout = x.course.lawful.layout;
+          number = x.course.lawful.number;
+          start = still-start s.layout s.register s.device device s.array slot generation looked above alike x.course.lawful.start;
+        };
+        layout = x.course.layout;
+        number = x.course.number;
+        pass = record { slots = x.course.pass.slots; shards = x.course.pass.shards; now = x.course.pass.now };
+        follows = letting_goes_on t (stand_of core v looked (put_in part slot generation (Some telling)) x.history) part' y
+            (λ d g told there. sym (put-alike part part' slot generation telling is others d g) ∙ there);
+      };
+    }

@@ -1,0 +1,26 @@
+use Rattle.std.proofs.Common.{◌<◌, refl, arith}
+use Rattle.r6_health.specs.Passes.{view_of}
+use Rattle.r6_shard.specs.Handing.{parts_tell}
+use Rattle.r6_shard.proofs.Handed.{has-handed}
+use Rattle.r6_shard.proofs.handing.Shard+Parts+D.hand_in.Goals as goal
+
+pub returns-in-Ok-clause-handed : goal.returns-in-Ok-clause-handed
+returns-in-Ok-clause-handed g c =
+    let told = g.D.BlockDevice.told in
+    let old = c.args.self.now in
+    let new = c.take_in.new.self in
+    let part = c.args.part in
+    let taken = c.in-Ok.ensures.taken in
+    let unseen : old.looked < part.generation = omega (arith, c.if-part-self.false) in
+    record {
+      unseen = unseen;
+      taken = taken;
+      core = refl;
+      pass = refl;
+      looked = refl;
+      named = refl;
+      ledger = record { asked = refl; entries = refl; room = refl };
+      course = λ s device ops alike tells x.
+          has-handed s device old.core (view_of old.pass) old.looked (parts_tell told old.parts) (parts_tell told new) old.asked.items old.entries.items ops
+          part.slot part.generation (told part.device) unseen alike tells taken.tells taken.others x;
+    }

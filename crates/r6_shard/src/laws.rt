@@ -1,0 +1,17 @@
+//! What follows for a shard whose calls a thread makes one by one.
+
+ghost use Rattle.r6_shard.specs.Laws.{HandedLaw, LedgerLaw};
+
+use crate::performs::Performs;
+use r6_dev::BlockDevice;
+
+/// Where from every lawful start whose devices hold what the parts told when they were taken up a course leads to a
+/// shard, one does so with one part more once it is handed in: of two for one slot and generation the later counts.
+pub fn handed_law<D: BlockDevice + Drop>()
+    ensures { HandedLaw D.told }
+{}
+
+/// Such a shard has a ledger from each of these starts.
+pub fn ledger_law<P: Performs + Drop>()
+    ensures { LedgerLaw P.tells }
+{}
