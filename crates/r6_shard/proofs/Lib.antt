@@ -4,6 +4,7 @@ pub mod Courses
 pub mod Places
 pub mod Handed
 pub mod Keeping
+pub mod Lasting
 pub mod Going
 pub mod Beginnings
 pub mod Ledgers

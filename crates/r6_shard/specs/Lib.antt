@@ -6,5 +6,6 @@ pub mod Courses
 pub mod Beginnings
 pub mod Shards
 pub mod Handing
+pub mod Refusing
 pub mod Runs
 pub mod Laws

@@ -2,6 +2,8 @@
 use Rattle.std.specs.Prelude.{◌≡◌, ℕ, ◌⊎◌, List, [], ◌∷◌, ◌++◌, true, Option}
 use Rattle.r6_dev.specs.History.{Telling}
 use Rattle.r6_layout.specs.Shape.{Shape}
+use Rattle.r6_health.specs.declared.history.View.{View}
+use Rattle.r6_health.specs.Histories.{held}
 use Rattle.r6_health.specs.Passes.{view_of}
 use Rattle.r6_world.specs.PlainArray as world
 use Rattle.r6_world.specs.PlainArray.{ArrayFailed}
@@ -12,7 +14,8 @@ use Rattle.r6_world.specs.Worlds.{Devices}
 use Rattle.r6_world.specs.Claims.{IsLawfulStart, IsIdle}
 use Rattle.r6_frames.specs.Views.{op_of}
 use Rattle.r6_core.specs.declared.refusal.Refusal.{Refusal}
-use Rattle.r6_core.specs.Shards.{world_shard}
+use Rattle.r6_core.specs.Shards.{CoreView, world_shard}
+use Rattle.r6_core.specs.Refusals.{HasSubmitFault, HasNone}
 use Rattle.r6_course.specs.Courses.{Start, Mark, Replied}
 use Rattle.r6_course.specs.Ledgers.{IsIn, HasLedger}
 use Rattle.r6_shard.specs.declared.ledger.Asked.{Asked}
@@ -21,36 +24,52 @@ use Rattle.r6_shard.specs.declared.shard.Shard.{Shard}
 use Rattle.r6_shard.specs.Beginnings.{Hold, start_of}
 use Rattle.r6_shard.specs.Courses.{stand_of, Tells}
 use Rattle.r6_shard.specs.Shards.{CourseOf, GoesOn, Rests}
+use Rattle.r6_shard.specs.Refusing.{Lasts, own_faults, ending_faults, IsEnding, IsRefusedFor}
 
--- each request was accepted, in their order, with its event and what it asks, or its event stands among the refused
-abbrev pub AreServed : List Asking → List Asked → List world.Op → List (ℕ × Refusal) → Type 0
-AreServed [] asked ops refused = (asked ≡ []) × (ops ≡ []) × (refused ≡ [])
-AreServed (asking ∷ askings) asked ops refused =
+-- each request was accepted, in their order, with its event and what it asks, and had nothing wrong in itself; or its
+-- event stands among the refused, in their order too, with the reason; and once the service had ended none was accepted
+abbrev pub AreServed : CoreView → List Asking → List Asked → List world.Op → List (ℕ × Refusal) → Type 0
+AreServed core [] asked ops refused = (asked ≡ []) × (ops ≡ []) × (refused ≡ [])
+AreServed core (asking ∷ askings) asked ops refused =
     ((first : Asked) × (others : List Asked) × (other_ops : List world.Op)
     × (asked ≡ first ∷ others) × (first.event ≡ asking.event) × (ops ≡ op_of asking.op ∷ other_ops)
-    × AreServed askings others other_ops refused)
+    × HasNone (HasSubmitFault core asking.op) own_faults
+    × AreServed core askings others other_ops refused)
     ⊎ ((refusal : Refusal) × (others : List (ℕ × Refusal)) × (refused ≡ (asking.event, refusal) ∷ others)
-    × AreServed askings asked ops others)
+    × IsRefusedFor core asking.op refusal × (IsEnding refusal → asked ≡ [])
+    × AreServed core askings asked ops others)
 
 -- a request is accepted behind the others, while the shard goes on
 pub record HandsOver {P : Type 0} (tells : P → ℕ → ℕ → Option Telling) (asking : Asking) (old new : Shard P) : Type 0 where
+  pub lasts : Lasts old.core new.core
+  pub right : HasNone (HasSubmitFault old.core asking.op) own_faults
+  pub serving : HasNone (HasSubmitFault old.core asking.op) ending_faults
   pub course : (s : Start) (ops : List world.Op) → CourseOf tells s ops old → CourseOf tells s (ops ++ op_of asking.op ∷ []) new
   pub accepted : Asked
   pub event : accepted.event ≡ asking.event
   pub asked : new.asked.items ≡ old.asked.items ++ accepted ∷ []
 
--- none is accepted, while the shard goes on
-pub record KeepsAsked {P : Type 0} (tells : P → ℕ → ℕ → Option Telling) (old new : Shard P) : Type 0 where
+-- it is refused, while the shard goes on
+pub record Refuses {P : Type 0} (tells : P → ℕ → ℕ → Option Telling) (asking : Asking) (old : Shard P) (refusal : Refusal)
+    (new : Shard P) : Type 0 where
+  pub lasts : Lasts old.core new.core
+  pub reason : IsRefusedFor new.core asking.op refusal
   pub course : GoesOn tells old new
   pub asked : new.asked.items ≡ old.asked.items
 
+-- the register as a pass saw it last
+abbrev pub seen_by : View → Snapshot
+seen_by v = held v.start v.seen
+
 -- the ledger of a shard in which these ops were handed in, in this order: it is explained by one plain array that the
--- parts hold; only a shard that saw the failure answers so; and with nothing left to do all rows of a live one are idle
+-- parts hold; only a shard that saw the failure answers so, and it sees so only where its pass did; and with nothing left
+-- to do all rows of a live one are idle
 pub record IsLedger {P : Type 0} (tells : P → ℕ → ℕ → Option Telling) (s : Start) (ops : List world.Op) (shard : Shard P) : Type 0 where
   pub history : List Mark
   pub told : Tells shard.asked.items shard.entries.items ops history
   pub explained : HasLedger s (stand_of shard.core (view_of shard.pass) shard.looked (tells shard.parts) history)
   pub failure : (id : ℕ) → IsIn (Replied id ArrayFailed) history → (world_shard shard.core).saw_failed ≡ true
+  pub seen : (world_shard shard.core).saw_failed ≡ true → (seen_by (view_of shard.pass)).failed ≡ true
   pub idle : Rests shard → IsLive s.layout (world_shard shard.core) → (row : ℕ) → IsIdle (world_shard shard.core) row
 
 -- whatever lawful start it had whose devices hold what the parts told before
@@ -65,6 +84,8 @@ HasLedgerFrom tells geometry number snapshot before ops shard =
 pub record Serves {P : Type 0} (tells : P → ℕ → ℕ → Option Telling) (geometry : Shape) (number : ℕ) (snapshot : Snapshot)
     (before : ℕ → ℕ → Option Telling) (askings : List Asking) (shard : Shard P) (refused : List (ℕ × Refusal)) : Type 0 where
   pub ops : List world.Op
-  pub served : AreServed askings shard.asked.items ops refused
+  pub shape : shard.core.shape ≡ geometry
+  pub place : shard.core.shard ≡ number
+  pub served : AreServed shard.core askings shard.asked.items ops refused
   pub rests : Rests shard
   pub ledger : HasLedgerFrom tells geometry number snapshot before ops shard

@@ -11,11 +11,13 @@ impl<P: Performs + Drop> Shard<P> {
     ghost use Rattle.r6_health.specs.Passes.{IsPassOf};
     ghost use Rattle.r6_core.specs.Shards.{world_shard};
     ghost use Rattle.r6_shard.specs.Kept.{NoneIsOut};
+    ghost use Rattle.r6_shard.specs.Refusing.{Lasts};
     ghost use Rattle.r6_shard.specs.Shards.{GoesOn, SameLedger, Rests};
 
     // Performs what was put out, until nothing more is.
     fn perform_all<R: Wait>(&mut self, rt: &R)
         ensures course { GoesOn P.tells self.old self.new }
+        ensures lasts { Lasts self.old.core self.new.core }
         ensures ledger { SameLedger self.old self.new }
         ensures pass { self.new.pass ≡ self.old.pass }
         ensures none { NoneIsOut (world_shard self.new.core) }
@@ -32,6 +34,7 @@ impl<P: Performs + Drop> Shard<P> {
         requires { IsPassOf register.now self.old.pass }
         ensures pass { IsPassOf register.now self.new.pass }
         ensures course { GoesOn P.tells self.old self.new }
+        ensures lasts { Lasts self.old.core self.new.core }
         ensures ledger { SameLedger self.old self.new }
     {
         for _ in rt.forever() {
@@ -44,6 +47,7 @@ impl<P: Performs + Drop> Shard<P> {
     // Takes the replies that were released.
     fn collect_all<R: Wait>(&mut self, rt: &R)
         ensures course { GoesOn P.tells self.old self.new }
+        ensures lasts { Lasts self.old.core self.new.core }
         ensures asked { self.new.asked ≡ self.old.asked }
         ensures room { self.new.room ≡ self.old.room }
         ensures pass { self.new.pass ≡ self.old.pass }
@@ -60,6 +64,7 @@ impl<P: Performs + Drop> Shard<P> {
         requires { IsPassOf register.now self.old.pass }
         ensures pass { IsPassOf register.now self.new.pass }
         ensures course { GoesOn P.tells self.old self.new }
+        ensures lasts { Lasts self.old.core self.new.core }
         ensures asked { self.new.asked.items ≡ self.old.asked.items }
         ensures room { self.new.room ≡ self.old.room }
     {
@@ -74,6 +79,7 @@ impl<P: Performs + Drop> Shard<P> {
         requires { IsPassOf register.now self.old.pass }
         ensures pass { IsPassOf register.now self.new.pass }
         ensures course { GoesOn P.tells self.old self.new }
+        ensures lasts { Lasts self.old.core self.new.core }
         ensures ledger { SameLedger self.old self.new }
         ensures rests { result ≡ true → Rests self.new }
     {
@@ -95,6 +101,7 @@ impl<P: Performs + Drop> Shard<P> {
         requires { IsPassOf register.now self.old.pass }
         ensures pass { IsPassOf register.now self.new.pass }
         ensures course { GoesOn P.tells self.old self.new }
+        ensures lasts { Lasts self.old.core self.new.core }
         ensures asked { self.new.asked.items ≡ self.old.asked.items }
         ensures room { self.new.room ≡ self.old.room }
         ensures rests { Rests self.new }

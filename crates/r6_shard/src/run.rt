@@ -46,7 +46,9 @@ pub struct Served<P> {
 impl<P: Performs + Drop> Shard<P> {
     ghost use Rattle.std.specs.Prelude.{◌≡◌, ◌<◌, length, IfOk, IfErr};
     ghost use Rattle.r6_health.specs.Passes.{IsPassOf};
-    ghost use Rattle.r6_shard.specs.Runs.{HandsOver, KeepsAsked};
+    ghost use Rattle.r6_core.specs.Refusals.{most_unanswered};
+    ghost use Rattle.r6_shard.specs.Refusing.{Lasts};
+    ghost use Rattle.r6_shard.specs.Runs.{HandsOver, Refuses};
     ghost use Rattle.r6_shard.specs.Shards.{GoesOn};
 
     // Where as many requests are open as may be, they are answered.
@@ -54,8 +56,10 @@ impl<P: Performs + Drop> Shard<P> {
         requires { IsPassOf register.now self.old.pass }
         ensures pass { IsPassOf register.now self.new.pass }
         ensures course { GoesOn P.tells self.old self.new }
+        ensures lasts { Lasts self.old.core self.new.core }
         ensures asked { self.new.asked.items ≡ self.old.asked.items }
         ensures room { self.new.room ≡ self.old.room }
+        ensures few { self.new.core.unanswered < most_unanswered }
     {
         if self.asked.len() - self.entries.len() >= MOST_OPEN {
             self.run(rt, register);
@@ -74,7 +78,7 @@ impl<P: Performs + Drop> Shard<P> {
         ensures pass { IsPassOf register.now self.new.pass }
         ensures room { self.new.room ≡ self.old.room }
         ensures accepted { IfOk result (λ _. HandsOver P.tells asking self.old self.new) }
-        ensures refused { IfErr result (λ _. KeepsAsked P.tells self.old self.new) }
+        ensures refused { IfErr result (λ refusal. Refuses P.tells asking self.old refusal self.new) }
     {
         self.await_turn(rt, register);
         match self.submit(asking.event, asking.op) {

@@ -7,6 +7,7 @@ ghost use Rattle.r6_health.specs.Views.{Answered, made_by};
 ghost use Rattle.r6_world.specs.Worlds.{as_made};
 ghost use Rattle.r6_core.specs.Shards.{world_shard, call_of};
 ghost use Rattle.r6_shard.specs.Kept.{IsKept, named_by};
+ghost use Rattle.r6_shard.specs.Refusing.{Lasts};
 
 use crate::ledger::{Asked, Entry};
 use crate::performs::Performs;
@@ -104,6 +105,7 @@ impl<P: Performs + Drop> Shard<P> {
     ghost use Rattle.r6_layout.specs.Shape.{IsShape};
     ghost use Rattle.r6_shard.specs.Beginnings.{IsFirstPass};
     ghost use Rattle.r6_core.specs.Effects.{RefusesOp, RefusesTurn};
+    ghost use Rattle.r6_core.specs.Refusals.{HasSubmitFault, submit_faults, HasNone};
     ghost use Rattle.r6_shard.specs.Kept.{NoneIsOut, NoneIsToTell};
     ghost use Rattle.r6_shard.specs.Shards.{GoesOn, SameLedger, Submits, Collects, Begins};
 
@@ -133,6 +135,8 @@ impl<P: Performs + Drop> Shard<P> {
         ensures pass { IfOk result (λ shard. shard.pass ≡ pass) }
         ensures empty { IfOk result (λ shard. shard.asked.items ≡ []) }
         ensures room { IfOk result (λ shard. shard.room ≡ room) }
+        ensures shape { IfOk result (λ shard. shard.core.shape ≡ place.geometry) }
+        ensures place { IfOk result (λ shard. shard.core.shard ≡ place.number) }
     {
         let asked = Vec::with_capacity(alloc, room)?;
         let entries = Vec::with_capacity(alloc, room)?;
@@ -171,8 +175,10 @@ impl<P: Performs + Drop> Shard<P> {
     pub fn submit(&mut self, event: u64, op: Op) -> Result<OpId, Refused<Op>>
         requires room { length self.old.asked.items < self.old.room }
         ensures accepted { IfOk result (λ id. Submits P.tells event op self.old id.0 self.new) }
+        ensures right { IfOk result (λ _. HasNone (HasSubmitFault self.old.core op) submit_faults) }
         ensures refused { IfErr result (λ r. RefusesOp self.old.core op r.refusal r.back self.new.core) }
         ensures same { IfErr result (λ _. self.new ≡ self.old) }
+        ensures lasts { Lasts self.old.core self.new.core }
     {
         let block = op.block();
         let answered = self.entries.len();
@@ -192,6 +198,7 @@ impl<P: Performs + Drop> Shard<P> {
     /// Performs the command that was put out first, in place, and delivers its completion; whether there was one.
     pub fn perform_next(&mut self) -> bool
         ensures course { GoesOn P.tells self.old self.new }
+        ensures lasts { Lasts self.old.core self.new.core }
         ensures ledger { SameLedger self.old self.new }
         ensures pass { self.new.pass ≡ self.old.pass }
         ensures none { result ≡ false → NoneIsOut (world_shard self.new.core) }
@@ -215,6 +222,7 @@ impl<P: Performs + Drop> Shard<P> {
         requires { IsPassOf register.now self.old.pass }
         ensures pass { IsPassOf register.now self.new.pass }
         ensures course { GoesOn P.tells self.old self.new }
+        ensures lasts { Lasts self.old.core self.new.core }
         ensures ledger { SameLedger self.old self.new }
     {
         let snapshot = register.read(rt, &mut self.pass);
@@ -227,6 +235,7 @@ impl<P: Performs + Drop> Shard<P> {
         requires { IsPassOf register.now self.old.pass }
         ensures pass { IsPassOf register.now self.new.pass }
         ensures course { GoesOn P.tells self.old self.new }
+        ensures lasts { Lasts self.old.core self.new.core }
         ensures ledger { SameLedger self.old self.new }
         ensures none { result ≡ false → (world_shard self.new.core ≡ world_shard self.old.core)
             × NoneIsToTell (world_shard self.new.core) }
@@ -244,6 +253,7 @@ impl<P: Performs + Drop> Shard<P> {
     /// Takes the reply that was released first into the ledger; whether there was one.
     pub fn collect(&mut self) -> bool
         ensures course { GoesOn P.tells self.old self.new }
+        ensures lasts { Lasts self.old.core self.new.core }
         ensures ledger { Collects result self.old self.new }
         ensures asked { self.new.asked ≡ self.old.asked }
         ensures room { self.new.room ≡ self.old.room }
@@ -268,6 +278,7 @@ impl<P: Performs + Drop> Shard<P> {
     /// Those of [`Core::turn`]. Nothing changes.
     pub fn turn(&mut self, task: Task) -> Result<Turn, Refusal>
         ensures course { GoesOn P.tells self.old self.new }
+        ensures lasts { Lasts self.old.core self.new.core }
         ensures ledger { SameLedger self.old self.new }
         ensures pass { self.new.pass ≡ self.old.pass }
         ensures refused { IfErr result (λ refusal. RefusesTurn self.old.core task refusal self.new.core) }

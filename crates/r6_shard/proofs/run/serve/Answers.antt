@@ -16,7 +16,8 @@ loop-asking-init g c =
     record {
       pass = subst (IsPassOf c.args.register.now) (sym c.in_ok-shard.ensures.pass) c.requires.pass;
       way = underway tells job.place.geometry job.place.number c.args.snapshot.now (tells job.parts) job.askings.items shard c.in_ok-refused.refused.items
-          (ap tells c.in_ok-shard.ensures.parts) c.in_ok-shard.ensures.begins c.in_ok-shard.ensures.empty c.in_ok-refused.ensures.items;
+          (ap tells c.in_ok-shard.ensures.parts) c.in_ok-shard.ensures.begins c.in_ok-shard.ensures.shape c.in_ok-shard.ensures.place
+          c.in_ok-shard.ensures.empty c.in_ok-refused.ensures.items;
       room = omega (arith, none, all, c.in_ok-shard.ensures.room, c.len-room.ensures);
       refused_room = omega (arith, none', all, c.in_ok-refused.ensures.capacity, c.len-room.ensures);
     }
@@ -73,4 +74,5 @@ returns-clause-served g c =
     let all : deque_len before.askings ≡ length before.askings.items = search rules in
     let ended : length before.askings.items ≡ 0 = sym all ∙ c.in_default.ensures.cases.0 in
     serves tells job.place.geometry job.place.number c.args.snapshot.now (tells job.parts) job.askings.items before.askings.items before.shard
-    c.run.new.self before.refused.items (none-left before.askings.items ended) before.invariant.way c.run.ensures.course c.run.ensures.asked c.run.ensures.rests
+    c.run.new.self before.refused.items (none-left before.askings.items ended) before.invariant.way c.run.ensures.course c.run.ensures.lasts
+    c.run.ensures.asked c.run.ensures.rests

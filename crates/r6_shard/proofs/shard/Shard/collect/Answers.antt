@@ -7,6 +7,7 @@ use Rattle.r6_shard.specs.declared.ledger.Asked.{Asked}
 use Rattle.r6_shard.specs.declared.ledger.Entry.{Entry}
 use Rattle.r6_shard.specs.Courses.{HasCourse}
 use Rattle.r6_shard.proofs.Keeping.{kept-plainly}
+use Rattle.r6_shard.proofs.Lasting.{lasts_by}
 use Rattle.r6_shard.proofs.Going.{has-collected}
 use Rattle.r6_shard.proofs.shard.Shard.collect.Goals as goal
 
@@ -36,3 +37,10 @@ returns-clause-course g c = λ s ops x.
     (has-collected s old.core new v old.looked part old.asked.items old.entries.items ops entry step below
     (get_or-map (λ (a : Asked). a.event) old.asked.items id _ 0 below ∙ ap (λ (a : Asked). a.event) (sym c.index-asked.ensures))
     (get_or-map (λ (a : Asked). a.block) old.asked.items id _ 0 below ∙ ap (λ (a : Asked). a.block) (sym c.index-asked.ensures)) x)
+
+pub returns-in_default-clause-lasts : goal.returns-in_default-clause-lasts
+returns-in_default-clause-lasts g c = lasts_by c.args.self.now.core No_reply c.take_reply.new.self c.in_default.ensures.reply.step
+
+pub returns-clause-lasts : goal.returns-clause-lasts
+returns-clause-lasts g c =
+    lasts_by c.args.self.now.core (Take_reply c.in-Some.id.0 (reply_of c.in-Some.reply)) c.take_reply.new.self c.in-Some.ensures.reply.step

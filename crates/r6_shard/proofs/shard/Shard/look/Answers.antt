@@ -6,6 +6,8 @@ use Rattle.r6_core.specs.Effects.{LooksAt, RefusesLook}
 use Rattle.r6_shard.specs.Kept.{IsKept}
 use Rattle.r6_shard.specs.Courses.{HasCourse}
 use Rattle.r6_shard.proofs.Keeping.{kept-plainly}
+use Rattle.r6_shard.specs.Refusing.{Lasts}
+use Rattle.r6_shard.proofs.Lasting.{lasts_by, lasts_same}
 use Rattle.r6_shard.proofs.Going.{has-gone, has-seen, either_way, both_ok, both_err}
 use Rattle.r6_shard.proofs.shard.Shard.look.Goals as goal
 
@@ -50,3 +52,13 @@ returns-clause-course g c = λ s ops x.
     (λ refusal refused.
     subst (λ z. HasCourse s new w z part old.asked.items old.entries.items ops) (sym refused.1)
     (subst (λ z. HasCourse s z w old.looked part old.asked.items old.entries.items ops) (sym refused.0.same) y))
+
+pub returns-clause-lasts : goal.returns-clause-lasts
+returns-clause-lasts g c =
+    let old = c.args.self.now.core in
+    let new = c.look.new.self in
+    let snapshot = c.read-snapshot.result in
+    either_way c.look.result (λ _. LooksAt old snapshot new) (λ refusal. RefusesLook old refusal new) (Lasts old new)
+    c.look.ensures.looked c.look.ensures.refused
+    (λ _ looked. lasts_by old (Look snapshot) new looked.step)
+    (λ refusal refused. lasts_same old new refused.same)

@@ -1,12 +1,13 @@
 use Rattle.std.proofs.Common.{◌<◌, length, sym, subst, arith}
-use Rattle.r6_world.specs.Steps.{No_command}
+use Rattle.r6_world.specs.Steps.{No_command, Take_command, Deliver}
 use Rattle.r6_frames.specs.Views.{world_command}
-use Rattle.r6_core.specs.Shards.{core_layout, world_shard, receipt_of}
+use Rattle.r6_core.specs.Shards.{core_layout, world_shard, completion_of, receipt_of}
 use Rattle.r6_health.specs.Passes.{view_of}
 use Rattle.r6_shard.specs.Kept.{IsKept}
 use Rattle.r6_shard.proofs.Steps.{none-out}
 use Rattle.r6_shard.proofs.Keeping.{kept-plainly, kept-performing}
 use Rattle.r6_shard.proofs.Courses.{not-refused}
+use Rattle.r6_shard.proofs.Lasting.{lasts_by, lasts_twice}
 use Rattle.r6_shard.proofs.Going.{has-performed, at_err}
 use Rattle.r6_shard.proofs.shard.Shard.perform_next.Goals as goal
 
@@ -49,3 +50,14 @@ returns-clause-course g c = λ s ops x.
     has-performed s old.core c.take_command.new.self c.deliver.new.self (view_of old.pass) old.looked (tells old.parts) (tells c.perform-completion.new.self)
     old.asked.items old.entries.items ops c.in-Some.command t.0 t.1 (receipt_of c.in-Ok.receipt) c.perform-completion.result
     t.2 c.in-Ok.ensures.received.step c.perform-completion.ensures x
+
+pub returns-in_default-clause-lasts : goal.returns-in_default-clause-lasts
+returns-in_default-clause-lasts g c = lasts_by c.args.self.now.core No_command c.take_command.new.self c.in_default.ensures.step
+
+pub returns-clause-lasts : goal.returns-clause-lasts
+returns-clause-lasts g c =
+    let command = c.in-Some.command in
+    let t = c.in-Some.ensures.step in
+    lasts_twice c.args.self.now.core (Take_command command.token (world_command t.0 t.1 command)) c.take_command.new.self
+    (Deliver command.token (completion_of c.perform-completion.result) (receipt_of c.in-Ok.receipt)) c.deliver.new.self t.2
+    c.in-Ok.ensures.received.step

@@ -1,6 +1,7 @@
 use Rattle.std.proofs.Common.{◌≡◌}
 use Rattle.r6_health.specs.Passes.{IsPassOf}
 use Rattle.r6_shard.specs.Shards.{GoesOn}
+use Rattle.r6_shard.specs.Refusing.{Lasts}
 use Rattle.r6_shard.proofs.shard.Shard.run.Given as goal
 
 abbrev pub invariant-loop : goal.invariant-loop
@@ -8,6 +9,7 @@ invariant-loop g l =
     (goal.iterator-loop g).can_next l.iterator' × (goal.iterator-loop g).is_finite l.iterator' × record {
       pass : IsPassOf l.register l.self.pass;
       course : GoesOn g.P.Performs.tells l.fn.self l.self;
+      lasts : Lasts l.fn.self.core l.self.core;
       asked : l.self.asked.items ≡ l.fn.self.asked.items;
       room : l.self.room ≡ l.fn.self.room;
     }

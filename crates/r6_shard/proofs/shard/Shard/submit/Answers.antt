@@ -3,12 +3,14 @@ use Rattle.std.proofs.lemmas.List.{length-append}
 use Rattle.r6_health.specs.Passes.{view_of}
 use Rattle.r6_frames.specs.Views.{op_of}
 use Rattle.r6_world.specs.PlainArray.{block_of}
+use Rattle.r6_world.specs.Steps.{Submit}
 use Rattle.r6_core.specs.Shards.{CoreView, core_layout, world_shard}
 use Rattle.r6_shard.specs.Kept.{IsKept}
 use Rattle.r6_shard.specs.Courses.{HasCourse}
 use Rattle.r6_shard.proofs.Steps.{one-more}
 use Rattle.r6_shard.proofs.Keeping.{kept-submitting}
 use Rattle.r6_shard.proofs.Going.{has-submitted}
+use Rattle.r6_shard.proofs.Lasting.{lasts_by, lasts_same}
 use Rattle.r6_shard.proofs.shard.Shard.submit.Goals as goal
 
 pub invariant_of-self-clause-kept : goal.invariant_of-self-clause-kept
@@ -57,3 +59,10 @@ returns-in-Ok-clause-accepted g c =
       room = refl;
       pass = refl;
     }
+
+pub returns-in-Ok-clause-lasts : goal.returns-in-Ok-clause-lasts
+returns-in-Ok-clause-lasts g c =
+    lasts_by c.args.self.now.core (Submit (op_of c.args.op) c.in-Ok.id.0) c.submit.new.self c.in-Ok.ensures.accepted.step
+
+pub returns-in-Err-clause-lasts : goal.returns-in-Err-clause-lasts
+returns-in-Err-clause-lasts g c = lasts_same c.args.self.now.core c.submit.new.self c.in-Err.ensures.refused.same

@@ -1,5 +1,6 @@
 use Rattle.r6_health.specs.Passes.{IsPassOf}
 use Rattle.r6_shard.specs.Shards.{GoesOn, SameLedger}
+use Rattle.r6_shard.specs.Refusing.{Lasts}
 use Rattle.r6_shard.proofs.shard.Shard.tell_all.Given as goal
 
 abbrev pub invariant-loop : goal.invariant-loop
@@ -7,5 +8,6 @@ invariant-loop g l =
     (goal.iterator-loop g).can_next l.iterator' × (goal.iterator-loop g).is_finite l.iterator' × record {
       pass : IsPassOf l.register l.self.pass;
       course : GoesOn g.P.Performs.tells l.fn.self l.self;
+      lasts : Lasts l.fn.self.core l.self.core;
       ledger : SameLedger l.fn.self l.self;
     }

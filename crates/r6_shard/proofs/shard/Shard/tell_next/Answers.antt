@@ -3,9 +3,10 @@ use Rattle.r6_world.specs.ShardStates.{Shard}
 use Rattle.r6_core.specs.Effects.{Hears, RefusesAnswer}
 use Rattle.r6_shard.specs.Kept.{IsKept}
 use Rattle.r6_health.specs.Passes.{view_of}
-use Rattle.r6_world.specs.Steps.{No_call}
+use Rattle.r6_world.specs.Steps.{No_call, Take_call, Told}
 use Rattle.r6_core.specs.Shards.{call_of}
 use Rattle.r6_shard.proofs.Keeping.{kept-plainly, kept-telling}
+use Rattle.r6_shard.proofs.Lasting.{lasts_by, lasts_twice}
 use Rattle.r6_shard.proofs.Going.{has-told, either_way}
 use Rattle.r6_shard.proofs.shard.Shard.tell_next.Goals as goal
 
@@ -33,3 +34,12 @@ returns-clause-course g c = λ s ops x.
     has-told s old.core c.take_call.new.self c.told.new.self (view_of old.pass) (view_of c.make-answer.new.pass) old.looked (g.P.Performs.tells old.parts)
     old.asked.items old.entries.items ops old.number c.in-Some.call c.make-answer.result old.kept.0 c.in-Some.ensures.step
     c.in-Ok.ensures.heard.step c.make-answer.ensures.answered x
+
+pub returns-in_default-clause-lasts : goal.returns-in_default-clause-lasts
+returns-in_default-clause-lasts g c = lasts_by c.args.self.now.core No_call c.take_call.new.self c.in_default.ensures.step
+
+pub returns-clause-lasts : goal.returns-clause-lasts
+returns-clause-lasts g c =
+    let call = call_of c.in-Some.call in
+    lasts_twice c.args.self.now.core (Take_call call) c.take_call.new.self (Told call c.make-answer.result) c.told.new.self
+    c.in-Some.ensures.step c.in-Ok.ensures.heard.step

@@ -6,6 +6,8 @@ use Rattle.r6_core.specs.Effects.{Turns, RefusesTurn}
 use Rattle.r6_shard.specs.Kept.{IsKept}
 use Rattle.r6_shard.specs.Courses.{HasCourse}
 use Rattle.r6_shard.proofs.Keeping.{kept-plainly, turned}
+use Rattle.r6_shard.specs.Refusing.{Lasts}
+use Rattle.r6_shard.proofs.Lasting.{lasts_turned, lasts_same}
 use Rattle.r6_shard.proofs.Going.{has-gone, either_way}
 use Rattle.r6_shard.proofs.shard.Shard.turn.Goals as goal
 
@@ -45,3 +47,13 @@ returns-clause-course g c = λ s ops x.
     subst (λ y. HasCourse s new v y part old.asked.items old.entries.items ops) (p.4 old.looked)
     (has-gone s old.core new v old.looked part old.asked.items old.entries.items ops p.0 (p.2 (held v.start v.seen)) p.3 p.5 x))
     (λ refusal refused. subst (λ z. HasCourse s z v old.looked part old.asked.items old.entries.items ops) (sym refused.same) x)
+
+pub returns-clause-lasts : goal.returns-clause-lasts
+returns-clause-lasts g c =
+    let old = c.args.self.now.core in
+    let new = c.turn.new.self in
+    let task = c.args.task in
+    either_way c.turn.result (λ turn. Turns old task turn new) (λ refusal. RefusesTurn old task refusal new) (Lasts old new)
+    c.turn.ensures.turned c.turn.ensures.refused
+    (λ turn t. lasts_turned old task turn new t.taken)
+    (λ refusal refused. lasts_same old new refused.same)

@@ -1,0 +1,174 @@
+-- What no call of a shard takes back, and so why a request stays refused.
+use Rattle.std.proofs.Common.{◌≡◌, ◌≢◌, ℕ, ◌<◌, ◌≤◌, List, [], ◌∷◌, length, true, inl, inr, refl, sym, subst, ◌∙◌, arith}
+use Rattle.r6_layout.specs.Shape.{Shape, blocks}
+use Rattle.r6_layout.specs.Layout as layout
+use Rattle.r6_world.specs.PlainArray as world
+use Rattle.r6_world.specs.Layouts.{Layout}
+use Rattle.r6_world.specs.ShardStates.{Shard}
+use Rattle.r6_world.specs.Changes.{Accept, Ask, Send, See_failed}
+use Rattle.r6_world.specs.Steps.{Event}
+use Rattle.r6_world.proofs.Changes.{Keeps, step-kept}
+use Rattle.r6_frames.specs.Views.{op_of, buffer_of}
+use Rattle.r6_core.specs.declared.Op.{Op}
+use Rattle.r6_core.specs.declared.refusal.Refusal.{Refusal}
+use Rattle.r6_core.specs.declared.refusal.Refusal.TheVariants.{NoSuchBlock, WrongShard, WrongLength, ArrayFailed, Exhausted}
+use Rattle.r6_core.specs.declared.turn.Task.{Task}
+use Rattle.r6_core.specs.declared.turn.Turn.{Turn}
+use Rattle.r6_core.specs.Refusals.{HasSubmitFault, submit_faults, most_unanswered, IsFirstFault, HasNone}
+use Rattle.r6_core.specs.Shards.{CoreView, SameShard, Step, core_layout, world_shard}
+use Rattle.r6_core.specs.Effects.{TakesTurn}
+use Rattle.r6_shard.specs.Refusing.{Lasts, own_faults, ending_faults, IsEnding, IsRefusedFor}
+use Rattle.r6_shard.proofs.Keeping.{turned}
+
+-- ---- each step
+
+-- a shard is as far as it was, or further
+abbrev IsPast : Shard → Shard → Type 0
+IsPast first s = (first.saw_failed ≡ true → s.saw_failed ≡ true) × (first.tokens ≤ s.tokens) × (first.accepted ≤ s.accepted)
+
+still-past : (l : Layout) (n : ℕ) (first : Shard) (event : Event) → Keeps l n (IsPast first) event
+still-past l n first event s (Accept op) within a x = (x.0, x.1, let more = x.2 in omega arith)
+still-past l n first event s (Ask f h slot g) within a x = (x.0, let more = x.1 in omega arith, x.2)
+still-past l n first event s (Send f h slot g b) within a x = (x.0, let more = x.1 in omega arith, x.2)
+still-past l n first event s See_failed within a x = (λ saw. refl, x.1, x.2)
+still-past l n first event s change within a x = x
+
+pub lasts_by : (old : CoreView) (event : Event) (new : CoreView) → Step old event new → Lasts old new
+lasts_by old event new step =
+    let now = world_shard old in
+    let p = step-kept (core_layout old) old.shard (IsPast now) event (still-past (core_layout old) old.shard now event) now (world_shard new) step.1
+    (λ saw. saw, omega arith, omega arith) in
+    record { same = step.0; failure = p.0; tokens = p.1; accepted = p.2 }
+
+pub lasts_same : (old new : CoreView) → new ≡ old → Lasts old new
+lasts_same old new same =
+    subst (Lasts old) (sym same)
+    (record { same = (refl, refl); failure = λ saw. saw; tokens = omega arith; accepted = omega arith })
+
+pub lasts_still : (core : CoreView) → Lasts core core
+lasts_still core = lasts_same core core refl
+
+pub lasts_on : (old mid new : CoreView) → Lasts old mid → Lasts mid new → Lasts old new
+lasts_on old mid new x y =
+    record {
+      same = (y.same.0 ∙ x.same.0, y.same.1 ∙ x.same.1);
+      failure = λ saw. y.failure (x.failure saw);
+      tokens = omega (arith, x.tokens, y.tokens);
+      accepted = omega (arith, x.accepted, y.accepted);
+    }
+
+pub lasts_twice : (old : CoreView) (first : Event) (mid : CoreView) (second : Event) (new : CoreView) → Step old first mid
+    → Step mid second new → Lasts old new
+lasts_twice old first mid second new x y = lasts_on old mid new (lasts_by old first mid x) (lasts_by mid second new y)
+
+pub lasts_turned : (old : CoreView) (task : Task) (turn : Turn) (new : CoreView) → TakesTurn old task turn new → Lasts old new
+lasts_turned old task turn new x = let p = turned old task turn new x in lasts_by old p.0 new p.5
+
+-- ---- what a request has wrong in itself
+
+-- it is of the array and the shard's number alone
+abbrev HasOwnFault : Shape → (number : ℕ) → Op → Refusal → Type 0
+HasOwnFault shape number o NoSuchBlock = blocks shape ≤ world.block_of (op_of o)
+HasOwnFault shape number o WrongShard = layout.shard_of shape (layout.row_of shape (world.block_of (op_of o))) ≢ number
+HasOwnFault shape number o WrongLength = length (buffer_of o) ≢ shape.block
+HasOwnFault shape number o _ = ⊥
+
+pub none-own : (old new : CoreView) (o : Op) → SameShard old new → HasNone (HasSubmitFault old o) own_faults
+    → HasNone (HasSubmitFault new o) own_faults
+none-own old new o same x =
+    subst (λ (number : ℕ). HasNone (HasOwnFault new.shape number o) own_faults) (sym same.1)
+    (subst (λ (shape : Shape). HasNone (HasOwnFault shape old.shard o) own_faults) (sym same.0) x)
+
+first-own : (old new : CoreView) (o : Op) (refusal : Refusal) → SameShard old new
+    → IsFirstFault (HasSubmitFault old o) own_faults refusal → IsFirstFault (HasSubmitFault new o) own_faults refusal
+first-own old new o refusal same x =
+    subst (λ (number : ℕ). IsFirstFault (HasOwnFault new.shape number o) own_faults refusal) (sym same.1)
+    (subst (λ (shape : Shape). IsFirstFault (HasOwnFault shape old.shard o) own_faults refusal) (sym same.0) x)
+
+-- ---- what ends the service
+
+ending-on : (old new : CoreView) (o : Op) (refusal : Refusal) → Lasts old new → IsEnding refusal → HasSubmitFault old o refusal
+    → HasSubmitFault new o refusal
+ending-on old new o ArrayFailed x ending fault = x.failure fault
+ending-on old new o Exhausted x ending fault = elim fault [
+  | inl out ↦ inl (omega (arith, out, x.tokens))
+  | inr out ↦ inr (omega (arith, out, x.accepted))
+]
+ending-on old new o refusal x ending fault = absurd ending
+
+-- it ends for every request
+ended-for : (core : CoreView) (o other : Op) (refusal : Refusal) → IsEnding refusal → HasSubmitFault core o refusal → HasSubmitFault core other refusal
+ended-for core o other ArrayFailed ending fault = fault
+ended-for core o other Exhausted ending fault = fault
+ended-for core o other refusal ending fault = absurd ending
+
+still-serving : (core : CoreView) (o : Op) (refusal : Refusal) → HasNone (HasSubmitFault core o) ending_faults → IsEnding refusal
+    → HasSubmitFault core o refusal → ⊥
+still-serving core o ArrayFailed none ending fault = none.0 fault
+still-serving core o Exhausted none ending fault = none.1.0 fault
+still-serving core o refusal none ending fault = absurd ending
+
+first-holds : (HasFault : Refusal → Type 0) (faults : List Refusal) (refusal : Refusal) → IsFirstFault HasFault faults refusal → HasFault refusal
+first-holds HasFault [] refusal x = absurd x
+first-holds HasFault (fault ∷ faults) refusal x = elim x [
+  | inl here ↦ subst HasFault (sym here.0) here.1
+  | inr later ↦ first-holds HasFault faults refusal later.1
+]
+
+refused-holds : (core : CoreView) (o : Op) (refusal : Refusal) → IsRefusedFor core o refusal → HasSubmitFault core o refusal
+refused-holds core o refusal x = elim x [
+  | inl own ↦ first-holds (HasSubmitFault core o) own_faults refusal own
+  | inr ended ↦ ended.2
+]
+
+-- where a request was refused since the service had ended, no other is right
+pub none-later : (core : CoreView) (o later : Op) (refusal : Refusal) → IsRefusedFor core o refusal → IsEnding refusal
+    → HasNone (HasSubmitFault core later) ending_faults → ⊥
+none-later core o later refusal x ending none =
+    still-serving core later refusal none ending (ended-for core o later refusal ending (refused-holds core o refusal x))
+
+-- ---- the reason stays
+
+pub still-refused : (old new : CoreView) (o : Op) (refusal : Refusal) → Lasts old new → IsRefusedFor old o refusal → IsRefusedFor new o refusal
+still-refused old new o refusal x y = elim y [
+  | inl own ↦ inl (first-own old new o refusal x.same own)
+  | inr ended ↦ inr (none-own old new o x.same ended.0, ended.1, ending-on old new o refusal x ended.1 ended.2)
+]
+
+same-back : (old new : CoreView) → SameShard old new → SameShard new old
+same-back old new same = (sym same.0, sym same.1)
+
+-- what is right now was right before
+pub was-right : (old new : CoreView) (o : Op) → Lasts old new → HasNone (HasSubmitFault new o) submit_faults
+    → HasNone (HasSubmitFault old o) own_faults
+was-right old new o x y = none-own new old o (same-back old new x.same) (y.0, (y.1.0, (y.1.1.0, tt)))
+
+pub was-serving : (old new : CoreView) (o : Op) → Lasts old new → HasNone (HasSubmitFault new o) submit_faults
+    → HasNone (HasSubmitFault old o) ending_faults
+was-serving old new o x y = (
+  λ fault. y.1.1.1.0 (ending-on old new o ArrayFailed x (record {}) fault),
+  (λ fault. y.1.1.1.1.0 (ending-on old new o Exhausted x (record {}) fault), tt),
+)
+
+-- with less than as many requests open as may be, none is refused for their number
+pub refused-so : (core : CoreView) (o : Op) (refusal : Refusal) → core.unanswered < most_unanswered
+    → IsFirstFault (HasSubmitFault core o) submit_faults refusal → IsRefusedFor core o refusal
+refused-so core o refusal few x = elim x [
+  | inl block ↦ inl (inl block)
+  | inr b ↦ elim b.1 [
+    | inl shard ↦ inl (inr (b.0, inl shard))
+    | inr s ↦ elim s.1 [
+      | inl long ↦ inl (inr (b.0, inr (s.0, inl long)))
+      | inr n ↦ elim n.1 [
+        | inl failed ↦ inr ((b.0, (s.0, (n.0, tt))), subst IsEnding (sym failed.0) (record {}), subst (HasSubmitFault core o) (sym failed.0) failed.1)
+        | inr f ↦ elim f.1 [
+          | inl out ↦ inr ((b.0, (s.0, (n.0, tt))), subst IsEnding (sym out.0) (record {}), subst (HasSubmitFault core o) (sym out.0) out.1)
+          | inr e ↦ elim e.1 [
+            | inl busy ↦ absurd (let many = busy.1 in omega (arith, few, many))
+            | inr none ↦ absurd none.1
+          ]
+        ]
+      ]
+    ]
+  ]
+]
