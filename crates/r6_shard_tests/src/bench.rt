@@ -17,7 +17,7 @@ use std::collections::VecDeque;
 use std::sync::Wait;
 
 /// The bytes of a block.
-const BLOCK: usize = 16;
+pub(crate) const BLOCK: usize = 16;
 
 /// What a request asks.
 #[derive(Clone, Copy)]
@@ -52,7 +52,8 @@ fn filled(alloc: Global, byte: u8) -> Result<Buffer, AllocError> {
     Ok(block)
 }
 
-fn op_of(alloc: Global, ask: Ask) -> Result<Op, AllocError> {
+/// A request as a core takes it.
+pub(crate) fn op_of(alloc: Global, ask: Ask) -> Result<Op, AllocError> {
     match ask {
         Ask::Write(block, byte) => Ok(Op::Write(block, filled(alloc, byte)?)),
         Ask::Read(block) => Ok(Op::Read(block, Buffer::new(alloc, BLOCK)?)),
@@ -72,9 +73,13 @@ fn askings_of(alloc: Global, asks: &[Ask]) -> Result<VecDeque<Asking>, AllocErro
     Ok(askings)
 }
 
-/// A device of zeros for each slot, with so many rows.
-fn parts_of(alloc: Global, rows: &[u64]) -> Result<Parts<MemoryDevice>, AllocError> {
-    let mut parts = Vec::new(alloc);
+/// A device of zeros for each slot, with so many rows, and room for so many parts more.
+pub(crate) fn parts_of(
+    alloc: Global,
+    rows: &[u64],
+    more: usize,
+) -> Result<Parts<MemoryDevice>, AllocError> {
+    let mut parts = Vec::with_capacity(alloc, rows.len().saturating_add(more))?;
     for slot in 0..rows.len() {
         let device = MemoryDevice::new(alloc, 0..rows[slot], BLOCK)?;
         parts.push(Part {
@@ -107,7 +112,7 @@ pub(crate) fn play<R: Wait>(
     let job = Job {
         place,
         pass,
-        parts: parts_of(alloc, rows)?,
+        parts: parts_of(alloc, rows, 0)?,
         askings: askings_of(alloc, asks)?,
     };
     serve(rt, alloc, &snapshot, register, job)
@@ -121,7 +126,8 @@ fn read_of(block: &Buffer) -> Answer {
     }
 }
 
-fn answer_of(reply: &Reply) -> Answer {
+/// What a reply says.
+pub(crate) fn answer_of(reply: &Reply) -> Answer {
     match reply {
         Reply::Data(block) => read_of(block),
         Reply::Done(_) => Answer::Done,

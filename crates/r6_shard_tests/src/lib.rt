@@ -4,4 +4,6 @@
 #[cfg(test)]
 mod bench;
 #[cfg(test)]
+mod handed;
+#[cfg(test)]
 mod served;
