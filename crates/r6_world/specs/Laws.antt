@@ -6,7 +6,7 @@ use Rattle.r6_world.specs.PlainArray.{Array, Plain}
 use Rattle.r6_world.specs.Layouts.{Layout, IsLayout, IsArray}
 use Rattle.r6_world.specs.Worlds.{World, Devices, Happening, Core, Perform, Tell, Outside, Moment, Run, next, started}
 use Rattle.r6_world.specs.Claims.{IsLawfulStart, IsIdle, IsUnwritten, RowsHold, RebuiltEverywhere, RepliesArePlain, AnswersFail, IsQuiet, AllAnswered}
-use Rattle.r6_world.specs.ActingPoints.{acting, plain_after, MayAct}
+use Rattle.r6_world.specs.ActingPoints.{acting, forgotten, plain_next, MayAct}
 
 -- A run is explained by the requests that act at each of its steps, where at each step they may act, and something is
 -- claimed of the world before, of the world after and of the plain array after
@@ -14,8 +14,9 @@ abbrev pub Explained : Layout → (World → World → Plain → Type 0) → Wor
 Explained l Claimed w plain [] = record {}
 Explained l Claimed w plain (m ∷ moments) =
     let new = next l w m in
-    let plain' = plain_after w (acting l w new) plain in
-    MayAct w [] (acting l w new) plain × Claimed w new plain' × Explained l Claimed new plain' moments
+    let plain' = plain_next l w m plain in
+    MayAct w [] (acting l w m.happening new plain) (forgotten w new plain) × Claimed w new plain'
+    × Explained l Claimed new plain' moments
 
 abbrev pub AtEach : Layout → (World → Type 0) → World → List Moment → Type 0
 AtEach l Claimed w [] = Claimed w

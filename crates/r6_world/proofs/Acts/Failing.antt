@@ -1,16 +1,18 @@
 -- Replies come by looks alone.
 use Rattle.std.proofs.Common.{◌≡◌, ℕ, ◌⊎◌, Bool, true, false, cond, inl, inr, refl, sym, ap, ◌∙◌, Option, Some, None}
 use Rattle.std.proofs.lemmas.Bool.{cases_Bool}
-use Rattle.r6_world.specs.Changes.{Accept, Start, Ask, Prepare, Classify, Send, Learn, Confirm, Come_home, Lose, Adopt, See_failed, Finish, Release, Hand_command, Hand_call, Hear, Hand_reply, Bring_in, Skip_turn, finished_stage, failed_stage, failed_request}
+use Rattle.r6_world.specs.Changes.{Accept, Start, Ask, Prepare, Classify, Send, Learn, Confirm, Come_home, Lose, Adopt, See_failed, Finish, Release, Hand_command, Hand_call, Hear, Hand_reply, Bring_in, Skip_turn, finished_stage, failed_stage, failed_request, Read_direct, Give_direct, abandoned_to}
 use Rattle.r6_world.specs.Layouts.{Layout}
-use Rattle.r6_world.specs.PlainArray.{Op, Reply, ArrayFailed}
+use Rattle.r6_world.specs.PlainArray.{Op, Reply, ArrayFailed, Data}
 use Rattle.r6_world.specs.Registers.{Snapshot}
-use Rattle.r6_world.specs.ShardStates.{Shard, Request, Stage, Waiting, Held, Finished, Released}
+use Rattle.r6_world.specs.ShardStates.{Shard, Request, Stage, Waiting, Held, Finished, Released, Reading}
 use Rattle.r6_world.specs.Steps.{Event, Look}
 use Rattle.r6_world.specs.Tasks.{Outcome, serves}
 use Rattle.r6_world.proofs.Tables.{put-cases, not_both}
 use Rattle.r6_world.proofs.Acts.Requests.{request_at, not_held, same_stage, held_now-served, held_now-other, staged-cases, finished-cases, failed-cases}
 use Rattle.r6_world.proofs.Changes.{Keeps}
+use Rattle.r6_world.specs.Tables.{put}
+use Rattle.r6_world.proofs.Acts.ReadOns.{read-released}
 
 -- what is released was released before
 pub record OnlyOld (old s : Shard) : Type 0 where
@@ -26,8 +28,15 @@ cond-not false reply r k e = cc
 finished-was : (f : ℕ) (outcome : Outcome) (op : Op) (before : Stage) (reply : Reply) → finished_stage f outcome op before ≡ Released reply → before ≡ Released reply
 finished-was f outcome op Waiting reply e = e
 finished-was f outcome op (Held k) reply e = absurd (cond-not _ reply _ k e)
+finished-was f outcome op (Reading t) reply e = e
 finished-was f outcome op (Finished r) reply e = e
 finished-was f outcome op (Released r) reply e = e
+
+reading_not : (token : ℕ) (reply : Reply) → Reading token ≡ Released reply → ⊥
+reading_not token reply e = cc
+
+finished_not : (r reply : Reply) → Finished r ≡ Released reply → ⊥
+finished_not r reply e = cc
 
 pub old-kept : (l : Layout) (n : ℕ) (old : Shard) (event : Event) → ((seen : Snapshot) → event ≡ Look seen → ⊥) → Keeps l n (OnlyOld old) event
 old-kept l n old event barred s (Accept op) within a x = record {
@@ -43,11 +52,21 @@ old-kept l n old event barred s (Ask f h slot g) within a x = record { only = x.
 old-kept l n old event barred s (Prepare f h e) within a x = record { only = x.only }
 old-kept l n old event barred s (Classify f h class) within a x = record { only = x.only }
 old-kept l n old event barred s (Send f h slot g b) within a x = record { only = x.only }
+old-kept l n old event barred s (Read_direct buffer id block g) within a x = record {
+  only = λ i o r e. elim (put-cases s.request id _ i _ e) [ inl p ↦ absurd (reading_not s.tokens r (same_stage _ _ _ _ p.1).1) | inr p ↦ x.only i o r p.1 ];
+}
+old-kept l n old event barred s (Give_direct t c id block b) within a x = record {
+  only = λ i o r e. elim (put-cases s.request id _ i _ e) [ inl p ↦ absurd (finished_not (Data b) r (same_stage _ _ _ _ p.1).1) | inr p ↦ x.only i o r p.1 ];
+}
 old-kept l n old event barred s (Learn t c h b) within a x = record { only = x.only }
 old-kept l n old event barred s (Confirm t c h) within a x = record { only = x.only }
 old-kept l n old event barred s (Come_home t c) within a x = record { only = x.only }
-old-kept l n old event barred s (Lose t c) within a x = record { only = x.only }
-old-kept l n old event barred s (Adopt slot status) within a x = record { only = x.only }
+old-kept l n old event barred s (Lose t c) within a x = record {
+  only = λ id o r e. x.only id o r (read-released (λ u. abandoned_to _ c.slot (put s.command t None u)) (s.request id) o r e);
+}
+old-kept l n old event barred s (Adopt slot status) within a x = record {
+  only = λ id o r e. x.only id o r (read-released (λ u. abandoned_to _ slot (s.command u)) (s.request id) o r e);
+}
 old-kept l n old event barred s See_failed within a x = absurd (barred within.0 within.1)
 old-kept l n old event barred s (Finish f h outcome) within a x = record {
   only = λ id o r e.
@@ -71,6 +90,7 @@ released-inj a b e = cc
 failed-reply : (before : Stage) (reply : Reply) → failed_stage before ≡ Released reply → (before ≡ Released reply) ⊎ (reply ≡ ArrayFailed)
 failed-reply Waiting reply e = inr (released-inj _ _ (sym e))
 failed-reply (Held f) reply e = inr (released-inj _ _ (sym e))
+failed-reply (Reading t) reply e = inr (released-inj _ _ (sym e))
 failed-reply (Finished r) reply e = inr (released-inj _ _ (sym e))
 failed-reply (Released r) reply e = inl e
 

@@ -5,10 +5,10 @@ use Rattle.std.proofs.lemmas.Bool.{cases_eq, false≢true, or_left, or_right, or
 use Rattle.r6_world.specs.Tables.{put, put_in}
 use Rattle.r6_world.specs.PlainArray.{Block, Array, Op, Read, Write, Reply, Data, Plain, served, block_of, reply_of, array_after}
 use Rattle.r6_world.specs.Layouts.{Layout}
-use Rattle.r6_world.specs.ShardStates.{Request, Stage, Waiting, Held, Finished, Released}
+use Rattle.r6_world.specs.ShardStates.{Request, Stage}
 use Rattle.r6_world.specs.Worlds.{World}
 use Rattle.r6_world.specs.Claims.{IsOpen}
-use Rattle.r6_world.specs.ActingPoints.{is_among, is_going, acts_between, acting_below, acting_in, acting, served_as, plain_after, MayAct}
+use Rattle.r6_world.specs.ActingPoints.{is_among, acting_below, acting_in, acting, served_as, plain_after, MayAct}
 use Rattle.r6_world.proofs.Tables.{put-same, put-other, Some-inj, not_both}
 
 pub put_in-same : {A : Type 0} (f : ℕ → ℕ → A) (n id : ℕ) (value : A) (at : ℕ) → at ≡ id → put_in f n id value n at ≡ value
@@ -25,7 +25,7 @@ abbrev pub Acts : World → List ℕ → List (ℕ × ℕ) → Plain → Plain �
 Acts w blocks [] plain plain' = plain' ≡ plain
 Acts w blocks (who ∷ acting) plain plain' =
     (request : Request)
-    × ((w.shard who.0).request who.1 ≡ Some request) × (is_going request.stage ≡ true) × (plain.answers who.0 who.1 ≡ None)
+    × ((w.shard who.0).request who.1 ≡ Some request) × IsOpen request.stage × (plain.answers who.0 who.1 ≡ None)
     × (is_among (block_of request.op) blocks ≡ false)
     × Acts w (block_of request.op ∷ blocks) acting (served plain who.0 who.1 request.op) plain'
 
@@ -76,7 +76,7 @@ apart-blocks a b blocks e same = eqb-false a b (or_parts _ _ e).0 same
 pub record Point (w : World) (n id : ℕ) (blocks : List ℕ) (plain plain' : Plain) : Type 0 where
   pub request : Request
   pub there : (w.shard n).request id ≡ Some request
-  pub going : is_going request.stage ≡ true
+  pub going : IsOpen request.stage
   pub first_time : plain.answers n id ≡ None
   pub fresh : is_among (block_of request.op) blocks ≡ false
   pub answered : plain'.answers n id ≡ Some (reply_of plain.array request.op)
@@ -231,16 +231,10 @@ module _ (w : World) where
             (fresh n id r (inr e) at))),
       )
 
-  opened : (stage : Stage) → is_going stage ≡ true → IsOpen stage
-  opened Waiting e = record {}
-  opened (Held f) e = record {}
-  opened (Finished reply) e = absurd (false≢true e)
-  opened (Released reply) e = absurd (false≢true e)
-
   act-of : (blocks : List ℕ) (acting : List (ℕ × ℕ)) (plain plain' : Plain) → Acts w blocks acting plain plain' → MayAct w blocks acting plain
   act-of blocks [] plain plain' a = record {}
   act-of blocks (who ∷ acting) plain plain' a =
-      (a.0, a.1, opened a.0.stage a.2, a.3, a.4, act-of (block_of a.0.op ∷ blocks) acting (served plain who.0 who.1 a.0.op) plain' a.5)
+      (a.0, a.1, a.2, a.3, a.4, act-of (block_of a.0.op ∷ blocks) acting (served plain who.0 who.1 a.0.op) plain' a.5)
 
 -- the list by number
 if-in : (b : Bool) (n id : ℕ) (rest : List (ℕ × ℕ)) (m i : ℕ) → Among m i (cond b ((n, id) ∷ rest) rest) → ((b ≡ true) × (m ≡ n) × (i ≡ id)) ⊎ Among m i rest
@@ -256,97 +250,93 @@ if-has : (b : Bool) (n id : ℕ) (rest : List (ℕ × ℕ)) (i : ℕ) → b ≡ 
 if-has true n id rest i e same = inl (refl, same)
 if-has false n id rest i e same = absurd (false≢true e)
 
-module _ (w : World) (old new : ℕ → Option Request) (n : ℕ) where
-  below-rest : (count : ℕ) (rest : List (ℕ × ℕ)) (m i : ℕ) → Among m i rest → Among m i (acting_below old new n count rest)
+module _ (w : World) (test : ℕ → Bool) (n : ℕ) where
+  below-rest : (count : ℕ) (rest : List (ℕ × ℕ)) (m i : ℕ) → Among m i rest → Among m i (acting_below test n count rest)
   below-rest zero rest m i e = e
-  below-rest (suc id) rest m i e = below-rest id (cond (acts_between (old id) (new id)) ((n, id) ∷ rest) rest) m i (if-rest (acts_between (old id) (new id)) n id rest m i e)
+  below-rest (suc id) rest m i e = below-rest id (cond (test id) ((n, id) ∷ rest) rest) m i (if-rest (test id) n id rest m i e)
 
-  below-in : (count : ℕ) (rest : List (ℕ × ℕ)) (m i : ℕ) → Among m i (acting_below old new n count rest)
-      → ((m ≡ n) × (i < count) × (acts_between (old i) (new i) ≡ true)) ⊎ Among m i rest
+  below-in : (count : ℕ) (rest : List (ℕ × ℕ)) (m i : ℕ) → Among m i (acting_below test n count rest)
+      → ((m ≡ n) × (i < count) × (test i ≡ true)) ⊎ Among m i rest
   below-in zero rest m i e = inr e
   below-in (suc id) rest m i e =
-      elim (below-in id (cond (acts_between (old id) (new id)) ((n, id) ∷ rest) rest) m i e) [
+      elim (below-in id (cond (test id) ((n, id) ∷ rest) rest) m i e) [
         | inl p ↦ inl (p.0, (let below = p.1 in omega arith), p.2)
-        | inr in-rest ↦ elim (if-in (acts_between (old id) (new id)) n id rest m i in-rest) [
-          | inl p ↦ inl (p.1, (let same = p.2 in omega arith), subst (λ k. acts_between (old k) (new k) ≡ true) (sym p.2) p.0)
+        | inr in-rest ↦ elim (if-in (test id) n id rest m i in-rest) [
+          | inl p ↦ inl (p.1, (let same = p.2 in omega arith), subst (λ k. test k ≡ true) (sym p.2) p.0)
           | inr later ↦ inr later
         ]
       ]
 
-  below-has : (count : ℕ) (rest : List (ℕ × ℕ)) (i : ℕ) → i < count → acts_between (old i) (new i) ≡ true → Among n i (acting_below old new n count rest)
+  below-has : (count : ℕ) (rest : List (ℕ × ℕ)) (i : ℕ) → i < count → test i ≡ true → Among n i (acting_below test n count rest)
   below-has zero rest i below e = absurd (omega arith)
   below-has (suc id) rest i below e =
       elim (cases_eq i id) [
-        | inl same ↦ below-rest id (cond (acts_between (old id) (new id)) ((n, id) ∷ rest) rest) n i
-            (if-has (acts_between (old id) (new id)) n id rest i (subst (λ k. acts_between (old k) (new k) ≡ true) same e) same)
-        | inr ne ↦ below-has id (cond (acts_between (old id) (new id)) ((n, id) ∷ rest) rest) i (omega arith) e
+        | inl same ↦ below-rest id (cond (test id) ((n, id) ∷ rest) rest) n i
+            (if-has (test id) n id rest i (subst (λ k. test k ≡ true) same e) same)
+        | inr ne ↦ below-has id (cond (test id) ((n, id) ∷ rest) rest) i (omega arith) e
       ]
 
   if-once : (b : Bool) (id : ℕ) (rest : List (ℕ × ℕ)) → Once w rest → ((i : ℕ) → Among n i rest → suc id ≤ i) → Once w (cond b ((n, id) ∷ rest) rest)
   if-once true id rest once above = ((λ e. let up = above id e in absurd (omega arith)), once)
   if-once false id rest once above = once
 
-  below-once : (count : ℕ) (rest : List (ℕ × ℕ)) → Once w rest → ((i : ℕ) → Among n i rest → count ≤ i) → Once w (acting_below old new n count rest)
+  below-once : (count : ℕ) (rest : List (ℕ × ℕ)) → Once w rest → ((i : ℕ) → Among n i rest → count ≤ i) → Once w (acting_below test n count rest)
   below-once zero rest once above = once
   below-once (suc id) rest once above =
-      below-once id (cond (acts_between (old id) (new id)) ((n, id) ∷ rest) rest) (if-once (acts_between (old id) (new id)) id rest once above)
-      (λ i e. elim (if-in (acts_between (old id) (new id)) n id rest n i e) [
+      below-once id (cond (test id) ((n, id) ∷ rest) rest) (if-once (test id) id rest once above)
+      (λ i e. elim (if-in (test id) n id rest n i e) [
         | inl p ↦ let same = p.2 in omega arith
         | inr later ↦ let up = above i later in omega arith
       ])
 
--- who acts, as it stands before and after
-abbrev pub ActsAt : World → World → ℕ → ℕ → Type 0
-ActsAt w w' n id = acts_between ((w.shard n).request id) ((w'.shard n).request id) ≡ true
-
-module _ (w w' : World) where
-  in-rest : (shards : ℕ) (rest : List (ℕ × ℕ)) (m i : ℕ) → Among m i rest → Among m i (acting_in w w' shards rest)
+module _ (w : World) (test : ℕ → ℕ → Bool) where
+  in-rest : (shards : ℕ) (rest : List (ℕ × ℕ)) (m i : ℕ) → Among m i rest → Among m i (acting_in w test shards rest)
   in-rest zero rest m i e = e
   in-rest (suc n) rest m i e =
-      in-rest n (acting_below (w.shard n).request (w'.shard n).request n (w.shard n).accepted rest) m i (below-rest w (w.shard n).request (w'.shard n).request n (w.shard n).accepted rest m i e)
+      in-rest n (acting_below (test n) n (w.shard n).accepted rest) m i (below-rest w (test n) n (w.shard n).accepted rest m i e)
 
-  in-in : (shards : ℕ) (rest : List (ℕ × ℕ)) (m i : ℕ) → Among m i (acting_in w w' shards rest) → ((m < shards) × ActsAt w w' m i) ⊎ Among m i rest
+  in-in : (shards : ℕ) (rest : List (ℕ × ℕ)) (m i : ℕ) → Among m i (acting_in w test shards rest) → ((m < shards) × (test m i ≡ true)) ⊎ Among m i rest
   in-in zero rest m i e = inr e
   in-in (suc n) rest m i e =
-      elim (in-in n (acting_below (w.shard n).request (w'.shard n).request n (w.shard n).accepted rest) m i e) [
+      elim (in-in n (acting_below (test n) n (w.shard n).accepted rest) m i e) [
         | inl p ↦ inl ((let below = p.0 in omega arith), p.1)
-        | inr mine ↦ elim (below-in w (w.shard n).request (w'.shard n).request n (w.shard n).accepted rest m i mine) [
-          | inl p ↦ inl ((let same = p.0 in omega arith), subst (λ k. ActsAt w w' k i) (sym p.0) p.2)
+        | inr mine ↦ elim (below-in w (test n) n (w.shard n).accepted rest m i mine) [
+          | inl p ↦ inl ((let same = p.0 in omega arith), subst (λ k. test k i ≡ true) (sym p.0) p.2)
           | inr later ↦ inr later
         ]
       ]
 
-  in-has : (shards : ℕ) (rest : List (ℕ × ℕ)) (m i : ℕ) → m < shards → i < (w.shard m).accepted → ActsAt w w' m i → Among m i (acting_in w w' shards rest)
+  in-has : (shards : ℕ) (rest : List (ℕ × ℕ)) (m i : ℕ) → m < shards → i < (w.shard m).accepted → (test m i ≡ true) → Among m i (acting_in w test shards rest)
   in-has zero rest m i below small acts = absurd (omega arith)
   in-has (suc n) rest m i below small acts =
       elim (cases_eq m n) [
-        | inl same ↦ in-rest n (acting_below (w.shard n).request (w'.shard n).request n (w.shard n).accepted rest) m i
-            (subst (λ k. Among k i (acting_below (w.shard n).request (w'.shard n).request n (w.shard n).accepted rest)) (sym same)
-            (below-has w (w.shard n).request (w'.shard n).request n (w.shard n).accepted rest i (subst (λ k. i < (w.shard k).accepted) same small) (subst (λ k. ActsAt w w' k i) same acts)))
-        | inr ne ↦ in-has n (acting_below (w.shard n).request (w'.shard n).request n (w.shard n).accepted rest) m i (omega arith) small acts
+        | inl same ↦ in-rest n (acting_below (test n) n (w.shard n).accepted rest) m i
+            (subst (λ k. Among k i (acting_below (test n) n (w.shard n).accepted rest)) (sym same)
+            (below-has w (test n) n (w.shard n).accepted rest i (subst (λ k. i < (w.shard k).accepted) same small) (subst (λ k. test k i ≡ true) same acts)))
+        | inr ne ↦ in-has n (acting_below (test n) n (w.shard n).accepted rest) m i (omega arith) small acts
       ]
 
-  in-once : (shards : ℕ) (rest : List (ℕ × ℕ)) → Once w rest → ((m i : ℕ) → Among m i rest → shards ≤ m) → Once w (acting_in w w' shards rest)
+  in-once : (shards : ℕ) (rest : List (ℕ × ℕ)) → Once w rest → ((m i : ℕ) → Among m i rest → shards ≤ m) → Once w (acting_in w test shards rest)
   in-once zero rest once above = once
   in-once (suc n) rest once above =
-      in-once n (acting_below (w.shard n).request (w'.shard n).request n (w.shard n).accepted rest)
-      (below-once w (w.shard n).request (w'.shard n).request n (w.shard n).accepted rest once (λ i e. let up = above n i e in absurd (omega arith)))
-      (λ m i e. elim (below-in w (w.shard n).request (w'.shard n).request n (w.shard n).accepted rest m i e) [
+      in-once n (acting_below (test n) n (w.shard n).accepted rest)
+      (below-once w (test n) n (w.shard n).accepted rest once (λ i e. let up = above n i e in absurd (omega arith)))
+      (λ m i e. elim (below-in w (test n) n (w.shard n).accepted rest m i e) [
         | inl p ↦ let same = p.0 in omega arith
         | inr later ↦ let up = above m i later in omega arith
       ])
 
 -- where a list has just those who act, the list by number acts, and leaves what it leaves
-pub by_number : (l : Layout) (w w' : World) (list : List (ℕ × ℕ)) (plain plain' : Plain) → Acts w [] list plain plain'
-    → ((n id : ℕ) → Among n id list → (n < l.shards) × (id < (w.shard n).accepted) × ActsAt w w' n id)
-    → ((n id : ℕ) → n < l.shards → ActsAt w w' n id → Among n id list)
-    → MayAct w [] (acting l w w') plain × (plain_after w (acting l w w') plain ≡ plain')
-by_number l w w' list plain plain' a does all =
-    let from : (n id : ℕ) → Among n id (acting l w w') → Among n id list = (λ n id e. elim (in-in w w' l.shards [] n id e) [ inl p ↦ all n id p.0 p.1 | inr none ↦ absurd none ]) in
-    let once : Once w (acting l w w') = in-once w w' l.shards [] (record {}) (λ m i e. absurd e) in
-    let named : Acts w [] (acting l w w') plain (plain_after w (acting l w w') plain) =
-    acts-once w list plain plain' a (acting l w w') once from [] plain (λ n id e. (point w [] list plain plain' a n id (from n id e)).first_time) (λ n id r e at. refl) in (
-      act-of w [] (acting l w w') plain (plain_after w (acting l w w') plain) named,
-      same_plain w (acting l w w') list plain (plain_after w (acting l w w') plain) plain' named a from
-          (λ n id e. let p = does n id e in in-has w w' l.shards [] n id p.0 p.1 p.2),
+pub by_number : (l : Layout) (w : World) (test : ℕ → ℕ → Bool) (list : List (ℕ × ℕ)) (plain plain' : Plain) → Acts w [] list plain plain'
+    → ((n id : ℕ) → Among n id list → (n < l.shards) × (id < (w.shard n).accepted) × (test n id ≡ true))
+    → ((n id : ℕ) → n < l.shards → test n id ≡ true → Among n id list)
+    → MayAct w [] (acting_in w test l.shards []) plain × (plain_after w (acting_in w test l.shards []) plain ≡ plain')
+by_number l w test list plain plain' a does all =
+    let mine : List (ℕ × ℕ) = acting_in w test l.shards [] in
+    let from : (n id : ℕ) → Among n id mine → Among n id list = (λ n id e. elim (in-in w test l.shards [] n id e) [ inl p ↦ all n id p.0 p.1 | inr none ↦ absurd none ]) in
+    let once : Once w mine = in-once w test l.shards [] (record {}) (λ m i e. absurd e) in
+    let named : Acts w [] mine plain (plain_after w mine plain) =
+    acts-once w list plain plain' a mine once from [] plain (λ n id e. (point w [] list plain plain' a n id (from n id e)).first_time) (λ n id r e at. refl) in (
+      act-of w [] mine plain (plain_after w mine plain) named,
+      same_plain w mine list plain (plain_after w mine plain) plain' named a from (λ n id e. let p = does n id e in in-has w test l.shards [] n id p.0 p.1 p.2),
     )

@@ -1,23 +1,25 @@
 -- A shard that has seen no failure: its replies are not ArrayFailed, and each write that holds a row serves a request
 -- that is not answered yet. And which events keep the requests that were accepted.
 use Rattle.std.proofs.Common.{◌≡◌, ℕ, ◌<◌, [], ◌∷◌, Bool, true, false, cond, inl, inr, refl, sym, ap, ◌∙◌, subst, arith, Option, Some, None}
-use Rattle.std.proofs.lemmas.Bool.{cases_Bool, or_left, eq-eqb}
-use Rattle.r6_world.specs.Changes.{Accept, Start, Ask, Prepare, Classify, Send, Learn, Confirm, Lose, Adopt, See_failed, Finish, Release, Hand_reply, MayStart, staged, finished, finished_stage, outcome_reply, released, released_stage, failed_request, told_hold}
-use Rattle.r6_world.specs.Claims.{IsWrite}
+use Rattle.std.proofs.lemmas.Bool.{cases_Bool, or_left, eq-eqb, cases_eq}
+use Rattle.r6_world.specs.Changes.{Accept, Start, Ask, Prepare, Classify, Send, Learn, Confirm, Lose, Adopt, See_failed, Finish, Release, Hand_reply, MayStart, staged, finished, finished_stage, outcome_reply, released, released_stage, failed_request, told_hold, Read_direct, Give_direct, read_on, abandoned_to}
+use Rattle.r6_world.specs.Claims.{IsWrite, IsOpen}
 use Rattle.r6_world.specs.Layouts.{Layout}
-use Rattle.r6_world.specs.PlainArray.{Op, Read, Write, Reply, ArrayFailed}
+use Rattle.r6_world.specs.PlainArray.{Op, Read, Write, Reply, ArrayFailed, Block, Data}
 use Rattle.r6_world.specs.Registers.{Snapshot}
-use Rattle.r6_world.specs.ShardStates.{Shard, Request, Stage, Waiting, Held, Finished, Released, begun}
+use Rattle.r6_world.specs.ShardStates.{Shard, Request, Stage, Waiting, Held, Finished, Released, begun, Reading, Command}
 use Rattle.r6_world.specs.Steps.{Event, Submit, Look, Take_reply}
 use Rattle.r6_world.specs.Tables.{put}
 use Rattle.r6_world.specs.Tasks.{Task, WriteFor, Hold, Outcome, Answered, Wrote, Rebuilt, GivenUp, Classed, Skipped, serves}
-use Rattle.r6_world.proofs.Tables.{put-other, put-cases, Some-inj, not_both}
-use Rattle.r6_world.proofs.Acts.Requests.{not_waiting, not_held, request_at, same_stage, held_now, held_now-served, held_now-other, staged-cases, start-waits, finished-cases, finished-other, released-cases, told-task}
+use Rattle.r6_world.proofs.Tables.{put-other, put-cases, Some-inj, not_both, put-same}
+use Rattle.r6_world.proofs.Acts.Requests.{not_waiting, not_held, request_at, same_stage, held_now, held_now-served, held_now-other, staged-cases, start-waits, finished-cases, finished-other, released-cases, told-task, failed-cases}
 use Rattle.r6_world.proofs.Changes.{Keeps}
+use Rattle.r6_world.proofs.Acts.ReadOns.{read-cases, stage-cases}
 
 abbrev pub IsServed : Stage → Type 0
 IsServed Waiting = record {}
 IsServed (Held f) = record {}
+IsServed (Reading t) = record {}
 IsServed (Finished reply) = reply ≡ ArrayFailed → ⊥
 IsServed (Released reply) = reply ≡ ArrayFailed → ⊥
 
@@ -105,14 +107,60 @@ end-served false f outcome op = record {}
 finished-served : (f : ℕ) (outcome : Outcome) (op : Op) (before : Stage) → IsServed before → IsServed (finished_stage f outcome op before)
 finished-served f outcome op Waiting x = x
 finished-served f outcome op (Held k) x = end-served _ k outcome op
+finished-served f outcome op (Reading t) x = x
 finished-served f outcome op (Finished reply) x = x
 finished-served f outcome op (Released reply) x = x
 
 released-served : (before : Stage) → IsServed before → IsServed (released_stage before)
 released-served Waiting x = x
 released-served (Held k) x = x
+released-served (Reading t) x = x
 released-served (Finished reply) x = x
 released-served (Released reply) x = x
+
+reading_not_held : (t f : ℕ) → Reading t ≡ Held f → ⊥
+reading_not_held t f e = cc
+
+waiting_not_held : (f : ℕ) → Waiting ≡ Held f → ⊥
+waiting_not_held f e = cc
+
+data_not_held : (b : Block) (f : ℕ) → Finished (Data b) ≡ Held f → ⊥
+data_not_held b f e = cc
+
+data_no_failure : (b : Block) → Data b ≡ ArrayFailed → ⊥
+data_no_failure b e = cc
+
+-- a request that is not held gets another stage, that of no hold
+requests_put : (s : Shard) → IsUnfailed s → (own : ℕ) (op : Op) (before stage : Stage) → s.request own ≡ Some (request_at op before) → ((f : ℕ) → stage ≡ Held f → ⊥) → ((f : ℕ) → before ≡ Held f → ⊥) → IsServed stage
+    → Unfailed s.saw_failed s.accepted (put s.request own (Some (request_at op stage))) s.frame
+requests_put s x own op before stage there unheld was served = record {
+  unseen = x.unseen;
+  numbered = λ id o st e. elim (put-cases s.request own (Some (request_at op stage)) id _ e) [
+    | inl p ↦ subst (λ y. y < s.accepted) (sym p.0) (x.numbered own op before there)
+    | inr p ↦ x.numbered id o st p.1
+  ];
+  answered = λ id o st e. elim (put-cases s.request own (Some (request_at op stage)) id _ e) [
+    | inl p ↦ subst IsServed (same_stage _ _ _ _ p.1).1 served
+    | inr p ↦ x.answered id o st p.1
+  ];
+  written = λ f h at is-write.
+      let b = x.written f h at is-write in
+      (b.0, b.1, put-other s.request own (Some (request_at op stage)) b.0 (λ same. was f (same_stage _ _ _ _ (sym there ∙ subst (λ y. s.request y ≡ Some (request_at b.1 (Held f))) same b.2)).1) ∙ b.2);
+}
+
+-- a slot is taken out, and direct reads wait again
+reads_on : (l : Layout) (s : Shard) → IsUnfailed s → (slot : ℕ) (command : ℕ → Option Command) → Unfailed s.saw_failed s.accepted (λ id. read_on command (s.request id)) (λ f. told_hold l slot (s.frame f))
+reads_on l s x slot command = record {
+  unseen = x.unseen;
+  numbered = λ id o stage e. let p = read-cases command (s.request id) o stage e in x.numbered id o p.0 p.1;
+  answered = λ id o stage e.
+      let p = read-cases command (s.request id) o stage e in
+      elim (stage-cases command p.0) [
+        | inl same ↦ subst IsServed (sym same ∙ p.2) (x.answered id o p.0 p.1)
+        | inr q ↦ subst IsServed (sym q.3 ∙ p.2) (record {})
+      ];
+  written = λ f h at is-write. let b = hears_loss l slot s.request s.frame x.written f h at is-write in (b.0, b.1, ap (read_on command) b.2);
+}
 
 -- every change keeps this, where no look sees the failure
 pub unfailed-kept : (l : Layout) (n : ℕ) (event : Event) → ((seen : Snapshot) → event ≡ Look seen → seen.failed ≡ true → ⊥) → Keeps l n IsUnfailed event
@@ -139,14 +187,16 @@ unfailed-kept l n event calm s (Classify f h class) within a x =
     record { unseen = x.unseen; numbered = x.numbered; answered = x.answered; written = goes_on s.request s.frame x.written f h _ a.0 refl }
 unfailed-kept l n event calm s (Send f h slot g b) within a x =
     record { unseen = x.unseen; numbered = x.numbered; answered = x.answered; written = goes_on s.request s.frame x.written f h _ a.0 refl }
+unfailed-kept l n event calm s (Read_direct buffer own block g) within a x =
+    requests_put s x own (Read block) Waiting (Reading s.tokens) a.1 (λ f e. reading_not_held s.tokens f e) (λ f e. waiting_not_held f e) (record {})
+unfailed-kept l n event calm s (Give_direct t c own block b) within a x =
+    requests_put s x own (Read block) (Reading t) (Finished (Data b)) a.2 (λ f e. data_not_held b f e) (λ f e. reading_not_held t f e) (data_no_failure b)
 unfailed-kept l n event calm s (Learn t c h b) within a x =
     record { unseen = x.unseen; numbered = x.numbered; answered = x.answered; written = goes_on s.request s.frame x.written c.frame h _ a.2 refl }
 unfailed-kept l n event calm s (Confirm t c h) within a x =
     record { unseen = x.unseen; numbered = x.numbered; answered = x.answered; written = goes_on s.request s.frame x.written c.frame h _ a.2 refl }
-unfailed-kept l n event calm s (Lose t c) within a x =
-    record { unseen = x.unseen; numbered = x.numbered; answered = x.answered; written = hears_loss l c.slot s.request s.frame x.written }
-unfailed-kept l n event calm s (Adopt slot status) within a x =
-    record { unseen = x.unseen; numbered = x.numbered; answered = x.answered; written = hears_loss l slot s.request s.frame x.written }
+unfailed-kept l n event calm s (Lose t c) within a x = reads_on l s x c.slot (λ u. abandoned_to _ c.slot (put s.command t None u))
+unfailed-kept l n event calm s (Adopt slot status) within a x = reads_on l s x slot (λ u. abandoned_to _ slot (s.command u))
 unfailed-kept l n event calm s See_failed within a x = absurd (calm within.0 within.1 within.2)
 unfailed-kept l n event calm s (Finish f h outcome) within a x = record {
   unseen = x.unseen;
@@ -200,9 +250,92 @@ standing-kept l n id op event none untaken s (Start f row task) within a x = eli
   | inl yes' ↦ (Held f, held_now-served s.request task f id yes' ∙ ap (λ o. staged o (Held f)) x.1)
   | inr no' ↦ (x.0, held_now-other s.request task f id no' ∙ x.1)
 ]
+standing-kept l n id op event none untaken s (Read_direct buffer own block g) within a x = elim (cases_eq id own) [
+  | inl same ↦
+      let is = (same_stage _ _ _ _ (sym (subst (λ y. s.request y ≡ Some (request_at op x.0)) same x.1) ∙ a.1)).0 in
+      (Reading s.tokens, put-same s.request own _ id same ∙ ap (λ o. Some (request_at o (Reading s.tokens))) (sym is))
+  | inr ne ↦ (x.0, put-other s.request own _ id ne ∙ x.1)
+]
+standing-kept l n id op event none untaken s (Give_direct t c own block b) within a x = elim (cases_eq id own) [
+  | inl same ↦
+      let is = (same_stage _ _ _ _ (sym (subst (λ y. s.request y ≡ Some (request_at op x.0)) same x.1) ∙ a.2)).0 in
+      (Finished (Data b), put-same s.request own _ id same ∙ ap (λ o. Some (request_at o (Finished (Data b)))) (sym is))
+  | inr ne ↦ (x.0, put-other s.request own _ id ne ∙ x.1)
+]
+standing-kept l n id op event none untaken s (Lose t c) within a x = (_, ap (read_on (λ u. abandoned_to _ c.slot (put s.command t None u))) x.1)
+standing-kept l n id op event none untaken s (Adopt slot status) within a x = (_, ap (read_on (λ u. abandoned_to _ slot (s.command u))) x.1)
 standing-kept l n id op event none untaken s See_failed within a x = (_, ap failed_request x.1)
 standing-kept l n id op event none untaken s (Finish f h outcome) within a x = (_, ap (finished f outcome) x.1)
 standing-kept l n id op event none untaken s Release within a x = (_, ap released x.1)
 standing-kept l n id op event none untaken s (Hand_reply i o reply) within a x =
     (x.0, put-other s.request i None id (λ same. untaken reply (subst (λ y. event ≡ Take_reply y reply) (sym same) within)) ∙ x.1)
 standing-kept l n id op event none untaken s change within a x = x
+
+-- what is open was open before, as the same request
+abbrev pub OpenedIn : (ℕ → Option Request) → Shard → Type 0
+OpenedIn before s = (id : ℕ) (op : Op) (stage : Stage) → s.request id ≡ Some (request_at op stage) → IsOpen stage → (was : Stage) × (before id ≡ Some (request_at op was)) × IsOpen was
+
+ended-open : (f : ℕ) (outcome : Outcome) (op : Op) (before : Stage) → IsOpen (finished_stage f outcome op before) → IsOpen before
+ended-open f outcome op Waiting x = x
+ended-open f outcome op (Held k) x = record {}
+ended-open f outcome op (Reading t) x = x
+ended-open f outcome op (Finished reply) x = x
+ended-open f outcome op (Released reply) x = x
+
+released-open : (before : Stage) → IsOpen (released_stage before) → IsOpen before
+released-open Waiting x = x
+released-open (Held k) x = x
+released-open (Reading t) x = x
+released-open (Finished reply) x = absurd x
+released-open (Released reply) x = x
+
+failed-open : (before : Stage) → IsOpen (Rattle.r6_world.specs.Changes.failed_stage before) → ⊥
+failed-open Waiting x = x
+failed-open (Held k) x = x
+failed-open (Reading t) x = x
+failed-open (Finished reply) x = x
+failed-open (Released reply) x = x
+
+read-open : (command : ℕ → Option Command) (before : ℕ → Option Request) (s : Shard) → OpenedIn before s → (id : ℕ) (op : Op) (stage : Stage) → read_on command (s.request id) ≡ Some (request_at op stage) → IsOpen stage
+    → (was : Stage) × (before id ≡ Some (request_at op was)) × IsOpen was
+read-open command before s x id op stage e o =
+    let p = read-cases command (s.request id) op stage e in
+    elim (stage-cases command p.0) [
+      | inl same ↦ x id op p.0 p.1 (subst IsOpen (sym (sym same ∙ p.2)) o)
+      | inr q ↦ x id op p.0 p.1 (subst IsOpen (sym q.1) (record {}))
+    ]
+
+pub opened-kept : (l : Layout) (n : ℕ) (before : ℕ → Option Request) (event : Event) → ((o : Op) (i : ℕ) → event ≡ Submit o i → ⊥) → Keeps l n (OpenedIn before) event
+opened-kept l n before event none s (Accept o) within a x = absurd (none o within.0 within.1)
+opened-kept l n before event none s (Start f row task) within a x = λ id op stage e o. elim (cases_Bool (serves task id)) [
+  | inl mine ↦
+      let w = start-waits l s row id task a.4 mine in
+      let p = staged-cases (s.request id) f op stage (sym (held_now-served s.request task f id mine) ∙ e) in
+      x id op Waiting (w.1 ∙ ap (λ y. Some (request_at y Waiting)) (same_stage _ _ _ _ (sym w.1 ∙ p.1)).0) (record {})
+  | inr other ↦ x id op stage (sym (held_now-other s.request task f id other) ∙ e) o
+]
+opened-kept l n before event none s (Read_direct buffer own block g) within a x = λ id op stage e o. elim (put-cases s.request own _ id _ e) [
+  | inl p ↦
+      let q = same_stage _ _ _ _ p.1 in
+      x id op Waiting (ap s.request p.0 ∙ a.1 ∙ ap (λ y. Some (request_at y Waiting)) q.0) (record {})
+  | inr p ↦ x id op stage p.1 o
+]
+opened-kept l n before event none s (Give_direct t c own block b) within a x = λ id op stage e o. elim (put-cases s.request own _ id _ e) [
+  | inl p ↦
+      let q = same_stage _ _ _ _ p.1 in
+      x id op (Reading t) (ap s.request p.0 ∙ a.2 ∙ ap (λ y. Some (request_at y (Reading t))) q.0) (record {})
+  | inr p ↦ x id op stage p.1 o
+]
+opened-kept l n before event none s (Lose t c) within a x = λ id op stage e o. read-open (λ u. abandoned_to _ c.slot (put s.command t None u)) before s x id op stage e o
+opened-kept l n before event none s (Adopt slot status) within a x = λ id op stage e o. read-open (λ u. abandoned_to _ slot (s.command u)) before s x id op stage e o
+opened-kept l n before event none s See_failed within a x = λ id op stage e o.
+    let p = failed-cases (s.request id) op stage e in absurd (failed-open p.0 (subst IsOpen (sym p.2) o))
+opened-kept l n before event none s (Finish f h outcome) within a x = λ id op stage e o.
+    let p = finished-cases f outcome (s.request id) op stage e in x id op p.0 p.1 (ended-open f outcome op p.0 (subst IsOpen (sym p.2) o))
+opened-kept l n before event none s Release within a x = λ id op stage e o.
+    let p = released-cases (s.request id) op stage e in x id op p.0 p.1 (released-open p.0 (subst IsOpen (sym p.2) o))
+opened-kept l n before event none s (Hand_reply i op' reply) within a x = λ id op stage e o. elim (put-cases s.request i None id _ e) [
+  | inl p ↦ absurd (not_both None _ refl p.1)
+  | inr p ↦ x id op stage p.1 o
+]
+opened-kept l n before event none s change within a x = x

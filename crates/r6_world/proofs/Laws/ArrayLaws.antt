@@ -4,7 +4,7 @@ use Rattle.r6_world.specs.PlainArray.{Plain}
 use Rattle.r6_world.specs.Layouts.{Layout}
 use Rattle.r6_world.specs.Worlds.{World, Happening, Core, Perform, Tell, Outside, Moment, Run, next, started}
 use Rattle.r6_world.specs.Claims.{RebuiltEverywhere}
-use Rattle.r6_world.specs.ActingPoints.{acting, plain_after}
+use Rattle.r6_world.specs.ActingPoints.{plain_next}
 use Rattle.r6_world.specs.Laws.{Explained, AtEach, ShardHolds, ArrayHolds, IsOfOutside, IsOfShard, AreOfShard, IsByAnyone, at_start, ArrayLaw, RebuiltLaw, ShardLaw}
 use Rattle.r6_world.proofs.Register.Everywhere.{possible-in}
 use Rattle.r6_world.proofs.Laws.Judged.{IsIn}
@@ -25,7 +25,7 @@ with-rebuilt : (l : Layout) (moments : List Moment) (w : World) (plain : Plain) 
     → AtEach l (RebuiltEverywhere l) w moments → Explained l (ArrayHolds l) w plain moments
 with-rebuilt l [] w plain x y = record {}
 with-rebuilt l (m ∷ moments) w plain x y =
-    (x.0, record { shards = x.1; rebuilt = first-of l moments (next l w m) y.1 }, with-rebuilt l moments (next l w m) (plain_after w (acting l w (next l w m)) plain) x.2 y.1)
+    (x.0, record { shards = x.1; rebuilt = first-of l moments (next l w m) y.1 }, with-rebuilt l moments (next l w m) (plain_next l w m plain) x.2 y.1)
 
 -- the laws, where the rebuilt slots are known
 pub array_law_by : RebuiltLaw → ArrayLaw
@@ -53,7 +53,7 @@ one-in l n (m ∷ moments) all = (is-in m.happening all.0, one-in l n moments al
 
 of-one : (l : Layout) (n : ℕ) (moments : List Moment) (w : World) (plain : Plain) → Explained l (λ old new plain'. (m : ℕ) → m ≡ n → ShardHolds l m old new plain') w plain moments → Explained l (ShardHolds l n) w plain moments
 of-one l n [] w plain x = record {}
-of-one l n (m ∷ moments) w plain x = (x.0, x.1 n refl, of-one l n moments (next l w m) (plain_after w (acting l w (next l w m)) plain) x.2)
+of-one l n (m ∷ moments) w plain x = (x.0, x.1 n refl, of-one l n moments (next l w m) (plain_next l w m plain) x.2)
 
 pub shard_law : ShardLaw
 shard_law l is n below r device array start moments all run =

@@ -16,7 +16,7 @@ use Rattle.r6_world.specs.Layouts.{Layout}
 use Rattle.r6_world.specs.Registers.{Snapshot, RegisterCall}
 use Rattle.r6_world.specs.Tasks.{Task, ReadFor, WriteFor, Rebuild, Check, Repair, Hold, kind_of, end_of, IsClassRead, Outcome, Answered, Wrote, Rebuilt, GivenUp, Classed, Skipped}
 use Rattle.r6_world.specs.ShardStates.{Shard, Counts, frames, begun}
-use Rattle.r6_world.specs.Changes.{Change, Accept, Start, Ask, Prepare, Classify, Send, Learn, Confirm, Come_home, Lose, Adopt, See_failed, Finish, Bring_in, Release, Skip_turn, Hand_command, Hand_call, Hear, Hand_reply, Allowed, after, counted, told_hold, lost_at, plan_lost_at, with_row, Ends}
+use Rattle.r6_world.specs.Changes.{Change, Accept, Start, Ask, Prepare, Classify, Send, Learn, Confirm, Come_home, Lose, Adopt, See_failed, Finish, Bring_in, Release, Skip_turn, Hand_command, Hand_call, Hear, Hand_reply, Allowed, after, counted, told_hold, lost_at, plan_lost_at, with_row, Ends, Read_direct, Give_direct}
 use Rattle.r6_world.specs.Steps.{Event, Submit, Deliver, Look, Turn_started, Turn_skipped, Take_command, No_command, Take_call, No_call, Told, Take_reply, No_reply, Looks, Step, Leads, Scans, GoesOn, TakesOver, Takes, Completion, Good, Error, Receipt, Taken, Late}
 use Rattle.r6_world.specs.Worlds.{World, Devices, Happening, Core, Perform, Tell, Outside, Moment, Possible, Run, next, started, shard_at_start}
 use Rattle.r6_world.specs.Laws.{IsOfOutside, IsByAnyone}
@@ -123,6 +123,8 @@ sounds-kept l n s read (Classify f h class) a x = record {
     class-inj : (c d : RowClass) → Some c ≡ Some d → c ≡ d
     class-inj c d e = Some-inj c d e
 sounds-kept l n s read (Send f h slot g b) a x = put-sounds l s (after l s (Send f h slot g b)) read f h (record h { course = after_event h.course (Writes (l.position h.row slot) b) }) a.0 refl refl refl refl refl refl x
+sounds-kept l n s read (Read_direct buffer id block g) a x = same-sounds l s (after l s (Read_direct buffer id block g)) read refl refl x
+sounds-kept l n s read (Give_direct t c id block b) a x = same-sounds l s (after l s (Give_direct t c id block b)) read refl refl x
 sounds-kept l n s read (Learn t c h b) a x = put-sounds l s (after l s (Learn t c h b)) read c.frame h (record h { course = after_event h.course (Gives (l.position h.row c.slot) b) }) a.2 refl refl refl refl refl refl x
 sounds-kept l n s read (Confirm t c h) a x = put-sounds l s (after l s (Confirm t c h)) read c.frame h (record h { course = after_event h.course (Confirms (l.position h.row c.slot)) }) a.2 refl refl refl refl refl refl x
 sounds-kept l n s read (Come_home t c) a x = same-sounds l s (after l s (Come_home t c)) read refl refl x
@@ -527,6 +529,7 @@ takes-none seen change k = (refl, refl)
 answers-none : (token : ℕ) (completion : Completion) (receipt : Receipt) → NoTurn (Takes token completion receipt)
 answers-none token (Good b) Taken (Learn t c h b') k = (refl, refl)
 answers-none token (Good b) Taken (Confirm t c h) k = (refl, refl)
+answers-none token (Good b) Taken (Give_direct t c id block b') k = (refl, refl)
 answers-none token Error Taken (Lose t c) k = (refl, refl)
 answers-none token (Good b) Late (Come_home t c) k = (refl, refl)
 answers-none token Error Late (Come_home t c) k = (refl, refl)

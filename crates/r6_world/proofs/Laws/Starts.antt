@@ -7,8 +7,8 @@ use Rattle.r6_stripe.proofs.Seen as RowLaws
 use Rattle.r6_world.specs.PlainArray.{Array}
 use Rattle.r6_world.specs.Layouts.{Layout, IsLayout, full_row}
 use Rattle.r6_world.specs.Registers.{Snapshot, ShardSet, Status, InSync, Lost, Rebuilding, status_of, RegisterCall}
-use Rattle.r6_world.specs.ShardStates.{SlotState, found, standing_of}
-use Rattle.r6_world.specs.Worlds.{Devices, started, slot_at_start}
+use Rattle.r6_world.specs.ShardStates.{SlotState, found, standing_of, IsLive}
+use Rattle.r6_world.specs.Worlds.{Devices, started, slot_at_start, shard_at_start}
 use Rattle.r6_world.specs.Claims.{IsFresh, IsLawfulStart}
 use Rattle.r6_world.specs.Laws.{at_start}
 use Rattle.r6_world.proofs.Tables.{not_both}
@@ -76,16 +76,34 @@ module _ (l : Layout) (is : IsLayout l) (Judged : ℕ → Type 0) (Comes : Regis
   pub kept-start : (r : Snapshot) (device : Devices) (array : Array) → IsLawfulStart l r device array → Kept l is Judged Comes (started l r device) (at_start array)
   kept-start r device array start =
       record {
-        sounds = λ n j. record {
-          rows = λ live. record {
-            idle = λ row there unheld. (_, start-row r device array start row there.0);
-            held = λ f h e. absurd (not_both None h refl e);
-            alone = λ f f' h h' e e' same. absurd (not_both None h refl e);
-            framed = λ t c e on. absurd (not_both None c refl e);
-            gone = λ t c e off. absurd (not_both None c refl e);
-            given_token = λ t c e. absurd (not_both None c refl e);
-            unused = λ t above. refl;
+        sounds = λ n j. let rows : IsLive l (shard_at_start l r n) → Rattle.r6_world.proofs.Rows.SeenRows.Rows l n device (λ t. None) (λ f. None) (λ t. None) (λ d. slot_at_start (status_of r d)) 0 array = (λ live. record {
+          idle = λ row there unheld. (_, start-row r device array start row there.0);
+          held = λ f h e. absurd (not_both None h refl e);
+          alone = λ f f' h h' e e' same. absurd (not_both None h refl e);
+          framed = λ t c e on. absurd (not_both None c refl e);
+          gone = λ t c e off. absurd (not_both None c refl e);
+          given_token = λ t c e. absurd (not_both None c refl e);
+          unused = λ t above. refl;
+        }) in record {
+          settled = array;
+          unheard = λ t above. refl;
+          directs = record {
+            low = λ f h e. absurd (not_both None h refl e);
+            given = λ t c e. absurd (not_both None c refl e);
+            fetches = λ t c e. absurd (not_both None c refl e);
+            used = λ t c e. absurd (not_both None c refl e);
+            unseen = λ t c e. absurd (not_both None c refl e);
+            reading = λ id t op e. absurd (not_both None _ refl e);
+            single = λ id id' t op op' e. absurd (not_both None _ refl e);
           };
+          ahead = record {
+            blocks = λ live block g inside there sync.
+                Rattle.r6_world.proofs.Acts.Sights.idle-block l is n device (λ t. None) (λ f. None) (λ t. None) (λ d. slot_at_start (status_of r d)) 0 array (rows live) block g inside there (λ f h e at. not_both None h refl e) sync;
+            agrees = λ live block there. inl refl;
+            acted = λ live f h writes v e. absurd (not_both None h refl e);
+            reading = λ id t op e. absurd (not_both None _ refl e);
+          };
+          rows = rows;
           flies = record {
             token = λ t flying e. absurd (not_both None flying refl e);
             given = λ t c e. absurd (not_both None c refl e);

@@ -1,17 +1,17 @@
 -- An accepted request starts, where it can.
-use Rattle.std.proofs.Common.{◌≡◌, ℕ, ◌⊎◌, List, [], ◌∷◌, inl, inr, refl, sym, ap, ◌∙◌, subst, Option, Some, None}
+use Rattle.std.proofs.Common.{◌≡◌, ℕ, ◌⊎◌, List, [], ◌∷◌, inl, inr, refl, sym, ap, ◌∙◌, subst, Option, Some, None, arith}
 use Rattle.std.proofs.lemmas.Bool.{cases_eq, cases_Bool, or_left, eq-eqb}
 use Rattle.std.specs.Prelude.{true}
 use Rattle.r6_world.specs.Tables.{put}
 use Rattle.r6_world.specs.PlainArray.{Op, Read, Write, block_of}
 use Rattle.r6_world.specs.Layouts.{Layout}
 use Rattle.r6_world.specs.Tasks.{Task, ReadFor, WriteFor, Rebuild, Check, Repair, Hold, serves}
-use Rattle.r6_world.specs.ShardStates.{Waiting, Command, Shard, IsLive, IsFree, NotHeld}
-use Rattle.r6_world.specs.Changes.{Change, Accept, Start, Ask, Prepare, Send, MayStart, Allowed, after}
+use Rattle.r6_world.specs.ShardStates.{Waiting, Command, Shard, IsLive, IsFree, NotHeld, Reading}
+use Rattle.r6_world.specs.Changes.{Change, Accept, Start, Ask, Prepare, Send, MayStart, Allowed, after, Read_direct}
 use Rattle.r6_world.specs.Steps.{AtRest, IsRequest, Scans, Leads}
 use Rattle.r6_world.specs.Refusals.{AcceptedStarts}
 use Rattle.r6_world.proofs.Tables.{put-same, put-other, put-cases, not_both, same_entry, Some-inj}
-use Rattle.r6_world.proofs.Acts.Requests.{request_at, held_now-served, held_now-other, staged-cases, not_waiting}
+use Rattle.r6_world.proofs.Acts.Requests.{request_at, held_now-served, held_now-other, staged-cases, not_waiting, same_stage}
 
 -- no hold of these has the row
 abbrev Unheld : (ℕ → Option Hold) → ℕ → Type 0
@@ -90,6 +90,9 @@ left-started l s g at id task left op e =
       | inr no' ↦ left op (sym (held_now-other s.request task g id no') ∙ e)
     ]
 
+reading_not : (t : ℕ) → Reading t ≡ Waiting → ⊥
+reading_not t e = cc
+
 scan-starts : (l : Layout) (n : ℕ) (row f id : ℕ) (s : Shard) (change : Change) → Scans change → Allowed l n s change
     → Left s id ⊎ IsFirst l s row f id → Left (after l s change) id ⊎ IsFirst l (after l s change) row f id
 scan-starts l n row f id s (Start g at task) k a (inl left) = inl (left-started l s g at id task left)
@@ -97,6 +100,26 @@ scan-starts l n row f id s (Start g at task) k a (inr u) = inl (left-served l s 
 scan-starts l n row f id s (Ask g h slot generation) k a (inl left) = inl left
 scan-starts l n row f id s (Ask g h slot generation) k a (inr u) =
     inr (first-goes l (record s { command = put s.command s.tokens _ }) row f id g h _ a.0 refl (first-issues l s row f id g s.tokens h _ a.0 refl u))
+scan-starts l n row f id s (Read_direct buffer own block g) k a (inl left) = inl (λ op e. elim (put-cases s.request own _ id _ e) [
+  | inl q ↦ reading_not s.tokens (same_stage _ _ _ _ q.1).1
+  | inr q ↦ left op q.1
+])
+scan-starts l n row f id s (Read_direct buffer own block g) k a (inr u) = inr (
+  u.0,
+  u.1,
+  (
+    u.2.0,
+    u.2.1,
+    λ v d e at. elim (put-cases s.command s.tokens _ v _ e) [
+      | inl q ↦ let low = u.2.0 in let behind = a.0.0 in let same : buffer ≡ d.frame = ap (λ (x : Command). x.frame) (Some-inj _ _ q.1) in absurd (omega arith)
+      | inr q ↦ u.2.2 v d q.1 at
+    ],
+  ),
+  λ other op e unheld. elim (put-cases s.request own _ other _ e) [
+    | inl q ↦ absurd (reading_not s.tokens (same_stage _ _ _ _ q.1).1)
+    | inr q ↦ u.3 other op q.1 unheld
+  ],
+)
 scan-starts l n row f id s (Prepare g h event) k a (inl left) = inl left
 scan-starts l n row f id s (Prepare g h event) k a (inr u) = inr (first-goes l s row f id g h _ a.0 refl u)
 scan-starts l n row f id s (Send g h slot generation b) k a (inl left) = inl left

@@ -1,19 +1,21 @@
 -- The shard's step refuses wrong bodies.
-use Rattle.std.proofs.Common.{◌≡◌, ℕ, ◌⊎◌, List, [], ◌∷◌, Bool, true, false, inl, inr, refl, sym, ap, ◌∙◌, subst, Some, None, Ok, Err}
+use Rattle.std.proofs.Common.{◌≡◌, ℕ, ◌⊎◌, List, [], ◌∷◌, Bool, true, false, inl, inr, refl, sym, ap, ◌∙◌, subst, Some, None, Ok, Err, Option}
 use Rattle.std.specs.Prelude.{◌++◌, if◌then◌else◌, ◌==◌}
 use Rattle.std.proofs.lemmas.Bool.{cases_Bool, false≢true}
-use Rattle.r6_world.specs.PlainArray.{Op, Read, Write, ArrayFailed}
+use Rattle.r6_world.specs.PlainArray.{Op, Read, Write, ArrayFailed, Block, Data}
 use Rattle.r6_world.specs.Layouts.{Layout}
 use Rattle.r6_world.specs.Registers.{Snapshot, Told as Answer, Contended}
 use Rattle.r6_world.specs.Tasks.{serves, Outcome, Answered, Wrote, Rebuilt, GivenUp, Classed, Skipped}
-use Rattle.r6_world.specs.ShardStates.{Stage, Waiting, Held, Finished, Released, Command, Call, LossOf, RebuildOf, Shard}
-use Rattle.r6_world.specs.Changes.{Change, Accept, Start, Learn, Confirm, Come_home, Lose, See_failed, Finish, Bring_in, Release, Hand_call, Hear, Hand_reply, Allowed, outcome_reply, finished_stage, released_stage, put_back}
+use Rattle.r6_world.specs.ShardStates.{Stage, Waiting, Held, Finished, Released, Command, Call, LossOf, RebuildOf, Shard, Reading}
+use Rattle.r6_world.specs.Changes.{Change, Accept, Start, Learn, Confirm, Come_home, Lose, See_failed, Finish, Bring_in, Release, Hand_call, Hear, Hand_reply, Allowed, outcome_reply, finished_stage, released_stage, put_back, Read_direct, Give_direct, Adopt, abandoned_to, read_stage}
 use Rattle.r6_world.specs.Steps.{Completion, Good, Error, Taken, Late, Takes, Event, Look}
 use Rattle.r6_world.specs.Refusals.{LookNeedsTold, CommandsAreHanded, CallsAreHanded, RepliesAreHanded, LateIsNotLearned, TakenIsNotLate, FramesAreUsed, PlanIsPutOut, SeesNoFailure, StopsOnlyWhenSeen, IsFailure, FailsOnlyWhenSeen, IsNoError, IsIn, IsToTell, OnlyErrorsDeclare}
 use Rattle.r6_world.proofs.Tables.{put-cases, None-not_Some, Some-inj, same_entry}
 use Rattle.r6_world.proofs.Acts.Requests.{request_at, same_stage, held_now-served, held_now-other, staged-cases, released-cases, finished-cases}
 use Rattle.r6_world.proofs.Changes.{Keeps, step-kept}
 use Rattle.r6_world.proofs.Laws.Quiet.{step-rest}
+use Rattle.r6_world.proofs.Acts.ReadOns.{read-cases, stage-cases}
+use Rattle.r6_world.specs.Tables.{put}
 
 pub look_needs_told : LookNeedsTold
 look_needs_told l n old new seen (inl waits) st = waits st.0
@@ -35,6 +37,7 @@ same_fate s t u c d same e e' = ap (λ (x : Command). x.abandoned) (same_entry (
 taken_stands : (l : Layout) (n : ℕ) (s : Shard) (t : ℕ) (c : Command) (completion : Completion) (change : Change) → Takes t completion Taken change → Allowed l n s change
     → s.command t ≡ Some c → c.abandoned ≡ false
 taken_stands l n s t c (Good b) (Learn u d h learned) k a here = sym (same_fate s u t d c k.0 a.0 here) ∙ a.1
+taken_stands l n s t c (Good b) (Give_direct u d id block given) k a here = sym (same_fate s u t d c k.0 a.0 here) ∙ a.1
 taken_stands l n s t c (Good b) (Confirm u d h) k a here = sym (same_fate s u t d c k.0 a.0 here) ∙ a.1
 taken_stands l n s t c Error (Lose u d) k a here = sym (same_fate s u t d c k.0 a.0 here) ∙ a.1
 taken_stands l n s t c completion change k a here = absurd k
@@ -72,6 +75,7 @@ stops_only_when_seen l n old new event none st = step-kept l n (λ s. s.saw_fail
 released-failure : (before : Stage) → IsFailure (released_stage before) → IsFailure before
 released-failure Waiting x = x
 released-failure (Held f) x = x
+released-failure (Reading t) x = x
 released-failure (Finished reply) x = x
 released-failure (Released reply) x = x
 
@@ -91,8 +95,15 @@ finished-failure f outcome op (Held g) x = of_frame (g == f) x
     of_frame : (b : Bool) → IsFailure (if b then Finished (outcome_reply outcome op) else Held g) → ⊥
     of_frame true x = no_failure outcome op x
     of_frame false x = x
+finished-failure f outcome op (Reading t) x = x
 finished-failure f outcome op (Finished reply) x = x
 finished-failure f outcome op (Released reply) x = x
+
+data_is_no_failure : (b : Block) → Data b ≡ ArrayFailed → ⊥
+data_is_no_failure b e = cc
+
+read-failure : (command : ℕ → Option Command) (before : Stage) → IsFailure (read_stage command before) → IsFailure before
+read-failure command before x = elim (stage-cases command before) [ inl same ↦ subst IsFailure same x | inr q ↦ absurd (subst IsFailure q.3 x) ]
 
 -- the failures of a shard are among those of another
 abbrev FailuresOf : Shard → Shard → Type 0
@@ -115,6 +126,22 @@ failures-kept l n old event none s (Start f row task) within a p = λ id op stag
 failures-kept l n old event none s (Finish f h outcome) within a p = λ id op stage e x.
     let q = finished-cases f outcome (s.request id) op stage e in
     p id op q.0 q.1 (finished-failure f outcome op q.0 (subst IsFailure (sym q.2) x))
+failures-kept l n old event none s (Read_direct buffer i block g) within a p = λ id op stage e x.
+    elim (put-cases s.request i _ id _ e) [
+      | inl q ↦ absurd (subst IsFailure (sym (same_stage _ _ _ _ q.1).1) x)
+      | inr q ↦ p id op stage q.1 x
+    ]
+failures-kept l n old event none s (Give_direct t c i block b) within a p = λ id op stage e x.
+    elim (put-cases s.request i _ id _ e) [
+      | inl q ↦ absurd (data_is_no_failure b (subst IsFailure (sym (same_stage _ _ _ _ q.1).1) x))
+      | inr q ↦ p id op stage q.1 x
+    ]
+failures-kept l n old event none s (Lose t c) within a p = λ id op stage e x.
+    let q = read-cases (λ u. abandoned_to _ c.slot (put s.command t None u)) (s.request id) op stage e in
+    p id op q.0 q.1 (read-failure _ q.0 (subst IsFailure (sym q.2) x))
+failures-kept l n old event none s (Adopt slot status) within a p = λ id op stage e x.
+    let q = read-cases (λ u. abandoned_to _ slot (s.command u)) (s.request id) op stage e in
+    p id op q.0 q.1 (read-failure _ q.0 (subst IsFailure (sym q.2) x))
 failures-kept l n old event none s Release within a p = λ id op stage e x.
     let q = released-cases (s.request id) op stage e in
     p id op q.0 q.1 (released-failure q.0 (subst IsFailure (sym q.2) x))

@@ -7,7 +7,7 @@ use Rattle.r6_world.specs.Registers.{Snapshot, Status, InSync, Lost, Rebuilding,
 use Rattle.r6_world.specs.Tables.{put}
 use Rattle.r6_world.specs.Tasks.{Task, ReadFor, WriteFor, Rebuild, Check, Repair, Hold, Outcome, Answered, Wrote, Rebuilt, GivenUp, Classed, Skipped}
 use Rattle.r6_world.specs.ShardStates.{Shard, SlotState, Synced, Missing, Building, Call, LossOf, RebuildOf, begun}
-use Rattle.r6_world.specs.Changes.{Change, Start, Ask, Prepare, Classify, Send, Learn, Confirm, Lose, Adopt, See_failed, Finish, Bring_in, Hand_call, Hear, Ends, AllBuilt, Allowed, after, adopted, differs, slots_after, told_hold, put_back, with_row}
+use Rattle.r6_world.specs.Changes.{Change, Start, Ask, Prepare, Classify, Send, Learn, Confirm, Lose, Adopt, See_failed, Finish, Bring_in, Hand_call, Hear, Ends, AllBuilt, Allowed, after, adopted, differs, slots_after, told_hold, put_back, with_row, Read_direct}
 use Rattle.r6_world.specs.Steps.{IsRequest, Scans, Leads, Event, Look, Turn_started, Step}
 use Rattle.r6_world.specs.Refusals.{IsIn, IsToTell, IsNoLook, OnlyLooksRelease, IsBuilt, IsBeingBuilt, OnlyBuiltIsReported}
 use Rattle.r6_world.proofs.Tables.{put-cases, None-not_Some, Some-inj}
@@ -237,6 +237,7 @@ module _ (l : Layout) (n : ℕ) (old : Shard) (slot g : ℕ) where
   scan-calls s (Ask f h at generation) k x = x
   scan-calls s (Prepare f h e) k x = x
   scan-calls s (Send f h at generation b) k x = x
+  scan-calls s (Read_direct buffer id block generation) k x = x
   scan-calls s change k x = absurd k
 
   scans-calls : (changes : List Change) (s new : Shard) → Leads l n Scans s changes new → IsToTell new (RebuildOf slot g) → IsToTell s (RebuildOf slot g)

@@ -1,5 +1,5 @@
 -- A shard that keeps the blocks and writes no device answers no write.
-use Rattle.std.proofs.Common.{◌≡◌, ◌≢◌, ℕ, ◌≤◌, ◌+◌, List, [], ◌∷◌, Bool, true, false, inl, inr, refl, sym, ap, ◌∙◌, subst, Some, None}
+use Rattle.std.proofs.Common.{◌≡◌, ◌≢◌, ℕ, ◌≤◌, ◌+◌, List, [], ◌∷◌, Bool, true, false, inl, inr, refl, sym, ap, ◌∙◌, subst, Some, None, Option}
 use Rattle.std.proofs.lemmas.Bool.{cases_eq, cases_Bool, false≢true}
 use Rattle.r6_stripe.specs.Holds.{Hold as Course, Cell, Event as HoldEvent, cell_at, after_event, IsToWrite, MayEnd, Owes}
 use Rattle.r6_stripe.specs.Holds.Event.{Asks, Restores, Computes, Writes, Gives, Confirms, Loses}
@@ -8,16 +8,17 @@ use Rattle.r6_stripe.specs.Holds.Standing.{InSync}
 use Rattle.r6_stripe.specs.Holds.Writing.{Ready, Sent, Confirmed}
 use Rattle.r6_stripe.proofs.Course.{Became, cell_after, width_after, kind_after, standing_after}
 use Rattle.r6_world.specs.Tables.{put}
-use Rattle.r6_world.specs.PlainArray.{Block, Op}
+use Rattle.r6_world.specs.PlainArray.{Block, Op, Read}
 use Rattle.r6_world.specs.Layouts.{Layout}
 use Rattle.r6_world.specs.Registers.{Snapshot}
 use Rattle.r6_world.specs.Tasks.{Task, ReadFor, WriteFor, Rebuild, Check, Repair, Hold, Outcome, Answered, Wrote, Rebuilt, GivenUp, Classed, Skipped, serves, end_of}
-use Rattle.r6_world.specs.ShardStates.{Shard, Command, Fetch, Stage, Waiting, Held}
-use Rattle.r6_world.specs.Changes.{Change, Accept, Start, Ask, Prepare, Classify, Send, Learn, Confirm, Come_home, Lose, Adopt, See_failed, Finish, Bring_in, Release, Skip_turn, IsWorkedOut, Allowed, after, finished, finished_stage, released, released_stage, failed_stage}
+use Rattle.r6_world.specs.ShardStates.{Shard, Command, Fetch, Stage, Waiting, Held, Reading, Request}
+use Rattle.r6_world.specs.Changes.{Change, Accept, Start, Ask, Prepare, Classify, Send, Learn, Confirm, Come_home, Lose, Adopt, See_failed, Finish, Bring_in, Release, Skip_turn, IsWorkedOut, Allowed, after, finished, finished_stage, released, released_stage, failed_stage, Read_direct, Give_direct, abandoned_to, read_on, read_stage}
 use Rattle.r6_world.specs.Steps.{IsTurn, Scans, GoesOn, TakesOver, Takes, Looks, Leads, Completion, Good, Error, Receipt, Taken, Late, Event, Submit, Deliver, Look, Turn_started, Turn_skipped, Take_command, No_command, Take_call, No_call, Told, Take_reply, No_reply, Step}
 use Rattle.r6_world.specs.Refusals.{IsDone, WaitingIsNotDone, LosesNone, UnsentIsNotDone}
 use Rattle.r6_world.proofs.Tables.{put-same, put-other, put-cases, None-not_Some, same_entry}
 use Rattle.r6_world.proofs.Acts.Requests.{request_at, same_stage, held_now-served, held_now-other, staged-cases, released-cases, finished-cases, finished-other, failed-cases}
+use Rattle.r6_world.proofs.Acts.ReadOns.{read-cases}
 
 -- ---- one phase of an event
 
@@ -43,6 +44,8 @@ module _ (l : Layout) (n : ℕ) where
   scan-not-done id s (Ask f h slot g) k a x = x
   scan-not-done id s (Prepare f h event) k a x = x
   scan-not-done id s (Send f h slot g b) k a x = x
+  scan-not-done id s (Read_direct buffer own block g) k a x = λ op stage e d.
+      elim (put-cases s.request own _ id _ e) [ inl q ↦ subst IsDone (sym (same_stage _ _ _ _ q.1).1) d | inr q ↦ x op stage q.1 d ]
   scan-not-done id s change k a x = absurd k
 
   scans-not-done : (id : ℕ) (changes : List Change) (old new : Shard) → Leads l n Scans old changes new → NotDone id old → NotDone id new
@@ -72,8 +75,14 @@ module _ (l : Layout) (n : ℕ) where
   goes-wait : (id : ℕ) (changes : List Change) (old new : Shard) → Leads l n GoesOn old changes new → Waits id old → Waits id new
   goes-wait id = phase GoesOn (Waits id) (go-waits id)
 
+  -- a request that waits is none that reads directly
+  read-waits : (id : ℕ) (command : ℕ → Option Command) (request : ℕ → Option Request) → ((op : Op) (stage : Stage) → request id ≡ Some (request_at op stage) → stage ≡ Waiting)
+      → (op : Op) (stage : Stage) → read_on command (request id) ≡ Some (request_at op stage) → stage ≡ Waiting
+  read-waits id command request x op stage e =
+      let p = read-cases command (request id) op stage e in sym p.2 ∙ ap (read_stage command) (x op p.0 p.1)
+
   take-waits : (id : ℕ) (seen : Snapshot) (s : Shard) (change : Change) → TakesOver seen change → Allowed l n s change → Waits id s → Waits id (after l s change)
-  take-waits id seen s (Adopt slot status) k a x = x
+  take-waits id seen s (Adopt slot status) k a x = read-waits id (λ t. abandoned_to _ slot (s.command t)) s.request x
   take-waits id seen s change k a x = absurd k
 
   release-waits : (id : ℕ) (s : Shard) → Waits id s → Waits id (after l s Release)
@@ -91,13 +100,21 @@ module _ (l : Layout) (n : ℕ) where
       scans-not-done id k.2.0 (after l k.0 Release) new k.2.1
       (waits-not-done id (after l k.0 Release) (release-waits id k.0 (goes-wait id k.1.0 mid k.0 k.1.1 x)))
 
-  taken-waits : (id : ℕ) (s : Shard) (token : ℕ) (completion : Completion) (receipt : Receipt) (change : Change) → Takes token completion receipt change → Waits id s → Waits id (after l s change)
-  taken-waits id s t (Good b) Taken (Learn token c h learned) k x = x
-  taken-waits id s t (Good b) Taken (Confirm token c h) k x = x
-  taken-waits id s t Error Taken (Lose token c) k x = x
-  taken-waits id s t (Good b) Late (Come_home token c) k x = x
-  taken-waits id s t Error Late (Come_home token c) k x = x
-  taken-waits id s t completion receipt change k x = absurd k
+  reading-waits : (token : ℕ) → Reading token ≡ Waiting → ⊥
+  reading-waits token e = cc
+
+  taken-waits : (id : ℕ) (s : Shard) (token : ℕ) (completion : Completion) (receipt : Receipt) (change : Change) → Takes token completion receipt change → Allowed l n s change → Waits id s → Waits id (after l s change)
+  taken-waits id s t (Good b) Taken (Learn token c h learned) k a x = x
+  taken-waits id s t (Good b) Taken (Confirm token c h) k a x = x
+  taken-waits id s t (Good b) Taken (Give_direct token c own block given) k a x = λ op stage e.
+      elim (put-cases s.request own _ id _ e) [
+        | inl q ↦ absurd (reading-waits token (x (Read block) (Reading token) (ap s.request q.0 ∙ a.2)))
+        | inr q ↦ x op stage q.1
+      ]
+  taken-waits id s t Error Taken (Lose token c) k a x = read-waits id (λ u. abandoned_to _ c.slot (put s.command token None u)) s.request x
+  taken-waits id s t (Good b) Late (Come_home token c) k a x = x
+  taken-waits id s t Error Late (Come_home token c) k a x = x
+  taken-waits id s t completion receipt change k a x = absurd k
 
   turn-serves : (task : Task) → IsTurn task → (id : ℕ) → serves task id ≡ false
   turn-serves (ReadFor own block) k id = absurd k
@@ -111,7 +128,7 @@ module _ (l : Layout) (n : ℕ) where
       scans-not-done id st.2.0 (after l old (Accept op)) new st.2.1 (waits-not-done id (after l old (Accept op)) (λ o stage e.
       elim (put-cases old.request old.accepted (Some (request_at op Waiting)) id _ e) [ inl q ↦ sym (same_stage _ _ _ _ q.1).1 | inr q ↦ x o stage q.1 ]))
   waits-step id old (Deliver token completion receipt) new st x =
-      let taken = taken-waits id old token completion receipt st.0 st.1 x in
+      let taken = taken-waits id old token completion receipt st.0 st.1 st.2 x in
       scans-not-done id st.5.0 st.3 new st.5.1 (waits-not-done id st.3 (goes-wait id st.4.0 (after l old st.0) st.3 st.4.1 taken))
   waits-step id old (Look seen) new st x =
       look-not-done id seen.failed st.2 new st.5 (phase (TakesOver seen) (Waits id) (take-waits id seen) st.3.0 old st.2 st.3.1 x)
@@ -277,6 +294,9 @@ module _ (l : Layout) (n : ℕ) (f id row at : ℕ) (op : Op) (batch : List (ℕ
   abbrev NoneOut : Shard → Type 0
   NoneOut s = (t : ℕ) (c : Command) → s.command t ≡ Some c → c.frame ≡ f → l.position row c.slot ≡ at → c.transfer ≡ Fetch
 
+  reading-held : (token : ℕ) → Reading token ≡ Held f → ⊥
+  reading-held token e = cc
+
   taken-owed : (s : Shard) (token : ℕ) (completion : Completion) (receipt : Receipt) (change : Change) → LosesNone s (Deliver token completion receipt) → Takes token completion receipt change → Allowed l n s change
       → NoneOut s → Owed s → Owed (after l s change)
   taken-owed s t (Good b) Taken (Learn token c h learned) none k a out x =
@@ -292,6 +312,14 @@ module _ (l : Layout) (n : ℕ) (f id row at : ℕ) (op : Op) (batch : List (ℕ
             record { hold = y.hold; there = y.there; in_row = y.in_row; owing = y.owing; held = y.held }
         | inr other ↦ record { hold = x.hold; there = put-other s.frame c.frame _ f other ∙ x.there; in_row = x.in_row; owing = x.owing; held = x.held }
       ]
+  taken-owed s t (Good b) Taken (Give_direct token c own block given) none k a out x =
+      record {
+        hold = x.hold;
+        there = x.there;
+        in_row = x.in_row;
+        owing = x.owing;
+        held = put-other s.request own _ id (λ same. reading-held token (same_stage _ _ _ _ (sym a.2 ∙ ap s.request (sym same) ∙ x.held)).1) ∙ x.held;
+      }
   taken-owed s t Error Taken (Lose token c) none k a out x = absurd none
   taken-owed s t (Good b) Late (Come_home token c) none k a out x = record { hold = x.hold; there = x.there; in_row = x.in_row; owing = x.owing; held = x.held }
   taken-owed s t Error Late (Come_home token c) none k a out x = record { hold = x.hold; there = x.there; in_row = x.in_row; owing = x.owing; held = x.held }

@@ -1,8 +1,8 @@
 -- Every event of a core keeps what ties its shard to the register.
 use Rattle.std.proofs.Common.{◌≡◌, ℕ, List, [], ◌∷◌, ◌++◌, Bool, true, false, ◌||◌, ◌==◌, inl, inr, refl, sym, ap, ◌∙◌, subst, Option, Some, None}
 use Rattle.std.proofs.lemmas.Bool.{cases_eq, false≢true, true≢false, or_parts, or_right, eqb-false, eq-eqb, not_from_true}
-use Rattle.r6_world.specs.Changes.{Change, Accept, Start, Ask, Send, Learn, Confirm, Come_home, Lose, Adopt, See_failed, Finish, Release, Hand_command, Hand_call, Hear, Bring_in, Skip_turn, Allowed, after, slots_after, with_row, differs, adopted, abandoned_to, abandoned_if}
-use Rattle.r6_world.specs.Layouts.{Layout}
+use Rattle.r6_world.specs.Changes.{Change, Accept, Start, Ask, Send, Learn, Confirm, Come_home, Lose, Adopt, See_failed, Finish, Release, Hand_command, Hand_call, Hear, Bring_in, Skip_turn, Allowed, after, slots_after, with_row, differs, adopted, abandoned_to, abandoned_if, Read_direct, Give_direct}
+use Rattle.r6_world.specs.Layouts.{Layout, slot_of}
 use Rattle.r6_world.specs.Registers.{Snapshot, Status, ShardSet, Rebuilding, status_of}
 use Rattle.r6_world.specs.ShardStates.{Shard, SlotState, Synced, Missing, Building, Call, LossOf, RebuildOf, Command}
 use Rattle.r6_world.specs.Steps.{Takes, TakesOver, Looks, Leads, Completion, Good, Error, Receipt, Taken, Late, Event, Submit, Deliver, Look, Turn_started, Turn_skipped, Take_command, No_command, Take_call, No_call, Told, Take_reply, No_reply, Step}
@@ -106,6 +106,9 @@ module _ (l : Layout) (n : ℕ) (r : Snapshot) (completed : ℕ → Option ℕ) 
       record { tied = with_commands s.slot s.calls s.command _ (one_more s.slot s.command x.tied.in_use s.tokens _ (λ on. sync-uses (s.slot slot) h.row g a.2)) x.tied }
   tie-kept s (Send f h slot g b) within a x =
       record { tied = with_commands s.slot s.calls s.command _ (one_more s.slot s.command x.tied.in_use s.tokens _ (λ on. reach-uses h.task slot h.row g (s.slot slot) a.2)) x.tied }
+  tie-kept s (Read_direct buffer id block g) within a x =
+      record { tied = with_commands s.slot s.calls s.command _ (one_more s.slot s.command x.tied.in_use s.tokens _ (λ on. sync-uses (s.slot (slot_of l block)) (l.row_of block) g a.4)) x.tied }
+  tie-kept s (Give_direct t c id block b) within a x = record { tied = with_commands s.slot s.calls s.command _ (one_less s.slot s.command x.tied.in_use t) x.tied }
   tie-kept s (Learn t c h b) within a x = record { tied = with_commands s.slot s.calls s.command _ (one_less s.slot s.command x.tied.in_use t) x.tied }
   tie-kept s (Confirm t c h) within a x = record { tied = with_commands s.slot s.calls s.command _ (one_less s.slot s.command x.tied.in_use t) x.tied }
   tie-kept s (Come_home t c) within a x = record { tied = with_commands s.slot s.calls s.command _ (one_less s.slot s.command x.tied.in_use t) x.tied }
@@ -253,6 +256,7 @@ module _ (l : Layout) (n : ℕ) (r : Snapshot) (completed : ℕ → Option ℕ) 
       → ((c : Command) → s.command t ≡ Some c → completion ≡ Error → receipt ≡ Taken → s.slot c.slot ≡ Synced c.generation → lapsed c.slot c.generation ≡ true)
       → Tie s → Tie (after l s change)
   answered-tie s t (Good b) Taken (Learn token c h b') k a lap x = tie-kept s (Learn token c h b') (record {}) a x
+  answered-tie s t (Good b) Taken (Give_direct token c id block b') k a lap x = tie-kept s (Give_direct token c id block b') (record {}) a x
   answered-tie s t (Good b) Taken (Confirm token c h) k a lap x = tie-kept s (Confirm token c h) (record {}) a x
   answered-tie s t (Good b) Late (Come_home token c) k a lap x = tie-kept s (Come_home token c) (record {}) a x
   answered-tie s t Error Late (Come_home token c) k a lap x = tie-kept s (Come_home token c) (record {}) a x

@@ -1,8 +1,8 @@
 -- A part of a device that a shard has put away is never taken up again: generations do not come back.
 use Rattle.std.proofs.Common.{◌≡◌, ℕ, ◌<◌, ◌≤◌, ◌⊎◌, List, [], ◌∷◌, ◌++◌, Bool, true, false, ◌==◌, inl, inr, refl, sym, ap, ◌∙◌, subst, arith, Option, Some, None}
 use Rattle.std.proofs.lemmas.Bool.{cases_eq, cases_Bool, false≢true, true≢false, eq-eqb, not_from_true}
-use Rattle.r6_world.specs.Changes.{Accept, Start, Ask, Prepare, Classify, Send, Learn, Confirm, Come_home, Lose, Adopt, See_failed, Finish, Release, Hand_command, Hand_call, Hear, Hand_reply, Bring_in, Skip_turn, Allowed, MayStart, after, slots_after, with_row, differs, adopted, told_hold, abandoned_to, abandoned_if}
-use Rattle.r6_world.specs.Layouts.{Layout}
+use Rattle.r6_world.specs.Changes.{Accept, Start, Ask, Prepare, Classify, Send, Learn, Confirm, Come_home, Lose, Adopt, See_failed, Finish, Release, Hand_command, Hand_call, Hear, Hand_reply, Bring_in, Skip_turn, Allowed, MayStart, after, slots_after, with_row, differs, adopted, told_hold, abandoned_to, abandoned_if, Read_direct, Give_direct}
+use Rattle.r6_world.specs.Layouts.{Layout, slot_of}
 use Rattle.r6_world.specs.Registers.{Snapshot, ShardSet, status_of, Status, InSync, Lost, Rebuilding}
 use Rattle.r6_world.specs.ShardStates.{begun, Shard, SlotState, Synced, Missing, Building, InSyncFor, is_away, IsLive, Call, LossOf, RebuildOf, Command}
 use Rattle.r6_world.specs.Steps.{Error, Taken, Look, Deliver, Take_call, Told, No_command}
@@ -323,6 +323,10 @@ module _ (l : Layout) (n : ℕ) (r : Snapshot) (broken : ℕ → ℕ → Bool) w
         parted = with_command s.slot s.saw_failed (put s.frame f (Some (record h { course = after_event h.course (Writes (l.position h.row slot) b) }))) s.command s.calls
             (with_hold s.slot s.saw_failed s.frame s.command s.calls x.parted f h (record h { course = after_event h.course (Writes (l.position h.row slot) b) }) a.0 refl) s.tokens _ (reach-uses h.task slot h.row g (s.slot slot) a.2);
       }
+  parting-kept s (Read_direct buffer id block g) within a x = record {
+    parted = with_command s.slot s.saw_failed s.frame s.command s.calls x.parted s.tokens _ (sync-uses (s.slot (slot_of l block)) (l.row_of block) g a.4);
+  }
+  parting-kept s (Give_direct t c id block b) within a x = record { parted = comes-home s.slot s.saw_failed s.frame s.command s.calls x.parted t }
   parting-kept s (Learn t c h b) within a x =
       record {
         parted = comes-home s.slot s.saw_failed (put s.frame c.frame (Some (record h { course = after_event h.course (Gives (l.position h.row c.slot) b) }))) s.command s.calls

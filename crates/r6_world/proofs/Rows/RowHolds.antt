@@ -142,7 +142,7 @@ module _ (l : Layout) (is : IsLayout l) (n : ℕ) where
             | inr q ↦ r.alone g g' k k' p.1 q.1 same
           ]
         ];
-        framed = λ t c e on. let p = r.framed t c e on in (p.0, still c.frame p.0 p.1);
+        framed = λ t c e on low. let p = r.framed t c e on low in (p.0, still c.frame p.0 p.1);
         gone = r.gone;
         given_token = r.given_token;
         unused = r.unused;
@@ -336,8 +336,8 @@ module _ (l : Layout) (is : IsLayout l) (n : ℕ) where
             let ne = apart g k p.0 p.1 in
             held-alike device gave command slots slots' array array' g k (alike k.row (r.held g k p.1).in_shard ne) (same k.row ne) (r.held g k p.1);
         alone = λ g g' k k' e e' same'. r.alone g g' k k' (was g k e).1 (was g' k' e').1 same';
-        framed = λ t c e on.
-            let p = r.framed t c e on in
+        framed = λ t c e on low.
+            let p = r.framed t c e on low in
             let away' : c.frame ≡ f → ⊥ = none-going device gave command slots array f h mine outcome may t c e on in
             (p.0, put-other frame f None c.frame away' ∙ p.1);
         gone = λ t c e off used. r.gone t c e off (was-used c.slot c.generation used);

@@ -11,7 +11,7 @@ use Rattle.r6_world.specs.Tables.{put}
 use Rattle.r6_world.specs.PlainArray.{Block, Array}
 use Rattle.r6_world.specs.Layouts.{Layout, IsLayout, full_row}
 use Rattle.r6_world.specs.Tasks.{Hold}
-use Rattle.r6_world.specs.ShardStates.{SlotState, Command, standing_of, found}
+use Rattle.r6_world.specs.ShardStates.{SlotState, Command, standing_of, found, frames}
 use Rattle.r6_world.specs.Changes.{lost_at, plan_lost_at, told_hold, abandoned_to}
 use Rattle.r6_world.proofs.Tables.{put-same, put-other, Some-inj, not_both}
 use Rattle.r6_world.proofs.Cells.{cell-same, cell-other, not-out-within, cells-ext, found-long, found-at, found-same}
@@ -77,10 +77,10 @@ module _ (l : Layout) (is : IsLayout l) (n : ℕ) where
             let p = told-was slot (frame f) k e in
             let q = told-was slot (frame f') k' e' in
             r.alone f f' p.0 q.0 p.1 q.1 (ap (λ (y : Hold). y.row) q.2 ∙ same ∙ sym (ap (λ (y : Hold). y.row) p.2));
-        framed = λ t k e on.
+        framed = λ t k e on low.
             let p = abandoned-was slot (command t) k e in
             let q = or_parts p.0.abandoned (p.0.slot == slot) (ap (λ (y : Command). y.abandoned) p.2 ∙ on) in
-            let o = r.framed t p.0 p.1 q.0 in
+            let o = r.framed t p.0 p.1 q.0 (subst (λ (y : Command). y.frame < frames) (sym p.2) low) in
             let s = still p.0.frame o.0 o.1 in
             (s.0, ap frame' (sym (ap (λ (y : Command). y.frame) p.2)) ∙ s.1);
         gone = λ t k e off used.

@@ -1,6 +1,6 @@
 -- A device performs a command, and the shard's rows hold what it has put or given.
-use Rattle.std.proofs.Common.{◌≡◌, ℕ, ◌<◌, ◌⊎◌, true, false, inl, inr, refl, sym, ap, ◌∙◌, subst, arith, Option, Some, None}
-use Rattle.std.proofs.lemmas.Bool.{cases_eq, false≢true}
+use Rattle.std.proofs.Common.{◌≡◌, ℕ, ◌<◌, ◌⊎◌, true, false, inl, inr, refl, sym, ap, ◌∙◌, subst, arith, Option, Some, None, ◌≤◌}
+use Rattle.std.proofs.lemmas.Bool.{cases_eq, false≢true, cases_lt}
 use Rattle.r6_stripe.specs.Holds.{Cell, cell_at}
 use Rattle.r6_stripe.specs.RowWorld.{Command as RowCommand, IsUnperformed}
 use Rattle.r6_stripe.specs.RowWorld as RowWorld
@@ -10,7 +10,7 @@ use Rattle.r6_world.specs.Tables.{put}
 use Rattle.r6_world.specs.PlainArray.{Block, Array}
 use Rattle.r6_world.specs.Layouts.{Layout, IsLayout, full_row}
 use Rattle.r6_world.specs.Tasks.{Hold}
-use Rattle.r6_world.specs.ShardStates.{SlotState, Command, Transfer, Fetch, Store, Storing, found}
+use Rattle.r6_world.specs.ShardStates.{SlotState, Command, Transfer, Fetch, Store, Storing, found, frames}
 use Rattle.r6_world.specs.Worlds.{given, performed_on}
 use Rattle.r6_world.proofs.Tables.{put-same, put-other, same_entry}
 use Rattle.r6_world.proofs.Cells.{not-out-within}
@@ -38,7 +38,7 @@ module _ (l : Layout) (is : IsLayout l) (n : ℕ) where
       }
 
   -- a block is put on a device
-  stored-cases : (device : Devices) (c : Command) (b : Block) (slot g row : ℕ)
+  pub stored-cases : (device : Devices) (c : Command) (b : Block) (slot g row : ℕ)
       → ((slot ≡ c.slot) × (g ≡ c.generation) × (row ≡ c.row) × (performed_on device c (Store b) slot g row ≡ b))
       ⊎ (performed_on device c (Store b) slot g row ≡ device slot g row)
   stored-cases device c b slot g row =
@@ -118,10 +118,10 @@ module _ (l : Layout) (is : IsLayout l) (n : ℕ) where
           ]
 
   performs_going : (device : Devices) (gave : ℕ → Option Block) (frame : ℕ → Option Hold) (command : ℕ → Option Command) (slots : ℕ → SlotState) (tokens : ℕ) (array : Array)
-      → Rows l n device gave frame command slots tokens array → (token : ℕ) (c : Command) → command token ≡ Some c → c.abandoned ≡ false → gave token ≡ None → (x : Transfer) → c.transfer ≡ x
+      → Rows l n device gave frame command slots tokens array → (token : ℕ) (c : Command) → command token ≡ Some c → c.abandoned ≡ false → gave token ≡ None → c.frame < frames → (x : Transfer) → c.transfer ≡ x
       → Rows l n (performed_on device c x) (put gave token (Some (given device c x))) frame command slots tokens array
-  performs_going device gave frame command slots tokens array r token c here on none x ct =
-      let fr = r.framed token c here on in
+  performs_going device gave frame command slots tokens array r token c here on none low x ct =
+      let fr = r.framed token c here on low in
       let h : Hold = fr.0 in
       let old = r.held c.frame h fr.1 in
       let o = old.commands token c here on refl in
@@ -246,12 +246,37 @@ module _ (l : Layout) (is : IsLayout l) (n : ℕ) where
       command-there device slots row c (Store b) slot g cell m s e r' = refl
       command-there device slots row c Storing slot g cell m s e r' = absurd m
 
+  -- a direct read is performed: nothing changes that the rows see
+  performs_direct : (device : Devices) (gave : ℕ → Option Block) (frame : ℕ → Option Hold) (command : ℕ → Option Command) (slots : ℕ → SlotState) (tokens : ℕ) (array : Array)
+      → Rows l n device gave frame command slots tokens array → (token : ℕ) (c : Command) → command token ≡ Some c → frames ≤ c.frame → (b : Block)
+      → Rows l n device (put gave token (Some b)) frame command slots tokens array
+  performs_direct device gave frame command slots tokens array r token c here behind b =
+      record {
+        idle = r.idle;
+        held = λ f h e. regaves device gave (put gave token (Some b)) command slots array f h (r.held f h e)
+            (λ t k e' on at. put-other gave token (Some b) t (λ same.
+            let low = (r.held f h e).low in
+            let is : k.frame ≡ c.frame = ap (λ (y : Command). y.frame) (same_entry (command token) k c (subst (λ y. command y ≡ Some k) same e') here) in absurd (omega arith)));
+        alone = r.alone;
+        framed = r.framed;
+        gone = r.gone;
+        given_token = r.given_token;
+        unused = λ t above.
+            let below = r.given_token token c here in
+            put-other gave token (Some b) t (λ same. absurd (omega arith)) ∙ r.unused t above;
+      }
+
   -- a device performs a command
   pub performs : (device : Devices) (gave : ℕ → Option Block) (frame : ℕ → Option Hold) (command : ℕ → Option Command) (slots : ℕ → SlotState) (tokens : ℕ) (array : Array)
-      → Rows l n device gave frame command slots tokens array → (token : ℕ) (c : Command) → command token ≡ Some c → gave token ≡ None
+      → Rows l n device gave frame command slots tokens array → (token : ℕ) (c : Command) → command token ≡ Some c → (frames ≤ c.frame → c.transfer ≡ Fetch) → gave token ≡ None
       → Rows l n (performed_on device c c.transfer) (put gave token (Some (given device c c.transfer))) frame command slots tokens array
-  performs device gave frame command slots tokens array r token c here none =
+  performs device gave frame command slots tokens array r token c here direct none =
       elim (Rattle.std.proofs.lemmas.Bool.cases_Bool c.abandoned) [
         | inl late ↦ performs_late device gave frame command slots tokens array r token c here late c.transfer
-        | inr going ↦ performs_going device gave frame command slots tokens array r token c here going none c.transfer refl
+        | inr going ↦ elim (cases_lt c.frame frames) [
+          | inl low ↦ performs_going device gave frame command slots tokens array r token c here going none low c.transfer refl
+          | inr behind ↦
+              subst (λ x. Rows l n (performed_on device c x) (put gave token (Some (given device c c.transfer))) frame command slots tokens array) (sym (direct behind))
+              (performs_direct device gave frame command slots tokens array r token c here behind (given device c c.transfer))
+        ]
       ]

@@ -125,6 +125,7 @@ no_command_left t = none_is lost_now.command 0 refl (λ at ne. rw (ne_eqb at 0 n
 
 lost : both_reads_out ≡ after_loss
 lost = λ i. record both_reads_out {
+  request = λ id. entry_is after_loss.request 0 (Some (record { op = Read 0; stage = Held 0 })) refl (λ at ne. rw (ne_eqb at 0 ne) refl) id i;
   frame = λ f. entry_is after_loss.frame 0 (Some both_asked) refl (λ at ne. rw (ne_eqb at 0 ne) refl) f i;
   command = put (put (λ t. no_command_left t i) 1 (Some (fetch 2 0))) 2 (Some (fetch 3 0));
   slot = λ d. but_one-put (Synced 0) Missing d i;
