@@ -104,11 +104,16 @@ IsAbandoned fs token = (c : Outstanding) × (outstanding fs token ≡ Some c) ×
 
 -- ---- slots go out
 
+-- no request is read directly: so none of them waits again where commands are abandoned
+abbrev pub NoneReading : Rest → Type 0
+NoneReading rest =
+    (id : ℕ) (op : world.Op) (token : ℕ) → rest.request id ≢ Some (record { op = op; stage = shards.Reading token })
+
 -- The device of this slot and generation, to which the command went, is lost. A call is to be made at the register
 abbrev pub Loses : FramesState → (token slot generation : ℕ) → FramesState → Type 0
 Loses old token slot generation new =
     (new.geometry ≡ old.geometry) × (new.shard ≡ old.shard)
-    × ((rest : Rest) →
+    × ((rest : Rest) → NoneReading rest →
     let l = layout_of old.geometry in
     let s = shard_with rest old in
     (c : shards.Command) × (c.slot ≡ slot) × (c.generation ≡ generation) × (c.taken ≡ true)
@@ -117,7 +122,10 @@ Loses old token slot generation new =
 
 -- the slot has another device, and the one before is taken out
 abbrev pub TakesOut : FramesState → (slot : ℕ) → Device → FramesState → Type 0
-TakesOut old slot device new = Between (λ l n s s'. s' ≡ taken_out l s slot (state_of device)) old new
+TakesOut old slot device new =
+    (new.geometry ≡ old.geometry) × (new.shard ≡ old.shard)
+    × ((rest : Rest) → NoneReading rest →
+    shard_with rest new ≡ taken_out (layout_of old.geometry) (shard_with rest old) slot (state_of device))
 
 -- a look has seen that the array failed: all commands are abandoned
 abbrev pub SeesFailure : FramesState → FramesState → Type 0

@@ -239,3 +239,7 @@ kept-or-none (Some a) (Some b) answer = at a.stage refl b.stage
     at (Held f) e y = inl refl
     at (Finished reply) e y = inl refl
     at (Released reply) e y = inl refl
+
+-- where none is read directly, none changes
+pub read-same : (command : ℕ → Option Command) (o : Option Request) → ((op : Op) (t : ℕ) → o ≡ Some (request_at op (Reading t)) → ⊥) → read_on command o ≡ o
+read-same command o none = elim (reads-on command o) [ inl same ↦ same | inr q ↦ absurd (none q.0 q.1 q.2) ]
