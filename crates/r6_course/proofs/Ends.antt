@@ -1,14 +1,14 @@
 -- The failure, idle rows, and commands in use.
-use Rattle.std.proofs.Common.{◌≡◌, ℕ, ◌≤◌, ◌⊎◌, List, [], ◌∷◌, ◌++◌, Bool, true, false, ◌||◌, inl, inr, refl, sym, ap, subst, ◌∙◌, arith, Option, Some, None}
+use Rattle.std.proofs.Common.{◌≡◌, ℕ, ◌≤◌, ◌⊎◌, List, [], ◌∷◌, ◌++◌, Bool, true, false, ◌||◌, inl, inr, refl, sym, ap, subst, ◌∙◌, arith, Option, Some, None, ◌<◌}
 use Rattle.std.specs.Prelude.{◌==◌, nat_lt}
-use Rattle.std.proofs.lemmas.Bool.{cases_eq, cases_Bool, false≢true, true≢false, or_parts, ltb-false}
+use Rattle.std.proofs.lemmas.Bool.{cases_eq, cases_Bool, false≢true, true≢false, or_parts, ltb-false, cases_lt}
 use Rattle.r6_world.specs.Tables.{put, count_below}
 use Rattle.r6_world.specs.PlainArray.{Op, ArrayFailed, Plain}
 use Rattle.r6_world.specs.Layouts.{Layout}
 use Rattle.r6_world.specs.Registers.{Snapshot, RegisterCall, Told as Answer, answer_to, register_after}
-use Rattle.r6_world.specs.ShardStates.{Shard, Stage, Released, SlotState, Synced, Missing, Building, Command, IsLive, is_away, away, handed, LossOf, Call, RebuildOf}
+use Rattle.r6_world.specs.ShardStates.{Shard, Stage, Released, SlotState, Synced, Missing, Building, Command, IsLive, is_away, away, handed, LossOf, Call, RebuildOf, frames}
 use Rattle.r6_world.specs.Tasks.{Task, Hold, ReadFor, WriteFor, Rebuild, Check, Repair, Outcome, Answered, Wrote, Rebuilt, GivenUp, Classed, Skipped}
-use Rattle.r6_world.specs.Changes.{Change, Allowed, Ask, Send, Learn, Confirm, Come_home, Lose, Adopt, See_failed, Finish, Bring_in, Hand_command, after, adopted, abandoned_to, abandoned_if, taken_out, slots_after, with_row, Hand_call, Hear}
+use Rattle.r6_world.specs.Changes.{Change, Allowed, Ask, Send, Learn, Confirm, Come_home, Lose, Adopt, See_failed, Finish, Bring_in, Hand_command, after, adopted, abandoned_to, abandoned_if, taken_out, slots_after, with_row, Hand_call, Hear, Read_direct, Give_direct}
 use Rattle.r6_world.specs.Steps.{Event, Look, Step, Looks, Deliver, Error, Receipt, Taken, Late, Takes, No_command, Take_call, Told}
 use Rattle.r6_world.specs.Worlds.{World, Happening, Core, Perform, Tell, Outside, Moment, Possible, MayCome, IsAnswer, as_made, next}
 use Rattle.r6_world.specs.Laws.{IsByAnyone, IsOfShard}
@@ -144,7 +144,7 @@ idle_law s lawful at x live out row =
       (λ f h e same.
           let p = rests.goes_on (subst (IsLive s.layout) (sym x.shard) live) f h (ap (λ (y : Shard). y.frame f) x.shard ∙ e) in
           false≢true (sym p.3 ∙ command p.0 p.1 p.2)),
-      λ t c e on same. false≢true (sym on ∙ out t c e),
+      λ t c e on low same. false≢true (sym on ∙ out t c e),
     )
 
 -- ---- commands in use
@@ -219,6 +219,8 @@ module _ (l : Layout) (n : ℕ) where
   live-kept : (event : Event) → Keeps l n (AreLive l) event
   live-kept event s (Ask f h slot g) within a x = λ t c e on. a.3
   live-kept event s (Send f h slot g b) within a x = λ t c e on. a.3
+  live-kept event s (Read_direct buffer id block g) within a x = λ t c e on. a.5
+  live-kept event s (Give_direct token c id block b) within a x = without s token x
   live-kept event s (Learn token c h b) within a x = without s token x
   live-kept event s (Confirm token c h) within a x = without s token x
   live-kept event s (Come_home token c) within a x = without s token x
@@ -265,11 +267,15 @@ command_law s lawful at x token c there on =
     let flying = restored-is (w.shard n).command (w.flight n) (w.shard n).tokens sound.flies token c there' in
     let k : Command = record c { transfer = flying.transfer } in
     let rows = sound.rows live in
-    let framed = rows.framed token k flying.there on in
-    let out = (rows.held c.frame framed.0 framed.1).commands token k flying.there on refl in (
+    let out : (c.slot < l.slots) × Uses ((w.shard n).slot c.slot) c.generation = elim (cases_lt c.frame frames) [
+      | inl low ↦
+          let framed = rows.framed token k flying.there on low in
+          let held = (rows.held c.frame framed.0 framed.1).commands token k flying.there on refl in (held.in_range, held.uses)
+      | inr direct ↦ sound.directs.used token c there' direct on
+    ] in (
       subst (IsLive l) x.shard live,
-      out.in_range,
-      in-use (at.shard.slot c.slot) c.generation (subst (λ (z : Shard). Uses (z.slot c.slot) c.generation) x.shard out.uses),
+      out.0,
+      in-use (at.shard.slot c.slot) c.generation (subst (λ (z : Shard). Uses (z.slot c.slot) c.generation) x.shard out.1),
     )
 
 -- ---- losses to declare

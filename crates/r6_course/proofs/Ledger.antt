@@ -5,11 +5,11 @@ use Rattle.r6_dev.specs.History.{Telling, Blocks}
 use Rattle.r6_world.specs.PlainArray.{Op, Reply, ArrayFailed, Plain}
 use Rattle.r6_recover.specs.Rows.{block_at}
 use Rattle.r6_world.specs.Layouts.{content, full_row}
-use Rattle.r6_world.specs.ShardStates.{InSyncFor, IsLive, Request, Shard}
+use Rattle.r6_world.specs.ShardStates.{InSyncFor, IsLive, Request, Shard, Reading, Released}
 use Rattle.r6_world.specs.Steps.{Step}
 use Rattle.r6_world.specs.Worlds.{World, Happening, Core, Perform, Tell, Outside, Moment, Possible, next}
 use Rattle.r6_world.specs.Claims.{IsUnwritten}
-use Rattle.r6_world.specs.ActingPoints.{acting, plain_after}
+use Rattle.r6_world.specs.ActingPoints.{acting, plain_next, forgotten}
 use Rattle.r6_world.specs.Laws.{IsByAnyone, IsOfShard, ShardHolds, at_start}
 use Rattle.r6_world.proofs.Tables.{put-other, not_both, None-not_Some}
 use Rattle.r6_world.proofs.FullRows.{row-same}
@@ -21,6 +21,8 @@ use Rattle.r6_course.proofs.Lists.{in-front, in-either, before-more, before-acro
 use Rattle.r6_course.proofs.Reached.{IsKept, is-of, holds-throughout}
 use Rattle.r6_course.proofs.Acting.{OrderedBy, OthersAreIdle, acts-on, gives-elsewhere}
 use Rattle.r6_course.proofs.Requests.{IsCall, IsBeside, moment, marks-stay, replied-cases, time-cases, Booked, booked-next}
+use Rattle.r6_world.proofs.Acts.Requests.{request_at, same_stage}
+use Rattle.r6_course.proofs.Forgetting.{still, ordered-still, still-was, keeps-answer, still-before}
 
 others-next : (s : Start) (w : World) (m : Moment) → IsOfShard s.number m.happening → OthersAreIdle w s.number
     → OthersAreIdle (next s.layout w m) s.number
@@ -63,6 +65,24 @@ module _ (s : Start) (lawful : IsLawful s) where
             (holds w plain k).replies id step.0 reply step.1 ne
       ]
 
+  -- and its request isn't read directly, but released, or gone
+  released-not-read : (reply : Reply) (t : ℕ) → Released reply ≡ Reading t → ⊥
+  released-not-read reply t e = cc
+
+  not-read : (w w' : World) (history history' : List Mark) (plain : Plain) → Led s w history plain
+      → IsCall s.layout s.number w w' history history' ⊎ IsBeside s.number w w' history history'
+      → (id : ℕ) (reply : Reply) → IsIn (Replied id reply) history' → (op : Op) (t : ℕ)
+      → (w.shard s.number).request id ≡ Some (request_at op (Reading t)) → ⊥
+  not-read w w' history history' plain x (inr b) id reply i op t e =
+      not_both ((w.shard s.number).request id) _ (x.booked.gone id reply (subst (IsIn (Replied id reply)) b.3 i)).1 e
+  not-read w w' history history' plain x (inl c) id reply i op t e =
+      elim (replied-cases c.0 history id reply (subst (IsIn (Replied id reply)) c.4 i)) [
+        | inl j ↦ not_both ((w.shard s.number).request id) _ (x.booked.gone id reply j).1 e
+        | inr taken ↦
+            let step = subst (λ y. Step s.layout s.number (w.shard s.number) y c.1) taken c.2 in
+            released-not-read reply t (same_stage _ _ _ _ (sym step.1 ∙ e)).1
+      ]
+
   -- what was there stays in the history
   stays : (w w' : World) (history history' : List Mark)
       → IsCall s.layout s.number w w' history history' ⊎ IsBeside s.number w w' history history'
@@ -85,7 +105,7 @@ module _ (s : Start) (lawful : IsLawful s) where
   led-next : (w : World) (history : List Mark) (plain : Plain) (m : Moment) → IsKept s lawful w plain
       → Led s w history plain
       → Possible s.layout IsByAnyone w m.happening → IsOfShard s.number m.happening
-      → let new = next s.layout w m in Led s new (history_after m.happening history) (plain_after w (acting s.layout w new) plain)
+      → let new = next s.layout w m in Led s new (history_after m.happening history) (plain_next s.layout w m plain)
   led-next w history plain m k x possible own =
       let n = s.number in
       let l = s.layout in
@@ -93,30 +113,41 @@ module _ (s : Start) (lawful : IsLawful s) where
       let history' = history_after m.happening history in
       let turn = moment l n w m history possible own in
       let may-act = (one_step l lawful.layout (λ k. k ≡ n) IsByAnyone m.happening m.noise w plain k (is-of n m.happening own) possible).0 in
-      let more = acts-on s w x.others [] (acting l w w') plain x.order may-act x.ordered in
-      let asked : (e : Entry) → IsIn e (x.order ++ more.more) → IsIn (Asked e.id e.op) history = (λ e i. elim (in-either e x.order more.more i) [
-        | inl j ↦ x.asked e j
+      let directs = (k.sounds n refl).directs in
+      let left = forgotten w w' plain in
+      let order = still s w w' history plain x.order x.ordered directs x.booked x.asked in
+      let ordered : OrderedBy s left order = ordered-still s w w' history plain x.order x.ordered directs x.booked x.asked in
+      let was : (e : Entry) → IsIn e order → IsIn e x.order = still-was s w w' history plain x.order x.ordered directs x.booked x.asked in
+      let more = acts-on s w x.others [] (acting l w m.happening w' plain) left order may-act ordered in
+      let asked : (e : Entry) → IsIn e (order ++ more.more) → IsIn (Asked e.id e.op) history = (λ e i. elim (in-either e order more.more i) [
+        | inl j ↦ x.asked e (was e j)
         | inr j ↦
             let r = more.was_open e j in
             subst (λ y. IsIn (Asked e.id y) history) r.2 (x.booked.known e.id r.0.op r.0.stage r.1)
       ]) in
-      let there : (id : ℕ) (reply : Reply) → plain.answers n id ≡ Some reply → (op : Op) × IsIn (entry id op reply) x.order = x.ordered.found in
+      let answered : (id : ℕ) (reply : Reply) → IsIn (Replied id reply) history' → reply ≢ ArrayFailed → left.answers n id ≡ Some reply = (λ id reply i ne.
+      keeps-answer s w w' history plain x.order x.ordered directs x.booked x.asked id reply (not-read w w' history history' plain x turn id reply i)
+      (replied-now w w' history history' plain k x turn id reply i ne)) in
       record {
-        order = x.order ++ more.more;
+        order = order ++ more.more;
         ordered = more.ordered;
         others = others-next s w m own x.others;
         booked = booked-next l n w w' history history' turn x.booked;
         replied = λ id reply i ne.
-            let e = there id reply (replied-now w w' history history' plain k x turn id reply i ne) in
-            more.ordered.back (entry id e.0 reply) (in-front (entry id e.0 reply) x.order more.more e.1);
+            let e = ordered.found id reply (answered id reply i ne) in
+            more.ordered.back (entry id e.0 reply) (in-front (entry id e.0 reply) order more.more e.1);
         asked = λ e i. stays w w' history history' turn (Asked e.id e.op) (asked e i);
         in_time = λ id later reply op before ne e i same. elim (time-was w w' history history' turn id later reply op before) [
-          | inl was ↦ elim (in-either e x.order more.more i) [
-            | inl j ↦ let b = x.in_time id later reply op was ne e j same in (b.0, before-more (entry id b.0 reply) e x.order more.more b.1)
-            | inr j ↦
-                let f = there id reply (x.replied id reply (before-first (Replied id reply) (Asked later op) history was) ne) in
-                (f.0, before-across (entry id f.0 reply) e x.order more.more f.1 j)
-          ]
+          | inl earlier ↦
+              let first = before-first (Replied id reply) (Asked later op) history earlier in
+              let now = answered id reply (stays w w' history history' turn (Replied id reply) first) ne in
+              elim (in-either e order more.more i) [
+                | inl j ↦
+                    let b = x.in_time id later reply op earlier ne e (was e j) same in
+                    let before = still-before s w w' history plain x.order x.ordered directs x.booked x.asked id b.0 reply e now j b.1 in
+                    (b.0, before-more (entry id b.0 reply) e order more.more before)
+                | inr j ↦ let f = ordered.found id reply now in (f.0, before-across (entry id f.0 reply) e order more.more f.1 j)
+              ]
           | inr new ↦ let low = x.booked.counted e.id e.op (asked e i) in absurd (omega arith)
         ];
       }

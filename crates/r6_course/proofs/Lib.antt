@@ -7,6 +7,7 @@ pub mod Looked
 pub mod Handing
 pub mod Acting
 pub mod Requests
+pub mod Forgetting
 pub mod Ledger
 pub mod Ends
 pub mod Witness

@@ -1,11 +1,11 @@
 -- What a shard uses, has put out or has broken has a generation up to the attaches that it saw when it looked last.
 use Rattle.std.proofs.Common.{◌≡◌, ℕ, [], ◌∷◌, ◌++◌, ◌≤◌, ◌⊎◌, Bool, true, false, if◌then◌else◌, ◌==◌, inl, inr, refl, sym, ap, subst, ◌∙◌, arith, Option, Some, None}
 use Rattle.r6_world.specs.Tables.{put}
-use Rattle.r6_world.specs.Layouts.{Layout}
+use Rattle.r6_world.specs.Layouts.{Layout, slot_of}
 use Rattle.r6_world.specs.Registers.{Snapshot, ShardSet, Status, InSync, Lost, Rebuilding, status_of}
 use Rattle.r6_world.specs.Tasks.{Task, ReadFor, WriteFor, Rebuild, Check, Repair, Hold, Outcome, Rebuilt}
 use Rattle.r6_world.specs.ShardStates.{Shard, Command, SlotState, Synced, Missing, Building, LossOf}
-use Rattle.r6_world.specs.Changes.{Ask, Send, Learn, Confirm, Come_home, Lose, Adopt, See_failed, Finish, Bring_in, Hand_command, abandoned_to, abandoned_if, adopted, with_row, slots_after, taken_out}
+use Rattle.r6_world.specs.Changes.{Ask, Send, Learn, Confirm, Come_home, Lose, Adopt, See_failed, Finish, Bring_in, Hand_command, abandoned_to, abandoned_if, adopted, with_row, slots_after, taken_out, Read_direct, Give_direct}
 use Rattle.r6_world.specs.Steps.{Event, Deliver, Error, Look}
 use Rattle.r6_world.specs.Worlds.{break, broken_by}
 use Rattle.r6_world.proofs.Tables.{at-entry}
@@ -95,6 +95,9 @@ module _ (l : Layout) (n top : ℕ) where
       (x.0, with-command s s.tokens _ x (used-below s slot g x (uses-generation (s.slot slot) g (sync-uses (s.slot slot) h.row g a.2))))
   up-to-kept event seen s (Send f h slot g b) within a x =
       (x.0, with-command s s.tokens _ x (used-below s slot g x (uses-generation (s.slot slot) g (reach-uses h.task slot h.row g (s.slot slot) a.2))))
+  up-to-kept event seen s (Read_direct buffer id block g) within a x =
+      (x.0, with-command s s.tokens _ x (used-below s (slot_of l block) g x (uses-generation (s.slot (slot_of l block)) g (sync-uses (s.slot (slot_of l block)) (l.row_of block) g a.4))))
+  up-to-kept event seen s (Give_direct token c id block b) within a x = (x.0, with-command s token None x (record {}))
   up-to-kept event seen s (Learn token c h b) within a x = (x.0, with-command s token None x (record {}))
   up-to-kept event seen s (Confirm token c h) within a x = (x.0, with-command s token None x (record {}))
   up-to-kept event seen s (Come_home token c) within a x = (x.0, with-command s token None x (record {}))

@@ -6,7 +6,7 @@ use Rattle.r6_world.specs.Layouts.{Layout}
 use Rattle.r6_world.specs.ShardStates.{Command}
 use Rattle.r6_world.specs.Steps.{Event, Take_command}
 use Rattle.r6_world.specs.Worlds.{World, Happening, Core, Perform, Tell, Outside, Moment, Possible, Run, next, flown}
-use Rattle.r6_world.specs.ActingPoints.{acting, plain_after}
+use Rattle.r6_world.specs.ActingPoints.{plain_next}
 use Rattle.r6_world.specs.Laws.{IsByAnyone, IsOfShard, AreOfShard, at_start}
 use Rattle.r6_world.specs.Witness.{after_all}
 use Rattle.r6_world.proofs.Tables.{put-same, put-other, put-cases, not_both}
@@ -84,7 +84,7 @@ module _ (s : Start) (lawful : IsLawful s) (P : World → List Moment → Plain 
   MomentKeeps =
       (w : World) (before : List Moment) (plain : Plain) (m : Moment) → IsKept s lawful w plain → P w before plain
       → Possible s.layout IsByAnyone w m.happening → IsOfShard s.number m.happening
-      → let new = next s.layout w m in let plain' = plain_after w (acting s.layout w new) plain in
+      → let new = next s.layout w m in let plain' = plain_next s.layout w m plain in
       IsKept s lawful new plain' → P new (before ++ m ∷ []) plain'
 
   along : MomentKeeps → (moments before : List Moment) (w : World) (plain : Plain) → IsKept s lawful w plain → P w before plain
@@ -94,7 +94,7 @@ module _ (s : Start) (lawful : IsLawful s) (P : World → List Moment → Plain 
   along keeps (m ∷ moments) before w plain x p own run =
       let new = next s.layout w m in
       let step = one_step s.layout lawful.layout (λ k. k ≡ s.number) IsByAnyone m.happening m.noise w plain x (is-of s.number m.happening own.0) run.0 in
-      let rest = along keeps moments (before ++ m ∷ []) new (plain_after w (acting s.layout w new) plain) step.1
+      let rest = along keeps moments (before ++ m ∷ []) new (plain_next s.layout w m plain) step.1
       (keeps w before plain m x p run.0 own.0 step.1) own.1 run.1 in
       (rest.0, rest.1, subst (λ y. P (after_all s.layout new moments) y rest.0) (append_assoc before (m ∷ []) moments) rest.2)
 
@@ -111,7 +111,7 @@ module _ (s : Start) (lawful : IsLawful s) (P : World → List Mark → Plain �
   StepKeeps =
       (w : World) (history : List Mark) (plain : Plain) (m : Moment) → IsKept s lawful w plain → P w history plain
       → Possible s.layout IsByAnyone w m.happening → IsOfShard s.number m.happening
-      → let new = next s.layout w m in let plain' = plain_after w (acting s.layout w new) plain in
+      → let new = next s.layout w m in let plain' = plain_next s.layout w m plain in
       IsKept s lawful new plain' → P new (history_after m.happening history) plain'
 
   pub holds-throughout : P (first_world s) [] (at_start s.array) → StepKeeps → (w : World) (history : List Mark) → Reached s w history
@@ -120,7 +120,7 @@ module _ (s : Start) (lawful : IsLawful s) (P : World → List Mark → Plain �
       let y = holds-along s lawful (λ w before plain. P w (history_of [] before) plain) first
       (λ w before plain m k p possible own k'.
       let new = next s.layout w m in
-      subst (λ z. P new z (plain_after w (acting s.layout w new) plain)) (sym (history-append [] before (m ∷ [])))
+      subst (λ z. P new z (plain_next s.layout w m plain)) (sym (history-append [] before (m ∷ [])))
       (keeps w (history_of [] before) plain m k p possible own k')) w history x in
       (y.0, y.1, subst (λ z. P w z y.0) x.marks y.2)
 

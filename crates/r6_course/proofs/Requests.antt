@@ -3,9 +3,9 @@ use Rattle.std.proofs.Common.{◌≡◌, ℕ, ◌<◌, ◌⊎◌, List, [], ◌�
 use Rattle.std.proofs.lemmas.Bool.{cases_eq, cases_Bool}
 use Rattle.r6_world.specs.PlainArray.{Op, Reply, block_of}
 use Rattle.r6_world.specs.Layouts.{Layout}
-use Rattle.r6_world.specs.ShardStates.{Held, Request, Shard, Stage, Waiting, Call}
+use Rattle.r6_world.specs.ShardStates.{Held, Request, Shard, Stage, Waiting, Call, Reading}
 use Rattle.r6_world.specs.Tasks.{serves}
-use Rattle.r6_world.specs.Changes.{Accept, Start, See_failed, Finish, Release, Hand_reply, after, put_back, staged, finished, released, failed_request}
+use Rattle.r6_world.specs.Changes.{Accept, Start, See_failed, Finish, Release, Hand_reply, after, put_back, staged, finished, released, failed_request, Read_direct, Give_direct, Lose, Adopt, read_on, abandoned_to}
 use Rattle.r6_world.specs.Steps.{Event, Submit, No_command, Take_reply, Step}
 use Rattle.r6_world.specs.Worlds.{World, Happening, Core, Perform, Tell, Outside, Moment, Possible, next}
 use Rattle.r6_world.specs.Laws.{IsByAnyone, IsOfShard}
@@ -15,6 +15,8 @@ use Rattle.r6_world.proofs.Changes.{Keeps, step-kept, through-scans}
 use Rattle.r6_course.specs.Courses.{Mark, Asked, Replied, marked, history_after}
 use Rattle.r6_course.specs.Ledgers.{IsIn, IsBefore, IsWellFormed}
 use Rattle.r6_course.proofs.Lists.{in-front, in-last, in-cases, before-more, before-across, before-cases}
+use Rattle.r6_world.specs.Tables.{put}
+use Rattle.r6_world.proofs.Acts.ReadOns.{read-cases}
 
 -- ---- what one moment is to the shard
 
@@ -132,6 +134,16 @@ owned-kept l n id event untaken s (Start f row task) within a x = elim (cases_Bo
   | inl yes' ↦ (x.0, _, held_now-served s.request task f id yes' ∙ ap (λ o. staged o (Held f)) x.2)
   | inr no' ↦ (x.0, x.1, held_now-other s.request task f id no' ∙ x.2)
 ]
+owned-kept l n id event untaken s (Read_direct buffer i block g) within a x = elim (cases_eq id i) [
+  | inl same ↦ (x.0, _, put-same s.request i _ id same)
+  | inr ne ↦ (x.0, x.1, put-other s.request i _ id ne ∙ x.2)
+]
+owned-kept l n id event untaken s (Give_direct t c i block b) within a x = elim (cases_eq id i) [
+  | inl same ↦ (x.0, _, put-same s.request i _ id same)
+  | inr ne ↦ (x.0, x.1, put-other s.request i _ id ne ∙ x.2)
+]
+owned-kept l n id event untaken s (Lose t c) within a x = (x.0, _, ap (read_on _) x.2)
+owned-kept l n id event untaken s (Adopt slot status) within a x = (x.0, _, ap (read_on _) x.2)
 owned-kept l n id event untaken s See_failed within a x = (x.0, _, ap failed_request x.2)
 owned-kept l n id event untaken s (Finish f h outcome) within a x = (x.0, _, ap (finished f outcome) x.2)
 owned-kept l n id event untaken s Release within a x = (x.0, _, ap released x.2)
@@ -150,6 +162,12 @@ gone-kept l n id event s (Start f row task) within a x = elim (cases_Bool (serve
   | inl yes' ↦ (x.0, held_now-served s.request task f id yes' ∙ ap (λ o. staged o (Held f)) x.1)
   | inr no' ↦ (x.0, held_now-other s.request task f id no' ∙ x.1)
 ]
+gone-kept l n id event s (Read_direct buffer i block g) within a x =
+    (x.0, put-other s.request i _ id (λ same. not_both (s.request id) _ x.1 (ap s.request same ∙ a.1)) ∙ x.1)
+gone-kept l n id event s (Give_direct t c i block b) within a x =
+    (x.0, put-other s.request i _ id (λ same. not_both (s.request id) _ x.1 (ap s.request same ∙ a.2)) ∙ x.1)
+gone-kept l n id event s (Lose t c) within a x = (x.0, ap (read_on _) x.1)
+gone-kept l n id event s (Adopt slot status) within a x = (x.0, ap (read_on _) x.1)
 gone-kept l n id event s See_failed within a x = (x.0, ap failed_request x.1)
 gone-kept l n id event s (Finish f h outcome) within a x = (x.0, ap (finished f outcome) x.1)
 gone-kept l n id event s Release within a x = (x.0, ap released x.1)
@@ -166,6 +184,20 @@ known-kept l n history event barred s (Start f row task) within a x = λ id op s
   | inl yes' ↦ let p = staged-cases (s.request id) f op stage (sym (held_now-served s.request task f id yes') ∙ e) in x id op p.0 p.1
   | inr no' ↦ x id op stage (sym (held_now-other s.request task f id no') ∙ e)
 ]
+known-kept l n history event barred s (Read_direct buffer i block g) within a x = λ id op stage e.
+    elim (put-cases s.request i _ id (Some (request_at op stage)) e) [
+      | inl p ↦ let o = (same_stage _ _ _ _ p.1).0 in x id op Waiting (ap s.request p.0 ∙ a.1 ∙ ap (λ y. Some (request_at y Waiting)) o)
+      | inr p ↦ x id op stage p.1
+    ]
+known-kept l n history event barred s (Give_direct t c i block b) within a x = λ id op stage e.
+    elim (put-cases s.request i _ id (Some (request_at op stage)) e) [
+      | inl p ↦ let o = (same_stage _ _ _ _ p.1).0 in x id op (Reading t) (ap s.request p.0 ∙ a.2 ∙ ap (λ y. Some (request_at y (Reading t))) o)
+      | inr p ↦ x id op stage p.1
+    ]
+known-kept l n history event barred s (Lose t c) within a x = λ id op stage e.
+    let p = read-cases (λ u. abandoned_to _ c.slot (put s.command t None u)) (s.request id) op stage e in x id op p.0 p.1
+known-kept l n history event barred s (Adopt slot status) within a x = λ id op stage e.
+    let p = read-cases (λ u. abandoned_to _ slot (s.command u)) (s.request id) op stage e in x id op p.0 p.1
 known-kept l n history event barred s See_failed within a x = λ id op stage e. let p = failed-cases (s.request id) op stage e in x id op p.0 p.1
 known-kept l n history event barred s (Finish f h outcome) within a x = λ id op stage e.
     let p = finished-cases f outcome (s.request id) op stage e in x id op p.0 p.1
