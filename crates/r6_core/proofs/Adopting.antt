@@ -25,6 +25,7 @@ use Rattle.r6_core.specs.Inside.{SameFrames, NoCalls, IsSound, bound, most_token
 use Rattle.r6_core.proofs.CountedRows.{counted_kept, same_or_fewer}
 use Rattle.r6_core.proofs.Throughs.{through_both, through_in, through_one}
 use Rattle.r6_core.proofs.Kept.{own_rows_kept, requests_kept, sizes_kept}
+use Rattle.r6_core.proofs.NoneReading.{none_reading}
 
 -- the first slots are as the look has them, the others as they were
 pub record IsAdopting (s new : State) (seen : Snapshot) (count : ℕ) (went_out : Bool) : Type 0 where
@@ -58,7 +59,7 @@ adopting_none s seen sound =
 
 -- the slots when one is taken out
 states-taken : (s : State) (slot : ℕ) (device : Device) (fs : Frames) → TakesOut s.frames slot device fs → states_of fs.slots ≡ put (states_of s.frames.slots) slot (slots.state_of device)
-states-taken s slot device fs takes = ap (λ (x : Shard). x.slot) (takes.2 (rest_of s))
+states-taken s slot device fs takes = ap (λ (x : Shard). x.slot) (takes.2 (rest_of s) (none_reading s))
 
 put-here : {A : Type 0} (f : ℕ → A) (k : ℕ) (v : A) → put f k v k ≡ v
 put-here f k v = ap (λ b. cond b v (f k)) (eq-eqb k k refl)
@@ -72,11 +73,11 @@ with_frames s fs = record s { frames = fs }
 module _ (s : State) (slot : ℕ) (device : Device) (fs : Frames) (takes : TakesOut s.frames slot device fs) (requests : held_requests fs ≡ held_requests s.frames) where
   requests-taken : requests_of (with_frames s fs) ≡ requests_of s
   requests-taken =
-      let failed : fs.saw_failed ≡ s.frames.saw_failed = ap (λ (x : Shard). x.saw_failed) (takes.2 (rest_of s)) in
+      let failed : fs.saw_failed ≡ s.frames.saw_failed = ap (λ (x : Shard). x.saw_failed) (takes.2 (rest_of s) (none_reading s)) in
       λ i. map waiting_request s.waiting.items ++ (requests i ++ replied_requests (failed i) s.released s.replies.items)
 
   state-taken : state_of (with_frames s fs) ≡ taken_out (layout_in s) (state_of s) slot (slots.state_of device)
-  state-taken = (λ i. shard_with (record (rest_of s) { request = table (requests-taken i) }) fs) ∙ takes.2 (rest_of s)
+  state-taken = (λ i. shard_with (record (rest_of s) { request = table (requests-taken i) }) fs) ∙ takes.2 (rest_of s) (none_reading s)
 
 -- a slot went out, while no call is to be made
 sound_taken : (s : State) (slot : ℕ) (device : Device) (fs : Frames) → IsSound s → NoCalls s → TakesOut s.frames slot device fs → held.IsSound fs

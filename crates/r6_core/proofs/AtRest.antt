@@ -6,7 +6,7 @@ use Rattle.r6_layout.specs.Layout as layout
 use Rattle.r6_layout.specs.Shape.{Shape}
 use Rattle.r6_world.specs.Geometries.{layout_of}
 use Rattle.r6_world.specs.PlainArray as world
-use Rattle.r6_world.specs.ShardStates.{Request, Stage, Waiting, Held, Finished, Released, NotHeld}
+use Rattle.r6_world.specs.ShardStates.{Request, Stage, Waiting, Held, Finished, Released, NotHeld, Reading}
 use Rattle.r6_world.specs.Steps.{AtRest}
 use Rattle.r6_frames.specs.declared.op.Request.{Request as Entered}
 use Rattle.r6_core.specs.declared.state.State.{State}
@@ -26,6 +26,7 @@ use Rattle.r6_frames.proofs.Resting.{goes_on, nothing_next, brought_in, free_fra
 abbrev pub IsPast : Stage → Type 0
 IsPast Waiting = ⊥
 IsPast (Held f) = Unit {0}
+IsPast (Reading token) = Unit {0}
 IsPast (Finished reply) = Unit {0}
 IsPast (Released reply) = Unit {0}
 

@@ -12,7 +12,7 @@ use Rattle.r6_world.specs.PlainArray as world
 use Rattle.r6_world.specs.Tasks.{Hold, Outcome, Task}
 use Rattle.r6_frames.specs.declared.frames.Job.{Job}
 use Rattle.r6_world.specs.ShardStates as shards
-use Rattle.r6_world.specs.ShardStates.{Shard, Stage, Waiting, Held, Finished, Released}
+use Rattle.r6_world.specs.ShardStates.{Shard, Stage, Waiting, Held, Finished, Released, Reading}
 use Rattle.r6_world.specs.Changes.{Finish, finished, outcome_reply, slots_after, counted, after}
 use Rattle.r6_world.specs.Steps.{GoesOn, Through}
 use Rattle.r6_frames.specs.declared.op.Op.{Op}
@@ -53,6 +53,7 @@ unfinished_at frame outcome o Waiting ne = refl
 unfinished_at frame outcome o (Held other) ne =
     let apart = ne_eqb other frame (λ e. ne (ap (λ n. Held n) e)) in
     ap (λ (t : Bool). Some (record { op = o; stage = cond t (Finished (outcome_reply outcome o)) (Held other) })) apart
+unfinished_at frame outcome o (Reading token) ne = refl
 unfinished_at frame outcome o (Finished reply) ne = refl
 unfinished_at frame outcome o (Released reply) ne = refl
 

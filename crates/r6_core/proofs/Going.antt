@@ -8,7 +8,7 @@ use Rattle.r6_layout.specs.Shape.{Shape}
 use Rattle.r6_world.specs.Layouts.{Layout}
 use Rattle.r6_world.specs.Geometries.{layout_of}
 use Rattle.r6_world.specs.ShardStates.{Shard}
-use Rattle.r6_world.specs.Changes.{Change, Ask, Prepare, Classify, Send, Learn, Confirm, after}
+use Rattle.r6_world.specs.Changes.{Change, Ask, Prepare, Classify, Send, Learn, Confirm, after, Give_direct}
 use Rattle.r6_world.specs.Steps.{GoesOn, Leads, Takes, Good, Taken}
 use Rattle.r6_frames.specs.declared.frames.Frames.{Frames}
 use Rattle.r6_frames.specs.Slots.{states_of}
@@ -45,6 +45,7 @@ KeepsSlots old new = (new.slot ≡ old.slot) × (new.saw_failed ≡ old.saw_fail
 pub answer_kept : (l : Layout) (s : Shard) (token : ℕ) (block : List ℕ) (change : Change) → Takes token (Good block) Taken change → KeepsSlots s (after l s change)
 answer_kept l s token block (Learn t c h learned) is = (refl, refl)
 answer_kept l s token block (Confirm t c h) is = (refl, refl)
+answer_kept l s token block (Give_direct t c id number given) is = (refl, refl)
 answer_kept l s token block change is = absurd is
 
 classified_kept : (l : Layout) (s : Shard) (change : Change) → Classifies change → KeepsSlots s (after l s change)

@@ -20,6 +20,7 @@ pub mod Known
 pub mod Looking
 pub mod Losing
 pub mod MayBegin
+pub mod NoneReading
 pub mod OneCore
 pub mod Passed
 pub mod Rebuilding

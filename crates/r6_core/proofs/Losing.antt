@@ -37,6 +37,7 @@ use Rattle.r6_core.specs.Inside.{IsSound, TakesThrough, count_slots, most_calls,
 use Rattle.r6_core.proofs.CallRoom.{few_slots}
 use Rattle.r6_core.proofs.Going.{no_rest, Goes, gone_on, gone_state}
 use Rattle.r6_core.proofs.Throughs.{through_in}
+use Rattle.r6_core.proofs.NoneReading.{none_asked, none_reading}
 
 -- ---- counts
 
@@ -114,7 +115,7 @@ wanted_there fs token c sound is wanted =
 lost_more : (old new : Frames) (token slot generation : ℕ) → held.IsSound old → Loses old token slot generation new
     → most_calls old + 1 ≤ most_calls new
 lost_more old new token slot generation sound loses =
-    let lost = loses.2 no_rest in
+    let lost = loses.2 no_rest none_asked in
     let c = lost.0 in
     let there = command-there no_rest old token c lost.4.0 in
     let x = there.0 in
@@ -152,7 +153,7 @@ lost_goes s fs calls token slot generation sound frames loses tokens requests ro
       sound = frames;
       geometry = loses.0;
       shard = loses.1;
-      seen = ap (λ (x : Shard). x.saw_failed) (loses.2 no_rest).5;
+      seen = ap (λ (x : Shard). x.saw_failed) (loses.2 no_rest none_asked).5;
       requests = requests;
       rows = rows;
       tokens = let a = tokens.0 in let b = tokens.1 in omega (arith, a, b);
@@ -169,7 +170,7 @@ pub lost_takes : (s : State) (fs : Frames) (calls : Buffer Call) (token slot gen
     → calls ≡ buffer (s.calls.items ++ call.DeclareLost slot generation ∷ []) s.calls.capacity
     → Through (layout_of fs.geometry) fs.shard GoesOn (state_of (gone_on s fs calls)) (state_of new) → TakesThrough s token Error Taken new
 lost_takes s fs calls token slot generation new goes loses pushed leads =
-    let lost = loses.2 (rest_of s) in
+    let lost = loses.2 (rest_of s) (none_reading s) in
     let more = ap (λ (b : Buffer Call). map call_of b.items) pushed ∙ map-append call_of s.calls.items (call.DeclareLost slot generation ∷ []) in
     let is : state_of (gone_on s fs calls) ≡ after (layout_in s) (state_of s) (Lose token lost.0) =
     gone_state s fs calls goes ∙ ap (λ cs. shard_with (record (rest_of s) { calls = cs }) fs) more ∙ lost.5 in

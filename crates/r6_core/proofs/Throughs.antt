@@ -4,7 +4,7 @@ use Rattle.r6_layout.specs.Shape.{Shape}
 use Rattle.r6_world.specs.Layouts.{Layout}
 use Rattle.r6_world.specs.Geometries.{layout_of}
 use Rattle.r6_world.specs.ShardStates.{Shard}
-use Rattle.r6_world.specs.Changes.{Change, Accept, Start, Ask, Prepare, Classify, Send, Learn, Confirm, Come_home, Lose, Adopt, See_failed, Finish, Bring_in, Release, Skip_turn, Hand_command, Hand_call, Hear, Hand_reply, after, Allowed}
+use Rattle.r6_world.specs.Changes.{Change, Accept, Start, Ask, Prepare, Classify, Send, Learn, Confirm, Come_home, Lose, Adopt, See_failed, Finish, Bring_in, Release, Skip_turn, Hand_command, Hand_call, Hear, Hand_reply, after, Allowed, Read_direct, Give_direct}
 use Rattle.r6_world.specs.Steps.{Leads, Through}
 use Rattle.r6_frames.specs.Calls.{PutsOut}
 
@@ -51,6 +51,8 @@ no_token_back l s (Ask f h slot generation) = omega arith
 no_token_back l s (Prepare f h event) = omega arith
 no_token_back l s (Classify f h class) = omega arith
 no_token_back l s (Send f h slot generation b) = omega arith
+no_token_back l s (Read_direct buffer id block generation) = omega arith
+no_token_back l s (Give_direct token c id block b) = omega arith
 no_token_back l s (Learn token c h b) = omega arith
 no_token_back l s (Confirm token c h) = omega arith
 no_token_back l s (Come_home token c) = omega arith
@@ -85,6 +87,8 @@ one_put_out l s (Send f h slot generation b) puts = inr (omega arith)
 one_put_out l s (Accept op) puts = absurd puts
 one_put_out l s (Start f row task) puts = absurd puts
 one_put_out l s (Classify f h class) puts = absurd puts
+one_put_out l s (Read_direct buffer id block generation) puts = absurd puts
+one_put_out l s (Give_direct token c id block b) puts = absurd puts
 one_put_out l s (Learn token c h b) puts = absurd puts
 one_put_out l s (Confirm token c h) puts = absurd puts
 one_put_out l s (Come_home token c) puts = absurd puts

@@ -9,7 +9,7 @@ use Rattle.r6_world.specs.Steps.{Event, Take_command}
 use Rattle.r6_world.specs.Worlds as worlds
 use Rattle.r6_world.specs.Worlds.{World, Devices, Possible, Run, next, started, flown}
 use Rattle.r6_world.specs.Claims.{IsLawfulStart}
-use Rattle.r6_world.specs.ActingPoints.{acting, plain_after}
+use Rattle.r6_world.specs.ActingPoints.{plain_next}
 use Rattle.r6_world.specs.Laws.{at_start}
 use Rattle.r6_world.specs.Witness.{after_all}
 use Rattle.r6_world.proofs.Tables.{put-same, put-other, put-cases, not_both}
@@ -75,7 +75,7 @@ module _ (l : Layout) (Ours : ℕ → Type 0) (Comes : RegisterCall → Type 0) 
     kept-along [] w plain x ours run = (plain, x)
     kept-along (m ∷ moments) w plain x ours run =
         let step = one_step l is Ours Comes m.happening m.noise w plain x ours.0 run.0 in
-        kept-along moments (next l w m) (plain_after w (acting l w (next l w m)) plain) step.1 ours.1 run.1
+        kept-along moments (next l w m) (plain_next l w m plain) step.1 ours.1 run.1
 
     none-or : {A : Type 0} (o : Option A) → ((a : A) → o ≡ Some a → ⊥) → o ≡ None
     none-or None none = refl
