@@ -5,7 +5,7 @@ use Rattle.r6_layout.specs.Layout as layout
 use Rattle.r6_world.specs.PlainArray as world
 use Rattle.r6_world.specs.Layouts.{Layout}
 use Rattle.r6_world.specs.ShardStates.{Shard}
-use Rattle.r6_world.specs.Changes.{Accept, Ask, Send, See_failed}
+use Rattle.r6_world.specs.Changes.{Accept, Ask, Send, See_failed, Read_direct}
 use Rattle.r6_world.specs.Steps.{Event}
 use Rattle.r6_world.proofs.Changes.{Keeps, step-kept}
 use Rattle.r6_frames.specs.Views.{op_of, buffer_of}
@@ -30,6 +30,7 @@ still-past : (l : Layout) (n : ℕ) (first : Shard) (event : Event) → Keeps l 
 still-past l n first event s (Accept op) within a x = (x.0, x.1, let more = x.2 in omega arith)
 still-past l n first event s (Ask f h slot g) within a x = (x.0, let more = x.1 in omega arith, x.2)
 still-past l n first event s (Send f h slot g b) within a x = (x.0, let more = x.1 in omega arith, x.2)
+still-past l n first event s (Read_direct buffer id block g) within a x = (x.0, let more = x.1 in omega arith, x.2)
 still-past l n first event s See_failed within a x = (λ saw. refl, x.1, x.2)
 still-past l n first event s change within a x = x
 

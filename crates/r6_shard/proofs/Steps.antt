@@ -4,10 +4,10 @@ use Rattle.std.specs.Prelude.{◌==◌, ◌||◌}
 use Rattle.std.proofs.lemmas.Bool.{cases_Bool, true≢false}
 use Rattle.r6_world.specs.Tables.{put}
 use Rattle.r6_world.specs.PlainArray.{Op}
-use Rattle.r6_world.specs.Layouts.{Layout}
+use Rattle.r6_world.specs.Layouts.{Layout, slot_of}
 use Rattle.r6_world.specs.Tasks.{serves, Outcome}
 use Rattle.r6_world.specs.ShardStates.{Shard, Stage, Held, Request, Command, Fetch, Store}
-use Rattle.r6_world.specs.Changes.{Change, Accept, Start, Ask, Send, Learn, Confirm, Come_home, Lose, Adopt, See_failed, Finish, Release, Hand_command, Hand_call, Hear, Hand_reply, Skip_turn, after, staged, finished, released, failed_request, abandoned_to, abandoned_if}
+use Rattle.r6_world.specs.Changes.{Change, Accept, Start, Ask, Send, Learn, Confirm, Come_home, Lose, Adopt, See_failed, Finish, Release, Hand_command, Hand_call, Hear, Hand_reply, Skip_turn, after, staged, finished, released, failed_request, abandoned_to, abandoned_if, Read_direct, Give_direct, read_on}
 use Rattle.r6_world.specs.Steps.{Event, Submit, Deliver, Completion, Good, Error, Receipt, Taken, Late, Takes, Take_command, No_command, Take_call, No_call, Told, Take_reply, No_reply, Step, Look, Looks, Turn_started, Turn_skipped, Scans, GoesOn, TakesOver, Leads, Through}
 use Rattle.r6_world.specs.Registers.{Snapshot}
 use Rattle.r6_world.proofs.Tables.{put-other, put-cases, not_both, Some-inj}
@@ -38,6 +38,11 @@ released-was : {A : Type 0} (o : Option Request) (request : Request) → release
 released-was None request e k = absurd (not_both None request refl e)
 released-was (Some before) request e k = k before refl
 
+read-was : {A : Type 0} (command : ℕ → Option Command) (o : Option Request) (request : Request) → read_on command o ≡ Some request
+    → ((before : Request) → o ≡ Some before → A) → A
+read-was command None request e k = absurd (not_both None request refl e)
+read-was command (Some before) request e k = k before refl
+
 -- events by which no command is taken nor comes back
 abbrev pub IsBeside : Event → Type 0
 IsBeside (Take_command token c) = ⊥
@@ -55,6 +60,18 @@ module _ (l : Layout) (n : ℕ) where
       | inr no' ↦ x.1 id request (sym (held_now-other s.request task f id no') ∙ e)
     ],
   )
+  numbered-kept count event none s (Read_direct buffer i block g) within a x = (
+    x.0,
+    λ id request e.
+        elim (put-cases s.request i _ id (Some request) e) [ inl p ↦ x.1 id _ (ap s.request p.0 ∙ a.1) | inr p ↦ x.1 id request p.1 ],
+  )
+  numbered-kept count event none s (Give_direct t c i block b) within a x = (
+    x.0,
+    λ id request e.
+        elim (put-cases s.request i _ id (Some request) e) [ inl p ↦ x.1 id _ (ap s.request p.0 ∙ a.2) | inr p ↦ x.1 id request p.1 ],
+  )
+  numbered-kept count event none s (Lose t c) within a x = (x.0, λ id request e. read-was _ (s.request id) request e (x.1 id))
+  numbered-kept count event none s (Adopt slot status) within a x = (x.0, λ id request e. read-was _ (s.request id) request e (x.1 id))
   numbered-kept count event none s See_failed within a x = (x.0, λ id request e. failed-was (s.request id) request e (x.1 id))
   numbered-kept count event none s (Finish f h outcome) within a x = (x.0, λ id request e. finished-was f outcome (s.request id) request e (x.1 id))
   numbered-kept count event none s Release within a x = (x.0, λ id request e. released-was (s.request id) request e (x.1 id))
@@ -134,6 +151,9 @@ module _ (l : Layout) (n : ℕ) where
       with-command s.command s.tokens (record { frame = f; slot = slot; generation = g; row = h.row; transfer = Fetch; taken = false; abandoned = false }) refl x
   untaken-kept s (Send f h slot g b) k x =
       with-command s.command s.tokens (record { frame = f; slot = slot; generation = g; row = h.row; transfer = Store b; taken = false; abandoned = false }) refl x
+  untaken-kept s (Read_direct buffer id block g) k x =
+      with-command s.command s.tokens (record { frame = buffer; slot = slot_of l block; generation = g; row = l.row_of block; transfer = Fetch; taken = false; abandoned = false }) refl x
+  untaken-kept s (Give_direct token c id block b) k x = without s.command token x
   untaken-kept s (Learn token c h b) k x = without s.command token x
   untaken-kept s (Confirm token c h) k x = without s.command token x
   untaken-kept s (Come_home token c) k x = without s.command token x
@@ -193,6 +213,7 @@ module _ (l : Layout) (n : ℕ) where
       → Untaken s.command token → NoneIsTaken (after l s change)
   comes-back token (Good b) Taken s (Learn t c h b') k x = gone s t k.0 x
   comes-back token (Good b) Taken s (Confirm t c h) k x = gone s t k.0 x
+  comes-back token (Good b) Taken s (Give_direct t c id block given) k x = gone s t k.0 x
   comes-back token (Good b) Late s (Come_home t c) k x = gone s t k.0 x
   comes-back token Error Late s (Come_home t c) k x = gone s t k.0 x
   comes-back token Error Taken s (Lose t c) k x = λ u d e. to-taken _ c.slot (put s.command t None u) d e (λ d' e'. gone s t k.0 x u d' e')
