@@ -1,15 +1,15 @@
 -- No request of a core is read directly: each waits, is held, or has a reply.
-use Rattle.std.proofs.Common.{◌≡◌, ◌≢◌, ℕ, Bool, true, false, List, [], ◌∷◌, ◌++◌, map, ap, Some, None, refl}
+use Rattle.std.proofs.Common.{◌≢◌, ℕ, Bool, true, false, List, [], ◌∷◌, map, None, refl}
 use Rattle.std.specs.List.{AllByRecursion}
 use Rattle.r6_world.specs.PlainArray as world
-use Rattle.r6_world.specs.ShardStates.{Request, Stage, Waiting, Held, Reading, Finished, Released}
+use Rattle.r6_world.specs.ShardStates.{Request, Waiting, Held, Reading, Finished, Released}
 use Rattle.r6_world.proofs.Tables.{not_both}
 use Rattle.r6_frames.specs.declared.op.Request.{Request as Entered}
 use Rattle.r6_frames.specs.Views.{held_requests}
 use Rattle.r6_frames.specs.Calls.{NoneReading}
 use Rattle.r6_frames.proofs.Lists.{looked_up}
 use Rattle.r6_core.specs.declared.state.State.{State}
-use Rattle.r6_core.specs.Shards.{rest_of, requests_of, waiting_request, finished_request, replied_requests}
+use Rattle.r6_core.specs.Shards.{rest_of, requests_of, waiting_request, finished_request}
 use Rattle.r6_core.proofs.Going.{no_rest}
 use Rattle.r6_core.proofs.HeldRequests.{all_held}
 use Rattle.r6_core.proofs.Passed.{all-append}
