@@ -344,7 +344,7 @@ impl HoldState {
         if self.gives_up() {
             return self.is_quiet();
         }
-        if !self.has_read() || self.has_write_out() {
+        if !self.is_quiet() || !self.is_enough() {
             return false;
         }
         if let Some(_) = self.next_read() {
