@@ -9,6 +9,7 @@ ghost use Rattle.r6_stripe.specs.Holds.Kind.{Read, Write};
 ghost use Rattle.r6_stripe.specs.Places.{is_readable};
 ghost use Rattle.r6_stripe.specs.OneBlock.{plan_of_one};
 ghost use Rattle.r6_stripe.specs.Plans as plans;
+ghost use Rattle.r6_stripe.specs.Preparing.{HasSentAll};
 ghost use Rattle.r6_stripe.specs.Sound.{IsSound, IsTask, IsWritePlan, Suits};
 ghost use Rattle.r6_stripe.specs.Steps.{can_drop, has_outcome, is_idle, IsUnwritten};
 ghost use Rattle.r6_stripe.specs.Views.{hold_of, plan_of, planned_of};
@@ -119,19 +120,12 @@ impl HoldState {
         self.places.iter().any(|place| place.has_read_out())
     }
 
-    /// Whether a write is put out that is neither answered nor abandoned.
-    fn has_write_out(&self) -> bool
-        ensures { result ≡ plans.has_write_out (hold_of self.now) }
-    {
-        self.places.iter().any(|place| place.has_write_out())
-    }
-
     /// Whether no command is put out that is neither answered nor abandoned.
     fn is_quiet(&self) -> bool
         ensures { let hold = hold_of self.now in
             result ≡ (not (plans.has_read_out hold) && not (plans.has_write_out hold)) }
     {
-        !self.has_read_out() && !self.has_write_out()
+        !self.places.iter().any(|place| place.has_command_out())
     }
 
     /// Whether the new blocks were computed.
@@ -294,16 +288,43 @@ impl HoldState {
     /// Whether no position is still to get its new block.
     pub(crate) fn is_computed(&self) -> bool
         requires count { 2 ≤ length self.now.places.items }
+        requires fits { IsTask (length self.now.places.items) self.now.len self.now.task }
         requires differ { KnowsWhatDiffers (hold_of self.now) self.now.class }
         ensures { let hold = hold_of self.now in
             result ≡ plans.each_below (λ position. not (plans.lacks_new hold position)) (length hold.cells) }
     {
+        if let Some(Task::Write(index, _)) = &self.task {
+            return self.has_new_blocks(*index);
+        }
         for position in 0..self.places.len() {
             if self.lacks_new(position) {
                 return false;
             }
         }
         true
+    }
+
+    /// The same of a write of the index, which changes three positions.
+    fn has_new_blocks(&self, index: usize) -> bool
+        requires below { index + 2 < length self.now.places.items }
+        requires writes { (block : List ℕ) × ((hold_of self.now).kind ≡ Write ((index, block) ∷ [])) }
+        ensures { let hold = hold_of self.now in
+            result ≡ plans.each_below (λ position. not (plans.lacks_new hold position)) (length hold.cells) }
+    {
+        let m = self.places.len() - 2;
+        !self.lacks_new(index) && !self.lacks_new(m) && !self.lacks_new(m + 1)
+    }
+
+    /// Whether this is a write whose new blocks have all been put out.
+    pub(crate) fn has_sent_all(&self) -> bool
+        requires count { 2 ≤ length self.now.places.items }
+        requires fits { IsTask (length self.now.places.items) self.now.len self.now.task }
+        ensures { IsTrue result → HasSentAll (hold_of self.now) }
+    {
+        let Some(Task::Write(index, _)) = &self.task else {
+            return false;
+        };
+        self.has_new_blocks(*index) && self.next_write().is_none()
     }
 
     /// The position whose write is put out next.
@@ -347,13 +368,13 @@ impl HoldState {
         if !self.is_quiet() || !self.is_enough() {
             return false;
         }
+        if !self.is_computed() {
+            return false;
+        }
         if let Some(_) = self.next_read() {
             return false;
         }
         if let Some(_) = self.next_restore() {
-            return false;
-        }
-        if !self.is_computed() {
             return false;
         }
         match self.next_write() {

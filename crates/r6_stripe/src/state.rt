@@ -141,6 +141,9 @@ impl HoldState {
             let buffer = self.ask(position);
             return Some(RowCommand::Read(position, buffer));
         }
+        if self.has_sent_all() {
+            return None;
+        }
         if !self.has_read() {
             return None;
         }
