@@ -166,6 +166,17 @@ impl HoldState {
         self.can_drop(position) && self.places[position].is_out()
     }
 
+    /// Whether the plan doesn't read the position, knows its block, or goes on without it.
+    fn is_done_with(&self, position: usize) -> bool
+        requires within { position < length self.now.places.items }
+        requires count { 2 ≤ length self.now.places.items }
+        ensures { let hold = hold_of self.now in
+            result ≡ (plans.is_served (plan_of self.now.plan) hold position
+            || (can_drop (plan_of self.now.plan) hold position && plans.is_out (cell_at hold.cells position).standing)) }
+    {
+        self.is_served(position) || self.is_dropped(position)
+    }
+
     /// How many blocks are known.
     fn known_count(&self) -> usize
         ensures { result ≡ plans.known_count (hold_of self.now).cells }
@@ -193,7 +204,8 @@ impl HoldState {
 
     /// Whether enough is known for the hold to go on.
     fn is_enough(&self) -> bool
-        requires { 2 ≤ length self.now.places.items }
+        requires count { 2 ≤ length self.now.places.items }
+        requires fits { IsTask (length self.now.places.items) self.now.len self.now.task }
         ensures { result ≡ plans.is_enough (plan_of self.now.plan) (hold_of self.now) }
     {
         match self.plan {
@@ -206,16 +218,31 @@ impl HoldState {
     /// Whether all that the plan reads is known, or dropped.
     fn is_all_served(&self) -> bool
         requires count { 2 ≤ length self.now.places.items }
+        requires fits { IsTask (length self.now.places.items) self.now.len self.now.task }
         requires plan { plan_of self.now.plan ≢ plans.Plan.Recover }
         requires not_all { plan_of self.now.plan ≢ plans.Plan.All }
         ensures { result ≡ plans.is_enough (plan_of self.now.plan) (hold_of self.now) }
     {
+        if let (Plan::Modify, Some(Task::Write(index, _))) = (self.plan, &self.task) {
+            return self.can_modify(*index);
+        }
         for position in 0..self.places.len() {
-            if !self.is_served(position) && !self.is_dropped(position) {
+            if !self.is_done_with(position) {
                 return false;
             }
         }
         true
+    }
+
+    /// The same of a modify of the index, which reads three positions.
+    fn can_modify(&self, index: usize) -> bool
+        requires below { index + 2 < length self.now.places.items }
+        requires plan { self.now.plan ≡ Plan.Modify }
+        requires writes { (block : List ℕ) × ((hold_of self.now).kind ≡ Write ((index, block) ∷ [])) }
+        ensures { result ≡ plans.is_enough (plan_of self.now.plan) (hold_of self.now) }
+    {
+        let m = self.places.len() - 2;
+        self.is_done_with(index) && self.is_done_with(m) && self.is_done_with(m + 1)
     }
 
     /// Whether the plan reads the position, and its read may be put out.
@@ -336,7 +363,8 @@ impl HoldState {
 
     /// Whether all reads have been answered, and enough is known.
     pub(crate) fn has_read(&self) -> bool
-        requires { 2 ≤ length self.now.places.items }
+        requires count { 2 ≤ length self.now.places.items }
+        requires fits { IsTask (length self.now.places.items) self.now.len self.now.task }
         ensures { let hold = hold_of self.now in
             result ≡ not (plans.has_read_out hold || not (plans.is_enough (plan_of self.now.plan) hold)) }
     {

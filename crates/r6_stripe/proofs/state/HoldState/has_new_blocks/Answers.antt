@@ -2,7 +2,8 @@ use Rattle.std.proofs.Common.{◌≡◌, ℕ, Bool, ◌-◌, ◌+◌, length, sy
 use Rattle.std.specs.Prelude.{not, ◌&&◌}
 use Rattle.r6_stripe.specs.Plans as plans
 use Rattle.r6_stripe.specs.Views.{hold_of}
-use Rattle.r6_stripe.proofs.Nexts.{three_are}
+use Rattle.r6_stripe.proofs.Nexts.{not_owed}
+use Rattle.r6_stripe.proofs.Searches.{three_are}
 use Rattle.r6_stripe.proofs.Places.{length-cells_of}
 use Rattle.r6_stripe.proofs.state.HoldState.has_new_blocks.Goals.{then-not-lacks_new, else-not-lacks_new}
 use Rattle.r6_stripe.proofs.state.HoldState.has_new_blocks.Goals as goal
@@ -19,7 +20,8 @@ returns-then-not-lacks_new-2 c =
       | else-not-lacks_new w ↦ (λ i. not ((sym c.lacks_new.ensures ∙ w.if-not-lacks_new.false) i) && has_new (count - 2)) ∙ ap not (sym w.if-not-lacks_new.false) ∙ sym w.value-is
     ] in
     ap not c.lacks_new-then-not-lacks_new-2.ensures
-    ∙ sym (three_are hold c.args.index c.requires.writes.0 c.requires.writes.1 count wide (omega (arith, c.requires.below, c.len-m.ensures))
+    ∙ sym (ap (plans.each_below has_new) (sym wide)
+    ∙ three_are has_new count c.args.index (omega (arith, c.requires.below, c.len-m.ensures)) (λ k other below. not_owed hold c.args.index c.requires.writes.0 c.requires.writes.1 k other (omega (arith, below, wide)))
     ∙ ap (λ (b : Bool). b && has_new (count - 2 + 1)) (two ∙ c.if-not-lacks_new-2.true))
 
 pub returns-else-not-lacks_new-2 : goal.returns-else-not-lacks_new-2
@@ -34,5 +36,6 @@ returns-else-not-lacks_new-2 c =
       | else-not-lacks_new w ↦ (λ i. not ((sym c.lacks_new.ensures ∙ w.if-not-lacks_new.false) i) && has_new (count - 2)) ∙ ap not (sym w.if-not-lacks_new.false) ∙ sym w.value-is
     ] in
     c.if-not-lacks_new-2.false
-    ∙ sym (three_are hold c.args.index c.requires.writes.0 c.requires.writes.1 count wide (omega (arith, c.requires.below, c.len-m.ensures))
+    ∙ sym (ap (plans.each_below has_new) (sym wide)
+    ∙ three_are has_new count c.args.index (omega (arith, c.requires.below, c.len-m.ensures)) (λ k other below. not_owed hold c.args.index c.requires.writes.0 c.requires.writes.1 k other (omega (arith, below, wide)))
     ∙ ap (λ (b : Bool). b && has_new (count - 2 + 1)) (two ∙ c.if-not-lacks_new-2.false))
