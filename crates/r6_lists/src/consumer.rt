@@ -19,7 +19,7 @@ pub struct Consumer<L: Events> {
     pub(crate) share: Share<L>,
     ghost parts: { share.parts ≡ parts_of_consumer finished },
     ghost counted: { share.amount ≡ length numbers.items },
-    ghost taken: { AreTaken L.shape shard L.events numbers.items },
+    pub ghost taken: { AreTaken L.shape shard L.events numbers.items },
     ghost room: { length (tasks_of L.shape shard L.events) ≤ vec_capacity numbers },
 }
 

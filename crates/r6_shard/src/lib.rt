@@ -7,6 +7,7 @@ mod laws;
 mod ledger;
 mod parts;
 mod performs;
+mod readiness;
 mod rounds;
 mod run;
 mod shard;

@@ -15,7 +15,7 @@ impl<P: Performs + Drop> Shard<P> {
     ghost use Rattle.r6_shard.specs.Shards.{GoesOn, SameLedger, Rests};
 
     // Performs what was put out, until nothing more is.
-    fn perform_all<R: Wait>(&mut self, rt: &R)
+    pub(crate) fn perform_all<R: Wait>(&mut self, rt: &R)
         ensures course { GoesOn P.tells self.old self.new }
         ensures lasts { Lasts self.old.core self.new.core }
         ensures ledger { SameLedger self.old self.new }
@@ -30,7 +30,7 @@ impl<P: Performs + Drop> Shard<P> {
     }
 
     // Makes the calls at the register, until none is left.
-    fn tell_all<R: Wait>(&mut self, rt: &R, register: &Register)
+    pub(crate) fn tell_all<R: Wait>(&mut self, rt: &R, register: &Register)
         requires { IsPassOf register.now self.old.pass }
         ensures pass { IsPassOf register.now self.new.pass }
         ensures course { GoesOn P.tells self.old self.new }
@@ -45,7 +45,7 @@ impl<P: Performs + Drop> Shard<P> {
     }
 
     // Takes the replies that were released.
-    fn collect_all<R: Wait>(&mut self, rt: &R)
+    pub(crate) fn collect_all<R: Wait>(&mut self, rt: &R)
         ensures course { GoesOn P.tells self.old self.new }
         ensures lasts { Lasts self.old.core self.new.core }
         ensures asked { self.new.asked ≡ self.old.asked }
@@ -74,8 +74,8 @@ impl<P: Performs + Drop> Shard<P> {
         self.collect_all(rt);
     }
 
-    // Whether nothing is left to do. If a row is to be rebuilt, it is taken up.
-    fn rests<R: Wait>(&mut self, rt: &R, register: &Register) -> bool
+    /// Whether nothing is left to do. If a row is to be rebuilt, it is taken up.
+    pub fn rests<R: Wait>(&mut self, rt: &R, register: &Register) -> bool
         requires { IsPassOf register.now self.old.pass }
         ensures pass { IsPassOf register.now self.new.pass }
         ensures course { GoesOn P.tells self.old self.new }

@@ -2,6 +2,7 @@
 
 ghost use Rattle.std.specs.Prelude.{◌≡◌, ◌+◌, ◌<◌, ◌≤◌, ◌++◌, length, vec_capacity, IfOk, IfErr};
 ghost use Rattle.r6_health.specs.Passes.{view_of, IsPassOf};
+ghost use Rattle.r6_health.specs.Histories.{held};
 ghost use Rattle.r6_health.specs.Registers.{attaches_of};
 ghost use Rattle.r6_health.specs.Views.{Answered, made_by};
 ghost use Rattle.r6_world.specs.Worlds.{as_made};
@@ -18,7 +19,7 @@ use std::alloc::{AllocError, Global};
 use std::sync::Wait;
 
 // No array has more.
-const MOST_SLOTS: usize = 32;
+pub(crate) const MOST_SLOTS: usize = 32;
 
 /// Which shard of which array.
 #[derive(Clone, Copy, PartialEq, Eq, Debug)]
@@ -225,8 +226,31 @@ impl<P: Performs + Drop> Shard<P> {
         ensures lasts { Lasts self.old.core self.new.core }
         ensures ledger { SameLedger self.old self.new }
     {
-        let snapshot = register.read(rt, &mut self.pass);
-        self.looked = looked_by(self.core.look(&snapshot), &snapshot, self.looked);
+        let snapshot = self.read(rt, register);
+        self.see(&snapshot);
+    }
+
+    // What the register holds.
+    pub(crate) fn read<R: Wait>(&mut self, rt: &R, register: &Register) -> Snapshot
+        requires { IsPassOf register.now self.old.pass }
+        ensures pass { IsPassOf register.now self.new.pass }
+        ensures course { GoesOn P.tells self.old self.new }
+        ensures core { self.new.core ≡ self.old.core }
+        ensures ledger { SameLedger self.old self.new }
+        ensures snapshot { result ≡ held (view_of self.new.pass).start (view_of self.new.pass).seen }
+    {
+        register.read(rt, &mut self.pass)
+    }
+
+    // The core looks at what the register held when it was read last, once every call was told.
+    pub(crate) fn see(&mut self, snapshot: &Snapshot)
+        requires { snapshot.now ≡ held (view_of self.old.pass).start (view_of self.old.pass).seen }
+        ensures course { GoesOn P.tells self.old self.new }
+        ensures lasts { Lasts self.old.core self.new.core }
+        ensures ledger { SameLedger self.old self.new }
+        ensures pass { self.new.pass ≡ self.old.pass }
+    {
+        self.looked = looked_by(self.core.look(snapshot), snapshot, self.looked);
     }
 
     /// Makes the call at the register that is to be made next, and tells the core the answer; whether there was one. A

@@ -8,14 +8,14 @@ use Rattle.r6_shard.specs.Courses.{HasCourse}
 use Rattle.r6_shard.proofs.Keeping.{kept-plainly}
 use Rattle.r6_shard.specs.Refusing.{Lasts}
 use Rattle.r6_shard.proofs.Lasting.{lasts_by, lasts_same}
-use Rattle.r6_shard.proofs.Going.{has-gone, has-seen, either_way, both_ok, both_err}
-use Rattle.r6_shard.proofs.shard.Shard.look.Goals as goal
+use Rattle.r6_shard.proofs.Going.{has-gone, either_way, both_ok, both_err}
+use Rattle.r6_shard.proofs.shard.Shard.see.Goals as goal
 
 pub invariant_of-self-clause-kept : goal.invariant_of-self-clause-kept
 invariant_of-self-clause-kept g c =
     let old = c.args.self.now in
     let new = c.look.new.self in
-    let snapshot = c.read-snapshot.result in
+    let snapshot = c.args.snapshot.now in
     either_way c.look.result (λ _. LooksAt old.core snapshot new) (λ refusal. RefusesLook old.core refusal new)
     (IsKept new old.number old.named (length old.asked.items)) c.look.ensures.looked c.look.ensures.refused
     (λ _ looked. kept-plainly old.core (Look snapshot) new old.number old.named (length old.asked.items) (record {}) looked.step old.kept)
@@ -25,7 +25,7 @@ pub invariant_of-self-clause-counted : goal.invariant_of-self-clause-counted
 invariant_of-self-clause-counted g c =
     let old = c.args.self.now in
     let new = c.look.new.self in
-    let snapshot = c.read-snapshot.result in
+    let snapshot = c.args.snapshot.now in
     either_way c.look.result (λ _. LooksAt old.core snapshot new) (λ refusal. RefusesLook old.core refusal new)
     (new.unanswered + length old.entries.items ≡ length old.asked.items) c.look.ensures.looked c.look.ensures.refused
     (λ _ looked. ap (λ y. y + length old.entries.items) looked.unanswered ∙ old.counted)
@@ -36,10 +36,9 @@ returns-clause-course g c = λ s ops x.
     let old = c.args.self.now in
     let new = c.look.new.self in
     let part = g.P.Performs.tells old.parts in
-    let w = view_of c.read-snapshot.new.pass in
-    let snapshot = c.read-snapshot.result in
+    let w = view_of old.pass in
+    let snapshot = c.args.snapshot.now in
     let attaches : ℕ = snapshot.attaches in
-    let y = has-seen s old.core (view_of old.pass) w old.looked part old.asked.items old.entries.items ops c.read-snapshot.ensures.looks x in
     either_way c.look.result (λ _. LooksAt old.core snapshot new × (c.looked_by-self.result ≡ attaches))
     (λ refusal. RefusesLook old.core refusal new × (c.looked_by-self.result ≡ old.looked))
     (HasCourse s new w c.looked_by-self.result part old.asked.items old.entries.items ops)
@@ -47,17 +46,17 @@ returns-clause-course g c = λ s ops x.
     (both_err c.look.result (λ refusal. RefusesLook old.core refusal new) (λ _. c.looked_by-self.result ≡ old.looked) c.look.ensures.refused c.looked_by-self.ensures.refused)
     (λ _ looked.
     subst (λ z. HasCourse s new w z part old.asked.items old.entries.items ops) (sym looked.1)
-    (has-gone s old.core new w old.looked part old.asked.items old.entries.items ops (Look snapshot) c.read-snapshot.ensures.snapshot (λ history. refl)
-    looked.0.step y))
+    (has-gone s old.core new w old.looked part old.asked.items old.entries.items ops (Look snapshot) c.requires (λ history. refl)
+    looked.0.step x))
     (λ refusal refused.
     subst (λ z. HasCourse s new w z part old.asked.items old.entries.items ops) (sym refused.1)
-    (subst (λ z. HasCourse s z w old.looked part old.asked.items old.entries.items ops) (sym refused.0.same) y))
+    (subst (λ z. HasCourse s z w old.looked part old.asked.items old.entries.items ops) (sym refused.0.same) x))
 
 pub returns-clause-lasts : goal.returns-clause-lasts
 returns-clause-lasts g c =
     let old = c.args.self.now.core in
     let new = c.look.new.self in
-    let snapshot = c.read-snapshot.result in
+    let snapshot = c.args.snapshot.now in
     either_way c.look.result (λ _. LooksAt old snapshot new) (λ refusal. RefusesLook old refusal new) (Lasts old new)
     c.look.ensures.looked c.look.ensures.refused
     (λ _ looked. lasts_by old (Look snapshot) new looked.step)

@@ -1,0 +1,407 @@
+-- What was done, with one thing more.
+use Rattle.std.proofs.Common.{◌≡◌, ◌≢◌, ℕ, List, [], ◌∷◌, ◌++◌, map, length, if◌then◌else◌, true, false, Bool, inl, inr, refl, sym, ap, subst, ◌∙◌, append_assoc, append-nil, Option, Some, None}
+use Rattle.std.specs.List.{cons_option}
+use Rattle.std.proofs.lemmas.List.{length-map, map-append}
+use Rattle.std.proofs.lemmas.List.Elements.{filter_map-append}
+use Rattle.r6_dev.specs.History.{Telling}
+use Rattle.r6_layout.specs.Shape.{Shape}
+use Rattle.r6_world.specs.PlainArray as world
+use Rattle.r6_world.specs.Registers.{Snapshot}
+use Rattle.r6_world.specs.Tables.{put_in}
+use Rattle.r6_frames.specs.declared.op.Op.{Op}
+use Rattle.r6_frames.specs.Views.{op_of}
+use Rattle.r6_core.specs.declared.turn.Task.{Task as Pass}
+use Rattle.r6_core.specs.declared.refusal.Refusal.{Refusal}
+use Rattle.r6_lists.specs.Events.{Event, Duty, Takes_up, task, task_at}
+use Rattle.r6_shard.specs.declared.parts.Part.{Part}
+use Rattle.r6_shard.specs.declared.parts.Parts.{Parts}
+use Rattle.r6_shard.specs.declared.shard.Shard.{Shard}
+use Rattle.r6_shard.specs.declared.ledger.Asked.{Asked}
+use Rattle.r6_shard.specs.Shards as shards
+use Rattle.r6_shard.specs.Shards.{ComesFrom, CourseOf, Submits}
+use Rattle.r6_shard.specs.Beginnings.{start_of}
+use Rattle.r6_shard.specs.Handing.{parts_tell}
+use Rattle.r6_shard.proofs.FromStarts.{handed_law}
+use Rattle.r6_runner.specs.declared.due.Due.{Due}
+use Rattle.r6_runner.specs.declared.pass.Passing.{Passing}
+use Rattle.r6_runner.specs.declared.pass.Passed.{Passed}
+use Rattle.r6_runner.specs.declared.runner.Handed.{Handed}
+use Rattle.r6_runner.specs.declared.runner.Runner.{Runner}
+use Rattle.r6_runner.specs.Tasks.{NewPart, request_in, pass_in, part_in, requests_in, passes_in, parts_in, due_requests, due_passes, request_of, pass_of, under_way, passed_of, slot_of, handed_of}
+use Rattle.r6_runner.specs.Runners.{AreServed, taken_up, AllTell, IsDone, IsPartTaken, IsOutcome, HasDone, IsPut, IsHandedIn, ShardGoesOn, KeepsSelf}
+use Rattle.r6_runner.proofs.Tasks.{of_tasks-more, taken_up-more, tell-less, none-silent, put_if}
+
+-- ---- the same, of equal things
+
+pub is-like : {D : Type 0} (told : D → Telling) (shape : Shape) (events : List Event) (geometry : Shape) (number : ℕ) (snapshot : Snapshot)
+    (before : ℕ → ℕ → Option Telling) (numbers : List ℕ) (shard shard' : Shard (Parts D)) (refused refused' : List (ℕ × Refusal))
+    (passing passing' : Option Passing) (passed passed' : List Passed) (handed handed' : List Handed) (due due' : List Due)
+    → shard' ≡ shard → refused' ≡ refused → passing' ≡ passing → passed' ≡ passed → handed' ≡ handed → due' ≡ due
+    → IsDone told shape events geometry number snapshot before numbers shard refused passing passed handed due
+    → IsDone told shape events geometry number snapshot before numbers shard' refused' passing' passed' handed' due'
+is-like told shape events geometry number snapshot before numbers shard shard' refused refused' passing passing' passed passed' handed handed' due due' e0 e1 e2 e3 e4 e5 x =
+    subst (λ y. IsDone told shape events geometry number snapshot before numbers y refused' passing' passed' handed' due') (sym e0)
+    (subst (λ y. IsDone told shape events geometry number snapshot before numbers shard y passing' passed' handed' due') (sym e1)
+    (subst (λ y. IsDone told shape events geometry number snapshot before numbers shard refused y passed' handed' due') (sym e2)
+    (subst (λ y. IsDone told shape events geometry number snapshot before numbers shard refused passing y handed' due') (sym e3)
+    (subst (λ y. IsDone told shape events geometry number snapshot before numbers shard refused passing passed y due') (sym e4)
+    (subst (λ y. IsDone told shape events geometry number snapshot before numbers shard refused passing passed handed y) (sym e5) x)))))
+
+-- ---- what came by the list
+
+pub is-put : {D : Type 0} (told : D → Telling) (shape : Shape) (events : List Event) (geometry : Shape) (number : ℕ) (snapshot : Snapshot)
+    (before : ℕ → ℕ → Option Telling) (numbers : List ℕ) (shard : Shard (Parts D)) (refused : List (ℕ × Refusal))
+    (passing : Option Passing) (passed : List Passed) (handed : List Handed) (due : List Due)
+    (d : Due) (n waits : ℕ) (duty : Duty) → task_at shape number events n ≡ Some (task n waits duty)
+    → request_in n duty ≡ request_of d.event d.duty → pass_in n duty ≡ pass_of d.event d.duty → part_in n duty ≡ None
+    → IsDone told shape events geometry number snapshot before numbers shard refused passing passed handed due
+    → IsDone told shape events geometry number snapshot before (numbers ++ n ∷ []) shard refused passing passed handed (due ++ d ∷ [])
+is-put told shape events geometry number snapshot before numbers shard refused passing passed handed due d n waits duty at request pass part x =
+    let same : parts_in shape number events (numbers ++ n ∷ []) ≡ parts_in shape number events numbers =
+    of_tasks-more part_in shape number events numbers n waits duty at
+    ∙ ap (λ o. parts_in shape number events numbers ++ cons_option o []) part
+    ∙ append-nil (parts_in shape number events numbers) in
+    let A = map passed_of passed in
+    record {
+      begun = x.begun;
+      ops = x.ops;
+      requests = of_tasks-more request_in shape number events numbers n waits duty at
+          ∙ ap (λ y. y ++ cons_option (request_in n duty) []) x.requests
+          ∙ append_assoc x.begun (due_requests due) (cons_option (request_in n duty) [])
+          ∙ ap (λ o. x.begun ++ (due_requests due ++ cons_option o [])) request
+          ∙ ap (λ y. x.begun ++ y) (sym (filter_map-append (λ (e : Due). request_of e.event e.duty) due (d ∷ [])));
+      served = x.served;
+      passes = of_tasks-more pass_in shape number events numbers n waits duty at
+          ∙ ap (λ y. y ++ cons_option (pass_in n duty) []) x.passes
+          ∙ append_assoc A (under_way passing ++ due_passes due) (cons_option (pass_in n duty) [])
+          ∙ ap (λ y. A ++ y) (append_assoc (under_way passing) (due_passes due) (cons_option (pass_in n duty) []))
+          ∙ ap (λ o. A ++ (under_way passing ++ (due_passes due ++ cons_option o []))) pass
+          ∙ ap (λ y. A ++ (under_way passing ++ y)) (sym (filter_map-append (λ (e : Due). pass_of e.event e.duty) due (d ∷ [])));
+      parts = ap (λ y. map slot_of y) same ∙ x.parts;
+      comes = λ all.
+          subst (λ y. ComesFrom (parts_tell told) geometry number snapshot (taken_up before y handed) x.ops shard) (sym same)
+          (x.comes (subst (AllTell before) same all));
+    }
+
+part-on : {D : Type 0} (told : D → Telling) (geometry : Shape) (number : ℕ) (snapshot : Snapshot) (at : ℕ → ℕ → Option Telling)
+    (ops : List world.Op) (taken : Bool) (part : Part D) (old new : Shard (Parts D)) (p : NewPart) (h : Handed)
+    → p.slot ≡ part.slot → p.telling ≡ told part.device → h.generation ≡ part.generation → h.taken ≡ taken
+    → ((d g : ℕ) → at d g ≢ Some None)
+    → IsPartTaken taken told part old new
+    → ComesFrom (parts_tell told) geometry number snapshot at ops old
+    → ComesFrom (parts_tell told) geometry number snapshot (put_if at p h) ops new
+part-on {D = D} told geometry number snapshot at ops true part old new p h slot telling generation is none taken comes =
+    let there : put_if at p h ≡ put_in at part.slot part.generation (Some (told part.device)) =
+    ap (λ (b : Bool). if b then put_in at p.slot h.generation (Some p.telling) else at) is
+    ∙ ap (λ (k : ℕ). put_in at k h.generation (Some p.telling)) slot
+    ∙ ap (λ (k : ℕ). put_in at part.slot k (Some p.telling)) generation
+    ∙ ap (λ (t : Telling). put_in at part.slot part.generation (Some t)) telling in
+    subst (λ y. ComesFrom (parts_tell told) geometry number snapshot y ops new) (sym there)
+    (handed_law told part taken.0 old new taken.1 geometry number snapshot at ops (none part.slot part.generation) comes)
+part-on told geometry number snapshot at ops false part old new p h slot telling generation is none same comes =
+    let there : put_if at p h ≡ at = ap (λ (b : Bool). if b then put_in at p.slot h.generation (Some p.telling) else at) is in
+    subst (λ y. ComesFrom (parts_tell told) geometry number snapshot y ops new) (sym there)
+    (subst (λ y. ComesFrom (parts_tell told) geometry number snapshot at ops y) (sym same) comes)
+
+asked-on : {D : Type 0} (told : D → Telling) (taken : Bool) (part : Part D) (old new : Shard (Parts D)) → IsPartTaken taken told part old new
+    → new.asked.items ≡ old.asked.items
+asked-on told true part old new taken = taken.1.ledger.asked
+asked-on told false part old new same = ap (λ (y : Shard _). y.asked.items) same
+
+pub is-handed : {D : Type 0} (told : D → Telling) (shape : Shape) (events : List Event) (geometry : Shape) (number : ℕ) (snapshot : Snapshot)
+    (before : ℕ → ℕ → Option Telling) (numbers : List ℕ) (shard shard' : Shard (Parts D)) (refused : List (ℕ × Refusal))
+    (passing : Option Passing) (passed : List Passed) (handed : List Handed) (due : List Due)
+    (n waits : ℕ) (part : Part D) (taken : Bool)
+    → task_at shape number events n ≡ Some (task n waits (Takes_up part.slot (told part.device)))
+    → IsPartTaken taken told part shard shard'
+    → IsDone told shape events geometry number snapshot before numbers shard refused passing passed handed due
+    → IsDone told shape events geometry number snapshot before (numbers ++ n ∷ []) shard' refused passing passed
+    (handed ++ record { event = n; slot = part.slot; generation = part.generation; taken = taken } ∷ []) due
+is-handed told shape events geometry number snapshot before numbers shard shard' refused passing passed handed due n waits part taken at into x =
+    let duty : Duty = Takes_up part.slot (told part.device) in
+    let p : NewPart = record { event = n; slot = part.slot; telling = told part.device } in
+    let h : Handed = record { event = n; slot = part.slot; generation = part.generation; taken = taken } in
+    let ps : List NewPart = parts_in shape number events numbers in
+    let more : parts_in shape number events (numbers ++ n ∷ []) ≡ ps ++ p ∷ [] =
+    of_tasks-more part_in shape number events numbers n waits duty at in
+    let long : length ps ≡ length handed =
+    sym (length-map ps slot_of) ∙ ap length x.parts ∙ length-map handed handed_of in
+    record {
+      begun = x.begun;
+      ops = x.ops;
+      requests = of_tasks-more request_in shape number events numbers n waits duty at
+          ∙ append-nil (requests_in shape number events numbers) ∙ x.requests;
+      served = subst (λ y. AreServed x.begun y x.ops refused) (sym (asked-on told taken part shard shard' into)) x.served;
+      passes = of_tasks-more pass_in shape number events numbers n waits duty at
+          ∙ append-nil (passes_in shape number events numbers) ∙ x.passes;
+      parts = ap (λ y. map slot_of y) more
+          ∙ map-append slot_of ps (p ∷ [])
+          ∙ ap (λ y. y ++ (n, part.slot) ∷ []) x.parts
+          ∙ sym (map-append handed_of handed (h ∷ []));
+      comes = λ all.
+          let told-all = tell-less before ps p (subst (AllTell before) more all) in
+          subst (λ y. ComesFrom (parts_tell told) geometry number snapshot (taken_up before y (handed ++ h ∷ [])) x.ops shard') (sym more)
+          (subst (λ y. ComesFrom (parts_tell told) geometry number snapshot y x.ops shard') (sym (taken_up-more before ps handed p h long))
+          (part-on told geometry number snapshot (taken_up before ps handed) x.ops taken part shard shard' p h refl refl refl refl
+          (none-silent before ps handed told-all.0) into (x.comes told-all.0)));
+    }
+
+-- ---- what was due begins
+
+pub one-accepted : (requests : List (ℕ × world.Op)) (request : ℕ × world.Op) (asked : List Asked) (a : Asked) (ops : List world.Op)
+    (refused : List (ℕ × Refusal)) → a.event ≡ request.0 → AreServed requests asked ops refused
+    → AreServed (requests ++ request ∷ []) (asked ++ a ∷ []) (ops ++ request.1 ∷ []) refused
+one-accepted [] request asked a ops refused same x =
+    inl (a, [], [], ap (λ y. y ++ a ∷ []) x.0, same, ap (λ y. y ++ request.1 ∷ []) x.1, (refl, refl, x.2))
+one-accepted (first ∷ requests) request asked a ops refused same x = elim x [
+  | inl p ↦ inl (
+    p.0,
+    p.1 ++ a ∷ [],
+    p.2 ++ request.1 ∷ [],
+    ap (λ y. y ++ a ∷ []) p.3,
+    p.4,
+    ap (λ y. y ++ request.1 ∷ []) p.5,
+    one-accepted requests request p.1 a p.2 refused same p.6,
+  )
+  | inr p ↦ inr (p.0, p.1, p.2, one-accepted requests request asked a ops p.1 same p.3)
+]
+
+pub one-refused : (requests : List (ℕ × world.Op)) (request : ℕ × world.Op) (asked : List Asked) (ops : List world.Op)
+    (refused : List (ℕ × Refusal)) (refusal : Refusal) → AreServed requests asked ops refused
+    → AreServed (requests ++ request ∷ []) asked ops (refused ++ (request.0, refusal) ∷ [])
+one-refused [] request asked ops refused refusal x =
+    inr (refusal, [], ap (λ y. y ++ (request.0, refusal) ∷ []) x.2, (x.0, x.1, refl))
+one-refused (first ∷ requests) request asked ops refused refusal x = elim x [
+  | inl p ↦ inl (p.0, p.1, p.2, p.3, p.4, p.5, one-refused requests request p.1 p.2 refused refusal p.6)
+  | inr p ↦ inr (
+    p.0,
+    p.1 ++ (request.0, refusal) ∷ [],
+    ap (λ y. y ++ (request.0, refusal) ∷ []) p.2,
+    one-refused requests request asked ops p.1 refusal p.3,
+  )
+]
+
+-- a request begins
+pub has-begun : {D : Type 0} (told : D → Telling) (shape : Shape) (events : List Event) (geometry : Shape) (number : ℕ) (snapshot : Snapshot)
+    (before : ℕ → ℕ → Option Telling) (numbers : List ℕ) (shard shard' : Shard (Parts D)) (refused refused' : List (ℕ × Refusal))
+    (passing : Option Passing) (passed : List Passed) (handed : List Handed) (d : Due) (due : List Due)
+    (event : ℕ) (op : Op)
+    → request_of d.event d.duty ≡ Some (event, op_of op) → pass_of d.event d.duty ≡ None
+    → IsOutcome told event op shard shard' refused refused'
+    → IsDone told shape events geometry number snapshot before numbers shard refused passing passed handed (d ∷ due)
+    → IsDone told shape events geometry number snapshot before numbers shard' refused' passing passed handed due
+has-begun told shape events geometry number snapshot before numbers shard shard' refused refused' passing passed handed d due event op request pass outcome x =
+    let all : requests_in shape number events numbers ≡ (x.begun ++ (event, op_of op) ∷ []) ++ due_requests due =
+    x.requests ∙ ap (λ o. x.begun ++ cons_option o (due_requests due)) request ∙ sym (append_assoc x.begun ((event, op_of op) ∷ []) (due_requests due)) in
+    let passes : passes_in shape number events numbers ≡ map passed_of passed ++ (under_way passing ++ due_passes due) =
+    x.passes ∙ ap (λ o. map passed_of passed ++ (under_way passing ++ cons_option o (due_passes due))) pass in
+    elim outcome [
+      | inl p ↦
+          let a : Asked = record { event = event; block = world.block_of (op_of op); answered = length shard.entries.items } in
+          record {
+            begun = x.begun ++ (event, op_of op) ∷ [];
+            ops = x.ops ++ op_of op ∷ [];
+            requests = all;
+            served = subst (λ y. AreServed (x.begun ++ (event, op_of op) ∷ []) y (x.ops ++ op_of op ∷ []) refused') (sym p.1.asked)
+                (subst (AreServed (x.begun ++ (event, op_of op) ∷ []) (shard.asked.items ++ a ∷ []) (x.ops ++ op_of op ∷ [])) (sym p.2)
+                (one-accepted x.begun (event, op_of op) shard.asked.items a x.ops refused refl x.served));
+            passes = passes;
+            parts = x.parts;
+            comes = λ tell device array lawful hold.
+                p.1.course (start_of geometry number snapshot device array) x.ops (x.comes tell device array lawful hold);
+          }
+      | inr p ↦ record {
+        begun = x.begun ++ (event, op_of op) ∷ [];
+        ops = x.ops;
+        requests = all;
+        served = subst (λ y. AreServed (x.begun ++ (event, op_of op) ∷ []) y x.ops refused') (ap (λ (y : Shard _). y.asked.items) (sym p.1))
+            (subst (AreServed (x.begun ++ (event, op_of op) ∷ []) shard.asked.items x.ops) (sym p.2)
+            (one-refused x.begun (event, op_of op) shard.asked.items x.ops refused p.0 x.served));
+        passes = passes;
+        parts = x.parts;
+        comes = λ tell. subst (ComesFrom (parts_tell told) geometry number snapshot (taken_up before (parts_in shape number events numbers) handed) x.ops)
+            (sym p.1) (x.comes tell);
+      }
+    ]
+
+-- a check or repair begins
+pub has-passing : {D : Type 0} (told : D → Telling) (shape : Shape) (events : List Event) (geometry : Shape) (number : ℕ) (snapshot : Snapshot)
+    (before : ℕ → ℕ → Option Telling) (numbers : List ℕ) (shard : Shard (Parts D)) (refused : List (ℕ × Refusal))
+    (passed : List Passed) (handed : List Handed) (d : Due) (due : List Due) (p : Passing)
+    → request_of d.event d.duty ≡ None → pass_of d.event d.duty ≡ Some (p.event, p.task)
+    → IsDone told shape events geometry number snapshot before numbers shard refused None passed handed (d ∷ due)
+    → IsDone told shape events geometry number snapshot before numbers shard refused (Some p) passed handed due
+has-passing told shape events geometry number snapshot before numbers shard refused passed handed d due p request pass x =
+    record {
+      begun = x.begun;
+      ops = x.ops;
+      requests = x.requests ∙ ap (λ o. x.begun ++ cons_option o (due_requests due)) request;
+      served = x.served;
+      passes = x.passes ∙ ap (λ o. map passed_of passed ++ cons_option o (due_passes due)) pass;
+      parts = x.parts;
+      comes = x.comes;
+    }
+
+-- ---- what is under way goes on
+
+-- a check or repair is over
+pub has-passed : {D : Type 0} (told : D → Telling) (shape : Shape) (events : List Event) (geometry : Shape) (number : ℕ) (snapshot : Snapshot)
+    (before : ℕ → ℕ → Option Telling) (numbers : List ℕ) (shard : Shard (Parts D)) (refused : List (ℕ × Refusal))
+    (passing : Passing) (passed : List Passed) (handed : List Handed) (due : List Due) (p : Passed)
+    → p.event ≡ passing.event → p.task ≡ passing.task
+    → IsDone told shape events geometry number snapshot before numbers shard refused (Some passing) passed handed due
+    → IsDone told shape events geometry number snapshot before numbers shard refused None (passed ++ p ∷ []) handed due
+has-passed told shape events geometry number snapshot before numbers shard refused passing passed handed due p event task x =
+    let pair = passed_of in
+    record {
+      begun = x.begun;
+      ops = x.ops;
+      requests = x.requests;
+      served = x.served;
+      passes = x.passes
+          ∙ sym (append_assoc (map pair passed) ((passing.event, passing.task) ∷ []) (due_passes due))
+          ∙ ap (λ (k : ℕ). (map pair passed ++ (k, passing.task) ∷ []) ++ due_passes due) (sym event)
+          ∙ ap (λ (k : Pass). (map pair passed ++ (p.event, k) ∷ []) ++ due_passes due) (sym task)
+          ∙ ap (λ y. y ++ due_passes due) (sym (map-append pair passed (p ∷ [])));
+      parts = x.parts;
+      comes = x.comes;
+    }
+
+-- it goes on
+pub same-passing : {D : Type 0} (told : D → Telling) (shape : Shape) (events : List Event) (geometry : Shape) (number : ℕ) (snapshot : Snapshot)
+    (before : ℕ → ℕ → Option Telling) (numbers : List ℕ) (shard : Shard (Parts D)) (refused : List (ℕ × Refusal))
+    (passing passing' : Passing) (passed : List Passed) (handed : List Handed) (due : List Due)
+    → passing'.event ≡ passing.event → passing'.task ≡ passing.task
+    → IsDone told shape events geometry number snapshot before numbers shard refused (Some passing) passed handed due
+    → IsDone told shape events geometry number snapshot before numbers shard refused (Some passing') passed handed due
+same-passing told shape events geometry number snapshot before numbers shard refused passing passing' passed handed due event task x =
+    record {
+      begun = x.begun;
+      ops = x.ops;
+      requests = x.requests;
+      served = x.served;
+      passes = x.passes
+          ∙ ap (λ (k : ℕ). map passed_of passed ++ (k, passing.task) ∷ due_passes due) (sym event)
+          ∙ ap (λ (k : Pass). map passed_of passed ++ (passing'.event, k) ∷ due_passes due) (sym task);
+      parts = x.parts;
+      comes = x.comes;
+    }
+
+-- the shard goes on
+pub has-gone : {D : Type 0} (told : D → Telling) (shape : Shape) (events : List Event) (geometry : Shape) (number : ℕ) (snapshot : Snapshot)
+    (before : ℕ → ℕ → Option Telling) (numbers : List ℕ) (shard shard' : Shard (Parts D)) (refused : List (ℕ × Refusal))
+    (passing : Option Passing) (passed : List Passed) (handed : List Handed) (due : List Due)
+    → shards.GoesOn (parts_tell told) shard shard' → shard'.asked.items ≡ shard.asked.items
+    → IsDone told shape events geometry number snapshot before numbers shard refused passing passed handed due
+    → IsDone told shape events geometry number snapshot before numbers shard' refused passing passed handed due
+has-gone told shape events geometry number snapshot before numbers shard shard' refused passing passed handed due goes asked x =
+    record {
+      begun = x.begun;
+      ops = x.ops;
+      requests = x.requests;
+      served = subst (λ y. AreServed x.begun y x.ops refused) (sym asked) x.served;
+      passes = x.passes;
+      parts = x.parts;
+      comes = λ tell device array lawful hold.
+          goes (start_of geometry number snapshot device array) x.ops (x.comes tell device array lawful hold);
+    }
+
+-- ---- at the start
+
+pub is-first : {D : Type 0} (told : D → Telling) (shape : Shape) (events : List Event) (geometry : Shape) (number : ℕ) (snapshot : Snapshot)
+    (parts : Parts D) (shard : Shard (Parts D)) → shard.parts ≡ parts → shard.asked.items ≡ []
+    → shards.Begins (parts_tell told) geometry number snapshot shard
+    → IsDone told shape events geometry number snapshot (parts_tell told parts) [] shard [] None [] [] []
+is-first told shape events geometry number snapshot parts shard same none begins =
+    record {
+      begun = [];
+      ops = [];
+      requests = refl;
+      served = (none, refl, refl);
+      passes = refl;
+      parts = refl;
+      comes = λ tell.
+          subst (λ y. ComesFrom (parts_tell told) geometry number snapshot (parts_tell told y) [] shard) same begins;
+    }
+
+-- ---- as calls do it
+
+pub put-on : {D : Type 0} (told : D → Telling) (shape : Shape) (events : List Event) (geometry : Shape) (number : ℕ) (snapshot : Snapshot)
+    (before : ℕ → ℕ → Option Telling) (numbers : List ℕ) (old new : Runner D)
+    (d : Due) (n waits : ℕ) (duty : Duty) → task_at shape number events n ≡ Some (task n waits duty)
+    → request_in n duty ≡ request_of d.event d.duty → pass_in n duty ≡ pass_of d.event d.duty → part_in n duty ≡ None
+    → IsPut d old new
+    → HasDone told shape events geometry number snapshot before numbers old
+    → HasDone told shape events geometry number snapshot before (numbers ++ n ∷ []) new
+put-on told shape events geometry number snapshot before numbers old new d n waits duty at request pass part h x =
+    is-like told shape events geometry number snapshot before (numbers ++ n ∷ []) old.shard new.shard old.refused.items new.refused.items
+    old.passing new.passing old.passed.items new.passed.items old.handed.items new.handed.items (old.due.items ++ d ∷ []) new.due.items
+    h.shard h.refused h.passing h.passed h.handed h.due_is
+    (is-put told shape events geometry number snapshot before numbers old.shard old.refused.items old.passing old.passed.items old.handed.items
+    old.due.items d n waits duty at request pass part x)
+
+pub handed-on : {D : Type 0} (told : D → Telling) (shape : Shape) (events : List Event) (geometry : Shape) (number : ℕ) (snapshot : Snapshot)
+    (before : ℕ → ℕ → Option Telling) (numbers : List ℕ) (old new : Runner D) (n waits : ℕ) (part : Part D)
+    → task_at shape number events n ≡ Some (task n waits (Takes_up part.slot (told part.device)))
+    → IsHandedIn told n part old new
+    → HasDone told shape events geometry number snapshot before numbers old
+    → HasDone told shape events geometry number snapshot before (numbers ++ n ∷ []) new
+handed-on told shape events geometry number snapshot before numbers old new n waits part at h x =
+    let more : List Handed = old.handed.items ++ record { event = n; slot = part.slot; generation = part.generation; taken = h.taken } ∷ [] in
+    is-like told shape events geometry number snapshot before (numbers ++ n ∷ []) new.shard new.shard old.refused.items new.refused.items
+    old.passing new.passing old.passed.items new.passed.items more new.handed.items old.due.items new.due.items
+    refl h.refused h.passing h.passed h.handed h.due
+    (is-handed told shape events geometry number snapshot before numbers old.shard new.shard old.refused.items old.passing old.passed.items
+    old.handed.items old.due.items n waits part h.taken at h.shard x)
+
+pub served-on : {D : Type 0} (told : D → Telling) (shape : Shape) (events : List Event) (geometry : Shape) (number : ℕ) (snapshot : Snapshot)
+    (before : ℕ → ℕ → Option Telling) (numbers : List ℕ) (old new : Runner D) (d : Due) (due : List Due) (event : ℕ) (op : Op)
+    → request_of d.event d.duty ≡ Some (event, op_of op) → pass_of d.event d.duty ≡ None
+    → new.due.items ≡ due → new.passing ≡ old.passing → new.passed.items ≡ old.passed.items → new.handed.items ≡ old.handed.items
+    → IsOutcome told event op old.shard new.shard old.refused.items new.refused.items
+    → old.due.items ≡ d ∷ due
+    → HasDone told shape events geometry number snapshot before numbers old
+    → HasDone told shape events geometry number snapshot before numbers new
+served-on told shape events geometry number snapshot before numbers old new d due event op request pass e5 e2 e3 e4 outcome first x =
+    is-like told shape events geometry number snapshot before numbers new.shard new.shard new.refused.items new.refused.items
+    old.passing new.passing old.passed.items new.passed.items old.handed.items new.handed.items due new.due.items refl refl e2 e3 e4 e5
+    (has-begun told shape events geometry number snapshot before numbers old.shard new.shard old.refused.items new.refused.items old.passing
+    old.passed.items old.handed.items d due event op request pass outcome
+    (subst (λ y. IsDone told shape events geometry number snapshot before numbers old.shard old.refused.items old.passing old.passed.items old.handed.items y)
+    first x))
+
+-- ---- one call after another
+
+pub shard-on : {D : Type 0} (told : D → Telling) (a b c : Runner D) → ShardGoesOn told a b → ShardGoesOn told b c → ShardGoesOn told a c
+shard-on told a b c x y =
+    record {
+      course = λ s ops h. y.course s ops (x.course s ops h);
+      asked = y.asked ∙ x.asked;
+      refused = y.refused ∙ x.refused;
+      kept = record {
+        due = y.kept.due ∙ x.kept.due;
+        passing = y.kept.passing ∙ x.kept.passing;
+        passed = y.kept.passed ∙ x.kept.passed;
+        handed = y.kept.handed ∙ x.kept.handed;
+        room = y.kept.room ∙ x.kept.room;
+      };
+    }
+
+pub self-on : {D : Type 0} (a b c : Runner D) → KeepsSelf a b → KeepsSelf b c → KeepsSelf a c
+self-on a b c x y = record { pass = y.pass ∙ x.pass; room = y.room ∙ x.room }
+
+-- a check or repair goes on with the shard
+pub gone-passing : {D : Type 0} (told : D → Telling) (shape : Shape) (events : List Event) (geometry : Shape) (number : ℕ) (snapshot : Snapshot)
+    (before : ℕ → ℕ → Option Telling) (numbers : List ℕ) (old mid : Runner D) (passing passing' : Passing)
+    → old.passing ≡ Some passing → ShardGoesOn told old mid → passing'.event ≡ passing.event → passing'.task ≡ passing.task
+    → HasDone told shape events geometry number snapshot before numbers old
+    → IsDone told shape events geometry number snapshot before numbers mid.shard mid.refused.items (Some passing') mid.passed.items mid.handed.items
+    mid.due.items
+gone-passing told shape events geometry number snapshot before numbers old mid passing passing' is h event task x =
+    same-passing told shape events geometry number snapshot before numbers mid.shard mid.refused.items passing passing' mid.passed.items
+    mid.handed.items mid.due.items event task
+    (is-like told shape events geometry number snapshot before numbers mid.shard mid.shard old.refused.items mid.refused.items old.passing (Some passing)
+    old.passed.items mid.passed.items old.handed.items mid.handed.items old.due.items mid.due.items refl
+    h.refused (sym is) h.kept.passed h.kept.handed h.kept.due
+    (has-gone told shape events geometry number snapshot before numbers old.shard mid.shard old.refused.items old.passing old.passed.items
+    old.handed.items old.due.items h.course h.asked x))

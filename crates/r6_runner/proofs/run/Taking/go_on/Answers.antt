@@ -1,0 +1,27 @@
+use Rattle.std.proofs.Common.{sym, subst}
+use Rattle.r6_runner.specs.Runners.{HasDone, IsOver}
+use Rattle.r6_runner.specs.declared.runner.Runner.{Runner}
+use Rattle.r6_runner.proofs.run.Taking.go_on.Goals as goal
+
+pub returns-then-not-go_round-clause-course : goal.returns-then-not-go_round-clause-course
+returns-then-not-go_round-clause-course g c = λ geometry snapshot before x.
+    let consumer = c.take_in.new.self.consumer in
+    c.go_round.ensures.course g.L.Events.shape g.L.Events.events c.args.self.now.consumer.shard consumer.numbers.items geometry snapshot before
+    (c.take_in.ensures.course geometry snapshot before x)
+
+pub returns-clause-course : goal.returns-clause-course
+returns-clause-course g c = λ geometry snapshot before x.
+    let shape = g.L.Events.shape in
+    let events = g.L.Events.events in
+    let told = g.D.BlockDevice.told in
+    let number = c.args.self.now.consumer.shard in
+    let consumer = c.take_in.new.self.consumer in
+    let new = c.is_finished.new.self in
+    let done = c.go_round.ensures.course shape events number consumer.numbers.items geometry snapshot before
+    (c.take_in.ensures.course geometry snapshot before x) in
+    subst (λ y. HasDone told shape events geometry number snapshot before y new.runner) (sym c.is_finished.ensures.numbers)
+    (subst (λ y. HasDone told shape events geometry number snapshot before consumer.numbers.items y) (sym c.is_finished.ensures.runner) done)
+
+pub returns-clause-over : goal.returns-clause-over
+returns-clause-over g c = λ e.
+    (subst (λ (y : Runner _). IsOver y) (sym c.is_finished.ensures.runner) (c.go_round.ensures.over c.if-not-go_round.false), c.is_finished.ensures.finished e)

@@ -1,0 +1,13 @@
+use Rattle.std.proofs.Common.{◌≡◌}
+use Rattle.r6_health.specs.Passes.{IsPassOf}
+use Rattle.r6_runner.specs.Runners.{GoesOn}
+use Rattle.r6_runner.proofs.run.Taking.run.Given as goal
+
+abbrev pub invariant-loop : goal.invariant-loop
+invariant-loop g l =
+    (goal.iterator-loop g).can_next l.iterator' × (goal.iterator-loop g).is_finite l.iterator' × record {
+      pass : IsPassOf l.register l.self.runner.shard.pass;
+      course : GoesOn g.D.BlockDevice.told g.L.Events.shape g.L.Events.events l.fn.self.consumer.shard l.fn.self.consumer.numbers.items
+          l.self.consumer.numbers.items l.fn.self.runner l.self.runner;
+      shard : l.self.consumer.shard ≡ l.fn.self.consumer.shard;
+    }

@@ -1,0 +1,11 @@
+use Rattle.std.proofs.Common.{◌≡◌}
+use Rattle.r6_runner.specs.Runners.{GoesOnSame, KeepsSelf, taken_by}
+use Rattle.r6_runner.proofs.runner.Runner.begin_all.Given as goal
+
+abbrev pub invariant-loop : goal.invariant-loop
+invariant-loop g l =
+    (goal.iterator-loop g).can_next l.iterator' × (goal.iterator-loop g).is_finite l.iterator' × record {
+      course : GoesOnSame g.D.BlockDevice.told l.fn.self l.self;
+      same : KeepsSelf l.fn.self l.self;
+      count : taken_by l.self ≡ taken_by l.fn.self;
+    }

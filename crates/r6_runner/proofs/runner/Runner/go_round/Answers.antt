@@ -1,0 +1,6 @@
+use Rattle.r6_runner.proofs.runner.Runner.go_round.Goals as goal
+
+pub returns-clause-course : goal.returns-clause-course
+returns-clause-course g c = λ shape events number numbers geometry snapshot before x.
+    c.rests.ensures.course shape events number numbers geometry snapshot before
+    (c.advance.ensures.course shape events number numbers geometry snapshot before x)

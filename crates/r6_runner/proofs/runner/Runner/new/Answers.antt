@@ -1,0 +1,15 @@
+use Rattle.std.proofs.Common.{[], None, refl}
+use Rattle.r6_shard.specs.Handing.{parts_tell}
+use Rattle.r6_runner.proofs.Done.{is-first, is-like}
+use Rattle.r6_runner.proofs.runner.Runner.new.Goals as goal
+
+pub returns-clause-begins : goal.returns-clause-begins
+returns-clause-begins g c = λ shape events.
+    let told = g.D.BlockDevice.told in
+    let p = c.args.place in
+    let shard = c.in_ok-shard.shard in
+    is-like told shape events p.geometry p.number c.args.snapshot.now (parts_tell told c.args.parts) [] shard shard [] c.in_ok-refused.refused.items None None
+    [] c.in_ok-passed.passed.items [] c.in_ok-handed.handed.items [] c.in_ok-due.due.items refl c.in_ok-refused.ensures.items refl
+    c.in_ok-passed.ensures.items c.in_ok-handed.ensures.items c.in_ok-due.ensures.items
+    (is-first told shape events p.geometry p.number c.args.snapshot.now c.args.parts shard c.in_ok-shard.ensures.parts c.in_ok-shard.ensures.empty
+    c.in_ok-shard.ensures.begins)

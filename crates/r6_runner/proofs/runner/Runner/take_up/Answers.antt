@@ -1,0 +1,48 @@
+use Rattle.std.proofs.Common.{◌∙◌, Some, refl, ap}
+use Rattle.r6_lists.specs.Events.{Serves, Checks, Repairs, task}
+use Rattle.r6_lists.specs.Lists.{duty_in}
+use Rattle.r6_world.specs.PlainArray as plain
+use Rattle.r6_shard.specs.declared.parts.Part.{Part}
+use Rattle.r6_runner.proofs.Done.{put-on, handed-on}
+use Rattle.r6_runner.proofs.runner.Runner.take_up.Goals as goal
+
+pub returns-in-Read-clause-course : goal.returns-in-Read-clause-course
+returns-in-Read-clause-course g c = λ numbers geometry snapshot before x.
+    let i = c.args.item in
+    put-on g.D.BlockDevice.told g.L.Events.shape g.L.Events.events geometry i.shard snapshot before numbers c.args.self.now c.put.new.self _
+    i.number i.waits (Serves (plain.Read c.in-Read.block))
+    (i.of_event ∙ ap (λ w. Some (task i.number i.waits (duty_in g.D.BlockDevice.told w))) c.in-Read.is)
+    refl refl refl c.put.ensures x
+
+pub returns-in-Write-clause-course : goal.returns-in-Write-clause-course
+returns-in-Write-clause-course g c = λ numbers geometry snapshot before x.
+    let i = c.args.item in
+    put-on g.D.BlockDevice.told g.L.Events.shape g.L.Events.events geometry i.shard snapshot before numbers c.args.self.now c.put-in-Write.new.self _
+    i.number i.waits (Serves (plain.Write c.in-Write.block c.in-Write.buffer))
+    (i.of_event ∙ ap (λ w. Some (task i.number i.waits (duty_in g.D.BlockDevice.told w))) c.in-Write.is)
+    refl refl refl c.put-in-Write.ensures x
+
+pub returns-in-Attach-clause-course : goal.returns-in-Attach-clause-course
+returns-in-Attach-clause-course g c = λ numbers geometry snapshot before x.
+    let i = c.args.item in
+    let part : Part _ = record { slot = c.in-Attach.slot; generation = c.in-Attach.generation; device = c.in-Attach.device } in
+    handed-on g.D.BlockDevice.told g.L.Events.shape g.L.Events.events geometry i.shard snapshot before numbers c.args.self.now c.hand_in.new.self
+    i.number i.waits part
+    (i.of_event ∙ ap (λ w. Some (task i.number i.waits (duty_in g.D.BlockDevice.told w))) c.in-Attach.is)
+    c.hand_in.ensures x
+
+pub returns-in-Check-clause-course : goal.returns-in-Check-clause-course
+returns-in-Check-clause-course g c = λ numbers geometry snapshot before x.
+    let i = c.args.item in
+    put-on g.D.BlockDevice.told g.L.Events.shape g.L.Events.events geometry i.shard snapshot before numbers c.args.self.now c.put-in-Check.new.self _
+    i.number i.waits Checks
+    (i.of_event ∙ ap (λ w. Some (task i.number i.waits (duty_in g.D.BlockDevice.told w))) c.in-Check.is)
+    refl refl refl c.put-in-Check.ensures x
+
+pub returns-in-Repair-clause-course : goal.returns-in-Repair-clause-course
+returns-in-Repair-clause-course g c = λ numbers geometry snapshot before x.
+    let i = c.args.item in
+    put-on g.D.BlockDevice.told g.L.Events.shape g.L.Events.events geometry i.shard snapshot before numbers c.args.self.now c.put-in-Repair.new.self _
+    i.number i.waits Repairs
+    (i.of_event ∙ ap (λ w. Some (task i.number i.waits (duty_in g.D.BlockDevice.told w))) c.in-Repair.is)
+    refl refl refl c.put-in-Repair.ensures x

@@ -1,0 +1,162 @@
+-- What a shard's thread has done of what it took from its list.
+use Rattle.std.specs.Prelude.{◌≡◌, ◌≢◌, ℕ, ◌⊎◌, List, [], ◌∷◌, ◌++◌, map, if◌then◌else◌, Bool, true, false, Option, Some, None}
+use Rattle.r6_dev.specs.History.{Telling}
+use Rattle.r6_layout.specs.Shape.{Shape}
+use Rattle.r6_world.specs.PlainArray as world
+use Rattle.r6_world.specs.Registers.{Snapshot}
+use Rattle.r6_world.specs.Tables.{put_in}
+use Rattle.r6_core.specs.declared.refusal.Refusal.{Refusal}
+use Rattle.r6_lists.specs.Events.{Event}
+use Rattle.r6_shard.specs.declared.ledger.Asked.{Asked}
+use Rattle.r6_frames.specs.declared.op.Op.{Op}
+use Rattle.r6_core.specs.declared.turn.Task.{Task as Pass}
+use Rattle.r6_shard.specs.declared.parts.Part.{Part}
+use Rattle.r6_shard.specs.declared.parts.Parts.{Parts}
+use Rattle.r6_shard.specs.declared.shard.Shard.{Shard}
+use Rattle.r6_shard.specs.Shards as shards
+use Rattle.r6_shard.specs.Shards.{ComesFrom, Submits, Rests}
+use Rattle.r6_shard.specs.Handing.{HandsIn, parts_tell}
+use Rattle.r6_runner.specs.declared.due.Due.{Due}
+use Rattle.r6_runner.specs.declared.pass.Passing.{Passing}
+use Rattle.r6_runner.specs.declared.pass.Passed.{Passed}
+use Rattle.r6_runner.specs.declared.runner.Handed.{Handed}
+use Rattle.r6_runner.specs.declared.runner.Runner.{Runner}
+use Rattle.r6_runner.specs.Tasks.{NewPart, count_of, requests_in, passes_in, parts_in, due_requests, due_passes, under_way, passed_of, slot_of, handed_of}
+
+-- each request was accepted, in their order, with its event and what it asks, or its event stands among the refused
+abbrev pub AreServed : List (ℕ × world.Op) → List Asked → List world.Op → List (ℕ × Refusal) → Type 0
+AreServed [] asked ops refused = (asked ≡ []) × (ops ≡ []) × (refused ≡ [])
+AreServed (request ∷ requests) asked ops refused =
+    ((first : Asked) × (others : List Asked) × (other_ops : List world.Op)
+    × (asked ≡ first ∷ others) × (first.event ≡ request.0) × (ops ≡ request.1 ∷ other_ops)
+    × AreServed requests others other_ops refused)
+    ⊎ ((refusal : Refusal) × (others : List (ℕ × Refusal)) × (refused ≡ (request.0, refusal) ∷ others)
+    × AreServed requests asked ops others)
+
+-- what the parts tell of which devices the shard was given, once these were handed in: of two for one slot and generation
+-- the later counts
+abbrev pub taken_up : (before : ℕ → ℕ → Option Telling) → List NewPart → List Handed → ℕ → ℕ → Option Telling
+taken_up before [] handed = before
+taken_up before (p ∷ parts) [] = before
+taken_up before (p ∷ parts) (h ∷ handed) =
+    taken_up (if h.taken then put_in before p.slot h.generation (Some p.telling) else before) parts handed
+
+-- each of these parts tells what its device holds, as parts on files do not
+abbrev pub AllTell : (before : ℕ → ℕ → Option Telling) → List NewPart → Type 0
+AllTell before [] = (slot generation : ℕ) → before slot generation ≢ Some None
+AllTell before (p ∷ parts) = (p.telling ≢ None) × AllTell before parts
+
+-- What was done of the events of these numbers, which were taken from the list of the shard
+pub record IsDone {D : Type 0} (told : D → Telling) (shape : Shape) (events : List Event) (geometry : Shape) (number : ℕ)
+    (snapshot : Snapshot) (before : ℕ → ℕ → Option Telling) (numbers : List ℕ) (shard : Shard (Parts D))
+    (refused : List (ℕ × Refusal)) (passing : Option Passing) (passed : List Passed) (handed : List Handed)
+    (due : List Due) : Type 0 where
+  pub begun : List (ℕ × world.Op)
+  pub ops : List world.Op
+  pub requests : requests_in shape number events numbers ≡ begun ++ due_requests due
+  pub served : AreServed begun shard.asked.items ops refused
+  pub passes : passes_in shape number events numbers
+      ≡ map passed_of passed ++ (under_way passing ++ due_passes due)
+  pub parts : map slot_of (parts_in shape number events numbers) ≡ map handed_of handed
+  pub comes : AllTell before (parts_in shape number events numbers)
+      → ComesFrom (parts_tell told) geometry number snapshot
+      (taken_up before (parts_in shape number events numbers) handed) ops shard
+
+abbrev pub HasDone : {D : Type 0} → (D → Telling) → Shape → List Event → (geometry : Shape) → (number : ℕ) → Snapshot
+    → (before : ℕ → ℕ → Option Telling) → (numbers : List ℕ) → Runner D → Type 0
+HasDone told shape events geometry number snapshot before numbers runner =
+    IsDone told shape events geometry number snapshot before numbers runner.shard runner.refused.items runner.passing
+    runner.passed.items runner.handed.items runner.due.items
+
+-- whatever was done before, it was gone on with, and now these numbers were taken
+abbrev pub GoesOn : {D : Type 0} → (D → Telling) → Shape → List Event → (number : ℕ) → (earlier now : List ℕ) → (old new : Runner D) → Type 0
+GoesOn told shape events number earlier now old new =
+    (geometry : Shape) (snapshot : Snapshot) (before : ℕ → ℕ → Option Telling)
+    → HasDone told shape events geometry number snapshot before earlier old
+    → HasDone told shape events geometry number snapshot before now new
+
+abbrev pub GoesOnSame : {D : Type 0} → (D → Telling) → (old new : Runner D) → Type 0
+GoesOnSame told old new =
+    (shape : Shape) (events : List Event) (number : ℕ) (numbers : List ℕ) → GoesOn told shape events number numbers numbers old new
+
+-- how many tasks were taken
+abbrev pub taken_by : {D : Type 0} → Runner D → ℕ
+taken_by runner =
+    count_of runner.refused.items runner.shard.asked.items runner.passing runner.passed.items runner.handed.items runner.due.items
+
+-- ---- what calls do
+
+pub record KeepsSelf {D : Type 0} (old new : Runner D) : Type 0 where
+  pub pass : new.shard.pass ≡ old.shard.pass
+  pub room : new.room ≡ old.room
+
+-- one task more is due, and nothing else changes
+pub record IsPut {D : Type 0} (due : Due) (old new : Runner D) : Type 0 where
+  pub due_is : new.due.items ≡ old.due.items ++ due ∷ []
+  pub shard : new.shard ≡ old.shard
+  pub refused : new.refused.items ≡ old.refused.items
+  pub passing : new.passing ≡ old.passing
+  pub passed : new.passed.items ≡ old.passed.items
+  pub handed : new.handed.items ≡ old.handed.items
+  pub room : new.room ≡ old.room
+
+abbrev pub IsPartTaken : {D : Type 0} → (taken : Bool) → (D → Telling) → Part D → (old new : Shard (Parts D)) → Type 0
+IsPartTaken {D = D} true told part old new = (earlier : Option (Part D)) × HandsIn told part earlier old new
+IsPartTaken {D = D} false told part old new = new ≡ old
+
+-- a part came by the list, and nothing else changes
+pub record IsHandedIn {D : Type 0} (told : D → Telling) (event : ℕ) (part : Part D) (old new : Runner D) : Type 0 where
+  pub taken : Bool
+  pub handed : new.handed.items
+      ≡ old.handed.items ++ record { event = event; slot = part.slot; generation = part.generation; taken = taken } ∷ []
+  pub shard : IsPartTaken taken told part old.shard new.shard
+  pub due : new.due.items ≡ old.due.items
+  pub refused : new.refused.items ≡ old.refused.items
+  pub passing : new.passing ≡ old.passing
+  pub passed : new.passed.items ≡ old.passed.items
+  pub room : new.room ≡ old.room
+
+-- what is neither the shard's nor of its requests stays as it is
+pub record KeepsTasks {D : Type 0} (old new : Runner D) : Type 0 where
+  pub due : new.due.items ≡ old.due.items
+  pub passing : new.passing ≡ old.passing
+  pub passed : new.passed.items ≡ old.passed.items
+  pub handed : new.handed.items ≡ old.handed.items
+  pub room : new.room ≡ old.room
+
+-- a request was handed in: it was accepted, or it stands among the refused
+abbrev pub IsOutcome : {D : Type 0} → (D → Telling) → (event : ℕ) → Op → (shard shard' : Shard (Parts D))
+    → (refused refused' : List (ℕ × Refusal)) → Type 0
+IsOutcome told event op shard shard' refused refused' =
+    ((id : ℕ) × Submits (parts_tell told) event op shard id shard' × (refused' ≡ refused))
+    ⊎ ((refusal : Refusal) × (shard' ≡ shard) × (refused' ≡ refused ++ (event, refusal) ∷ []))
+
+pub record IsServed {D : Type 0} (told : D → Telling) (event : ℕ) (op : Op) (old new : Runner D) : Type 0 where
+  pub kept : KeepsTasks old new
+  pub outcome : IsOutcome told event op old.shard new.shard old.refused.items new.refused.items
+
+-- a check or repair began
+pub record IsPassing {D : Type 0} (event : ℕ) (task : Pass) (old new : Runner D) : Type 0 where
+  pub passing : Passing
+  pub under_way : new.passing ≡ Some passing
+  pub event_is : passing.event ≡ event
+  pub task_is : passing.task ≡ task
+  pub shard : new.shard ≡ old.shard
+  pub refused : new.refused.items ≡ old.refused.items
+  pub due : new.due.items ≡ old.due.items
+  pub passed : new.passed.items ≡ old.passed.items
+  pub handed : new.handed.items ≡ old.handed.items
+  pub room : new.room ≡ old.room
+
+-- the shard went on by itself
+pub record ShardGoesOn {D : Type 0} (told : D → Telling) (old new : Runner D) : Type 0 where
+  pub course : shards.GoesOn (parts_tell told) old.shard new.shard
+  pub asked : new.shard.asked.items ≡ old.shard.asked.items
+  pub refused : new.refused.items ≡ old.refused.items
+  pub kept : KeepsTasks old new
+
+-- nothing is left to do of what was taken
+pub record IsOver {D : Type 0} (runner : Runner D) : Type 0 where
+  pub none_due : runner.due.items ≡ []
+  pub no_pass : runner.passing ≡ None
+  pub rests : Rests runner.shard

@@ -1,0 +1,93 @@
+//! What is due is begun.
+
+ghost use Rattle.std.specs.Prelude.{◌≡◌, ◌<◌, true, None};
+ghost use Rattle.r6_runner.specs.Runners.{GoesOnSame, IsServed, IsPassing, KeepsSelf, taken_by};
+
+use crate::due::{Due, Duty};
+use crate::pass::Passing;
+use crate::runner::Runner;
+use r6_core::{Op, Task};
+use r6_dev::BlockDevice;
+use std::sync::Wait;
+
+// As many requests may be open at one time.
+const MOST_OPEN: usize = 256;
+
+impl<D: BlockDevice + Drop> Runner<D> {
+    // A request is handed in.
+    fn hand_over(&mut self, event: u64, op: Op)
+        requires { taken_by self.old < self.old.room }
+        ensures { IsServed D.told event op self.old self.new }
+    {
+        if let Err(refused) = self.shard.submit(event, op) {
+            self.refused.push_reserved((event, refused.refusal));
+        }
+    }
+
+    // Every row is to be passed over.
+    fn begin_pass(&mut self, event: u64, task: Task)
+        requires room { taken_by self.old < self.old.room }
+        requires none { self.old.passing ≡ None }
+        ensures { IsPassing event task self.old self.new }
+    {
+        self.passing = Some(Passing {
+            event,
+            task,
+            left: self.rows,
+            before: self.shard.core.counts(),
+        });
+    }
+
+    // Whether what is due next may begin: a request once all that came before a wait before it are answered, a check or
+    // repair once all are; and nothing while every row is passed over.
+    fn may_begin(&self) -> bool
+        ensures { result ≡ true → self.now.passing ≡ None }
+    {
+        let Some(due) = self.due.front() else {
+            return false;
+        };
+        if self.passing.is_some() {
+            return false;
+        }
+        let open = self.shard.asked.len() - self.shard.entries.len();
+        match due.duty {
+            Duty::Serve(_) => open == 0 || (due.waits == self.waits && open < MOST_OPEN),
+            Duty::Check | Duty::Repair => open == 0,
+        }
+    }
+
+    // Begins what is due next, if it may begin; whether it did.
+    fn begin_next(&mut self) -> bool
+        ensures course { GoesOnSame D.told self.old self.new }
+        ensures same { KeepsSelf self.old self.new }
+        ensures count { taken_by self.new ≡ taken_by self.old }
+    {
+        if !self.may_begin() {
+            return false;
+        }
+        let Some(due) = self.due.pop_front() else {
+            return false;
+        };
+        let Due { event, waits, duty } = due;
+        self.waits = waits;
+        match duty {
+            Duty::Serve(op) => self.hand_over(event, op),
+            Duty::Check => self.begin_pass(event, Task::Check),
+            Duty::Repair => self.begin_pass(event, Task::Repair),
+        }
+        true
+    }
+
+    // Begins all that may begin.
+    pub(crate) fn begin_all<R: Wait>(&mut self, rt: &R)
+        ensures course { GoesOnSame D.told self.old self.new }
+        ensures same { KeepsSelf self.old self.new }
+        ensures count { taken_by self.new ≡ taken_by self.old }
+    {
+        for _ in rt.forever() {
+            if !self.begin_next() {
+                break;
+            }
+        }
+    }
+}

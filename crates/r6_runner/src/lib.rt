@@ -1,0 +1,16 @@
+//! A shard whose thread takes what the events of a run ask of it from a list.
+#![tactic(auto)]
+
+mod beginning;
+mod due;
+mod making;
+mod pass;
+mod passing;
+mod run;
+mod runner;
+mod taking;
+
+pub use due::{Due, Duty};
+pub use pass::{Passed, Passing};
+pub use run::Taking;
+pub use runner::{Handed, Runner};

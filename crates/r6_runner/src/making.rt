@@ -1,0 +1,61 @@
+//! How a shard begins that takes from a list.
+
+ghost use Rattle.std.specs.Prelude.{◌≡◌, ◌<◌, ◌≤◌, [], false, IfOk};
+ghost use Rattle.r6_layout.specs.Shape.{IsShape};
+ghost use Rattle.r6_health.specs.Passes.{view_of};
+ghost use Rattle.r6_shard.specs.Beginnings.{IsFirstPass};
+ghost use Rattle.r6_shard.specs.Handing.{parts_tell};
+ghost use Rattle.r6_runner.specs.Runners.{HasDone, taken_by};
+
+use crate::runner::Runner;
+use r6_dev::BlockDevice;
+use r6_health::{Pass, Snapshot};
+use r6_shard::{Parts, Place, Shard};
+use std::alloc::{AllocError, Global};
+use std::collections::VecDeque;
+
+impl<D: BlockDevice + Drop> Runner<D> {
+    /// A shard of the array as it begins, with room for so many tasks.
+    ///
+    /// # Errors
+    /// `AllocError` where there is no memory for all room.
+    pub fn new(
+        alloc: Global,
+        place: Place,
+        snapshot: &Snapshot,
+        pass: Pass,
+        parts: Parts<D>,
+        room: usize,
+    ) -> Result<Runner<D>, AllocError>
+        requires limits { IsShape place.geometry }
+        requires number { place.number < place.geometry.shards }
+        requires window { (1 ≤ place.window) × (place.window ≤ 8) }
+        requires no_attach { snapshot.now.attaches ≡ 0 }
+        requires unfailed { snapshot.now.failed ≡ false }
+        requires pass { IsFirstPass place.geometry snapshot.now (view_of pass) }
+        ensures begins { IfOk result (λ runner. (shape : _) (events : _)
+            → HasDone D.told shape events place.geometry place.number snapshot.now (parts_tell D.told parts) [] runner) }
+        ensures pass { IfOk result (λ runner. runner.shard.pass ≡ pass) }
+        ensures room { IfOk result (λ runner. (runner.room ≡ room) × (taken_by runner ≡ 0)) }
+    {
+        let rows = place.geometry.shard_rows(place.number);
+        let due = VecDeque::with_capacity(alloc, room)?;
+        let refused = Vec::with_capacity(alloc, room)?;
+        let passed = Vec::with_capacity(alloc, room)?;
+        let handed = Vec::with_capacity(alloc, room)?;
+        let others = Vec::with_capacity(alloc, room)?;
+        let shard = Shard::new(alloc, place, snapshot, pass, parts, room)?;
+        Ok(Runner {
+            shard,
+            due,
+            refused,
+            passing: None,
+            passed,
+            handed,
+            others,
+            waits: 0,
+            rows: rows.end - rows.start,
+            room,
+        })
+    }
+}

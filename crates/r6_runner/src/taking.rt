@@ -1,0 +1,86 @@
+//! What came by the list is taken up.
+
+ghost use Rattle.std.specs.Prelude.{◌≡◌, ◌+◌, ◌<◌, ◌++◌, ◌∷◌, []};
+ghost use Rattle.r6_runner.specs.Runners.{GoesOn, IsPut, IsHandedIn, KeepsSelf, taken_by};
+
+use crate::due::{Due, Duty};
+use crate::runner::{Handed, Runner};
+use r6_core::Op;
+use r6_dev::BlockDevice;
+use r6_lists::{Events, Item, Work};
+use r6_shard::Part;
+
+impl<D: BlockDevice + Drop> Runner<D> {
+    // It is due behind what was taken before.
+    fn put(&mut self, event: u64, waits: u64, duty: Duty)
+        requires { taken_by self.old < self.old.room }
+        ensures { IsPut (record { event = event; waits = waits; duty = duty }) self.old self.new }
+    {
+        self.due.push_back_reserved(Due { event, waits, duty });
+    }
+
+    // The part of a new device is handed in, unless its core has looked at its generation.
+    fn hand_in(&mut self, event: u64, part: Part<D>)
+        requires { taken_by self.old < self.old.room }
+        ensures { IsHandedIn D.told event part self.old self.new }
+    {
+        let slot = part.slot;
+        let generation = part.generation;
+        let taken = match self.shard.hand_in(part) {
+            Ok(Some(earlier)) => {
+                self.others.push_reserved(earlier);
+                true
+            }
+            Ok(None) => true,
+            Err(refused) => {
+                self.others.push_reserved(refused.part);
+                false
+            }
+        };
+        self.handed.push_reserved(Handed {
+            event,
+            slot,
+            generation,
+            taken,
+        });
+    }
+
+    // What came by the list is due, or, the part of a new device, handed in at once.
+    pub(crate) fn take_up<L: Events>(&mut self, item: Item<L, D>)
+        requires { taken_by self.old < self.old.room }
+        ensures course { (numbers : _) → GoesOn D.told L.shape L.events item.shard numbers
+            (numbers ++ item.number ∷ []) self.old self.new }
+        ensures same { KeepsSelf self.old self.new }
+        ensures count { taken_by self.new ≡ taken_by self.old + 1 }
+    {
+        let event = item.number;
+        let waits = item.waits;
+        let work = item.work;
+        match work {
+            Work::Read(block, buffer) => self.put(
+                event,
+                waits,
+                Duty::Serve(Op::Read(block, buffer)),
+            ),
+            Work::Write(block, buffer) => self.put(
+                event,
+                waits,
+                Duty::Serve(Op::Write(block, buffer)),
+            ),
+            Work::Attach {
+                slot,
+                generation,
+                part: device,
+            } => self.hand_in(
+                event,
+                Part {
+                    slot,
+                    generation,
+                    device,
+                },
+            ),
+            Work::Check => self.put(event, waits, Duty::Check),
+            Work::Repair => self.put(event, waits, Duty::Repair),
+        }
+    }
+}

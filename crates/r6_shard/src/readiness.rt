@@ -1,0 +1,57 @@
+//! Looks that wait for the parts of new devices.
+
+use crate::parts::Parts;
+use crate::shard::{MOST_SLOTS, Shard};
+use r6_dev::BlockDevice;
+use r6_health::{Register, SlotState, Snapshot};
+use std::sync::Wait;
+
+impl<D: BlockDevice + Drop> Parts<D> {
+    // Whether the part of each device is here that the snapshot has rebuilding.
+    fn has_all(&self, snapshot: &Snapshot) -> bool {
+        (0..MOST_SLOTS).all(|slot| match snapshot.slot(slot) {
+            SlotState::Rebuilding(generation, _) => self.place_of(slot, generation).is_some(),
+            SlotState::InSync | SlotState::Lost => true,
+        })
+    }
+}
+
+impl<D: BlockDevice + Drop> Shard<Parts<D>> {
+    ghost use Rattle.std.specs.Prelude.{◌≡◌};
+    ghost use Rattle.r6_health.specs.Passes.{IsPassOf};
+    ghost use Rattle.r6_shard.specs.Handing.{parts_tell};
+    ghost use Rattle.r6_shard.specs.Refusing.{Lasts};
+    ghost use Rattle.r6_shard.specs.Shards.{GoesOn, SameLedger};
+
+    // Looks at the register as it is, if the parts of the new devices are here; whether it did.
+    fn look_when_here<R: Wait>(&mut self, rt: &R, register: &Register) -> bool
+        requires { IsPassOf register.now self.old.pass }
+        ensures pass { IsPassOf register.now self.new.pass }
+        ensures course { GoesOn (parts_tell D.told) self.old self.new }
+        ensures lasts { Lasts self.old.core self.new.core }
+        ensures ledger { SameLedger self.old self.new }
+    {
+        let snapshot = self.read(rt, register);
+        let here = self.parts.has_all(&snapshot);
+        if here {
+            self.see(&snapshot);
+        }
+        here
+    }
+
+    /// One round, as [`Shard::round`], but the core looks at the register only if the part of each device is here that
+    /// is rebuilding there: else a command to it would fail.
+    pub fn round_when_here<R: Wait>(&mut self, rt: &R, register: &Register)
+        requires { IsPassOf register.now self.old.pass }
+        ensures pass { IsPassOf register.now self.new.pass }
+        ensures course { GoesOn (parts_tell D.told) self.old self.new }
+        ensures lasts { Lasts self.old.core self.new.core }
+        ensures asked { self.new.asked.items ≡ self.old.asked.items }
+        ensures room { self.new.room ≡ self.old.room }
+    {
+        self.perform_all(rt);
+        self.tell_all(rt, register);
+        self.look_when_here(rt, register);
+        self.collect_all(rt);
+    }
+}
