@@ -6,11 +6,13 @@ mod due;
 mod making;
 mod pass;
 mod passing;
+mod rest;
 mod run;
 mod runner;
 mod taking;
 
 pub use due::{Due, Duty};
 pub use pass::{Passed, Passing};
+pub use rest::Rest;
 pub use run::Taking;
 pub use runner::{Handed, Runner};

@@ -1,11 +1,13 @@
 //! A shard takes what its list has, until all is done.
 
-ghost use Rattle.std.specs.Prelude.{◌≡◌, ◌≤◌, length, true, false};
+ghost use Rattle.std.specs.Prelude.{◌≡◌, ◌≤◌, [], length, true, false};
 ghost use Rattle.r6_health.specs.Passes.{IsPassOf};
 ghost use Rattle.r6_lists.specs.Events.{tasks_of};
 ghost use Rattle.r6_runner.specs.Runners.{GoesOn, GoesOnSame, IsOver, KeepsSelf, taken_by};
 
+use crate::rest::Rest;
 use crate::runner::Runner;
+use r6_core::Task;
 use r6_dev::BlockDevice;
 use r6_health::Register;
 use r6_lists::{Consumer, Events, List};
@@ -48,7 +50,18 @@ impl<D: BlockDevice + Drop> Runner<D> {
         self.shard.round_when_here(rt, register);
     }
 
-    // What may begin begins, what is under way goes on, and the shard makes a round.
+    // Takes up the next row that is to be rebuilt, if there is one.
+    fn rebuild(&mut self)
+        ensures pass { self.new.shard.pass ≡ self.old.shard.pass }
+        ensures course { GoesOnSame D.told self.old self.new }
+        ensures count { taken_by self.new ≡ taken_by self.old }
+        ensures room { self.new.room ≡ self.old.room }
+    {
+        let _ = self.shard.turn(Task::Rebuild);
+    }
+
+    // The shard makes a round, so that it has looked at the register before anything begins; what may begin begins, and
+    // what is under way goes on.
     fn advance<R: Wait>(&mut self, rt: &R, register: &Register)
         requires { IsPassOf register.now self.old.shard.pass }
         ensures pass { IsPassOf register.now self.new.shard.pass }
@@ -56,9 +69,10 @@ impl<D: BlockDevice + Drop> Runner<D> {
         ensures count { taken_by self.new ≡ taken_by self.old }
         ensures room { self.new.room ≡ self.old.room }
     {
+        self.round(rt, register);
         self.begin_all(rt);
         self.go_on();
-        self.round(rt, register);
+        self.rebuild();
     }
 
     // Goes on with what was taken; whether nothing is left to do of it.
@@ -76,6 +90,15 @@ impl<D: BlockDevice + Drop> Runner<D> {
 }
 
 impl<L: Events, D: BlockDevice + Drop> Taking<L, D> {
+    /// A shard that is to take from its list, of which nothing was taken yet.
+    pub fn new(runner: Runner<D>, consumer: Consumer<L>) -> Taking<L, D>
+        requires fresh { (taken_by runner ≡ 0) × (consumer.numbers.items ≡ []) }
+        requires room { length (tasks_of L.shape consumer.shard L.events) ≤ runner.room }
+        ensures { (result.runner ≡ runner) × (result.consumer ≡ consumer) }
+    {
+        Taking { runner, consumer }
+    }
+
     // Takes the oldest item of the list; whether there was one.
     fn take_one<R: Wait>(&mut self, rt: &R, list: &Mutex<List<L, D>>) -> bool
         requires { self.old.consumer.finished ≡ false }
@@ -134,8 +157,15 @@ impl<L: Events, D: BlockDevice + Drop> Taking<L, D> {
     }
 
     // Takes what the list has and goes on with it; whether all is done. Once the list is finished all goes round once
-    // more, so that the register is looked at behind the last event.
-    fn go_on<R: Wait>(&mut self, rt: &R, register: &Register, list: &Mutex<List<L, D>>) -> bool
+    // more, so that the register is looked at behind the last event. What was asked is read before the list, so that
+    // what was put in before it was asked is taken before a rest is found.
+    fn go_on<R: Wait>(
+        &mut self,
+        rt: &R,
+        register: &Register,
+        list: &Mutex<List<L, D>>,
+        rest: &Rest,
+    ) -> bool
         requires { IsPassOf register.now self.old.runner.shard.pass }
         ensures pass { IsPassOf register.now self.new.runner.shard.pass }
         ensures course { GoesOn D.told L.shape L.events self.old.consumer.shard self.old.consumer.numbers.items
@@ -143,15 +173,24 @@ impl<L: Events, D: BlockDevice + Drop> Taking<L, D> {
         ensures shard { self.new.consumer.shard ≡ self.old.consumer.shard }
         ensures over { result ≡ true → IsOver self.new.runner × (self.new.consumer.finished ≡ true) }
     {
+        let asked = rest.asked();
         self.take_in(rt, list);
         if !self.runner.go_round(rt, register) {
             return false;
         }
+        rest.found(asked);
         self.is_finished(rt, list)
     }
 
-    /// Takes what the list has, as it comes, and does it, until the list was ended and all is done.
-    pub fn run<R: Wait>(&mut self, rt: &R, register: &Register, list: &Mutex<List<L, D>>)
+    /// Takes what the list has, as it comes, and does it, until the list was ended and all is done. Whenever nothing is
+    /// left to do of what was taken, `rest` is told so.
+    pub fn run<R: Wait>(
+        &mut self,
+        rt: &R,
+        register: &Register,
+        list: &Mutex<List<L, D>>,
+        rest: &Rest,
+    )
         requires { IsPassOf register.now self.old.runner.shard.pass }
         ensures pass { IsPassOf register.now self.new.runner.shard.pass }
         ensures course { GoesOn D.told L.shape L.events self.old.consumer.shard self.old.consumer.numbers.items
@@ -161,7 +200,7 @@ impl<L: Events, D: BlockDevice + Drop> Taking<L, D> {
         ensures over { IsOver self.new.runner }
     {
         for _ in rt.forever() {
-            if self.go_on(rt, register, list) {
+            if self.go_on(rt, register, list, rest) {
                 return;
             }
             thread::yield_now();
