@@ -14,7 +14,7 @@ use Rattle.r6_world.proofs.Witness.Pieces.{View, Stands, Reaches, run-append, go
 use Rattle.r6_world.proofs.Witness.SmallShards.{register_with, all_in_sync, but_one-same}
 use Rattle.r6_world.proofs.Witness.Written.{made, when_made, when_released, wrote}
 use Rattle.r6_world.proofs.Witness.Lost.{when_lost, when_restored, loses, restores}
-use Rattle.r6_world.proofs.Witness.Erred.{when_erred, when_recovered, erred, recovers}
+use Rattle.r6_world.proofs.Witness.Erred.{when_erred, when_recovered, erred, recovers, when_reading, reads_directly}
 use Rattle.r6_world.proofs.Witness.Failed.{two_out, two_fail, last_moments, fails}
 use Rattle.r6_world.proofs.Witness.Checked.{when_checked, checks}
 use Rattle.r6_world.proofs.Witness.Rebuilt.{when_attached, when_rebuilt, at_last, attaches, rebuilds, reads_again}
@@ -158,25 +158,35 @@ module _ (array : Array) (wide : length (array 0) ≡ 16) (other-wide : length (
   abbrev begin : World
   begin = started small (register_with InSync 0) (device array)
 
-  both : (x1 x2 : List Moment) → RunsInTurn small begin (x1 ++ x2) → (after_all small begin x1).broken 0 1 0 ≡ true
-      → Stands (after_all small begin x1) (when_erred array) → Stands (after_all small begin (x1 ++ x2)) (when_recovered array) → ErrorFrom begin (array 0)
-  both x1 x2 run broken at1 at2 = record {
-    error = x1;
-    read = x2;
+  all_parts : (x1 x2 x3 : List Moment) → RunsInTurn small begin (x1 ++ x2 ++ x3) → Stands (after_all small begin x1) (when_reading array)
+      → (after_all small begin (x1 ++ x2)).broken 0 1 0 ≡ true
+      → Stands (after_all small begin (x1 ++ x2)) (when_erred array) → Stands (after_all small begin (x1 ++ x2 ++ x3)) (when_recovered array)
+      → ErrorFrom begin (array 0)
+  all_parts x1 x2 x3 run at1 broken at2 at3 = record {
+    direct = x1;
+    error = x2;
+    read = x3;
     is_run = run;
+    is_direct = ap (λ s. s.request 0) at1.shard_is;
     is_broken = broken;
-    is_missing = ap (λ s. s.slot 1) at1.shard_is;
-    is_lost = (ap (λ r. status_of r 1) at2.register_is, ap (λ s. s.slot 1) at2.shard_is);
-    is_read = answered (after_all small begin (x1 ++ x2)) (when_recovered array) 0 (Read 0) (Data (array 0)) at2 refl;
+    is_missing = ap (λ s. s.slot 1) at2.shard_is;
+    is_lost = (ap (λ r. status_of r 1) at3.register_is, ap (λ s. s.slot 1) at3.shard_is);
+    is_read = answered (after_all small begin (x1 ++ x2 ++ x3)) (when_recovered array) 0 (Read 0) (Data (array 0)) at3 refl;
   }
 
-  first_part : (x1 : List Moment) → RunsInTurn small begin x1 → (after_all small begin x1).broken 0 1 0 ≡ true → Stands (after_all small begin x1) (when_erred array) → ErrorFrom begin (array 0)
-  first_part x1 run broken at1 =
-      let part = more begin x1 (λ w. Stands w (when_recovered array)) run (recovers array wide other-wide (after_all small begin x1) at1) in
-      both x1 part.0 part.1 broken at1 part.2
+  two_parts : (x1 x2 : List Moment) → RunsInTurn small begin (x1 ++ x2) → Stands (after_all small begin x1) (when_reading array)
+      → (after_all small begin (x1 ++ x2)).broken 0 1 0 ≡ true → Stands (after_all small begin (x1 ++ x2)) (when_erred array) → ErrorFrom begin (array 0)
+  two_parts x1 x2 run at1 broken at2 =
+      let part = more begin (x1 ++ x2) (λ w. Stands w (when_recovered array)) run (recovers array wide other-wide (after_all small begin (x1 ++ x2)) at2) in
+      all_parts x1 x2 part.0 part.1 at1 broken at2 part.2
+
+  one_part : (x1 : List Moment) → RunsInTurn small begin x1 → Stands (after_all small begin x1) (when_reading array) → ErrorFrom begin (array 0)
+  one_part x1 run at1 =
+      let part = more begin x1 (λ w. Stands w (when_erred array) × (w.broken 0 1 0 ≡ true)) run (erred array (after_all small begin x1) at1) in
+      two_parts x1 part.0 part.1 at1 part.2.1 part.2.0
 
   error_course : ErrorFrom begin (array 0)
-  error_course = let part = erred array begin (stands array) in first_part part.0 part.1 part.2.1 part.2.0
+  error_course = let part = reads_directly array begin (stands array) in one_part part.0 part.1 part.2
 
 -- ---- the course with a failure
 

@@ -1,41 +1,34 @@
--- A device answers a read by an error. The hold goes on with the other devices, and the shard declares the slot lost.
+-- A device answers a direct read by an error. A hold reads the other devices for it, and the shard declares the slot lost.
 use Rattle.std.proofs.Common.{◌≡◌, ℕ, [], ◌∷◌, length, true, false, refl, sym, Option, Some, None, Ok}
 use Rattle.std.proofs.lemmas.Bool.{ne_eqb}
 use Rattle.r6_stripe.specs.Holds.{IsQuiet, MayRestore, MayEnd}
 use Rattle.r6_stripe.specs.Holds.Outcome.{Data as Gave}
-use Rattle.r6_stripe.specs.Holds.Kind.{Read as Reading, Repair}
+use Rattle.r6_stripe.specs.Holds.Kind.{Read as Reads, Repair}
 use Rattle.r6_stripe.specs.Holds.Writing.{Unwritten}
-use Rattle.r6_stripe.specs.Plans.{plan_after}
-use Rattle.r6_stripe.specs.Holds.Event.{Asks, Gives, Loses, Restores}
+use Rattle.r6_stripe.specs.Holds.Event.{Asks, Gives, Restores}
 use Rattle.r6_world.specs.Tables.{put}
 use Rattle.r6_world.specs.PlainArray.{Block, Array, Read, Data}
 use Rattle.r6_world.specs.Registers.{Lost, Degraded}
 use Rattle.r6_world.specs.Tasks.{ReadFor, Hold, Answered}
-use Rattle.r6_world.specs.ShardStates.{Held, Finished, Released, Command, Shard, Synced, Missing, LossOf, begun}
-use Rattle.r6_world.specs.Changes.{Accept, Start, Ask, Prepare, Learn, Lose, Finish, Release, Hand_call, after}
+use Rattle.r6_world.specs.ShardStates.{Held, Finished, Released, Command, Shard, Synced, Missing, LossOf, begun, Reading}
+use Rattle.r6_world.specs.Changes.{Accept, Start, Ask, Prepare, Learn, Lose, Finish, Release, Hand_call, after, Read_direct}
 use Rattle.r6_world.specs.Steps.{Submit, Deliver, Good, Error, Taken, Look, Step}
 use Rattle.r6_world.specs.Worlds.{World}
 use Rattle.r6_world.specs.Witness.{small}
 use Rattle.r6_world.proofs.Tables.{not_both}
-use Rattle.r6_world.proofs.Witness.Pieces.{View, Stands, Reaches, leads, quiet, core, reads, tells, fetch, handed_out}
+use Rattle.r6_world.proofs.Witness.Pieces.{View, Stands, Reaches, leads, quiet, core, reads, tells, fetch, handed_out, fetch_in}
 use Rattle.r6_world.proofs.Witness.SmallRows.{p, restored_is}
-use Rattle.r6_world.proofs.Witness.SmallShards.{no_hold, no_command, but_one, but_one-put, asked, held, on, state, register_with, seen_slots, none_built, entry_is, none_is, put-gone, one_waits_not, held_not, finished_not, released_not, held_rests, free_rests, each, read_held, unread_not_asked, known_not_asked, unwritten_not_sent, n0<1, n0<2, n1<4, n2<4, n3<4, n0<64, n0≤2, n1≤2}
+use Rattle.r6_world.proofs.Witness.SmallShards.{no_hold, no_command, but_one, but_one-put, asked, held, on, state, register_with, seen_slots, none_built, entry_is, none_is, put-gone, one_waits_not, held_not, finished_not, released_not, held_rests, free_rests, each, read_held, unread_not_asked, known_not_asked, unwritten_not_sent, n0<1, n0<2, n1<4, n2<4, n3<4, n0<64, n0≤2, n1≤2, reading_not, n64<128, n64≤64}
 use Rattle.r6_world.proofs.Witness.Pieces.{errs}
 use Rattle.r6_world.proofs.Witness.Written.{fetched, made, when_made}
 
 -- ---- the hold
 
 abbrev begun_hold : Hold
-begun_hold = begun small (but_one (Synced 0)) 0 (ReadFor 0 0)
-
-abbrev own_asked : Hold
-own_asked = on begun_hold (Asks 0)
-
-abbrev own_lost : Hold
-own_lost = record (on own_asked (Loses 0)) { plan = plan_after own_asked.plan own_asked.course (Loses 0) }
+begun_hold = begun small (but_one Missing) 0 (ReadFor 0 0)
 
 abbrev other_asked : Hold
-other_asked = on own_lost (Asks 1)
+other_asked = on begun_hold (Asks 1)
 
 abbrev both_asked : Hold
 both_asked = on other_asked (Asks 2)
@@ -58,7 +51,7 @@ abbrev both_left : ℕ → Option Command
 both_left = put other_left 2 (Some (fetch 3 0))
 
 abbrev pub read_out : Shard
-read_out = state 1 (asked 0 (Read 0) (Held 0)) (held own_asked) 1 (put no_command 0 (Some (fetch 1 0))) (but_one (Synced 0)) [] 0
+read_out = state 1 (asked 0 (Read 0) (Reading 0)) no_hold 1 (put no_command 0 (Some (fetch_in 64 1 0))) (but_one (Synced 0)) [] 0
 
 abbrev both_reads_out : Shard
 both_reads_out = state 1 (asked 0 (Read 0) (Held 0)) (held both_asked) 3 both_left (but_one Missing) (LossOf 1 0 ∷ []) 0
@@ -78,12 +71,11 @@ read_released b = state 1 (asked 0 (Read 0) (Released (Data b))) no_hold 3 no_co
 -- ---- the read is submitted
 
 abbrev after_submit : Shard
-after_submit = after small (after small (after small made (Accept (Read 0))) (Start 0 0 (ReadFor 0 0))) (Ask 0 begun_hold 1 0)
+after_submit = after small (after small made (Accept (Read 0))) (Read_direct 64 0 0 0)
 
 submitted : read_out ≡ after_submit
 submitted = λ i. record read_out {
-  request = λ id. entry_is after_submit.request 0 (Some (record { op = Read 0; stage = Held 0 })) refl (λ at ne. rw (ne_eqb at 0 ne) refl) id i;
-  frame = λ f. entry_is after_submit.frame 0 (Some own_asked) refl (λ at ne. rw (ne_eqb at 0 ne) refl) f i;
+  request = λ id. entry_is after_submit.request 0 (Some (record { op = Read 0; stage = Reading 0 })) refl (λ at ne. rw (ne_eqb at 0 ne) refl) id i;
 }
 
 pub submits : Step small 0 made (Submit (Read 0) 0) read_out
@@ -91,34 +83,23 @@ submits = (
   refl,
   (n0<2, record {}, refl, refl),
   (
-    Start 0 0 (ReadFor 0 0) ∷ Ask 0 begun_hold 1 0 ∷ [],
+    Read_direct 64 0 0 0 ∷ [],
     (
       record {},
-      (
-        (n0<64, refl, (λ t c e own. not_both {A = Command} None c refl e)),
-        (λ f h e own. not_both {A = Hold} None h refl e),
-        (n0<1, refl),
-        (n0≤2, refl),
-        (refl, refl),
-        n2<4,
-      ),
-      (
-        record {},
-        (refl, n1<4, refl, (n0≤2, refl), record { held = read_held 0; in_sync = refl; unread = refl; before_writes = each (λ c. c.writing ≡ Unwritten) begun_hold refl refl refl refl refl }, refl),
-        submitted,
-      ),
+      ((n64≤64, n64<128, (λ t c e own. not_both {A = Command} None c refl e)), refl, (n0<1, refl), n1<4, refl, (n0≤2, refl)),
+      submitted,
     ),
   ),
-  held_rests read_out own_asked refl refl 0 (fetch 1 0) refl refl refl (one_waits_not 0 (Read 0) (Held 0) (held_not 0)) (none_built (Synced 0) (λ x. x)),
+  free_rests read_out (λ f. refl) (one_waits_not 0 (Read 0) (Reading 0) (reading_not 0)) (none_built (Synced 0) (λ x. x)),
 )
 
--- ---- the error, and the other blocks are asked for
+-- ---- the error: the read waits again, starts as a hold, and the other blocks are asked for
 
 abbrev lost_now : Shard
-lost_now = after small (handed_out read_out 0 (fetch 1 0)) (Lose 0 (fetched 1 0))
+lost_now = after small (handed_out read_out 0 (fetch_in 64 1 0)) (Lose 0 (record (fetch_in 64 1 0) { taken = true }))
 
 abbrev after_loss : Shard
-after_loss = after small (after small lost_now (Ask 0 own_lost 2 0)) (Ask 0 other_asked 3 0)
+after_loss = after small (after small (after small lost_now (Start 0 0 (ReadFor 0 0))) (Ask 0 begun_hold 2 0)) (Ask 0 other_asked 3 0)
 
 no_command_left : (t : ℕ) → None ≡ lost_now.command t
 no_command_left t = none_is lost_now.command 0 refl (λ at ne. rw (ne_eqb at 0 ne) refl) t
@@ -131,25 +112,36 @@ lost = λ i. record both_reads_out {
   slot = λ d. but_one-put (Synced 0) Missing d i;
 }
 
-loses : Step small 0 (handed_out read_out 0 (fetch 1 0)) (Deliver 0 Error Taken) both_reads_out
+loses : Step small 0 (handed_out read_out 0 (fetch_in 64 1 0)) (Deliver 0 Error Taken) both_reads_out
 loses = (
-  Lose 0 (fetched 1 0),
+  Lose 0 (record (fetch_in 64 1 0) { taken = true }),
   (refl, refl),
   (refl, refl),
-  both_reads_out,
+  lost_now,
+  ([], refl),
   (
-    Ask 0 own_lost 2 0 ∷ Ask 0 other_asked 3 0 ∷ [],
+    Start 0 0 (ReadFor 0 0) ∷ Ask 0 begun_hold 2 0 ∷ Ask 0 other_asked 3 0 ∷ [],
     (
       record {},
-      (refl, n2<4, refl, (n1≤2, refl), record { held = read_held 0; in_sync = refl; unread = refl; before_writes = each (λ c. c.writing ≡ Unwritten) own_lost refl refl refl refl refl }, refl),
+      (
+        (n0<64, refl, (λ t c e own. not_both {A = Command} (lost_now.command t) c (sym (no_command_left t)) e)),
+        (λ f h e own. not_both {A = Hold} None h refl e),
+        (n0<1, refl),
+        (n1≤2, refl),
+        (refl, refl),
+        n2<4,
+      ),
       (
         record {},
-        (refl, n3<4, refl, (n1≤2, refl), record { held = read_held 0; in_sync = refl; unread = refl; before_writes = each (λ c. c.writing ≡ Unwritten) other_asked refl refl refl refl refl }, refl),
-        lost,
+        (refl, n2<4, refl, (n1≤2, refl), record { held = read_held 0; in_sync = refl; unread = refl; before_writes = each (λ c. c.writing ≡ Unwritten) begun_hold refl refl refl refl refl }, refl),
+        (
+          record {},
+          (refl, n3<4, refl, (n1≤2, refl), record { held = read_held 0; in_sync = refl; unread = refl; before_writes = each (λ c. c.writing ≡ Unwritten) other_asked refl refl refl refl refl }, refl),
+          lost,
+        ),
       ),
     ),
   ),
-  ([], refl),
   held_rests both_reads_out both_asked refl refl 1 (fetch 2 0) refl refl refl (one_waits_not 0 (Read 0) (Held 0) (held_not 0)) (none_built Missing (λ x. x)),
 )
 
@@ -175,7 +167,7 @@ learns_p b other = (
   held_rests (one_read_out b other) (p_known b other) refl refl 1 (fetch 2 0) refl refl refl (one_waits_not 0 (Read 0) (Held 0) (held_not 0)) (none_built Missing (λ x. x)),
 )
 
-no_repair : Reading 0 ≡ Repair → ⊥
+no_repair : Reads 0 ≡ Repair → ⊥
 no_repair e = cc
 
 may_restore : (b other : Block) → length b ≡ 16 → length other ≡ 16 → MayRestore (both_known b other).course 0 b
@@ -246,7 +238,7 @@ looks b = (
 
 -- ---- all together
 
-abbrev when_reading : Array → View
+abbrev pub when_reading : Array → View
 when_reading array = record (when_made array) { shard = read_out; settled = false }
 
 abbrev pub when_erred : Array → View
@@ -264,11 +256,12 @@ when_told array = record (when_made array) { shard = loss_told (array 0); regist
 abbrev pub when_recovered : Array → View
 when_recovered array = record (when_made array) { shard = read_released (array 0); register = register_with Lost 0; used = 1 ∷ 2 ∷ [] }
 
-pub erred : (array : Array) (w : World) → Stands w (when_made array) → Reaches small w (λ later. Stands later (when_erred array) × (later.broken 0 1 0 ≡ true))
-erred array w at =
-    leads w (when_reading array) (λ later. Stands later (when_erred array) × (later.broken 0 1 0 ≡ true))
-    (core w (when_made array) at (Submit (Read 0) 0) read_out n0≤2 (quiet w (when_made array) at (λ t. refl) refl refl refl) (record {}) submits)
-    (λ x1 at1. errs x1 (when_reading array) at1 0 1 0 both_reads_out refl n1≤2 loses)
+pub reads_directly : (array : Array) (w : World) → Stands w (when_made array) → Reaches small w (λ later. Stands later (when_reading array))
+reads_directly array w at =
+    core w (when_made array) at (Submit (Read 0) 0) read_out n0≤2 (quiet w (when_made array) at (λ t. refl) refl refl refl) (record {}) submits
+
+pub erred : (array : Array) (w : World) → Stands w (when_reading array) → Reaches small w (λ later. Stands later (when_erred array) × (later.broken 0 1 0 ≡ true))
+erred array w at = errs w (when_reading array) at 64 0 1 0 both_reads_out refl n1≤2 loses
 
 pub recovers : (array : Array) → length (array 0) ≡ 16 → length (array 1) ≡ 16 → (w : World) → Stands w (when_erred array)
     → Reaches small w (λ later. Stands later (when_recovered array))

@@ -164,9 +164,12 @@ core w v at event new few in_turn comes step =
 
 -- ---- a command is taken, performed and answered
 
--- commands of the hold in frame 0, to row 0
+-- commands of the hold in frame 0, to row 0; and those of direct reads, in another
+abbrev pub fetch_in : (frame slot generation : ℕ) → Command
+fetch_in frame slot generation = record { frame = frame; slot = slot; generation = generation; row = 0; transfer = Fetch; taken = false; abandoned = false }
+
 abbrev pub fetch : (slot generation : ℕ) → Command
-fetch slot generation = record { frame = 0; slot = slot; generation = generation; row = 0; transfer = Fetch; taken = false; abandoned = false }
+fetch slot generation = fetch_in 0 slot generation
 
 abbrev pub store : (slot generation : ℕ) → Block → Command
 store slot generation b = record { frame = 0; slot = slot; generation = generation; row = 0; transfer = Store b; taken = false; abandoned = false }
@@ -293,15 +296,15 @@ writes w v at t slot generation b new there unused few step =
 
 -- a command is answered by an error
 pub errs :
-    (w : World) (v : View) → Stands w v → (t slot generation : ℕ) (new : Shard)
-    → v.shard.command t ≡ Some (fetch slot generation) → away small new ≤ 2
-    → Step small 0 (handed_out v.shard t (fetch slot generation)) (Deliver t Error Taken) new
+    (w : World) (v : View) → Stands w v → (frame t slot generation : ℕ) (new : Shard)
+    → v.shard.command t ≡ Some (fetch_in frame slot generation) → away small new ≤ 2
+    → Step small 0 (handed_out v.shard t (fetch_in frame slot generation)) (Deliver t Error Taken) new
     → Reaches small w (λ later. Stands later (record v { shard = new; settled = false }) × (later.broken 0 slot generation ≡ true))
-errs w v at t slot generation new there few step =
+errs w v at frame t slot generation new there few step =
     go_on small w
-    (λ later. Stands later (record v { shard = handed_out v.shard t (fetch slot generation) }) × (later.flight 0 t ≡ Some (fetch slot generation)))
+    (λ later. Stands later (record v { shard = handed_out v.shard t (fetch_in frame slot generation) }) × (later.flight 0 t ≡ Some (fetch_in frame slot generation)))
     (λ later. Stands later (record v { shard = new; settled = false }) × (later.broken 0 slot generation ≡ true))
-    (take w v at t (fetch slot generation) there refl)
+    (take w v at t (fetch_in frame slot generation) there refl)
     (λ w1 at1.
     let at' : Stands (later_by w1 (Core 0 (Deliver t Error Taken) new)) (record v { shard = new; settled = false }) = record {
       shard_is = refl;
@@ -313,12 +316,12 @@ errs w v at t slot generation new there few step =
       few_out = few;
       not_failed = at1.0.not_failed;
     } in
-    one w1 (record v { shard = handed_out v.shard t (fetch slot generation) }) (record v { shard = new; settled = false }) at1.0 (Core 0 (Deliver t Error Taken) new)
+    one w1 (record v { shard = handed_out v.shard t (fetch_in frame slot generation) }) (record v { shard = new; settled = false }) at1.0 (Core 0 (Deliver t Error Taken) new)
     (none_below, record {}, subst (λ s. Step small 0 s (Deliver t Error Taken) new) (sym at1.0.shard_is) step) (record {}) refl at'
     (λ later. Stands later (record v { shard = new; settled = false }) × (later.broken 0 slot generation ≡ true)) (
       at',
       ap (λ s. break (s.command t) (w1.broken 0) slot generation) at1.0.shard_is
-          ∙ ap (λ o. break o (w1.broken 0) slot generation) (put-same v.shard.command t (Some (record (fetch slot generation) { taken = true })) t refl)
+          ∙ ap (λ o. break o (w1.broken 0) slot generation) (put-same v.shard.command t (Some (record (fetch_in frame slot generation) { taken = true })) t refl)
           ∙ ap (λ row. row generation) (put-same (w1.broken 0) slot (put (w1.broken 0 slot) generation true) slot refl)
           ∙ put-same (w1.broken 0 slot) generation true generation refl,
     ))
