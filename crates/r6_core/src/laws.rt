@@ -23,10 +23,11 @@ ghost use Rattle.r6_core.specs.Runs.{RunsOfCores, RunsOfOneCore, ArrayOfCores, C
 ///
 /// `cores`: from cores as [`Core::new`](crate::Core::new) makes them, every such run is a run of the world, whose
 /// shards are the cores at each moment. So of every run of the cores of all shards holds (`array_of_cores`): each
-/// request that is answered `Data` or `Done` acted at the end of its hold, between its hand-over and its answer, as on
-/// one plain array, each such reply is that array's, one answered `ArrayFailed` acted so or not at all, and every idle
-/// row's slots in sync hold that array's blocks, P and Q, in each shard with at most two slots out that has not seen
-/// the failure; a slot whose rebuild completed is in sync with that generation in each such shard in which no command
+/// request that is answered `Data` or `Done` acted between its hand-over and its answer as on one plain array (a write
+/// when the device of its block performed its command, if not abandoned by then; otherwise at its hold's end, as a read
+/// does), each such reply is that array's, one answered `ArrayFailed` acted so or not at all, and every idle row's
+/// slots in sync hold that array's blocks, P and Q, in each shard with at most two slots out that has not seen the
+/// failure; a slot whose rebuild completed is in sync with that generation in each such shard in which no command
 /// to it has failed since; once a third slot is out in the register, every answer that a look gives is `ArrayFailed`;
 /// and (`quiet_of_cores`): when a core has no command out and its last event, takings aside, was a look at the
 /// register as it is, each request that it accepted has its reply ready, or it was taken. With one shard, one request
