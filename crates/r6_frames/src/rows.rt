@@ -139,13 +139,19 @@ impl Rows {
     }
 
     pub(crate) fn is_held(&self, row: u64) -> bool
+        requires { IsSound (view_of self.now) }
         ensures { IsTrue result ↔ (NotHeldBy (view_of self.now) row → ⊥) }
     {
+        // no row is held past the last frame in use
+        let mut in_use = FRAMES - self.spare.len();
         for held in &self.held {
-            if let FrameUse::Held(held) = held {
-                if held.row == row {
-                    return true;
-                }
+            if in_use == 0 {
+                return false;
+            }
+            match held {
+                FrameUse::Held(held) if held.row == row => return true,
+                FrameUse::Held(_) | FrameUse::Returning(_) => in_use -= 1,
+                FrameUse::Free => {}
             }
         }
         false
