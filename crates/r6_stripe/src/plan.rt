@@ -171,8 +171,9 @@ impl HoldState {
         requires within { position < length self.now.places.items }
         requires count { 2 ≤ length self.now.places.items }
         ensures { let hold = hold_of self.now in
-            result ≡ (plans.is_served (plan_of self.now.plan) hold position
-            || (can_drop (plan_of self.now.plan) hold position && plans.is_out (cell_at hold.cells position).standing)) }
+            let plan = plan_of self.now.plan in
+            result ≡ (plans.is_served plan hold position
+            || (can_drop plan hold position && plans.is_out (cell_at hold.cells position).standing)) }
     {
         self.is_served(position) || self.is_dropped(position)
     }
