@@ -1,0 +1,9 @@
+//! Tests of shards that take their events from their lists: over devices in memory, in one thread.
+#![tactic(auto)]
+
+#[cfg(test)]
+mod asks;
+#[cfg(test)]
+mod bench;
+#[cfg(test)]
+mod taken;
