@@ -16,9 +16,10 @@ overflow_sub-in_use c =
     omega (arith, c.len-in_use.ensures, c.requires.frames.spare, c.requires.frames.count, count_free-le c.args.self.now.held.items)
 
 pub loop-held-init : goal.loop-held-init
-loop-held-init c =
-    (λ index below. absurd (omega arith),
-    omega (arith, c.len-in_use.ensures, c.requires.frames.spare, c.requires.frames.count, count_free-le c.args.self.now.held.items))
+loop-held-init c = (
+  λ index below. absurd (omega arith),
+  omega (arith, c.len-in_use.ensures, c.requires.frames.spare, c.requires.frames.count, count_free-le c.args.self.now.held.items),
+)
 
 pub returns-then-in_use-eq0 : goal.returns-then-in_use-eq0
 returns-then-in_use-eq0 c =
