@@ -1,7 +1,6 @@
 //! Tests of shards that take their events from their lists: over devices in memory, in one thread.
 #![tactic(auto)]
 
-#[cfg(test)]
 mod asks;
 #[cfg(test)]
 mod bench;
