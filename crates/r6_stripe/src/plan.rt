@@ -258,10 +258,14 @@ impl HoldState {
 
     /// The lowest position that is to be read, and whose read wasn't put out.
     fn first_unread(&self) -> Option<usize>
-        requires { 2 ≤ length self.now.places.items }
+        requires count { 2 ≤ length self.now.places.items }
+        requires fits { IsTask (length self.now.places.items) self.now.len self.now.task }
         ensures { let hold = hold_of self.now in
             result ≡ plans.first_from (plans.is_next_read (plan_of self.now.plan) hold) 0 (length hold.cells) }
     {
+        if let (Plan::Modify, Some(Task::Write(index, _))) = (self.plan, &self.task) {
+            return self.first_of_modify(*index);
+        }
         if !self.lacks() {
             return None;
         }
@@ -273,15 +277,38 @@ impl HoldState {
         None
     }
 
+    /// The same of a modify of the index, which reads three positions.
+    fn first_of_modify(&self, index: usize) -> Option<usize>
+        requires below { index + 2 < length self.now.places.items }
+        requires plan { self.now.plan ≡ Plan.Modify }
+        requires writes { (block : List ℕ) × ((hold_of self.now).kind ≡ Write ((index, block) ∷ [])) }
+        ensures { let hold = hold_of self.now in
+            result ≡ plans.first_from (plans.is_next_read (plan_of self.now.plan) hold) 0 (length hold.cells) }
+    {
+        let m = self.places.len() - 2;
+        if self.is_next_read(index) {
+            Some(index)
+        } else if self.is_next_read(m) {
+            Some(m)
+        } else if self.is_next_read(m + 1) {
+            Some(m + 1)
+        } else {
+            None
+        }
+    }
+
     /// The position whose read is put out next.
     pub(crate) fn next_read(&self) -> Option<usize>
-        requires { 2 ≤ length self.now.places.items }
+        requires count { 2 ≤ length self.now.places.items }
+        requires fits { IsTask (length self.now.places.items) self.now.len self.now.task }
         ensures { option_map plans.Next.ReadAt result ≡ plans.next_read (plan_of self.now.plan) (hold_of self.now) }
     {
+        let position = self.first_unread()?;
         if self.has_computed() {
-            return None;
+            None
+        } else {
+            Some(position)
         }
-        self.first_unread()
     }
 
     /// The position whose block is restored next: the one that a read wants, if it is out and isn't known.
