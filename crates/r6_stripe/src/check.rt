@@ -61,6 +61,7 @@ impl HoldState {
         ensures held { held_of self.new ≡ record (held_of self.old) { class = self.new.class } }
         ensures class { IsClassAfter (hold_of self.old) self.old.class self.new.class }
         ensures classed { IsClassed (hold_of self.new) self.new.class }
+        ensures prepared { self.new.prepared ≡ self.old.prepared }
     {
         if self.class.is_none() && self.has_read_whole() {
             self.class = Some(class_of(&self.blocks));

@@ -9,7 +9,7 @@ ghost use Rattle.r6_stripe.specs.Holds.Kind.{Read, Write};
 ghost use Rattle.r6_stripe.specs.Places.{is_readable};
 ghost use Rattle.r6_stripe.specs.OneBlock.{plan_of_one};
 ghost use Rattle.r6_stripe.specs.Plans as plans;
-ghost use Rattle.r6_stripe.specs.Preparing.{HasSentAll};
+ghost use Rattle.r6_stripe.specs.Preparing.{IsPrepared};
 ghost use Rattle.r6_stripe.specs.Sound.{IsSound, IsTask, IsWritePlan, Suits};
 ghost use Rattle.r6_stripe.specs.Steps.{can_drop, has_outcome, is_idle, IsUnwritten};
 ghost use Rattle.r6_stripe.specs.Views.{hold_of, plan_of, planned_of};
@@ -370,18 +370,6 @@ impl HoldState {
         !self.lacks_new(index) && !self.lacks_new(m) && !self.lacks_new(m + 1)
     }
 
-    /// Whether this is a write whose new blocks have all been put out.
-    pub(crate) fn has_sent_all(&self) -> bool
-        requires count { 2 ≤ length self.now.places.items }
-        requires fits { IsTask (length self.now.places.items) self.now.len self.now.task }
-        ensures { IsTrue result → HasSentAll (hold_of self.now) }
-    {
-        let Some(Task::Write(index, _)) = &self.task else {
-            return false;
-        };
-        self.has_new_blocks(*index) && self.next_write().is_none()
-    }
-
     /// The position whose write is put out next.
     pub(crate) fn next_write(&self) -> Option<usize>
         ensures { option_map plans.Next.WriteAt result ≡ plans.next_write (hold_of self.now) }
@@ -409,12 +397,30 @@ impl HoldState {
         }
     }
 
+    /// Whether all writes of a hold that has nothing else left were confirmed.
+    fn has_written(&self) -> bool
+        requires { IsPrepared (planned_of self.now) }
+        ensures { result ≡ plans.is_over (planned_of self.now) }
+    {
+        if !self.is_quiet() {
+            return false;
+        }
+        match self.next_write() {
+            Some(_) => false,
+            None => true,
+        }
+    }
+
     /// Whether nothing is put out, and nothing comes next.
     pub(crate) fn is_over(&self) -> bool
         requires sound { IsSound self.now }
         requires classed { IsClassed (hold_of self.now) self.now.class }
+        requires prepared { self.now.prepared ≡ true → IsPrepared (planned_of self.now) }
         ensures { result ≡ plans.is_over (planned_of self.now) }
     {
+        if self.prepared {
+            return self.has_written();
+        }
         if let Some(index) = self.its_index() {
             return self.places[index].is_known();
         }
@@ -596,6 +602,7 @@ impl HoldState {
     pub(crate) fn has_outcome(&self) -> bool
         requires sound { IsSound self.now }
         requires classed { IsClassed (hold_of self.now) self.now.class }
+        requires prepared { self.now.prepared ≡ true → IsPrepared (planned_of self.now) }
         ensures over { result ≡ has_outcome (planned_of self.now) }
         ensures ends { let hold = hold_of self.now in
             IsTrue result → MayEnd hold (plans.outcome_of hold hold.kind) }

@@ -1,14 +1,15 @@
 //! The fields of a hold, and what each event does to them.
 
-ghost use Rattle.std.specs.Prelude.{◌≡◌, ◌<◌, ℕ, List, length, slice_index_or, true, false, not, Some, MatchOption};
+ghost use Rattle.std.specs.Prelude.{◌≡◌, ◌<◌, ℕ, List, length, slice_index_or, true, false, not, Some, IfSome, MatchOption};
 ghost use Rattle.std.specs.List.{list_any};
 ghost use Rattle.r6_stripe.specs.Checks.{IsClassed};
 ghost use Rattle.r6_stripe.specs.Holds.{cell_at};
 ghost use Rattle.r6_stripe.specs.Places.{no_place};
 ghost use Rattle.r6_stripe.specs.Plans as plans;
+ghost use Rattle.r6_stripe.specs.Preparing.{IsPrepared, PutsWriteOut};
 ghost use Rattle.r6_stripe.specs.Sound.{AreAllHome, IsSound, IsTask};
 ghost use Rattle.r6_stripe.specs.Steps.{begun_held, asked, sent, answered, lost, closed, PutsOut, IsInSync, IsUnread, IsUnwritten, IsReady, IsUnknown, IsKnownAs, is_away};
-ghost use Rattle.r6_stripe.specs.Views.{hold_of, held_of, plan_of, kind_of, kind_of_task};
+ghost use Rattle.r6_stripe.specs.Views.{hold_of, held_of, plan_of, planned_of, kind_of, kind_of_task};
 
 use crate::command::{RowCommand, Task};
 use crate::frame::settle;
@@ -25,6 +26,8 @@ pub(crate) struct HoldState {
     /// None once the task was taken back.
     pub(crate) task: Option<Task>,
     pub(crate) plan: Plan,
+    /// Only writes are left.
+    pub(crate) prepared: bool,
     /// A check or repair lost a position before it had read the whole row.
     pub(crate) cut_short: bool,
     /// Of a check or repair, once it has read the whole row.
@@ -51,9 +54,11 @@ impl HoldState {
         ensures held { held_of self.new ≡ begun_held self.old.len in_sync.now (kind_of_task task) }
         ensures sound { IsSound self.new }
         ensures classed { IsClassed (hold_of self.new) self.new.class }
+        ensures prepared { self.new.prepared ≡ false }
     {
         settle(&mut self.places, in_sync, &task);
         self.task = Some(task);
+        self.prepared = false;
         self.cut_short = false;
         self.class = None;
         self.plan = self.first_plan();
@@ -70,6 +75,7 @@ impl HoldState {
         ensures held { held_of self.new ≡ asked (held_of self.old) position }
         ensures size { length result ≡ self.old.len }
         ensures sound { IsSound self.new }
+        ensures prepared { self.new.prepared ≡ self.old.prepared }
     {
         let place = &mut self.places[position];
         place.read = ReadState::Asked;
@@ -101,6 +107,7 @@ impl HoldState {
         requires size { length buffer ≡ self.old.len }
         ensures held { held_of self.new ≡ answered (held_of self.old) position buffer }
         ensures sound { IsSound self.new }
+        ensures prepared { self.new.prepared ≡ self.old.prepared }
     {
         let place = self.places[position];
         self.places[position] = place.answered();
@@ -117,7 +124,9 @@ impl HoldState {
         requires place { position < length self.old.places.items }
         ensures held { held_of self.new ≡ lost (held_of self.old) position }
         ensures sound { IsSound self.new }
+        ensures prepared { self.new.prepared ≡ false }
     {
+        self.prepared = false;
         self.plan = self.plan_after_loss(position);
         self.cut_short = self.cut_after_loss();
         self.places[position].state = State::Out;
@@ -127,10 +136,15 @@ impl HoldState {
     pub(crate) fn next_command(&mut self) -> Option<RowCommand>
         requires sound { IsSound self.old }
         requires classed { IsClassed (hold_of self.old) self.old.class }
+        requires prepared { self.old.prepared ≡ true → IsPrepared (planned_of self.old) }
         ensures puts_out { PutsOut (held_of self.old) result (held_of self.new) }
         ensures sound { IsSound self.new }
         ensures classed { IsClassed (hold_of self.new) self.new.class }
+        ensures prepared { self.new.prepared ≡ true → IsPrepared (planned_of self.new) }
     {
+        if self.prepared {
+            return self.put_write_out();
+        }
         if let Some(index) = self.its_index() {
             return self.read_one(index);
         }
@@ -141,13 +155,25 @@ impl HoldState {
             let buffer = self.ask(position);
             return Some(RowCommand::Read(position, buffer));
         }
-        if self.has_sent_all() {
-            return None;
-        }
         if !self.has_read() {
             return None;
         }
         self.prepare();
+        let first = self.put_write_out();
+        self.prepared = first.is_some();
+        first
+    }
+
+    // Puts out the write that comes next, where nothing else is left.
+    fn put_write_out(&mut self) -> Option<RowCommand>
+        requires sound { IsSound self.old }
+        requires classed { IsClassed (hold_of self.old) self.old.class }
+        requires left { plans.next (planned_of self.old) ≡ plans.next_write (hold_of self.old) }
+        ensures puts { PutsWriteOut (held_of self.old) result (held_of self.new) }
+        ensures sound { IsSound self.new }
+        ensures classed { IsClassed (hold_of self.new) self.new.class }
+        ensures prepared { IfSome result (λ _. IsPrepared (planned_of self.new)) }
+    {
         match self.next_write() {
             Some(position) => {
                 let buffer = self.send(position);
@@ -166,6 +192,7 @@ impl HoldState {
         ensures puts_out { PutsOut (held_of self.old) result (held_of self.new) }
         ensures sound { IsSound self.new }
         ensures classed { IsClassed (hold_of self.new) self.new.class }
+        ensures prepared { self.new.prepared ≡ self.old.prepared }
     {
         if !self.places[index].is_readable() {
             return None;
@@ -196,7 +223,9 @@ impl HoldState {
         ensures task { kind_of result ≡ (hold_of self.old).kind }
         ensures closed { held_of self.new ≡ closed (held_of self.old) }
         ensures sound { IsSound self.new }
+        ensures prepared { self.new.prepared ≡ false }
     {
+        self.prepared = false;
         self.task.take()
     }
 

@@ -56,4 +56,5 @@ returns c =
       classed =
           subst (λ (h : Held). IsClassed h.planned.hold h.class) (sym c.ask-buffer.ensures.held)
           (classed_asked (hold_of s) s.class i one.below (unread_is (cell_at (hold_of s).cells i).reading parts.1) c.requires.classed);
+      prepared = c.ask-buffer.ensures.prepared;
     }
