@@ -1,0 +1,6 @@
+pub mod Payments
+pub mod Asked
+pub mod Counts
+pub mod Requests
+pub mod Passing
+pub mod Told

@@ -1,0 +1,21 @@
+use Rattle.std.proofs.Common.{◌+◌, ◌∙◌, refl, sym, ap}
+use Rattle.r6_lists.specs.Events.{Wait}
+use Rattle.r6_feed.proofs.Payments.{skipped}
+use Rattle.r6_feed.proofs.Asked.{none_asked, one_wait, next_within}
+use Rattle.r6_feed.proofs.feed.Feed.wait.Goals as goal
+
+pub invariant_of-self-clause-left : goal.invariant_of-self-clause-left
+invariant_of-self-clause-left g c =
+    skipped (λ p. p.lists) (λ p. p.left) g.L.Events.shape g.L.Events.events c.args.self.now.number c.args.self.now.producers.items
+    Wait c.args.self.now.left c.requires.next (λ shard. refl)
+
+pub invariant_of-self-clause-within : goal.invariant_of-self-clause-within
+invariant_of-self-clause-within g c = next_within g.L.Events.events c.args.self.now.number Wait c.requires.next
+
+pub invariant_of-self-clause-waited : goal.invariant_of-self-clause-waited
+invariant_of-self-clause-waited g c =
+    ap (λ n. n + 1) c.args.self.now.waited ∙ sym (one_wait g.L.Events.events c.args.self.now.number Wait c.requires.next refl)
+
+pub invariant_of-self-clause-asked : goal.invariant_of-self-clause-asked
+invariant_of-self-clause-asked g c =
+    c.args.self.now.asked ∙ sym (none_asked g.L.Events.shape g.L.Events.events c.args.self.now.number Wait c.requires.next refl)

@@ -1,0 +1,24 @@
+use Rattle.std.proofs.Common.{◌≡◌, ◌∙◌, Some, length, slice_get, option_map, refl, ap, rules}
+use Rattle.std.proofs.lemmas.Option.{slice_get-map, slice_get_read}
+use Rattle.r6_feed.specs.Events.{event_of, events_of}
+use Rattle.r6_feed.proofs.Counts.{counted, few_tasks}
+use Rattle.r6_feed.proofs.making.count_tasks.Goals as goal
+
+pub overflow_add-count : goal.overflow_add-count
+overflow_add-count g c =
+    let few = few_tasks c.args.geometry.now c.args.shard (events_of g.D.BlockDevice.told c.args.events.now) c.loop-event.event-index in
+    let so-far = c.loop-event.invariant in
+    let one = c.from-count.ensures in
+    search rules
+
+pub loop-event-preserved : goal.loop-event-preserved
+loop-event-preserved g c =
+    let at : slice_get (events_of g.D.BlockDevice.told c.args.events.now) c.loop-event.event-index
+    ≡ Some (event_of g.D.BlockDevice.told c.event-item.result) =
+    slice_get-map (event_of g.D.BlockDevice.told) c.args.events.now c.loop-event.event-index
+    ∙ ap (option_map (event_of g.D.BlockDevice.told))
+    (slice_get_read c.args.events.now (length c.args.events.now) c.loop-event.event-index c.event-item.result refl
+    c.loop-event-test.true c.event-item.is) in
+    counted c.args.geometry.now c.args.shard (events_of g.D.BlockDevice.told c.args.events.now)
+    c.loop-event.event-index _ c.has_part.result at c.has_part.ensures _ _ c.loop-event.invariant
+    (λ is. let one = c.from-count.ensures in search rules) (λ is. let one = c.from-count.ensures in search rules)

@@ -1,0 +1,34 @@
+use Rattle.std.proofs.Common.{◌≡◌, ◌+◌, ◌∙◌, length, sym, subst, ap, arith}
+use Rattle.std.proofs.lemmas.List.{length_push}
+use Rattle.r6_lists.specs.Events.{tasks_of}
+use Rattle.r6_lists.proofs.Elements.{all_pushed}
+use Rattle.r6_feed.specs.Events.{events_of}
+use Rattle.r6_feed.specs.Feeds.{HasLeft}
+use Rattle.r6_feed.proofs.Counts.{one_more, sum_more}
+use Rattle.r6_feed.proofs.making.producers_of.Goals as goal
+
+pub loop-shard-preserved : goal.loop-shard-preserved
+loop-shard-preserved g c =
+    let was = c.loop-shard.invariant in
+    let tasks : c.count_tasks-tasks.result ≡ length (tasks_of g.L.Events.shape c.loop-shard.shard g.L.Events.events) =
+    c.count_tasks-tasks.ensures
+    ∙ ap (λ s. length (tasks_of s c.loop-shard.shard (events_of g.D.BlockDevice.told c.args.events.now))) c.requires.shape
+    ∙ ap (λ es. length (tasks_of g.L.Events.shape c.loop-shard.shard es)) c.requires.events in
+    let pushed = ap length c.push_reserved.ensures.items ∙ length_push c.loop-shard.producers.items c.new.result in
+    record {
+      many = pushed ∙ ap (λ n. n + 1) was.many;
+      room = c.push_reserved.ensures.capacity ∙ was.room;
+      open_yet = all_pushed (λ p. p.lists ≡ 1) c.loop-shard.producers.items c.push_reserved.new.self.items c.new.result
+          c.push_reserved.ensures.items was.open_yet c.new.ensures.lists;
+      has_left = subst (λ items. HasLeft (λ p. p.left) items g.L.Events.shape g.L.Events.events (λ s. 0))
+          (sym c.push_reserved.ensures.items)
+          (one_more (λ p. p.left) c.loop-shard.producers.items g.L.Events.shape g.L.Events.events c.new.result was.has_left
+          (c.new.ensures.left ∙ tasks ∙ ap (λ k. length (tasks_of g.L.Events.shape k g.L.Events.events)) (sym was.many)));
+      parts = let left = c.split_off-part.ensures.parts_left in let all = was.parts in omega (arith, left, all);
+      amount = let left = c.split_off-part.ensures.amount_left in let none = was.amount in omega (arith, left, none);
+      counted =
+          let sum = sum_more g.L.Events.shape g.L.Events.events c.loop-shard.shard in
+          let book = c.new.ensures.counted in
+          let before = was.counted in
+          omega (arith, sum, book, before, tasks);
+    }

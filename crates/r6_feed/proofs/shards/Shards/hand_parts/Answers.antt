@@ -1,0 +1,48 @@
+use Rattle.std.proofs.Common.{◌+◌, ◌∙◌, get_or, refl, sym, ap, rules}
+use Rattle.std.proofs.lemmas.List.{length-set, length_push}
+use Rattle.std.proofs.lemmas.Iterator.Adapters.{YieldsList-from_vec}
+use Rattle.std.proofs.lemmas.Iterator.Consumers.{YieldsList-turn}
+use Rattle.r6_lists.specs.Events.{Attach, Takes_up}
+use Rattle.r6_feed.specs.Events.{part_for}
+use Rattle.r6_feed.proofs.Payments.{may_put, still_open, handed_next, below_one, next_below, among_parts}
+use Rattle.r6_feed.proofs.shards.Shards.hand_parts.Goals as goal
+
+pub put-requires-clause-left : goal.put-requires-clause-left
+put-requires-clause-left g c =
+    let was = get_or c.loop-part.producers c.loop-part.shard c.index-producers-shard.result in
+    let at = ap (get_or c.loop-part.producers c.loop-part.shard) c.index-producers-shard.is in
+    let turn = YieldsList-turn
+    (YieldsList-from_vec {s = c.into_iter-part-iterator.result} c.args.device.parts.items (search rules) (search rules))
+    c.loop-part.yielded c.loop-part.part-iterator c.loop-part.yielded_by c.next.result c.next.new.self c.in-Some.part c.in-Some.is
+    c.next.ensures.steps in
+    may_put (λ p. p.lists) (λ p. p.left) g.L.Events.shape g.L.Events.events (next_below c.loop-part.shard c.args.at.number)
+    c.loop-part.producers (Attach c.args.device.slot (part_for g.D.BlockDevice.told c.args.device.parts.items))
+    (Takes_up c.args.device.slot (part_for g.D.BlockDevice.told c.args.device.parts.items c.loop-part.shard))
+    c.loop-part.shard c.args.at.number
+    was c.loop-part.invariant.2.open_yet c.loop-part.invariant.2.has_left
+    (among_parts c.loop-part.shard _ _ _ _ c.loop-part.invariant.2.shard_is turn.0 c.requires.whole c.loop-part.invariant.2.shards)
+    at (below_one c.loop-part.shard c.args.at.number) c.requires.next refl
+
+pub loop-part-preserved : goal.loop-part-preserved
+loop-part-preserved g c =
+    let was = get_or c.loop-part.producers c.loop-part.shard c.index-producers-shard.result in
+    let at = ap (get_or c.loop-part.producers c.loop-part.shard) c.index-producers-shard.is in
+    let turn = YieldsList-turn
+    (YieldsList-from_vec {s = c.into_iter-part-iterator.result} c.args.device.parts.items (search rules) (search rules))
+    c.loop-part.yielded c.loop-part.part-iterator c.loop-part.yielded_by c.next.result c.next.new.self c.in-Some.part c.in-Some.is
+    c.next.ensures.steps in
+    let below = among_parts c.loop-part.shard _ _ _ _ c.loop-part.invariant.2.shard_is turn.0 c.requires.whole c.loop-part.invariant.2.shards in (
+      tt,
+      tt,
+      record {
+        shard_is = ap (λ n. n + 1) c.loop-part.invariant.2.shard_is ∙ sym (length_push c.loop-part.yielded c.in-Some.part);
+        shards = length-set c.loop-part.producers c.loop-part.shard c.put.new.producer ∙ c.loop-part.invariant.2.shards;
+        open_yet = still_open (λ p. p.lists) c.loop-part.producers c.loop-part.shard was c.put.new.producer
+            c.loop-part.invariant.2.open_yet below at c.put.ensures.lists;
+        has_left = handed_next (λ p. p.left) c.loop-part.producers g.L.Events.shape g.L.Events.events c.loop-part.shard
+            c.args.at.number (Attach c.args.device.slot (part_for g.D.BlockDevice.told c.args.device.parts.items))
+            (Takes_up c.args.device.slot (part_for g.D.BlockDevice.told c.args.device.parts.items c.loop-part.shard))
+            was c.put.new.producer
+            c.loop-part.invariant.2.has_left below at c.requires.next refl c.put.ensures.left;
+      },
+    )

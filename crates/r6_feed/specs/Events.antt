@@ -1,0 +1,55 @@
+-- The events of a run as they are handed in, and as the shards' lists know them (this project's own).
+use Rattle.std.specs.Prelude.{◌≡◌, ℕ, List, length, map, All, slice_get, Bool, None, is_some, unwrap_or, option_map}
+use Rattle.r6_layout.specs.Shape.{Shape}
+use Rattle.r6_dev.specs.History.{Telling}
+use Rattle.r6_frames.specs.Views.{op_of}
+use Rattle.r6_frames.specs.declared.op.Op.{Op}
+use Rattle.r6_frames.specs.declared.op.Op.TheVariants as op
+use Rattle.r6_lists.specs.Events as lists
+use Rattle.r6_lists.specs.declared.work.Work.{Work}
+use Rattle.r6_lists.specs.declared.work.Work.TheVariants as work
+use Rattle.r6_feed.specs.declared.event.Event.{Event}
+use Rattle.r6_feed.specs.declared.handing.PassOver.{PassOver}
+use Rattle.r6_feed.specs.declared.handing.PassOver.TheVariants as pass
+use Rattle.r6_feed.specs.declared.event.Event.TheVariants.{Request, Wait, Fail, Attach, Check, Repair}
+
+-- what the part for a shard tells, of the parts of a new device
+abbrev pub part_for : {D : Type 0} → (D → Telling) → List D → (shard : ℕ) → Telling
+part_for told parts shard = unwrap_or (option_map told (slice_get parts shard)) None
+
+abbrev pub event_of : {D : Type 0} → (D → Telling) → Event D → lists.Event
+event_of told (Request op) = lists.Request (op_of op)
+event_of told Wait = lists.Wait
+event_of told (Fail slot) = lists.Fail slot
+event_of told (Attach slot parts) = lists.Attach slot (part_for told parts.items)
+event_of told Check = lists.Check
+event_of told Repair = lists.Repair
+
+abbrev pub events_of : {D : Type 0} → (D → Telling) → List (Event D) → List lists.Event
+events_of told events = map (event_of told) events
+
+-- a new device has a part for each shard
+abbrev pub IsWhole : {D : Type 0} → (shards : ℕ) → Event D → Type 0
+IsWhole shards (Attach slot parts) = length parts.items ≡ shards
+IsWhole shards event = Unit {0}
+
+abbrev pub AreWhole : {D : Type 0} → (shards : ℕ) → List (Event D) → Type 0
+AreWhole shards events = All (IsWhole shards) events
+
+-- a request as its shard is handed it
+abbrev pub work_for : {D : Type 0} → Op → Work D
+work_for (op.Read block buffer) = work.Read block buffer
+work_for (op.Write block buffer) = work.Write block buffer
+
+-- a pass over all rows, as an event and as each shard is handed it
+abbrev pub event_of_pass : PassOver → lists.Event
+event_of_pass pass.Check = lists.Check
+event_of_pass pass.Repair = lists.Repair
+
+abbrev pub work_of_pass : {D : Type 0} → PassOver → Work D
+work_of_pass pass.Check = work.Check
+work_of_pass pass.Repair = work.Repair
+
+-- whether a shard is handed a part of the event
+abbrev pub has_part : Shape → (shard : ℕ) → lists.Event → Bool
+has_part shape shard event = is_some (lists.duty_of shape shard event)

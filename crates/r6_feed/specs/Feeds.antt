@@ -1,0 +1,113 @@
+-- What is left to hand out of a run's events, and what those are answered that no shard answers (this project's own).
+use Rattle.std.specs.Prelude.{◌≡◌, ℕ, ◌-◌, ◌<◌, nat_lt, List, [], ◌∷◌, ◌++◌, length, filter_map, flat_map, Option, Some, None, Err, option_map, option_and_then, slice_get, slice_index_or, if◌then◌else◌, All, Bool, true, false, Result}
+use Rattle.std.specs.List.{range_with_len}
+use Rattle.r6_layout.specs.Shape.{Shape, blocks}
+use Rattle.r6_world.specs.PlainArray.{block_of}
+use Rattle.r6_health.specs.Views as views
+use Rattle.r6_health.specs.Histories.{StartsWith}
+use Rattle.r6_health.specs.declared.history.Made.{Made}
+use Rattle.r6_health.specs.declared.history.View.{View}
+use Rattle.r6_health.specs.declared.call.Call.TheVariants as call
+use Rattle.r6_health.specs.declared.refusal.Refusal.{Refusal}
+use Rattle.r6_health.specs.declared.refusal.Refusal.TheVariants.{Contended}
+use Rattle.r6_lists.specs.Events.{Event, Request, Attach, Fail, Check, Repair, Wait, Task, task_at}
+use Rattle.r6_feed.specs.declared.answer.Outcome.{Outcome}
+use Rattle.r6_feed.specs.declared.answer.Outcome.TheVariants.{OutOfRange, Failed, Attached}
+use Rattle.r6_feed.specs.declared.answer.EventAnswer.{EventAnswer}
+
+-- ---- what is left
+
+-- the tasks that a shard has of the events from this number on
+abbrev pub tasks_from : Shape → (shard : ℕ) → List Event → (number : ℕ) → List Task
+tasks_from shape shard events number = filter_map (task_at shape shard events) (range_with_len number (length events - number))
+
+-- what is still to be put into each shard's list: its tasks of the events from the shard's number on
+abbrev pub HasLeft : {P : Type 0} → (left : P → ℕ) → List P → Shape → List Event → (from : ℕ → ℕ) → Type 0
+HasLeft left producers shape events from =
+    (shard : ℕ) (d : _) → shard < length producers
+    → left (slice_index_or producers shard d) ≡ length (tasks_from shape shard events (from shard))
+
+-- the list of each shard is open yet
+abbrev pub AreOpen : {P : Type 0} → (lists : P → ℕ) → List P → Type 0
+AreOpen lists producers = All (λ p. lists p ≡ 1) producers
+
+-- the lists are open yet, and what is to be put into them is that of the events from this number on
+pub record IsAt {P : Type 0} (lists left : P → ℕ) (shape : Shape) (events : List Event) (number : ℕ) (producers : List P) : Type 0 where
+  pub shards : length producers ≡ shape.shards
+  pub open_yet : AreOpen lists producers
+  pub has_left : HasLeft left producers shape events (λ shard. number)
+
+-- ---- what no shard answers
+
+pub data Asking : Type 0 where
+  NoBlock : Asking
+  Fails : (slot : ℕ) → Asking
+  Attaches : (slot : ℕ) → Asking
+
+-- a request for no block of the array, and the calls at the register
+abbrev pub asking_of : Shape → Event → Option Asking
+asking_of shape (Request op) = if nat_lt (block_of op) (blocks shape) then None else Some NoBlock
+asking_of shape (Attach slot part) = Some (Attaches slot)
+asking_of shape (Fail slot) = Some (Fails slot)
+asking_of shape Check = None
+asking_of shape Repair = None
+asking_of shape Wait = None
+
+abbrev pub asking_at : Shape → List Event → (number : ℕ) → Option (ℕ × Asking)
+asking_at shape events number =
+    option_map (λ asking. (number, asking)) (option_and_then (asking_of shape) (slice_get events number))
+
+-- those before the event of this number, in the order of the events
+abbrev pub asked_before : Shape → List Event → (number : ℕ) → List (ℕ × Asking)
+asked_before shape events number = filter_map (asking_at shape events) (range_with_len 0 number)
+
+abbrev pub asking_in : Outcome → Asking
+asking_in OutOfRange = NoBlock
+asking_in (Failed slot answer) = Fails slot
+asking_in (Attached slot answer) = Attaches slot
+
+abbrev pub asked_in : EventAnswer → ℕ × Asking
+asked_in answer = (answer.event, asking_in answer.outcome)
+
+-- the calls that the register took
+abbrev pub calls_in : Outcome → List Made
+calls_in OutOfRange = []
+calls_in (Failed slot answer) = views.made_by (call.Fail slot) answer
+calls_in (Attached slot answer) = views.attached_by slot answer
+
+abbrev pub calls_of : List EventAnswer → List Made
+calls_of answers = flat_map (λ answer. calls_in answer.outcome) answers
+
+-- others' calls came between at each try
+abbrev pub is_contended : {A : Type 0} → Result A Refusal → Bool
+is_contended (Err Contended) = true
+is_contended answer = false
+
+abbrev pub is_unsettled : Outcome → Bool
+is_unsettled OutOfRange = false
+is_unsettled (Failed slot answer) = is_contended answer
+is_unsettled (Attached slot answer) = is_contended answer
+
+-- the pass has seen more of the same register
+pub record IsLater (old new : View) : Type 0 where
+  pub same_start : new.start ≡ old.start
+  pub seen : StartsWith new.seen old.seen
+
+-- what the pass knew before and behind an answer: a call at the register tells what the register's contract says of it
+abbrev pub IsTold : (before : View) → Outcome → (after : View) → Type 0
+IsTold before OutOfRange after = after ≡ before
+IsTold before (Failed slot answer) after = views.Answered before (call.Fail slot) answer after
+IsTold before (Attached slot answer) after = views.Attached before slot answer after
+
+-- from what the pass knew first, these answers came one behind the other, each call on what was known behind the one
+-- before it or more, to what it knows in the end
+pub data WereTold (first : View) : List EventAnswer → View → Type 0 where
+  Begins : WereTold first [] first
+  Sees : (answers : List EventAnswer) (known more : View) → WereTold first answers known → views.Grows known more
+      → WereTold first answers more
+  Hears : (answers : List EventAnswer) (answer : EventAnswer) (known more : View) → WereTold first answers known
+      → IsTold known answer.outcome more → WereTold first (answers ++ answer ∷ []) more
+
+-- whatever was answered before, it was gone on with
+abbrev pub TellsOn : (old : View) (before : List EventAnswer) (new : View) (after : List EventAnswer) → Type 0
+TellsOn old before new after = (first : View) → WereTold first before old → WereTold first after new

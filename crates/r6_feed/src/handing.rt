@@ -1,0 +1,101 @@
+//! What every shard is handed of an event.
+
+ghost use Rattle.std.specs.Prelude.{◌≡◌, ◌+◌, length, slice_get, Some};
+ghost use Rattle.r6_lists.specs.Events.{Attach, waits_before};
+ghost use Rattle.r6_feed.specs.Events.{part_for, event_of_pass, work_of_pass};
+ghost use Rattle.r6_feed.specs.Feeds.{IsAt};
+
+use crate::shards::Shards;
+use r6_dev::BlockDevice;
+use r6_lists::{Events, Item, Producer, Work};
+use std::sync::Wait;
+
+/// Where an event stands.
+#[derive(Clone, Copy)]
+pub(crate) struct Position {
+    /// How many events stand before it.
+    pub(crate) number: u64,
+    /// How many of these are waits: waits, checks and repairs.
+    pub(crate) waits: u64,
+}
+
+/// A slot's new device, under the generation that the register will give it.
+#[derive(Drop)]
+pub(crate) struct NewDevice<D> {
+    pub(crate) slot: usize,
+    pub(crate) generation: u32,
+    /// Its parts, one for each shard, from the first on.
+    pub(crate) parts: Vec<D>,
+}
+
+/// How every shard passes over its rows.
+#[derive(Clone, Copy)]
+pub(crate) enum PassOver {
+    Check,
+    Repair,
+}
+
+impl PassOver {
+    fn work<D>(self) -> Work<D>
+        ensures { result ≡ work_of_pass self }
+    {
+        match self {
+            PassOver::Check => Work::Check,
+            PassOver::Repair => Work::Repair,
+        }
+    }
+}
+
+impl<'a, L: Events, D: BlockDevice + Drop> Shards<'a, L, D> {
+    // The parts of a new device, each for its shard.
+    pub(crate) fn hand_parts<R: Wait>(
+        &self,
+        rt: &R,
+        producers: &mut [Producer<L>],
+        at: Position,
+        device: NewDevice<D>,
+    )
+        requires next { slice_get L.events at.number
+            ≡ Some (Attach device.slot (part_for D.told device.parts.items)) }
+        requires waits { at.waits ≡ waits_before L.events at.number }
+        requires whole { length device.parts.items ≡ L.shape.shards }
+        requires left { IsAt (λ p. p.lists) (λ p. p.left) L.shape L.events at.number producers.old }
+        ensures left { IsAt (λ p. p.lists) (λ p. p.left) L.shape L.events (at.number + 1) producers.new }
+    {
+        let NewDevice {
+            slot,
+            generation,
+            parts,
+        } = device;
+        let mut shard = 0;
+        for part in parts {
+            let work = Work::Attach {
+                slot,
+                generation,
+                part,
+            };
+            let item = Item::new(shard, at.number, at.waits, work);
+            self.put(rt, item, &mut producers[shard]);
+            shard += 1;
+        }
+    }
+
+    // Every shard passes over its rows.
+    pub(crate) fn hand_pass<R: Wait>(
+        &self,
+        rt: &R,
+        producers: &mut [Producer<L>],
+        at: Position,
+        task: PassOver,
+    )
+        requires next { slice_get L.events at.number ≡ Some (event_of_pass task) }
+        requires waits { at.waits ≡ waits_before L.events at.number }
+        requires left { IsAt (λ p. p.lists) (λ p. p.left) L.shape L.events at.number producers.old }
+        ensures left { IsAt (λ p. p.lists) (λ p. p.left) L.shape L.events (at.number + 1) producers.new }
+    {
+        for shard in 0..producers.len() {
+            let item = Item::new(shard, at.number, at.waits, task.work());
+            self.put(rt, item, &mut producers[shard]);
+        }
+    }
+}

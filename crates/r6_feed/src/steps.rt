@@ -1,0 +1,181 @@
+//! What becomes of each event.
+
+ghost use Rattle.std.specs.Prelude.{◌≡◌, ◌+◌, ◌<◌, ◌≤◌, length, slice_get, Some, None};
+ghost use Rattle.r6_frames.specs.Views.{op_of};
+ghost use Rattle.r6_world.specs.PlainArray.{block_of};
+ghost use Rattle.r6_health.specs.Passes.{IsPassOf, view_of};
+ghost use Rattle.r6_lists.specs.Events.{Request, Attach, Fail, Check, Repair, Wait, task_at};
+ghost use Rattle.r6_layout.specs.Shape.{blocks};
+ghost use Rattle.r6_layout.specs.Layout.{shard_of, row_of};
+ghost use Rattle.r6_feed.specs.Events.{part_for, event_of_pass, work_for};
+ghost use Rattle.r6_feed.specs.Feeds.{TellsOn};
+
+use crate::answer::{EventAnswer, Outcome};
+use crate::calling;
+use crate::feed::Feed;
+use crate::handing::{NewDevice, PassOver, Position};
+use crate::shards::Shards;
+use r6_dev::BlockDevice;
+use r6_frames::Op;
+use r6_lists::{Events, Item, Work};
+use std::sync::Wait;
+
+fn work_of<D>(op: Op) -> Work<D>
+    ensures { result ≡ work_for op }
+{
+    match op {
+        Op::Read(block, buffer) => Work::Read(block, buffer),
+        Op::Write(block, buffer) => Work::Write(block, buffer),
+    }
+}
+
+impl<L: Events> Feed<L> {
+    // A request for no block of the array is answered.
+    fn answer_out_of_range(&mut self, op: &Op)
+        requires next { slice_get L.events self.old.number ≡ Some (Request (op_of op.now)) }
+        requires outside { blocks L.shape ≤ block_of (op_of op.now) }
+        ensures number { self.new.number ≡ self.old.number + 1 }
+        ensures pass { self.new.pass ≡ self.old.pass }
+        ensures told { TellsOn (view_of self.old.pass) self.old.answers.items
+            (view_of self.new.pass) self.new.answers.items }
+    {
+        self.answers.push_reserved(EventAnswer {
+            event: self.number,
+            outcome: Outcome::OutOfRange,
+        });
+        self.number += 1;
+    }
+
+    // A request goes to the shard of its block.
+    fn hand_over<D: BlockDevice + Drop, R: Wait>(
+        &mut self,
+        rt: &R,
+        shards: &Shards<L, D>,
+        shard: usize,
+        op: Op,
+    )
+        requires next { slice_get L.events self.old.number ≡ Some (Request (op_of op)) }
+        requires within { block_of (op_of op) < blocks L.shape }
+        requires shard { (shard < L.shape.shards)
+            × (shard_of L.shape (row_of L.shape (block_of (op_of op))) ≡ shard) }
+        ensures number { self.new.number ≡ self.old.number + 1 }
+        ensures same { (self.new.pass ≡ self.old.pass) × (self.new.answers.items ≡ self.old.answers.items) }
+    {
+        let item = Item::new(shard, self.number, self.waits, work_of(op));
+        shards.put(rt, item, &mut self.producers[shard]);
+        self.number += 1;
+    }
+
+    // A request.
+    #[tactic(auto, using(crate::proofs::Told::tells_same))]
+    pub(crate) fn request<D: BlockDevice + Drop, R: Wait>(
+        &mut self,
+        rt: &R,
+        shards: &Shards<L, D>,
+        op: Op,
+    )
+        requires next { slice_get L.events self.old.number ≡ Some (Request (op_of op)) }
+        ensures number { self.new.number ≡ self.old.number + 1 }
+        ensures pass { self.new.pass ≡ self.old.pass }
+        ensures told { TellsOn (view_of self.old.pass) self.old.answers.items
+            (view_of self.new.pass) self.new.answers.items }
+    {
+        match shards.geometry.place(op.block()) {
+            Some(place) => self.hand_over(rt, shards, place.shard, op),
+            None => self.answer_out_of_range(&op),
+        }
+    }
+
+    // A slot is lost.
+    pub(crate) fn fail<D: BlockDevice, R: Wait>(
+        &mut self,
+        rt: &R,
+        shards: &Shards<L, D>,
+        slot: usize,
+    )
+        requires next { slice_get L.events self.old.number ≡ Some (Fail slot) }
+        requires pass { IsPassOf shards.now.register.now self.old.pass }
+        ensures number { self.new.number ≡ self.old.number + 1 }
+        ensures pass { IsPassOf shards.now.register.now self.new.pass }
+        ensures told { TellsOn (view_of self.old.pass) self.old.answers.items
+            (view_of self.new.pass) self.new.answers.items }
+    {
+        let answer = calling::fail(rt, shards.register, &mut self.pass, slot);
+        self.answers.push_reserved(EventAnswer {
+            event: self.number,
+            outcome: Outcome::Failed(slot, answer),
+        });
+        self.number += 1;
+    }
+
+    // All that came before is waited for.
+    pub(crate) fn wait<D: BlockDevice + Drop, R: Wait>(&mut self, rt: &R, shards: &Shards<L, D>)
+        requires next { slice_get L.events self.old.number ≡ Some Wait }
+        ensures number { self.new.number ≡ self.old.number + 1 }
+        ensures same { (self.new.pass ≡ self.old.pass) × (self.new.answers.items ≡ self.old.answers.items) }
+    {
+        shards.await_rest(rt);
+        self.waits += 1;
+        self.number += 1;
+    }
+
+    // A slot gets a new device: the shards have its parts before the register says so.
+    pub(crate) fn attach<D: BlockDevice + Drop, R: Wait>(
+        &mut self,
+        rt: &R,
+        shards: &Shards<L, D>,
+        slot: usize,
+        parts: Vec<D>,
+    )
+        requires next { slice_get L.events self.old.number ≡ Some (Attach slot (part_for D.told parts.items)) }
+        requires whole { length parts.items ≡ L.shape.shards }
+        requires pass { IsPassOf shards.now.register.now self.old.pass }
+        ensures number { self.new.number ≡ self.old.number + 1 }
+        ensures pass { IsPassOf shards.now.register.now self.new.pass }
+        ensures told { TellsOn (view_of self.old.pass) self.old.answers.items
+            (view_of self.new.pass) self.new.answers.items }
+    {
+        let at = self.position();
+        let attaches = shards.register.read(rt, &mut self.pass).attaches();
+        let device = NewDevice {
+            slot,
+            generation: attaches.saturating_add(1),
+            parts,
+        };
+        shards.hand_parts(rt, &mut self.producers, at, device);
+        let answer = calling::attach(rt, shards.register, &mut self.pass, slot);
+        self.answers.push_reserved(EventAnswer {
+            event: self.number,
+            outcome: Outcome::Attached(slot, answer),
+        });
+        self.number += 1;
+    }
+
+    // Every shard passes over its rows, once all that came before is done.
+    pub(crate) fn pass_over<D: BlockDevice + Drop, R: Wait>(
+        &mut self,
+        rt: &R,
+        shards: &Shards<L, D>,
+        task: PassOver,
+    )
+        requires next { slice_get L.events self.old.number ≡ Some (event_of_pass task) }
+        ensures number { self.new.number ≡ self.old.number + 1 }
+        ensures same { (self.new.pass ≡ self.old.pass) × (self.new.answers.items ≡ self.old.answers.items) }
+    {
+        shards.await_rest(rt);
+        let at = self.position();
+        shards.hand_pass(rt, &mut self.producers, at, task);
+        self.waits += 1;
+        self.number += 1;
+    }
+
+    // Where the next event stands.
+    fn position(&self) -> Position
+        ensures { result ≡ record { number = self.now.number; waits = self.now.waits } }
+    {
+        Position {
+            number: self.number,
+            waits: self.waits,
+        }
+    }
+}
