@@ -1,0 +1,102 @@
+-- What the threads of an array's shards did, shard by shard (this project's own).
+use Rattle.std.proofs.Common.{◌≡◌, ◌∙◌, ℕ, List, [], ◌∷◌, ◌<◌, length, map, All, Bool, Some, None, zero, suc, ap, sym, subst, slice_get, slice_index_or, refl}
+use Rattle.std.specs.List.{AllZip}
+use Rattle.std.proofs.lemmas.Option.{none-some, get_or_from_slice_get, slice_get_within, slice_get-get_or}
+use Rattle.r6_dev.specs.History.{Telling}
+use Rattle.r6_layout.specs.Shape.{Shape}
+use Rattle.r6_world.specs.Registers.{Snapshot}
+use Rattle.r6_lists.specs.Events.{Event, tasks_of, numbers_of}
+use Rattle.r6_shard.specs.declared.parts.Parts.{Parts}
+use Rattle.r6_shard.specs.Handing.{parts_tell}
+use Rattle.r6_runner.specs.declared.runner.Runner.{Runner}
+use Rattle.r6_runner.specs.Runners.{HasDone, IsOver}
+use Rattle.r6_health.specs.declared.history.View.{View}
+use Rattle.r6_health.specs.Views.{Looks}
+use Rattle.r6_feed.specs.declared.answer.EventAnswer.{EventAnswer}
+use Rattle.r6_feed.specs.Feeds.{Sees}
+use Rattle.r6_serve.specs.Serves.{AreNumbered, Begins, HasAnswered, HasRun, HaveServed}
+
+some_same : {A : Type 0} (x y : A) → Some x ≡ Some y → x ≡ y
+some_same x y is = ap (λ o. elim o [ None ↦ x | Some z ↦ z ]) is
+
+-- what each is made of
+mapped_at : {A B : Type 0} (f : A → B) (xs : List A) (k : ℕ) (y : B) → slice_get (map f xs) k ≡ Some y
+    → (x : A) × (slice_get xs k ≡ Some x) × (f x ≡ y)
+mapped_at f [] k y at = absurd (none-some y at)
+mapped_at f (x ∷ xs) zero y at = (x, refl, some_same (f x) y at)
+mapped_at f (x ∷ xs) (suc k) y at = mapped_at f xs k y at
+
+-- the partner of what stands at a place
+partner_at : {A B : Type 0} (R : A → B → Type 0) (xs : List A) (ys : List B) (k : ℕ) (y : B) → AllZip R xs ys
+    → slice_get ys k ≡ Some y → (x : A) × (slice_get xs k ≡ Some x) × R x y
+partner_at R [] [] k y all at = absurd (none-some y at)
+partner_at R [] (z ∷ ys) k y all at = absurd all
+partner_at R (x ∷ xs) [] k y all at = absurd all
+partner_at R (x ∷ xs) (z ∷ ys) zero y all at = (x, refl, subst (R x) (some_same z y at) all.0)
+partner_at R (x ∷ xs) (z ∷ ys) (suc k) y all at = partner_at R xs ys k y all.1 at
+
+here_at : {A : Type 0} (xs : List A) (k : ℕ) (d : A) → k < length xs → slice_get xs k ≡ Some (slice_index_or xs k d)
+here_at xs k d below = slice_get-get_or xs k d below
+
+number_at : {T : Type 0} (number : T → ℕ) (threads : List T) (k : ℕ) (t : T) → slice_get threads k ≡ Some t
+    → AreNumbered number threads → number t ≡ k
+number_at number threads k t at numbered =
+    ap number (sym (get_or_from_slice_get threads k t t at)) ∙ numbered k t (slice_get_within threads k t at)
+
+-- what follows of each from what ties it to its partner
+pub each_of : {A B : Type 0} (R : A → B → Type 0) (P : B → Type 0) → ((x : A) (y : B) → R x y → P y)
+    → (xs : List A) (ys : List B) → AllZip R xs ys → All P ys
+each_of R P follows xs ys all k d below =
+    let at = here_at ys k d below in
+    let partner = partner_at R xs ys k (slice_index_or ys k d) all at in follows partner.0 (slice_index_or ys k d) partner.2
+
+-- those that keep their numbers are numbered as before
+pub numbered_still : {T : Type 0} (R : T → T → Type 0) (number : T → ℕ) → ((x y : T) → R x y → number y ≡ number x)
+    → (olds news : List T) → AllZip R olds news → AreNumbered number olds → AreNumbered number news
+numbered_still R number same olds news all before k d below =
+    let at = here_at news k d below in
+    let partner = partner_at R olds news k (slice_index_or news k d) all at in
+    same partner.0 (slice_index_or news k d) partner.2 ∙ number_at number olds k partner.0 partner.1 before
+
+-- each shard's thread began with its parts, ran, and took all of the shard's tasks
+pub have_served : {D T : Type 0} (told : D → Telling) (shape : Shape) (events : List Event) (start : Snapshot)
+    (number : T → ℕ) (numbers : T → List ℕ) (finished : T → Bool) (runner : T → Runner D)
+    (parts : List (Parts D)) (olds news : List T) (runners : List (Runner D))
+    → AllZip (λ p t. Begins told shape events start p (number t) (numbers t) (runner t)) parts olds
+    → AllZip (λ old new. HasRun told shape events (number old) (numbers old) (runner old) (number new) (numbers new) (finished new) (runner new)) olds news
+    → AreNumbered number olds
+    → ((shard : ℕ) (t : T) → slice_get news shard ≡ Some t → numbers t ≡ numbers_of (tasks_of shape shard events))
+    → runners ≡ map runner news → HaveServed told shape events start parts runners
+have_served told shape events start number numbers finished runner parts olds news runners begins run numbered taken is shard own r part_at runner_at =
+    let new = mapped_at runner news shard r (ap (λ all. slice_get all shard) (sym is) ∙ runner_at) in
+    let old = partner_at (λ a b. HasRun told shape events (number a) (numbers a) (runner a) (number b) (numbers b) (finished b) (runner b)) olds news shard new.0 run new.1 in
+    let first = partner_at (λ p t. Begins told shape events start p (number t) (numbers t) (runner t)) parts olds shard old.0 begins old.1 in
+    let part : first.0 ≡ own = some_same first.0 own (sym first.1 ∙ part_at) in
+    let there : number old.0 ≡ shard = number_at number olds shard old.0 old.1 numbered in
+    let begun = subst (λ p. HasDone told shape events shape (number old.0) start (parts_tell told p) [] (runner old.0)) part first.2.done in
+    let ran = old.2.course shape start (parts_tell told own)
+    (subst (λ ns. HasDone told shape events shape (number old.0) start (parts_tell told own) ns (runner old.0)) (sym first.2.none_taken) begun) in
+    let here = subst (λ n. HasDone told shape events shape n start (parts_tell told own) (numbers new.0) (runner new.0)) there ran in
+    let all = subst (λ ns. HasDone told shape events shape shard start (parts_tell told own) ns (runner new.0)) (taken shard new.0 new.1) here in
+    record {
+      done = subst (HasDone told shape events shape shard start (parts_tell told own) (numbers_of (tasks_of shape shard events))) new.2 all;
+      over = subst IsOver new.2 old.2.over;
+    }
+
+-- what ties each to its partner, or less
+pub less : {A B : Type 0} (R S : A → B → Type 0) → ((x : A) (y : B) → R x y → S x y) → (xs : List A) (ys : List B)
+    → AllZip R xs ys → AllZip S xs ys
+less R S follows [] [] all = tt
+less R S follows [] (y ∷ ys) all = all
+less R S follows (x ∷ xs) [] all = all
+less R S follows (x ∷ xs) (y ∷ ys) all = (follows x y all.0, less R S follows xs ys all.1)
+
+-- what was answered stands once the register is read again
+pub read_again : (shape : Shape) (events : List Event) (first : View) (answers : List EventAnswer) (last now : View)
+    → HasAnswered shape events first answers last → Looks last now → HasAnswered shape events first answers now
+read_again shape events first answers last now answered looks = record {
+  asked = answered.asked;
+  own = looks.grows.mine ∙ answered.own;
+  settled = answered.settled;
+  told = Sees answers last now answered.told looks.grows;
+}

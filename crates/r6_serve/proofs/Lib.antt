@@ -1,0 +1,2 @@
+mod EachShard
+mod Numbers

@@ -1,0 +1,23 @@
+use Rattle.std.proofs.Common.{rules, [], subst, sym}
+use Rattle.r6_shard.specs.Parts.{part_in}
+use Rattle.r6_shard.specs.Handing.{parts_tell}
+use Rattle.r6_runner.specs.Runners.{HasDone}
+use Rattle.r6_serve.proofs.making.taking_of.Goals as goal
+
+pub returns-clause-begins : goal.returns-clause-begins
+returns-clause-begins g c =
+    let told = g.D.BlockDevice.told in
+    let shape = g.L.Events.shape in
+    let events = g.L.Events.events in
+    let done = c.in_ok-runner.ensures.begins shape events in
+    record {
+      none_taken = search rules;
+      done = subst (λ r. HasDone told shape events shape c.new-2.result.consumer.shard c.args.start.now (parts_tell told c.args.parts) [] r)
+          (sym c.new-2.ensures.0)
+          (subst (λ s. HasDone told shape events s c.new-2.result.consumer.shard c.args.start.now (parts_tell told c.args.parts) []
+          c.in_ok-runner.runner) c.requires.shape
+          (subst (λ n. HasDone told shape events c.args.place.geometry n c.args.start.now (parts_tell told c.args.parts) [] c.in_ok-runner.runner)
+          (search rules)
+          (subst (λ items. HasDone told shape events c.args.place.geometry c.args.place.number c.args.start.now (part_in told items) []
+          c.in_ok-runner.runner) c.in_ok-roomy.ensures done)));
+    }

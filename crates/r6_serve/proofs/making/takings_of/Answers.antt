@@ -1,0 +1,94 @@
+use Rattle.std.proofs.Common.{arith, rules, ◌≡◌, ◌∙◌, length, ap, sym, subst}
+use Rattle.std.specs.List.{AllZip}
+use Rattle.std.proofs.lemmas.Iterator.Adapters.{YieldsList-from_vec}
+use Rattle.std.proofs.lemmas.Iterator.Consumers.{YieldsList-turn, YieldsList-end}
+use Rattle.std.proofs.lemmas.List.{length_push}
+use Rattle.std.proofs.lemmas.List.Elements.{All-push}
+use Rattle.std.proofs.lemmas.Slice.Zip.{AllZip-long, all_zipped_more}
+use Rattle.r6_health.specs.Passes.{IsPassOf}
+use Rattle.r6_serve.specs.Serves.{Begins}
+use Rattle.r6_serve.proofs.Numbers.{fewer, one_more, unchanged}
+use Rattle.r6_serve.proofs.making.takings_of.Goals as goal
+
+pub split_off-part-requires-clause-has_parts : goal.split_off-part-requires-clause-has_parts
+split_off-part-requires-clause-has_parts g c =
+    let turn = YieldsList-turn
+    (YieldsList-from_vec {s = c.into_iter-parts-iterator.result} c.args.parts.items (search rules) (search rules))
+    c.loop-parts.yielded c.loop-parts.parts-iterator c.loop-parts.yielded_by c.next.result c.next.new.self c.in-Some.parts c.in-Some.is
+    c.next.ensures.steps in
+    let kept = c.loop-parts.invariant.2 in
+    let below = fewer _ _ _ _ (AllZip-long _ c.loop-parts.yielded c.loop-parts.takings.items kept.begins) turn.0 c.requires.whole in
+    let left = kept.left in
+    let all = c.requires.parts.0 in
+    omega (arith, below, left, all)
+
+pub taking_of-requires-clause-number : goal.taking_of-requires-clause-number
+taking_of-requires-clause-number g c =
+    let turn = YieldsList-turn
+    (YieldsList-from_vec {s = c.into_iter-parts-iterator.result} c.args.parts.items (search rules) (search rules))
+    c.loop-parts.yielded c.loop-parts.parts-iterator c.loop-parts.yielded_by c.next.result c.next.new.self c.in-Some.parts c.in-Some.is
+    c.next.ensures.steps in
+    let kept = c.loop-parts.invariant.2 in
+    let below = fewer _ _ _ _ (AllZip-long _ c.loop-parts.yielded c.loop-parts.takings.items kept.begins) turn.0 c.requires.whole in
+    let shape = ap (λ s. s.shards) c.requires.shape in
+    let long = c.len-in-loop-parts.ensures in
+    omega (arith, below, shape, long)
+
+pub push_reserved-requires : goal.push_reserved-requires
+push_reserved-requires g c =
+    let turn = YieldsList-turn
+    (YieldsList-from_vec {s = c.into_iter-parts-iterator.result} c.args.parts.items (search rules) (search rules))
+    c.loop-parts.yielded c.loop-parts.parts-iterator c.loop-parts.yielded_by c.next.result c.next.new.self c.in-Some.parts c.in-Some.is
+    c.next.ensures.steps in
+    let kept = c.loop-parts.invariant.2 in
+    let long = AllZip-long _ c.loop-parts.yielded c.loop-parts.takings.items kept.begins in
+    omega (arith, long, turn.0, kept.room)
+
+pub loop-parts-preserved : goal.loop-parts-preserved
+loop-parts-preserved g c =
+    let kept = c.loop-parts.invariant.2 in
+    let taking = c.in_ok-taking.taking in
+    let before = c.loop-parts.takings.items in
+    let long : c.len-in-loop-parts.result ≡ length before = search rules in
+    let pushed = c.push_reserved.ensures.items in (
+      tt,
+      tt,
+      record {
+        pass = c.split-pass.ensures.pass;
+        same = c.split-pass.ensures.same ∙ kept.same;
+        begins = rw pushed (all_zipped_more (λ parts t. Begins g.D.BlockDevice.told g.L.Events.shape g.L.Events.events
+            c.args.opening.now.start.now parts t.consumer.shard t.consumer.numbers.items t.runner)
+            c.loop-parts.yielded before c.in-Some.parts taking kept.begins c.in_ok-taking.ensures.begins);
+        numbered = rw pushed (one_more (λ t. t.consumer.shard) before taking kept.numbered
+            (c.in_ok-taking.ensures.number ∙ long));
+        passes = rw pushed (All-push (λ t. IsPassOf c.args.opening.now.register.now t.runner.shard.pass) before taking kept.passes
+            (subst (IsPassOf c.args.opening.now.register.now) (sym c.in_ok-taking.ensures.pass) c.split-pass.ensures.new));
+        room = search rules;
+        left = (let more = ap length pushed ∙ length_push before taking in let part = c.split_off-part.ensures.parts_left in
+            let left = kept.left in omega (arith, more, part, left));
+        none = (let gone = c.split_off-part.ensures.amount_left in let none = kept.none in omega (arith, gone, none));
+      },
+    )
+
+pub returns-clause-begins : goal.returns-clause-begins
+returns-clause-begins g c =
+    let end = YieldsList-end
+    (YieldsList-from_vec {s = c.into_iter-parts-iterator.result} c.args.parts.items (search rules) (search rules))
+    c.loop-parts.yielded c.loop-parts.parts-iterator c.loop-parts.yielded_by c.next.result c.next.new.self c.in-None.is
+    c.next.ensures.steps in
+    subst (λ parts. AllZip (λ p t. Begins g.D.BlockDevice.told g.L.Events.shape g.L.Events.events
+    c.args.opening.now.start.now p t.consumer.shard t.consumer.numbers.items t.runner) parts c.loop-parts.takings.items)
+    (sym (unchanged c.loop-parts.yielded) ∙ end.0) c.loop-parts.invariant.2.begins
+
+pub returns-clause-parts : goal.returns-clause-parts
+returns-clause-parts g c =
+    let end = YieldsList-end
+    (YieldsList-from_vec {s = c.into_iter-parts-iterator.result} c.args.parts.items (search rules) (search rules))
+    c.loop-parts.yielded c.loop-parts.parts-iterator c.loop-parts.yielded_by c.next.result c.next.new.self c.in-None.is
+    c.next.ensures.steps in
+    let kept = c.loop-parts.invariant.2 in
+    let long = AllZip-long _ c.loop-parts.yielded c.loop-parts.takings.items kept.begins in
+    let whole = c.requires.whole in
+    let left = kept.left in
+    let all = end.1 in
+    omega (arith, long, whole, left, all)

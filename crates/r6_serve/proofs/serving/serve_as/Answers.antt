@@ -1,0 +1,63 @@
+use Rattle.std.proofs.Common.{arith, ◌≡◌, ◌∙◌, ap, subst, true}
+use Rattle.std.specs.List.{AllZip}
+use Rattle.std.proofs.lemmas.Slice.Zip.{AllZip-long}
+use Rattle.r6_health.specs.Histories.{start_losing}
+use Rattle.r6_health.specs.Passes.{view_of}
+use Rattle.r6_health.specs.Registers.{starting}
+use Rattle.r6_health.specs.Views.{first_of, newcomer}
+use Rattle.r6_serve.specs.Serves.{Begins, HasAnswered, HasRun}
+use Rattle.r6_serve.proofs.EachShard.{each_of, have_served, less, numbered_still, read_again}
+use Rattle.r6_serve.proofs.serving.serve_as.Goals as goal
+
+pub run_all-requires-clause-ready : goal.run_all-requires-clause-ready
+run_all-requires-clause-ready g c κs within = λ k d below.
+    let made = c.in_ok-takings.ensures in
+    let long = AllZip-long _ c.args.parts.items c.in_ok-takings.takings.items made.begins in
+    let whole = c.requires.parts in
+    let number = made.numbered k d below in (
+      made.passes k d below,
+      omega (arith, number, below, long, whole),
+    )
+
+pub settle-requires-clause-shards : goal.settle-requires-clause-shards
+settle-requires-clause-shards g c =
+    AllZip-long _ c.in_ok-takings.takings.items c.in_ok-pass.ended.items c.in_ok-pass.ensures.run
+    ∙ AllZip-long _ c.args.parts.items c.in_ok-takings.takings.items c.in_ok-takings.ensures.begins ∙ c.requires.parts
+
+pub settle-requires-clause-numbered : goal.settle-requires-clause-numbered
+settle-requires-clause-numbered g c =
+    numbered_still _ (λ t. t.consumer.shard) (λ old new ran. ran.1.same) c.in_ok-takings.takings.items
+    c.in_ok-pass.ended.items c.in_ok-pass.ensures.run c.in_ok-takings.ensures.numbered
+
+pub settle-requires-clause-finished : goal.settle-requires-clause-finished
+settle-requires-clause-finished g c =
+    each_of _ (λ t. t.consumer.finished ≡ true) (λ old new ran. ran.1.all_taken) c.in_ok-takings.takings.items
+    c.in_ok-pass.ended.items c.in_ok-pass.ensures.run
+
+pub returns-clause-served : goal.returns-clause-served
+returns-clause-served g c =
+    let told = g.D.BlockDevice.told in
+    let shape = g.L.Events.shape in
+    let events = g.L.Events.events in
+    let olds = c.in_ok-takings.takings.items in
+    let news = c.in_ok-pass.ended.items in
+    have_served told shape events (starting c.args.config.lost) (λ t. t.consumer.shard) (λ t. t.consumer.numbers.items)
+    (λ t. t.consumer.finished) (λ t. t.runner) c.args.parts.items olds news c.settle.new.runners.items
+    (subst (λ start. AllZip (λ p t. Begins told shape events start p t.consumer.shard t.consumer.numbers.items t.runner)
+    c.args.parts.items olds) c.start-start.ensures c.in_ok-takings.ensures.begins)
+    (less _ (λ old new. HasRun told shape events old.consumer.shard old.consumer.numbers.items old.runner new.consumer.shard
+    new.consumer.numbers.items new.consumer.finished new.runner) (λ old new ran. ran.1) olds news c.in_ok-pass.ensures.run)
+    c.in_ok-takings.ensures.numbered c.settle.ensures.taken c.settle.ensures.runners
+
+pub returns-clause-answered : goal.returns-clause-answered
+returns-clause-answered g c =
+    let shape = g.L.Events.shape in
+    let events = g.L.Events.events in
+    let lost = c.args.config.lost in
+    let answers = c.in_ok-pass.answers.items in
+    let first : view_of c.in_ok-feed.feed.pass ≡ first_of (start_losing shape.slots shape.shards lost) =
+    ap view_of c.in_ok-feed.ensures.begins.1 ∙ c.split-caller.ensures.newcomer ∙ ap newcomer c.in-Ok.ensures.first
+    ∙ ap (λ s. first_of (start_losing s.slots s.shards lost)) c.requires.shape in
+    subst (λ v. HasAnswered shape events v answers (view_of c.read-snapshot.new.pass)) first
+    (read_again shape events (view_of c.in_ok-feed.feed.pass) answers (view_of c.in_ok-pass.pass)
+    (view_of c.read-snapshot.new.pass) c.in_ok-pass.ensures.answered c.read-snapshot.ensures.looks)
