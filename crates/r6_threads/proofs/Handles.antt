@@ -1,19 +1,70 @@
--- What the threads' promises say of the pieces of work, taken together (this project's own).
-use Rattle.std.proofs.Common.{◌≡◌, List, [], ◌∷◌, All, subst}
+-- The pieces of work of threads that were started, from the last piece of work on, and that are joined (this project's own).
+use Rattle.std.proofs.Common.{◌≡◌, Bool, true, false, List, [], ◌∷◌, ◌++◌, Option, Some, None, refl, sym, ap, subst, ◌∙◌, map, reverse}
 use Rattle.std.specs.List.{AllZip}
-use Rattle.std.proofs.lemmas.List.Elements.{All-head, All-tail}
+use Rattle.std.specs.Option.{option_to_list}
+use Rattle.std.proofs.lemmas.List.{append_assoc, append-nil, reverse-append}
+use Rattle.std.proofs.lemmas.Slice.Zip.{all_zipped_more}
+use Rattle.r6_threads.specs.Works.{HasEnded, in_order}
 
--- each handle is of the work in its place and of one station: so each piece of work is done there
-pub done_by : {A B H S : Type 0} (done : S → A → B → Type 0) (station : H → S) (work : H → A) (s : S)
-    → (works : List A) (handles : List H) (results : List B)
-    → AllZip (λ w h. work h ≡ w) works handles → All (λ h. station h ≡ s) handles
-    → AllZip (λ h r. done (station h) (work h) r) handles results → AllZip (done s) works results
-done_by done station work s [] [] [] of here kept = tt
-done_by done station work s [] [] (r ∷ results) of here kept = kept
-done_by done station work s [] (h ∷ handles) results of here kept = absurd of
-done_by done station work s (w ∷ works) [] results of here kept = absurd of
-done_by done station work s (w ∷ works) (h ∷ handles) [] of here kept = kept
-done_by done station work s (w ∷ works) (h ∷ handles) (r ∷ results) of here kept = (
-  subst (λ a. done s a r) of.0 (subst (λ t. done t (work h) r) (All-head (λ h. station h ≡ s) h handles here) kept.0),
-  done_by done station work s works handles results of.1 (All-tail (λ h. station h ≡ s) h handles here) kept.1,
-)
+pub ended_done : {W : Type 0} (done : W → W → Type 0) (begun : Bool) (before after : W)
+    → begun ≡ true → HasEnded done begun before after → done before after
+ended_done done true before after is ended = ended
+ended_done done false before after is ended = absurd (cc is)
+
+pub ended_back : {W : Type 0} (done : W → W → Type 0) (begun : Bool) (before after : W)
+    → begun ≡ false → HasEnded done begun before after → after ≡ before
+ended_back done true before after is ended = absurd (cc is)
+ended_back done false before after is ended = ended
+
+-- what was popped
+pub popped : {A : Type 0} (old new : List A) (last : Option A) (a : A) → old ≡ new ++ option_to_list last → last ≡ Some a → old ≡ new ++ a ∷ []
+popped old new last a items is = items ∙ ap (λ o. new ++ option_to_list o) is
+
+in_order_last : {W H : Type 0} (work : H → W) (handles : List H) (last : H) → in_order work (handles ++ last ∷ []) ≡ work last ∷ in_order work handles
+in_order_last work handles last = ap (map work) (reverse-append handles (last ∷ []))
+
+-- one more is started
+pub start_one : {W H : Type 0} (work : H → W) (all left rest : List W) (one : W) (handles : List H) (handle : H)
+    → all ≡ left ++ in_order work handles → left ≡ rest ++ one ∷ [] → work handle ≡ one
+    → all ≡ rest ++ in_order work (handles ++ handle ∷ [])
+start_one work all left rest one handles handle so_far last is =
+    so_far ∙ ap (λ (l : List _). l ++ in_order work handles) last
+    ∙ append_assoc rest (one ∷ []) (in_order work handles)
+    ∙ ap (λ w. rest ++ w ∷ in_order work handles) (sym is)
+    ∙ ap (λ l. rest ++ l) (sym (in_order_last work handles handle))
+
+-- so many pieces of work are done, and these are left
+pub record IsJoined {W : Type 0} (done : W → W → Type 0) (all works left : List W) : Type 0 where
+  pub taken : List W
+  pub is : all ≡ taken ++ left
+  pub each : AllZip done taken works
+
+pub join_none : {W : Type 0} (done : W → W → Type 0) (all works : List W) → works ≡ [] → IsJoined done all works all
+join_none done all works none = record { taken = []; is = refl; each = subst (AllZip done []) (sym none) tt }
+
+pub join_one : {W H : Type 0} (done : W → W → Type 0) (work : H → W) (all works : List W) (handles rest : List H) (handle : H) (one : W)
+    → IsJoined done all works (in_order work handles) → handles ≡ rest ++ handle ∷ [] → done (work handle) one
+    → IsJoined done all (works ++ one ∷ []) (in_order work rest)
+join_one done work all works handles rest handle one so_far last is = record {
+  taken = so_far.taken ++ work handle ∷ [];
+  is = so_far.is ∙ ap (λ l. so_far.taken ++ in_order work l) last ∙ ap (λ l. so_far.taken ++ l) (in_order_last work rest handle)
+      ∙ sym (append_assoc so_far.taken (work handle ∷ []) (in_order work rest));
+  each = all_zipped_more done so_far.taken works (work handle) one so_far.each is;
+}
+
+pub join_end : {W H : Type 0} (done : W → W → Type 0) (work : H → W) (all works : List W) (handles : List H)
+    → IsJoined done all works (in_order work handles) → handles ≡ [] → AllZip done all works
+join_end done work all works handles so_far none =
+    subst (λ l. AllZip done l works) (sym (so_far.is ∙ ap (λ l. so_far.taken ++ in_order work l) none ∙ append-nil so_far.taken)) so_far.each
+
+-- one more comes back as it was
+pub back_one : {W H : Type 0} (work : H → W) (all works : List W) (handles rest : List H) (handle : H) (one : W)
+    → all ≡ works ++ in_order work handles → handles ≡ rest ++ handle ∷ [] → one ≡ work handle
+    → all ≡ (works ++ one ∷ []) ++ in_order work rest
+back_one work all works handles rest handle one so_far last is =
+    so_far ∙ ap (λ l. works ++ in_order work l) last ∙ ap (λ l. works ++ l) (in_order_last work rest handle)
+    ∙ ap (λ w. works ++ w ∷ in_order work rest) (sym is) ∙ sym (append_assoc works (one ∷ []) (in_order work rest))
+
+pub back_end : {W H : Type 0} (work : H → W) (all works : List W) (handles : List H)
+    → all ≡ works ++ in_order work handles → handles ≡ [] → works ≡ all
+back_end work all works handles so_far none = sym (so_far ∙ ap (λ l. works ++ in_order work l) none ∙ append-nil works)

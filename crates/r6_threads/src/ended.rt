@@ -1,6 +1,7 @@
 //! What a thread promises.
 
-ghost use Rattle.std.specs.Prelude.{◌≡◌, IfSome, IfNone, false};
+ghost use Rattle.std.specs.Prelude.{◌≡◌};
+ghost use Rattle.r6_threads.specs.Works.{HasEnded};
 
 use crate::gate::Gate;
 use crate::work::Work;
@@ -8,14 +9,14 @@ use std::snapshot::Snapshot;
 use std::sync::OnceToken;
 use std::thread::Promise;
 
-/// A thread that ended: what was decided, and its work, if that was done.
+/// A thread that ended: what was decided, and its work.
 #[derive(Drop)]
 pub(crate) struct Ended<'g, W> {
     pub(crate) decision: OnceToken<'g, bool>,
-    pub(crate) work: Option<W>,
+    pub(crate) work: W,
 }
 
-/// The work is done, unless it was decided that the threads don't begin.
+/// The work is done, or as it was, as it is decided.
 #[derive(Drop)]
 pub(crate) struct Promised<'g, S, W> {
     pub(crate) gate: &'g Gate,
@@ -24,5 +25,5 @@ pub(crate) struct Promised<'g, S, W> {
 }
 
 impl<'g, S, W: Work<S>> Promise<Ended<'g, W>> for Promised<'g, S, W> {
-    ghost kept_by = { λ p e. (e.decision.of ≡ p.gate.now.id) × IfNone e.work (e.decision.value ≡ false) × IfSome e.work (W.done p.station.now p.work.value) };
+    ghost kept_by = { λ p e. (e.decision.of ≡ p.gate.now.id) × HasEnded (W.done p.station.now) e.decision.value p.work.value e.work };
 }

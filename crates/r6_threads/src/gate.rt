@@ -20,9 +20,14 @@ pub(crate) fn await_decision<'g, R: Wait>(rt: &R, gate: &'g Gate) -> OnceToken<'
     unreachable!()
 }
 
-// Decides, unless that was done.
+// Decides. No other thread does, and behind another decision this one would wait for good.
 pub(crate) fn decide<'g, R: Wait>(rt: &R, gate: &'g Gate, begins: bool) -> OnceToken<'g, bool>
-    ensures { result.of ≡ gate.now.id }
+    ensures of { result.of ≡ gate.now.id }
+    ensures value { result.value ≡ begins }
 {
-    gate.init(rt, move || begins)
+    if let Ok(token) = gate.set(rt, begins) {
+        return token;
+    }
+    for _ in rt.forever() {}
+    unreachable!()
 }

@@ -7,7 +7,7 @@ mod gate;
 mod run;
 mod work;
 
-pub use run::{Refused, run_all};
+pub use run::{Refused, Unbegun, run_all, run_or_return};
 pub use work::Work;
 
 #[cfg(test)]

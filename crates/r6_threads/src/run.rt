@@ -1,13 +1,14 @@
 //! All pieces of work are done, each in a thread of its own.
 
-ghost use Rattle.std.specs.Prelude.{◌≡◌, ◌≤◌, [], All, IfOk, length, vec_capacity, true, false};
+ghost use Rattle.std.specs.Prelude.{◌≡◌, ◌≤◌, ◌+◌, ◌++◌, [], All, IfErr, IfOk, OnOk, length, vec_capacity, true, false};
 ghost use Rattle.std.specs.List.{AllZip};
+ghost use Rattle.r6_threads.specs.Works.{in_order};
 
 use crate::begin::start;
 use crate::ended::{Ended, Promised};
 use crate::gate::{Gate, decide};
 use crate::work::Work;
-use std::alloc::{AllocError, Global};
+use std::alloc::Global;
 use std::sync::{OnceLock, OnceToken, Wait};
 use std::thread::{self, PromisedHandle, Scope, Threads};
 
@@ -20,66 +21,72 @@ pub enum Refused {
     ThreadRefused,
 }
 
-impl From<AllocError> for Refused {
-    fn from(_: AllocError) -> Refused {
-        Refused::NoMemory
-    }
+/// Work that was not begun.
+#[derive(Drop)]
+pub struct Unbegun<W> {
+    pub reason: Refused,
+    /// The pieces of work, as they were handed in.
+    pub works: Vec<W>,
 }
 
 type Handle<'s, S, W> = PromisedHandle<Ended<'s, W>, Promised<'s, S, W>>;
 
-// Starts a thread for each piece of work; whether each could be made.
+// Starts a thread for each piece of work, from the last one on. Where one can't be made it is decided that none begins;
+// its work, and that of those before it, is left.
 fn start_all<'s, E, S: Sync + 's, W: Work<S> + Send + 's, R: Wait + Sync + 's>(
     scope: &Scope<'s, E>,
     rt: &'s R,
     gate: &'s Gate,
     station: &'s S,
-    works: Vec<W>,
+    works: &mut Vec<W>,
     handles: &mut Vec<Handle<'s, S, W>>,
-) -> bool
-    requires ready { All (W.ready station.now) works.items }
-    requires room { (handles.old.items ≡ []) × (length works.items ≤ vec_capacity handles.old) }
+) -> Result<(), OnceToken<'s, bool>>
+    requires ready { All (W.ready station.now) works.old.items }
+    requires room { (handles.old.items ≡ []) × (length works.old.items ≤ vec_capacity handles.old) }
     ensures gate { All (λ handle. handle.promise.gate.now ≡ gate.now) handles.new.items }
     ensures station { All (λ handle. handle.promise.station.now ≡ station.now) handles.new.items }
-    ensures works { result ≡ true → AllZip (λ work handle. handle.promise.work.value ≡ work)
-        works.items handles.new.items }
+    ensures works { works.old.items ≡ works.new.items ++ in_order (λ handle. handle.promise.work.value) handles.new.items }
+    ensures capacity { vec_capacity works.new ≡ vec_capacity works.old }
+    ensures all { OnOk result (works.new.items ≡ []) }
+    ensures decision { IfErr result (λ token. (token.of ≡ gate.now.id) × (token.value ≡ false)) }
 {
-    for work in works {
-        let Some(handle) = start(scope, rt, gate, station, work) else {
-            return false;
-        };
-        handles.push_reserved(handle);
+    while let Some(work) = works.pop() {
+        match start(scope, rt, gate, station, work) {
+            Ok(handle) => handles.push_reserved(handle),
+            Err(Ended { decision, work }) => {
+                works.push_reserved(work);
+                return Err(decision);
+            }
+        }
     }
-    true
+    Ok(())
 }
 
-// Joins the threads, in their order. Each has done its work, or it was decided that none begins.
+// Joins the threads, in the order of their work, which is put behind that which is left.
 fn join_all<'s, S, W: Work<S>, R: Threads>(
     rt: &R,
     gate: &'s Gate,
     decision: &OnceToken<'s, bool>,
-    handles: Vec<Handle<'s, S, W>>,
+    station: &'s S,
+    mut handles: Vec<Handle<'s, S, W>>,
     works: &mut Vec<W>,
-) -> bool
+)
     requires decision { decision.now.of ≡ gate.now.id }
     requires gate { All (λ handle. handle.promise.gate.now ≡ gate.now) handles.items }
-    requires room { (works.old.items ≡ []) × (length handles.items ≤ vec_capacity works.old) }
-    ensures none { result ≡ false → decision.now.value ≡ false }
-    ensures done { result ≡ true → AllZip (λ handle work.
-        W.done handle.promise.station.now handle.promise.work.value work) handles.entry.items works.new.items }
+    requires station { All (λ handle. handle.promise.station.now ≡ station.now) handles.items }
+    requires room { length works.old.items + length handles.items ≤ vec_capacity works.old }
+    ensures back { decision.now.value ≡ false → works.new.items ≡ works.old.items ++ in_order (λ handle. handle.promise.work.value) handles.entry.items }
+    ensures done { decision.now.value ≡ true → works.old.items ≡ []
+        → AllZip (W.done station.now) (in_order (λ handle. handle.promise.work.value) handles.entry.items) works.new.items }
 {
-    for handle in handles {
+    while let Some(handle) = handles.pop() {
         let Ended {
             decision: other,
             work,
         } = handle.join(rt);
-        let Some(work) = work else {
-            decision.agrees(&other);
-            return false;
-        };
+        decision.agrees(&other);
         works.push_reserved(work);
     }
-    true
 }
 
 /// Does all pieces of work, each in a thread of its own, and calls `f` in this thread meanwhile; what `f` answers, and
@@ -88,7 +95,63 @@ fn join_all<'s, S, W: Work<S>, R: Threads>(
 /// It waits for each thread to end, also if `f` has.
 ///
 /// # Errors
-/// `NoMemory` or `ThreadRefused`: no work was begun, `f` was not called, and the pieces of work are dropped.
+/// `NoMemory` or `ThreadRefused`: no work was begun, and `f` was not called. The pieces of work come back.
+pub fn run_or_return<
+    S: Sync,
+    W: Work<S> + Send,
+    R: Threads + Wait + Sync,
+    T: Drop,
+    F: FnOnce() -> T + Drop,
+>(
+    rt: &R,
+    alloc: Global,
+    station: &S,
+    works: Vec<W>,
+    f: F,
+) -> Result<(T, Vec<W>), Unbegun<W>>
+    requires ready { All (W.ready station.now) works.items }
+    requires call { F.pre f }
+    ensures call { IfOk result (λ r. F.post f r.0) }
+    ensures done { IfOk result (λ r. AllZip (W.done station.now) works.items r.1.items) }
+    ensures back { IfErr result (λ unbegun. unbegun.works.items ≡ works.items) }
+{
+    let gate = Gate::new();
+    let gate = &gate;
+    thread::scope(
+        thread::scope_env(),
+        rt,
+        move |scope| -> Result<(T, Vec<W>), Unbegun<W>>
+            requires { All (W.ready station.now) works.items × F.pre f }
+            ensures call { IfOk result (λ r. F.post f r.0) }
+            ensures done { IfOk result (λ r. AllZip (W.done station.entry.now) works.items r.1.items) }
+            ensures back { IfErr result (λ unbegun. unbegun.works.items ≡ works.items) }
+        {
+            let mut works = works;
+            let Ok(mut handles) = Vec::with_capacity(alloc, works.len()) else {
+                let reason = Refused::NoMemory;
+                return Err(Unbegun { reason, works });
+            };
+            match start_all(scope, rt, gate, station, &mut works, &mut handles) {
+                Ok(()) => {
+                    let decision = decide(rt, gate, true);
+                    let answer = f();
+                    join_all(rt, gate, &decision, station, handles, &mut works);
+                    Ok((answer, works))
+                }
+                Err(decision) => {
+                    join_all(rt, gate, &decision, station, handles, &mut works);
+                    let reason = Refused::ThreadRefused;
+                    Err(Unbegun { reason, works })
+                }
+            }
+        },
+    )
+}
+
+/// As [`run_or_return`], but that pieces of work that aren't begun are dropped.
+///
+/// # Errors
+/// `NoMemory` or `ThreadRefused`: no work was begun, and `f` was not called.
 pub fn run_all<
     S: Sync,
     W: Work<S> + Send,
@@ -101,29 +164,8 @@ pub fn run_all<
     ensures call { IfOk result (λ r. F.post f r.0) }
     ensures done { IfOk result (λ r. AllZip (W.done station.now) works.items r.1.items) }
 {
-    let gate = Gate::new();
-    let gate = &gate;
-    thread::scope(
-        thread::scope_env(),
-        rt,
-        move |scope| -> Result<(T, Vec<W>), Refused>
-            requires { All (W.ready station.now) works.items × F.pre f }
-            ensures call { IfOk result (λ r. F.post f r.0) }
-            ensures done { IfOk result (λ r. AllZip (W.done station.entry.now) works.items r.1.items) }
-        {
-            let mut done = Vec::with_capacity(alloc, works.len())?;
-            let mut handles = Vec::with_capacity(alloc, works.len())?;
-            let is_whole = start_all(scope, rt, gate, station, works, &mut handles);
-            let decision = decide(rt, gate, is_whole);
-            if !is_whole || !*gate.value(&decision) {
-                return Err(Refused::ThreadRefused);
-            }
-            let answer = f();
-            if join_all(rt, gate, &decision, handles, &mut done) {
-                Ok((answer, done))
-            } else {
-                unreachable!()
-            }
-        },
-    )
+    match run_or_return(rt, alloc, station, works, f) {
+        Ok(done) => Ok(done),
+        Err(unbegun) => Err(unbegun.reason),
+    }
 }

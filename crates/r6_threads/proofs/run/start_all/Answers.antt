@@ -1,35 +1,26 @@
-use Rattle.std.proofs.Common.{arith, rules, ◌≡◌}
-use Rattle.std.proofs.lemmas.Iterator.Adapters.{YieldsList-from_vec}
-use Rattle.std.proofs.lemmas.Iterator.Consumers.{YieldsList-turn}
-use Rattle.std.proofs.lemmas.List.Elements.{All-push}
-use Rattle.std.proofs.lemmas.Slice.Zip.{AllZip-long, all_zipped_more}
+use Rattle.std.proofs.Common.{◌≡◌, [], ◌∷◌, ◌++◌, length, ap, ◌∙◌, arith}
+use Rattle.std.proofs.lemmas.List.{length-append}
+use Rattle.std.proofs.lemmas.List.Elements.{All-pop, All-push}
+use Rattle.r6_threads.proofs.Handles.{popped, start_one}
 use Rattle.r6_threads.proofs.run.start_all.Goals as goal
-
-pub push_reserved-requires : goal.push_reserved-requires
-push_reserved-requires g c =
-    let turn = YieldsList-turn
-    (YieldsList-from_vec {s = c.into_iter-work-iterator.result} c.args.works.items (search rules) (search rules))
-    c.loop-work.yielded c.loop-work.work-iterator c.loop-work.yielded_by c.next.result c.next.new.self c.in-Some.work c.in-Some.is
-    c.next.ensures.steps in
-    let kept = c.loop-work.invariant.2 in
-    let long = AllZip-long (λ work handle. handle.promise.work.value ≡ work) c.loop-work.yielded c.loop-work.handles.items kept.works in
-    omega (arith, long, turn.0, kept.room)
 
 pub loop-work-preserved : goal.loop-work-preserved
 loop-work-preserved g c =
-    let kept = c.loop-work.invariant.2 in
+    let so_far = c.loop-work.invariant in
+    let works = c.loop-work.works.items in
+    let rest = c.pop.new.self.items in
+    let work = c.in-Some.work in
     let handles = c.loop-work.handles.items in
-    let handle = c.in-Some-start.handle in
-    let pushed = c.push_reserved.ensures.items in (
-      tt,
-      tt,
-      record {
-        gate = rw pushed (All-push (λ h. h.promise.gate.now ≡ c.args.gate.now) handles handle kept.gate c.in-Some-start.ensures.gate);
-        station = rw pushed
-            (All-push (λ h. h.promise.station.now ≡ c.args.station.now) handles handle kept.station c.in-Some-start.ensures.station);
-        works = rw pushed
-            (all_zipped_more (λ work h. h.promise.work.value ≡ work) c.loop-work.yielded handles c.in-Some.work handle kept.works
-            c.in-Some-start.ensures.work);
-        room = search rules;
-      },
-    )
+    let handle = c.in-Ok.handle in
+    let pushed = c.push_reserved.ensures.items in
+    let last = popped works rest c.pop.result work c.pop.ensures.items c.in-Some.is in
+    let shorter = ap length last ∙ length-append rest (work ∷ []) in
+    let longer = ap length pushed ∙ length-append handles (handle ∷ []) in
+    record {
+      ready = (All-pop (g.W.Work.ready c.args.station.now) works rest c.pop.result c.pop.ensures.items so_far.ready).0;
+      gate = rw pushed (All-push (λ h. h.promise.gate.now ≡ c.args.gate.now) handles handle so_far.gate c.in-Ok.ensures.gate);
+      station = rw pushed (All-push (λ h. h.promise.station.now ≡ c.args.station.now) handles handle so_far.station c.in-Ok.ensures.station);
+      works = rw pushed (start_one (λ h. h.promise.work.value) c.args.works.now.items works rest work handles handle so_far.works last c.in-Ok.ensures.work);
+      capacity = c.pop.ensures.capacity ∙ so_far.capacity;
+      room = omega (arith, so_far.room, shorter, longer, c.push_reserved.ensures.capacity);
+    }
