@@ -7,7 +7,7 @@ use Rattle.std.proofs.Math.Seq.{get_or-append_seam, take-append_seam}
 use Rattle.r6_layout.specs.Shape.{Shape}
 use Rattle.r6_layout.specs.Layout.{shard_of}
 use Rattle.r6_engine.specs.Parts.{Parts, OnlyRead, part_number}
-use Rattle.r6_engine.specs.Reports.{IsFinding, with_finding, with_row}
+use Rattle.r6_engine.specs.Reports.{IsFinding, noted}
 use Rattle.r6_engine.specs.declared.report.Report.{Report}
 use Rattle.r6_engine.specs.Rows.{AreThere, Fits, HasAbsent, ReadFails, RowRead}
 use Rattle.r6_engine.specs.RowChecks.{AllFit, AreClassified, AreRead, HasRoom, IsBatchRead, IsClassified, IsRead}
@@ -103,19 +103,18 @@ pub checked_in_batch : (shape : Shape) (started now : Parts) (row count index : 
     → OnlyRead started now → AreRead shape now row count before → AreClassified before after → index < count → index < length before
     → Checked shape started (row + index) report
     → let finding = (get_or after index other).finding in
-    Checked shape started (row + (index + 1))
-    (record report { counts = with_finding report.counts finding; first = with_row report.first (row + index) finding })
+    Checked shape started (row + (index + 1)) (noted report (row + index) finding)
 checked_in_batch shape started now row count index before after report other read are classified below within checked =
     let place : row + index + 1 ≡ row + (index + 1) = omega arith in
     let check : RowCheck = get_or after index other in
-    let noted : Report = record report { counts = with_finding report.counts check.finding; first = with_row report.first (row + index) check.finding } in
+    let next : Report = noted report (row + index) check.finding in
     let finding : IsFinding shape now (row + index) check.finding =
     found shape now (row + index) (get_or before index other) check (are index other below) (classified.each index other within) in
-    subst (λ (n : ℕ). Checked shape started n noted) place
+    subst (λ (n : ℕ). Checked shape started n next) place
     (checked_next shape started (row + index) report check.finding checked (finding_since shape started now (row + index) check.finding read finding))
 
 -- what was written to all of a batch is the batch
-pub written : (batch rest : List RowCheck) (count : ℕ) → count ≡ length batch → take count (batch ++ rest) ≡ batch
+pub written : {X : Type 0} (batch rest : List X) (count : ℕ) → count ≡ length batch → take count (batch ++ rest) ≡ batch
 written batch rest count all = ap (λ n. take n (batch ++ rest)) all ∙ take-append_seam batch rest
 
 -- the batch has room, and the first so many rows of it are these

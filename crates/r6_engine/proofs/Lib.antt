@@ -3,3 +3,5 @@ mod ReportLaws
 mod RebuildLaws
 mod FileLaws
 mod CheckLaws
+mod PartLaws
+mod ShardLaws

@@ -10,7 +10,7 @@ use Rattle.r6_layout.specs.Layout.{shard_of}
 use Rattle.r6_recover.specs.declared.class.RowClass.{RowClass}
 use Rattle.r6_recover.specs.declared.class.RowClass.TheVariants.{Consistent, WrongP, WrongQ, WrongData, Many}
 use Rattle.r6_engine.specs.Parts.{Parts, OnlyRead, part_number}
-use Rattle.r6_engine.specs.Reports.{Finding, IsFinding, is_consistent, is_wrong_p, is_wrong_q, is_wrong_data, is_many, is_skipped, counts_of, total, with_finding, finding_at, is_wrong, NoneIsWrong, IsFirst, IsFirstWrong, with_row, rows_before, IsReadFault, AreFindings, IsReport}
+use Rattle.r6_engine.specs.Reports.{Finding, IsFinding, is_consistent, is_wrong_p, is_wrong_q, is_wrong_data, is_many, is_skipped, counts_of, total, with_finding, finding_at, is_wrong, NoneIsWrong, IsFirst, IsFirstWrong, with_row, rows_before, IsReadFault, AreFindings, IsReport, no_report, noted}
 use Rattle.r6_engine.specs.Rows.{ReadFails}
 use Rattle.r6_engine.specs.declared.row.SlotFault.{SlotFault}
 use Rattle.r6_engine.specs.declared.report.Counts.{Counts}
@@ -30,7 +30,7 @@ same is findings finding no' =
     let pushed : count_by is (findings ++ finding ∷ []) ≡ count_by is findings + 0 = sum_by_push (λ x. cond (is x) 1 0) findings finding ∙ ap (λ (b : Bool). count_by is findings + cond b 1 0) no' in
     omega (arith, pushed)
 
-alike : (a a' b b' c c' d d' e e' f f' : ℕ) → a ≡ a' → b ≡ b' → c ≡ c' → d ≡ d' → e ≡ e' → f ≡ f'
+pub alike : (a a' b b' c c' d d' e e' f f' : ℕ) → a ≡ a' → b ≡ b' → c ≡ c' → d ≡ d' → e ≡ e' → f ≡ f'
     → let Was : Counts = record { consistent = a; wrong_p = b; wrong_q = c; wrong_data = d; many = e; skipped = f } in
     let Is : Counts = record { consistent = a'; wrong_p = b'; wrong_q = c'; wrong_data = d'; many = e'; skipped = f' } in
     Was ≡ Is
@@ -144,20 +144,19 @@ pub record Checked (shape : Shape) (parts : Parts) (row : ℕ) (report : Report)
   pub each_once : total report.counts ≡ row
   pub no_fault : report.fault ≡ None
 
-pub none_checked : (shape : Shape) (parts : Parts) (report : Report)
-    → report.counts ≡ counts_of [] → report.first ≡ None → report.fault ≡ None → Checked shape parts 0 report
-none_checked shape parts report counts first fault = record {
+pub none_checked : (shape : Shape) (parts : Parts) → Checked shape parts 0 no_report
+none_checked shape parts = record {
   findings = [];
   are = record { count = refl; each = λ row below. absurd (omega (arith, below)) };
-  counts = counts;
-  first = subst (IsFirstWrong []) (sym first) (λ row below. absurd (omega (arith, below)));
-  each_once = ap total counts;
-  no_fault = fault;
+  counts = refl;
+  first = λ row below. absurd (omega (arith, below));
+  each_once = refl;
+  no_fault = refl;
 }
 
 pub checked_next : (shape : Shape) (parts : Parts) (row : ℕ) (report : Report) (finding : Finding)
     → Checked shape parts row report → IsFinding shape parts row finding
-    → Checked shape parts (row + 1) (record report { counts = with_finding report.counts finding; first = with_row report.first row finding })
+    → Checked shape parts (row + 1) (noted report row finding)
 checked_next shape parts row report finding checked is =
     let total' : total report.counts ≡ row = checked.each_once in
     let one = total_with report.counts finding in

@@ -6,6 +6,8 @@ use Rattle.r6_dev.specs.declared.file.OpenError.TheVariants as refused
 use Rattle.r6_engine.specs.Parts.{is_lost}
 use Rattle.r6_engine.specs.declared.error.EngineError.{EngineError}
 use Rattle.r6_engine.specs.declared.error.EngineError.TheVariants.{NoMemory, ThreadRefused, Device}
+use Rattle.r6_threads.specs.declared.run.Refused.{Refused}
+use Rattle.r6_threads.specs.declared.run.Refused.TheVariants as threads
 
 abbrev pub number_of : EngineError → ℕ
 number_of NoMemory = 1
@@ -24,3 +26,13 @@ abbrev pub IsMakingFault : (slots : ℕ) → EngineError → Type 0
 IsMakingFault slots NoMemory = ⊤
 IsMakingFault slots ThreadRefused = ⊥
 IsMakingFault slots (Device slot fault) = (slot < slots) × (fault ≡ WriteFault)
+
+-- why no thread of a check was begun
+abbrev pub of_refusal : Refused → EngineError
+of_refusal threads.NoMemory = NoMemory
+of_refusal threads.ThreadRefused = ThreadRefused
+
+abbrev pub IsRefusal : EngineError → Type 0
+IsRefusal NoMemory = ⊤
+IsRefusal ThreadRefused = ⊤
+IsRefusal (Device slot fault) = ⊥

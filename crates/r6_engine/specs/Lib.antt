@@ -4,3 +4,5 @@ pub mod Rows
 pub mod Reports
 pub mod Rebuilds
 pub mod RowChecks
+pub mod PartReports
+pub mod ShardChecks

@@ -109,6 +109,41 @@ with_row None row (Some WrongQ) = Some (record { row = row; class = WrongQ })
 with_row None row (Some (WrongData z)) = Some (record { row = row; class = WrongData z })
 with_row None row (Some Many) = Some (record { row = row; class = Many })
 
+-- ---- reports that are added to
+
+-- of no row
+abbrev pub no_report : Report
+no_report = record { counts = counts_of []; first = None; fault = None }
+
+-- with what is found of one row more
+abbrev pub noted : Report → (row : ℕ) → Finding → Report
+noted report row finding = record report {
+  counts = with_finding report.counts finding;
+  first = with_row report.first row finding;
+}
+
+abbrev pub with_counts : (counts more : Counts) → Counts
+with_counts counts more = record {
+  consistent = counts.consistent + more.consistent;
+  wrong_p = counts.wrong_p + more.wrong_p;
+  wrong_q = counts.wrong_q + more.wrong_q;
+  wrong_data = counts.wrong_data + more.wrong_data;
+  many = counts.many + more.many;
+  skipped = counts.skipped + more.skipped;
+}
+
+abbrev pub earlier : (first next : Option WrongRow) → Option WrongRow
+earlier (Some found) next = Some found
+earlier None next = next
+
+-- with the report of the rows that come next
+abbrev pub joined : (report next : Report) → Report
+joined report next = record {
+  counts = with_counts report.counts next.counts;
+  first = earlier report.first next.first;
+  fault = next.fault;
+}
+
 -- ---- the report
 
 -- the rows that a pass went over before it ended: all, or those before the row of the fault

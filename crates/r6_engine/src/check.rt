@@ -1,34 +1,41 @@
 //! Every row of an array, classified.
 
-ghost use Rattle.std.specs.Prelude.{◌≡◌, ◌*◌, ◌+◌, ◌<◌, ◌≤◌, length, IfErr, IfOk, None};
+ghost use Rattle.std.specs.Prelude.{◌≡◌, ◌*◌, ◌+◌, ◌<◌, ◌≤◌, ◌^◌, length, map, IfErr, IfOk, None, OnErr};
+ghost use Rattle.r6_engine.specs.Errors.{IsRefusal};
 ghost use Rattle.r6_engine.specs.Parts.{OnlyRead, parts_of};
-ghost use Rattle.r6_engine.specs.Rows.{Fits};
-ghost use Rattle.r6_engine.specs.Reports.{IsReport};
+ghost use Rattle.r6_engine.specs.PartReports.{joined_all};
+ghost use Rattle.r6_engine.specs.Reports.{IsReport, no_report, total};
 ghost use Rattle.r6_engine.specs.RowChecks.{HasRoom};
+ghost use Rattle.r6_engine.specs.ShardChecks.{report_of};
 
 use crate::batch::{BatchRead, classify_and_read, new_batch, read_batch};
 use crate::error::EngineError;
 use crate::report::{Report, RowFault};
 use crate::row::SlotFault;
 use crate::row_check::RowCheck;
+use crate::shard_check::{ShardCheck, alone, checks_of, exchange};
 use crate::watch::Watch;
 use r6_dev::BlockDevice;
 use r6_layout::Geometry;
+use r6_threads::{Unbegun, run_or_return};
 use std::alloc::Global;
 use std::mem;
+use std::sync::Wait;
 use std::thread::Threads;
 
 // A pass tells how far it has come each time it has gone over so many rows.
 const ROWS_A_WORD: u64 = 16384;
 
-/// Reads all rows in their order, each by slot, and counts them by class. A row of which some part isn't there is
-/// skipped, and nothing of it is read. The first fault ends it.
+/// Reads all rows, the rows of each shard in a thread of their own, and counts them by class. What it answers is what one
+/// thread answers that reads all rows in their order, each by slot: a row of which some part isn't there is skipped, and
+/// nothing of it is read; the first fault ends it, and no row behind it is counted.
 ///
-/// Nothing is written. All memory is taken before the first read.
+/// Nothing is written. All memory is taken, and all threads are there, before the first read.
 ///
 /// # Errors
-/// `NoMemory`.
-pub fn check_all<D: BlockDevice>(
+/// `NoMemory` or `ThreadRefused`: nothing was read.
+pub fn check_all<R: Threads + Wait + Sync, D: BlockDevice + Drop + Send>(
+    rt: &R,
     alloc: Global,
     geometry: &Geometry,
     parts: &mut [Option<D>],
@@ -36,30 +43,35 @@ pub fn check_all<D: BlockDevice>(
     requires { length parts.old ≡ geometry.now.shards * geometry.now.slots }
     ensures report { IfOk result (IsReport geometry.now (parts_of D.told parts.old)) }
     ensures kept { IfOk result (λ report. report.fault ≡ None → OnlyRead (parts_of D.told parts.old) (parts_of D.told parts.new)) }
-    ensures err { IfErr result (λ error. error ≡ EngineError.NoMemory) }
+    ensures err { IfErr result IsRefusal }
+    ensures unread { OnErr result (parts.new ≡ parts.old) }
 {
-    let mut check = RowCheck::new(alloc, geometry)?;
-    Ok(check_rows(geometry, parts, &mut check))
+    let alone = alone(geometry);
+    let mut checks = checks_of(alloc, geometry, &alone)?;
+    exchange(parts, checks.as_mut_slice());
+    match run_or_return(rt, alloc, &alone, checks, || ()) {
+        Ok((_, mut checks)) => {
+            exchange(parts, checks.as_mut_slice());
+            Ok(join_reports(checks.as_slice()))
+        }
+        Err(Unbegun { reason, mut works }) => {
+            exchange(parts, works.as_mut_slice());
+            Err(reason.into())
+        }
+    }
 }
 
-fn check_rows<D: BlockDevice>(
-    geometry: &Geometry,
-    parts: &mut [Option<D>],
-    check: &mut RowCheck,
-) -> Report
-    requires parts { length parts.old ≡ geometry.now.shards * geometry.now.slots }
-    requires room { Fits geometry.now check.old.reader }
-    ensures report { IsReport geometry.now (parts_of D.told parts.old) result }
-    ensures kept { result.fault ≡ None → OnlyRead (parts_of D.told parts.old) (parts_of D.told parts.new) }
+// The reports of the shards, from the first on, up to the first fault.
+fn join_reports<D>(checks: &[ShardCheck<D>]) -> Report
+    requires { total (joined_all no_report (map report_of checks.now)).counts < 2 ^ 64 }
+    ensures { result ≡ joined_all no_report (map report_of checks.now) }
 {
     let mut report = Report::new();
-    for row in 0..geometry.rows() {
-        if let Err(SlotFault { slot, fault }) = check.read(geometry, parts, row) {
-            report.fault = Some(RowFault { row, slot, fault });
+    for check in checks {
+        report.join(&check.report);
+        if report.fault.is_some() {
             return report;
         }
-        check.classify();
-        report.note(row, check.finding);
     }
     report
 }

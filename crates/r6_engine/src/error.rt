@@ -4,6 +4,7 @@ ghost use Rattle.std.specs.Prelude.{◌≡◌};
 ghost use Rattle.r6_engine.specs.Errors.{number_of};
 
 use r6_dev::Fault;
+use r6_threads::Refused;
 use std::alloc::{AllocError, AllocFailed};
 use thiserror::Error;
 
@@ -49,5 +50,18 @@ impl<T: Drop> From<AllocFailed<T>> for EngineError {
 
     fn from(_refused: AllocFailed<T>) -> EngineError {
         EngineError::NoMemory
+    }
+}
+
+impl From<Refused> for EngineError {
+    ghost use Rattle.r6_engine.specs.Errors.{of_refusal};
+
+    ghost from_gives = { λ refused error. error ≡ of_refusal refused };
+
+    fn from(refused: Refused) -> EngineError {
+        match refused {
+            Refused::NoMemory => EngineError::NoMemory,
+            Refused::ThreadRefused => EngineError::ThreadRefused,
+        }
     }
 }

@@ -14,6 +14,7 @@ mod rebuild;
 mod report;
 mod row;
 mod row_check;
+mod shard_check;
 mod watch;
 
 pub use check::{check_all, verify};

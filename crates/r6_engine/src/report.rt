@@ -1,7 +1,7 @@
 //! What a check finds, by class.
 
-ghost use Rattle.std.specs.Prelude.{◌≡◌, ◌<◌, ◌+◌, ◌^◌, [], None};
-ghost use Rattle.r6_engine.specs.Reports.{counts_of, total, with_finding, with_row};
+ghost use Rattle.std.specs.Prelude.{◌≡◌, ◌<◌, ◌+◌, ◌^◌};
+ghost use Rattle.r6_engine.specs.Reports.{earlier, joined, no_report, noted, total, with_counts, with_finding, with_row};
 
 use r6_dev::Fault;
 use r6_recover::RowClass;
@@ -71,6 +71,19 @@ impl Counts {
             Some(RowClass::Many) => self.many += 1,
         }
     }
+
+    // Counts further rows.
+    fn add_all(&mut self, more: Counts)
+        requires { total self.old + total more < 2 ^ 64 }
+        ensures { self.new ≡ with_counts self.old more }
+    {
+        self.consistent += more.consistent;
+        self.wrong_p += more.wrong_p;
+        self.wrong_q += more.wrong_q;
+        self.wrong_data += more.wrong_data;
+        self.many += more.many;
+        self.skipped += more.skipped;
+    }
 }
 
 // The first wrong row, where this row comes next.
@@ -87,12 +100,20 @@ fn first_of(first: Option<WrongRow>, row: u64, finding: Option<RowClass>) -> Opt
     }
 }
 
+// The first wrong row, where further rows come next.
+fn earlier_of(first: Option<WrongRow>, next: Option<WrongRow>) -> Option<WrongRow>
+    ensures { result ≡ earlier first next }
+{
+    match first {
+        Some(earlier) => Some(earlier),
+        None => next,
+    }
+}
+
 impl Report {
     /// Of no row.
     pub(crate) fn new() -> Report
-        ensures counts { result.counts ≡ counts_of [] }
-        ensures first { result.first ≡ None }
-        ensures fault { result.fault ≡ None }
+        ensures { result ≡ no_report }
     {
         Report {
             counts: Counts::new(),
@@ -104,9 +125,19 @@ impl Report {
     /// Takes in what was found of the next row.
     pub(crate) fn note(&mut self, row: u64, finding: Option<RowClass>)
         requires { total self.old.counts + 1 < 2 ^ 64 }
-        ensures { self.new ≡ record self.old { counts = with_finding self.old.counts finding; first = with_row self.old.first row finding } }
+        ensures { self.new ≡ noted self.old row finding }
     {
         self.counts.add(finding);
         self.first = first_of(self.first, row, finding);
+    }
+
+    /// Takes in the report of the rows that come next.
+    pub(crate) fn join(&mut self, next: &Report)
+        requires { total self.old.counts + total next.now.counts < 2 ^ 64 }
+        ensures { self.new ≡ joined self.old next.now }
+    {
+        self.counts.add_all(next.counts);
+        self.first = earlier_of(self.first, next.first);
+        self.fault = next.fault;
     }
 }

@@ -6,13 +6,18 @@ use r6_engine::{Counts, Report, RowFault, Unwatched, Watch, WrongRow, check_all,
 use r6_recover::RowClass;
 use std::alloc::Global;
 use std::process::Abort;
+use std::sync::Wait;
 use std::test::Fail;
 use std::thread::Threads;
 
-fn checked(alloc: Global, array: &Array<'_>) -> Result<Report, Fail> {
+fn checked<R: Threads + Wait + Sync>(
+    rt: &R,
+    alloc: Global,
+    array: &Array<'_>,
+) -> Result<Report, Fail> {
     let geometry = array.geometry()?;
     let mut parts = array.parts(alloc, &geometry)?;
-    Ok(check_all(alloc, &geometry, parts.as_mut_slice())?)
+    Ok(check_all(rt, alloc, &geometry, parts.as_mut_slice())?)
 }
 
 fn verified<R: Threads + Sync>(rt: &R, alloc: Global, array: &Array<'_>) -> Result<Report, Fail> {
@@ -22,13 +27,13 @@ fn verified<R: Threads + Sync>(rt: &R, alloc: Global, array: &Array<'_>) -> Resu
 }
 
 /// Both passes have to report this.
-fn reports<R: Abort + Threads + Sync>(
+fn reports<R: Abort + Threads + Wait + Sync>(
     rt: &R,
     alloc: Global,
     array: &Array<'_>,
     wanted: &Report,
 ) -> Result<(), Fail> {
-    assert_eq!(rt; checked(alloc, array)?, *wanted);
+    assert_eq!(rt; checked(rt, alloc, array)?, *wanted);
     assert_eq!(rt; verified(rt, alloc, array)?, *wanted);
     Ok(())
 }
@@ -160,6 +165,32 @@ fn a_fault_at_any_command_ends_the_check_at_its_row(rt: HostRuntime) -> Result<(
     Ok(())
 }
 
+// Shard 0 has rows 0 and 1. Behind its fault nothing of shard 1 is told: not a wrong block in row 3, nor another fault.
+#[test]
+fn nothing_behind_a_fault_of_another_shard_is_told(rt: HostRuntime) -> Result<(), Fail> {
+    let filled = [Filled {
+        row: 3,
+        slot: 0,
+        byte: 1,
+    }];
+    let is_gone = false;
+    let both = [(1, 1), (2, 0)].map(|(row, slot)| Broken { slot, row, is_gone });
+    for broken in [both.as_slice(), &both[..1]] {
+        let array = Array {
+            filled: &filled,
+            broken,
+            ..zeros(2)
+        };
+        let fault = Some(RowFault {
+            row: 1,
+            slot: 1,
+            fault: Fault::ReadFault,
+        });
+        reports(&rt, rt.alloc(), &array, &Report { fault, ..consistent(1) })?;
+    }
+    Ok(())
+}
+
 // Of two that fail in one row the lower slot is named. Those behind it aren't told to read that row.
 #[test]
 fn a_row_is_read_by_slot(rt: HostRuntime) -> Result<(), Fail> {
@@ -175,7 +206,7 @@ fn a_row_is_read_by_slot(rt: HostRuntime) -> Result<(), Fail> {
         };
         let geometry = array.geometry()?;
         let mut parts = array.parts(rt.alloc(), &geometry)?;
-        let report = check_all(rt.alloc(), &geometry, parts.as_mut_slice())?;
+        let report = check_all(&rt, rt.alloc(), &geometry, parts.as_mut_slice())?;
         assert_eq!(rt;
             report.fault.map(|fault| (fault.row, fault.slot)),
             Some((2, lower))

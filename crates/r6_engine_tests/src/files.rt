@@ -80,7 +80,7 @@ fn opened(
 fn checked(rt: &HostRuntime, shards: usize, paths: &[String]) -> Result<Report, Fail> {
     let geometry = geometry_of(shards)?;
     let mut parts = opened(rt, &geometry, paths, &[])?;
-    Ok(check_all(rt.alloc(), &geometry, parts.as_mut_slice())?)
+    Ok(check_all(rt, rt.alloc(), &geometry, parts.as_mut_slice())?)
 }
 
 /// Whether this is found in the files of these paths, with however many shards.
@@ -236,7 +236,7 @@ fn a_short_read_is_a_fault(rt: HostRuntime) -> Result<(), Fail> {
     create_files(&rt, &geometry, paths.as_slice())?;
     let mut parts = opened(&rt, &geometry, paths.as_slice(), &[])?;
     fill(&rt, paths.get(2).ok_or("no path")?.as_str(), BYTES - 20, 0)?;
-    let report = check_all(rt.alloc(), &geometry, parts.as_mut_slice())?;
+    let report = check_all(&rt, rt.alloc(), &geometry, parts.as_mut_slice())?;
     let fault = RowFault {
         row: 2,
         slot: 2,

@@ -8,4 +8,6 @@ mod checks;
 #[cfg(test)]
 mod files;
 #[cfg(test)]
+mod meeting;
+#[cfg(test)]
 mod rebuilds;

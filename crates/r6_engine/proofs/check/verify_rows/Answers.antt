@@ -1,6 +1,6 @@
 use Rattle.std.proofs.Common.{◌≡◌, ℕ, ◌+◌, ◌<◌, ◌++◌, List, length, get_or, drop, sym, ap, subst, ◌∙◌, arith}
 use Rattle.r6_engine.specs.Parts.{OnlyRead, parts_of}
-use Rattle.r6_engine.specs.Reports.{with_finding, with_row}
+use Rattle.r6_engine.specs.Reports.{noted}
 use Rattle.r6_engine.specs.RowChecks.{AreClassified, HasRoom}
 use Rattle.r6_engine.specs.declared.row_check.RowCheck.{RowCheck}
 use Rattle.r6_engine.proofs.CheckLaws.{IsInFront, all_fit_classified, checked_in_batch, fails_since, in_front, in_front_since, written}
@@ -29,7 +29,7 @@ loop-row-init g c =
       fails = fails_since shape started started 0 c.read_batch-read.result.rows c.count_of_rows-count.result c.read_batch-read.result.fault
           (only_read_none started) c.count_of_rows-count.ensures.within read.fails;
       only_read = read.only_read;
-      checked = none_checked shape started c.new-report.result c.new-report.ensures.counts c.new-report.ensures.first c.new-report.ensures.fault;
+      checked = subst (Checked shape started 0) (sym c.new-report.ensures) (none_checked shape started);
     }
 
 pub loop-index-preserved : goal.loop-index-preserved
@@ -50,10 +50,7 @@ loop-index-preserved g c =
     let is : check ≡ get_or after index check =
     c.index.ensures ∙ ap (λ (items : List RowCheck). get_or items index check) (written after (drop (length after) before) c.loop-row.front.len all) in
     subst (λ report. Checked shape started (c.loop-row.row + (index + 1)) report) (sym c.note.ensures)
-    (subst (λ (check : RowCheck). Checked shape started (c.loop-row.row + (index + 1)) (record report {
-      counts = with_finding report.counts check.finding;
-      first = with_row report.first (c.loop-row.row + index) check.finding;
-    })) (sym is)
+    (subst (λ (check : RowCheck). Checked shape started (c.loop-row.row + (index + 1)) (noted report (c.loop-row.row + index) check.finding)) (sym is)
     (checked_in_batch shape started started c.loop-row.row rows index before after report check (only_read_none started) front.are_read classified
     below (omega (arith, below, front.places)) c.loop-index.invariant))
 

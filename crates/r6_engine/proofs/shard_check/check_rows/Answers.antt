@@ -1,10 +1,20 @@
-use Rattle.std.proofs.Common.{◌+◌, sym, subst}
+use Rattle.std.proofs.Common.{◌≡◌, ℕ, ◌+◌, sym, subst, arith}
 use Rattle.r6_engine.specs.Parts.{parts_of}
 use Rattle.r6_engine.specs.Rows.{Fits}
 use Rattle.r6_engine.proofs.CheckLaws.{found}
-use Rattle.r6_engine.proofs.ReportLaws.{Checked, checked_next, finding_since}
-use Rattle.r6_engine.proofs.RowLaws.{only_read_both}
-use Rattle.r6_engine.proofs.check.check_rows.Goals as goal
+use Rattle.r6_engine.proofs.PartLaws.{Noted, noted_next, none_noted, part_at_end, part_at_fault}
+use Rattle.r6_engine.proofs.ReportLaws.{finding_since}
+use Rattle.r6_engine.proofs.RowLaws.{only_read_both, only_read_none, read_fails_since}
+use Rattle.r6_engine.proofs.shard_check.check_rows.Goals as goal
+
+pub loop-row-init : goal.loop-row-init
+loop-row-init g c =
+    let started = parts_of g.D.BlockDevice.told c.args.parts.now in
+    record {
+      room = c.requires.room;
+      only_read = only_read_none started;
+      noted = none_noted c.args.geometry.now started c.args.first c.new-report.result c.new-report.ensures;
+    }
 
 pub loop-row-preserved : goal.loop-row-preserved
 loop-row-preserved g c =
@@ -18,8 +28,17 @@ loop-row-preserved g c =
     record {
       room = subst (Fits shape) (sym c.classify.ensures.reader) c.read.ensures.room;
       only_read = only_read_both started now (parts_of told c.read.new.parts) so_far.only_read c.in_default.ensures.only_read;
-      checked = subst (λ report. Checked shape started (row + 1) report) (sym c.note.ensures)
-          (checked_next shape started row c.loop-row.report finding so_far.checked
+      noted = subst (λ report. Noted shape started c.args.first (row + 1) report) (sym c.note.ensures)
+          (noted_next shape started c.args.first row c.loop-row.report finding so_far.noted
           (finding_since shape started now row finding so_far.only_read
           (found shape now row c.read.new.self c.classify.new.self c.in_default.ensures.read c.classify.ensures)));
     }
+
+pub returns-clause-report : goal.returns-clause-report
+returns-clause-report g c =
+    let shape = c.args.geometry.now in
+    let started = parts_of g.D.BlockDevice.told c.args.parts.now in
+    let ends : c.loop-row.row ≡ c.args.end =
+    omega (arith, c.loop-row-test.false, c.loop-row.auto.row-end c.requires.rows.0) in
+    part_at_end shape started c.args.first c.args.end c.loop-row.report
+    (subst (λ (r : ℕ). Noted shape started c.args.first r c.loop-row.report) ends c.loop-row.invariant.noted)

@@ -1,11 +1,12 @@
+use Rattle.std.proofs.Common.{◌≤◌}
 use Rattle.r6_engine.specs.Parts.{OnlyRead, parts_of}
 use Rattle.r6_engine.specs.Rows.{Fits}
-use Rattle.r6_engine.proofs.ReportLaws.{Checked}
-use Rattle.r6_engine.proofs.check.check_rows.Given as goal
+use Rattle.r6_engine.proofs.PartLaws.{Noted}
+use Rattle.r6_engine.proofs.shard_check.check_rows.Given as goal
 
 abbrev pub invariant-loop-row : goal.invariant-loop-row
 invariant-loop-row g l = record {
   room : Fits l.geometry l.check.reader;
   only_read : OnlyRead (parts_of g.D.BlockDevice.told l.fn.parts) (parts_of g.D.BlockDevice.told l.parts);
-  checked : Checked l.geometry (parts_of g.D.BlockDevice.told l.fn.parts) l.row l.report;
+  noted : Noted l.geometry (parts_of g.D.BlockDevice.told l.fn.parts) l.first l.row l.report;
 }
