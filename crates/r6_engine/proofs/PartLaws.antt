@@ -26,7 +26,7 @@ found_push shape parts row [] finding are is = (subst (λ (r : ℕ). IsFinding s
 found_push shape parts row (first ∷ findings) finding are is = (
   are.0,
   found_push shape parts (row + 1) findings finding are.1
-  (subst (λ (r : ℕ). IsFinding shape parts r finding) (omega arith) is),
+      (subst (λ (r : ℕ). IsFinding shape parts r finding) (omega arith) is),
 )
 
 noted_push : (report : Report) (row : ℕ) (findings : List Finding) (finding : Finding)

@@ -140,7 +140,7 @@ own_met shape parts shard own None is in_shards from are met = met
 own_met shape parts shard own (Some fault) is in_shards from are met = (
   met.0,
   own_fault shape parts shard fault.row own (record { slot = fault.slot; fault = fault.fault }) is
-  (record { is_shard = in_shards; from_first = from; below_next = met.0 }) are met.1,
+      (record { is_shard = in_shards; from_first = from; below_next = met.0 }) are met.1,
 )
 
 -- the report of a shard's rows
@@ -180,12 +180,11 @@ have_own told slots parts number [] long is = tt
 have_own told slots parts number (check ∷ checks) long is =
     let own = own_parts check in
     let rest = flat_map own_parts checks in
-    let count : length own ≡ slots = All-head (HasPlaces slots) check checks long in
-    (
+    let count : length own ≡ slots = All-head (HasPlaces slots) check checks long in (
       λ slot within.
           ap (option_map told) (sym (get_or_append_left own rest None slot (omega (arith, within, count)))) ∙ is slot,
       have_own told slots parts (number + slots) checks (All-tail (HasPlaces slots) check checks long)
-      (λ at.
+          (λ at.
           let past : length own ≤ slots + at = omega (arith, count) in
           let back : slots + at - slots ≡ at = omega arith in
           let place : number + (slots + at) ≡ number + slots + at = omega arith in
@@ -207,13 +206,12 @@ reports_of told shape parts shard (e ∷ empty) (b ∷ begun) (d ∷ ended) is c
     let one = checked.0.report in
     let first = other.0.first ∙ are.0.first in
     let end = other.0.end ∙ are.0.end in
-    let next : shard * shape.slots + shape.slots ≡ (shard + 1) * shape.slots = sym (ap (λ n. n * shape.slots) (add-one shard) ∙ suc-mul shard shape.slots) in
-    (
+    let next : shard * shape.slots + shape.slots ≡ (shard + 1) * shape.slots = sym (ap (λ n. n * shape.slots) (add-one shard) ∙ suc-mul shard shape.slots) in (
       own_report shape parts shard (parts_of told b.parts.items) d.report is in_shards own.0
-      (subst (λ (n : ℕ). IsPartReport (one_shard shape) (parts_of told b.parts.items) (first_row shape shard) n d.report) end
-      (subst (λ (n : ℕ). IsPartReport (one_shard shape) (parts_of told b.parts.items) n b.end d.report) first one)),
+          (subst (λ (n : ℕ). IsPartReport (one_shard shape) (parts_of told b.parts.items) (first_row shape shard) n d.report) end
+          (subst (λ (n : ℕ). IsPartReport (one_shard shape) (parts_of told b.parts.items) n b.end d.report) first one)),
       reports_of told shape parts (shard + 1) empty begun ended is (omega (arith, count)) are.1 other.1
-      (subst (λ (n : ℕ). HaveOwn told shape.slots parts n begun) next own.1) checked.1,
+          (subst (λ (n : ℕ). HaveOwn told shape.slots parts n begun) next own.1) checked.1,
     )
 
 -- they may begin
@@ -230,12 +228,12 @@ all_begin shape shard (e ∷ empty) (b ∷ begun) is count are other =
     let last = first_row_last shape is in
     let one : 1 * shape.slots ≡ shape.slots = omega arith in
     All-cons (Begins (one_shard shape)) b begun
-      (record {
-        parts = other.0.places ∙ are.0.places ∙ sym one;
-        room = subst (λ check. Fits (one_shard shape) check.reader) (sym other.0.check) are.0.room;
-        rows = (omega (arith, first, end, some), omega (arith, end, grows, last));
-      })
-      (all_begin shape (shard + 1) empty begun is (omega (arith, count)) are.1 other.1)
+    (record {
+      parts = other.0.places ∙ are.0.places ∙ sym one;
+      room = subst (λ check. Fits (one_shard shape) check.reader) (sym other.0.check) are.0.room;
+      rows = (omega (arith, first, end, some), omega (arith, end, grows, last));
+    })
+    (all_begin shape (shard + 1) empty begun is (omega (arith, count)) are.1 other.1)
 
 pub all_have_places : {D : Type 0} (shape : Shape) (shard : ℕ) (checks : List (ShardCheck D)) → AreShardChecks shape shard checks
     → All (HasPlaces shape.slots) checks

@@ -186,7 +186,15 @@ fn nothing_behind_a_fault_of_another_shard_is_told(rt: HostRuntime) -> Result<()
             slot: 1,
             fault: Fault::ReadFault,
         });
-        reports(&rt, rt.alloc(), &array, &Report { fault, ..consistent(1) })?;
+        reports(
+            &rt,
+            rt.alloc(),
+            &array,
+            &Report {
+                fault,
+                ..consistent(1)
+            },
+        )?;
     }
     Ok(())
 }

@@ -102,13 +102,7 @@ pub fn run_or_return<
     R: Threads + Wait + Sync,
     T: Drop,
     F: FnOnce() -> T + Drop,
->(
-    rt: &R,
-    alloc: Global,
-    station: &S,
-    works: Vec<W>,
-    f: F,
-) -> Result<(T, Vec<W>), Unbegun<W>>
+>(rt: &R, alloc: Global, station: &S, works: Vec<W>, f: F) -> Result<(T, Vec<W>), Unbegun<W>>
     requires ready { All (W.ready station.now) works.items }
     requires call { F.pre f }
     ensures call { IfOk result (λ r. F.post f r.0) }

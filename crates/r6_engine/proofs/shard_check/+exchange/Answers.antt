@@ -13,6 +13,6 @@ exchange-requires g t c κs within = (
   (
     search rules,
     rest_left c.args.parts.now c.split_at_mut-own.result.1.now c.args.checks.now c.in-Some.rest.now c.in-Some.first.now c.len.result c.requires
-    c.in-Some.ensures.cases.0 (c.len.ensures ∙ c.in-Some.first.now.parts.ok.0) c.split_at_mut-own.ensures.back_len,
+        c.in-Some.ensures.cases.0 (c.len.ensures ∙ c.in-Some.first.now.parts.ok.0) c.split_at_mut-own.ensures.back_len,
   ),
 )
