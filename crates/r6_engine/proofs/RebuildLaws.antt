@@ -1,6 +1,6 @@
 -- A slot that is rebuilt, row by row.
-use Rattle.std.proofs.Common.{◌≡◌, ◌≢◌, ◌⊎◌, ℕ, ◌+◌, ◌-◌, ◌<◌, ◌≤◌, Bool, true, false, cond, List, [], length, get_or, is_some, Option, Some, None, refl, sym, ap, subst, ◌∙◌, arith, ⊎_elim}
-use Rattle.std.specs.Prelude.{nat_eq, IfSome}
+use Rattle.std.proofs.Common.{◌≡◌, ◌≢◌, ℕ, ◌+◌, ◌-◌, ◌<◌, ◌≤◌, Bool, true, false, cond, List, [], length, is_some, Some, None, refl, sym, ap, subst, ◌∙◌, arith, ⊎_elim}
+use Rattle.std.specs.Prelude.{nat_eq}
 use Rattle.std.proofs.lemmas.Bool.{cases_eq, cases_lt, false≢true}
 use Rattle.std.proofs.lemmas.Bool.Decides.{nat_tests}
 use Rattle.std.proofs.lemmas.List.{get_or_past}
@@ -8,13 +8,12 @@ use Rattle.r6_dev.specs.History.{Block, Blocks, put}
 use Rattle.r6_dev.specs.declared.fault.Fault.{Fault}
 use Rattle.r6_dev.specs.declared.fault.Fault.TheVariants.{ReadFault}
 use Rattle.r6_layout.specs.Shape.{Shape, IsShape, data_slots}
-use Rattle.r6_layout.specs.Layout.{OwnsRow, shard_of, slot_at, position_at}
+use Rattle.r6_layout.specs.Layout.{OwnsRow, shard_of, position_at}
 use Rattle.r6_layout.proofs.Roles.{position_at-slot_at}
 use Rattle.r6_layout.proofs.Shards.{OwnsRow-shard_of, OwnsRow-same}
-use Rattle.r6_recover.specs.Known.{IsKnown}
-use Rattle.r6_recover.specs.Restores.{BecomesFullRow, HaveSameLengths}
+use Rattle.r6_recover.specs.Restores.{BecomesFullRow}
 use Rattle.r6_recover.specs.Rows.{block_at, block_length, IsFullRow}
-use Rattle.r6_engine.specs.Parts.{Parts, Devices, AllTell, IsAbsent, OnlyRead, part_number}
+use Rattle.r6_engine.specs.Parts.{Parts, AllTell, IsAbsent, OnlyRead, part_number}
 use Rattle.r6_engine.specs.Rows.{ReadFails, RowRead}
 use Rattle.r6_engine.specs.declared.row.SlotFault.{SlotFault}
 use Rattle.r6_engine.specs.Rebuilds.{AreFullRows, devices_of, AreTelling, HoldsBelow, IsRestoredRow, IsSpared, PartWritten, RebuildFails, RowRebuilt, IsRebuilt}

@@ -1,14 +1,14 @@
 -- One row of an array, read slot by slot.
-use Rattle.std.proofs.Common.{◌≡◌, ◌≢◌, ◌⊎◌, ℕ, ◌+◌, ◌*◌, ◌<◌, ◌≤◌, Bool, true, false, List, [], length, get_or, set, is_some, Option, Some, None, refl, sym, ap, subst, ◌∙◌, arith, ⊎_elim, replicate}
+use Rattle.std.proofs.Common.{◌≡◌, ◌≢◌, ℕ, ◌+◌, ◌<◌, ◌≤◌, Bool, true, false, List, [], length, get_or, set, is_some, refl, sym, ap, subst, ◌∙◌, arith, ⊎_elim, replicate}
 use Rattle.std.proofs.lemmas.Bool.{cases_eq, cases_lt, false≢true}
 use Rattle.std.proofs.lemmas.List.{get_or-set_same, get_or-set_other, get_or-replicate, get_or_past, length-set, length-replicate}
 use Rattle.r6_dev.specs.History.{Block}
-use Rattle.r6_layout.specs.Shape.{Shape, IsShape, data_slots}
+use Rattle.r6_layout.specs.Shape.{Shape, IsShape}
 use Rattle.r6_layout.specs.Layout.{OwnsRow, shard_of, slot_at, position_at, first_row}
 use Rattle.r6_layout.proofs.Roles.{slot_at-lt, position_at-lt, position_at-slot_at, slot_at-position_at}
 use Rattle.r6_layout.proofs.Shards.{OwnsRow-shard_of}
 use Rattle.r6_recover.specs.Known.{IsKnown}
-use Rattle.r6_recover.specs.Rows.{block_at, block_length}
+use Rattle.r6_recover.specs.Rows.{block_at}
 use Rattle.r6_engine.specs.Parts.{Parts, Devices, TellsRows, AllTell, OnlyRead, PartRead, part_number}
 use Rattle.r6_engine.specs.Rows.{AreThere, IsRow, ReadFails, SlotRead, RowRead, marked}
 use Rattle.r6_engine.specs.declared.row.SlotFault.{SlotFault}

@@ -1,5 +1,5 @@
 -- The rows of a shard, checked as rows of an array of one shard.
-use Rattle.std.proofs.Common.{◌≡◌, ◌⊎◌, ℕ, ◌+◌, ◌-◌, ◌*◌, ◌<◌, ◌≤◌, List, [], ◌∷◌, ◌++◌, length, get_or, is_some, Option, Some, None, refl, sym, ap, subst, ◌∙◌, arith, ⊎_elim, add-one, add-zero, zero-add, map, drop, lit≤}
+use Rattle.std.proofs.Common.{◌≡◌, ℕ, ◌+◌, ◌-◌, ◌*◌, ◌<◌, ◌≤◌, List, [], ◌∷◌, ◌++◌, length, get_or, is_some, Option, Some, None, refl, sym, ap, subst, ◌∙◌, arith, ⊎_elim, add-one, add-zero, zero-add, map, drop, lit≤}
 use Rattle.std.proofs.Math.Nat.{suc-mul, zero-mul}
 use Rattle.std.proofs.lemmas.Bool.{cases_lt}
 use Rattle.std.proofs.lemmas.List.{drop_more, get_or_append_left, get_or-append_right, length-append, length-map}
@@ -12,7 +12,6 @@ use Rattle.r6_layout.specs.Shape.{Shape, IsShape}
 use Rattle.r6_layout.specs.Layout.{OwnsRow, first_row, shard_of, slot_at}
 use Rattle.r6_layout.proofs.Roles.{slot_at-lt}
 use Rattle.r6_layout.proofs.Shards.{OwnsRow-lt, OwnsRow-same, OwnsRow-shard_of, first_row-lt, first_row_grows, first_row_last, first_row_zero, shard_of-lt}
-use Rattle.r6_recover.specs.Rows.{block_at}
 use Rattle.r6_engine.specs.Parts.{Parts, Devices, TellsRows, AllTell, OnlyRead, part_number, parts_of}
 use Rattle.r6_engine.specs.Rows.{Fits, IsRow, ReadFails}
 use Rattle.r6_engine.specs.Reports.{Finding, IsFinding, IsReport, no_report}

@@ -3,7 +3,7 @@ use Rattle.std.specs.Prelude.{◌≡◌, ◌≢◌, ℕ, ◌<◌, Bool, true, fa
 use Rattle.r6_layout.specs.Shape.{Shape}
 use Rattle.r6_layout.specs.Layout.{shard_of, slot_at, position_at}
 use Rattle.r6_recover.specs.Known.{IsKnown}
-use Rattle.r6_recover.specs.Rows.{block_at, block_length}
+use Rattle.r6_recover.specs.Rows.{block_at}
 use Rattle.r6_dev.specs.History.{Block}
 use Rattle.r6_dev.specs.declared.fault.Fault.TheVariants.{WriteFault}
 use Rattle.r6_engine.specs.Parts.{Parts, Devices, AllTell, OnlyRead, part_number}

@@ -13,7 +13,9 @@ use r6_recover::RowClass;
 use std::fs::File;
 use std::process::Abort;
 use std::rt::Files;
+use std::sync::Wait;
 use std::test::Fail;
+use std::thread::Threads;
 use std::{env, fs, process};
 
 const SLOTS: usize = 4;
@@ -65,8 +67,8 @@ fn geometry_of(shards: usize) -> Result<Geometry, Fail> {
     Ok(Geometry::new(SLOTS, 1, 16, 4, shards)?)
 }
 
-fn opened(
-    rt: &HostRuntime,
+fn opened<R: Files<File = File> + AllocGlobal>(
+    rt: &R,
     geometry: &Geometry,
     paths: &[String],
     lost: &[u32],
@@ -77,14 +79,22 @@ fn opened(
 }
 
 /// What is found in the files of these paths.
-fn checked(rt: &HostRuntime, shards: usize, paths: &[String]) -> Result<Report, Fail> {
+fn checked<R: Files<File = File> + AllocGlobal + Threads + Wait + Sync>(
+    rt: &R,
+    shards: usize,
+    paths: &[String],
+) -> Result<Report, Fail> {
     let geometry = geometry_of(shards)?;
     let mut parts = opened(rt, &geometry, paths, &[])?;
     Ok(check_all(rt, rt.alloc(), &geometry, parts.as_mut_slice())?)
 }
 
 /// Whether this is found in the files of these paths, with however many shards.
-fn is_found(rt: &HostRuntime, paths: &[String], wanted: &Report) -> Result<bool, Fail> {
+fn is_found<R: Files<File = File> + AllocGlobal + Threads + Wait + Sync>(
+    rt: &R,
+    paths: &[String],
+    wanted: &Report,
+) -> Result<bool, Fail> {
     for shards in [1usize, 2, 4] {
         if checked(rt, shards, paths)? != *wanted {
             return Ok(false);

@@ -1,6 +1,5 @@
 -- Pieces of work in threads of their own (this project's own).
 use Rattle.std.specs.Prelude.{◌≡◌, Bool, true, false, List, map, reverse}
-use Rattle.std.specs.List.{AllZip}
 
 -- a piece of work that was begun is done; one that wasn't is as it was
 abbrev pub HasEnded : {W : Type 0} → (done : W → W → Type 0) → (begun : Bool) → (before after : W) → Type 0

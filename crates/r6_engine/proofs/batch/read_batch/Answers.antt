@@ -1,4 +1,4 @@
-use Rattle.std.proofs.Common.{◌≡◌, ℕ, ◌<◌, length, ◌∙◌, arith}
+use Rattle.std.proofs.Common.{◌<◌, length, ◌∙◌, arith}
 use Rattle.std.proofs.lemmas.List.{length-set}
 use Rattle.r6_engine.specs.Parts.{parts_of}
 use Rattle.r6_engine.proofs.CheckLaws.{all_fit_set, are_read_next}

@@ -1,11 +1,11 @@
-use Rattle.std.proofs.Common.{◌≡◌, ◌+◌, ◌*◌, ◌<◌, ◌^◌, ◌++◌, List, None, length, map, drop, sym, ap, subst, ◌∙◌, zero-add}
+use Rattle.std.proofs.Common.{◌≡◌, ◌*◌, ◌<◌, ◌^◌, length, map, drop, sym, ap, subst, ◌∙◌, zero-add}
 use Rattle.std.proofs.lemmas.List.Elements.{All-same}
 use Rattle.std.proofs.lemmas.Slice.Zip.{AllZip-long}
 use Rattle.std.specs.List.{All, AllZip, flat_map}
 use Rattle.r6_engine.specs.Parts.{OnlyRead, parts_of}
 use Rattle.r6_engine.specs.PartReports.{joined_all}
 use Rattle.r6_engine.specs.Reports.{IsReport, no_report, total}
-use Rattle.r6_engine.specs.ShardChecks.{Begins, HasChecked, HasOtherParts, one_shard, own_parts, report_of}
+use Rattle.r6_engine.specs.ShardChecks.{Begins, HasChecked, HasOtherParts, own_parts, report_of}
 use Rattle.r6_engine.proofs.CheckLaws.{written}
 use Rattle.r6_engine.proofs.PartLaws.{total_fits}
 use Rattle.r6_engine.proofs.ShardLaws.{all_begin, all_checked, all_have_places, all_kept, length_of_all, length_still, same_reports}

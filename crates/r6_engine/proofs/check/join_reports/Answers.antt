@@ -1,8 +1,8 @@
-use Rattle.std.proofs.Common.{◌≡◌, ◌+◌, ◌<◌, ◌^◌, drop, map, sym, ap, subst, ◌∙◌}
+use Rattle.std.proofs.Common.{◌+◌, ◌<◌, ◌^◌, drop, map, sym, ap, subst, ◌∙◌}
 use Rattle.r6_engine.specs.PartReports.{joined_all}
 use Rattle.r6_engine.specs.Reports.{total}
 use Rattle.r6_engine.specs.ShardChecks.{report_of}
-use Rattle.r6_engine.proofs.PartLaws.{joined_met, joined_on, next_fits}
+use Rattle.r6_engine.proofs.PartLaws.{next_fits}
 use Rattle.r6_engine.proofs.ShardLaws.{left_to_join}
 use Rattle.r6_engine.proofs.check.join_reports.Goals as goal
 

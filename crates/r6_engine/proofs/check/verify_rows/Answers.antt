@@ -1,4 +1,4 @@
-use Rattle.std.proofs.Common.{◌≡◌, ℕ, ◌+◌, ◌<◌, ◌++◌, List, length, get_or, drop, sym, ap, subst, ◌∙◌, arith}
+use Rattle.std.proofs.Common.{◌≡◌, ℕ, ◌+◌, ◌<◌, List, length, get_or, drop, sym, ap, subst, ◌∙◌, arith}
 use Rattle.r6_engine.specs.Parts.{OnlyRead, parts_of}
 use Rattle.r6_engine.specs.Reports.{noted}
 use Rattle.r6_engine.specs.RowChecks.{AreClassified, HasRoom}

@@ -1,4 +1,4 @@
-use Rattle.std.proofs.Common.{◌≡◌, ℕ, ◌*◌, sym, subst, ◌∙◌, arith}
+use Rattle.std.proofs.Common.{◌≡◌, ℕ, ◌*◌, subst, arith}
 use Rattle.r6_engine.proofs.FileLaws.{Opened, opened_all}
 use Rattle.r6_engine.proofs.files.open_parts.Goals as goal
 

@@ -1,4 +1,4 @@
-use Rattle.std.proofs.Common.{◌≡◌, ℕ, ◌<◌, None, sym, ap, subst, arith}
+use Rattle.std.proofs.Common.{◌≡◌, ℕ, ◌<◌, None, sym, subst, arith}
 use Rattle.std.specs.Prelude.{IfSome}
 use Rattle.r6_engine.specs.Parts.{parts_of}
 use Rattle.r6_engine.specs.Rebuilds.{IsRebuilt, targets_of}

@@ -2,9 +2,9 @@ use Rattle.std.proofs.Common.{◌≡◌, ℕ, ◌+◌, sym, subst, arith}
 use Rattle.r6_engine.specs.Parts.{parts_of}
 use Rattle.r6_engine.specs.Rows.{Fits}
 use Rattle.r6_engine.proofs.CheckLaws.{found}
-use Rattle.r6_engine.proofs.PartLaws.{Noted, noted_next, none_noted, part_at_end, part_at_fault}
+use Rattle.r6_engine.proofs.PartLaws.{Noted, noted_next, none_noted, part_at_end}
 use Rattle.r6_engine.proofs.ReportLaws.{finding_since}
-use Rattle.r6_engine.proofs.RowLaws.{only_read_both, only_read_none, read_fails_since}
+use Rattle.r6_engine.proofs.RowLaws.{only_read_both, only_read_none}
 use Rattle.r6_engine.proofs.shard_check.check_rows.Goals as goal
 
 pub loop-row-init : goal.loop-row-init

@@ -1,4 +1,3 @@
-use Rattle.std.proofs.Common.{◌≤◌}
 use Rattle.r6_engine.specs.Parts.{OnlyRead, parts_of}
 use Rattle.r6_engine.specs.Rows.{Fits}
 use Rattle.r6_engine.proofs.PartLaws.{Noted}

@@ -1,7 +1,7 @@
-use Rattle.std.proofs.Common.{◌≡◌, ℕ, ◌+◌, ◌∷◌, [], ◌≤◌, length, sym, ap, subst, ◌∙◌, arith, zero-add, vec_capacity}
+use Rattle.std.proofs.Common.{◌≡◌, ℕ, ◌+◌, ◌∷◌, [], ◌≤◌, length, sym, ap, subst, ◌∙◌, arith, zero-add}
 use Rattle.std.proofs.lemmas.List.{length-append}
 use Rattle.r6_engine.specs.Rows.{Fits}
-use Rattle.r6_engine.specs.ShardChecks.{IsShardCheck, one_shard}
+use Rattle.r6_engine.specs.ShardChecks.{IsShardCheck}
 use Rattle.r6_engine.proofs.ShardLaws.{checks_push}
 use Rattle.r6_engine.proofs.shard_check.checks_of.Goals as goal
 

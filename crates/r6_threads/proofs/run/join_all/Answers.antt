@@ -1,7 +1,6 @@
-use Rattle.std.proofs.Common.{◌≡◌, [], ◌∷◌, ◌++◌, length, sym, ap, subst, ◌∙◌, arith, IfSome}
+use Rattle.std.proofs.Common.{◌≡◌, [], ◌∷◌, length, sym, ap, subst, ◌∙◌, arith, IfSome}
 use Rattle.std.proofs.lemmas.List.{length-append}
 use Rattle.std.proofs.lemmas.List.Elements.{All-pop}
-use Rattle.r6_threads.specs.Works.{in_order}
 use Rattle.r6_threads.proofs.Handles.{back_one, ended_back, ended_done, join_one, popped}
 use Rattle.r6_threads.proofs.run.join_all.Goals as goal
 

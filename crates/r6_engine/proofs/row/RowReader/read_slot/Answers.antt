@@ -1,4 +1,4 @@
-use Rattle.std.proofs.Common.{◌≡◌, ℕ, ◌+◌, ◌*◌, Bool, sym, ap, subst, ◌∙◌, slice_set}
+use Rattle.std.proofs.Common.{◌≡◌, ℕ, ◌+◌, ◌*◌, Bool, sym, ap, subst, ◌∙◌}
 use Rattle.r6_layout.specs.Layout.{shard_of}
 use Rattle.r6_engine.specs.Parts.{PartRead, parts_of, part_number}
 use Rattle.r6_engine.specs.Rows.{SlotRead}
