@@ -8,7 +8,7 @@ use crate::begin::start;
 use crate::ended::{Ended, Promised};
 use crate::gate::{Gate, decide};
 use crate::work::Work;
-use std::alloc::Global;
+use std::alloc::{AllocError, Global};
 use std::sync::{OnceLock, OnceToken, Wait};
 use std::thread::{self, PromisedHandle, Scope, Threads};
 
@@ -19,6 +19,12 @@ pub enum Refused {
     NoMemory,
     /// A thread could not be made.
     ThreadRefused,
+}
+
+impl From<AllocError> for Refused {
+    fn from(_: AllocError) -> Refused {
+        Refused::NoMemory
+    }
 }
 
 /// Work that was not begun.
