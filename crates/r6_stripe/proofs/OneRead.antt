@@ -26,7 +26,7 @@ pub record IsOne (hold : Hold) (index : ℕ) : Type 0 where
 
 pub one_in : (s : HoldState) (index : ℕ) → IsSound s → s.plan ≡ plan.One → s.task ≡ Some (task.Read index) → IsOne (hold_of s) index
 one_in s index sound one reads =
-    let places = s.places.items in
+    let places = s.places in
     let blocks = s.blocks.items in
     let wide = length-cells_of places blocks in
     let fits : IsTask (length places) s.len (Some (task.Read index)) = subst (IsTask (length places) s.len) reads sound.fits in

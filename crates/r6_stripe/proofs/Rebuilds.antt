@@ -213,7 +213,7 @@ module _ (size target : ℕ) (cut : Bool) (places : List Place) (blocks new : Li
 
 -- what a rebuild leaves
 pub record IsRebuilt (s : HoldState) (later : List Place) (new : List (List ℕ)) : Type 0 where
-  pub width : length later ≡ length s.places.items
+  pub width : length later ≡ length s.places
   pub wide : length new ≡ length later
   pub home : AreHome s.len later new
   pub settled : Each (λ position place. IsSettled place) later
@@ -233,13 +233,13 @@ module _ (s : HoldState) (target : ℕ) (sound : IsSound s) (is : s.task ≡ Som
     (read_all : not (plans.has_read_out (hold_of s) || not (plans.is_enough (plan_of s.plan) (hold_of s))) ≡ true) (no_read : plans.next_read (plan_of s.plan) (hold_of s) ≡ None)
     (owed : plans.each_below (λ position. not (plans.lacks_new (hold_of s) position)) (length (hold_of s).cells) ≡ false) where
   abbrev n : ℕ
-  n = length s.places.items
+  n = length s.places
 
   abbrev held : Hold
-  held = rebuilding s.len target s.cut_short (cells_of s.places.items s.blocks.items)
+  held = rebuilding s.len target s.cut_short (cells_of s.places s.blocks.items)
 
   hold_is : hold_of s ≡ held
-  hold_is = ap (λ (t : Option Task). record { size = s.len; kind = kind_of t; cells = cells_of s.places.items s.blocks.items; cut_short = s.cut_short }) is
+  hold_is = ap (λ (t : Option Task). record { size = s.len; kind = kind_of t; cells = cells_of s.places s.blocks.items; cut_short = s.cut_short }) is
 
   follows_recover : s.plan ≡ plan.Recover
   follows_recover = recover_only s.plan follows
@@ -250,24 +250,24 @@ module _ (s : HoldState) (target : ℕ) (sound : IsSound s) (is : s.task ≡ Som
   uncut : s.cut_short ≡ false
   uncut = subst (λ (t : Option Task). MayCut t s.cut_short) is sound.cut
 
-  building : Each (IsRebuilding target sound.computed) s.places.items
+  building : Each (IsRebuilding target sound.computed) s.places
   building =
-      subst (λ (t : Option Task). Each (IsInCourse plan.Recover t n sound.computed) s.places.items) is
-      (subst (λ (p : Plan). Each (IsInCourse p s.task n sound.computed) s.places.items) follows_recover sound.course)
+      subst (λ (t : Option Task). Each (IsInCourse plan.Recover t n sound.computed) s.places) is
+      (subst (λ (p : Plan). Each (IsInCourse p s.task n sound.computed) s.places) follows_recover sound.course)
 
   owed_now : plans.each_below (λ position. not (plans.lacks_new held position)) (length held.cells) ≡ false
   owed_now = subst (λ (h : Hold). plans.each_below (λ position. not (plans.lacks_new h position)) (length h.cells) ≡ false) hold_is owed
 
   -- a target that has its new block owes none
-  owes_none : Each (IsRebuilding target true) s.places.items → plans.each_below (λ position. not (plans.lacks_new held position)) (length held.cells) ≡ true
+  owes_none : Each (IsRebuilding target true) s.places → plans.each_below (λ position. not (plans.lacks_new held position)) (length held.cells) ≡ true
   owes_none each =
       each_true (λ position. not (plans.lacks_new held position)) (length held.cells)
       (λ j h.
       elim (cases_eq j target) [
         | inl e ↦ subst (λ (k : ℕ). not (plans.lacks_new held k) ≡ true) (sym e)
-            (ap (λ (cell : Cell). not (not (plans.is_out cell.standing) && plans.is_unwritten cell.writing && (target == target))) (cell_at-cells_of s.places.items s.blocks.items target no_place below)
-            ∙ ap (λ (b : Bool). not (not (plans.is_out (standing_of (get_or s.places.items target no_place).state)) && b && (target == target))) (written_of (get_or s.places.items target no_place).write (get_or s.blocks.items target []) ((each target below).1 refl).2)
-            ∙ no_longer (plans.is_out (standing_of (get_or s.places.items target no_place).state)) (target == target))
+            (ap (λ (cell : Cell). not (not (plans.is_out cell.standing) && plans.is_unwritten cell.writing && (target == target))) (cell_at-cells_of s.places s.blocks.items target no_place below)
+            ∙ ap (λ (b : Bool). not (not (plans.is_out (standing_of (get_or s.places target no_place).state)) && b && (target == target))) (written_of (get_or s.places target no_place).write (get_or s.blocks.items target []) ((each target below).1 refl).2)
+            ∙ no_longer (plans.is_out (standing_of (get_or s.places target no_place).state)) (target == target))
         | inr other ↦ ap (λ (b : Bool). not (is_writable (cell_at held.cells j) && b)) (ne_eqb target j (λ e. other (sym e))) ∙ ap not (and_right (is_writable (cell_at held.cells j)) false refl)
       ])
     where
@@ -275,34 +275,34 @@ module _ (s : HoldState) (target : ℕ) (sound : IsSound s) (is : s.task ≡ Som
       no_longer true named = refl
       no_longer false named = refl
 
-  course_now : Each (IsRebuilding target false) s.places.items
+  course_now : Each (IsRebuilding target false) s.places
   course_now = by_computed sound.computed building
     where
-      by_computed : (b : Bool) → Each (IsRebuilding target b) s.places.items → Each (IsRebuilding target false) s.places.items
+      by_computed : (b : Bool) → Each (IsRebuilding target b) s.places → Each (IsRebuilding target false) s.places
       by_computed false each = each
       by_computed true each = absurd (let e = sym owed_now ∙ owes_none each in cc)
 
-  pub none_lent : Each (λ position place. is_lent place ≡ false) s.places.items
-  none_lent k inside = false_from_ne_true (is_lent (get_or s.places.items k no_place)) (λ lent. subst (λ (t : Option Task). MayLend t k) is (sound.lends k inside lent))
+  pub none_lent : Each (λ position place. is_lent place ≡ false) s.places
+  none_lent k inside = false_from_ne_true (is_lent (get_or s.places k no_place)) (λ lent. subst (λ (t : Option Task). MayLend t k) is (sound.lends k inside lent))
 
-  kept_at : (k : ℕ) → k < n → (get_or s.places.items k no_place).read ≢ read.Replaced
+  kept_at : (k : ℕ) → k < n → (get_or s.places k no_place).read ≢ read.Replaced
   kept_at k inside gone =
       elim (cases_eq k target) [
         | inl same ↦ (let e = sym ((course_now k inside).1 same).0 ∙ gone in cc)
         | inr other ↦ ((course_now k inside).0 other).1 gone
       ]
 
-  unread : (get_or s.places.items target no_place).read ≡ read.Unread
+  unread : (get_or s.places target no_place).read ≡ read.Unread
   unread = ((course_now target below).1 refl).0
 
-  unknown : get_or (known_of s.places.items) target false ≡ false
-  unknown = known_at s.places.items target below ∙ ap (λ (r : ReadState). is_known (reading_of r [])) unread
+  unknown : get_or (known_of s.places) target false ≡ false
+  unknown = known_at s.places target below ∙ ap (λ (r : ReadState). is_known (reading_of r [])) unread
 
   -- the target's buffer never left
   pub own_long : length (get_or s.blocks.items target []) ≡ s.len
   own_long =
       sound.at_home target below
-      (inl (not_away (get_or s.places.items target no_place) (sound.settled target below) (λ e. let f = sym unread ∙ e.0 in cc) (λ e. let f = sym ((course_now target below).1 refl).2 ∙ e in cc) (λ e. let f = sym unread ∙ e.1 in cc)))
+      (inl (not_away (get_or s.places target no_place) (sound.settled target below) (λ e. let f = sym unread ∙ e.0 in cc) (λ e. let f = sym ((course_now target below).1 refl).2 ∙ e in cc) (λ e. let f = sym unread ∙ e.1 in cc)))
 
   read_parts_now : (plans.has_read_out (hold_of s) ≡ false) × (plans.is_enough (plan_of s.plan) (hold_of s) ≡ true)
   read_parts_now = read_parts (plans.has_read_out (hold_of s)) (plans.is_enough (plan_of s.plan) (hold_of s)) read_all
@@ -310,20 +310,20 @@ module _ (s : HoldState) (target : ℕ) (sound : IsSound s) (is : s.task ≡ Som
   enough : plans.is_enough plans.Plan.Recover (hold_of s) ≡ true
   enough = subst (λ (p : plans.Plan). plans.is_enough p (hold_of s) ≡ true) follows read_parts_now.1
 
-  module _ (m : Missing) (missing : IsMissing (known_of s.places.items) n m) where
+  module _ (m : Missing) (missing : IsMissing (known_of s.places) n m) where
     pub may : MayMiss n m
     may =
         let e = leb-true (plans.data_count (hold_of s)) (plans.known_count (hold_of s).cells) enough in
-        may_miss s.places.items s.blocks.items m (omega (arith, e, length-cells_of s.places.items s.blocks.items)) missing
+        may_miss s.places s.blocks.items m (omega (arith, e, length-cells_of s.places s.blocks.items)) missing
 
     pub among : IsAmongMissing m target
-    among = among_missing (known_of s.places.items) n m target missing may below unknown
+    among = among_missing (known_of s.places) n m target missing may below unknown
 
     pub long : AreLongButMissing s.len m s.blocks.items
-    long = long_but s.len s.places.items s.blocks.items sound.wide sound.at_home kept_at (λ k inside known. none_lent k inside) m missing
+    long = long_but s.len s.places s.blocks.items sound.wide sound.at_home kept_at (λ k inside known. none_lent k inside) m missing
 
     module _ (new : List (List ℕ)) (restores : RestoresAt m target s.len s.blocks.items new) where
-      builds : Rebuilds s.len target s.cut_short s.places.items s.blocks.items new
+      builds : Rebuilds s.len target s.cut_short s.places s.blocks.items new
       builds = record {
         below = below;
         course = course_now;
@@ -337,23 +337,23 @@ module _ (s : HoldState) (target : ℕ) (sound : IsSound s) (is : s.task ≡ Som
         kept = restores.beside;
         carried = λ row before.
             let two : 2 ≤ n = omega (arith, sound.four_or_more) in
-            let was : IsBefore (rebuilding s.len target false (cells_of s.places.items s.blocks.items)) row =
-            subst (λ (cut : Bool). IsBefore (rebuilding s.len target cut (cells_of s.places.items s.blocks.items)) row) uncut before in
+            let was : IsBefore (rebuilding s.len target false (cells_of s.places s.blocks.items)) row =
+            subst (λ (cut : Bool). IsBefore (rebuilding s.len target cut (cells_of s.places s.blocks.items)) row) uncut before in
             sym (restores.restored row
-            (full_row s.len s.places.items s.blocks.items sound.wide sound.at_home kept_at (Kind.Rebuild target) (λ e. cc) two row was)
-            (agree_missing s.len s.places.items s.blocks.items sound.wide sound.at_home kept_at (Kind.Rebuild target) (λ e. cc) two row was m missing));
+            (full_row s.len s.places s.blocks.items sound.wide sound.at_home kept_at (Kind.Rebuild target) (λ e. cc) two row was)
+            (agree_missing s.len s.places s.blocks.items sound.wide sound.at_home kept_at (Kind.Rebuild target) (λ e. cc) two row was m missing));
       }
 
       abbrev ready_places : List Place
-      ready_places = ready_at s.places.items (target ∷ [])
+      ready_places = ready_at s.places (target ∷ [])
 
       home_after : AreHome s.len ready_places new
       home_after j h has =
           elim (cases_eq j target) [
             | inl e ↦ subst (λ (k : ℕ). length (get_or new k []) ≡ s.len) (sym e) restores.long
             | inr other ↦ ap length (restores.beside j other)
-                ∙ sound.at_home j (omega (arith, h, length-ready_at s.places.items (target ∷ [])))
-                (subst HasBuffer (place_beside s.len target s.cut_short s.places.items s.blocks.items new builds j other) has)
+                ∙ sound.at_home j (omega (arith, h, length-ready_at s.places (target ∷ [])))
+                (subst HasBuffer (place_beside s.len target s.cut_short s.places s.blocks.items new builds j other) has)
           ]
 
       abbrev held_by : Option Task → List Place → List (List ℕ) → Hold
@@ -361,23 +361,23 @@ module _ (s : HoldState) (target : ℕ) (sound : IsSound s) (is : s.task ≡ Som
 
       rebuilt : IsRebuilt s ready_places new
       rebuilt = record {
-        width = length-ready_at s.places.items (target ∷ []);
-        wide = restores.count ∙ sound.wide ∙ sym (length-ready_at s.places.items (target ∷ []));
+        width = length-ready_at s.places (target ∷ []);
+        wide = restores.count ∙ sound.wide ∙ sym (length-ready_at s.places (target ∷ []));
         home = home_after;
-        settled = rebuild_settled s.len target s.cut_short s.places.items s.blocks.items new builds;
-        unlent = rebuild_unlent s.len target s.cut_short s.places.items s.blocks.items new builds;
+        settled = rebuild_settled s.len target s.cut_short s.places s.blocks.items new builds;
+        unlent = rebuild_unlent s.len target s.cut_short s.places s.blocks.items new builds;
         course =
             subst (λ (p : Plan). Each (IsInCourse p s.task (length ready_places) true) ready_places) (sym follows_recover)
             (subst (λ (t : Option Task). Each (IsInCourse plan.Recover t (length ready_places) true) ready_places) (sym is)
-            (rebuild_course s.len target s.cut_short s.places.items s.blocks.items new builds));
+            (rebuild_course s.len target s.cut_short s.places s.blocks.items new builds));
         prepares =
             subst (λ (p : plans.Plan). plans.Prepares (record { hold = hold_of s; plan = p }) (record { hold = held_by s.task ready_places new; plan = p })) (sym follows)
-            (subst (λ (t : Option Task). plans.Prepares (record { hold = held_by t s.places.items s.blocks.items; plan = plans.Plan.Recover }) (record { hold = held_by t ready_places new; plan = plans.Plan.Recover })) (sym is)
-            (rebuild_prepares s.len target s.cut_short s.places.items s.blocks.items new builds));
+            (subst (λ (t : Option Task). plans.Prepares (record { hold = held_by t s.places s.blocks.items; plan = plans.Plan.Recover }) (record { hold = held_by t ready_places new; plan = plans.Plan.Recover })) (sym is)
+            (rebuild_prepares s.len target s.cut_short s.places s.blocks.items new builds));
         then_writes =
             subst (λ (p : plans.Plan). plans.next (record { hold = held_by s.task ready_places new; plan = p }) ≡ plans.next_write (held_by s.task ready_places new)) (sym follows)
             (subst (λ (t : Option Task). plans.next (record { hold = held_by t ready_places new; plan = plans.Plan.Recover }) ≡ plans.next_write (held_by t ready_places new)) (sym is)
-            (rebuild_then_writes s.len target s.cut_short s.places.items s.blocks.items new builds));
+            (rebuild_then_writes s.len target s.cut_short s.places s.blocks.items new builds));
       }
 
       pub is_rebuilt : (later : List Place) → later ≡ ready_places → IsRebuilt s later new

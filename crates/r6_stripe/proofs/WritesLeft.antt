@@ -225,8 +225,8 @@ module _ (planned : Planned) (i : ℕ) (w : Writing) (was : is_unwritten (cell_a
       }
 
 -- so does a buffer that comes home: with the answer to a write, or late
-pub prepared_answered : (s : HoldState) (i : ℕ) (block : List ℕ) → IsSound s → i < length s.places.items → (get_or s.places.items i no_place).away ≡ true → IsPrepared (planned_of s) → IsPrepared (with_answer (planned_of s) i block)
-prepared_answered s i block sound inside away prepared = by_tests (is_out (cell_at (cells_of s.places.items s.blocks.items) i).standing) (is_sent (cell_at (cells_of s.places.items s.blocks.items) i).writing) refl refl
+pub prepared_answered : (s : HoldState) (i : ℕ) (block : List ℕ) → IsSound s → i < length s.places → (get_or s.places i no_place).away ≡ true → IsPrepared (planned_of s) → IsPrepared (with_answer (planned_of s) i block)
+prepared_answered s i block sound inside away prepared = by_tests (is_out (cell_at (cells_of s.places s.blocks.items) i).standing) (is_sent (cell_at (cells_of s.places s.blocks.items) i).writing) refl refl
   where
     sent_unwritten : (w : Writing) → is_sent w ≡ true → is_unwritten w ≡ false
     sent_unwritten Writing.Unwritten e = absurd cc
@@ -234,25 +234,25 @@ prepared_answered s i block sound inside away prepared = by_tests (is_out (cell_
     sent_unwritten Writing.Sent e = refl
     sent_unwritten Writing.Confirmed e = absurd cc
 
-    by_tests : (out put : Bool) → is_out (cell_at (cells_of s.places.items s.blocks.items) i).standing ≡ out → is_sent (cell_at (cells_of s.places.items s.blocks.items) i).writing ≡ put →
+    by_tests : (out put : Bool) → is_out (cell_at (cells_of s.places s.blocks.items) i).standing ≡ out → is_sent (cell_at (cells_of s.places s.blocks.items) i).writing ≡ put →
         IsPrepared (if out then planned_of s else (if put then plans.planned_after (planned_of s) (Confirms i) else plans.planned_after (planned_of s) (Gives i block)))
     by_tests true put e f = prepared
-    by_tests false true e f = prepared_later (planned_of s) i Writing.Confirmed (sent_unwritten (cell_at (cells_of s.places.items s.blocks.items) i).writing f) refl prepared
+    by_tests false true e f = prepared_later (planned_of s) i Writing.Confirmed (sent_unwritten (cell_at (cells_of s.places s.blocks.items) i).writing f) refl prepared
     by_tests false false e f = absurd (unanswered (sound.settled i inside))
       where
-        is : cell_at (cells_of s.places.items s.blocks.items) i ≡ cell_of (get_or s.places.items i no_place) (get_or s.blocks.items i [])
-        is = cell_at-cells_of s.places.items s.blocks.items i no_place inside
+        is : cell_at (cells_of s.places s.blocks.items) i ≡ cell_of (get_or s.places i no_place) (get_or s.blocks.items i [])
+        is = cell_at-cells_of s.places s.blocks.items i no_place inside
 
         read_out : plans.has_read_out (planned_of s).hold ≡ false
         read_out = (read_parts (plans.has_read_out (planned_of s).hold) (plans.is_enough (planned_of s).plan (planned_of s).hold) prepared.read).0
 
-        asked : (get_or s.places.items i no_place).read ≡ read.Asked → ⊥
+        asked : (get_or s.places i no_place).read ≡ read.Asked → ⊥
         asked a =
-            let reads : is_asked (cell_at (cells_of s.places.items s.blocks.items) i).reading ≡ true = ap (λ (c : Cell). is_asked c.reading) is ∙ ap (λ (r : ReadState). is_asked (reading_of r (get_or s.blocks.items i []))) a in
-            let some = any_true (λ c. not (is_out c.standing) && is_asked c.reading) (cells_of s.places.items s.blocks.items) i (omega (arith, inside, length-cells_of s.places.items s.blocks.items)) (rw (e, reads) refl) in
+            let reads : is_asked (cell_at (cells_of s.places s.blocks.items) i).reading ≡ true = ap (λ (c : Cell). is_asked c.reading) is ∙ ap (λ (r : ReadState). is_asked (reading_of r (get_or s.blocks.items i []))) a in
+            let some = any_true (λ c. not (is_out c.standing) && is_asked c.reading) (cells_of s.places s.blocks.items) i (omega (arith, inside, length-cells_of s.places s.blocks.items)) (rw (e, reads) refl) in
             let g : true ≡ false = sym some ∙ read_out in cc
 
-        unanswered : IsSettled (get_or s.places.items i no_place) → ⊥
+        unanswered : IsSettled (get_or s.places i no_place) → ⊥
         unanswered settled =
             elim (settled.away away) [
               | inl a ↦ asked a.0

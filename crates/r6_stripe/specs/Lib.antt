@@ -4,10 +4,12 @@ pub mod FrameViews
 pub mod Frames
 pub mod HoldViews
 pub mod Holds
+pub mod Masks
 pub mod Places
 pub mod OneBlock
 pub mod PlanLaws
 pub mod Plans
+pub mod PositionViews
 pub mod Preparing
 pub mod Recovery
 pub mod Refusals

@@ -136,29 +136,29 @@ IsRenewedBy (Some class) places =
 
 -- 4 to 32 positions, a buffer for each that is not away, and two more, of which one may be lent
 pub record IsSound (state : HoldState) : Type 0 where
-  pub four_or_more : 4 ≤ length state.places.items
-  pub at_most : length state.places.items ≤ 32
-  pub wide : length state.blocks.items ≡ length state.places.items
-  pub sum : Each (λ position place. is_lent place ≡ false) state.places.items → length state.sum ≡ state.len
+  pub four_or_more : 4 ≤ length state.places
+  pub at_most : length state.places ≤ 32
+  pub wide : length state.blocks.items ≡ length state.places
+  pub sum : Each (λ position place. is_lent place ≡ false) state.places → length state.sum ≡ state.len
   pub weighted : length state.weighted ≡ state.len
-  pub fits : IsTask (length state.places.items) state.len state.task
-  pub at_home : AreHome state.len state.places.items state.blocks.items
-  pub settled : Each (λ position place. IsSettled place) state.places.items
+  pub fits : IsTask (length state.places) state.len state.task
+  pub at_home : AreHome state.len state.places state.blocks.items
+  pub settled : Each (λ position place. IsSettled place) state.places
   pub cut : MayCut state.task state.cut_short
-  pub targets : Each (IsTargetOf state.task) state.places.items
-  pub lends : Each (λ position place. is_lent place ≡ true → MayLend state.task position) state.places.items
+  pub targets : Each (IsTargetOf state.task) state.places
+  pub lends : Each (λ position place. is_lent place ≡ true → MayLend state.task position) state.places
   pub computed : Bool
-  pub renewed : state.task ≡ Some task.Repair → computed ≡ true → IsRenewedBy state.class state.places.items
-  pub course : Each (IsInCourse state.plan state.task (length state.places.items) computed) state.places.items
+  pub renewed : state.task ≡ Some task.Repair → computed ≡ true → IsRenewedBy state.class state.places
+  pub course : Each (IsInCourse state.plan state.task (length state.places) computed) state.places
 
 -- 4 to 32 positions, a buffer for each, and two more, all at home and of one length
 pub record AreAllHome (state : HoldState) : Type 0 where
-  pub four_or_more : 4 ≤ length state.places.items
-  pub at_most : length state.places.items ≤ 32
-  pub wide : length state.blocks.items ≡ length state.places.items
+  pub four_or_more : 4 ≤ length state.places
+  pub at_most : length state.places ≤ 32
+  pub wide : length state.blocks.items ≡ length state.places
   pub sum : length state.sum ≡ state.len
   pub weighted : length state.weighted ≡ state.len
-  pub long : (position : ℕ) → position < length state.places.items
+  pub long : (position : ℕ) → position < length state.places
       → length (slice_index_or state.blocks.items position []) ≡ state.len
 
 -- a plan that serves a write

@@ -16,7 +16,7 @@ ghost use Rattle.r6_stripe.specs.Views.{held_of, hold_of, plan_of, planned_of};
 
 use crate::command::Task;
 use crate::compute::mark;
-use crate::place::Place;
+use crate::positions::Positions;
 use crate::state::HoldState;
 use r6_kernels::{Buffer, parity};
 use r6_recover::{RowClass, class_of};
@@ -34,7 +34,7 @@ impl HoldState {
     pub(crate) fn is_all_known(&self) -> bool
         ensures { result ≡ all_known (hold_of self.now).cells }
     {
-        self.places.iter().all(|place| place.is_known())
+        self.places.unknown().is_empty()
     }
 
     /// Whether the hold is cut short once a position is lost now: a check or repair that is still reading.
@@ -70,9 +70,9 @@ impl HoldState {
 
     /// Whether the parity differs from that of the data, as the class says.
     pub(crate) fn differs(&self, position: usize) -> bool
-        requires { 2 ≤ length self.now.places.items }
+        requires { 2 ≤ length self.now.places }
         ensures { IfSome self.now.class (λ class.
-            result ≡ is_wrong class (length self.now.places.items) position) }
+            result ≡ is_wrong class (length self.now.places) position) }
     {
         let Some(class) = self.class else {
             return false;
@@ -97,7 +97,7 @@ impl HoldState {
         ensures classed { IsClassed (hold_of self.new) self.new.class }
         ensures prepares { plans.Prepares (planned_of self.old) (planned_of self.new) }
         ensures then_writes { plans.next (planned_of self.new) ≡ plans.next_write (hold_of self.new) }
-        ensures away { away_of self.new.places.items ≡ away_of self.old.places.items }
+        ensures away { away_of self.new.places ≡ away_of self.old.places }
         ensures same { KeepsClass self.old self.new }
     {
         let Some(class) = self.class else {
@@ -167,9 +167,9 @@ fn exchange_if(renewed: bool, blocks: &mut Vec<Buffer>, position: usize, apart: 
 }
 
 /// The new blocks of P and Q are there, each if it was renewed.
-fn make_parities_ready(places: &mut Vec<Place>, p_renewed: bool, q_renewed: bool)
-    requires { 2 ≤ length places.old.items }
-    ensures { places.new.items ≡ ready_at places.old.items (repaired_at (length places.old.items) p_renewed q_renewed) }
+fn make_parities_ready(places: &mut Positions, p_renewed: bool, q_renewed: bool)
+    requires { 2 ≤ length places.old }
+    ensures { places.new ≡ ready_at places.old (repaired_at (length places.old) p_renewed q_renewed) }
 {
     let m = places.len() - 2;
     if p_renewed {

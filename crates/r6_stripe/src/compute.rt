@@ -10,8 +10,8 @@ ghost use Rattle.r6_stripe.specs.Sound.{IsSound};
 ghost use Rattle.r6_stripe.specs.Views.{hold_of, plan_of, planned_of};
 
 use crate::command::Task;
-use crate::place::Place;
 use crate::plan::Plan;
+use crate::positions::Positions;
 use crate::recover::rewrite_row;
 use crate::state::HoldState;
 use r6_field::{ConstMul, Gf};
@@ -29,7 +29,7 @@ impl HoldState {
         ensures sound { IsSound self.new }
         ensures prepares { plans.Prepares (planned_of self.old) (planned_of self.new) }
         ensures then_writes { plans.next (planned_of self.new) ≡ plans.next_write (hold_of self.new) }
-        ensures away { away_of self.new.places.items ≡ away_of self.old.places.items }
+        ensures away { away_of self.new.places ≡ away_of self.old.places }
         ensures classed { IsClassed (hold_of self.new) self.new.class }
         ensures same { KeepsClass self.old self.new }
     {
@@ -64,7 +64,7 @@ impl HoldState {
         ensures sound { IsSound self.new }
         ensures prepares { plans.Prepares (planned_of self.old) (planned_of self.new) }
         ensures then_writes { plans.next (planned_of self.new) ≡ plans.next_write (hold_of self.new) }
-        ensures away { away_of self.new.places.items ≡ away_of self.old.places.items }
+        ensures away { away_of self.new.places ≡ away_of self.old.places }
         ensures same { KeepsTaskAndClass self.old self.new }
     {
         let Some(task) = &self.task else {
@@ -80,8 +80,8 @@ impl HoldState {
             return;
         }
         let m = self.places.len() - 2;
-        let p = self.places[m].is_known();
-        let q = self.places[m + 1].is_known();
+        let p = self.places.get(m).is_known();
+        let q = self.places.get(m + 1).is_known();
         modify(&mut self.blocks, index, block, p, q, &mut self.sum);
         make_ready(&mut self.places, index, p, q);
     }
@@ -168,10 +168,10 @@ fn change_both(blocks: &mut [Buffer], index: usize, new_block: &Buffer)
 }
 
 /// The new blocks of the index, and of P and Q, each if it was computed, are there.
-fn make_ready(places: &mut Vec<Place>, index: usize, p_computed: bool, q_computed: bool)
-    requires { index + 2 < length places.old.items }
-    ensures { let positions = renewed (length places.old.items) index p_computed q_computed in
-        places.new.items ≡ ready_at places.old.items positions }
+fn make_ready(places: &mut Positions, index: usize, p_computed: bool, q_computed: bool)
+    requires { index + 2 < length places.old }
+    ensures { let positions = renewed (length places.old) index p_computed q_computed in
+        places.new ≡ ready_at places.old positions }
 {
     let m = places.len() - 2;
     mark(places, index);
@@ -183,10 +183,10 @@ fn make_ready(places: &mut Vec<Place>, index: usize, p_computed: bool, q_compute
     }
 }
 
-pub(crate) fn mark(places: &mut Vec<Place>, position: usize)
-    requires { position < length places.old.items }
-    ensures mark { places.new.items ≡ with_ready places.old.items position }
-    ensures count { length places.new.items ≡ length places.old.items }
+pub(crate) fn mark(places: &mut Positions, position: usize)
+    requires { position < length places.old }
+    ensures mark { places.new ≡ with_ready places.old position }
+    ensures count { length places.new ≡ length places.old }
 {
-    places[position] = places[position].made_ready();
+    places.make_ready(position);
 }

@@ -57,7 +57,7 @@ impl HoldState {
 
     /// Whether this is the position of P or Q, or none.
     fn is_parity(&self, position: usize) -> bool
-        requires { 2 ≤ length self.now.places.items }
+        requires { 2 ≤ length self.now.places }
         ensures { result ≡ plans.is_parity (hold_of self.now) position }
     {
         self.places.len() - 2 <= position
@@ -65,7 +65,7 @@ impl HoldState {
 
     /// Whether the plan reads the position.
     fn wants(&self, position: usize) -> bool
-        requires { 2 ≤ length self.now.places.items }
+        requires { 2 ≤ length self.now.places }
         ensures { result ≡ plans.wants (plan_of self.now.plan) (hold_of self.now) position }
     {
         match self.plan {
@@ -79,8 +79,8 @@ impl HoldState {
 
     /// Whether the hold writes the position, which has no new block yet.
     fn puts(&self, position: usize) -> bool
-        requires within { position < length self.now.places.items }
-        requires count { 2 ≤ length self.now.places.items }
+        requires within { position < length self.now.places }
+        requires count { 2 ≤ length self.now.places }
         requires differ { KnowsWhatDiffers (hold_of self.now) self.now.class }
         requires unwritten { IsUnwritten (cell_at (hold_of self.now).cells position) }
         ensures { result ≡ plans.puts (hold_of self.now) (hold_of self.now).kind position }
@@ -94,15 +94,15 @@ impl HoldState {
     }
 
     fn is_lost(&self, position: usize) -> bool
-        requires { position < length self.now.places.items }
+        requires { position < length self.now.places }
         ensures { result ≡ plans.is_out (cell_at (hold_of self.now).cells position).standing }
     {
-        self.places[position].is_out()
+        self.places.get(position).is_out()
     }
 
     /// Whether nothing more is put out: the hold has ended.
     pub(crate) fn gives_up(&self) -> bool
-        requires { IsTask (length self.now.places.items) self.now.len self.now.task }
+        requires { IsTask (length self.now.places) self.now.len self.now.task }
         ensures { result ≡ plans.gives_up (hold_of self.now) }
     {
         match self.task {
@@ -117,7 +117,7 @@ impl HoldState {
     fn has_read_out(&self) -> bool
         ensures { result ≡ plans.has_read_out (hold_of self.now) }
     {
-        self.places.iter().any(|place| place.has_read_out())
+        !self.places.read_out().is_empty()
     }
 
     /// Whether no command is put out that is neither answered nor abandoned.
@@ -125,28 +125,28 @@ impl HoldState {
         ensures { let hold = hold_of self.now in
             result ≡ (not (plans.has_read_out hold) && not (plans.has_write_out hold)) }
     {
-        !self.places.iter().any(|place| place.has_command_out())
+        self.places.command_out().is_empty()
     }
 
     /// Whether the new blocks were computed.
     pub(crate) fn has_computed(&self) -> bool
         ensures { result ≡ plans.has_computed (hold_of self.now) }
     {
-        self.places.iter().any(|place| place.is_computed())
+        !self.places.computed().is_empty()
     }
 
     /// Whether the position's block is known, if the plan reads it.
     fn is_served(&self, position: usize) -> bool
-        requires within { position < length self.now.places.items }
-        requires count { 2 ≤ length self.now.places.items }
+        requires within { position < length self.now.places }
+        requires count { 2 ≤ length self.now.places }
         ensures { result ≡ plans.is_served (plan_of self.now.plan) (hold_of self.now) position }
     {
-        !self.wants(position) || self.places[position].is_known()
+        !self.wants(position) || self.places.get(position).is_known()
     }
 
     /// Whether the plan goes on without the position, if it is lost unread: a modify without a parity.
     fn can_drop(&self, position: usize) -> bool
-        requires { 2 ≤ length self.now.places.items }
+        requires { 2 ≤ length self.now.places }
         ensures { result ≡ can_drop (plan_of self.now.plan) (hold_of self.now) position }
     {
         match self.plan {
@@ -157,19 +157,19 @@ impl HoldState {
 
     /// Whether the plan goes on without the position, which is out.
     fn is_dropped(&self, position: usize) -> bool
-        requires within { position < length self.now.places.items }
-        requires count { 2 ≤ length self.now.places.items }
+        requires within { position < length self.now.places }
+        requires count { 2 ≤ length self.now.places }
         ensures { let hold = hold_of self.now in
             result ≡ (can_drop (plan_of self.now.plan) hold position
             && plans.is_out (cell_at hold.cells position).standing) }
     {
-        self.can_drop(position) && self.places[position].is_out()
+        self.can_drop(position) && self.places.get(position).is_out()
     }
 
     /// Whether the plan doesn't read the position, knows its block, or goes on without it.
     fn is_done_with(&self, position: usize) -> bool
-        requires within { position < length self.now.places.items }
-        requires count { 2 ≤ length self.now.places.items }
+        requires within { position < length self.now.places }
+        requires count { 2 ≤ length self.now.places }
         ensures { let hold = hold_of self.now in
             let plan = plan_of self.now.plan in
             result ≡ (plans.is_served plan hold position
@@ -182,19 +182,19 @@ impl HoldState {
     fn known_count(&self) -> usize
         ensures { result ≡ plans.known_count (hold_of self.now).cells }
     {
-        self.places.iter().filter(|place| place.is_known()).count()
+        self.places.known().count()
     }
 
     /// How many blocks are known or being read.
     fn coming_count(&self) -> usize
         ensures { result ≡ plans.coming_count (hold_of self.now).cells }
     {
-        self.places.iter().filter(|place| place.is_coming()).count()
+        self.places.coming().count()
     }
 
     /// Whether another read is wanted now: a recovery has enough with as many blocks as there are data.
     fn lacks(&self) -> bool
-        requires { 2 ≤ length self.now.places.items }
+        requires { 2 ≤ length self.now.places }
         ensures { result ≡ plans.lacks (plan_of self.now.plan) (hold_of self.now) }
     {
         match self.plan {
@@ -205,8 +205,8 @@ impl HoldState {
 
     /// Whether enough is known for the hold to go on.
     fn is_enough(&self) -> bool
-        requires count { 2 ≤ length self.now.places.items }
-        requires fits { IsTask (length self.now.places.items) self.now.len self.now.task }
+        requires count { 2 ≤ length self.now.places }
+        requires fits { IsTask (length self.now.places) self.now.len self.now.task }
         ensures { result ≡ plans.is_enough (plan_of self.now.plan) (hold_of self.now) }
     {
         match self.plan {
@@ -218,8 +218,8 @@ impl HoldState {
 
     /// Whether all that the plan reads is known, or dropped.
     fn is_all_served(&self) -> bool
-        requires count { 2 ≤ length self.now.places.items }
-        requires fits { IsTask (length self.now.places.items) self.now.len self.now.task }
+        requires count { 2 ≤ length self.now.places }
+        requires fits { IsTask (length self.now.places) self.now.len self.now.task }
         requires plan { plan_of self.now.plan ≢ plans.Plan.Recover }
         requires not_all { plan_of self.now.plan ≢ plans.Plan.All }
         ensures { result ≡ plans.is_enough (plan_of self.now.plan) (hold_of self.now) }
@@ -237,7 +237,7 @@ impl HoldState {
 
     /// The same of a modify of the index, which reads three positions.
     fn can_modify(&self, index: usize) -> bool
-        requires below { index + 2 < length self.now.places.items }
+        requires below { index + 2 < length self.now.places }
         requires plan { self.now.plan ≡ Plan.Modify }
         requires writes { (block : List ℕ) × ((hold_of self.now).kind ≡ Write ((index, block) ∷ [])) }
         ensures { result ≡ plans.is_enough (plan_of self.now.plan) (hold_of self.now) }
@@ -248,18 +248,18 @@ impl HoldState {
 
     /// Whether the plan reads the position, and its read may be put out.
     fn is_next_read(&self, position: usize) -> bool
-        requires within { position < length self.now.places.items }
-        requires count { 2 ≤ length self.now.places.items }
+        requires within { position < length self.now.places }
+        requires count { 2 ≤ length self.now.places }
         ensures { let hold = hold_of self.now in
             result ≡ (is_readable (cell_at hold.cells position) && plans.wants (plan_of self.now.plan) hold position) }
     {
-        self.places[position].is_readable() && self.wants(position)
+        self.places.get(position).is_readable() && self.wants(position)
     }
 
     /// The lowest position that is to be read, and whose read wasn't put out.
     fn first_unread(&self) -> Option<usize>
-        requires count { 2 ≤ length self.now.places.items }
-        requires fits { IsTask (length self.now.places.items) self.now.len self.now.task }
+        requires count { 2 ≤ length self.now.places }
+        requires fits { IsTask (length self.now.places) self.now.len self.now.task }
         ensures { let hold = hold_of self.now in
             result ≡ plans.first_from (plans.is_next_read (plan_of self.now.plan) hold) 0 (length hold.cells) }
     {
@@ -279,7 +279,7 @@ impl HoldState {
 
     /// The same of a modify of the index, which reads three positions.
     fn first_of_modify(&self, index: usize) -> Option<usize>
-        requires below { index + 2 < length self.now.places.items }
+        requires below { index + 2 < length self.now.places }
         requires plan { self.now.plan ≡ Plan.Modify }
         requires writes { (block : List ℕ) × ((hold_of self.now).kind ≡ Write ((index, block) ∷ [])) }
         ensures { let hold = hold_of self.now in
@@ -299,8 +299,8 @@ impl HoldState {
 
     /// The position whose read is put out next.
     pub(crate) fn next_read(&self) -> Option<usize>
-        requires count { 2 ≤ length self.now.places.items }
-        requires fits { IsTask (length self.now.places.items) self.now.len self.now.task }
+        requires count { 2 ≤ length self.now.places }
+        requires fits { IsTask (length self.now.places) self.now.len self.now.task }
         ensures { option_map plans.Next.ReadAt result ≡ plans.next_read (plan_of self.now.plan) (hold_of self.now) }
     {
         let position = self.first_unread()?;
@@ -313,13 +313,13 @@ impl HoldState {
 
     /// The position whose block is restored next: the one that a read wants, if it is out and isn't known.
     pub(crate) fn next_restore(&self) -> Option<usize>
-        requires { IsTask (length self.now.places.items) self.now.len self.now.task }
+        requires { IsTask (length self.now.places) self.now.len self.now.task }
         ensures { let hold = hold_of self.now in
             option_map plans.Next.RestoreAt result ≡ plans.next_restore hold hold.kind }
     {
         match self.task {
             Some(Task::Read(index)) => {
-                let place = self.places[index];
+                let place = self.places.get(index);
                 if !place.is_out() || place.is_known() {
                     None
                 } else {
@@ -332,18 +332,18 @@ impl HoldState {
 
     /// Whether the position is still to get its new block.
     fn lacks_new(&self, position: usize) -> bool
-        requires within { position < length self.now.places.items }
-        requires count { 2 ≤ length self.now.places.items }
+        requires within { position < length self.now.places }
+        requires count { 2 ≤ length self.now.places }
         requires differ { KnowsWhatDiffers (hold_of self.now) self.now.class }
         ensures { result ≡ plans.lacks_new (hold_of self.now) position }
     {
-        self.places[position].is_unwritten() && self.puts(position)
+        self.places.get(position).is_unwritten() && self.puts(position)
     }
 
     /// Whether no position is still to get its new block.
     pub(crate) fn is_computed(&self) -> bool
-        requires count { 2 ≤ length self.now.places.items }
-        requires fits { IsTask (length self.now.places.items) self.now.len self.now.task }
+        requires count { 2 ≤ length self.now.places }
+        requires fits { IsTask (length self.now.places) self.now.len self.now.task }
         requires differ { KnowsWhatDiffers (hold_of self.now) self.now.class }
         ensures { let hold = hold_of self.now in
             result ≡ plans.each_below (λ position. not (plans.lacks_new hold position)) (length hold.cells) }
@@ -361,7 +361,7 @@ impl HoldState {
 
     /// The same of a write of the index, which changes three positions.
     fn has_new_blocks(&self, index: usize) -> bool
-        requires below { index + 2 < length self.now.places.items }
+        requires below { index + 2 < length self.now.places }
         requires writes { (block : List ℕ) × ((hold_of self.now).kind ≡ Write ((index, block) ∷ [])) }
         ensures { let hold = hold_of self.now in
             result ≡ plans.each_below (λ position. not (plans.lacks_new hold position)) (length hold.cells) }
@@ -374,13 +374,13 @@ impl HoldState {
     pub(crate) fn next_write(&self) -> Option<usize>
         ensures { option_map plans.Next.WriteAt result ≡ plans.next_write (hold_of self.now) }
     {
-        self.places.iter().position(|place| place.is_sendable())
+        self.places.sendable().lowest()
     }
 
     /// Whether all reads have been answered, and enough is known.
     pub(crate) fn has_read(&self) -> bool
-        requires count { 2 ≤ length self.now.places.items }
-        requires fits { IsTask (length self.now.places.items) self.now.len self.now.task }
+        requires count { 2 ≤ length self.now.places }
+        requires fits { IsTask (length self.now.places) self.now.len self.now.task }
         ensures { let hold = hold_of self.now in
             result ≡ not (plans.has_read_out hold || not (plans.is_enough (plan_of self.now.plan) hold)) }
     {
@@ -422,7 +422,7 @@ impl HoldState {
             return self.has_written();
         }
         if let Some(index) = self.its_index() {
-            return self.places[index].is_known();
+            return self.places.get(index).is_known();
         }
         if self.gives_up() {
             return self.is_quiet();
@@ -448,8 +448,8 @@ impl HoldState {
     /// The plan after the position is lost: without a block that it wants, doesn't know and can't drop, it becomes
     /// recover.
     pub(crate) fn plan_after_loss(&self, position: usize) -> Plan
-        requires within { position < length self.now.places.items }
-        requires count { 2 ≤ length self.now.places.items }
+        requires within { position < length self.now.places }
+        requires count { 2 ≤ length self.now.places }
         ensures plan { plan_of result ≡ plans.after_loss (plan_of self.now.plan) (hold_of self.now) position }
         ensures same { (result ≡ self.now.plan) ⊎ (result ≡ Plan.Recover) }
         ensures all { self.now.plan ≡ Plan.All → result ≡ Plan.All }
@@ -469,8 +469,8 @@ impl HoldState {
 
     /// Whether the position is in sync, if a write by reconstruction reads it.
     fn is_readable(&self, position: usize) -> bool
-        requires within { position < length self.now.places.items }
-        requires count { 2 ≤ length self.now.places.items }
+        requires within { position < length self.now.places }
+        requires count { 2 ≤ length self.now.places }
         ensures { result ≡ plans.is_readable plans.Plan.Reconstruct (hold_of self.now) position }
     {
         if self.is_parity(position) {
@@ -479,15 +479,18 @@ impl HoldState {
         if self.puts_data(position) {
             return true;
         }
-        self.places[position].is_in_sync()
+        self.places.get(position).is_in_sync()
     }
 
     /// Whether all data that aren't written are in sync.
     fn can_reconstruct(&self) -> bool
-        requires { 2 ≤ length self.now.places.items }
+        requires { 2 ≤ length self.now.places }
         ensures { let hold = hold_of self.now in
             result ≡ plans.each_below (plans.is_readable plans.Plan.Reconstruct hold) (plans.data_count hold) }
     {
+        if self.places.lost().is_empty() {
+            return true;
+        }
         for position in 0..self.places.len() - 2 {
             if !self.is_readable(position) {
                 return false;
@@ -498,12 +501,16 @@ impl HoldState {
 
     /// How many of P and Q are in sync.
     fn parities_in_sync(&self) -> usize
-        requires { 2 ≤ length self.now.places.items }
+        requires { 2 ≤ length self.now.places }
         ensures { result ≡ plans.parities_in_sync (hold_of self.now) }
     {
         let m = self.places.len() - 2;
-        let p = if self.places[m].is_in_sync() { 1 } else { 0 };
-        let q = if self.places[m + 1].is_in_sync() {
+        let p = if self.places.get(m).is_in_sync() {
+            1
+        } else {
+            0
+        };
+        let q = if self.places.get(m + 1).is_in_sync() {
             1
         } else {
             0
@@ -513,8 +520,8 @@ impl HoldState {
 
     /// The plan with which the hold begins.
     pub(crate) fn first_plan(&self) -> Plan
-        requires count { 4 ≤ length self.now.places.items }
-        requires fits { IsTask (length self.now.places.items) self.now.len self.now.task }
+        requires count { 4 ≤ length self.now.places }
+        requires fits { IsTask (length self.now.places) self.now.len self.now.task }
         requires kind { is_idle (hold_of self.now).kind ≡ false }
         ensures plan { plan_of result ≡ plans.first_plan (hold_of self.now) (hold_of self.now).kind }
         ensures suits { Suits result self.now.task }
@@ -532,11 +539,11 @@ impl HoldState {
     }
 
     fn plan_of_read(&self, index: usize) -> Plan
-        requires { index < length self.now.places.items }
+        requires { index < length self.now.places }
         ensures plan { plan_of result ≡ plans.first_plan (hold_of self.now) (Read index) }
         ensures either { (result ≡ Plan.One) ⊎ (result ≡ Plan.Recover) }
     {
-        if self.places[index].is_in_sync() {
+        if self.places.get(index).is_in_sync() {
             Plan::One
         } else {
             Plan::Recover
@@ -545,8 +552,8 @@ impl HoldState {
 
     /// The plan of a write with the fewest reads; of two with as many reconstruct, then modify.
     fn plan_of_write(&self, index: usize) -> Plan
-        requires count { 4 ≤ length self.now.places.items }
-        requires below { index + 2 < length self.now.places.items }
+        requires count { 4 ≤ length self.now.places }
+        requires below { index + 2 < length self.now.places }
         requires kind { (block : List ℕ) × ((hold_of self.now).kind ≡ Write ((index, block) ∷ [])) }
         ensures plan { plan_of result ≡ plans.first_plan (hold_of self.now) (hold_of self.now).kind }
         ensures writes { IsWritePlan result }
@@ -554,7 +561,7 @@ impl HoldState {
     {
         let data = self.places.len() - 2;
         let parities = self.parities_in_sync();
-        let is_in_sync = self.places[index].is_in_sync();
+        let is_in_sync = self.places.get(index).is_in_sync();
         plan_of_fewest_reads(self.can_reconstruct(), is_in_sync, data, parities)
     }
 
@@ -573,7 +580,7 @@ impl HoldState {
     }
 
     fn end_of_rebuild(&self, target: usize) -> Outcome
-        requires { target < length self.now.places.items }
+        requires { target < length self.now.places }
         ensures { let out = plans.is_out (cell_at (hold_of self.now).cells target).standing in
             IsEnd (if out then holds.Outcome.GivenUp else holds.Outcome.Rebuilt) self.now.class result }
     {

@@ -34,7 +34,7 @@ impl HoldState {
         ensures sound { IsSound self.new }
         ensures prepares { plans.Prepares (planned_of self.old) (planned_of self.new) }
         ensures then_writes { plans.next (planned_of self.new) ≡ plans.next_write (hold_of self.new) }
-        ensures away { away_of self.new.places.items ≡ away_of self.old.places.items }
+        ensures away { away_of self.new.places ≡ away_of self.old.places }
         ensures same { KeepsTaskAndClass self.old self.new }
     {
         let missing = self.missing();

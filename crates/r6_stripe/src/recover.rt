@@ -18,6 +18,7 @@ ghost use Rattle.r6_stripe.specs.declared.command.Task.TheVariants as task;
 use crate::command::Task;
 use crate::compute::mark;
 use crate::place::{Place, ReadState};
+use crate::positions::Positions;
 use crate::state::HoldState;
 use r6_kernels::Buffer;
 use r6_recover::{Known, Missing, missing_among, restore_missing_into, rewrite_parity};
@@ -26,12 +27,12 @@ use std::mem;
 impl HoldState {
     /// The positions whose blocks aren't known.
     pub(crate) fn missing(&self) -> Missing
-        requires { length self.now.places.items ≤ 32 }
-        ensures { IsMissing (known_of self.now.places.items) (length self.now.places.items) result }
+        requires { length self.now.places ≤ 32 }
+        ensures { IsMissing (known_of self.now.places) (length self.now.places) result }
     {
         let mut known = Known::none();
-        for (position, place) in self.places.iter().enumerate() {
-            if place.is_known() {
+        for position in 0..self.places.len() {
+            if self.places.get(position).is_known() {
                 known.insert(position);
             }
         }
@@ -49,7 +50,7 @@ impl HoldState {
         ensures sound { IsSound self.new }
         ensures prepares { plans.Prepares (planned_of self.old) (planned_of self.new) }
         ensures then_writes { plans.next (planned_of self.new) ≡ plans.next_write (hold_of self.new) }
-        ensures away { away_of self.new.places.items ≡ away_of self.old.places.items }
+        ensures away { away_of self.new.places ≡ away_of self.old.places }
         ensures same { KeepsTaskAndClass self.old self.new }
     {
         let missing = self.missing();
@@ -61,7 +62,12 @@ impl HoldState {
             &mut self.weighted,
         );
         mem::swap(&mut self.blocks[index], &mut self.sum);
-        self.places[index].read = ReadState::Known;
+        let place = self.places.get(index);
+        let restored = Place {
+            read: ReadState::Known,
+            ..place
+        };
+        self.places.set(index, restored);
     }
 
     /// Computes the new blocks of a write from the data that stood there before it, of which those that aren't known
@@ -76,7 +82,7 @@ impl HoldState {
         ensures sound { IsSound self.new }
         ensures prepares { plans.Prepares (planned_of self.old) (planned_of self.new) }
         ensures then_writes { plans.next (planned_of self.new) ≡ plans.next_write (hold_of self.new) }
-        ensures away { away_of self.new.places.items ≡ away_of self.old.places.items }
+        ensures away { away_of self.new.places ≡ away_of self.old.places }
         ensures same { KeepsTaskAndClass self.old self.new }
     {
         let missing = self.missing();
@@ -127,14 +133,14 @@ pub(crate) fn restore_one(
 }
 
 /// The position, unless the write of the index gives it a new block.
-fn kept(places: &[Place], index: usize, position: Option<usize>) -> Option<usize>
+fn kept(places: &Positions, index: usize, position: Option<usize>) -> Option<usize>
     requires within { IfSome position (λ i. i < length places.now) }
     requires count { 2 ≤ length places.now }
     ensures { result ≡ kept_of places.now index position }
 {
     let position = position?;
     let is_put = position == index || places.len() - 2 <= position;
-    if is_put && !places[position].away {
+    if is_put && !places.get(position).away {
         None
     } else {
         Some(position)
@@ -165,9 +171,9 @@ pub(crate) fn rewrite_row(blocks: &mut Vec<Buffer>, index: usize, block: &Buffer
 }
 
 /// The new blocks of the index, of P and of Q are there, each if its buffer is at home.
-fn make_home_ready(places: &mut Vec<Place>, index: usize)
-    requires { index + 2 < length places.old.items }
-    ensures { places.new.items ≡ ready_at places.old.items (renewed_at_home places.old.items index) }
+fn make_home_ready(places: &mut Positions, index: usize)
+    requires { index + 2 < length places.old }
+    ensures { places.new ≡ ready_at places.old (renewed_at_home places.old index) }
 {
     let m = places.len() - 2;
     mark_home(places, index);
@@ -175,11 +181,11 @@ fn make_home_ready(places: &mut Vec<Place>, index: usize)
     mark_home(places, m + 1);
 }
 
-fn mark_home(places: &mut Vec<Place>, position: usize)
-    requires { position < length places.old.items }
-    ensures { places.new.items ≡ ready_if_home places.old.items position }
+fn mark_home(places: &mut Positions, position: usize)
+    requires { position < length places.old }
+    ensures { places.new ≡ ready_if_home places.old position }
 {
-    if !places[position].away {
+    if !places.get(position).away {
         mark(places, position);
     }
 }

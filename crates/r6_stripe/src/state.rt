@@ -12,9 +12,9 @@ ghost use Rattle.r6_stripe.specs.Steps.{begun_held, asked, sent, answered, lost,
 ghost use Rattle.r6_stripe.specs.Views.{hold_of, held_of, plan_of, planned_of, kind_of, kind_of_task};
 
 use crate::command::{RowCommand, Task};
-use crate::frame::settle;
-use crate::place::{Place, ReadState, State, WriteState};
+use crate::place::{Place, ReadState, State};
 use crate::plan::Plan;
+use crate::positions::Positions;
 use r6_kernels::Buffer;
 use r6_recover::RowClass;
 use std::alloc::Global;
@@ -35,7 +35,7 @@ pub(crate) struct HoldState {
     /// The length of a block.
     pub(crate) len: usize,
     /// In row order.
-    pub(crate) places: Vec<Place>,
+    pub(crate) places: Positions,
     /// In row order. A block of no bytes stands where a buffer is away.
     pub(crate) blocks: Vec<Buffer>,
     /// Room for two more blocks. The first may be lent: then it stands in for a buffer that is away, and a block of no
@@ -49,14 +49,14 @@ impl HoldState {
     /// Begins a hold of a row, of whose positions these are in sync; the others are out.
     pub(crate) fn begin(&mut self, task: Task, in_sync: &[bool])
         requires home { AreAllHome self.old }
-        requires positions { length in_sync.now ≡ length self.old.places.items }
-        requires task { IsTask (length self.old.places.items) self.old.len (Some task) }
+        requires positions { length in_sync.now ≡ length self.old.places }
+        requires task { IsTask (length self.old.places) self.old.len (Some task) }
         ensures held { held_of self.new ≡ begun_held self.old.len in_sync.now (kind_of_task task) }
         ensures sound { IsSound self.new }
         ensures classed { IsClassed (hold_of self.new) self.new.class }
         ensures prepared { self.new.prepared ≡ false }
     {
-        settle(&mut self.places, in_sync, &task);
+        self.places = Positions::begun(in_sync, &task);
         self.task = Some(task);
         self.prepared = false;
         self.cut_short = false;
@@ -67,7 +67,7 @@ impl HoldState {
     /// Puts out a read of the position, whose buffer leaves with it.
     pub(crate) fn ask(&mut self, position: usize) -> Buffer
         requires sound { IsSound self.old }
-        requires place { position < length self.old.places.items }
+        requires place { position < length self.old.places }
         requires in_sync { IsInSync (cell_at (hold_of self.old).cells position) }
         requires unread { IsUnread (cell_at (hold_of self.old).cells position) }
         requires unwritten { IsUnwritten (cell_at (hold_of self.old).cells position) }
@@ -77,40 +77,36 @@ impl HoldState {
         ensures sound { IsSound self.new }
         ensures prepared { self.new.prepared ≡ self.old.prepared }
     {
-        let place = &mut self.places[position];
-        place.read = ReadState::Asked;
-        place.away = true;
+        self.places.ask(position);
         mem::replace(&mut self.blocks[position], Buffer::empty(self.alloc))
     }
 
     /// Puts out the write of the position, whose buffer leaves with its new block.
     pub(crate) fn send(&mut self, position: usize) -> Buffer
         requires sound { IsSound self.old }
-        requires place { position < length self.old.places.items }
+        requires place { position < length self.old.places }
         requires ready { (block : List ℕ) × IsReady (cell_at (hold_of self.old).cells position) block }
         ensures held { held_of self.new ≡ sent (held_of self.old) position result }
         ensures carried { IsReady (cell_at (hold_of self.old).cells position) result }
         ensures size { length result ≡ self.old.len }
         ensures sound { IsSound self.new }
     {
-        let place = &mut self.places[position];
-        place.write = WriteState::Sent;
-        place.away = true;
+        self.places.send(position);
         mem::replace(&mut self.blocks[position], Buffer::empty(self.alloc))
     }
 
     /// Takes the buffer of a command home.
     pub(crate) fn answer(&mut self, position: usize, buffer: Buffer)
         requires sound { IsSound self.old }
-        requires place { position < length self.old.places.items }
-        requires away { (slice_index_or self.old.places.items position no_place).away ≡ true }
+        requires place { position < length self.old.places }
+        requires away { (slice_index_or self.old.places position no_place).away ≡ true }
         requires size { length buffer ≡ self.old.len }
         ensures held { held_of self.new ≡ answered (held_of self.old) position buffer }
         ensures sound { IsSound self.new }
         ensures prepared { self.new.prepared ≡ self.old.prepared }
     {
-        let place = self.places[position];
-        self.places[position] = place.answered();
+        let place = self.places.get(position);
+        self.places.take_home(position);
         if place.is_lent() {
             self.sum = buffer;
         } else {
@@ -121,7 +117,7 @@ impl HoldState {
     /// Loses the position.
     pub(crate) fn lose(&mut self, position: usize)
         requires sound { IsSound self.old }
-        requires place { position < length self.old.places.items }
+        requires place { position < length self.old.places }
         ensures held { held_of self.new ≡ lost (held_of self.old) position }
         ensures sound { IsSound self.new }
         ensures prepared { self.new.prepared ≡ false }
@@ -129,7 +125,12 @@ impl HoldState {
         self.prepared = false;
         self.plan = self.plan_after_loss(position);
         self.cut_short = self.cut_after_loss();
-        self.places[position].state = State::Out;
+        let place = self.places.get(position);
+        let lost = Place {
+            state: State::Out,
+            ..place
+        };
+        self.places.set(position, lost);
     }
 
     /// Puts out the command that comes next.
@@ -194,7 +195,7 @@ impl HoldState {
         ensures classed { IsClassed (hold_of self.new) self.new.class }
         ensures prepared { self.new.prepared ≡ self.old.prepared }
     {
-        if !self.places[index].is_readable() {
+        if !self.places.get(index).is_readable() {
             return None;
         }
         let buffer = self.ask(index);
@@ -204,12 +205,12 @@ impl HoldState {
     /// The block of the position, if it is known.
     pub(crate) fn block(&self, position: usize) -> Option<&Buffer>
         requires sound { IsSound self.now }
-        requires place { position < length self.now.places.items }
+        requires place { position < length self.now.places }
         ensures { let cell = cell_at (hold_of self.now).cells position in
             MatchOption result (IsUnknown cell)
             (λ block. IsKnownAs cell block.now × (length block.now ≡ self.now.len)) }
     {
-        match self.places[position].read {
+        match self.places.get(position).read {
             ReadState::Known => Some(&self.blocks[position]),
             ReadState::Unread => None,
             ReadState::Asked => None,
@@ -242,13 +243,13 @@ impl HoldState {
         if position >= self.places.len() {
             return false;
         }
-        self.places[position].away
+        self.places.get(position).away
     }
 
     /// Whether all buffers are home.
     pub(crate) fn is_home(&self) -> bool
         ensures { result ≡ not (list_any (λ away. away) (held_of self.now).away) }
     {
-        !self.places.iter().any(|place| place.away)
+        self.places.away().is_empty()
     }
 }

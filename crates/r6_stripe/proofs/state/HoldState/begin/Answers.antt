@@ -12,15 +12,23 @@ use Rattle.r6_stripe.proofs.Checks.{begun_whole, begun_unclassed}
 use Rattle.r6_stripe.proofs.Begins.{begun_cells, begun_away, begun_settled, begun_course, begun_lends, begun_targets, length-begun, LacksParities, lacks_parities, LacksIts, lacks_its}
 use Rattle.r6_stripe.proofs.state.HoldState.begin.Goals as goal
 
+pub begun-self-requires : goal.begun-self-requires
+begun-self-requires c =
+    let s = c.args.self.now in
+    record {
+      few = omega (arith, c.requires.positions, c.requires.home.at_most);
+      task = (s.len, subst (λ (n : ℕ). IsTask n s.len (Some c.args.task)) (sym c.requires.positions) c.requires.task);
+    }
+
 pub returns-clause-sound : goal.returns-clause-sound
 returns-clause-sound c =
     let s = c.args.self.now in
     let in_sync = c.args.in_sync.now in
     let task = c.args.task in
-    let new = c.settle.new.places.items in
+    let new = c.begun-self.result in
     let q = c.first_plan-self.result in
-    let e : new ≡ begun_places task in_sync = c.settle.ensures in
-    let count : length new ≡ length s.places.items = ap length e ∙ length-begun task in_sync ∙ c.requires.positions in
+    let e : new ≡ begun_places task in_sync = c.begun-self.ensures in
+    let count : length new ≡ length s.places = ap length e ∙ length-begun task in_sync ∙ c.requires.positions in
     let wide : length (begun_places task in_sync) ≡ length in_sync = length-begun task in_sync in
     let lacks : LacksParities q (length (begun_places task in_sync)) in_sync =
     subst (λ (n : ℕ). LacksParities q n in_sync) (sym wide)
@@ -52,8 +60,8 @@ returns-clause-classed c =
     let s = c.args.self.now in
     let in_sync = c.args.in_sync.now in
     let task = c.args.task in
-    let e : c.settle.new.places.items ≡ begun_places task in_sync = c.settle.ensures in
-    begun_unclassed s.len task in_sync c.settle.new.places.items s.blocks.items e (omega (arith, c.requires.home.four_or_more, ap length e, c.requires.positions, length-begun task in_sync))
+    let e : c.begun-self.result ≡ begun_places task in_sync = c.begun-self.ensures in
+    begun_unclassed s.len task in_sync c.begun-self.result s.blocks.items e (omega (arith, c.requires.home.four_or_more, ap length e, c.requires.positions, length-begun task in_sync))
 
 pub returns-clause-held : goal.returns-clause-held
 returns-clause-held c =
@@ -61,9 +69,9 @@ returns-clause-held c =
     let in_sync = c.args.in_sync.now in
     let blocks = s.blocks.items in
     let kind = kind_of_task c.args.task in
-    let e : c.settle.new.places.items ≡ begun_places c.args.task in_sync = c.settle.ensures in
+    let e : c.begun-self.result ≡ begun_places c.args.task in_sync = c.begun-self.ensures in
     let standings : List Standing = map standing_if in_sync in
-    let hold : ◌≡◌ {A = Hold} (record { size = s.len; kind = kind; cells = cells_of c.settle.new.places.items blocks; cut_short = false }) (begun (resting s.len standings) kind) =
+    let hold : ◌≡◌ {A = Hold} (record { size = s.len; kind = kind; cells = cells_of c.begun-self.result blocks; cut_short = false }) (begun (resting s.len standings) kind) =
     ap (λ (xs : List Place). record { size = s.len; kind = kind; cells = cells_of xs blocks; cut_short = false }) e
     ∙ ap (λ (cells : List Cell). record { size = s.len; kind = kind; cells = cells; cut_short = false }) (begun_cells c.args.task in_sync blocks) in
     let first = c.first_plan-self.ensures.plan ∙ ap (λ (h : Hold). first_plan h kind) hold in

@@ -15,7 +15,7 @@ returns-then-is_done_with-2 c =
     let hold = hold_of s in
     let count = c.len-m.result in
     let done : ℕ → Bool = is_done_with (plan_of s.plan) hold in
-    let wide : count ≡ length hold.cells = omega (arith, c.len-m.ensures, length-cells_of s.places.items s.blocks.items) in
+    let wide : count ≡ length hold.cells = omega (arith, c.len-m.ensures, length-cells_of s.places s.blocks.items) in
     let two : (done c.args.index && done (count - 2)) ≡ c.if-is_done_with.value = elim c.if-is_done_with.branch [
       | then-is_done_with w ↦ (λ i. (sym c.is_done_with.ensures ∙ w.if-is_done_with.true) i && done (count - 2)) ∙ sym w.is_done_with-then-is_done_with.ensures ∙ sym w.value-is
       | else-is_done_with w ↦ (λ i. (sym c.is_done_with.ensures ∙ w.if-is_done_with.false) i && done (count - 2)) ∙ sym w.if-is_done_with.false ∙ sym w.value-is
@@ -33,7 +33,7 @@ returns-else-is_done_with-2 c =
     let hold = hold_of s in
     let count = c.len-m.result in
     let done : ℕ → Bool = is_done_with (plan_of s.plan) hold in
-    let wide : count ≡ length hold.cells = omega (arith, c.len-m.ensures, length-cells_of s.places.items s.blocks.items) in
+    let wide : count ≡ length hold.cells = omega (arith, c.len-m.ensures, length-cells_of s.places s.blocks.items) in
     let two : (done c.args.index && done (count - 2)) ≡ c.if-is_done_with.value = elim c.if-is_done_with.branch [
       | then-is_done_with w ↦ (λ i. (sym c.is_done_with.ensures ∙ w.if-is_done_with.true) i && done (count - 2)) ∙ sym w.is_done_with-then-is_done_with.ensures ∙ sym w.value-is
       | else-is_done_with w ↦ (λ i. (sym c.is_done_with.ensures ∙ w.if-is_done_with.false) i && done (count - 2)) ∙ sym w.if-is_done_with.false ∙ sym w.value-is

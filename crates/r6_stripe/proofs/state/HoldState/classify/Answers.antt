@@ -25,11 +25,11 @@ none_of (Some class) b some is = absurd (let e = some ∙ ap not is in cc)
 no_class : (c : After-deref) → c.args.self.now.class ≡ None
 no_class c = none_of _ c.is_none.result c.is_none.ensures c.if-is_none.true
 
-each : (c : After-deref) → (k : ℕ) → k < length c.args.self.now.places.items → IsHere c.args.self.now k
+each : (c : After-deref) → (k : ℕ) → k < length c.args.self.now.places → IsHere c.args.self.now k
 each c =
     let s = c.args.self.now in
     whole_row s c.requires.sound (whole c)
-    (λ repairs. false_from_ne_true c.requires.sound.computed (λ e. subst (λ (o : Option RowClass). IsRenewedBy o s.places.items) (no_class c) (c.requires.sound.renewed repairs e)))
+    (λ repairs. false_from_ne_true c.requires.sound.computed (λ e. subst (λ (o : Option RowClass). IsRenewedBy o s.places) (no_class c) (c.requires.sound.renewed repairs e)))
 
 long : (c : After-deref) → All (λ b. length b ≡ c.args.self.now.len) c.args.self.now.blocks.items
 long c k d below = ap length (any_default c.args.self.now.blocks.items k d [] below) ∙ (each c k (omega (arith, below, c.requires.sound.wide))).long
@@ -46,7 +46,7 @@ returns-then-has_read_whole-clause-class c =
     let s = c.args.self.now in
     let r = c.class_of.result in
     let at = (goal.at.returns-then-has_read_whole-clause-class c).After-deref in
-    let wide = length-cells_of s.places.items s.blocks.items in
+    let wide = length-cells_of s.places s.blocks.items in
     subst (λ (o : Option RowClass). IsClassAfter (hold_of s) o (Some r)) (sym (no_class at))
     (subst (λ (b : Bool). IsClassIf b (hold_of s).cells (Some r)) (sym (whole at)) (
       r,
@@ -54,7 +54,7 @@ returns-then-has_read_whole-clause-class c =
       (
         s.blocks.items,
         c.requires.sound.wide ∙ sym wide,
-        (λ k below. let inside : k < length s.places.items = omega (arith, below, wide) in here_reading s k inside (each at k inside)),
+        (λ k below. let inside : k < length s.places = omega (arith, below, wide) in here_reading s k inside (each at k inside)),
         subst (λ (row : List (List ℕ)). HasClass row r) c.deref.ensures.value c.class_of.ensures,
       ),
     ))
@@ -64,7 +64,7 @@ returns-then-has_read_whole-clause-classed c =
     let s = c.args.self.now in
     let r = c.class_of.result in
     let at = (goal.at.returns-then-has_read_whole-clause-classed c).After-deref in
-    let wide = length-cells_of s.places.items s.blocks.items in
+    let wide = length-cells_of s.places s.blocks.items in
     let parts = whole_parts (wants_all (kind_of s.task)) s.cut_short (all_known (hold_of s).cells) (whole at) in (
       wants_class (kind_of s.task) parts.0,
       parts.2,

@@ -14,7 +14,7 @@ returns-then-is_next_read c =
     let count = c.len-m.result in
     let test : ℕ → Bool = plans.is_next_read (plan_of s.plan) hold in
     let lacks : plans.lacks (plan_of s.plan) hold ≡ true = ap (λ (p : Plan). plans.lacks (plan_of p) hold) c.requires.plan in
-    let wide : count ≡ length hold.cells = omega (arith, c.len-m.ensures, length-cells_of s.places.items s.blocks.items) in
+    let wide : count ≡ length hold.cells = omega (arith, c.len-m.ensures, length-cells_of s.places s.blocks.items) in
     sym (ap (plans.first_from test 0) (sym wide)
     ∙ three_first test count c.args.index true (test (count - 2)) (test (count - 2 + 1)) (omega (arith, c.requires.below, c.len-m.ensures))
     (λ k other below. subst (λ (p : Plan). plans.is_next_read (plan_of p) hold k ≡ false) (sym c.requires.plan) (modify_no_read hold c.args.index c.requires.writes.0 c.requires.writes.1 k other (omega (arith, below, wide))))
@@ -27,7 +27,7 @@ returns-then-is_next_read-2 c =
     let count = c.len-m.result in
     let test : ℕ → Bool = plans.is_next_read (plan_of s.plan) hold in
     let lacks : plans.lacks (plan_of s.plan) hold ≡ true = ap (λ (p : Plan). plans.lacks (plan_of p) hold) c.requires.plan in
-    let wide : count ≡ length hold.cells = omega (arith, c.len-m.ensures, length-cells_of s.places.items s.blocks.items) in
+    let wide : count ≡ length hold.cells = omega (arith, c.len-m.ensures, length-cells_of s.places s.blocks.items) in
     sym (ap (plans.first_from test 0) (sym wide)
     ∙ three_first test count c.args.index false true (test (count - 2 + 1)) (omega (arith, c.requires.below, c.len-m.ensures))
     (λ k other below. subst (λ (p : Plan). plans.is_next_read (plan_of p) hold k ≡ false) (sym c.requires.plan) (modify_no_read hold c.args.index c.requires.writes.0 c.requires.writes.1 k other (omega (arith, below, wide))))
@@ -40,7 +40,7 @@ returns-then-is_next_read-3 c =
     let count = c.len-m.result in
     let test : ℕ → Bool = plans.is_next_read (plan_of s.plan) hold in
     let lacks : plans.lacks (plan_of s.plan) hold ≡ true = ap (λ (p : Plan). plans.lacks (plan_of p) hold) c.requires.plan in
-    let wide : count ≡ length hold.cells = omega (arith, c.len-m.ensures, length-cells_of s.places.items s.blocks.items) in
+    let wide : count ≡ length hold.cells = omega (arith, c.len-m.ensures, length-cells_of s.places s.blocks.items) in
     sym (ap (plans.first_from test 0) (sym wide)
     ∙ three_first test count c.args.index false false true (omega (arith, c.requires.below, c.len-m.ensures))
     (λ k other below. subst (λ (p : Plan). plans.is_next_read (plan_of p) hold k ≡ false) (sym c.requires.plan) (modify_no_read hold c.args.index c.requires.writes.0 c.requires.writes.1 k other (omega (arith, below, wide))))
@@ -53,7 +53,7 @@ returns-else-is_next_read-3 c =
     let count = c.len-m.result in
     let test : ℕ → Bool = plans.is_next_read (plan_of s.plan) hold in
     let lacks : plans.lacks (plan_of s.plan) hold ≡ true = ap (λ (p : Plan). plans.lacks (plan_of p) hold) c.requires.plan in
-    let wide : count ≡ length hold.cells = omega (arith, c.len-m.ensures, length-cells_of s.places.items s.blocks.items) in
+    let wide : count ≡ length hold.cells = omega (arith, c.len-m.ensures, length-cells_of s.places s.blocks.items) in
     sym (ap (plans.first_from test 0) (sym wide)
     ∙ three_first test count c.args.index false false false (omega (arith, c.requires.below, c.len-m.ensures))
     (λ k other below. subst (λ (p : Plan). plans.is_next_read (plan_of p) hold k ≡ false) (sym c.requires.plan) (modify_no_read hold c.args.index c.requires.writes.0 c.requires.writes.1 k other (omega (arith, below, wide))))

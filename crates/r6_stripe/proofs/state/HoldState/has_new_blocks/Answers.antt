@@ -14,7 +14,7 @@ returns-then-not-lacks_new-2 c =
     let hold = hold_of s in
     let count = c.len-m.result in
     let has_new : ℕ → Bool = λ position. not (plans.lacks_new hold position) in
-    let wide : count ≡ length hold.cells = omega (arith, c.len-m.ensures, length-cells_of s.places.items s.blocks.items) in
+    let wide : count ≡ length hold.cells = omega (arith, c.len-m.ensures, length-cells_of s.places s.blocks.items) in
     let two : (has_new c.args.index && has_new (count - 2)) ≡ c.if-not-lacks_new.value = elim c.if-not-lacks_new.branch [
       | then-not-lacks_new w ↦ (λ i. not ((sym c.lacks_new.ensures ∙ w.if-not-lacks_new.true) i) && has_new (count - 2)) ∙ ap not (sym w.lacks_new-then-not-lacks_new.ensures) ∙ sym w.value-is
       | else-not-lacks_new w ↦ (λ i. not ((sym c.lacks_new.ensures ∙ w.if-not-lacks_new.false) i) && has_new (count - 2)) ∙ ap not (sym w.if-not-lacks_new.false) ∙ sym w.value-is
@@ -30,7 +30,7 @@ returns-else-not-lacks_new-2 c =
     let hold = hold_of s in
     let count = c.len-m.result in
     let has_new : ℕ → Bool = λ position. not (plans.lacks_new hold position) in
-    let wide : count ≡ length hold.cells = omega (arith, c.len-m.ensures, length-cells_of s.places.items s.blocks.items) in
+    let wide : count ≡ length hold.cells = omega (arith, c.len-m.ensures, length-cells_of s.places s.blocks.items) in
     let two : (has_new c.args.index && has_new (count - 2)) ≡ c.if-not-lacks_new.value = elim c.if-not-lacks_new.branch [
       | then-not-lacks_new w ↦ (λ i. not ((sym c.lacks_new.ensures ∙ w.if-not-lacks_new.true) i) && has_new (count - 2)) ∙ ap not (sym w.lacks_new-then-not-lacks_new.ensures) ∙ sym w.value-is
       | else-not-lacks_new w ↦ (λ i. not ((sym c.lacks_new.ensures ∙ w.if-not-lacks_new.false) i) && has_new (count - 2)) ∙ ap not (sym w.if-not-lacks_new.false) ∙ sym w.value-is

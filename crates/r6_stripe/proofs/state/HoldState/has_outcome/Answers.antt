@@ -20,4 +20,4 @@ returns-then-is_some-clause-ends c t =
     let s = c.args.self.now in
     let sound = c.requires.sound in
     let has : is_some s.task ≡ true = let is = c.is_some.ensures in let then = c.if-is_some.true in cc in
-    ends s.plan s.task s.len s.cut_short sound.computed s.places.items s.blocks.items sound.four_or_more sound.fits sound.cut sound.course sound.targets (busy s.task has) (sym c.is_over.ensures ∙ t)
+    ends s.plan s.task s.len s.cut_short sound.computed s.places s.blocks.items sound.four_or_more sound.fits sound.cut sound.course sound.targets (busy s.task has) (sym c.is_over.ensures ∙ t)

@@ -19,7 +19,7 @@ send-buffer-requires c =
     let found = write_found (hold_of s) i (ap (option_map plans.Next.WriteAt) (sym c.in-Some.is) ∙ c.next_write.ensures) in
     record {
       sound = c.requires.sound;
-      place = omega (arith, found.0, length-cells_of s.places.items s.blocks.items);
+      place = omega (arith, found.0, length-cells_of s.places s.blocks.items);
       ready = found.1;
     }
 
