@@ -19,7 +19,7 @@ pub(crate) struct Position {
     pub(crate) waits: u64,
 }
 
-/// A slot's new device, under the generation that the register will give it.
+/// A slot's new device, under the generation that the register gave it, or 0.
 #[derive(Drop)]
 pub(crate) struct NewDevice<D> {
     pub(crate) slot: usize,

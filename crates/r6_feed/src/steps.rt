@@ -119,7 +119,9 @@ impl<L: Events> Feed<L> {
         self.number += 1;
     }
 
-    // A slot gets a new device: the shards have its parts before the register says so.
+    // A slot gets a new device. Its parts are handed over under the generation that the register gave it, so that none
+    // stands for another device: no shard looks at a generation whose part it has not. Where the register refused it,
+    // they are handed over under generation 0, which each shard has looked at, and come back.
     pub(crate) fn attach<D: BlockDevice + Drop, R: Wait>(
         &mut self,
         rt: &R,
@@ -136,14 +138,13 @@ impl<L: Events> Feed<L> {
             (view_of self.new.pass) self.new.answers.items }
     {
         let at = self.position();
-        let attaches = shards.register.read(rt, &mut self.pass).attaches();
+        let answer = calling::attach(rt, shards.register, &mut self.pass, slot);
         let device = NewDevice {
             slot,
-            generation: attaches.saturating_add(1),
+            generation: answer.unwrap_or(0),
             parts,
         };
         shards.hand_parts(rt, &mut self.producers, at, device);
-        let answer = calling::attach(rt, shards.register, &mut self.pass, slot);
         self.answers.push_reserved(EventAnswer {
             event: self.number,
             outcome: Outcome::Attached(slot, answer),

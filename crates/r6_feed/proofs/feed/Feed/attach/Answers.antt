@@ -4,7 +4,7 @@ use Rattle.r6_lists.specs.Events.{Attach}
 use Rattle.r6_lists.proofs.Elements.{all_pushed}
 use Rattle.r6_feed.specs.declared.answer.Outcome.TheVariants.{Attached}
 use Rattle.r6_feed.specs.Events.{part_for}
-use Rattle.r6_feed.specs.Feeds.{IsAt, Attaches, Sees, asked_in, calls_of, is_unsettled}
+use Rattle.r6_feed.specs.Feeds.{IsAt, Attaches, asked_in, calls_of, is_unsettled}
 use Rattle.r6_feed.proofs.Payments.{at_front}
 use Rattle.r6_feed.proofs.Asked.{next_within, no_wait, has_room, answered_more, called_more}
 use Rattle.r6_feed.proofs.Told.{tells_more}
@@ -40,7 +40,7 @@ invariant_of-self-clause-asked g c =
 pub invariant_of-self-clause-own : goal.invariant_of-self-clause-own
 invariant_of-self-clause-own g c =
     c.attach-answer.ensures.own
-    ∙ ap (λ calls. calls ++ attached_by c.args.slot c.attach-answer.result) (c.read.ensures.looks.grows.mine ∙ c.args.self.now.own)
+    ∙ ap (λ calls. calls ++ attached_by c.args.slot c.attach-answer.result) c.args.self.now.own
     ∙ sym (called_more c.args.self.now.answers.items (record { event = c.args.self.now.number; outcome = Attached c.args.slot c.attach-answer.result }))
     ∙ sym (ap calls_of c.push_reserved.ensures.items)
 
@@ -50,8 +50,6 @@ invariant_of-self-clause-settled g c =
     (record { event = c.args.self.now.number; outcome = Attached c.args.slot c.attach-answer.result }) c.push_reserved.ensures.items c.args.self.now.settled c.attach-answer.ensures.settled
 
 pub returns-clause-told : goal.returns-clause-told
-returns-clause-told g c = λ first told.
-    tells_more (view_of c.read.new.pass) (view_of c.attach-answer.new.pass) c.args.self.now.answers.items
-    c.push_reserved.new.self.items _ c.push_reserved.ensures.items c.attach-answer.ensures.answered first
-    (Sees c.args.self.now.answers.items (view_of c.args.self.now.pass) (view_of c.read.new.pass) told
-    c.read.ensures.looks.grows)
+returns-clause-told g c =
+    tells_more (view_of c.args.self.now.pass) (view_of c.attach-answer.new.pass) c.args.self.now.answers.items
+    c.push_reserved.new.self.items _ c.push_reserved.ensures.items c.attach-answer.ensures.answered
