@@ -9,7 +9,8 @@ use r6_kernels::{Buffer, delta, parity, xor_into};
 use r6_layout::Geometry;
 use std::alloc::Global;
 
-/// A write of one block reads the other blocks of data where there are at most so many, and else the old block, P and Q.
+/// A write of one block reads the other blocks of data where there are at most so many, and else the old block, P and
+/// Q.
 const MOST_RECONSTRUCTED: usize = 4;
 
 /// Where the blocks of a row stand.

@@ -58,7 +58,8 @@ impl Work {
         }
     }
 
-    /// The row that request `number` of a round goes to. Row 1 is the first whose first block of data stands in slot 0.
+    /// The row that request `number` of a round goes to. Row 1 is the first whose first block of data stands in slot
+    /// 0.
     pub(crate) fn row(&self, number: u64) -> u64 {
         match self.rows {
             Rows::Apart => number,
@@ -176,8 +177,8 @@ pub(crate) fn buffers_of(
     Ok(buffers)
 }
 
-/// The request for the first block of data of a row, in an array of so many slots. With chunks of one block, the row has
-/// those from `row * (slots - 2)` on.
+/// The request for the first block of data of a row, in an array of so many slots. With chunks of one block, the row
+/// has those from `row * (slots - 2)` on.
 pub(crate) fn request(slots: usize, row: u64, buffer: Buffer, writes: bool) -> Op {
     let block = row.wrapping_mul(slots.wrapping_sub(2) as u64);
     if writes {

@@ -16,8 +16,8 @@ const SLOTS: usize = 6;
 /// The shortest blocks, so that little is copied.
 const SHORTEST: usize = 16;
 
-/// Keeps so many requests in a core, each to a row of its own or all to one, and answers `rounds` commands, the oldest first.
-/// A command's buffer comes back as it is; the place of a request that was done is taken by the next.
+/// Keeps so many requests in a core, each to a row of its own or all to one, and answers `rounds` commands, the oldest
+/// first. A command's buffer comes back as it is; the place of a request that was done is taken by the next.
 pub(crate) fn deliver(
     alloc: Global,
     one_row: bool,

@@ -1,7 +1,7 @@
 //! The core as a static library, for the benchmark in `benchmarks/core`.
 //!
-//! Each function answers 0, or 1 where it could not do its work: for want of memory, for an array that there can't be, or
-//! where a request was not answered.
+//! Each function answers 0, or 1 where it could not do its work: for want of memory, for an array that there can't be,
+//! or where a request was not answered.
 #![tactic(auto)]
 
 ghost use Rattle.std.specs.Prelude.{◌≡◌, ◌≤◌};
@@ -20,8 +20,8 @@ use r6_core::Core;
 use r6_layout::Geometry;
 use std::alloc::Global;
 
-/// Has `rounds` rounds of `width` requests, 1 to 256, served by the core of an array of `slots` slots, from submit to reply:
-/// for `rows` 0 each to a row of its own, for 1 all to one row, for 2 each to a block whose slot is lost.
+/// Has `rounds` rounds of `width` requests, 1 to 256, served by the core of an array of `slots` slots, from submit to
+/// reply: for `rows` 0 each to a row of its own, for 1 all to one row, for 2 each to a block whose slot is lost.
 #[unsafe(no_mangle)]
 pub extern "C" fn r6_core_serve(
     alloc: Global,
@@ -57,7 +57,8 @@ pub extern "C" fn r6_core_alone(
     }
 }
 
-/// Answers 0 if `rounds` rounds of `width` writes leave the same blocks on the devices, served by the core and done alone.
+/// Answers 0 if `rounds` rounds of `width` writes leave the same blocks on the devices, served by the core and done
+/// alone.
 #[unsafe(no_mangle)]
 pub extern "C" fn r6_core_agrees(
     alloc: Global,
@@ -133,8 +134,8 @@ fn work(slots: usize, rows: u8, writes: bool, width: usize, rounds: u64) -> Work
     }
 }
 
-/// Keeps `requests` requests, 1 to 256, in a core, each to a row of its own or all to one, and answers `rounds` of their
-/// commands, the oldest first.
+/// Keeps `requests` requests, 1 to 256, in a core, each to a row of its own or all to one, and answers `rounds` of
+/// their commands, the oldest first.
 #[unsafe(no_mangle)]
 pub extern "C" fn r6_core_deliver(
     alloc: Global,
@@ -151,8 +152,8 @@ pub extern "C" fn r6_core_deliver(
     }
 }
 
-/// Removes the oldest entry of a table and pushes another, `rounds` times. The table has `entries` entries and room for
-/// `capacity`.
+/// Removes the oldest entry of a table and pushes another, `rounds` times. The table has `entries` entries and room
+/// for `capacity`.
 #[unsafe(no_mangle)]
 pub extern "C" fn r6_table_rounds(alloc: Global, capacity: u32, entries: u32, rounds: u64) -> u8
     ensures { result ≤ 1 }

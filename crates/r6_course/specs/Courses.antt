@@ -65,8 +65,8 @@ abbrev pub looked_of : ℕ → List Moment → ℕ
 looked_of looked [] = looked
 looked_of looked (m ∷ moments) = looked_of (looked_after m.happening looked) moments
 
--- a run of the shard, beside calls that anyone makes at the register, leads from its start to this world, and its users
--- saw this
+-- a run of the shard, beside calls that anyone makes at the register, leads from its start to this world, and its
+-- users saw this
 pub record Reached (s : Start) (w : World) (history : List Mark) : Type 0 where
   pub moments : List Moment
   pub own : AreOfShard s.number moments

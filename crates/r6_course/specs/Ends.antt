@@ -40,11 +40,12 @@ CommandLaw =
     → at.shard.command token ≡ Some c → c.abandoned ≡ false
     → IsLive s.layout at.shard × (c.slot < s.layout.slots) × IsInUse (at.shard.slot c.slot) c.generation
 
--- the losses that a shard has to declare once an error was delivered: those of before, and that of its command's device,
--- if the command was not abandoned
+-- the losses that a shard has to declare once an error was delivered: those of before, and that of its command's
+-- device, if the command was not abandoned
 abbrev pub LossLaw : Type 0
 LossLaw =
-    (s : Start) (at : Stand) (token : ℕ) (c : Command) (receipt : Receipt) (new : Shard) → Fails s at token c receipt new
+    (s : Start) (at : Stand) (token : ℕ) (c : Command) (receipt : Receipt) (new : Shard)
+    → Fails s at token c receipt new
     → (slot generation : ℕ) → IsToTell new (LossOf slot generation)
     → IsToTell at.shard (LossOf slot generation)
     ⊎ ((slot ≡ c.slot) × (generation ≡ c.generation) × (c.abandoned ≡ false) × (receipt ≡ Taken))

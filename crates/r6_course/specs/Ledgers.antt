@@ -1,5 +1,5 @@
--- The ledger of a shard: the requests that it answered, as one plain array answers them, one after another, in an order
--- that keeps to the time (Herlihy and Wing, "Linearizability").
+-- The ledger of a shard: the requests that it answered, as one plain array answers them, one after another, in an
+-- order that keeps to the time (Herlihy and Wing, "Linearizability").
 use Rattle.std.specs.Prelude.{◌≡◌, ◌≢◌, ℕ, ◌<◌, ◌⊎◌, List, [], ◌∷◌, Some, None}
 use Rattle.r6_dev.specs.History.{Telling, Blocks}
 use Rattle.r6_world.specs.PlainArray.{Array, Op, Reply, ArrayFailed, reply_of, array_after}
@@ -40,7 +40,8 @@ AreOnce (e ∷ es) = ((other : Entry) → IsIn other es → other.id ≢ e.id) �
 abbrev pub InTime : List Mark → List Entry → Type 0
 InTime history order =
     (id later : ℕ) (reply : Reply) (later_op : Op) → IsBefore (Replied id reply) (Asked later later_op) history
-    → reply ≢ ArrayFailed → (e : Entry) → IsIn e order → e.id ≡ later → (op : Op) × IsBefore (entry id op reply) e order
+    → reply ≢ ArrayFailed → (e : Entry) → IsIn e order → e.id ≡ later
+    → (op : Op) × IsBefore (entry id op reply) e order
 
 -- The ledger leads from one array to another: some requests, each as it was handed in, have an order that keeps to the
 -- time and in which the plain array answers each; each reply that was taken stands there, but for those that say that

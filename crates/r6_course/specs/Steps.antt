@@ -46,8 +46,8 @@ Does telling (Store new_data) row block new = Answers telling (Writes row new_da
 Does telling Storing row block new = ⊥
 
 -- a command is taken, its part performs it, and its good completion is delivered
-pub record Performs (s : Start) (at : Stand) (token : ℕ) (c : Command) (block : Block) (receipt : Receipt) (new : Shard)
-    (behind : Telling) : Type 0 where
+pub record Performs (s : Start) (at : Stand) (token : ℕ) (c : Command) (block : Block) (receipt : Receipt)
+    (new : Shard) (behind : Telling) : Type 0 where
   pub middle : Shard
   pub taken : Step s.layout s.number at.shard (Take_command token c) middle
   pub delivered : Step s.layout s.number middle (Deliver token (Good block) receipt) new
@@ -110,7 +110,8 @@ OthersAreAlike slot generation old new =
 abbrev pub HandingGoesOn : Type 0
 HandingGoesOn =
     (s : Start) → IsLawful s → (device : Devices) (at : Stand) (slot generation : ℕ) (telling : Telling) → Follows s at
-    → at.looked < generation → OthersAreAlike slot generation s.device device → Tells s (device slot generation) telling
+    → at.looked < generation → OthersAreAlike slot generation s.device device
+    → Tells s (device slot generation) telling
     → Follows (record s { device = device }) (record at { part = put_in at.part slot generation (Some telling) })
 
 -- parts are let go

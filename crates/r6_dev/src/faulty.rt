@@ -8,9 +8,9 @@ use crate::device::BlockDevice;
 use crate::fault::Fault;
 use r6_kernels::Buffer;
 
-/// A device over another one. Its commands, reads and writes, have the numbers 0, 1, 2 ..: those of `failing` are answered
-/// 1 `ReadFault` or 2 `WriteFault`, and from `gone_from` on each is answered 3 `Gone`. The device below hears nothing of
-/// these, and answers every other command itself.
+/// A device over another one. Its commands, reads and writes, have the numbers 0, 1, 2 ..: those of `failing` are
+/// answered 1 `ReadFault` or 2 `WriteFault`, and from `gone_from` on each is answered 3 `Gone`. The device below hears
+/// nothing of these, and answers every other command itself.
 #[derive(Drop)]
 pub struct Faulty<D> {
     pub device: D,
@@ -53,7 +53,9 @@ impl<D: BlockDevice> BlockDevice for Faulty<D> {
     ghost told = { λ faulty. D.told faulty.device };
 
     fn read(&mut self, row: u64, buffer: &mut Buffer) -> Result<(), Fault>
-        ensures answers { MatchResult result (λ _. Answers (D.told self.old.device) (Reads row buffer.new) (D.told self.new.device)) (λ _. Answers (D.told self.old.device) Fails (D.told self.new.device)) }
+        ensures answers { MatchResult result
+            (λ _. Answers (D.told self.old.device) (Reads row buffer.new) (D.told self.new.device))
+            (λ _. Answers (D.told self.old.device) Fails (D.told self.new.device)) }
         ensures same_length { length buffer.new ≡ length buffer.old }
         ensures unchanged { result ≡ Err Fault.Length → D.told self.new.device ≡ D.told self.old.device }
         ensures faults { result ≢ Err Fault.WriteFault }
@@ -70,7 +72,9 @@ impl<D: BlockDevice> BlockDevice for Faulty<D> {
     }
 
     fn write(&mut self, row: u64, buffer: &Buffer) -> Result<(), Fault>
-        ensures answers { MatchResult result (λ _. Answers (D.told self.old.device) (Writes row buffer.now) (D.told self.new.device)) (λ _. Answers (D.told self.old.device) Fails (D.told self.new.device)) }
+        ensures answers { MatchResult result
+            (λ _. Answers (D.told self.old.device) (Writes row buffer.now) (D.told self.new.device))
+            (λ _. Answers (D.told self.old.device) Fails (D.told self.new.device)) }
         ensures unchanged { result ≡ Err Fault.Length → D.told self.new.device ≡ D.told self.old.device }
         ensures faults { result ≢ Err Fault.ReadFault }
         ensures planned { IfSome (refusal_of self.old.failing.items self.old.gone_from self.old.next Fault.WriteFault)

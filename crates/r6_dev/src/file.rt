@@ -51,10 +51,11 @@ impl From<AllocError> for OpenError {
     }
 }
 
-/// The part of a device that serves the rows of one shard from a file: row `r` is the `block` bytes from `r * block` on.
+/// The part of a device that serves the rows of one shard from a file: row `r` is the `block` bytes from `r * block`
+/// on.
 ///
-/// It holds nothing back: a write that is answered `Ok` was handed to the system. What the file gives or takes no contract
-/// says.
+/// It holds nothing back: a write that is answered `Ok` was handed to the system. What the file gives or takes no
+/// contract says.
 #[derive(Drop)]
 pub struct FileDevice<F> {
     file: F,
@@ -78,8 +79,8 @@ impl<F: FileExt + Seek + Drop> FileDevice<F> {
     /// The part of the file at `path` that serves the rows `served`. The file is not changed, nor made.
     ///
     /// # Errors
-    /// `Gone` for a file that can't be opened or measured, `Length` for one of another length than `rows * block` bytes,
-    /// `NoMemory` where there is none for a block.
+    /// `Gone` for a file that can't be opened or measured, `Length` for one of another length than `rows * block`
+    /// bytes, `NoMemory` where there is none for a block.
     pub fn open<R: Files<File = F>>(
         files: &R,
         alloc: Global,
@@ -115,7 +116,8 @@ impl<F: FileExt + Seek + Drop> FileDevice<F> {
         requires within { served.end ≤ size.rows }
         requires bounded { size.rows * size.block < 2 ^ 63 }
         ensures made { IfOk result (λ d. d ≡ record { first = served.start; end = served.end; block = size.block }) }
-        ensures measured { OnOk result (HasKnownLength (F.stream_position file) (F.stream_bytes file) (size.rows * size.block)) }
+        ensures measured { OnOk result
+            (HasKnownLength (F.stream_position file) (F.stream_bytes file) (size.rows * size.block)) }
         ensures refused { IfErr result IsOpenError }
     {
         let length = match file.seek(SeekFrom::End(0)) {
@@ -151,7 +153,9 @@ impl<F: FileExt + Seek + Drop> BlockDevice for FileDevice<F> {
     ghost told = { λ _. None };
 
     fn read(&mut self, row: u64, buffer: &mut Buffer) -> Result<(), Fault>
-        ensures answers { MatchResult result (λ _. Answers None (Reads row buffer.new) None) (λ _. Answers None Fails None) }
+        ensures answers { MatchResult result
+            (λ _. Answers None (Reads row buffer.new) None)
+            (λ _. Answers None Fails None) }
         ensures same_length { length buffer.new ≡ length buffer.old }
         ensures kept { self.new ≡ self.old }
         ensures refused { (result ≡ Err Fault.Length) ↔ ¬ Takes self.old row buffer.old }
@@ -175,7 +179,9 @@ impl<F: FileExt + Seek + Drop> BlockDevice for FileDevice<F> {
     }
 
     fn write(&mut self, row: u64, buffer: &Buffer) -> Result<(), Fault>
-        ensures answers { MatchResult result (λ _. Answers None (Writes row buffer.now) None) (λ _. Answers None Fails None) }
+        ensures answers { MatchResult result
+            (λ _. Answers None (Writes row buffer.now) None)
+            (λ _. Answers None Fails None) }
         ensures kept { self.new ≡ self.old }
         ensures refused { (result ≡ Err Fault.Length) ↔ ¬ Takes self.old row buffer.now }
         ensures faults { result ≢ Err Fault.ReadFault }

@@ -38,7 +38,8 @@ impl MemoryDevice {
     /// `AllocError` where there is no memory for them.
     pub fn new(alloc: Global, rows: Range<u64>, block: usize) -> Result<MemoryDevice, AllocError>
         requires { rows.start ≤ rows.end }
-        ensures { IfOk result (λ d. d ≡ record { first = rows.start; block = block; blocks = replicate (rows.end - rows.start) (zeros block) }) }
+        ensures { IfOk result (λ d. d
+            ≡ record { first = rows.start; block = block; blocks = replicate (rows.end - rows.start) (zeros block) }) }
     {
         let count = (rows.end - rows.start) as usize;
         let mut blocks = Vec::with_capacity(alloc, count)?;
@@ -54,7 +55,8 @@ impl MemoryDevice {
 
     // Where the block of a row stands, if the device serves it.
     fn index_of(&self, row: u64) -> Option<usize>
-        ensures there { IfSome result (λ index. (Serves self.now row) × (index ≡ row - self.now.first) × (index < length self.now.blocks)) }
+        ensures there { IfSome result (λ index. (Serves self.now row) × (index ≡ row - self.now.first)
+            × (index < length self.now.blocks)) }
         ensures none { IsNone result ↔ ¬ Serves self.now row }
     {
         let index = row.checked_sub(self.first)? as usize;
@@ -70,12 +72,15 @@ impl BlockDevice for MemoryDevice {
     ghost told = { told_by };
 
     fn read(&mut self, row: u64, buffer: &mut Buffer) -> Result<(), Fault>
-        ensures answers { MatchResult result (λ _. Answers (told_by self.old) (Reads row buffer.new) (told_by self.new)) (λ _. Answers (told_by self.old) Fails (told_by self.new)) }
+        ensures answers { MatchResult result
+            (λ _. Answers (told_by self.old) (Reads row buffer.new) (told_by self.new))
+            (λ _. Answers (told_by self.old) Fails (told_by self.new)) }
         ensures same_length { length buffer.new ≡ length buffer.old }
         ensures unchanged { result ≡ Err Fault.Length → told_by self.new ≡ told_by self.old }
         ensures faults { result ≢ Err Fault.WriteFault }
         ensures kept { self.new ≡ self.old }
-        ensures refused { (result ≡ Err Fault.Length) ↔ ¬ (Serves self.old row × (length buffer.old ≡ self.old.block)) }
+        ensures refused { (result ≡ Err Fault.Length)
+            ↔ ¬ (Serves self.old row × (length buffer.old ≡ self.old.block)) }
         ensures nothing_else { IfErr result (λ fault. fault ≡ Fault.Length) }
         ensures unread { OnErr result (buffer.new ≡ buffer.old) }
     {
@@ -90,11 +95,15 @@ impl BlockDevice for MemoryDevice {
     }
 
     fn write(&mut self, row: u64, buffer: &Buffer) -> Result<(), Fault>
-        ensures answers { MatchResult result (λ _. Answers (told_by self.old) (Writes row buffer.now) (told_by self.new)) (λ _. Answers (told_by self.old) Fails (told_by self.new)) }
+        ensures answers { MatchResult result
+            (λ _. Answers (told_by self.old) (Writes row buffer.now) (told_by self.new))
+            (λ _. Answers (told_by self.old) Fails (told_by self.new)) }
         ensures unchanged { result ≡ Err Fault.Length → told_by self.new ≡ told_by self.old }
         ensures faults { result ≢ Err Fault.ReadFault }
-        ensures written { OnOk result (self.new ≡ record self.old { blocks = slice_set self.old.blocks (row - self.old.first) buffer.now }) }
-        ensures refused { (result ≡ Err Fault.Length) ↔ ¬ (Serves self.old row × (length buffer.now ≡ self.old.block)) }
+        ensures written { OnOk result
+            (self.new ≡ record self.old { blocks = slice_set self.old.blocks (row - self.old.first) buffer.now }) }
+        ensures refused { (result ≡ Err Fault.Length)
+            ↔ ¬ (Serves self.old row × (length buffer.now ≡ self.old.block)) }
         ensures nothing_else { IfErr result (λ fault. fault ≡ Fault.Length) }
         ensures unwritten { OnErr result (self.new ≡ self.old) }
     {

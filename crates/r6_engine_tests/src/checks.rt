@@ -165,7 +165,8 @@ fn a_fault_at_any_command_ends_the_check_at_its_row(rt: HostRuntime) -> Result<(
     Ok(())
 }
 
-// Shard 0 has rows 0 and 1. Behind its fault nothing of shard 1 is told: not a wrong block in row 3, nor another fault.
+// Shard 0 has rows 0 and 1. Behind its fault nothing of shard 1 is told: not a wrong block in row 3, nor another
+// fault.
 #[test]
 fn nothing_behind_a_fault_of_another_shard_is_told(rt: HostRuntime) -> Result<(), Fail> {
     let filled = [Filled {

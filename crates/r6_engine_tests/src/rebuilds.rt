@@ -71,8 +71,8 @@ fn a_slot_of_zeros_is_rebuilt(rt: HostRuntime) -> Result<(), Fail> {
     Ok(())
 }
 
-// Rows 0 to 3 have in slot 1 the data blocks 0 and 1, P and Q, each of 5a. The other block of data is zeros in rows 0 and 1;
-// where it is 5a, in rows 2 and 3, P and Q are 5a too, as it is block 0 there.
+// Rows 0 to 3 have in slot 1 the data blocks 0 and 1, P and Q, each of 5a. The other block of data is zeros in rows 0
+// and 1; where it is 5a, in rows 2 and 3, P and Q are 5a too, as it is block 0 there.
 const BLOCKS_OF_5A: [(u64, usize, u8); 8] = [
     (0, 3, 0x5a),
     (0, 0, 0x5a),

@@ -19,7 +19,8 @@ use Rattle.r6_feed.specs.declared.answer.EventAnswer.{EventAnswer}
 
 -- the tasks that a shard has of the events from this number on
 abbrev pub tasks_from : Shape → (shard : ℕ) → List Event → (number : ℕ) → List Task
-tasks_from shape shard events number = filter_map (task_at shape shard events) (range_with_len number (length events - number))
+tasks_from shape shard events number =
+    filter_map (task_at shape shard events) (range_with_len number (length events - number))
 
 -- what is still to be put into each shard's list: its tasks of the events from the shard's number on
 abbrev pub HasLeft : {P : Type 0} → (left : P → ℕ) → List P → Shape → List Event → (from : ℕ → ℕ) → Type 0
@@ -32,7 +33,8 @@ abbrev pub AreOpen : {P : Type 0} → (lists : P → ℕ) → List P → Type 0
 AreOpen lists producers = All (λ p. lists p ≡ 1) producers
 
 -- the lists are open yet, and what is to be put into them is that of the events from this number on
-pub record IsAt {P : Type 0} (lists left : P → ℕ) (shape : Shape) (events : List Event) (number : ℕ) (producers : List P) : Type 0 where
+pub record IsAt {P : Type 0} (lists left : P → ℕ) (shape : Shape) (events : List Event) (number : ℕ)
+    (producers : List P) : Type 0 where
   pub shards : length producers ≡ shape.shards
   pub open_yet : AreOpen lists producers
   pub has_left : HasLeft left producers shape events (λ shard. number)

@@ -108,10 +108,10 @@ impl<L: Events> Feed<L> {
         (pass, answers)
     }
 
-    /// Hands all events out, each once, in their order, makes the calls at the register that they ask for, and ends the
-    /// lists. A wait, a check and a repair each wait until every shard has done all that it was handed before. Then a
-    /// check or repair is handed to every shard, and the next event has its turn at once. It hands the pass back, and
-    /// what those events were answered that no shard answers, in the order of the events.
+    /// Hands all events out, each once, in their order, makes the calls at the register that they ask for, and ends
+    /// the lists. A wait, a check and a repair each wait until every shard has done all that it was handed before.
+    /// Then a check or repair is handed to every shard, and the next event has its turn at once. It hands the pass
+    /// back, and what those events were answered that no shard answers, in the order of the events.
     ///
     /// The events must be those that were given to `new`, and each new device must have a part for every shard.
     pub fn hand_out<D: BlockDevice + Drop, R: Wait>(

@@ -33,7 +33,8 @@ FailedForGood = (s : Start) (log more : List Entry) → (held s log).failed ≡ 
 abbrev pub FailedAtTheThird : Type 0
 FailedAtTheThird =
     (slots shards lost : ℕ) (log : List Entry) → count_ones lost ≤ 2 → IsLegal (start_losing slots shards lost) log
-    → (held (start_losing slots shards lost) log).failed ≡ are_too_many_out (held (start_losing slots shards lost) log).slots
+    → (held (start_losing slots shards lost) log).failed
+    ≡ are_too_many_out (held (start_losing slots shards lost) log).slots
 
 abbrev pub is_report_of : ℕ → ℕ → ℕ → Call → Bool
 is_report_of shard slot generation (ReportRebuilt by at current) =
@@ -44,8 +45,8 @@ is_report_of shard slot generation _ = false
 abbrev pub reports : ℕ → ℕ → ℕ → List Entry → ℕ
 reports shard slot generation log = count_by (λ (e : Entry). is_report_of shard slot generation e.call) log
 
--- wherever a report is answered that the rebuild is complete, each shard has by then reported that slot and generation,
--- each once
+-- wherever a report is answered that the rebuild is complete, each shard has by then reported that slot and
+-- generation, each once
 abbrev pub CompleteAfterAll : Type 0
 CompleteAfterAll =
     (slots shards lost by shard slot generation : ℕ) (log later : List Entry)

@@ -1,6 +1,6 @@
 -- How the words of the register's cell are read.
--- Words 0 to 31 are the slots' states. Then come the attaches, whether the array has failed, the turn, the last call in
--- four words, and how many slots and shards there are.
+-- Words 0 to 31 are the slots' states. Then come the attaches, whether the array has failed, the turn, the last call
+-- in four words, and how many slots and shards there are.
 use Rattle.std.specs.Prelude.{ℕ, ◌-◌, ◌/◌, ◌%◌, ◌^◌, ◌==◌, List, map, take, slice_index, if◌then◌else◌}
 use Rattle.r6_health.specs.declared.snapshot.Snapshot.{Snapshot}
 use Rattle.r6_health.specs.declared.slots.SlotState.{SlotState}

@@ -1,4 +1,5 @@
-//! The cell of a register. Each step on it adds to the one history or looks at it, and tells the pass that makes the step.
+//! The cell of a register. Each step on it adds to the one history or looks at it, and tells the pass that makes the
+//! step.
 ghost use Rattle.std.specs.Prelude.{◌≡◌, IfOk};
 ghost use Rattle.r6_health.specs.declared.history.Stage.TheVariants.{Begun};
 ghost use Rattle.r6_health.specs.Histories.{held};

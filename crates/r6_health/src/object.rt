@@ -11,9 +11,9 @@ use crate::snapshot::Snapshot;
 const MOST_ATTACHES: u32 = 1_048_575;
 
 impl Snapshot {
-    /// What a call answers at the register of an array of so many slots and shards that holds this, and what the register
-    /// holds after it: a register of one thread. Refused as the calls of [`Register`](crate::register::Register) are, never
-    /// as `Contended`.
+    /// What a call answers at the register of an array of so many slots and shards that holds this, and what the
+    /// register holds after it: a register of one thread. Refused as the calls of
+    /// [`Register`](crate::register::Register) are, never as `Contended`.
     pub fn apply(
         &self,
         slots: usize,

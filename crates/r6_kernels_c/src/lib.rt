@@ -1,8 +1,8 @@
 //! The kernels as a static library, for the benchmark in `benchmarks/parity`.
 //!
 //! Each export gets the bytes of a row, in blocks of `len`, makes the row's blocks of them (first room for two blocks,
-//! then the blocks in their order), and does one work on it `rounds` times. The answer is 0, or 1 where the bytes aren't
-//! those of 4 to 32 blocks, the work has no such row, or memory is wanting.
+//! then the blocks in their order), and does one work on it `rounds` times. The answer is 0, or 1 where the bytes
+//! aren't those of 4 to 32 blocks, the work has no such row, or memory is wanting.
 #![tactic(auto)]
 
 ghost use Rattle.std.specs.Prelude.{◌≡◌, ◌≤◌, length};

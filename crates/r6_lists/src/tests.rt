@@ -146,7 +146,8 @@ fn play<L: Events + Send + Sync, R: Threads + Wait + Sync>(
     requires shape { L.shape ≡ shape_of 4 1 16 4 2 }
     requires events { L.events ≡ Request (plain.Write 0 (zeros 16)) ∷ Request (plain.Read 4) ∷ Check
         ∷ Request (plain.Read 7)
-        ∷ Attach 1 (λ shard. told_by (record { first = 2 * shard; block = 16; blocks = replicate 2 (zeros 16) })) ∷ [] }
+        ∷ Attach 1 (λ shard. told_by (record { first = 2 * shard; block = 16; blocks = replicate 2 (zeros 16) }))
+        ∷ [] }
 {
     let data = Buffer::new(alloc, 16)?;
     let near = Buffer::new(alloc, 16)?;

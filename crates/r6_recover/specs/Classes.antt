@@ -27,8 +27,10 @@ abbrev pub HasClass : List (List ℕ) → RowClass → Type 0
 HasClass row Consistent = IsZero (p_difference row) × IsZero (q_difference row)
 HasClass row WrongP = (¬ IsZero (p_difference row)) × IsZero (q_difference row)
 HasClass row WrongQ = IsZero (p_difference row) × (¬ IsZero (q_difference row))
-HasClass row (WrongData z) = (¬ IsZero (p_difference row)) × (¬ IsZero (q_difference row)) × (z < length row - 2) × IsWrongAt row z
-HasClass row Many = (¬ IsZero (p_difference row)) × (¬ IsZero (q_difference row)) × ((z : ℕ) → z < length row - 2 → ¬ IsWrongAt row z)
+HasClass row (WrongData z) =
+    (¬ IsZero (p_difference row)) × (¬ IsZero (q_difference row)) × (z < length row - 2) × IsWrongAt row z
+HasClass row Many =
+    (¬ IsZero (p_difference row)) × (¬ IsZero (q_difference row)) × ((z : ℕ) → z < length row - 2 → ¬ IsWrongAt row z)
 
 -- the class says that the block at this position of a row of m data blocks is wrong
 abbrev pub NamesPosition : ℕ → ℕ → RowClass → Type 0
@@ -42,4 +44,5 @@ NamesPosition m position Many = ⊥
 abbrev pub NamesWrongBlock : List (List ℕ) → RowClass → Type 0
 NamesWrongBlock row class =
     (m len position : ℕ) (full : List (List ℕ)) (block : List ℕ) → m ≤ 255 → IsFullRow m len full → IsBlock len block
-    → position < m + 2 → block ≢ block_at full position → row ≡ slice_set full position block → NamesPosition m position class
+    → position < m + 2 → block ≢ block_at full position → row ≡ slice_set full position block
+    → NamesPosition m position class

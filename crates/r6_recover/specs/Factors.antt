@@ -8,7 +8,8 @@ pub record IsQuotient (a b c : ℕ) : Type 0 where
   pub byte : c < 256
   pub times : product b c ≡ a
 
--- what two lost data blocks x < y are multiplied with: A = g^(y - x) / (g^(y - x) + 1) and B = g^(-x) / (g^(y - x) + 1)
+-- what two lost data blocks x < y are multiplied with: A = g^(y - x) / (g^(y - x) + 1) and
+-- B = g^(-x) / (g^(y - x) + 1)
 pub record AreFactors (x y a b : ℕ) : Type 0 where
   pub of_p : IsQuotient (power generator (y - x)) (bit_xor (power generator (y - x)) 1) a
   pub of_q : IsQuotient (power generator (255 - x)) (bit_xor (power generator (y - x)) 1) b

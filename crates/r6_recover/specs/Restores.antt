@@ -9,7 +9,8 @@ use Rattle.r6_recover.specs.declared.known.Missing.TheVariants.{None, One, Two, 
 
 -- a block is that at x of every full row with which the row agrees but at x and y
 abbrev pub IsRestored : ℕ → ℕ → ℕ → ℕ → List (List ℕ) → List ℕ → Type 0
-IsRestored m len x y row block = (full : List (List ℕ)) → IsFullRow m len full → AgreeBut x y row full → block ≡ block_at full x
+IsRestored m len x y row block =
+    (full : List (List ℕ)) → IsFullRow m len full → AgreeBut x y row full → block ≡ block_at full x
 
 -- at most two positions of a row of so many are missing
 abbrev pub MayMiss : ℕ → Missing → Type 0
@@ -30,7 +31,8 @@ AreLongButMissing len Many row = ⊤
 abbrev pub AreRestored : Missing → ℕ → ℕ → List (List ℕ) → List ℕ → List ℕ → Type 0
 AreRestored None m len row first second = ⊤
 AreRestored (One x) m len row first second = x < m → IsRestored m len x x row first
-AreRestored (Two x y) m len row first second = (x < m → IsRestored m len x y row first) × (y < m → IsRestored m len y x row second)
+AreRestored (Two x y) m len row first second =
+    (x < m → IsRestored m len x y row first) × (y < m → IsRestored m len y x row second)
 AreRestored Many m len row first second = ⊤
 
 -- block x becomes that of every full row with which the row agrees but at x and y; the other blocks are kept
@@ -45,16 +47,19 @@ pub record Restores (m len x y : ℕ) (old new : List (List ℕ)) : Type 0 where
   pub count : length new ≡ length old
   pub long : All (λ block. length block ≡ len) new
   pub kept : (position : ℕ) → position ≢ x → position ≢ y → block_at new position ≡ block_at old position
-  pub restored : (full : List (List ℕ)) → IsFullRow m len full → AgreeBut x y old full → (position : ℕ) → block_at new position ≡ block_at full position
+  pub restored : (full : List (List ℕ)) → IsFullRow m len full → AgreeBut x y old full → (position : ℕ)
+      → block_at new position ≡ block_at full position
 
 -- two rows have the same blocks at all known positions
 abbrev pub AgreeAtKnown : List Bool → List (List ℕ) → List (List ℕ) → Type 0
-AgreeAtKnown known row other = (position : ℕ) → IsKnown known position → block_at row position ≡ block_at other position
+AgreeAtKnown known row other =
+    (position : ℕ) → IsKnown known position → block_at row position ≡ block_at other position
 
 -- the row becomes the full row that has the known blocks of the old one, wherever there is such a row
 abbrev pub BecomesFullRow : List Bool → List (List ℕ) → List (List ℕ) → Type 0
 BecomesFullRow known old new =
-    (full : List (List ℕ)) → IsFullRow (length old - 2) (block_length old) full → AgreeAtKnown known old full → new ≡ full
+    (full : List (List ℕ)) → IsFullRow (length old - 2) (block_length old) full → AgreeAtKnown known old full
+    → new ≡ full
 
 -- the rows have as many blocks, of the same lengths
 pub record HaveSameLengths (old new : List (List ℕ)) : Type 0 where

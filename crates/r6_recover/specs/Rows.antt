@@ -42,7 +42,8 @@ pub record MeetsEquations (m len : ℕ) (row : List (List ℕ)) : Type 0 where
 abbrev pub changed_row : ℕ → ℕ → List ℕ → List (List ℕ) → List (List ℕ)
 changed_row m index block row =
     let change = block_sum (block_at row index) block in
-    slice_set (slice_set (slice_set row index block) m (block_sum (block_at row m) change)) (m + 1) (block_sum (block_at row (m + 1)) (scale (power generator index) change))
+    slice_set (slice_set (slice_set row index block) m (block_sum (block_at row m) change)) (m + 1)
+    (block_sum (block_at row (m + 1)) (scale (power generator index) change))
 
 -- two rows have the same blocks at all positions but x and y
 abbrev pub AgreeBut : ℕ → ℕ → List (List ℕ) → List (List ℕ) → Type 0

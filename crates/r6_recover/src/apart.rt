@@ -2,8 +2,8 @@
 //!
 //! The buffers at the lost positions aren't looked at: they may be away, with others of any length in their place.
 //!
-//! `Px` and `Qx` are P and Q of the data with zeros in the place of block `x`, `Pxy` and `Qxy` with zeros in the places
-//! of both.
+//! `Px` and `Qx` are P and Q of the data with zeros in the place of block `x`, `Pxy` and `Qxy` with zeros in the
+//! places of both.
 
 ghost use Rattle.std.specs.Prelude.{◌≡◌, ◌+◌, ◌-◌, ◌<◌, ◌≤◌, length};
 ghost use Rattle.r6_kernels.specs.Blocks.{AreLongBut};

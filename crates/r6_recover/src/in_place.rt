@@ -1,5 +1,5 @@
-//! The recovery of blocks of a row, in place. Each call has room for two sums, and a sum and the block that it restores
-//! exchange their buffers.
+//! The recovery of blocks of a row, in place. Each call has room for two sums, and a sum and the block that it
+//! restores exchange their buffers.
 
 ghost use Rattle.std.specs.Prelude.{◌≡◌, ◌+◌, ◌-◌, ◌<◌, ◌≤◌, ◌↔◌, length, OnOk, OnErr, IsErr};
 ghost use Rattle.std.specs.List.{All};

@@ -33,8 +33,8 @@ AreServed (request ∷ requests) asked ops refused =
     ⊎ ((refusal : Refusal) × (others : List (ℕ × Refusal)) × (refused ≡ (request.0, refusal) ∷ others)
     × AreServed requests asked ops others)
 
--- what the parts tell of which devices the shard was given, once these were handed in: of two for one slot and generation
--- the later counts
+-- what the parts tell of which devices the shard was given, once these were handed in: of two for one slot and
+-- generation the later counts
 abbrev pub taken_up : (before : ℕ → ℕ → Option Telling) → List NewPart → List Handed → ℕ → ℕ → Option Telling
 taken_up before [] handed = before
 taken_up before (p ∷ parts) [] = before
@@ -47,8 +47,8 @@ AllTell before [] = (slot generation : ℕ) → before slot generation ≢ Some 
 AllTell before (p ∷ parts) = (p.telling ≢ None) × AllTell before parts
 
 -- What was done of the events of these numbers, which were taken from the list of the shard
-pub record IsDone {D : Type 0} (told : D → Telling) (shape : Shape) (events : List Event) (geometry : Shape) (number : ℕ)
-    (snapshot : Snapshot) (before : ℕ → ℕ → Option Telling) (numbers : List ℕ) (shard : Shard (Parts D))
+pub record IsDone {D : Type 0} (told : D → Telling) (shape : Shape) (events : List Event) (geometry : Shape)
+    (number : ℕ) (snapshot : Snapshot) (before : ℕ → ℕ → Option Telling) (numbers : List ℕ) (shard : Shard (Parts D))
     (refused : List (ℕ × Refusal)) (passing : Option Passing) (passed : List Passed) (handed : List Handed)
     (due : List Due) : Type 0 where
   pub begun : List (ℕ × world.Op)
@@ -69,7 +69,8 @@ HasDone told shape events geometry number snapshot before numbers runner =
     runner.passed.items runner.handed.items runner.due.items
 
 -- whatever was done before, it was gone on with, and now these numbers were taken
-abbrev pub GoesOn : {D : Type 0} → (D → Telling) → Shape → List Event → (number : ℕ) → (earlier now : List ℕ) → (old new : Runner D) → Type 0
+abbrev pub GoesOn : {D : Type 0} → (D → Telling) → Shape → List Event → (number : ℕ) → (earlier now : List ℕ)
+    → (old new : Runner D) → Type 0
 GoesOn told shape events number earlier now old new =
     (geometry : Shape) (snapshot : Snapshot) (before : ℕ → ℕ → Option Telling)
     → HasDone told shape events geometry number snapshot before earlier old
@@ -77,12 +78,14 @@ GoesOn told shape events number earlier now old new =
 
 abbrev pub GoesOnSame : {D : Type 0} → (D → Telling) → (old new : Runner D) → Type 0
 GoesOnSame told old new =
-    (shape : Shape) (events : List Event) (number : ℕ) (numbers : List ℕ) → GoesOn told shape events number numbers numbers old new
+    (shape : Shape) (events : List Event) (number : ℕ) (numbers : List ℕ)
+    → GoesOn told shape events number numbers numbers old new
 
 -- how many tasks were taken
 abbrev pub taken_by : {D : Type 0} → Runner D → ℕ
 taken_by runner =
-    count_of runner.refused.items runner.shard.asked.items runner.passing runner.passed.items runner.handed.items runner.due.items
+    count_of runner.refused.items runner.shard.asked.items runner.passing runner.passed.items runner.handed.items
+    runner.due.items
 
 -- ---- what calls do
 
@@ -108,7 +111,8 @@ IsPartTaken {D = D} false told part old new = new ≡ old
 pub record IsHandedIn {D : Type 0} (told : D → Telling) (event : ℕ) (part : Part D) (old new : Runner D) : Type 0 where
   pub taken : Bool
   pub handed : new.handed.items
-      ≡ old.handed.items ++ record { event = event; slot = part.slot; generation = part.generation; taken = taken } ∷ []
+      ≡ old.handed.items
+      ++ record { event = event; slot = part.slot; generation = part.generation; taken = taken } ∷ []
   pub shard : IsPartTaken taken told part old.shard new.shard
   pub due : new.due.items ≡ old.due.items
   pub refused : new.refused.items ≡ old.refused.items

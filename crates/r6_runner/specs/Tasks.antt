@@ -19,7 +19,8 @@ use Rattle.r6_runner.specs.declared.runner.Handed.{Handed}
 -- ---- what the events of these numbers ask of the shard
 
 -- what is picked of the shard's part of each event, if it has one
-abbrev pub of_tasks : {A : Type 0} → (ℕ → Duty → Option A) → Shape → (shard : ℕ) → List Event → (numbers : List ℕ) → List A
+abbrev pub of_tasks : {A : Type 0} → (ℕ → Duty → Option A) → Shape → (shard : ℕ) → List Event
+    → (numbers : List ℕ) → List A
 of_tasks pick shape shard events numbers =
     filter_map (λ number. option_and_then (λ t. pick number t.duty) (task_at shape shard events number)) numbers
 

@@ -38,8 +38,8 @@ impl<D: BlockDevice + Drop> Runner<D> {
         });
     }
 
-    // Whether what is due next may begin: a request once all that came before a wait before it are answered, a check or
-    // repair once all are; and nothing while every row is passed over.
+    // Whether what is due next may begin: a request once all that came before a wait before it are answered, a check
+    // or repair once all are; and nothing while every row is passed over.
     fn may_begin(&self) -> bool
         ensures { result ≡ true → self.now.passing ≡ None }
     {

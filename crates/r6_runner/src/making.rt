@@ -34,7 +34,8 @@ impl<D: BlockDevice + Drop> Runner<D> {
         requires unfailed { snapshot.now.failed ≡ false }
         requires pass { IsFirstPass place.geometry snapshot.now (view_of pass) }
         ensures begins { IfOk result (λ runner. (shape : _) (events : _)
-            → HasDone D.told shape events place.geometry place.number snapshot.now (parts_tell D.told parts) [] runner) }
+            → HasDone D.told shape events place.geometry place.number snapshot.now (parts_tell D.told parts)
+            [] runner) }
         ensures pass { IfOk result (λ runner. runner.shard.pass ≡ pass) }
         ensures room { IfOk result (λ runner. (runner.room ≡ room) × (taken_by runner ≡ 0)) }
     {

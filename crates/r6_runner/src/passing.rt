@@ -33,8 +33,8 @@ impl<D: BlockDevice + Drop> Runner<D> {
         0
     }
 
-    // Goes on with the check or repair that is under way. It is over once no row is left: by then those that were taken
-    // up were done with.
+    // Goes on with the check or repair that is under way. It is over once no row is left: by then those that were
+    // taken up were done with.
     pub(crate) fn go_on(&mut self)
         ensures course { GoesOnSame D.told self.old self.new }
         ensures same { KeepsSelf self.old self.new }

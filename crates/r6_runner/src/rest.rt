@@ -27,8 +27,8 @@ impl Rest {
         self.asked.fetch_add(1, Ordering::SeqCst).wrapping_add(1)
     }
 
-    /// Whether the shard rested at a moment behind this time of asking: what its list had then was taken, nothing of it
-    /// is due, and all of it is answered.
+    /// Whether the shard rested at a moment behind this time of asking: what its list had then was taken, nothing of
+    /// it is due, and all of it is answered.
     pub fn is_found(&self, number: u64) -> bool {
         self.found.load(Ordering::SeqCst) >= number
     }

@@ -60,8 +60,8 @@ impl<D: BlockDevice + Drop> Runner<D> {
         let _ = self.shard.turn(Task::Rebuild);
     }
 
-    // The shard makes a round, so that it has looked at the register before anything begins; what may begin begins, and
-    // what is under way goes on.
+    // The shard makes a round, so that it has looked at the register before anything begins; what may begin begins,
+    // and what is under way goes on.
     fn advance<R: Wait>(&mut self, rt: &R, register: &Register)
         requires { IsPassOf register.now self.old.shard.pass }
         ensures pass { IsPassOf register.now self.new.shard.pass }
@@ -182,8 +182,8 @@ impl<L: Events, D: BlockDevice + Drop> Taking<L, D> {
         self.is_finished(rt, list)
     }
 
-    /// Takes what the list has, as it comes, and does it, until the list was ended and all is done. Whenever nothing is
-    /// left to do of what was taken, `rest` is told so.
+    /// Takes what the list has, as it comes, and does it, until the list was ended and all is done. Whenever nothing
+    /// is left to do of what was taken, `rest` is told so.
     pub fn run<R: Wait>(
         &mut self,
         rt: &R,

@@ -29,7 +29,9 @@ IsRestoredPlace place = (place.state ≡ state.Out) × (place.read ≡ read.Know
 -- a buffer that is away left with the position's last command, and another may stand in for it; and it holds one block
 -- at most
 pub record IsSettled (place : Place) : Type 0 where
-  pub away : place.away ≡ true → ((place.read ≡ read.Asked) × (place.write ≡ write.Unwritten)) ⊎ (place.write ≡ write.Sent) ⊎ IsRestoredPlace place
+  pub away : place.away ≡ true
+      → ((place.read ≡ read.Asked) × (place.write ≡ write.Unwritten)) ⊎ (place.write ≡ write.Sent)
+      ⊎ IsRestoredPlace place
   pub one_block : place.write ≢ write.Unwritten → place.read ≢ read.Known
 
 -- a position that a write of the index changes
@@ -61,17 +63,24 @@ abbrev pub IsInCourse : Plan → Option Task → ℕ → Bool → ℕ → Place 
 IsInCourse plan.One (Some (task.Read index)) count computed position place =
     (place.write ≡ write.Unwritten) × (place.read ≢ read.Replaced) × (position ≢ index → place.read ≡ read.Unread)
 IsInCourse plan.Reconstruct (Some (task.Write index block)) count false position place =
-    (place.write ≡ write.Unwritten) × (place.read ≢ read.Replaced) × (IsPut count index position → place.read ≢ read.Asked)
-IsInCourse plan.Modify (Some (task.Write index block)) count false position place = (place.write ≡ write.Unwritten) × (place.read ≢ read.Replaced)
+    (place.write ≡ write.Unwritten) × (place.read ≢ read.Replaced)
+    × (IsPut count index position → place.read ≢ read.Asked)
+IsInCourse plan.Modify (Some (task.Write index block)) count false position place =
+    (place.write ≡ write.Unwritten) × (place.read ≢ read.Replaced)
 IsInCourse plan.Overwrite (Some (task.Write index block)) count false position place =
     (place.write ≡ write.Unwritten) × (place.read ≡ read.Unread) × (count ≤ position + 2 → place.state ≡ state.Out)
-IsInCourse plan.Reconstruct (Some (task.Write index block)) count true position place = IsPut count index position → IsRenewed place
-IsInCourse plan.Modify (Some (task.Write index block)) count true position place = IsPut count index position → IsRenewed place
-IsInCourse plan.Overwrite (Some (task.Write index block)) count true position place = IsPut count index position → IsRenewed place
+IsInCourse plan.Reconstruct (Some (task.Write index block)) count true position place =
+    IsPut count index position → IsRenewed place
+IsInCourse plan.Modify (Some (task.Write index block)) count true position place =
+    IsPut count index position → IsRenewed place
+IsInCourse plan.Overwrite (Some (task.Write index block)) count true position place =
+    IsPut count index position → IsRenewed place
 IsInCourse plan.Recover (Some (task.Read index)) count computed position place =
     (place.write ≡ write.Unwritten) × (place.read ≢ read.Replaced) × (position ≡ index → place.state ≡ state.Out)
-IsInCourse plan.Recover (Some (task.Write index block)) count false position place = (place.write ≡ write.Unwritten) × (place.read ≢ read.Replaced)
-IsInCourse plan.Recover (Some (task.Write index block)) count true position place = IsPut count index position → IsRenewed place
+IsInCourse plan.Recover (Some (task.Write index block)) count false position place =
+    (place.write ≡ write.Unwritten) × (place.read ≢ read.Replaced)
+IsInCourse plan.Recover (Some (task.Write index block)) count true position place =
+    IsPut count index position → IsRenewed place
 IsInCourse plan.Recover (Some (task.Rebuild target)) count computed position place =
     IsRebuilding target computed position place
 IsInCourse plan.All (Some task.Check) count computed position place =
@@ -84,7 +93,8 @@ IsInCourse p None count computed position place = ⊤
 IsInCourse _ _ count computed position place = ⊥
 
 abbrev pub Each : (ℕ → Place → Type 0) → List Place → Type 0
-Each holds places = (position : ℕ) → position < length places → holds position (slice_index_or places position no_place)
+Each holds places =
+    (position : ℕ) → position < length places → holds position (slice_index_or places position no_place)
 
 -- the buffer of the position is at home, or another stands in for it
 abbrev pub HasBuffer : Place → Type 0

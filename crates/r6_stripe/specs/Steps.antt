@@ -68,12 +68,13 @@ abbrev pub sent : Held → ℕ → List ℕ → Held
 sent held position block =
     record held { planned = planned_after held.planned (Writes position block); away = slice_set held.away position true }
 
--- the answer to the position's command: a read gives the block, a write is confirmed; where the position is out nothing
--- changes
+-- the answer to the position's command: a read gives the block, a write is confirmed; where the position is out
+-- nothing changes
 abbrev pub with_answer : Planned → ℕ → List ℕ → Planned
 with_answer planned position block =
     if is_out (cell_at planned.hold.cells position).standing then planned
-    else (if is_sent (cell_at planned.hold.cells position).writing then planned_after planned (Confirms position) else planned_after planned (Gives position block))
+    else (if is_sent (cell_at planned.hold.cells position).writing then planned_after planned (Confirms position)
+    else planned_after planned (Gives position block))
 
 -- the buffer comes home, with the answer or late
 abbrev pub answered : Held → ℕ → List ℕ → Held
@@ -103,12 +104,15 @@ can_drop Plan.All hold position = false
 -- what `next_command` answers and leaves: the command that comes next by the plan, and none only where the plan has
 -- none
 abbrev pub PutsOut : Held → Option RowCommand → Held → Type 0
-PutsOut old None new = Prepares old.planned new.planned × (next new.planned ≡ None) × (new.away ≡ old.away) × (new.class ≡ old.class)
+PutsOut old None new =
+    Prepares old.planned new.planned × (next new.planned ≡ None) × (new.away ≡ old.away) × (new.class ≡ old.class)
 PutsOut old (Some (command.Read position buffer)) new =
-    (next old.planned ≡ Some (Next.ReadAt position)) × (new ≡ asked old position) × (length buffer ≡ old.planned.hold.size)
+    (next old.planned ≡ Some (Next.ReadAt position)) × (new ≡ asked old position)
+    × (length buffer ≡ old.planned.hold.size)
 PutsOut old (Some (command.Write position buffer)) new =
     (ready : Planned) × Prepares old.planned ready × (next ready ≡ Some (Next.WriteAt position))
-    × IsReady (cell_at ready.hold.cells position) buffer × (new ≡ sent (record old { planned = ready }) position buffer)
+    × IsReady (cell_at ready.hold.cells position) buffer
+    × (new ≡ sent (record old { planned = ready }) position buffer)
     × (length buffer ≡ old.planned.hold.size)
 
 abbrev pub is_idle : Kind → Bool

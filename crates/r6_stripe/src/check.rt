@@ -1,7 +1,7 @@
 //! Checks and repairs: the class of a row that was read as a whole, and its parities anew.
 //!
-//! The class is computed from the buffers of the positions as soon as the last of them has its block, and it is kept: a
-//! repair's new parities then take the places of those that differ.
+//! The class is computed from the buffers of the positions as soon as the last of them has its block, and it is kept:
+//! a repair's new parities then take the places of those that differ.
 
 ghost use Rattle.std.specs.Prelude.{◌≡◌, ◌<◌, ◌≤◌, ◌||◌, ◌&&◌, not, false, None, Some, length, All, IfSome};
 ghost use Rattle.r6_recover.specs.declared.class.RowClass.{RowClass};

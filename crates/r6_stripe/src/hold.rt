@@ -54,19 +54,19 @@ impl Hold {
         Hold { state }
     }
 
-    /// The command that comes next, if one does: the reads in row order; when all have been answered, the writes in row
-    /// order.
+    /// The command that comes next, if one does: the reads in row order; when all have been answered, the writes in
+    /// row order.
     ///
-    /// A hold that loses what its plan reads recovers, by further reads. With three positions out it may have none, and
-    /// not be over.
+    /// A hold that loses what its plan reads recovers, by further reads. With three positions out it may have none,
+    /// and not be over.
     pub fn next_command(&mut self) -> Option<RowCommand>
         ensures { PutsOut self.old result self.new }
     {
         self.state.next_command()
     }
 
-    /// The buffer of a command comes home: with the answer, or late if the position was lost since. With the last block
-    /// of a check or repair the row's class is found.
+    /// The buffer of a command comes home: with the answer, or late if the position was lost since. With the last
+    /// block of a check or repair the row's class is found.
     pub fn done(&mut self, position: usize, buffer: Buffer)
         requires away { is_away self.old position ≡ true }
         requires size { length buffer ≡ self.old.planned.hold.size }

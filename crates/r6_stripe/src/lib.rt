@@ -1,8 +1,8 @@
 //! The rules of one row of a RAID-6 array, and a hold of a row over a frame of buffers.
 //!
 //! A hold is one operation that holds one row: a read or a write of a block, a rebuild, a check or a repair. It works
-//! in a frame of `n + 2` buffers, puts out commands for the devices of the row's positions and takes their answers, and
-//! carries on when positions are lost in its course.
+//! in a frame of `n + 2` buffers, puts out commands for the devices of the row's positions and takes their answers,
+//! and carries on when positions are lost in its course.
 #![tactic(auto)]
 
 mod check;

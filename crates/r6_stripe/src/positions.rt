@@ -202,7 +202,8 @@ impl Positions {
     /// Those whose block wasn't read.
     pub(crate) fn unknown(&self) -> Mask
         ensures { (i : ℕ) → has result i
-            ≡ (nat_lt i (length self.now) && not (is_known (cell_of (slice_index_or self.now i no_place) []).reading)) }
+            ≡ (nat_lt i (length self.now)
+            && not (is_known (cell_of (slice_index_or self.now i no_place) []).reading)) }
     {
         Mask::below(self.count).but(self.known)
     }

@@ -10,8 +10,8 @@ use std::mem;
 
 /// A table that gives each entry the next number, from 0 on, and no number twice.
 ///
-/// Its room is made once, by [`Table::with_capacity`]; no later call takes memory. [`Table::push`] takes constant time,
-/// but for a sweep of the whole table that comes at most once in as many pushes as the capacity. A look-up takes
+/// Its room is made once, by [`Table::with_capacity`]; no later call takes memory. [`Table::push`] takes constant
+/// time, but for a sweep of the whole table that comes at most once in as many pushes as the capacity. A look-up takes
 /// constant time for an entry that was pushed since the last sweep, and else the logarithm of the capacity.
 #[derive(Drop)]
 pub struct Table<V> {

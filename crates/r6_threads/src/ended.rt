@@ -25,5 +25,6 @@ pub(crate) struct Promised<'g, S, W> {
 }
 
 impl<'g, S, W: Work<S>> Promise<Ended<'g, W>> for Promised<'g, S, W> {
-    ghost kept_by = { λ p e. (e.decision.of ≡ p.gate.now.id) × HasEnded (W.done p.station.now) e.decision.value p.work.value e.work };
+    ghost kept_by = { λ p e. (e.decision.of ≡ p.gate.now.id)
+        × HasEnded (W.done p.station.now) e.decision.value p.work.value e.work };
 }

@@ -37,8 +37,8 @@ pub struct Unbegun<W> {
 
 type Handle<'s, S, W> = PromisedHandle<Ended<'s, W>, Promised<'s, S, W>>;
 
-// Starts a thread for each piece of work, from the last one on. Where one can't be made it is decided that none begins;
-// its work, and that of those before it, is left.
+// Starts a thread for each piece of work, from the last one on. Where one can't be made it is decided that none
+// begins; its work, and that of those before it, is left.
 fn start_all<'s, E, S: Sync + 's, W: Work<S> + Send + 's, R: Wait + Sync + 's>(
     scope: &Scope<'s, E>,
     rt: &'s R,
@@ -51,7 +51,8 @@ fn start_all<'s, E, S: Sync + 's, W: Work<S> + Send + 's, R: Wait + Sync + 's>(
     requires room { (handles.old.items ≡ []) × (length works.old.items ≤ vec_capacity handles.old) }
     ensures gate { All (λ handle. handle.promise.gate.now ≡ gate.now) handles.new.items }
     ensures station { All (λ handle. handle.promise.station.now ≡ station.now) handles.new.items }
-    ensures works { works.old.items ≡ works.new.items ++ in_order (λ handle. handle.promise.work.value) handles.new.items }
+    ensures works { works.old.items
+        ≡ works.new.items ++ in_order (λ handle. handle.promise.work.value) handles.new.items }
     ensures capacity { vec_capacity works.new ≡ vec_capacity works.old }
     ensures all { OnOk result (works.new.items ≡ []) }
     ensures decision { IfErr result (λ token. (token.of ≡ gate.now.id) × (token.value ≡ false)) }
@@ -81,9 +82,11 @@ fn join_all<'s, S, W: Work<S>, R: Threads>(
     requires gate { All (λ handle. handle.promise.gate.now ≡ gate.now) handles.items }
     requires station { All (λ handle. handle.promise.station.now ≡ station.now) handles.items }
     requires room { length works.old.items + length handles.items ≤ vec_capacity works.old }
-    ensures back { decision.now.value ≡ false → works.new.items ≡ works.old.items ++ in_order (λ handle. handle.promise.work.value) handles.entry.items }
+    ensures back { decision.now.value ≡ false
+        → works.new.items ≡ works.old.items ++ in_order (λ handle. handle.promise.work.value) handles.entry.items }
     ensures done { decision.now.value ≡ true → works.old.items ≡ []
-        → AllZip (W.done station.now) (in_order (λ handle. handle.promise.work.value) handles.entry.items) works.new.items }
+        → AllZip (W.done station.now) (in_order (λ handle. handle.promise.work.value) handles.entry.items)
+        works.new.items }
 {
     while let Some(handle) = handles.pop() {
         let Ended {
