@@ -6,4 +6,5 @@ pub mod Starts
 pub mod AnyStarts
 pub mod ArrayLaws
 pub mod Counts
+pub mod Passing
 pub mod Sequentials

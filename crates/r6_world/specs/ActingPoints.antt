@@ -1,6 +1,7 @@
--- Acting points: the step at which each request acts on the plain array (Herlihy and Wing, "Linearizability"). Which step
--- it is follows from the run so far. A direct read acts when its device performs it. A write acts when the device of its
--- block performs its command, if that isn't abandoned by then, and otherwise at the end of its hold; so does a read by a hold.
+-- Acting points: the step at which each request acts on the plain array (Herlihy and Wing, "Linearizability"). Which
+-- step it is follows from the run so far. A direct read acts when its device performs it. A write acts when the device
+-- of its block performs its command, if that isn't abandoned by then, and otherwise at the end of its hold; so does a
+-- read by a hold.
 use Rattle.std.specs.Prelude.{◌≡◌, ℕ, zero, suc, List, [], ◌∷◌, Bool, true, false, if◌then◌else◌, not, ◌==◌, ◌&&◌, ◌||◌, Option, Some, None}
 use Rattle.r6_world.specs.PlainArray.{Op, Read, Write, Reply, Data, Done, ArrayFailed, Plain, served, block_of}
 use Rattle.r6_world.specs.Layouts.{Layout, slot_of}
@@ -71,8 +72,8 @@ acts_at l old (Perform shard token c) new plain n id =
 acts_at l old happening new plain n id =
     ends_hold (plain.answers n id) ((old.shard n).request id) ((new.shard n).request id)
 
--- Who acts, by shard and number and in this order: of shard n those with a number below count, in front of the rest; so
--- of all shards below a number; and so of all
+-- Who acts, by shard and number and in this order: of shard n those with a number below count, in front of the rest;
+-- so of all shards below a number; and so of all
 abbrev pub acting_below : (test : ℕ → Bool) → (n count : ℕ) → (rest : List (ℕ × ℕ)) → List (ℕ × ℕ)
 acting_below test n zero rest = rest
 acting_below test n (suc id) rest = acting_below test n id (if test id then (n, id) ∷ rest else rest)
@@ -86,8 +87,8 @@ acting l old happening new plain = acting_in old (acts_at l old happening new pl
 
 -- ---- what is forgotten
 
--- A direct read that its device performed, and whose command fails or is abandoned before it is answered, waits again and
--- acts once more. So what the plain array answered it is forgotten; it changed nothing there
+-- A direct read that its device performed, and whose command fails or is abandoned before it is answered, waits again
+-- and acts once more. So what the plain array answered it is forgotten; it changed nothing there
 abbrev pub kept_answer : (before after : Stage) → Option Reply → Option Reply
 kept_answer (Reading token) Waiting answer = None
 kept_answer (Reading token) (Held frame) answer = None

@@ -1,18 +1,18 @@
 -- What the counts of a shard say of a run (md(4): a check reads the rows in turn and counts those that don't agree; this
 -- project's own: which counts there are). A step leads from state to state by a list of small changes; so does a run, and
 -- which checks and repairs ended in it, and which rows were marked built, stands in that list.
-use Rattle.std.specs.Prelude.{◌≡◌, ℕ, ◌+◌, ◌<◌, List, [], ◌∷◌, ◌++◌, length, All, Bool, true, false, if◌then◌else◌, not, ◌==◌, ◌&&◌, Option, Some, None, count_by}
+use Rattle.std.specs.Prelude.{◌≡◌, ℕ, ◌+◌, ◌<◌, ◌≤◌, List, [], ◌∷◌, ◌++◌, length, All, Bool, true, false, if◌then◌else◌, not, ◌==◌, ◌&&◌, Option, Some, None, count_by}
 use Rattle.r6_recover.specs.declared.class.RowClass.{RowClass}
 use Rattle.r6_recover.specs.declared.class.RowClass.TheVariants.{Consistent, WrongP, WrongQ, WrongData, Many}
 use Rattle.r6_world.specs.Tables.{put, count_below}
 use Rattle.r6_world.specs.Layouts.{Layout, IsLayout}
 use Rattle.r6_world.specs.PlainArray.{Array}
 use Rattle.r6_world.specs.Registers.{Snapshot, RegisterCall}
-use Rattle.r6_world.specs.Tasks.{Task, ReadFor, WriteFor, Rebuild, Check, Repair, Hold, IsClassRead, Outcome, Rebuilt, Classed}
-use Rattle.r6_world.specs.ShardStates.{Shard, SlotState, Building, frames}
+use Rattle.r6_world.specs.Tasks.{Task, ReadFor, WriteFor, Rebuild, Check, Repair, Hold, kind_of, IsClassRead, Outcome, Rebuilt, Classed}
+use Rattle.r6_world.specs.ShardStates.{Shard, SlotState, Building, frames, IsLive}
 use Rattle.r6_world.specs.Changes.{Change, Accept, Start, Classify, Finish, See_failed, Release, Skip_turn, Hand_command, Hand_call, Hear, Hand_reply, after}
-use Rattle.r6_world.specs.Steps.{Event, Submit, Deliver, Look, Turn_started, Turn_skipped, Take_command, No_command, Take_call, No_call, Told, Take_reply, No_reply, Looks, Step}
-use Rattle.r6_world.specs.Worlds.{World, Devices, Happening, Core, Perform, Tell, Outside, Moment, Possible, Run, next, started}
+use Rattle.r6_world.specs.Steps.{Event, Submit, Deliver, Look, Turn_started, Turn_skipped, Take_command, No_command, Take_call, No_call, Told, Take_reply, No_reply, Looks, Step, AtRest}
+use Rattle.r6_world.specs.Worlds.{World, Devices, Happening, Core, Perform, Tell, Outside, Moment, Possible, Run, next, started, shard_at_start}
 use Rattle.r6_world.specs.Claims.{IsLawfulStart}
 use Rattle.r6_world.specs.Laws.{OfEveryRun, IsOfOutside, AreOfShard, IsByAnyone}
 use Rattle.r6_world.specs.Witness.{after_all}
@@ -132,7 +132,8 @@ ended read (change ∷ changes) = ended_by read change ++ ended (read_after read
 abbrev pub ended_in : List Change → List Ended
 ended_in changes = ended (λ f. None) changes
 
--- one that lost a position while it was reading has no class, and any other that of the blocks of its row as they were read
+-- one that lost a position while it was reading has no class, and any other that of the blocks of its row as they were
+-- read
 abbrev pub IsEnd : Ended → Option RowClass → Type 0
 IsEnd e None = e.hold.course.cut_short ≡ true
 IsEnd e (Some class) =
@@ -197,6 +198,55 @@ IsMark m =
     (generation : ℕ) × (built : ℕ → Bool) × (m.old ≡ Building generation built)
     × (m.new ≡ Building generation (put built m.row true))
 
+-- ---- of one call
+
+-- a hold in its frame does what its task says; and if it has a class, that is of the blocks which it had read by then
+pub record IsOwnHold (l : Layout) (f : ℕ) (read : Option Hold) (h : Hold) : Type 0 where
+  pub low : f < frames
+  pub kind : h.course.kind ≡ kind_of l h.row h.task
+  pub classed : (class : RowClass) → h.class ≡ Some class
+      → (r : Hold) × (read ≡ Some r) × (r.row ≡ h.row) × (r.task ≡ h.task) × IsClassRead r.course class
+
+-- so do all holds of a shard, and one that saw the failure has none: so it is from a start on
+pub record AreOwnHolds (l : Layout) (s : Shard) (read : ℕ → Option Hold) : Type 0 where
+  pub holds : (f : ℕ) (h : Hold) → s.frame f ≡ Some h → IsOwnHold l f (read f) h
+  pub gone : s.saw_failed ≡ true → (f : ℕ) → s.frame f ≡ None
+
+abbrev pub HasOwnHolds : Layout → Shard → Type 0
+HasOwnHolds l s = (read : ℕ → Option Hold) × AreOwnHolds l s read
+
+-- the rows of checks and repairs that are counted, of whichever class or none
+abbrev pub all_counted : Shard → ℕ
+all_counted s =
+    s.counts.consistent + s.counts.wrong_p + s.counts.wrong_q + s.counts.wrong_data + s.counts.many + s.counts.skipped
+
+-- the rows that they have passed: those that are counted, and those that they hold yet
+abbrev pub gone_over : Shard → ℕ
+gone_over s = all_counted s + checks_held s
+
+-- how many rows a call passes
+abbrev pub passes : Event → ℕ
+passes (Turn_started task) = if is_check task then 1 else 0
+passes (Turn_skipped task row) = 1
+passes event = 0
+
+-- a shard is at rest, with its own holds, and has passed so many rows; in one that stopped, or saw the failure, holds of
+-- checks stay or are dropped
+abbrev pub HasPassed : Layout → (n : ℕ) → (rows : ℕ) → Shard → Type 0
+HasPassed l n rows s = HasOwnHolds l s × AtRest l n s × (IsLive l s → gone_over s ≡ rows)
+
+-- A shard begins so, and has passed none; each call keeps it so, and passes a row where it is a turn of a check or repair,
+-- and else none. With no command out a live shard holds no row for a check or repair, so that all rows are counted; a
+-- shard that was stopped stays so; and no count ever falls
+abbrev pub CallCountsLaw : Type 0
+CallCountsLaw =
+    ((l : Layout) (n : ℕ) (r : Snapshot) → HasPassed l n 0 (shard_at_start l r n))
+    × ((l : Layout) (n : ℕ) (old : Shard) (event : Event) (new : Shard) → Step l n old event new
+    → ((rows : ℕ) → HasPassed l n rows old → HasPassed l n (rows + passes event) new)
+    × (IsLive l new → IsLive l old) × (all_counted old ≤ all_counted new))
+    × ((l : Layout) (n rows : ℕ) (s : Shard) → HasPassed l n rows s → ((t : ℕ) → s.command t ≡ None) → IsLive l s
+    → all_counted s ≡ rows)
+
 -- ---- the law
 
 -- of a shard, after so many turns were answered Started and Skipped, and these changes from its start
@@ -212,8 +262,8 @@ pub record CountsHold (l : Layout) (start now : Shard) (turns_started turns_skip
   pub repaired : now.counts.repaired ≡ count_by is_repaired (ended_in changes)
   pub marks : All IsMark (marked l start changes)
   pub rebuilt : now.counts.rebuilt ≡ length (marked l start changes)
-  -- each row that was passed is counted once, held, or was dropped; before the failure is seen none is dropped, and from
-  -- then on none is held
+  -- each row that was passed is counted once, held, or was dropped; before the failure is seen none is dropped, and
+  -- from then on none is held
   pub passed : turns_started + turns_skipped
       ≡ now.counts.consistent + now.counts.wrong_p + now.counts.wrong_q + now.counts.wrong_data + now.counts.many
       + now.counts.skipped
@@ -240,5 +290,6 @@ CountsLaw = OfEveryRun AreCounted
 -- The same of one shard, beside a register that any calls change between its own
 abbrev pub ShardCountsLaw : Type 0
 ShardCountsLaw =
-    (l : Layout) → IsLayout l → (n : ℕ) → n < l.shards → (r : Snapshot) (device : Devices) (array : Array) → IsLawfulStart l r device array
+    (l : Layout) → IsLayout l → (n : ℕ) → n < l.shards → (r : Snapshot) (device : Devices) (array : Array)
+    → IsLawfulStart l r device array
     → (moments : List Moment) → AreOfShard n moments → IsCounted l IsByAnyone n (started l r device) moments

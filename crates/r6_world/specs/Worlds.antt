@@ -71,8 +71,8 @@ pub data Happening : Type 0 where
   -- a call at the register that no shard makes
   Outside : RegisterCall → Happening
 
--- what a good completion brings of a command that its device performed: of a read the block that the performing gave, of a
--- write any block, since nothing is made of it
+-- what a good completion brings of a command that its device performed: of a read the block that the performing gave,
+-- of a write any block, since nothing is made of it
 abbrev pub Brings : Transfer → (gave : Option Block) → Block → Type 0
 Brings Fetch gave b = gave ≡ Some b
 Brings (Store new_data) gave b = gave ≢ None
@@ -82,8 +82,8 @@ abbrev pub IsBrought : Option Command → (gave : Option Block) → Block → Ty
 IsBrought None gave b = gave ≡ Some b
 IsBrought (Some c) gave b = Brings c.transfer gave b
 
--- which events of a core may come: a good completion only of a command that its device performed, a look at the register
--- as it is
+-- which events of a core may come: a good completion only of a command that its device performed, a look at the
+-- register as it is
 abbrev pub MayCome : World → ℕ → Event → Type 0
 MayCome w n (Submit op id) = record {}
 MayCome w n (Deliver token (Good b) receipt) = IsBrought (w.flight n token) (w.performed n token) b
@@ -112,7 +112,8 @@ IsAnswer l register call answer = (answer ≡ answer_to l register call) ⊎ (an
 -- what may happen next, where these are the calls that may come at the register from outside
 abbrev pub Possible : Layout → (RegisterCall → Type 0) → World → Happening → Type 0
 Possible l Comes w (Core n event new) = (n < l.shards) × MayCome w n event × Step l n (w.shard n) event new
-Possible l Comes w (Perform n token c) = (n < l.shards) × (w.flight n token ≡ Some c) × ((w.shard n).command token ≢ None) × (w.performed n token ≡ None)
+Possible l Comes w (Perform n token c) =
+    (n < l.shards) × (w.flight n token ≡ Some c) × ((w.shard n).command token ≢ None) × (w.performed n token ≡ None)
 Possible l Comes w (Tell n call answer middle new) =
     (n < l.shards) × IsAnswer l w.register (as_made n call) answer
     × Step l n (w.shard n) (Take_call call) middle × Step l n middle (Told call answer) new
@@ -145,7 +146,8 @@ has_synced (Building current built) generation = false
 
 abbrev pub lapse : Shard → Option Command → (ℕ → ℕ → Bool) → ℕ → ℕ → Bool
 lapse s None parts = parts
-lapse s (Some c) parts = if has_synced (s.slot c.slot) c.generation then put_in parts c.slot c.generation true else parts
+lapse s (Some c) parts =
+    if has_synced (s.slot c.slot) c.generation then put_in parts c.slot c.generation true else parts
 
 abbrev pub lapsed_by : Shard → Event → (ℕ → ℕ → Bool) → ℕ → ℕ → Bool
 lapsed_by s (Deliver token Error receipt) parts = lapse s (s.command token) parts
@@ -213,7 +215,8 @@ happened l w (Outside call) = called l w call (answer_to l w.register call)
 
 -- a part that has answered an error may hold anything after every step: noise says what
 abbrev pub decayed : Layout → Devices → World → World
-decayed l noise w = record w { device = λ d g row. if w.broken (l.shard_of row) d g then noise d g row else w.device d g row }
+decayed l noise w =
+    record w { device = λ d g row. if w.broken (l.shard_of row) d g then noise d g row else w.device d g row }
 
 pub record Moment : Type 0 where
   pub happening : Happening

@@ -21,7 +21,7 @@ use Rattle.r6_world.specs.Steps.{Event, Submit, Deliver, Look, Turn_started, Tur
 use Rattle.r6_world.specs.Worlds.{World, Devices, Happening, Core, Perform, Tell, Outside, Moment, Possible, Run, next, started, shard_at_start}
 use Rattle.r6_world.specs.Laws.{IsOfOutside, IsByAnyone}
 use Rattle.r6_world.specs.Witness.{after_all}
-use Rattle.r6_world.specs.Counting.{changes_of_look, changes_of, changes_at, changes_in, is_check, started_by, skipped_by, in_all, holds_check, checks_held, dropped_by, dropped, Ended, read_after, class_of, ended_by, ended, IsEnd, is_consistent, is_wrong_p, is_wrong_q, is_wrong_data, is_many, of_class, without_class, is_repaired, Mark, marked_by, marked, IsMark, CountsHold, IsCounted, CountsLaw, ShardCountsLaw}
+use Rattle.r6_world.specs.Counting.{changes_of_look, changes_of, changes_at, changes_in, is_check, started_by, skipped_by, in_all, holds_check, checks_held, dropped_by, dropped, Ended, read_after, class_of, ended_by, ended, IsEnd, is_consistent, is_wrong_p, is_wrong_q, is_wrong_data, is_many, of_class, without_class, is_repaired, Mark, marked_by, marked, IsMark, CountsHold, IsCounted, IsOwnHold, AreOwnHolds, CountsLaw, ShardCountsLaw}
 use Rattle.r6_world.proofs.Tables.{put-same, put-other, put-cases, not_both, Some-inj, count-same}
 
 -- ---- lists
@@ -29,24 +29,14 @@ use Rattle.r6_world.proofs.Tables.{put-same, put-other, put-cases, not_both, Som
 count_by-append : {A : Type 0} (p : A → Bool) (xs ys : List A) → count_by p (xs ++ ys) ≡ count_by p xs + count_by p ys
 count_by-append p xs ys = sum_by-append (λ x. cond (p x) 1 0) xs ys
 
-abbrev one : Bool → ℕ
+abbrev pub one : Bool → ℕ
 one b = cond b 1 0
 
 -- ---- the hold of a frame, and what it had read when it was classified
 
-record Sound (l : Layout) (f : ℕ) (read : Option Hold) (h : Hold) : Type 0 where
-  low : f < frames
-  kind : h.course.kind ≡ kind_of l h.row h.task
-  classed : (class : RowClass) → h.class ≡ Some class
-      → (r : Hold) × (read ≡ Some r) × (r.row ≡ h.row) × (r.task ≡ h.task) × IsClassRead r.course class
-
-record Sounds (l : Layout) (s : Shard) (read : ℕ → Option Hold) : Type 0 where
-  holds : (f : ℕ) (h : Hold) → s.frame f ≡ Some h → Sound l f (read f) h
-  gone : s.saw_failed ≡ true → (f : ℕ) → s.frame f ≡ None
-
 -- a hold that goes on keeps its row, its task, its kind and its class
 goes-sound : (l : Layout) (f : ℕ) (read : Option Hold) (h h' : Hold) → h'.row ≡ h.row → h'.task ≡ h.task → h'.course.kind ≡ h.course.kind → h'.class ≡ h.class
-    → Sound l f read h → Sound l f read h'
+    → IsOwnHold l f read h → IsOwnHold l f read h'
 goes-sound l f read h h' row task kind class x = record {
   low = x.low;
   kind = kind ∙ x.kind ∙ ap (λ r. kind_of l r h.task) (sym row) ∙ ap (kind_of l h'.row) (sym task);
@@ -56,13 +46,13 @@ goes-sound l f read h h' row task kind class x = record {
 put-sounds : (l : Layout) (s s' : Shard) (read : ℕ → Option Hold) (f : ℕ) (h h' : Hold) → s.frame f ≡ Some h
     → s'.frame ≡ put s.frame f (Some h') → s'.saw_failed ≡ s.saw_failed
     → h'.row ≡ h.row → h'.task ≡ h.task → h'.course.kind ≡ h.course.kind → h'.class ≡ h.class
-    → Sounds l s read → Sounds l s' read
+    → AreOwnHolds l s read → AreOwnHolds l s' read
 put-sounds l s s' read f h h' here frame saw row task kind class x = record {
   holds = λ g k e.
       elim (put-cases s.frame f (Some h') g (Some k) (ap (λ (y : ℕ → Option Hold). y g) (sym frame) ∙ e)) [
         | inl p ↦
-            subst (λ y. Sound l y (read y) k) (sym p.0)
-            (subst (Sound l f (read f)) (Some-inj h' k p.1) (goes-sound l f (read f) h h' row task kind class (x.holds f h here)))
+            subst (λ y. IsOwnHold l y (read y) k) (sym p.0)
+            (subst (IsOwnHold l f (read f)) (Some-inj h' k p.1) (goes-sound l f (read f) h h' row task kind class (x.holds f h here)))
         | inr p ↦ x.holds g k p.1
       ];
   gone = λ e g. absurd (not_both (s.frame f) h (x.gone (sym saw ∙ e) f) here);
@@ -73,31 +63,31 @@ lost-kind holds.Standing.Out course at = refl
 lost-kind holds.Standing.InSync course at = refl
 lost-kind holds.Standing.Target course at = refl
 
-told-sound : (l : Layout) (f : ℕ) (read o : Option Hold) (slot : ℕ) (k : Hold) → told_hold l slot o ≡ Some k → ((h : Hold) → o ≡ Some h → Sound l f read h) → Sound l f read k
+told-sound : (l : Layout) (f : ℕ) (read o : Option Hold) (slot : ℕ) (k : Hold) → told_hold l slot o ≡ Some k → ((h : Hold) → o ≡ Some h → IsOwnHold l f read h) → IsOwnHold l f read k
 told-sound l f read None slot k e x = absurd (not_both None k refl e)
 told-sound l f read (Some h) slot k e x =
     let at = l.position h.row slot in
     let standing = (cell_at h.course.cells at).standing in
     let h' : Hold = record h { course = lost_at standing h.course at; plan = plan_lost_at standing h.plan h.course at } in
-    subst (Sound l f read) (Some-inj h' k e) (goes-sound l f read h h' refl refl (lost-kind standing h.course at) refl (x h refl))
+    subst (IsOwnHold l f read) (Some-inj h' k e) (goes-sound l f read h h' refl refl (lost-kind standing h.course at) refl (x h refl))
 
 told-none : (l : Layout) (slot : ℕ) (o : Option Hold) → o ≡ None → told_hold l slot o ≡ None
 told-none l slot o e = ap (told_hold l slot) e
 
-same-sounds : (l : Layout) (s s' : Shard) (read : ℕ → Option Hold) → s'.frame ≡ s.frame → s'.saw_failed ≡ s.saw_failed → Sounds l s read → Sounds l s' read
+same-sounds : (l : Layout) (s s' : Shard) (read : ℕ → Option Hold) → s'.frame ≡ s.frame → s'.saw_failed ≡ s.saw_failed → AreOwnHolds l s read → AreOwnHolds l s' read
 same-sounds l s s' read frame saw x = record {
   holds = λ f h e. x.holds f h (ap (λ (y : ℕ → Option Hold). y f) (sym frame) ∙ e);
   gone = λ e f. ap (λ (y : ℕ → Option Hold). y f) frame ∙ x.gone (sym saw ∙ e) f;
 }
 
-sounds-kept : (l : Layout) (n : ℕ) (s : Shard) (read : ℕ → Option Hold) (change : Change) → Allowed l n s change → Sounds l s read → Sounds l (after l s change) (read_after read change)
+sounds-kept : (l : Layout) (n : ℕ) (s : Shard) (read : ℕ → Option Hold) (change : Change) → Allowed l n s change → AreOwnHolds l s read → AreOwnHolds l (after l s change) (read_after read change)
 sounds-kept l n s read (Accept op) a x = same-sounds l s (after l s (Accept op)) read refl refl x
 sounds-kept l n s read (Start f row task) a x = record {
   holds = λ g k e.
       elim (put-cases s.frame f (Some (begun l s.slot row task)) g (Some k) e) [
-        | inl p ↦ subst (Sound l g (put read f None g)) (Some-inj (begun l s.slot row task) k p.1)
+        | inl p ↦ subst (IsOwnHold l g (put read f None g)) (Some-inj (begun l s.slot row task) k p.1)
             (record { low = subst (λ y. y < frames) (sym p.0) a.0.0; kind = refl; classed = λ class e'. absurd (not_both None class refl e') })
-        | inr p ↦ subst (λ y. Sound l g y k) (sym (put-other read f None g p.0)) (x.holds g k p.1)
+        | inr p ↦ subst (λ y. IsOwnHold l g y k) (sym (put-other read f None g p.0)) (x.holds g k p.1)
       ];
   gone = λ e g. absurd (false≢true (sym a.3.1 ∙ e));
 }
@@ -110,12 +100,12 @@ sounds-kept l n s read (Classify f h class) a x = record {
       elim (put-cases s.frame f (Some (record h { class = Some class })) g (Some k) e) [
         | inl p ↦
             let before = x.holds f h a.0 in
-            subst (Sound l g (put read f (Some h) g)) (Some-inj (record h { class = Some class }) k p.1) (record {
+            subst (IsOwnHold l g (put read f (Some h) g)) (Some-inj (record h { class = Some class }) k p.1) (record {
               low = subst (λ y. y < frames) (sym p.0) before.low;
               kind = before.kind;
               classed = λ c e'. (h, put-same read f (Some h) g p.0, refl, refl, subst (IsClassRead h.course) (class-inj class c e') a.4);
             })
-        | inr p ↦ subst (λ y. Sound l g y k) (sym (put-other read f (Some h) g p.0)) (x.holds g k p.1)
+        | inr p ↦ subst (λ y. IsOwnHold l g y k) (sym (put-other read f (Some h) g p.0)) (x.holds g k p.1)
       ];
   gone = λ e g. absurd (not_both (s.frame f) h (x.gone e f) a.0);
 }
@@ -190,15 +180,15 @@ told-held l slot (Some h) = refl
 
 -- ---- what a list of changes adds
 
-abbrev starts_by : Change → ℕ
+abbrev pub starts_by : Change → ℕ
 starts_by (Start f row task) = one (is_check task)
 starts_by change = 0
 
-abbrev skips_by : Change → ℕ
+abbrev pub skips_by : Change → ℕ
 skips_by (Skip_turn task row) = 1
 skips_by change = 0
 
-abbrev of_all : (Change → ℕ) → List Change → ℕ
+abbrev pub of_all : (Change → ℕ) → List Change → ℕ
 of_all number [] = 0
 of_all number (change ∷ changes) = number change + of_all number changes
 
@@ -206,27 +196,27 @@ of_all-append : (number : Change → ℕ) (xs ys : List Change) → of_all numbe
 of_all-append number [] ys = omega arith
 of_all-append number (x ∷ xs) ys = let rest = of_all-append number xs ys in omega (arith, rest)
 
-abbrev those : (RowClass → Bool) → List Ended → ℕ
+abbrev pub those : (RowClass → Bool) → List Ended → ℕ
 those test ends = count_by (λ (e : Ended). of_class test e.class) ends
 
-abbrev lost_ones : List Ended → ℕ
+abbrev pub lost_ones : List Ended → ℕ
 lost_ones ends = count_by (λ (e : Ended). without_class e.class) ends
 
-record Adds (old new : Counts) (ends : List Ended) (skips : ℕ) (marks : ℕ) : Type 0 where
-  consistent : new.consistent ≡ old.consistent + those is_consistent ends
-  wrong_p : new.wrong_p ≡ old.wrong_p + those is_wrong_p ends
-  wrong_q : new.wrong_q ≡ old.wrong_q + those is_wrong_q ends
-  wrong_data : new.wrong_data ≡ old.wrong_data + those is_wrong_data ends
-  many : new.many ≡ old.many + those is_many ends
-  skipped : new.skipped ≡ old.skipped + skips + lost_ones ends
-  repaired : new.repaired ≡ old.repaired + count_by is_repaired ends
-  rebuilt : new.rebuilt ≡ old.rebuilt + marks
+pub record Adds (old new : Counts) (ends : List Ended) (skips : ℕ) (marks : ℕ) : Type 0 where
+  pub consistent : new.consistent ≡ old.consistent + those is_consistent ends
+  pub wrong_p : new.wrong_p ≡ old.wrong_p + those is_wrong_p ends
+  pub wrong_q : new.wrong_q ≡ old.wrong_q + those is_wrong_q ends
+  pub wrong_data : new.wrong_data ≡ old.wrong_data + those is_wrong_data ends
+  pub many : new.many ≡ old.many + those is_many ends
+  pub skipped : new.skipped ≡ old.skipped + skips + lost_ones ends
+  pub repaired : new.repaired ≡ old.repaired + count_by is_repaired ends
+  pub rebuilt : new.rebuilt ≡ old.rebuilt + marks
 
-record Part (s s' : Shard) (ends : List Ended) (marks : List Mark) (starts skips drops : ℕ) : Type 0 where
-  adds : Adds s.counts s'.counts ends skips (length marks)
-  reads : All (λ (e : Ended). IsEnd e e.class) ends
-  are_marks : All IsMark marks
-  held : starts + checks_held s ≡ length ends + checks_held s' + drops
+pub record Part (s s' : Shard) (ends : List Ended) (marks : List Mark) (starts skips drops : ℕ) : Type 0 where
+  pub adds : Adds s.counts s'.counts ends skips (length marks)
+  pub reads : All (λ (e : Ended). IsEnd e e.class) ends
+  pub are_marks : All IsMark marks
+  pub held : starts + checks_held s ≡ length ends + checks_held s' + drops
 
 adds-nothing : (k : Counts) → Adds k k [] 0 0
 adds-nothing k = record {
@@ -320,7 +310,7 @@ alone : (e : Ended) → IsEnd e e.class → All (λ (x : Ended). IsEnd x x.class
 alone e is = All-cons (λ (x : Ended). IsEnd x x.class) e [] is (All-nil (λ (x : Ended). IsEnd x x.class))
 
 finishes : (l : Layout) (s : Shard) (read : ℕ → Option Hold) (f row : ℕ) (task : Task) (course : Course) (plan : Plan) (own : Option RowClass) (outcome : Outcome)
-    → Sound l f (read f) (hold_of row task course plan own) → Owes course (kind_of l row task) (end_of outcome) → Ends s (hold_of row task course plan own) task outcome
+    → IsOwnHold l f (read f) (hold_of row task course plan own) → Owes course (kind_of l row task) (end_of outcome) → Ends s (hold_of row task course plan own) task outcome
     → FinishOk l s read f (hold_of row task course plan own) outcome
 finishes l s read f row (ReadFor id block) course plan own (Answered b) x owes ends = ends-nothing s.counts
 finishes l s read f row (ReadFor id block) course plan own Wrote x owes ends = absurd owes
@@ -376,12 +366,12 @@ ends-one read f h outcome = at (is_check h.task)
 
 -- ---- each change does its part
 
-goes-on : (l : Layout) (s s' : Shard) (read : ℕ → Option Hold) (f : ℕ) (h h' : Hold) → Sounds l s read → s.frame f ≡ Some h → h'.task ≡ h.task
+goes-on : (l : Layout) (s s' : Shard) (read : ℕ → Option Hold) (f : ℕ) (h h' : Hold) → AreOwnHolds l s read → s.frame f ≡ Some h → h'.task ≡ h.task
     → s'.counts ≡ s.counts → s'.frame ≡ put s.frame f (Some h') → Part s s' [] [] 0 0 0
 goes-on l s s' read f h h' x here task counts frame =
     nothing s s' counts (held-same s.frame f h h' (x.holds f h here).low here task ∙ ap (λ (y : ℕ → Option Hold). count_below (λ g. holds_check (y g)) frames) (sym frame))
 
-part-of : (l : Layout) (n : ℕ) (s : Shard) (read : ℕ → Option Hold) (change : Change) → Allowed l n s change → Sounds l s read
+part-of : (l : Layout) (n : ℕ) (s : Shard) (read : ℕ → Option Hold) (change : Change) → Allowed l n s change → AreOwnHolds l s read
     → Part s (after l s change) (ended_by read change) (marked_by l s change) (starts_by change) (skips_by change) (dropped_by s change)
 part-of l n s read (Start f row task) a x = record {
   adds = adds-nothing s.counts;
@@ -429,13 +419,13 @@ part-of l n s read change a x = nothing s (after l s change) refl refl
 
 -- ---- and so does a list of them
 
-abbrev Any : Change → Type 0
+abbrev pub Any : Change → Type 0
 Any change = record {}
 
-parts-of : (l : Layout) (n : ℕ) (changes : List Change) (s new : Shard) (read : ℕ → Option Hold) → Leads l n Any s changes new → Sounds l s read
-    → Part s new (ended read changes) (marked l s changes) (of_all starts_by changes) (of_all skips_by changes) (dropped l s changes) × (last : ℕ → Option Hold) × Sounds l new last
+pub parts-of : (l : Layout) (n : ℕ) (changes : List Change) (s new : Shard) (read : ℕ → Option Hold) → Leads l n Any s changes new → AreOwnHolds l s read
+    → Part s new (ended read changes) (marked l s changes) (of_all starts_by changes) (of_all skips_by changes) (dropped l s changes) × (last : ℕ → Option Hold) × AreOwnHolds l new last
 parts-of l n [] s new read e x =
-    (nothing s new (ap (λ (y : Shard). y.counts) e) (ap checks_held (sym e)), read, subst (λ y. Sounds l y read) (sym e) x)
+    (nothing s new (ap (λ (y : Shard). y.counts) e) (ap checks_held (sym e)), read, subst (λ y. AreOwnHolds l y read) (sym e) x)
 parts-of l n (change ∷ changes) s new read e x =
     let s1 = after l s change in
     let rest = parts-of l n changes s1 new (read_after read change) e.2 (sounds-kept l n s read change e.1 x) in (
@@ -458,7 +448,7 @@ drops-none : (l : Layout) (n : ℕ) (s new : Shard) (change : Change) (changes :
 drops-none l n s new See_failed changes e unseen = absurd (false≢true (sym unseen ∙ saw-along l n changes (after l s See_failed) new e refl))
 drops-none l n s new change changes e unseen = refl
 
-none-dropped : (l : Layout) (n : ℕ) (changes : List Change) (s new : Shard) → Leads l n Any s changes new → new.saw_failed ≡ false → dropped l s changes ≡ 0
+pub none-dropped : (l : Layout) (n : ℕ) (changes : List Change) (s new : Shard) → Leads l n Any s changes new → new.saw_failed ≡ false → dropped l s changes ≡ 0
 none-dropped l n [] s new e unseen = refl
 none-dropped l n (change ∷ changes) s new e unseen =
     let here = drops-none l n s new change changes e.2 unseen in
@@ -466,10 +456,10 @@ none-dropped l n (change ∷ changes) s new e unseen =
 
 -- ---- the changes of a step, and how many turns it answers
 
-record Led (l : Layout) (n : ℕ) (old new : Shard) (changes : List Change) (starts skips : ℕ) : Type 0 where
-  leads : Leads l n Any old changes new
-  starts_is : of_all starts_by changes ≡ starts
-  skips_is : of_all skips_by changes ≡ skips
+pub record Led (l : Layout) (n : ℕ) (old new : Shard) (changes : List Change) (starts skips : ℕ) : Type 0 where
+  pub leads : Leads l n Any old changes new
+  pub starts_is : of_all starts_by changes ≡ starts
+  pub skips_is : of_all skips_by changes ≡ skips
 
 leads-append : (l : Layout) (n : ℕ) (xs ys : List Change) (old mid new : Shard) → Leads l n Any old xs mid → Leads l n Any mid ys new → Leads l n Any old (xs ++ ys) new
 leads-append l n [] ys old mid new e y = subst (λ s. Leads l n Any s ys new) e y
@@ -535,11 +525,11 @@ answers-none token (Good b) Late (Come_home t c) k = (refl, refl)
 answers-none token Error Late (Come_home t c) k = (refl, refl)
 answers-none token completion receipt change k = absurd k
 
-abbrev turn_started : Event → ℕ
+abbrev pub turn_started : Event → ℕ
 turn_started (Turn_started task) = one (is_check task)
 turn_started event = 0
 
-abbrev turn_skipped : Event → ℕ
+abbrev pub turn_skipped : Event → ℕ
 turn_skipped (Turn_skipped task row) = 1
 turn_skipped event = 0
 
@@ -549,7 +539,7 @@ look-led l n false mid new x =
     led-both l n mid x.0 new x.1.0 (Release ∷ x.2.0) 0 0 0 0 (led-kind l n GoesOn goes-none x.1.0 mid x.0 x.1.1)
     (led-then l n x.0 new Release x.2.0 0 0 (record {}) (led-kind l n Scans scans-none x.2.0 (after l x.0 Release) new x.2.1))
 
-step-led : (l : Layout) (n : ℕ) (old : Shard) (event : Event) (new : Shard) (st : Step l n old event new)
+pub step-led : (l : Layout) (n : ℕ) (old : Shard) (event : Event) (new : Shard) (st : Step l n old event new)
     → Led l n old new (changes_of l n old event new st) (turn_started event) (turn_skipped event)
 step-led l n old (Submit op id) new st =
     led-then l n old new (Accept op) st.2.0 0 0 st.1 (led-kind l n Scans scans-none st.2.0 (after l old (Accept op)) new st.2.1)
@@ -647,7 +637,7 @@ run-led l Comes n (m ∷ moments) w run =
 
 -- ---- the law
 
-classes-all : (ends : List Ended) → length ends ≡ those is_consistent ends + those is_wrong_p ends + those is_wrong_q ends + those is_wrong_data ends + those is_many ends + lost_ones ends
+pub classes-all : (ends : List Ended) → length ends ≡ those is_consistent ends + those is_wrong_p ends + those is_wrong_q ends + those is_wrong_data ends + those is_many ends + lost_ones ends
 classes-all [] = refl
 classes-all (e ∷ ends) =
     let rest = at e.class (classes-all ends) in
@@ -674,7 +664,7 @@ classes-all (e ∷ ends) =
     at (Some (WrongData index)) rest = omega (arith, rest)
     at (Some Many) rest = omega (arith, rest)
 
-start-sounds : (l : Layout) (n : ℕ) (r : Snapshot) → Sounds l (shard_at_start l r n) (λ f. None)
+pub start-sounds : (l : Layout) (n : ℕ) (r : Snapshot) → AreOwnHolds l (shard_at_start l r n) (λ f. None)
 start-sounds l n r = record { holds = λ f h e. absurd (not_both None h refl e); gone = λ e f. refl }
 
 holds-for : (l : Layout) (n : ℕ) (r : Snapshot) (now : Shard) (changes : List Change) (starts skips : ℕ)

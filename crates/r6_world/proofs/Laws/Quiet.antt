@@ -6,7 +6,7 @@ use Rattle.r6_world.specs.PlainArray.{Op, Reply, Read, Data}
 use Rattle.r6_world.specs.Layouts.{Layout, IsLayout}
 use Rattle.r6_world.specs.Registers.{Snapshot, Status, RegisterCall, Told as Answer, InSync, Lost, Rebuilding, status_of, answer_to}
 use Rattle.r6_world.specs.Tasks.{Hold, serves}
-use Rattle.r6_world.specs.ShardStates.{Shard, Call, Request, Stage, Waiting, Held, Finished, Released, Command, begun, IsLive, away, Reading, IsDirect}
+use Rattle.r6_world.specs.ShardStates.{Shard, Call, Request, Stage, Waiting, Held, Finished, Released, Command, SlotState, Synced, Missing, Building, InSyncFor, limit, begun, IsLive, away, Reading, IsDirect}
 use Rattle.r6_world.specs.Changes.{Change, Accept, Start, Ask, Prepare, Classify, Send, Learn, Confirm, Come_home, Lose, Adopt, See_failed, Finish, Bring_in, Release, Skip_turn, Hand_command, Hand_call, Hear, Hand_reply, AllBuilt, after, failed_request, failed_stage, released_stage, told_hold, Read_direct, Give_direct, read_on, abandoned_to}
 use Rattle.r6_world.specs.Steps.{AtRest, Event, Submit, Deliver, Look, Turn_started, Turn_skipped, Take_command, No_command, Take_call, No_call, Told, Take_reply, No_reply, Step, Looks, Leads, Scans}
 use Rattle.r6_world.specs.Worlds.{World, Devices, Happening, Core, Perform, Tell, Outside, Possible, next, started, settles, settled_by, slot_at_start}
@@ -172,7 +172,10 @@ taken-rest l n s t c here x =
                 (t, c', put-same s.command t (Some c') t refl, sym (ap (λ (y : Command). y.abandoned) is-c) ∙ p.3, sym (ap (λ (y : Command). y.frame) is-c) ∙ p.4)
             | inr ne ↦ (p.0, p.1, put-other s.command t (Some c') p.0 ne ∙ p.2, p.3, p.4)
           ];
-      none_could_start = λ live id op e unheld f free. x.none_could_start live id op e unheld f (free.0, free.1, home f free.2);
+      none_could_start = λ live id op e could. x.none_could_start live id op e (
+        λ synced. let direct = could.0 synced in (direct.0, (direct.1.0, direct.1.1, home direct.0 direct.1.2)),
+        λ held. let free = could.1 held in (free.0, free.1, (free.2.0, free.2.1, home free.1 free.2.2)),
+      );
       nothing_next = x.nothing_next;
       brought_in = x.brought_in;
     }
@@ -196,7 +199,7 @@ step-rest l n old No_call new st x = subst (AtRest l n) (sym st.1) x
 step-rest l n old (Told call answer) new st x = subst (AtRest l n) (sym st.1) (hear-rest l n old call answer x)
 step-rest l n old (Take_reply id reply) new st x = subst (AtRest l n) (sym st.2) (record {
   goes_on = x.goes_on;
-  none_could_start = λ live i op e unheld f free. x.none_could_start live i op (elim (put-cases old.request id None i _ e) [ inl p ↦ absurd (not_both None _ refl p.1) | inr p ↦ p.1 ]) unheld f free;
+  none_could_start = λ live i op e could. x.none_could_start live i op (elim (put-cases old.request id None i _ e) [ inl p ↦ absurd (not_both None _ refl p.1) | inr p ↦ p.1 ]) could;
   nothing_next = x.nothing_next;
   brought_in = x.brought_in;
 })
@@ -307,7 +310,7 @@ resting-next l Comes w (Outside call) noise p x =
       none_finished = λ m e. x.none_finished m (settled-none (answer_to l w.register call) w.settled m e);
     }
 
--- a quiet shard has no hold, so each waiting request could start
+-- a quiet shard has no hold and no command out, so each waiting request could start
 pub quiet-at : (l : Layout) → IsLayout l → (w : World) → Resting l w → QuietUnlessStopped l w
 quiet-at l is w x n id op stage ok quiet e = elim (cases_Bool (w.shard n).saw_failed) [
   | inl saw ↦ (x.homes n).failed saw id op stage e
@@ -324,10 +327,18 @@ quiet-at l is w x n id op stage ok quiet e = elim (cases_Bool (w.shard n).saw_fa
     frame_none f None no' = refl
     frame_none f (Some h) no' = absurd (no' h refl)
 
+    none_out : (f : ℕ) (t : ℕ) (c : Command) → (w.shard n).command t ≡ Some c → c.frame ≡ f → ⊥
+    none_out f t c at' row = not_both ((w.shard n).command t) c (quiet.0 t) at'
+
     of_stage : IsLive l (w.shard n) → (stage : Stage) → (w.shard n).request id ≡ Some (request_at op stage) → IsReleased stage
-    of_stage live Waiting at =
-        (x.rests n).none_could_start live id op at (λ f h at' row. none_held live f h at') 0
-        (omega arith, frame_none 0 ((w.shard n).frame 0) (λ h at'. none_held live 0 h at'), λ t c at' row. not_both ((w.shard n).command t) c (quiet.0 t) at')
+    of_stage live Waiting at = (x.rests n).none_could_start live id op at (
+      λ synced. (64, (omega arith, omega arith, none_out 64)),
+      λ held. (
+        λ f h at' row. none_held live f h at',
+        0,
+        (omega arith, frame_none 0 ((w.shard n).frame 0) (λ h at'. none_held live 0 h at'), none_out 0),
+      ),
+    )
     of_stage live (Reading t) at = let r = (x.directs n).reading id t op at in absurd (not_both ((w.shard n).command t) r.out (quiet.0 t) r.there)
     of_stage live (Held f) at = let p = (x.homes n).home id f op at in none_held live f p.0 p.1
     of_stage live (Finished reply) at = (x.none_finished n quiet.3).none id op reply at
@@ -343,7 +354,7 @@ resting-start l r device =
     record {
       rests = λ n. record {
         goes_on = λ live f h e. absurd (not_both None h refl e);
-        none_could_start = λ live id op e unheld f free. not_both None _ refl e;
+        none_could_start = λ live id op e could. not_both None _ refl e;
         nothing_next = λ live f h e. absurd (not_both None h refl e);
         brought_in = λ live slot x. not_all_built l n (status_of r slot) x;
       };

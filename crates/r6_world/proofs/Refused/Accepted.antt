@@ -1,83 +1,27 @@
--- An accepted request starts, where it can.
-use Rattle.std.proofs.Common.{◌≡◌, ℕ, ◌⊎◌, List, [], ◌∷◌, inl, inr, refl, sym, ap, ◌∙◌, subst, Option, Some, None, arith}
-use Rattle.std.proofs.lemmas.Bool.{cases_eq, cases_Bool, or_left, eq-eqb}
+-- An accepted request starts, where it can: directly, if its slot is in sync for its row, and else by a hold.
+use Rattle.std.proofs.Common.{◌≡◌, ℕ, ◌<◌, List, [], ◌∷◌, inl, inr, refl, sym, ap, ◌∙◌, subst, Some, None}
+use Rattle.std.proofs.lemmas.Bool.{cases_Bool, or_left, eq-eqb}
 use Rattle.std.specs.Prelude.{true}
-use Rattle.r6_world.specs.Tables.{put}
-use Rattle.r6_world.specs.PlainArray.{Op, Read, Write, block_of}
+use Rattle.r6_stripe.specs.Plans.{Planned, next as next_of_plan, MayFollow}
+use Rattle.r6_stripe.specs.Holds.{Event}
+use Rattle.r6_stripe.specs.Holds.Event.{Asks, Restores, Computes, Writes, Gives, Confirms, Loses}
+use Rattle.r6_world.specs.PlainArray.{Op, Read, Write}
 use Rattle.r6_world.specs.Layouts.{Layout}
-use Rattle.r6_world.specs.Tasks.{Task, ReadFor, WriteFor, Rebuild, Check, Repair, Hold, serves}
-use Rattle.r6_world.specs.ShardStates.{Waiting, Command, Shard, IsLive, IsFree, NotHeld, Reading}
-use Rattle.r6_world.specs.Changes.{Change, Accept, Start, Ask, Prepare, Send, MayStart, Allowed, after, Read_direct}
+use Rattle.r6_world.specs.Tasks.{Write as RowWrite, Task, ReadFor, WriteFor, Rebuild, Check, Repair, planned, serves}
+use Rattle.r6_world.specs.ShardStates.{Request, Waiting, Held, Reading, Shard, limit, IsLive, IsDirect, NotHeld, CouldStart}
+use Rattle.r6_world.specs.Changes.{Change, Accept, Start, Ask, Prepare, Send, IsWorkedOut, Allowed, after, Read_direct}
 use Rattle.r6_world.specs.Steps.{AtRest, IsRequest, Scans, Leads}
-use Rattle.r6_world.specs.Refusals.{AcceptedStarts}
-use Rattle.r6_world.proofs.Tables.{put-same, put-other, put-cases, not_both, same_entry, Some-inj}
-use Rattle.r6_world.proofs.Acts.Requests.{request_at, held_now-served, held_now-other, staged-cases, not_waiting, same_stage}
-
--- no hold of these has the row
-abbrev Unheld : (ℕ → Option Hold) → ℕ → Type 0
-Unheld frame row = (f : ℕ) (h : Hold) → frame f ≡ Some h → h.row ≡ row → ⊥
-
-unheld-put : (frame : ℕ → Option Hold) (f row : ℕ) (h h' : Hold) → frame f ≡ Some h → h.row ≡ h'.row → Unheld frame row → Unheld (put frame f (Some h')) row
-unheld-put frame f row h h' here same unheld g k e at =
-    elim (put-cases frame f (Some h') g _ e) [
-      | inl q ↦ unheld f h here (same ∙ ap (λ (x : Hold). x.row) (Some-inj _ _ q.1) ∙ at)
-      | inr q ↦ unheld g k q.1 at
-    ]
-
-unheld-before : (frame : ℕ → Option Hold) (f row : ℕ) (h h' : Hold) → frame f ≡ Some h → h.row ≡ h'.row → Unheld (put frame f (Some h')) row → Unheld frame row
-unheld-before frame f row h h' here same unheld g k e at =
-    elim (cases_eq g f) [
-      | inl is ↦ unheld f h' (put-same frame f (Some h') f refl)
-          (sym same ∙ ap (λ (x : Hold). x.row) (same_entry (frame f) h k here (subst (λ x. frame x ≡ Some k) is e)) ∙ at)
-      | inr ne ↦ unheld g k (put-other frame f (Some h') g ne ∙ e) at
-    ]
+use Rattle.r6_world.specs.Refusals.{AcceptedStarts, DirectHoldsNoRow}
+use Rattle.r6_world.proofs.Tables.{put-same, put-cases, not_both, Some-inj}
+use Rattle.r6_world.proofs.Acts.Requests.{request_at, held_now-served, held_now-other, staged-cases, start-waits, not_waiting, same_stage}
 
 -- the request doesn't wait
 abbrev Left : Shard → ℕ → Type 0
 Left s id = (op : Op) → s.request id ≡ Some (request_at op Waiting) → ⊥
 
--- it could start, and no other: its row has no hold, the frame is free, and every other waiting request's row is held
-abbrev IsFirst : Layout → Shard → (row f id : ℕ) → Type 0
-IsFirst l s row f id =
-    IsLive l s × NotHeld s row × IsFree l s f
-    × ((other : ℕ) (op : Op) → s.request other ≡ Some (request_at op Waiting) → NotHeld s (l.row_of (block_of op)) → other ≡ id)
-
--- so it stays when a hold changes
-first-goes : (l : Layout) (s : Shard) (row f id g : ℕ) (h h' : Hold) → s.frame g ≡ Some h → h.row ≡ h'.row → IsFirst l s row f id
-    → IsFirst l (record s { frame = put s.frame g (Some h') }) row f id
-first-goes l s row f id g h h' here same u = (
-  u.0,
-  unheld-put s.frame g row h h' here same u.1,
-  (u.2.0, put-other s.frame g (Some h') f (λ is. not_both (s.frame g) h (subst (λ x. s.frame x ≡ None) is u.2.1) here) ∙ u.2.1, u.2.2),
-  λ other op e unheld. u.3 other op e (unheld-before s.frame g (l.row_of (block_of op)) h h' here same unheld),
-)
-
--- and when a hold puts out a command
-first-issues : (l : Layout) (s : Shard) (row f id g t : ℕ) (h : Hold) (c : Command) → s.frame g ≡ Some h → c.frame ≡ g → IsFirst l s row f id
-    → IsFirst l (record s { command = put s.command t (Some c) }) row f id
-first-issues l s row f id g t h c here own u = (
-  u.0,
-  u.1,
-  (
-    u.2.0,
-    u.2.1,
-    λ v d e at. elim (put-cases s.command t (Some c) v _ e) [
-      | inl q ↦ not_both (s.frame g) h (subst (λ x. s.frame x ≡ None) (sym at ∙ sym (ap (λ (x : Command). x.frame) (Some-inj _ _ q.1)) ∙ own) u.2.1) here
-      | inr q ↦ u.2.2 v d q.1 at
-    ],
-  ),
-  u.3,
-)
-
--- then what starts serves it
-starts-it : (l : Layout) (s : Shard) (row f id at : ℕ) (task : Task) → IsFirst l s row f id → IsRequest task → MayStart l s at task → NotHeld s at → serves task id ≡ true
-starts-it l s row f id at (ReadFor own block) u k m unheld = eq-eqb id own (sym (u.3 own (Read block) m.0 (subst (NotHeld s) (sym m.1) unheld)))
-starts-it l s row f id at (WriteFor []) u k m unheld = absurd (m.0 refl)
-starts-it l s row f id at (WriteFor (w ∷ writes)) u k m unheld =
-    or_left _ _ (eq-eqb id w.id (sym (u.3 w.id (Write w.block w.new_data) m.1.0 (subst (NotHeld s) (sym m.1.1) unheld))))
-starts-it l s row f id at (Rebuild slot generation) u k m unheld = absurd k
-starts-it l s row f id at Check u k m unheld = absurd k
-starts-it l s row f id at Repair u k m unheld = absurd k
+-- and no row is held for it
+abbrev IsApart : Shard → ℕ → Type 0
+IsApart s id = (op : Op) (f : ℕ) → s.request id ≡ Some (request_at op (Held f)) → ⊥
 
 -- a start takes a request from those that wait, and puts none there
 left-served : (l : Layout) (s : Shard) (g at id : ℕ) (task : Task) → serves task id ≡ true → Left (after l s (Start g at task)) id
@@ -93,62 +37,149 @@ left-started l s g at id task left op e =
 reading_not : (t : ℕ) → Reading t ≡ Waiting → ⊥
 reading_not t e = cc
 
-scan-starts : (l : Layout) (n : ℕ) (row f id : ℕ) (s : Shard) (change : Change) → Scans change → Allowed l n s change
-    → Left s id ⊎ IsFirst l s row f id → Left (after l s change) id ⊎ IsFirst l (after l s change) row f id
-scan-starts l n row f id s (Start g at task) k a (inl left) = inl (left-started l s g at id task left)
-scan-starts l n row f id s (Start g at task) k a (inr u) = inl (left-served l s g at id task (starts-it l s row f id at task u k a.4 a.1))
-scan-starts l n row f id s (Ask g h slot generation) k a (inl left) = inl left
-scan-starts l n row f id s (Ask g h slot generation) k a (inr u) =
-    inr (first-goes l (record s { command = put s.command s.tokens _ }) row f id g h _ a.0 refl (first-issues l s row f id g s.tokens h _ a.0 refl u))
-scan-starts l n row f id s (Read_direct buffer own block g) k a (inl left) = inl (λ op e. elim (put-cases s.request own _ id _ e) [
+reading-not-held : (t f : ℕ) → Reading t ≡ Held f → ⊥
+reading-not-held t f e = cc
+
+-- what has left stays away
+left-stays : (l : Layout) (n : ℕ) (id : ℕ) (s : Shard) (change : Change) → Scans change → Allowed l n s change → Left s id → Left (after l s change) id
+left-stays l n id s (Start g at task) k a left = left-started l s g at id task left
+left-stays l n id s (Ask g h slot generation) k a left = left
+left-stays l n id s (Read_direct buffer own block g) k a left = λ op e. elim (put-cases s.request own _ id _ e) [
   | inl q ↦ reading_not s.tokens (same_stage _ _ _ _ q.1).1
   | inr q ↦ left op q.1
-])
-scan-starts l n row f id s (Read_direct buffer own block g) k a (inr u) = inr (
-  u.0,
-  u.1,
-  (
-    u.2.0,
-    u.2.1,
-    λ v d e at. elim (put-cases s.command s.tokens _ v _ e) [
-      | inl q ↦ let low = u.2.0 in let behind = a.0.0 in let same : buffer ≡ d.frame = ap (λ (x : Command). x.frame) (Some-inj _ _ q.1) in absurd (omega arith)
-      | inr q ↦ u.2.2 v d q.1 at
-    ],
-  ),
-  λ other op e unheld. elim (put-cases s.request own _ other _ e) [
-    | inl q ↦ absurd (reading_not s.tokens (same_stage _ _ _ _ q.1).1)
-    | inr q ↦ u.3 other op q.1 unheld
-  ],
-)
-scan-starts l n row f id s (Prepare g h event) k a (inl left) = inl left
-scan-starts l n row f id s (Prepare g h event) k a (inr u) = inr (first-goes l s row f id g h _ a.0 refl u)
-scan-starts l n row f id s (Send g h slot generation b) k a (inl left) = inl left
-scan-starts l n row f id s (Send g h slot generation b) k a (inr u) =
-    inr (first-goes l (record s { command = put s.command s.tokens _ }) row f id g h _ a.0 refl (first-issues l s row f id g s.tokens h _ a.0 refl u))
-scan-starts l n row f id s change k a x = absurd k
+]
+left-stays l n id s (Prepare g h event) k a left = left
+left-stays l n id s (Send g h slot generation b) k a left = left
+left-stays l n id s change k a left = absurd k
 
-scans-start : (l : Layout) (n : ℕ) (row f id : ℕ) (changes : List Change) (s new : Shard) → Leads l n Scans s changes new
-    → Left s id ⊎ IsFirst l s row f id → Left new id ⊎ IsFirst l new row f id
-scans-start l n row f id [] s new e x = subst (λ y. Left y id ⊎ IsFirst l y row f id) (sym e) x
-scans-start l n row f id (change ∷ changes) s new e x =
-    scans-start l n row f id changes (after l s change) new e.2 (scan-starts l n row f id s change e.0 e.1 x)
+-- and what has left and holds no row gets none
+apart-stays : (l : Layout) (n : ℕ) (id : ℕ) (s : Shard) (change : Change) → Scans change → Allowed l n s change → Left s id → IsApart s id → IsApart (after l s change) id
+apart-stays l n id s (Start g at task) k a left apart = λ op f e.
+    elim (cases_Bool (serves task id)) [
+      | inl yes' ↦ let waits = start-waits l s at id task a.4 yes' in absurd (left waits.0 waits.1)
+      | inr no' ↦ apart op f (sym (held_now-other s.request task g id no') ∙ e)
+    ]
+apart-stays l n id s (Ask g h slot generation) k a left apart = apart
+apart-stays l n id s (Read_direct buffer own block g) k a left apart = λ op f e. elim (put-cases s.request own _ id _ e) [
+  | inl q ↦ reading-not-held s.tokens f (same_stage _ _ _ _ q.1).1
+  | inr q ↦ apart op f q.1
+]
+apart-stays l n id s (Prepare g h event) k a left apart = apart
+apart-stays l n id s (Send g h slot generation b) k a left apart = apart
+apart-stays l n id s change k a left apart = absurd k
 
--- at first no other request can start: the shard was at rest
-first-accepted : (l : Layout) (n : ℕ) (s : Shard) (op : Op) (id f : ℕ) → AtRest l n s → IsLive l s → NotHeld s (l.row_of (block_of op)) → IsFree l s f → id ≡ s.accepted
-    → IsFirst l (after l s (Accept op)) (l.row_of (block_of op)) f id
-first-accepted l n s op id f rests live unheld free is = (
-  live,
-  unheld,
-  free,
-  λ other op' e unheld'. elim (put-cases s.request s.accepted (Some (request_at op Waiting)) other _ e) [
-    | inl q ↦ q.0 ∙ sym is
-    | inr q ↦ absurd (rests.none_could_start live other op' q.1 unheld' f free)
-  ],
-)
+left-scans : (l : Layout) (n : ℕ) (id : ℕ) (changes : List Change) (s new : Shard) → Leads l n Scans s changes new → Left s id → Left new id
+left-scans l n id [] s new e left = subst (λ y. Left y id) (sym e) left
+left-scans l n id (change ∷ changes) s new e left = left-scans l n id changes (after l s change) new e.2 (left-stays l n id s change e.0 e.1 left)
+
+apart-scans : (l : Layout) (n : ℕ) (id : ℕ) (changes : List Change) (s new : Shard) → Leads l n Scans s changes new → Left s id → IsApart s id → IsApart new id
+apart-scans l n id [] s new e left apart = subst (λ y. IsApart y id) (sym e) apart
+apart-scans l n id (change ∷ changes) s new e left apart =
+    apart-scans l n id changes (after l s change) new e.2 (left-stays l n id s change e.0 e.1 left) (apart-stays l n id s change e.0 e.1 left apart)
+
+-- a hold whose plan puts nothing out works nothing out either
+works-nothing : (p : Planned) (event : Event) → next_of_plan p ≡ None → IsWorkedOut event → MayFollow p event → ⊥
+works-nothing p (Restores position block) nothing k m = not_both (next_of_plan p) _ nothing m.0
+works-nothing p (Computes new) nothing k m = not_both (next_of_plan p) _ nothing m.0
+works-nothing p (Asks position) nothing k m = k
+works-nothing p (Writes position block) nothing k m = k
+works-nothing p (Gives position block) nothing k m = k
+works-nothing p (Confirms position) nothing k m = k
+works-nothing p (Loses position) nothing k m = k
+
+-- A live shard at rest has accepted a request. No hold puts anything out, and no other request can start, so that what
+-- comes first starts this one.
+module _ (l : Layout) (n : ℕ) (s : Shard) (op : Op) (rests : AtRest l n s) (live : IsLive l s) (below : s.tokens < limit) where
+  abbrev mid : Shard
+  mid = after l s (Accept op)
+
+  only-new : (other : ℕ) (asked : Op) → mid.request other ≡ Some (request_at asked Waiting) → CouldStart l s asked → other ≡ s.accepted
+  only-new other asked e could = elim (put-cases s.request s.accepted (Some (request_at op Waiting)) other _ e) [
+    | inl q ↦ q.0
+    | inr q ↦ absurd (rests.none_could_start live other asked q.1 could)
+  ]
+
+  -- and this one is what was asked
+  is-asked : (other : ℕ) (asked : Op) → mid.request other ≡ Some (request_at asked Waiting) → other ≡ s.accepted → asked ≡ op
+  is-asked other asked e same =
+      sym (ap (λ (r : Request). r.op) (Some-inj _ _ (sym (put-same s.request s.accepted (Some (request_at op Waiting)) other same) ∙ e)))
+
+  -- what a hold that starts serves first, and what starts directly, could start
+  read-could : (g at own block : ℕ) → Allowed l n mid (Start g at (ReadFor own block)) → CouldStart l s (Read block)
+  read-could g at own block a = ((λ synced. absurd (a.4.2 (below, synced))), λ held. (subst (NotHeld s) (sym a.4.1) a.1, g, a.0))
+
+  write-could : (g at : ℕ) (w : RowWrite) (writes : List RowWrite) → Allowed l n mid (Start g at (WriteFor (w ∷ writes))) → CouldStart l s (Write w.block w.new_data)
+  write-could g at w writes a = ((λ synced. absurd synced), λ held. (subst (NotHeld s) (sym a.4.1.1) a.1, g, a.0))
+
+  directly-could : (buffer own block generation : ℕ) → Allowed l n mid (Read_direct buffer own block generation) → CouldStart l s (Read block)
+  directly-could buffer own block generation a = ((λ synced. (buffer, a.0)), λ held. absurd (held (a.6, (generation, a.4))))
+
+  started-serves : (g at : ℕ) (task : Task) → IsRequest task → Allowed l n mid (Start g at task) → serves task s.accepted ≡ true
+  started-serves g at (ReadFor own block) k a = eq-eqb s.accepted own (sym (only-new own (Read block) a.4.0 (read-could g at own block a)))
+  started-serves g at (WriteFor []) k a = absurd (a.4.0 refl)
+  started-serves g at (WriteFor (w ∷ writes)) k a =
+      or_left _ _ (eq-eqb s.accepted w.id (sym (only-new w.id (Write w.block w.new_data) a.4.1.0 (write-could g at w writes a))))
+  started-serves g at (Rebuild slot generation) k a = absurd k
+  started-serves g at Check k a = absurd k
+  started-serves g at Repair k a = absurd k
+
+  read-is-new : (buffer own block generation : ℕ) → Allowed l n mid (Read_direct buffer own block generation) → own ≡ s.accepted
+  read-is-new buffer own block generation a = only-new own (Read block) a.1 (directly-could buffer own block generation a)
+
+  first-leaves : (change : Change) → Scans change → Allowed l n mid change → Left (after l mid change) s.accepted
+  first-leaves (Start g at task) k a = left-served l mid g at s.accepted task (started-serves g at task k a)
+  first-leaves (Ask g h slot generation) k a = absurd (not_both (next_of_plan (planned h)) _ (rests.nothing_next live g h a.0) a.5)
+  first-leaves (Read_direct buffer own block generation) k a = λ o e. elim (put-cases mid.request own _ s.accepted _ e) [
+    | inl q ↦ reading_not s.tokens (same_stage _ _ _ _ q.1).1
+    | inr q ↦ absurd (q.0 (sym (read-is-new buffer own block generation a)))
+  ]
+  first-leaves (Prepare g h event) k a = absurd (works-nothing (planned h) event (rests.nothing_next live g h a.0) a.2 a.4)
+  first-leaves (Send g h slot generation b) k a = absurd (not_both (next_of_plan (planned h)) _ (rests.nothing_next live g h a.0) a.5.0)
+  first-leaves change k a = absurd k
+
+  -- a direct read is not among what starts holds
+  no-hold : IsDirect l s op → (g at : ℕ) (task : Task) → IsRequest task → Allowed l n mid (Start g at task) → ⊥
+  no-hold direct g at (ReadFor own block) k a =
+      let same = is-asked own (Read block) a.4.0 (only-new own (Read block) a.4.0 (read-could g at own block a)) in
+      a.4.2 (subst (IsDirect l s) (sym same) direct)
+  no-hold direct g at (WriteFor []) k a = absurd (a.4.0 refl)
+  no-hold direct g at (WriteFor (w ∷ writes)) k a =
+      let same = is-asked w.id (Write w.block w.new_data) a.4.1.0 (only-new w.id (Write w.block w.new_data) a.4.1.0 (write-could g at w writes a)) in
+      (subst (IsDirect l s) (sym same) direct).1
+  no-hold direct g at (Rebuild slot generation) k a = absurd k
+  no-hold direct g at Check k a = absurd k
+  no-hold direct g at Repair k a = absurd k
+
+  first-is-apart : IsDirect l s op → (change : Change) → Scans change → Allowed l n mid change → IsApart (after l mid change) s.accepted
+  first-is-apart direct (Start g at task) k a = absurd (no-hold direct g at task k a)
+  first-is-apart direct (Ask g h slot generation) k a = absurd (not_both (next_of_plan (planned h)) _ (rests.nothing_next live g h a.0) a.5)
+  first-is-apart direct (Read_direct buffer own block generation) k a = λ o f e. elim (put-cases mid.request own _ s.accepted _ e) [
+    | inl q ↦ reading-not-held s.tokens f (same_stage _ _ _ _ q.1).1
+    | inr q ↦ absurd (q.0 (sym (read-is-new buffer own block generation a)))
+  ]
+  first-is-apart direct (Prepare g h event) k a = absurd (works-nothing (planned h) event (rests.nothing_next live g h a.0) a.2 a.4)
+  first-is-apart direct (Send g h slot generation b) k a = absurd (not_both (next_of_plan (planned h)) _ (rests.nothing_next live g h a.0) a.5.0)
+  first-is-apart direct change k a = absurd k
+
+  waiting-not-held : (f : ℕ) → Waiting ≡ Held f → ⊥
+  waiting-not-held f e = cc
+
+  starts : (changes : List Change) (new : Shard) → Leads l n Scans mid changes new → AtRest l n new → CouldStart l s op
+      → new.request s.accepted ≡ Some (request_at op Waiting) → ⊥
+  starts [] new e rests' could waits = (subst (AtRest l n) e rests').none_could_start live s.accepted op (put-same s.request s.accepted _ s.accepted refl) could
+  starts (change ∷ changes) new e rests' could waits =
+      left-scans l n s.accepted changes (after l mid change) new e.2 (first-leaves change e.0 e.1) op waits
+
+  holds-none : (changes : List Change) (new : Shard) → Leads l n Scans mid changes new → IsDirect l s op → IsApart new s.accepted
+  holds-none [] new e direct = subst (λ y. IsApart y s.accepted) (sym e)
+      (λ o f e'. waiting-not-held f (same_stage _ _ _ _ (sym (put-same s.request s.accepted (Some (request_at op Waiting)) s.accepted refl) ∙ e')).1)
+  holds-none (change ∷ changes) new e direct =
+      apart-scans l n s.accepted changes (after l mid change) new e.2 (first-leaves change e.0 e.1) (first-is-apart direct change e.0 e.1)
 
 pub accepted_starts : AcceptedStarts
-accepted_starts l n old new op id f rests live unheld free st waits =
-    elim (scans-start l n (l.row_of (block_of op)) f id st.2.0 (after l old (Accept op)) new st.2.1 (inr (first-accepted l n old op id f rests live unheld free st.0))) [
-      | inl left ↦ left op waits
-      | inr u ↦ st.3.none_could_start u.0 id op waits u.1 f u.2
-    ]
+accepted_starts l n old new op id rests live below could st waits =
+    starts l n old op rests live below st.2.0 new st.2.1 st.3 could (subst (λ k. new.request k ≡ Some (request_at op Waiting)) st.0 waits)
+
+pub direct_holds_no_row : DirectHoldsNoRow
+direct_holds_no_row l n old new op id rests live direct st f held =
+    holds-none l n old op rests live direct.0 st.2.0 new st.2.1 direct op f (subst (λ k. new.request k ≡ Some (request_at op (Held f))) st.0 held)

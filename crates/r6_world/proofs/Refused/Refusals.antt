@@ -9,7 +9,7 @@ use Rattle.r6_world.specs.Tasks.{serves, Outcome, Answered, Wrote, Rebuilt, Give
 use Rattle.r6_world.specs.ShardStates.{Stage, Waiting, Held, Finished, Released, Command, Call, LossOf, RebuildOf, Shard, Reading}
 use Rattle.r6_world.specs.Changes.{Change, Accept, Start, Learn, Confirm, Come_home, Lose, See_failed, Finish, Bring_in, Release, Hand_call, Hear, Hand_reply, Allowed, outcome_reply, finished_stage, released_stage, put_back, Read_direct, Give_direct, Adopt, abandoned_to, read_stage}
 use Rattle.r6_world.specs.Steps.{Completion, Good, Error, Taken, Late, Takes, Event, Look}
-use Rattle.r6_world.specs.Refusals.{LookNeedsTold, CommandsAreHanded, CallsAreHanded, RepliesAreHanded, LateIsNotLearned, TakenIsNotLate, FramesAreUsed, PlanIsPutOut, SeesNoFailure, StopsOnlyWhenSeen, IsFailure, FailsOnlyWhenSeen, IsNoError, IsIn, IsToTell, OnlyErrorsDeclare}
+use Rattle.r6_world.specs.Refusals.{LookNeedsTold, CommandsAreHanded, CallsAreHanded, RepliesAreHanded, LateIsNotLearned, TakenIsNotLate, FramesAreUsed, BuffersAreUsed, PlanIsPutOut, SeesNoFailure, StopsOnlyWhenSeen, IsFailure, FailsOnlyWhenSeen, IsNoError, IsIn, IsToTell, OnlyErrorsDeclare}
 use Rattle.r6_world.proofs.Tables.{put-cases, None-not_Some, Some-inj, same_entry}
 use Rattle.r6_world.proofs.Acts.Requests.{request_at, same_stage, held_now-served, held_now-other, staged-cases, released-cases, finished-cases}
 use Rattle.r6_world.proofs.Changes.{Keeps, step-kept}
@@ -55,8 +55,12 @@ pub taken_is_not_late : TakenIsNotLate
 taken_is_not_late l n old new token c completion here stands st = false≢true (sym stands ∙ late_is_gone l n old token c completion st.0 st.1 st.2 here)
 
 pub frames_are_used : FramesAreUsed
-frames_are_used l n old new event rests st live id f op unheld free waits =
-    (step-rest l n old event new st rests).none_could_start live id op waits unheld f free
+frames_are_used l n old new event rests st live id f op held unheld free waits =
+    (step-rest l n old event new st rests).none_could_start live id op waits ((λ synced. absurd (held synced)), λ direct. (unheld, f, free))
+
+pub buffers_are_used : BuffersAreUsed
+buffers_are_used l n old new event rests st live id buffer op direct free waits =
+    (step-rest l n old event new st rests).none_could_start live id op waits ((λ synced. (buffer, free)), λ held. absurd (held direct))
 
 pub plan_is_put_out : PlanIsPutOut
 plan_is_put_out l n old new event rests st live f h here = (step-rest l n old event new st rests).nothing_next live f h here

@@ -15,6 +15,7 @@ use Rattle.r6_world.proofs.Witness.SmallShards.{register_with, all_in_sync, but_
 use Rattle.r6_world.proofs.Witness.Written.{made, when_made, when_released, wrote}
 use Rattle.r6_world.proofs.Witness.Lost.{when_lost, when_restored, loses, restores}
 use Rattle.r6_world.proofs.Witness.Erred.{when_erred, when_recovered, erred, recovers, when_reading, reads_directly}
+use Rattle.r6_world.proofs.Witness.Between.{between}
 use Rattle.r6_world.proofs.Witness.Failed.{two_out, two_fail, last_moments, fails}
 use Rattle.r6_world.proofs.Witness.Checked.{when_checked, checks}
 use Rattle.r6_world.proofs.Witness.Rebuilt.{when_attached, when_rebuilt, at_last, attaches, rebuilds, reads_again}
@@ -215,6 +216,7 @@ witness = (
     starts array sized,
     course array b b-sized.length_is (sized 1 n1<2).length_is b-sized,
     error_course array (sized 0 n0<2).length_is (sized 1 n1<2).length_is,
+    between array b b-sized (started small (register_with InSync 0) (device array)) (stands array),
     failure_after (started small (register_with InSync 0) (device array)) array (two_fail array (started small (register_with InSync 0) (device array)) (stands array)),
     checked (started small (register_with InSync 0) (device array)) array (checks array (sized 0 n0<2) (sized 1 n1<2) (started small (register_with InSync 0) (device array)) (stands array)),
   )),

@@ -1,5 +1,5 @@
 -- A device answers a direct read by an error. A hold reads the other devices for it, and the shard declares the slot lost.
-use Rattle.std.proofs.Common.{◌≡◌, ℕ, [], ◌∷◌, length, true, false, refl, sym, Option, Some, None, Ok}
+use Rattle.std.proofs.Common.{◌≡◌, ℕ, [], ◌∷◌, length, true, false, refl, sym, Option, Some, None, Ok, arith}
 use Rattle.std.proofs.lemmas.Bool.{ne_eqb}
 use Rattle.r6_stripe.specs.Holds.{IsQuiet, MayRestore, MayEnd}
 use Rattle.r6_stripe.specs.Holds.Outcome.{Data as Gave}
@@ -86,7 +86,7 @@ submits = (
     Read_direct 64 0 0 0 ∷ [],
     (
       record {},
-      ((n64≤64, n64<128, (λ t c e own. not_both {A = Command} None c refl e)), refl, (n0<1, refl), n1<4, refl, (n0≤2, refl)),
+      ((n64≤64, n64<128, (λ t c e own. not_both {A = Command} None c refl e)), refl, (n0<1, refl), n1<4, refl, (n0≤2, refl), omega arith),
       submitted,
     ),
   ),
@@ -128,7 +128,7 @@ loses = (
         (λ f h e own. not_both {A = Hold} None h refl e),
         (n0<1, refl),
         (n1≤2, refl),
-        (refl, refl),
+        (refl, refl, λ direct. direct.1.1),
         n2<4,
       ),
       (

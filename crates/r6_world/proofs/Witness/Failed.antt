@@ -57,7 +57,7 @@ stopped_rests : AtRest small 0 stopped
 stopped_rests = record {
   goes_on = λ live f h e. absurd (not_live live);
   nothing_next = λ live f h e. absurd (not_live live);
-  none_could_start = λ live id op e unheld f free. not_live live;
+  none_could_start = λ live id op e could. not_live live;
   brought_in = λ live slot all. not_live live;
 }
 

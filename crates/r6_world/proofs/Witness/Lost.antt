@@ -107,7 +107,7 @@ submits = (
         (λ f h e own. not_both {A = Hold} None h refl e),
         (n0<1, refl),
         (n1≤2, refl),
-        (refl, refl),
+        (refl, refl, λ direct. direct.1.1),
         n2<4,
       ),
       (

@@ -142,25 +142,41 @@ none_below : 0 < 1
 none_below = omega arith
 
 -- a call of the core
+after_call : (w : World) (v : View) → Stands w v → (event : Event) (new : Shard) → away small new ≤ 2
+    → Stands (later_by w (Core 0 event new)) (record v { shard = new; settled = settles event v.settled })
+after_call w v at event new few = record {
+  shard_is = refl;
+  register_is = at.register_is;
+  device_is = λ d g. shown (happened small w (Core 0 event new)) d g 0 ∙ at.device_is d g;
+  unused = at.unused;
+  completed_is = at.completed_is;
+  settled_is = ap (settles event) at.settled_is;
+  few_out = few;
+  not_failed = at.not_failed;
+}
+
 pub core :
     (w : World) (v : View) → Stands w v → (event : Event) (new : Shard)
     → away small new ≤ 2 → IsInTurn w (Core 0 event new)
     → MayCome w 0 event → Step small 0 v.shard event new
     → Reaches small w (λ later. Stands later (record v { shard = new; settled = settles event v.settled }))
 core w v at event new few in_turn comes step =
-    let at' : Stands (later_by w (Core 0 event new)) (record v { shard = new; settled = settles event v.settled }) = record {
-      shard_is = refl;
-      register_is = at.register_is;
-      device_is = λ d g. shown (happened small w (Core 0 event new)) d g 0 ∙ at.device_is d g;
-      unused = at.unused;
-      completed_is = at.completed_is;
-      settled_is = ap (settles event) at.settled_is;
-      few_out = few;
-      not_failed = at.not_failed;
-    } in
+    let at' = after_call w v at event new few in
     one w v (record v { shard = new; settled = settles event v.settled }) at (Core 0 event new)
     (none_below, comes, subst (λ s. Step small 0 s event new) (sym at.shard_is) step) in_turn refl at'
     (λ later. Stands later (record v { shard = new; settled = settles event v.settled })) at'
+
+-- and one that comes while others are under way
+pub core_beside :
+    (w : World) (v : View) → Stands w v → (event : Event) (new : Shard)
+    → away small new ≤ 2 → MayCome w 0 event → Step small 0 v.shard event new
+    → (moments : List Moment) × Run small IsOfOutside w moments
+    × Stands (after_all small w moments) (record v { shard = new; settled = settles event v.settled })
+core_beside w v at event new few comes step = (
+  record { happening = Core 0 event new; noise = (happened small w (Core 0 event new)).device } ∷ [],
+  ((none_below, comes, subst (λ s. Step small 0 s event new) (sym at.shard_is) step), record {}),
+  after_call w v at event new few,
+)
 
 -- ---- a command is taken, performed and answered
 
@@ -204,21 +220,21 @@ used_more w used t b unused s e =
     put-other (w.performed 0) t (Some b) s (eqb-false s t p.0) ∙ unused s p.1
 
 fetched :
-    (w : World) (v : View) → Stands w v → (t slot generation : ℕ) → w.flight 0 t ≡ Some (fetch slot generation)
+    (w : World) (v : View) → Stands w v → (t frame slot generation : ℕ) → w.flight 0 t ≡ Some (fetch_in frame slot generation)
     → (v.shard.command t ≡ None → ⊥) → is_among t v.used ≡ false
     → Reaches small w (λ later. Stands later (record v { used = t ∷ v.used }) × (later.performed 0 t ≡ Some (v.device slot generation)))
-fetched w v at t slot generation flies out unused =
-    let at' : Stands (later_by w (Perform 0 t (fetch slot generation))) (record v { used = t ∷ v.used }) = record {
+fetched w v at t frame slot generation flies out unused =
+    let at' : Stands (later_by w (Perform 0 t (fetch_in frame slot generation))) (record v { used = t ∷ v.used }) = record {
       shard_is = at.shard_is;
       register_is = at.register_is;
-      device_is = λ d g. shown (happened small w (Perform 0 t (fetch slot generation))) d g 0 ∙ at.device_is d g;
+      device_is = λ d g. shown (happened small w (Perform 0 t (fetch_in frame slot generation))) d g 0 ∙ at.device_is d g;
       unused = used_more w v.used t (w.device slot generation 0) at.unused;
       completed_is = at.completed_is;
       settled_is = at.settled_is;
       few_out = at.few_out;
       not_failed = at.not_failed;
     } in
-    one w v (record v { used = t ∷ v.used }) at (Perform 0 t (fetch slot generation))
+    one w v (record v { used = t ∷ v.used }) at (Perform 0 t (fetch_in frame slot generation))
     (none_below, flies, subst (λ s. s.command t ≡ None → ⊥) (sym at.shard_is) out, at.unused t unused) (record {}) refl at'
     (λ later. Stands later (record v { used = t ∷ v.used }) × (later.performed 0 t ≡ Some (v.device slot generation)))
     (at', put-same (w.performed 0) t (Some (w.device slot generation 0)) t refl ∙ ap Some (at.device_is slot generation))
@@ -260,22 +276,29 @@ still_out : (s : Shard) (t : ℕ) (c : Command) → (handed_out s t c).command t
 still_out s t c e =
     not_both ((handed_out s t c).command t) _ e (put-same s.command t _ t refl)
 
+pub reads_in :
+    (w : World) (v : View) → Stands w v → (t frame slot generation : ℕ) (new : Shard)
+    → v.shard.command t ≡ Some (fetch_in frame slot generation) → is_among t v.used ≡ false → away small new ≤ 2
+    → Step small 0 (handed_out v.shard t (fetch_in frame slot generation)) (Deliver t (Good (v.device slot generation)) Taken) new
+    → Reaches small w (λ later. Stands later (record v { shard = new; used = t ∷ v.used; settled = false }))
+reads_in w v at t frame slot generation new there unused few step =
+    go_on small w
+    (λ later. Stands later (record v { shard = handed_out v.shard t (fetch_in frame slot generation) }) × (later.flight 0 t ≡ Some (fetch_in frame slot generation)))
+    (λ later. Stands later (record v { shard = new; used = t ∷ v.used; settled = false }))
+    (take w v at t (fetch_in frame slot generation) there refl)
+    (λ w1 at1. go_on small w1
+    (λ later. Stands later (record v { shard = handed_out v.shard t (fetch_in frame slot generation); used = t ∷ v.used }) × (later.performed 0 t ≡ Some (v.device slot generation)))
+    (λ later. Stands later (record v { shard = new; used = t ∷ v.used; settled = false }))
+    (fetched w1 (record v { shard = handed_out v.shard t (fetch_in frame slot generation) }) at1.0 t frame slot generation at1.1 (still_out v.shard t (fetch_in frame slot generation)) unused)
+    (λ w2 at2. core w2 (record v { shard = handed_out v.shard t (fetch_in frame slot generation); used = t ∷ v.used }) at2.0 (Deliver t (Good (v.device slot generation)) Taken) new
+    few (record {}) (brought (w2.flight 0 t) (w2.performed 0 t) _ at2.1) step))
+
 pub reads :
     (w : World) (v : View) → Stands w v → (t slot generation : ℕ) (new : Shard)
     → v.shard.command t ≡ Some (fetch slot generation) → is_among t v.used ≡ false → away small new ≤ 2
     → Step small 0 (handed_out v.shard t (fetch slot generation)) (Deliver t (Good (v.device slot generation)) Taken) new
     → Reaches small w (λ later. Stands later (record v { shard = new; used = t ∷ v.used; settled = false }))
-reads w v at t slot generation new there unused few step =
-    go_on small w
-    (λ later. Stands later (record v { shard = handed_out v.shard t (fetch slot generation) }) × (later.flight 0 t ≡ Some (fetch slot generation)))
-    (λ later. Stands later (record v { shard = new; used = t ∷ v.used; settled = false }))
-    (take w v at t (fetch slot generation) there refl)
-    (λ w1 at1. go_on small w1
-    (λ later. Stands later (record v { shard = handed_out v.shard t (fetch slot generation); used = t ∷ v.used }) × (later.performed 0 t ≡ Some (v.device slot generation)))
-    (λ later. Stands later (record v { shard = new; used = t ∷ v.used; settled = false }))
-    (fetched w1 (record v { shard = handed_out v.shard t (fetch slot generation) }) at1.0 t slot generation at1.1 (still_out v.shard t (fetch slot generation)) unused)
-    (λ w2 at2. core w2 (record v { shard = handed_out v.shard t (fetch slot generation); used = t ∷ v.used }) at2.0 (Deliver t (Good (v.device slot generation)) Taken) new
-    few (record {}) (brought (w2.flight 0 t) (w2.performed 0 t) _ at2.1) step))
+reads w v at t = reads_in w v at t 0
 
 pub writes :
     (w : World) (v : View) → Stands w v → (t slot generation : ℕ) (b : Block) (new : Shard)

@@ -4,7 +4,7 @@ use Rattle.std.proofs.lemmas.Bool.{ne_eqb, false≢true}
 use Rattle.r6_stripe.specs.Plans.{lacks_new}
 use Rattle.r6_stripe.specs.Holds.{IsIndexOf, IsQuiet, MayCompute, MayEnd, cell_at}
 use Rattle.r6_stripe.specs.Holds.Standing.{Out as Absent}
-use Rattle.r6_stripe.specs.Holds.Outcome.{Data as Gave, Rebuilt as MadeAnew}
+use Rattle.r6_stripe.specs.Holds.Outcome.{Rebuilt as MadeAnew}
 use Rattle.r6_stripe.specs.Holds.Kind.{Rebuild as Building_anew, Repair}
 use Rattle.r6_stripe.specs.Holds.Reading.{Asked}
 use Rattle.r6_stripe.specs.Holds.Writing.{Unwritten}
@@ -12,16 +12,16 @@ use Rattle.r6_stripe.specs.Holds.Event.{Asks, Gives, Computes, Writes, Confirms}
 use Rattle.r6_world.specs.Tables.{put, put_in}
 use Rattle.r6_world.specs.PlainArray.{Block, Array, Read, Data}
 use Rattle.r6_world.specs.Registers.{InSync, Rebuilding, no_shards, Attach, Generation, Complete}
-use Rattle.r6_world.specs.Tasks.{ReadFor, Rebuild, Hold, Answered, Rebuilt}
-use Rattle.r6_world.specs.ShardStates.{Held, Finished, Released, Command, Shard, SlotState, Synced, Missing, Building, RebuildOf, begun}
-use Rattle.r6_world.specs.Changes.{Accept, Start, Ask, Prepare, Send, Learn, Confirm, Finish, Adopt, Bring_in, Release, Hand_call, AllBuilt, after}
+use Rattle.r6_world.specs.Tasks.{Rebuild, Hold, Rebuilt}
+use Rattle.r6_world.specs.ShardStates.{Reading, Finished, Released, Command, Shard, SlotState, Synced, Missing, Building, RebuildOf, begun}
+use Rattle.r6_world.specs.Changes.{Accept, Start, Ask, Prepare, Send, Learn, Confirm, Finish, Adopt, Bring_in, Release, Hand_call, AllBuilt, after, Read_direct, Give_direct}
 use Rattle.r6_world.specs.Steps.{Submit, Deliver, Good, Taken, Look, Turn_started, Step}
 use Rattle.r6_world.specs.Worlds.{World}
 use Rattle.r6_world.specs.Witness.{small}
 use Rattle.r6_world.proofs.Tables.{put-same, not_both}
-use Rattle.r6_world.proofs.Witness.Pieces.{Reaches, View, Stands, leads, quiet, core, reads, writes, outside, tells, fetch, store, handed_out}
+use Rattle.r6_world.proofs.Witness.Pieces.{Reaches, View, Stands, leads, quiet, core, reads, reads_in, writes, outside, tells, fetch, fetch_in, store, handed_out}
 use Rattle.r6_world.proofs.Witness.SmallRows.{p, restored_is}
-use Rattle.r6_world.proofs.Witness.SmallShards.{no_request, no_hold, no_command, but_one, but_one-put, but_one-put_twice, asked, held, on, state, register_with, seen_slots, none_built, entry_is, none_is, put-gone, one_waits_not, none_wait, held_not, finished_not, released_not, held_rests, free_rests, each, read_held, rebuild_held, target_not_out, unread_not_asked, known_not_asked, unwritten_not_sent, confirmed_not_sent, storing_not_fetch, n0<1, n0<2, n0<4, n1<4, n2<4, n3<4, n0<64, n0≤2, n1≤2}
+use Rattle.r6_world.proofs.Witness.SmallShards.{no_request, no_hold, no_command, but_one, but_one-put, but_one-put_twice, asked, held, on, state, register_with, seen_slots, none_built, entry_is, none_is, put-gone, one_waits_not, none_wait, reading_not, n64<128, n64≤64, finished_not, released_not, held_rests, free_rests, each, rebuild_held, target_not_out, unread_not_asked, known_not_asked, unwritten_not_sent, confirmed_not_sent, storing_not_fetch, n0<1, n0<2, n0<4, n1<4, n2<4, n3<4, n0<64, n0≤2, n1≤2}
 use Rattle.r6_world.proofs.Witness.Written.{fetched, stored, when_written}
 use Rattle.r6_world.proofs.Witness.Lost.{read_taken, when_restored, before_attach, restored_taken}
 
@@ -296,17 +296,8 @@ sees_sync = (
 
 -- ---- a read of the new device
 
-abbrev begun_read : Hold
-begun_read = begun small (but_one (Synced 1)) 0 (ReadFor 2 0)
-
-abbrev own_asked : Hold
-own_asked = on begun_read (Asks 0)
-
-abbrev own_known : Block → Hold
-own_known b = on own_asked (Gives 0 b)
-
 abbrev read_out : Shard
-read_out = state 3 (asked 2 (Read 0) (Held 0)) (held own_asked) 10 (put no_command 9 (Some (fetch 1 1))) (but_one (Synced 1)) [] 1
+read_out = state 3 (asked 2 (Read 0) (Reading 9)) no_hold 10 (put no_command 9 (Some (fetch_in 64 1 1))) (but_one (Synced 1)) [] 1
 
 abbrev read_finished : Block → Shard
 read_finished b = state 3 (asked 2 (Read 0) (Finished (Data b))) no_hold 10 no_command (but_one (Synced 1)) [] 1
@@ -315,12 +306,11 @@ abbrev pub read_released : Block → Shard
 read_released b = state 3 (asked 2 (Read 0) (Released (Data b))) no_hold 10 no_command (but_one (Synced 1)) [] 1
 
 abbrev after_submit : Shard
-after_submit = after small (after small (after small rebuild_told (Accept (Read 0))) (Start 0 0 (ReadFor 2 0))) (Ask 0 begun_read 1 1)
+after_submit = after small (after small rebuild_told (Accept (Read 0))) (Read_direct 64 2 0 1)
 
 submitted : read_out ≡ after_submit
 submitted = λ i. record read_out {
-  request = λ id. entry_is after_submit.request 2 (Some (record { op = Read 0; stage = Held 0 })) refl (λ at ne. rw (ne_eqb at 2 ne) refl) id i;
-  frame = λ f. entry_is after_submit.frame 0 (Some own_asked) refl (λ at ne. rw (ne_eqb at 0 ne) refl) f i;
+  request = λ id. entry_is after_submit.request 2 (Some (record { op = Read 0; stage = Reading 9 })) refl (λ at ne. rw (ne_eqb at 2 ne) refl) id i;
 }
 
 submits : Step small 0 rebuild_told (Submit (Read 0) 2) read_out
@@ -328,52 +318,35 @@ submits = (
   refl,
   (n0<2, record {}, refl, refl),
   (
-    Start 0 0 (ReadFor 2 0) ∷ Ask 0 begun_read 1 1 ∷ [],
+    Read_direct 64 2 0 1 ∷ [],
     (
       record {},
-      (
-        (n0<64, refl, (λ t c e own. not_both {A = Command} None c refl e)),
-        (λ f h e own. not_both {A = Hold} None h refl e),
-        (n0<1, refl),
-        (n0≤2, refl),
-        (refl, refl),
-        n2<4,
-      ),
-      (
-        record {},
-        (refl, n1<4, refl, (n0≤2, refl), record { held = read_held 0; in_sync = refl; unread = refl; before_writes = each (λ c. c.writing ≡ Unwritten) begun_read refl refl refl refl refl }, refl),
-        submitted,
-      ),
+      ((n64≤64, n64<128, (λ t c e own. not_both {A = Command} None c refl e)), refl, (n0<1, refl), n1<4, refl, (n0≤2, refl), omega arith),
+      submitted,
     ),
   ),
-  held_rests read_out own_asked refl refl 9 (fetch 1 1) refl refl refl (one_waits_not 2 (Read 0) (Held 0) (held_not 0)) (none_built (Synced 1) (λ x. x)),
+  free_rests read_out (λ f. refl) (one_waits_not 2 (Read 0) (Reading 9) (reading_not 9)) (none_built (Synced 1) (λ x. x)),
 )
 
-read_ends : (b : Block) → MayEnd (own_known b).course (Gave b)
-read_ends b = record {
-  quiet =
-      each IsQuiet (own_known b) (λ in'. (known_not_asked b, unwritten_not_sent)) (λ in'. (unread_not_asked, unwritten_not_sent))
-      (λ in'. (unread_not_asked, unwritten_not_sent)) (λ in'. (unread_not_asked, unwritten_not_sent)) (λ in'. (unread_not_asked, unwritten_not_sent));
-  owes_nothing = refl;
-}
+abbrev own_fetched : Command
+own_fetched = record (fetch_in 64 1 1) { taken = true }
 
 abbrev after_read : Block → Shard
-after_read b = after small (after small (handed_out read_out 9 (fetch 1 1)) (Learn 9 (fetched 1 1) own_asked b)) (Finish 0 (own_known b) (Answered b))
+after_read b = after small (handed_out read_out 9 (fetch_in 64 1 1)) (Give_direct 9 own_fetched 2 0 b)
 
 read_ended : (b : Block) → read_finished b ≡ after_read b
 read_ended b = λ i. record (read_finished b) {
   request = λ id. entry_is (after_read b).request 2 (Some (record { op = Read 0; stage = Finished (Data b) })) refl (λ at ne. rw (ne_eqb at 2 ne) refl) id i;
-  frame = λ f. none_is (after_read b).frame 0 refl (λ at ne. rw (ne_eqb at 0 ne) refl) f i;
-  command = λ t. sym (put-gone no_command 9 (Some (fetch 1 1)) (Some (fetched 1 1)) refl t) i;
+  command = λ t. sym (put-gone no_command 9 (Some (fetch_in 64 1 1)) (Some own_fetched) refl t) i;
 }
 
-learns_own : (b : Block) → Step small 0 (handed_out read_out 9 (fetch 1 1)) (Deliver 9 (Good b) Taken) (read_finished b)
-learns_own b = (
-  Learn 9 (fetched 1 1) own_asked b,
+gives : (b : Block) → Step small 0 (handed_out read_out 9 (fetch_in 64 1 1)) (Deliver 9 (Good b) Taken) (read_finished b)
+gives b = (
+  Give_direct 9 own_fetched 2 0 b,
   (refl, refl, refl),
-  (refl, refl, refl, refl),
+  (refl, refl, refl),
   read_finished b,
-  (Finish 0 (own_known b) (Answered b) ∷ [], (record {}, (refl, read_ends b, (n0≤2, refl), record {}), read_ended b)),
+  ([], read_ended b),
   ([], refl),
   free_rests (read_finished b) (λ f. refl) (one_waits_not 2 (Read 0) (Finished (Data b)) (finished_not (Data b))) (none_built (Synced 1) (λ x. x)),
 )
@@ -457,5 +430,5 @@ pub reads_again : (array : Array) (b : Block) (w : World) → Stands w (when_reb
 reads_again array b w at =
     leads w (when_reading array b) (λ later. Stands later (at_last array b)) (core w (when_rebuilt array b) at (Submit (Read 0) 2) read_out n0≤2
     (quiet w (when_rebuilt array b) at (λ t. refl) refl refl refl) (record {}) submits)
-    (λ x1 at1. leads x1 (when_finished array b) (λ later. Stands later (at_last array b)) (reads x1 (when_reading array b) at1 9 1 1 (read_finished b) refl refl n0≤2 (learns_own b))
+    (λ x1 at1. leads x1 (when_finished array b) (λ later. Stands later (at_last array b)) (reads_in x1 (when_reading array b) at1 9 64 1 1 (read_finished b) refl refl n0≤2 (gives b))
     (λ x2 at2. core x2 (when_finished array b) at2 (Look (register_with InSync 1)) (read_released b) n0≤2 (record {}) (sym at2.register_is) (looks b)))

@@ -55,7 +55,7 @@ own_sent b other = on (new_ready b other) (Writes 0 b)
 abbrev p_sent : (b other : Block) → Hold
 p_sent b other = on (own_sent b other) (Writes 2 (p b other))
 
-abbrev all_sent : (b other : Block) → Hold
+abbrev pub all_sent : (b other : Block) → Hold
 all_sent b other = on (p_sent b other) (Writes 3 (q b other))
 
 abbrev q_confirmed : (b other : Block) → Hold
@@ -75,7 +75,7 @@ own_out b = put no_command 1 (Some (store 1 0 b))
 abbrev own_and_p_out : (b other : Block) → ℕ → Option Command
 own_and_p_out b other = put (own_out b) 2 (Some (store 3 0 (p b other)))
 
-abbrev all_out : (b other : Block) → ℕ → Option Command
+abbrev pub all_out : (b other : Block) → ℕ → Option Command
 all_out b other = put (own_and_p_out b other) 3 (Some (store 0 0 (q b other)))
 
 abbrev pub made : Shard
@@ -84,7 +84,7 @@ made = state 0 no_request no_hold 0 no_command (but_one (Synced 0)) [] 0
 abbrev other_read_out : Block → Shard
 other_read_out b = state 1 (asked 0 (Write 0 b) (Held 0)) (held (other_asked b)) 1 (put no_command 0 (Some (fetch 2 0))) (but_one (Synced 0)) [] 0
 
-abbrev writes_out : (b other : Block) → Shard
+abbrev pub writes_out : (b other : Block) → Shard
 writes_out b other = state 1 (asked 0 (Write 0 b) (Held 0)) (held (all_sent b other)) 4 (all_out b other) (but_one (Synced 0)) [] 0
 
 abbrev two_writes_out : (b other : Block) → Shard
@@ -138,7 +138,7 @@ may_ask b = record {
   before_writes = each (λ c. c.writing ≡ Unwritten) (begun_hold b) refl refl refl refl refl;
 }
 
-submits : (b : Block) → IsBlock 16 b → Step small 0 made (Submit (Write 0 b) 0) (other_read_out b)
+pub submits : (b : Block) → IsBlock 16 b → Step small 0 made (Submit (Write 0 b) 0) (other_read_out b)
 submits b sized = (
   refl,
   (n0<2, sized, refl, refl),
@@ -210,7 +210,7 @@ computed b other = λ i. record (writes_out b other) {
       (Some (store 0 0 (q b other)));
 }
 
-learns : (b other : Block) → Step small 0 (handed_out (other_read_out b) 0 (fetch 2 0)) (Deliver 0 (Good other) Taken) (writes_out b other)
+pub learns : (b other : Block) → Step small 0 (handed_out (other_read_out b) 0 (fetch 2 0)) (Deliver 0 (Good other) Taken) (writes_out b other)
 learns b other = (
   Learn 0 (fetched 2 0) (other_asked b) other,
   (refl, refl, refl),
@@ -353,7 +353,7 @@ takes b = (Write 0 b, refl, gone b)
 -- ---- all together
 
 -- the blocks of row 0 when the array is lawful, and after the write
-abbrev at_first : Array → ℕ → ℕ → Block
+abbrev pub at_first : Array → ℕ → ℕ → Block
 at_first array slot generation = content small array 0 slot
 
 abbrev pub when_written : Array → Block → ℕ → ℕ → Block
@@ -362,10 +362,10 @@ when_written array b = put_in (put_in (put_in (at_first array) 0 0 (q b (array 1
 abbrev pub when_made : Array → View
 when_made array = record { shard = made; register = register_with InSync 0; device = at_first array; used = []; completed = None; settled = true }
 
-abbrev when_reading : Array → Block → View
+abbrev pub when_reading : Array → Block → View
 when_reading array b = record (when_made array) { shard = other_read_out b; settled = false }
 
-abbrev when_writing : Array → Block → View
+abbrev pub when_writing : Array → Block → View
 when_writing array b = record (when_made array) { shard = writes_out b (array 1); used = 0 ∷ []; settled = false }
 
 abbrev when_writing_two : Array → Block → View
