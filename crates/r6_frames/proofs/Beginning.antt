@@ -29,7 +29,7 @@ use Rattle.r6_frames.specs.declared.frames.FrameUse.TheVariants.{Free, Held as H
 use Rattle.r6_frames.specs.FramesState.{FramesState}
 use Rattle.r6_frames.specs.Slots.{states_of}
 use Rattle.r6_frames.specs.Views.{task_by, use_at, row_in, hold_at, hold_of, Rest, shard_with, is_synced_at, AreLive}
-use Rattle.r6_frames.specs.Calls.{Holds, IsFreeFrame, KeepsOthers, KeepsSlots, NotHeldBy}
+use Rattle.r6_frames.specs.Calls.{Holds, IsFreeFrame, KeepsDirects, KeepsOthers, KeepsSlots, NotHeldBy}
 use Rattle.r6_frames.specs.Owed.{owed_by, owed_in, is_unsent, OwesCommands}
 use Rattle.r6_frames.specs.Sound.{is_put_out, is_away_from, count_home, home_in, count_free, IsHeld, IsTargetAt, AreApart, AreFrames, AreCommands, IsSound, MayHold}
 use Rattle.r6_frames.specs.Uses.{IsForRow, synced, begun_row}
@@ -272,8 +272,8 @@ module _ (fs : FramesState) (frame row : ℕ) (what : Job) (task : RowTask) (hel
         sized = was.sized;
         lawful = was.lawful;
         alone = was.alone;
-        of_frame = λ live token c is.
-            let old = was.of_frame live token c is in
+        of_frame = λ live token c is below.
+            let old = was.of_frame live token c is below in
             let apart : c.frame ≢ frame =
             λ e. let home = ap (λ what. is_away_from what (layout.position_at fs.geometry c.row c.slot)) (ap (use_at fs.held) e ∙ free.1) in let away = old.away in absurd (cc) in
             let same = other c.frame apart in
@@ -295,7 +295,7 @@ module _ (fs : FramesState) (frame row : ℕ) (what : Job) (task : RowTask) (hel
 
   pub begun_sound : fs.spare ≡ spare + 1 → IsSound (with_held fs held spare)
   begun_sound one_less =
-      record { shape = sound.shape; shard = sound.shard; live = sound.live; devices = sound.devices; frames = frames_sound one_less; commands = commands_sound }
+      record { shape = sound.shape; shard = sound.shard; live = sound.live; devices = sound.devices; frames = frames_sound one_less; commands = commands_sound; directs = sound.directs }
 
   -- a hold comes
   pub begun_shard : (asked : Task) → task_by what (kind_of_task task) ≡ asked → kind_of (layout_of fs.geometry) row asked ≡ kind_of_task task → (rest : Rest)
@@ -328,3 +328,6 @@ others_kept old frame h new holds other ne =
 
 pub slots_kept : (old : FramesState) (frame : ℕ) (h : HeldRow) (new : FramesState) → Holds old frame h new → KeepsSlots old new
 slots_kept old frame h new holds = (ap (λ (fs : FramesState). fs.slots) holds.same, ap (λ (fs : FramesState). fs.saw_failed) holds.same)
+
+pub directs_kept : (old : FramesState) (frame : ℕ) (h : HeldRow) (new : FramesState) → Holds old frame h new → KeepsDirects old new
+directs_kept old frame h new holds = ap (λ (fs : FramesState). fs.directs) holds.same

@@ -102,6 +102,7 @@ begins fs new frame request sound free right unheld holds =
         λ rest.
             begun_shard fs frame (row_of fs request) (job_for request.id request.op) (task_in fs.geometry request) holds.held holds.spare sound free (may_hold fs request sound.shape right) unheld holds.put
             (task_for request.id request.op) (task_is index request.id request.op) (kind_is fs.geometry (row_of fs request) request.id request.op) rest,
+        refl,
       );
     })
 
@@ -139,6 +140,7 @@ begins_scrub fs new frame scrub row sound free whole own unheld holds =
         λ rest.
             begun_shard fs frame row (job.Scrub scrub) (scrub_row_task scrub) holds.held holds.spare sound free (may_scrub fs scrub row sound.shape whole own) unheld holds.put
             (scrub_task scrub) refl (scrub_kind_is fs.geometry row scrub) rest,
+        refl,
       );
     })
 
@@ -197,5 +199,6 @@ begins_rebuild fs new frame target row sound free own below on unheld holds =
         λ rest.
             begun_shard fs frame row (job.Rebuild target) task holds.held holds.spare sound free (may_rebuild fs target row sound own below on) unheld holds.put
             (rebuild_task target) refl refl rest,
+        refl,
       );
     })

@@ -10,6 +10,7 @@ use Rattle.r6_stripe.specs.Holds.{cell_at}
 use Rattle.r6_stripe.specs.Plans.{Planned, is_sent, is_out}
 use Rattle.r6_stripe.specs.Steps.{is_away}
 use Rattle.r6_world.specs.Tables.{put}
+use Rattle.r6_world.specs.ShardStates.{frames}
 use Rattle.r6_world.specs.Layouts.{IsRowOf}
 use Rattle.r6_world.specs.Geometries.{layout_of}
 use Rattle.r6_frames.specs.declared.slots.Slot.{Slot}
@@ -22,6 +23,8 @@ use Rattle.r6_frames.specs.FramesState.{FramesState, Commands}
 use Rattle.r6_frames.specs.Slots.{slot_in, is_abandoned}
 use Rattle.r6_frames.specs.Views.{use_at, hold_at, outstanding, command_of, transfer_of, AreLive}
 use Rattle.r6_frames.specs.Sound.{most_commands, AreCommands, IsOfHold, IsOfFrame, HasCommand, is_away_from, place_of, is_write, count_home, home_in}
+use Rattle.r6_frames.specs.Directs.{AreDirects, count_home_directs}
+use Rattle.r6_frames.proofs.DirectReads.{directs_kept, putting}
 use Rattle.r6_frames.proofs.Lists.{same_put}
 use Rattle.r6_frames.proofs.Tables.{inserted-own, inserted-other, len-inserted}
 use Rattle.r6_frames.proofs.Held.{held_within, held_put, use_held, use_at_own, use_at_other, hold_at_own, hold_at_other, home_at, home_set}
@@ -107,10 +110,10 @@ module _ (fs : FramesState) (frame : ℕ) (h : HeldRow) (planned : Planned) (liv
     sized = all.sized;
     lawful = all.lawful;
     alone = all.alone;
-    of_frame = λ live token c out.
+    of_frame = λ live token c out below.
         of_frame_stays fs frame h (prepared h planned) token c is
         (λ e. record { row = refl; away = λ away. away; standing = (p.like (place_of fs c)).standing; sent = (p.like (place_of fs c)).sent })
-        (all.of_frame live token c out);
+        (all.of_frame live token c out below);
     there = λ live f position below away. all.there live f position below (sym (away_same f position) ∙ away);
     stopped = λ not_live. absurd (not_live live);
     room =
@@ -140,6 +143,7 @@ with_command fs frame h planned position slot generation kind buffer =
 -- a command of this kind is put out at the position, whose buffer was home
 pub record PutsOutAt (fs : FramesState) (frame : ℕ) (h : HeldRow) (planned : Planned) (position slot : ℕ) (kind : CommandKind) (buffer : List ℕ) : Type 0 where
   pub held : hold_at fs.held frame ≡ Some h
+  pub frame_below : frame < frames
   pub own : IsRowOf (layout_of fs.geometry) fs.shard h.row
   pub wide : length h.hold.away ≡ fs.geometry.slots
   pub below : position < fs.geometry.slots
@@ -160,7 +164,7 @@ count_home-set (true ∷ away) zero below home = absurd (cc)
 count_home-set (false ∷ away) (suc j) below home = omega (arith, count_home-set away j (omega arith) home)
 count_home-set (true ∷ away) (suc j) below home = omega (arith, count_home-set away j (omega arith) home)
 
-no_number : (m : FinMap nat_cmp Outstanding) (k : ℕ) → ((c : Outstanding) → map.get m k ≡ Some c → ⊥) → map.get m k ≡ None
+pub no_number : (m : FinMap nat_cmp Outstanding) (k : ℕ) → ((c : Outstanding) → map.get m k ≡ Some c → ⊥) → map.get m k ≡ None
 no_number m k h =
     elim (map.get m k) as (λ o. map.get m k ≡ o → o ≡ None) [
       | None ↦ λ e. refl
@@ -229,8 +233,9 @@ module _ (fs : FramesState) (frame : ℕ) (h : HeldRow) (planned : Planned) (pos
   home_still : (token : ℕ) (d : Outstanding) → outstanding fs token ≡ Some d → d.frame ≡ frame → place_of fs d ≢ position
   home_still token d out e at =
       let here : use_at fs.held d.frame ≡ HeldIn h = ap (use_at fs.held) e ∙ use_held fs.held frame h can.held in
+      let inside = can.frame_below in
       let away : is_away h.hold position ≡ true =
-      ap (is_away h.hold) (sym at) ∙ sym (ap (λ (u : FrameUse). is_away_from u (place_of fs d)) here) ∙ (all.of_frame live token d out).away in
+      ap (is_away h.hold) (sym at) ∙ sym (ap (λ (u : FrameUse). is_away_from u (place_of fs d)) here) ∙ (all.of_frame live token d out (omega arith)).away in
       let home = can.home in
       absurd (cc)
 
@@ -244,9 +249,9 @@ module _ (fs : FramesState) (frame : ℕ) (h : HeldRow) (planned : Planned) (pos
         sent = can.others (place_of fs d) apart;
       }
 
-  of_frame_then : (token : ℕ) (d : Outstanding) → outstanding fs token ≡ Some d → IsOfFrame later token d
-  of_frame_then token d out =
-      let o = of_frame_stays fs frame h new token d can.held (stays token d out) (all.of_frame live token d out) in
+  of_frame_then : (token : ℕ) (d : Outstanding) → outstanding fs token ≡ Some d → d.frame < frames → IsOfFrame later token d
+  of_frame_then token d out below =
+      let o = of_frame_stays fs frame h new token d can.held (stays token d out) (all.of_frame live token d out below) in
       record { away = o.away; held = λ x there. let of_x = o.held x there in record { row = of_x.row; abandoned = of_x.abandoned; kind = of_x.kind }; ended = o.ended }
 
   away_now : is_away new.hold position ≡ true
@@ -335,7 +340,7 @@ module _ (fs : FramesState) (frame : ℕ) (h : HeldRow) (planned : Planned) (pos
       let room = all.room in
       omega arith
 
-  room_then : map.len (map.insert m next c) + home_in fs.geometry.slots (set fs.held frame (HeldIn new)) ≤ most_commands fs.geometry
+  room_then : map.len (map.insert m next c) + home_in fs.geometry.slots (set fs.held frame (HeldIn new)) + count_home_directs fs.directs ≤ most_commands fs.geometry
   room_then =
       let home = count_home-set h.hold.away position within_away can.home in
       let sum = home_set fs.geometry.slots fs.held frame (HeldIn new) within in
@@ -356,11 +361,14 @@ module _ (fs : FramesState) (frame : ℕ) (h : HeldRow) (planned : Planned) (pos
     sized = sized_then;
     lawful = lawful_then;
     alone = alone_then;
-    of_frame = λ live token d out. elim (which token d out) [
+    of_frame = λ live token d out below. elim (which token d out) [
       | inl mine ↦ subst (λ (k : ℕ). IsOfFrame later k d) (sym mine.0) (subst (λ (x : Outstanding). IsOfFrame later next x) mine.1 of_frame_new)
-      | inr old ↦ of_frame_then token d old
+      | inr old ↦ of_frame_then token d old below
     ];
     there = λ live. there_then;
     stopped = λ not_live. absurd (not_live live);
     room = room_then;
   }
+
+  pub directs_came : AreDirects fs.geometry fs.shard fs.slots fs.commands fs.directs → AreDirects fs.geometry fs.shard fs.slots later.commands fs.directs
+  directs_came are = directs_kept fs.geometry fs.shard fs.slots fs.commands fs.slots later.commands fs.directs (putting fs.geometry fs.shard fs.slots fs.commands c can.frame_below all.given) are

@@ -2,7 +2,7 @@
 use Rattle.std.proofs.Common.{◌≡◌, ◌≢◌, ℕ, ◌+◌, ◌%◌, ◌<◌, Bool, true, false, List, [], ◌∷◌, map, set, refl, sym, ap, subst, ◌∙◌, Option, Some, None, inl, inr, arith, get_or-set_same, get_or-set_other}
 use Rattle.std.specs.Prelude.{option_map, slice_index_or}
 use Rattle.std.specs.FinMap as finite
-use Rattle.std.proofs.lemmas.Bool.{and_parts, lt-ltb}
+use Rattle.std.proofs.lemmas.Bool.{cases_lt, and_parts, lt-ltb}
 use Rattle.r6_layout.specs.Shape.{IsShape}
 use Rattle.r6_layout.specs.Layout.{position_at}
 use Rattle.r6_layout.proofs.Roles.{position_at-lt}
@@ -15,7 +15,7 @@ use Rattle.r6_stripe.specs.Plans as plans
 use Rattle.r6_stripe.specs.Steps.{Held as HeldHold, is_away, answered}
 use Rattle.r6_world.specs.PlainArray.{Block}
 use Rattle.r6_world.specs.Tables.{put}
-use Rattle.r6_world.specs.ShardStates.{Fetch, Shard}
+use Rattle.r6_world.specs.ShardStates.{Fetch, Shard, frames}
 use Rattle.r6_world.specs.Changes.{Change, Learn, Confirm, Classify, Allowed, IsChecked, after}
 use Rattle.r6_world.specs.Steps.{Takes, Good, Taken, Through}
 use Rattle.r6_world.specs.Layouts.{Layout}
@@ -35,6 +35,7 @@ use Rattle.r6_frames.specs.Slots.{is_abandoned}
 use Rattle.r6_frames.specs.Views.{hold_at, hold_of, kind_in, task_by, held_entry, requests_by, request_at, held_requests, outstanding, command_of, transfer_of, Rest, shard_with, AreLive}
 use Rattle.r6_frames.specs.Calls.{Answers, Classifies, IsAwaited, IsAbandoned, KeepsOthers, KeepsRows}
 use Rattle.r6_frames.specs.Owed.{owed}
+use Rattle.r6_frames.specs.Reads.{IsOfRead}
 use Rattle.r6_frames.specs.Sound.{IsSound, IsHeld, IsJob, is_away_from, is_write, place_of}
 use Rattle.r6_frames.proofs.SlotsInTurn.{some_slots, position_left}
 use Rattle.r6_stripe.proofs.Steps.{not_out_is}
@@ -62,7 +63,7 @@ pub record IsOut (fs : FramesState) (token : ℕ) (c : Outstanding) (h : HeldRow
   pub not_out : (cell_at h.hold.planned.hold.cells (place_of fs c)).standing ≢ Out
   pub kind : is_write c.kind ≡ plans.is_sent (cell_at h.hold.planned.hold.cells (place_of fs c)).writing
 
-not_abandoned : (fs : FramesState) (token : ℕ) (c : Outstanding) → outstanding fs token ≡ Some c → (IsAbandoned fs token → ⊥) → is_abandoned fs.slots token c ≡ false
+pub not_abandoned : (fs : FramesState) (token : ℕ) (c : Outstanding) → outstanding fs token ≡ Some c → (IsAbandoned fs token → ⊥) → is_abandoned fs.slots token c ≡ false
 not_abandoned fs token c there wanted =
     elim (is_abandoned fs.slots token c) as (λ b. is_abandoned fs.slots token c ≡ b → is_abandoned fs.slots token c ≡ false) [
       | true ↦ λ e. absurd (wanted (c, there, e))
@@ -70,14 +71,15 @@ not_abandoned fs token c there wanted =
     ] refl
 
 -- a command that isn't abandoned is one of a held row, and holds go on
-pub out_of : (fs : FramesState) (token : ℕ) (c : Outstanding) → IsSound fs → IsAwaited fs token → (IsAbandoned fs token → ⊥) → outstanding fs token ≡ Some c → (h : HeldRow) × IsOut fs token c h
-out_of fs token c sound awaited wanted there =
+pub out_of : (fs : FramesState) (token : ℕ) (c : Outstanding) → IsSound fs → IsAwaited fs token → (IsAbandoned fs token → ⊥) → (IsOfRead fs token → ⊥) → outstanding fs token ≡ Some c → (h : HeldRow) × IsOut fs token c h
+out_of fs token c sound awaited wanted held there =
     let still = not_abandoned fs token c there wanted in
     let live : AreLive fs = elim (live_cases fs) [
       | inl live ↦ live
       | inr stopped ↦ absurd (wanted (c, there, sound.commands.stopped stopped token c there))
     ] in
-    let of = sound.commands.of_frame live token c there in
+    let of_frame : c.frame < frames = elim (cases_lt c.frame frames) [ inl below ↦ below | inr above ↦ absurd (held (c, there, above)) ] in
+    let of = sound.commands.of_frame live token c there of_frame in
     let inside = place_within fs c sound in
     elim (hold_at fs.held c.frame) as (λ o. hold_at fs.held c.frame ≡ o → (h : HeldRow) × IsOut fs token c h) [
       | None ↦ λ none. absurd (let abandoned = of.ended none in cc)
@@ -102,17 +104,17 @@ out_of fs token c sound awaited wanted there =
     ] refl
 
 -- the use of the command's frame, as it is read
-pub out_there : (fs : FramesState) (token : ℕ) (c : Outstanding) (read : FrameUse) → IsSound fs → IsAwaited fs token → (IsAbandoned fs token → ⊥) → outstanding fs token ≡ Some c
+pub out_there : (fs : FramesState) (token : ℕ) (c : Outstanding) (read : FrameUse) → IsSound fs → IsAwaited fs token → (IsAbandoned fs token → ⊥) → (IsOfRead fs token → ⊥) → outstanding fs token ≡ Some c
     → read ≡ slice_index_or fs.held c.frame read → (h : HeldRow) × (read ≡ HeldIn h) × IsOut fs token c h
-out_there fs token c read sound awaited wanted there value =
-    let out = out_of fs token c sound awaited wanted there in
+out_there fs token c read sound awaited wanted held there value =
+    let out = out_of fs token c sound awaited wanted held there in
     let below = held_within fs.held c.frame out.0 out.1.held in
     (out.0, sym (use_found fs.held c.frame read read below value refl) ∙ use_held fs.held c.frame out.0 out.1.held, out.1)
 
-pub out_row : (fs : FramesState) (token : ℕ) (c : Outstanding) (h : HeldRow) (read : FrameUse) → IsSound fs → IsAwaited fs token → (IsAbandoned fs token → ⊥) → outstanding fs token ≡ Some c
+pub out_row : (fs : FramesState) (token : ℕ) (c : Outstanding) (h : HeldRow) (read : FrameUse) → IsSound fs → IsAwaited fs token → (IsAbandoned fs token → ⊥) → (IsOfRead fs token → ⊥) → outstanding fs token ≡ Some c
     → read ≡ slice_index_or fs.held c.frame read → read ≡ HeldIn h → IsOut fs token c h
-out_row fs token c h read sound awaited wanted there value is =
-    let out = out_there fs token c read sound awaited wanted there value in
+out_row fs token c h read sound awaited wanted held there value is =
+    let out = out_there fs token c read sound awaited wanted held there value in
     let same : out.0 ≡ h = let both = sym out.1 ∙ is in cc in
     subst (IsOut fs token c) same out.2
 
@@ -256,7 +258,7 @@ module _ (fs : FramesState) (token : ℕ) (c : Outstanding) (h : HeldRow) (out :
 
   pub answers : (block : Block) (class : Option RowClass) → IsClassAfter (after_event h.hold.planned.hold (answer_event c.kind at block)) h.hold.class class
       → Answers fs token block (answered_of (answer_event c.kind at block) class)
-  answers block class found = (refl, refl, λ rest. by_kind rest c.kind refl found)
+  answers block class found = (refl, refl, λ rest. by_kind rest c.kind refl found, refl)
     where
       by_kind : (rest : Rest) (kind : CommandKind) → c.kind ≡ kind → IsClassAfter (after_event h.hold.planned.hold (answer_event kind at block)) h.hold.class class
           → (change : Change) × Takes token (Good block) Taken change

@@ -25,6 +25,10 @@ use Rattle.r6_frames.specs.FramesState.{FramesState, Commands}
 use Rattle.r6_frames.specs.Slots.{is_abandoned}
 use Rattle.r6_frames.specs.Views.{use_at, row_in, hold_at, hold_of, plan_in, request_at, held_requests, outstanding, command_of, shard_with, AreLive}
 use Rattle.r6_frames.specs.Calls.{ComesHome, IsAwaited, IsAbandoned, KeepsHeld, KeepsOthers}
+use Rattle.r6_frames.specs.Directs.{direct_at, returned}
+use Rattle.r6_frames.proofs.DirectReads.{stopped_read}
+use Rattle.r6_frames.proofs.DirectCommands.{with_home, home_sound}
+use Rattle.r6_frames.proofs.ReadsAgain.{reads_stay}
 use Rattle.r6_frames.specs.Owed.{owed}
 use Rattle.r6_frames.specs.Uses.{IsForRow, has_away, AwaitsBuffer, use_home, spared_home}
 use Rattle.r6_frames.specs.Sound.{IsSound, IsHeld, IsReturning, is_away_from, place_of}
@@ -32,7 +36,7 @@ use Rattle.r6_frames.proofs.Held.{use_within, use_held, free_at, home_at, owed_a
 use Rattle.r6_frames.proofs.Ending.{none-away-at, some-away, count_home-all}
 use Rattle.r6_frames.proofs.Finishing.{count_free-le}
 use Rattle.r6_frames.proofs.AnsweredRows.{late_row, late_held, late_is}
-use Rattle.r6_frames.proofs.BuffersHome.{GoesOn, IsHome, home_back, left_of, commands_gone, commands_left, other_same, each_same, sound_left, owed_left, requests_left}
+use Rattle.r6_frames.proofs.BuffersHome.{GoesOn, IsHome, home_back, left_of, commands_gone, commands_left, directs_left, other_same, each_same, sound_left, owed_left, requests_left}
 use Rattle.r6_frames.proofs.Completions.{place_within}
 
 -- what the call leaves
@@ -63,14 +67,15 @@ comes_home fs token c held spare awaited abandoned there same = (
     (ap (option_map (command_of fs.slots fs.handed token)) there, abandoned_one fs token c abandoned there),
     λ i. record (shard_with rest fs) { frame = fun_ext same i; command = commands_gone fs.slots fs.commands.entries fs.handed token i },
   ),
+  refl,
 )
 
 -- ---- holds don't go on
 
 pub stopped_home : (fs : FramesState) (token : ℕ) (c : Outstanding) (commands : Commands) → IsSound fs → IsAwaited fs token → IsAbandoned fs token → outstanding fs token ≡ Some c
-    → (AreLive fs → ⊥) → commands ≡ record { next = fs.commands.next; entries = map.remove fs.commands.entries token }
+    → c.frame < frames → (AreLive fs → ⊥) → commands ≡ record { next = fs.commands.next; entries = map.remove fs.commands.entries token }
     → CameHome fs token (record fs { commands = commands })
-stopped_home fs token c commands sound awaited abandoned there stopped rest =
+stopped_home fs token c commands sound awaited abandoned there of_frame stopped rest =
     subst (λ (t : Commands). CameHome fs token (record fs { commands = t })) (sym rest) (record {
       sound = record {
         shape = sound.shape;
@@ -85,6 +90,7 @@ stopped_home fs token c commands sound awaited abandoned there stopped rest =
           spare = sound.frames.spare;
         };
         commands = commands_left fs token c there fs.held fs.spare sound.commands awaited.2 (λ live. absurd (stopped live)) (λ live. absurd (stopped live)) (omega arith);
+        directs = directs_left fs token c there fs.held fs.spare sound.directs of_frame;
       };
       comes = comes_home fs token c fs.held fs.spare awaited abandoned there (λ frame. refl);
       holds = λ frame. refl;
@@ -93,6 +99,29 @@ stopped_home fs token c commands sound awaited abandoned there stopped rest =
       next = refl;
       requests = refl;
     })
+
+-- ---- to a direct read's
+
+-- the read of its buffer, if one has it, has stopped
+pub direct_home : (fs : FramesState) (token : ℕ) (c : Outstanding) (number : ℕ) (block : Block) → IsSound fs → IsAwaited fs token → IsAbandoned fs token → outstanding fs token ≡ Some c
+    → c.frame ≡ frames + number → length block ≡ fs.geometry.block → CameHome fs token (with_home fs token number (returned (direct_at fs.directs number) block))
+direct_home fs token c number block sound awaited abandoned there at size =
+    let of = sound.directs.of_direct token c there (omega arith) in
+    let below = of.1.below in
+    let frame = of.1.frame in
+    record {
+      sound =
+          home_sound fs token number (returned (direct_at fs.directs number) block) c sound awaited.2 there (omega arith) at block refl size
+          (λ r has. (has, stopped_read fs.geometry fs.shard fs.slots fs.commands fs.directs sound.directs token c there number (omega arith) at (abandoned_one fs token c abandoned there) r has));
+      comes =
+          let home = comes_home fs token c fs.held fs.spare awaited abandoned there (λ frame. refl) in
+          (refl, refl, home.2, reads_stay fs.slots fs.directs number (returned (direct_at fs.directs number) block) refl);
+      holds = λ frame. refl;
+      others = (0, λ other ne. refl);
+      owed = refl;
+      next = refl;
+      requests = refl;
+    }
 
 -- ---- holds go on
 
@@ -106,9 +135,9 @@ pub record IsLate (fs : FramesState) (token : ℕ) (c : Outstanding) : Type 0 wh
   pub away : is_away_from (use_at fs.held c.frame) (place_of fs c) ≡ true
   pub out : (h : HeldRow) → hold_at fs.held c.frame ≡ Some h → (cell_at h.hold.planned.hold.cells (place_of fs c)).standing ≡ Out
 
-pub is_late : (fs : FramesState) (token : ℕ) (c : Outstanding) → IsSound fs → AreLive fs → IsAwaited fs token → IsAbandoned fs token → outstanding fs token ≡ Some c → IsLate fs token c
-is_late fs token c sound live awaited abandoned there =
-    let of = sound.commands.of_frame live token c there in
+pub is_late : (fs : FramesState) (token : ℕ) (c : Outstanding) → IsSound fs → AreLive fs → IsAwaited fs token → IsAbandoned fs token → outstanding fs token ≡ Some c → c.frame < frames → IsLate fs token c
+is_late fs token c sound live awaited abandoned there of_frame =
+    let of = sound.commands.of_frame live token c there of_frame in
     record {
       awaited = awaited;
       abandoned = abandoned;

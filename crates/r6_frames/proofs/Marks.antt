@@ -12,7 +12,7 @@ use Rattle.r6_world.specs.Layouts.{IsRowOf}
 use Rattle.r6_world.specs.ShardStates.{SlotState, is_away, standing_of}
 use Rattle.r6_world.specs.Tables.{put}
 use Rattle.r6_world.proofs.Geometries.{layouts}
-use Rattle.r6_world.proofs.Tables.{count-le, put-other}
+use Rattle.r6_world.proofs.Tables.{count-le, put-same, put-other}
 use Rattle.r6_frames.specs.declared.command.Outstanding.{Outstanding}
 use Rattle.r6_frames.specs.FramesState.{FramesState}
 use Rattle.r6_frames.specs.declared.frames.HeldRow.{HeldRow}
@@ -26,6 +26,10 @@ use Rattle.r6_frames.specs.Slots.{is_abandoned, no_slot, slot_in, state_of, stat
 use Rattle.r6_frames.specs.Views.{Rest, AreLive, command_of, outstanding, shard_with}
 use Rattle.r6_frames.specs.Calls.{BringsIn, IsNextOn, Marks, NotHeldBy}
 use Rattle.r6_frames.specs.Sound.{AreDevices, IsDeviceOf, IsHeld, IsOfFrame, IsSound, Stands}
+use Rattle.r6_frames.specs.Calls.{KeepsReads}
+use Rattle.r6_frames.proofs.DirectReads.{StaysSynced, directs_kept, abandoning}
+use Rattle.r6_stripe.specs.Plans.{is_in_sync}
+use Rattle.r6_frames.proofs.ReadsAgain.{reads_same}
 use Rattle.r6_frames.proofs.Lists.{same_put}
 use Rattle.r6_frames.proofs.Marking.{at_most, built}
 
@@ -38,6 +42,7 @@ pub record StaysFor (fs : FramesState) (generation : ℕ) (r : Rebuilt) (row : �
   pub target : (other : ℕ) → IsRowOf (layout_of fs.geometry) fs.shard other → other ≢ row → IsNext r other → is_rebuilt r other ≡ false
       → (now : Rebuilt) × (d ≡ device.Building generation now) × IsNext now other × (is_rebuilt now other ≡ false)
   pub lawful : IsDeviceOf (layout_of fs.geometry) fs.shard d
+  pub own : is_in_sync (standing_of (state_of d) row) ≡ true
 
 module _ (fs : FramesState) (slot generation : ℕ) (r : Rebuilt) (row : ℕ) (d : Device) (sound : IsSound fs) (live : AreLive fs) (below : slot < fs.geometry.slots) (within : slot < length fs.slots)
     (old_is : (slot_in fs.slots slot).device ≡ device.Building generation r) (unheld : NotHeldBy fs row) (stays : StaysFor fs generation r row d) where
@@ -148,6 +153,21 @@ module _ (fs : FramesState) (slot generation : ℕ) (r : Rebuilt) (row : ℕ) (d
     ended = λ none. abandoned_same token c ∙ of.ended none;
   }
 
+  -- a slot that was in sync for a row of the shard is so still
+  still_synced : StaysSynced fs.geometry fs.shard fs.slots fs.commands.next marked.slots
+  still_synced other token at given its on before =
+      elim (cases_eq other slot) [
+        | inl e ↦
+            let here = ap (λ (k : ℕ). is_in_sync (standing_of (states_of marked.slots k) at)) e ∙ ap (λ (x : Device). is_in_sync (standing_of (state_of x) at)) device_there in
+            elim (cases_eq at row) [
+              | inl own ↦ here ∙ ap (λ (k : ℕ). is_in_sync (standing_of (state_of d) k)) own ∙ stays.own
+              | inr ne ↦
+                  here ∙ ap is_in_sync (stays.stands at its ne) ∙ sym (ap (λ (x : Device). is_in_sync (standing_of (state_of x) at)) old_is)
+                  ∙ sym (ap (λ (k : ℕ). is_in_sync (standing_of (states_of fs.slots k) at)) e) ∙ before
+            ]
+        | inr ne ↦ ap (λ (x : Slot). is_in_sync (standing_of (state_of x.device) at)) (elsewhere other ne) ∙ before
+      ]
+
   pub sound_then : IsSound marked
   sound_then =
       let frames = sound.frames in
@@ -172,12 +192,18 @@ module _ (fs : FramesState) (slot generation : ℕ) (r : Rebuilt) (row : ℕ) (d
           lawful = commands.lawful;
           alone = commands.alone;
           since = λ other. let most = commands.since other in let same = since_same other in omega arith;
-          of_frame = λ still token c there. of_frame_then token c (commands.of_frame live token c there);
+          of_frame = λ still token c there below. of_frame_then token c (commands.of_frame live token c there below);
           there = λ still. commands.there live;
           stopped = λ not_live. absurd (not_live live_then);
           room = commands.room;
         };
+        directs =
+            directs_kept fs.geometry fs.shard fs.slots fs.commands marked.slots fs.commands fs.directs
+            (abandoning fs.geometry fs.shard fs.slots marked.slots fs.commands (λ other. let same = since_same other in omega arith) still_synced) sound.directs;
       }
+
+  pub reads_then : KeepsReads fs marked
+  reads_then = reads_same fs.slots marked.slots since_same fs.directs
 
   -- the shard has the slot so
   states_then : states_of marked.slots ≡ put (states_of fs.slots) slot (state_of d)
@@ -226,6 +252,7 @@ module _ (fs : FramesState) (generation : ℕ) (r : Rebuilt) (row : ℕ) (now : 
     stands = λ other its ne. ap (λ (b : Bool). cond b InSync Out) (same_for other ne);
     target = λ other its ne next unbuilt. (now, refl, is.others other next ne, same_for other ne ∙ unbuilt);
     lawful = record { start = is.start ∙ lawful.start; next = next_now; some_left = left };
+    own = ap (λ (b : Bool). is_in_sync (cond b InSync Out)) (ap (λ (b : ℕ → Bool). b row) is.built ∙ put-same (is_rebuilt r) row true row refl);
   }
 
   -- none is
@@ -244,6 +271,7 @@ module _ (fs : FramesState) (generation : ℕ) (r : Rebuilt) (row : ℕ) (now : 
     stands = λ other its ne. sym (ap (λ (b : Bool). cond b InSync Out) (sym (same_for other ne) ∙ all_built none other its));
     target = λ other its ne next unbuilt. absurd (false≢true (sym unbuilt ∙ sym (same_for other ne) ∙ all_built none other its));
     lawful = tt;
+    own = refl;
   }
 
 -- ---- what the code puts in the slot
@@ -275,6 +303,9 @@ module _ (fs : FramesState) (target : Target) (generation : ℕ) (r : Rebuilt) (
   pub chosen_sound : IsChosen → IsSound then
   chosen_sound chosen = sound_then fs target.slot generation r row d sound live below within old_is unheld (chosen_stays chosen)
 
+  pub chosen_reads : IsChosen → KeepsReads fs then
+  chosen_reads chosen = reads_then fs target.slot generation r row d sound live below within old_is unheld (chosen_stays chosen)
+
   pub chosen_live : IsChosen → AreLive then
   chosen_live chosen = live_then fs target.slot generation r row d sound live below within old_is unheld (chosen_stays chosen)
 
@@ -286,6 +317,7 @@ module _ (fs : FramesState) (target : Target) (generation : ℕ) (r : Rebuilt) (
         shard_then fs target.slot generation r row d sound live below within old_is unheld (chosen_stays chosen) rest
         ∙ ap (λ (state : SlotState). record (shard_with rest fs) { slot = put (states_of fs.slots) target.slot state })
         (ap state_of d_is ∙ ap (λ (b : ℕ → Bool). SlotState.Building generation b) is.built ∙ was),
+    chosen_reads chosen,
   )
 
   pub chosen_brings : IsChosen → d ≡ device.Synced generation → layout.first_row fs.geometry (fs.shard + 1) ≤ next_row now 0 → BringsIn fs target row then
@@ -298,4 +330,5 @@ module _ (fs : FramesState) (target : Target) (generation : ℕ) (r : Rebuilt) (
       shard_then fs target.slot generation r row d sound live below within old_is unheld (chosen_stays chosen) rest
           ∙ ap (λ (state : SlotState). record (shard_with rest fs) { slot = put (states_of fs.slots) target.slot state }) (ap state_of d_is ∙ ap (λ (g : ℕ). SlotState.Synced g) same_generation),
     ),
+    chosen_reads chosen,
   )

@@ -62,7 +62,7 @@ module _ (fs : FramesState) (frame : ℕ) (h : HeldRow) (new : Held) (is : hold_
   none_sound =
       subst (λ (r : HeldRow). IsSound (with_row fs frame r)) has.same
       (sound_changed fs frame h ready fs.commands is sound p.held refl
-      (commands_prepared fs frame h (planned_at h.hold.planned has.events) live is p sound.commands))
+      (commands_prepared fs frame h (planned_at h.hold.planned has.events) live is p sound.commands) sound.directs)
 
   pub none_drives : Drives fs (with_row fs frame row)
   none_drives = (
@@ -74,6 +74,7 @@ module _ (fs : FramesState) (frame : ℕ) (h : HeldRow) (new : Held) (is : hold_
         subst (λ (r : HeldRow). Through (layout_of fs.geometry) fs.shard PutsOut s (shard_with rest (with_row fs frame r))) has.same
         (prepare_leads (layout_of fs.geometry) fs.shard s (shard_with rest (with_row fs frame ready)) frame h has.events [] (ap (option_map hold_of) is) live has.silent has.may
         (λ i. record s { frame = frames_are i })),
+    refl,
   )
 
   nothing_next : next new.planned ≡ None

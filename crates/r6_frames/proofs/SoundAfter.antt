@@ -23,6 +23,8 @@ use Rattle.r6_frames.specs.Owed.{is_unsent, owed_by, owed_in, HasOut, IsOver}
 use Rattle.r6_frames.specs.Sound.{IsHeld, IsSound, AreFrames, AreCommands, is_put_out, is_write}
 use Rattle.r6_frames.proofs.Held.{held_within, same_requests, use_held, use_at_own, use_at_other, apart_still, owed_at, owed_set, free_at, free_set}
 use Rattle.r6_frames.proofs.HeldRows.{Prepared, prepared, held_after, standing_stays, home_is, in_sync_not_out, are_prepared, prepared_owes}
+use Rattle.r6_world.specs.ShardStates.{frames}
+use Rattle.r6_frames.specs.Directs.{AreDirects}
 use Rattle.r6_frames.proofs.CommandComes.{with_row, sent_off, held_then, PutsOutAt}
 use Rattle.r6_frames.proofs.PuttingOut.{put_event}
 
@@ -56,8 +58,8 @@ module _ (fs : FramesState) (frame : ℕ) (h new : HeldRow) (commands : Commands
         omega arith;
   }
 
-  pub sound_changed : IsSound fs → IsHeld fs.geometry fs.shard fs.slots new → new.row ≡ h.row → AreCommands (changed fs frame new commands) → IsSound (changed fs frame new commands)
-  sound_changed sound held same_row are = record { shape = sound.shape; shard = sound.shard; live = sound.live; devices = sound.devices; frames = frames_changed held same_row sound.frames; commands = are }
+  pub sound_changed : IsSound fs → IsHeld fs.geometry fs.shard fs.slots new → new.row ≡ h.row → AreCommands (changed fs frame new commands) → AreDirects fs.geometry fs.shard fs.slots commands fs.directs → IsSound (changed fs frame new commands)
+  sound_changed sound held same_row are directs = record { shape = sound.shape; shard = sound.shard; live = sound.live; devices = sound.devices; frames = frames_changed held same_row sound.frames; commands = are; directs = directs }
 
   pub owed_changed : owed_in (set fs.held frame (HeldIn new)) + owed_by h ≡ owed_in fs.held + owed_by new
   owed_changed =
@@ -241,9 +243,9 @@ module _ (fs : FramesState) (frame : ℕ) (h : HeldRow) (events : List Event) (p
       add_up : (r w x y r' w' x' y' : ℕ) → r + x ≡ r' + x' → w + y ≡ w' + y' → x' + y' + 1 ≡ x + y → r + w + 1 ≡ r' + w'
       add_up r w x y r' w' x' y' a b c = omega arith
 
-  pub row_put_out : slot < fs.geometry.slots → slot ≡ slot_at fs.geometry h.row position → position_at fs.geometry h.row slot ≡ position → length buffer ≡ h.hold.planned.hold.size
+  pub row_put_out : frame < frames → slot < fs.geometry.slots → slot ≡ slot_at fs.geometry h.row position → position_at fs.geometry h.row slot ≡ position → length buffer ≡ h.hold.planned.hold.size
       → HasPutOut fs frame h new planned position slot kind buffer
-  row_put_out slot_below slot_is inverse sized =
+  row_put_out frame_below slot_below slot_is inverse sized =
       let held_now = held_after fs.geometry fs.shard fs.slots (prepared h before) (put_event position kind buffer) (set h.hold.away position true) p.held follows u.no_loss
       (length-set h.hold.away position true ∙ held.wide_away) away_are in
       record {
@@ -252,6 +254,7 @@ module _ (fs : FramesState) (frame : ℕ) (h : HeldRow) (events : List Event) (p
         out = some_out planned.hold position (subst (λ (n : ℕ). position < n) (sym held_now.wide) put_below) home_then out_here;
         puts = record {
           held = is;
+          frame_below = frame_below;
           own = held.own;
           wide = held.wide_away;
           below = put_below;

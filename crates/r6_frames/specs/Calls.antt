@@ -20,7 +20,7 @@ use Rattle.r6_world.specs.Geometries.{layout_of}
 use Rattle.r6_world.specs.Tasks.{Hold, Task, Outcome, Classed, Skipped, Rebuilt, GivenUp, end_of}
 use Rattle.r6_world.specs.ShardStates as shards
 use Rattle.r6_world.specs.ShardStates.{Shard, Held, LossOf, frames, begun}
-use Rattle.r6_world.specs.Changes.{Change, Ask, Prepare, Classify, Send, Come_home, Lose, Finish, abandoned_if, taken_out, with_row, AllBuilt, after, Allowed}
+use Rattle.r6_world.specs.Changes.{Change, Ask, Prepare, Classify, Send, Come_home, Lose, Finish, abandoned_if, read_stage, taken_out, with_row, AllBuilt, after, Allowed}
 use Rattle.r6_world.specs.Steps.{Event, No_command, Take_command, Step, Through, Takes, Good, Taken}
 use Rattle.r6_frames.specs.declared.op.Op.{Op}
 use Rattle.r6_frames.specs.declared.op.Request.{Request}
@@ -40,14 +40,27 @@ use Rattle.r6_frames.specs.declared.slots.Device.TheVariants as device
 use Rattle.r6_frames.specs.Rebuilt.{IsNext}
 use Rattle.r6_frames.specs.Slots.{slot_in, state_of, states_of, is_abandoned}
 use Rattle.r6_frames.specs.FramesState.{FramesState}
-use Rattle.r6_frames.specs.Views.{op_of, buffer_of, outcome_of, task_for, rebuilds, rebuild_task, scrub_task, requests_by, kind_in, held_for, plan_in, use_at, hold_at, held_requests, outstanding, world_command, Rest, shard_with, AreLive}
+use Rattle.r6_frames.specs.Views.{op_of, buffer_of, outcome_of, task_for, rebuilds, rebuild_task, scrub_task, requests_by, kind_in, held_for, plan_in, use_at, hold_at, held_requests, outstanding, world_command, world_commands, Rest, shard_with, reads_on, AreLive}
+use Rattle.r6_frames.specs.Directs.{read_requests}
 use Rattle.r6_frames.specs.Owed.{owed}
 
--- a relation of two shards, whatever they have beside their frames
+-- the requests that are read directly are those that were
+abbrev pub KeepsReads : FramesState → FramesState → Type 0
+KeepsReads old new = read_requests new ≡ read_requests old
+
+-- those whose commands are gone or abandoned wait, and the others are read still
+abbrev pub entry_on : FramesState → ℕ × shards.Request → ℕ × shards.Request
+entry_on fs entry = (entry.0, record { op = entry.1.op; stage = read_stage (world_commands fs) entry.1.stage })
+
+abbrev pub ReadsOn : FramesState → FramesState → Type 0
+ReadsOn old new = read_requests new ≡ map (entry_on new) (read_requests old)
+
+-- a relation of two shards, whatever they have beside their frames, that have the same direct reads
 abbrev pub Between : (Layout → ℕ → Shard → Shard → Type 0) → FramesState → FramesState → Type 0
 Between Leads old new =
     (new.geometry ≡ old.geometry) × (new.shard ≡ old.shard)
     × ((rest : Rest) → Leads (layout_of old.geometry) old.shard (shard_with rest old) (shard_with rest new))
+    × KeepsReads old new
 
 -- ---- commands
 
@@ -104,34 +117,37 @@ IsAbandoned fs token = (c : Outstanding) × (outstanding fs token ≡ Some c) ×
 
 -- ---- slots go out
 
--- no request is read directly: so none of them waits again where commands are abandoned
-abbrev pub NoneReading : Rest → Type 0
-NoneReading rest =
-    (id : ℕ) (op : world.Op) (token : ℕ) → rest.request id ≢ Some (record { op = op; stage = shards.Reading token })
-
--- The device of this slot and generation, to which the command went, is lost. A call is to be made at the register
+-- The device of this slot and generation, to which the command went, is lost: direct reads from it wait again. A call
+-- is to be made at the register
 abbrev pub Loses : FramesState → (token slot generation : ℕ) → FramesState → Type 0
 Loses old token slot generation new =
     (new.geometry ≡ old.geometry) × (new.shard ≡ old.shard)
-    × ((rest : Rest) → NoneReading rest →
+    × ((rest : Rest) →
     let l = layout_of old.geometry in
     let s = shard_with rest old in
     (c : shards.Command) × (c.slot ≡ slot) × (c.generation ≡ generation) × (c.taken ≡ true)
     × Allowed l old.shard s (Lose token c)
-    × (shard_with (record rest { calls = rest.calls ++ LossOf slot generation ∷ [] }) new ≡ after l s (Lose token c)))
+    × (shard_with (record (reads_on new rest) { calls = rest.calls ++ LossOf slot generation ∷ [] }) new
+    ≡ after l s (Lose token c)))
+    × ReadsOn old new
 
--- the slot has another device, and the one before is taken out
+-- the slot has another device, and the one before is taken out: direct reads from it wait again
 abbrev pub TakesOut : FramesState → (slot : ℕ) → Device → FramesState → Type 0
 TakesOut old slot device new =
     (new.geometry ≡ old.geometry) × (new.shard ≡ old.shard)
-    × ((rest : Rest) → NoneReading rest →
-    shard_with rest new ≡ taken_out (layout_of old.geometry) (shard_with rest old) slot (state_of device))
+    × ((rest : Rest) →
+    shard_with (reads_on new rest) new
+    ≡ taken_out (layout_of old.geometry) (shard_with rest old) slot (state_of device))
+    × ReadsOn old new
 
 -- a look has seen that the array failed: all commands are abandoned
 abbrev pub SeesFailure : FramesState → FramesState → Type 0
 SeesFailure old new =
-    Between (λ l n s s'. s' ≡ record s { saw_failed = true; command = λ token. abandoned_if true (s.command token) })
-    old new
+    (new.geometry ≡ old.geometry) × (new.shard ≡ old.shard)
+    × ((rest : Rest) →
+    let s = shard_with rest old in
+    shard_with rest new ≡ record s { saw_failed = true; command = λ token. abandoned_if true (s.command token) })
+    × ReadsOn old new
 
 -- a held row hears of the loss of a slot, or doesn't
 abbrev pub told_row : (hears : Bool) → Shape → (slot : ℕ) → HeldRow → HeldRow
@@ -154,7 +170,8 @@ AreHeldRows shape held =
     (frame : ℕ) (h : HeldRow) → hold_at held frame ≡ Some h
     → (h.row < shape.rows) × (length h.hold.planned.hold.cells ≡ shape.slots)
 
--- the slot has another device, the held rows have heard of the loss of the one before, and whether holds go on is known
+-- the slot has another device, the held rows have heard of the loss of the one before, and whether holds go on is
+-- known
 pub record IsWithout (old : FramesState) (slot : ℕ) (device : Device) (new : FramesState) : Type 0 where
   pub held : List FrameUse
   pub live : Bool
@@ -170,10 +187,10 @@ pub record IsWithout (old : FramesState) (slot : ℕ) (device : Device) (new : F
 
 -- ---- rows are held
 
--- no row is held, and no command was put out
+-- no row is held, no command was put out, and no request is read directly
 abbrev pub IsAtStart : FramesState → Type 0
 IsAtStart fs = ((frame : ℕ) → use_at fs.held frame ≡ uses.Free) × (fs.commands.next ≡ 0)
-    × ((token : ℕ) → outstanding fs token ≡ None) × (held_requests fs ≡ [])
+    × ((token : ℕ) → outstanding fs token ≡ None) × (held_requests fs ≡ []) × (read_requests fs ≡ [])
 
 abbrev pub IsFreeFrame : FramesState → ℕ → Type 0
 IsFreeFrame fs frame = (frame < frames) × (use_at fs.held frame ≡ uses.Free)
@@ -254,7 +271,8 @@ pub record IsNextOn (fs : FramesState) (target : Target) (row : ℕ) : Type 0 wh
 pub record BeginsRebuild (old : FramesState) (frame : ℕ) (target : Target) (row : ℕ) (new : FramesState) : Type 0 where
   pub requests : held_requests new ≡ held_requests old
   pub shard :
-      Between (λ l n s s'. s' ≡ record s { frame = put s.frame frame (Some (begun l s.slot row (rebuild_task target))) })
+      Between
+      (λ l n s s'. s' ≡ record s { frame = put s.frame frame (Some (begun l s.slot row (rebuild_task target))) })
       old new
 
 -- the row is rebuilt on the device of the slot
@@ -326,7 +344,8 @@ MayMark fs (ended.Classed scrub class) = Unit {0}
 MayMark fs (ended.Skipped scrub) = Unit {0}
 MayMark fs (ended.GivenUp target) = Unit {0}
 MayMark fs (ended.Rebuilt target row) =
-    (target.slot < fs.geometry.slots) × IsRowOf (layout_of fs.geometry) fs.shard row × IsNextOn fs target row × NotHeldBy fs row
+    (target.slot < fs.geometry.slots) × IsRowOf (layout_of fs.geometry) fs.shard row × IsNextOn fs target row
+    × NotHeldBy fs row
 
 -- what a hold that is over was told of its end
 abbrev pub IsTold : StripeHold → Option End → Type 0
@@ -398,6 +417,10 @@ KeepsHeld old new = (frame : ℕ)
 -- the slots are as they were, and no look has seen more
 abbrev pub KeepsSlots : FramesState → FramesState → Type 0
 KeepsSlots old new = (new.slots ≡ old.slots) × (new.saw_failed ≡ old.saw_failed)
+
+-- the direct buffers are as they were
+abbrev pub KeepsDirects : FramesState → FramesState → Type 0
+KeepsDirects old new = new.directs ≡ old.directs
 
 -- as much is owed, and no command was put out
 abbrev pub KeepsOwed : FramesState → FramesState → Type 0

@@ -4,6 +4,7 @@ use Rattle.std.specs.Ordering.{nat_cmp}
 use Rattle.std.specs.FinMap.{FinMap}
 use Rattle.r6_layout.specs.Shape.{Shape}
 use Rattle.r6_frames.specs.declared.command.Outstanding.{Outstanding}
+use Rattle.r6_frames.specs.declared.directs.Direct.{Direct}
 use Rattle.r6_frames.specs.declared.frames.FrameUse.{FrameUse}
 use Rattle.r6_frames.specs.declared.slots.Slot.{Slot}
 
@@ -22,14 +23,17 @@ pub record FramesState : Type 0 where
   pub spare : ℕ  -- of how many frames the buffers are home
   pub commands : Commands
   pub handed : ℕ  -- how many commands were taken
+  pub directs : List Direct  -- the reads that hold no row, each by its direct buffer
 
 -- the state as the tuple of its fields, by which a proof tells states apart
 abbrev pub Fields : Type 0
-Fields = Shape × (ℕ × (List Slot × (Bool × (Bool × (List FrameUse × (ℕ × ((ℕ × FinMap nat_cmp Outstanding) × ℕ)))))))
+Fields =
+    Shape × (ℕ × (List Slot × (Bool × (Bool
+    × (List FrameUse × (ℕ × ((ℕ × FinMap nat_cmp Outstanding) × (ℕ × List Direct))))))))
 
 abbrev pub fields : FramesState → Fields
 fields fs =
-    (fs.geometry, (fs.shard, (fs.slots, (fs.saw_failed, (fs.live, (fs.held, (fs.spare, ((fs.commands.next, fs.commands.entries), fs.handed))))))))
+    (fs.geometry, (fs.shard, (fs.slots, (fs.saw_failed, (fs.live, (fs.held, (fs.spare, ((fs.commands.next, fs.commands.entries), (fs.handed, fs.directs)))))))))
 
 abbrev pub of_fields : Fields → FramesState
 of_fields f =
@@ -42,5 +46,6 @@ of_fields f =
       held = f.1.1.1.1.1.0;
       spare = f.1.1.1.1.1.1.0;
       commands = record { next = f.1.1.1.1.1.1.1.0.0; entries = f.1.1.1.1.1.1.1.0.1 };
-      handed = f.1.1.1.1.1.1.1.1;
+      handed = f.1.1.1.1.1.1.1.1.0;
+      directs = f.1.1.1.1.1.1.1.1.1;
     }

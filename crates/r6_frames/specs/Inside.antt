@@ -28,9 +28,11 @@ view_of rows =
       spare = length rows.spare.items;
       commands = commands_in rows.commands;
       handed = rows.handed;
+      directs = rows.directs.items;
     }
 
--- there is room for the buffers of all frames, each frame's are for a row of the array, and each buffer may have a command
+-- there is room for the buffers of all frames, each frame's are for a row of the array, and each buffer may have a
+-- command
 pub record IsRoom (shape : Shape) (spare : Vec buffers.Shape) (commands : Numbered Outstanding) : Type 0 where
   pub buffer_room : frames ≤ vec_capacity spare
   pub shapes : All (IsForRow shape) spare.items

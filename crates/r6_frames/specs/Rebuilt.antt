@@ -25,7 +25,8 @@ pub record AreNext (end : ℕ) (r : Rebuilt) : Type 0 where
   pub ordered : (number : ℕ) → number < 7 → next_row r number < next_row r (number + 1)
   pub from : r.start ≤ next_row r 0
   pub upto : next_row r 0 ≤ end
-  pub behind : (number : ℕ) → number < 7 → (next_row r (number + 1) ≤ end) ⊎ (next_row r (number + 1) ≡ next_row r number + 1)
+  pub behind : (number : ℕ) → number < 7
+      → (next_row r (number + 1) ≤ end) ⊎ (next_row r (number + 1) ≡ next_row r number + 1)
 
 -- of a shard with these rows some are rebuilt, and not all
 pub record IsRebuilt (first end : ℕ) (r : Rebuilt) : Type 0 where

@@ -64,7 +64,8 @@ retired hold = if has_away hold then uses.Returning hold else uses.Free
 
 -- the buffers that are spare then
 abbrev pub spared : Held → List buffers.Shape
-spared hold = if has_away hold then [] else record { count = length hold.planned.hold.cells; size = hold.planned.hold.size } ∷ []
+spared hold =
+    if has_away hold then [] else record { count = length hold.planned.hold.cells; size = hold.planned.hold.size } ∷ []
 
 -- ---- a buffer comes home
 

@@ -14,6 +14,7 @@ use Rattle.r6_world.specs.PlainArray.{Block}
 use Rattle.r6_world.specs.Tasks.{Task, ReadFor, WriteFor, Rebuild, Check, Repair, Hold, Outcome, Answered, Wrote}
 use Rattle.r6_world.specs.ShardStates as shards
 use Rattle.r6_world.specs.ShardStates.{Shard, Held, Transfer, Fetch, Store, Storing, Call}
+use Rattle.r6_world.specs.Changes.{read_on}
 use Rattle.r6_frames.specs.declared.op.Op.{Op}
 use Rattle.r6_frames.specs.declared.op.Op.TheVariants as op
 use Rattle.r6_frames.specs.declared.command.Command.{Command}
@@ -176,7 +177,8 @@ held_requests fs = requests_from 0 fs.held
 
 -- the device at the position of the row is in sync for it
 abbrev pub is_synced_at : FramesState → (row position : ℕ) → Bool
-is_synced_at fs row position = plans.is_in_sync (shards.standing_of (states_of fs.slots (layout.slot_at fs.geometry row position)) row)
+is_synced_at fs row position =
+    plans.is_in_sync (shards.standing_of (states_of fs.slots (layout.slot_at fs.geometry row position)) row)
 
 -- ---- commands
 
@@ -244,6 +246,14 @@ shard_with rest fs =
       repair_row = rest.repair_row;
       counts = rest.counts;
     }
+
+-- the commands of the shard
+abbrev pub world_commands : FramesState → ℕ → Option shards.Command
+world_commands fs token = option_map (command_of fs.slots fs.handed token) (outstanding fs token)
+
+-- what a shard has beside its frames, with the direct reads waiting whose commands are gone or abandoned
+abbrev pub reads_on : FramesState → Rest → Rest
+reads_on fs rest = record rest { request = λ id. read_on (world_commands fs) (rest.request id) }
 
 -- holds go on: at most two slots are out, and no look has seen that the array failed
 abbrev pub AreLive : FramesState → Type 0

@@ -9,8 +9,8 @@ pub const MOST_WINDOW: usize = 8;
 
 /// Which rows of a shard are rebuilt on a new device.
 ///
-/// The rows that are rebuilt next are always among the first eight that aren't, so that behind the last of these no row
-/// is.
+/// The rows that are rebuilt next are always among the first eight that aren't, so that behind the last of these no
+/// row is.
 #[derive(Clone, Copy)]
 pub struct Rebuilt {
     /// The shard's first row.

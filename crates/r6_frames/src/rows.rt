@@ -10,7 +10,7 @@ ghost use Rattle.r6_world.specs.Layouts.{IsRowOf};
 ghost use Rattle.r6_world.specs.Geometries.{layout_of};
 ghost use Rattle.r6_world.specs.ShardStates.{frames};
 ghost use Rattle.r6_frames.specs.Views.{op_of, job_for, row_task, AreLive, is_synced_at};
-ghost use Rattle.r6_frames.specs.Calls.{IsFreeFrame, IsNextOn, NotHeldBy, IsRequestOf, IsPlaceOf, Begins, BeginsRebuild, BeginsScrub, AreAllInSync, Holds, KeepsOthers, IsAtStart, KeepsSlots};
+ghost use Rattle.r6_frames.specs.Calls.{KeepsDirects, IsFreeFrame, IsNextOn, NotHeldBy, IsRequestOf, IsPlaceOf, Begins, BeginsRebuild, BeginsScrub, AreAllInSync, Holds, KeepsOthers, IsAtStart, KeepsSlots};
 ghost use Rattle.r6_frames.specs.Owed.{owed, OwesCommands};
 ghost use Rattle.r6_frames.specs.Slots.{slot_before, slot_in, AreUsed};
 ghost use Rattle.r6_frames.specs.Inside.{view_of, HasRoom};
@@ -18,6 +18,7 @@ ghost use Rattle.r6_frames.specs.Sound.{IsSound, IsToldLive, MayHold};
 ghost use Rattle.r6_frames.specs.Uses.{begun_row, none_held, IsForRow};
 
 use crate::command::Outstanding;
+use crate::directs::{DIRECTS, Direct, free_directs};
 use crate::frames::{FRAMES, FrameUse, HeldRow, Job, Scrub, Served};
 use crate::op::{Op, Request};
 use crate::rebuilt::Target;
@@ -44,6 +45,8 @@ pub(crate) struct Rows {
     pub(crate) commands: Table<Outstanding>,
     /// How many commands were taken: they are taken in the order of their tokens.
     pub(crate) handed: u64,
+    /// The direct buffers.
+    pub(crate) directs: Vec<Direct>,
 }
 
 impl Rows {
@@ -65,7 +68,8 @@ impl Rows {
         let slots = geometry.slots();
         let spare = spare_frames(alloc, slots, geometry.block())?;
         let held = free_frames(alloc)?;
-        let commands = Table::with_capacity(alloc, FRAMES * slots)?;
+        let directs = free_directs(alloc, geometry.block())?;
+        let commands = Table::with_capacity(alloc, FRAMES * slots + DIRECTS)?;
         let mut rows = Rows {
             geometry,
             shard,
@@ -76,6 +80,7 @@ impl Rows {
             spare,
             commands,
             handed: 0,
+            directs,
         };
         rows.live = rows.goes_on();
         Ok(rows)
@@ -164,7 +169,8 @@ impl Rows {
         requires free { IsFreeFrame (view_of self.old) frame }
         requires request { IsRequestOf (view_of self.old) request }
         requires place { IsPlaceOf self.old.geometry request.op place }
-        requires unheld { NotHeldBy (view_of self.old) (layout.row_of self.old.geometry (block_of (op_of request.op))) }
+        requires unheld { NotHeldBy (view_of self.old)
+            (layout.row_of self.old.geometry (block_of (op_of request.op))) }
 
         // The row is held.
         ensures sound { IsSound (view_of self.new) }
@@ -174,6 +180,7 @@ impl Rows {
         // All else is as it was.
         ensures same { KeepsSlots (view_of self.old) (view_of self.new) }
         ensures others { KeepsOthers (view_of self.old) frame (view_of self.new) }
+        ensures directs { KeepsDirects (view_of self.old) (view_of self.new) }
 
         // The hold owes at most a read and a write of each position, and at least one command.
         ensures owed { owed (view_of self.new) ≡ owed (view_of self.old) + 2 * self.old.geometry.slots }
@@ -201,6 +208,7 @@ impl Rows {
         // All else is as it was.
         ensures same { KeepsSlots (view_of self.old) (view_of self.new) }
         ensures others { KeepsOthers (view_of self.old) frame (view_of self.new) }
+        ensures directs { KeepsDirects (view_of self.old) (view_of self.new) }
 
         // The hold owes at most a read and a write of each position, and at least one command.
         ensures owed { owed (view_of self.new) ≡ owed (view_of self.old) + 2 * self.old.geometry.slots }
@@ -228,6 +236,7 @@ impl Rows {
         // All else is as it was.
         ensures same { KeepsSlots (view_of self.old) (view_of self.new) }
         ensures others { KeepsOthers (view_of self.old) frame (view_of self.new) }
+        ensures directs { KeepsDirects (view_of self.old) (view_of self.new) }
 
         // The hold owes at most a read and a write of each position, and at least one command.
         ensures owed { owed (view_of self.new) ≡ owed (view_of self.old) + 2 * self.old.geometry.slots }

@@ -11,12 +11,12 @@ pub index_mut-requires : goal.index_mut-requires
 index_mut-requires c =
     let fs = view_of c.args.self.now in
     let command = c.in-Some.command in
-    let out = out_of fs c.args.token command c.requires.sound c.requires.awaited c.requires.wanted (sym c.remove.ensures.entry ∙ c.in-Some.is) in
+    let out = out_of fs c.args.token command c.requires.sound c.requires.awaited c.requires.wanted c.requires.hold (sym c.remove.ensures.entry ∙ c.in-Some.is) in
     omega (arith, held_within fs.held command.frame out.0 out.1.held)
 
 pub unreachable-requires-in_default-index_mut : goal.unreachable-requires-in_default-index_mut
 unreachable-requires-in_default-index_mut c =
-    let out = out_there (view_of c.args.self.now) c.args.token c.in-Some.command c.index_mut.result.now c.requires.sound c.requires.awaited c.requires.wanted (sym c.remove.ensures.entry ∙ c.in-Some.is) c.index_mut.ensures.value in
+    let out = out_there (view_of c.args.self.now) c.args.token c.in-Some.command c.index_mut.result.now c.requires.sound c.requires.awaited c.requires.wanted c.requires.hold (sym c.remove.ensures.entry ∙ c.in-Some.is) c.index_mut.ensures.value in
     c.in_default-index_mut.not-Held out.0 out.1
 
 pub left_of-position-requires-clause-few : goal.left_of-position-requires-clause-few
@@ -29,7 +29,7 @@ left_of-position-requires-clause-slot c =
 
 pub left_of-position-requires-clause-steps : goal.left_of-position-requires-clause-steps
 left_of-position-requires-clause-steps c =
-    let out = out_row (view_of c.args.self.now) c.args.token c.in-Some.command c.in-Held.held c.index_mut.result.now c.requires.sound c.requires.awaited c.requires.wanted (sym c.remove.ensures.entry ∙ c.in-Some.is) c.index_mut.ensures.value c.in-Held.is in
+    let out = out_row (view_of c.args.self.now) c.args.token c.in-Some.command c.in-Held.held c.index_mut.result.now c.requires.sound c.requires.awaited c.requires.wanted c.requires.hold (sym c.remove.ensures.entry ∙ c.in-Some.is) c.index_mut.ensures.value c.in-Held.is in
     let below = slot_below c.args.self.now.geometry (some_slots c.requires.sound.shape) c.in-Held.held.row 0 in
     let first = out.whole.first in
     omega (arith, below, first)
@@ -39,14 +39,14 @@ done-requires-clause-away c =
     let fs = view_of c.args.self.now in
     let command = c.in-Some.command in
     let h = c.in-Held.held in
-    let out = out_row (view_of c.args.self.now) c.args.token c.in-Some.command c.in-Held.held c.index_mut.result.now c.requires.sound c.requires.awaited c.requires.wanted (sym c.remove.ensures.entry ∙ c.in-Some.is) c.index_mut.ensures.value c.in-Held.is in
+    let out = out_row (view_of c.args.self.now) c.args.token c.in-Some.command c.in-Held.held c.index_mut.result.now c.requires.sound c.requires.awaited c.requires.wanted c.requires.hold (sym c.remove.ensures.entry ∙ c.in-Some.is) c.index_mut.ensures.value c.in-Held.is in
     let place = place_left fs c.args.token command h c.left_of-position.result c.requires.sound.shape out (omega (arith, c.left_of-position.ensures.within, c.slots.ensures.value))
     (ap (λ n. (c.left_of-position.result + h.first) % n) (sym c.slots.ensures.value) ∙ c.left_of-position.ensures.right) in
     ap (is_away h.hold) place ∙ out.away
 
 pub done-requires-clause-size : goal.done-requires-clause-size
 done-requires-clause-size c =
-    let out = out_row (view_of c.args.self.now) c.args.token c.in-Some.command c.in-Held.held c.index_mut.result.now c.requires.sound c.requires.awaited c.requires.wanted (sym c.remove.ensures.entry ∙ c.in-Some.is) c.index_mut.ensures.value c.in-Held.is in
+    let out = out_row (view_of c.args.self.now) c.args.token c.in-Some.command c.in-Held.held c.index_mut.result.now c.requires.sound c.requires.awaited c.requires.wanted c.requires.hold (sym c.remove.ensures.entry ∙ c.in-Some.is) c.index_mut.ensures.value c.in-Held.is in
     c.requires.size ∙ sym out.whole.size
 
 -- ---- the hold has heard the answer
@@ -57,7 +57,7 @@ done c =
     let fs = view_of c.args.self.now in
     let command = c.in-Some.command in
     let h = c.in-Held.held in
-    let out = out_row fs c.args.token command h c.index_mut.result.now c.requires.sound c.requires.awaited c.requires.wanted (sym c.remove.ensures.entry ∙ c.in-Some.is) c.index_mut.ensures.value c.in-Held.is in
+    let out = out_row fs c.args.token command h c.index_mut.result.now c.requires.sound c.requires.awaited c.requires.wanted c.requires.hold (sym c.remove.ensures.entry ∙ c.in-Some.is) c.index_mut.ensures.value c.in-Held.is in
     let place = place_left fs c.args.token command h c.left_of-position.result c.requires.sound.shape out (omega (arith, c.left_of-position.ensures.within, c.slots.ensures.value))
     (ap (λ n. (c.left_of-position.result + h.first) % n) (sym c.slots.ensures.value) ∙ c.left_of-position.ensures.right) in
     completed fs c.args.token command h c.args.buffer c.left_of-position.result c.done.new.self (commands_in c.remove.new.self) c.requires.sound out place
@@ -72,7 +72,7 @@ returns-clause-room c = record { buffer_room = c.requires.room.buffer_room; shap
 
 pub returns-clause-live : goal.returns-clause-live
 returns-clause-live c =
-    (out_of (view_of c.args.self.now) c.args.token c.in-Some.command c.requires.sound c.requires.awaited c.requires.wanted (sym c.remove.ensures.entry ∙ c.in-Some.is)).1.live
+    (out_of (view_of c.args.self.now) c.args.token c.in-Some.command c.requires.sound c.requires.awaited c.requires.wanted c.requires.hold (sym c.remove.ensures.entry ∙ c.in-Some.is)).1.live
 
 pub returns-clause-answers : goal.returns-clause-answers
 returns-clause-answers c = (done c).answers

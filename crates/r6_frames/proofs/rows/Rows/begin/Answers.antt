@@ -7,7 +7,7 @@ use Rattle.r6_frames.specs.Calls.{Holds}
 use Rattle.r6_frames.specs.Uses.{begun_row, row_of, task_in}
 use Rattle.r6_frames.specs.Sound.{MayHold}
 use Rattle.r6_frames.proofs.BegunFor.{may_hold, begins}
-use Rattle.r6_frames.proofs.Beginning.{others_kept, slots_kept}
+use Rattle.r6_frames.proofs.Beginning.{others_kept, slots_kept, directs_kept}
 use Rattle.r6_frames.proofs.SlotsInTurn.{first_left, some_slots}
 use Rattle.r6_frames.proofs.rows.Rows.begin.Goals as goal
 
@@ -43,3 +43,6 @@ returns-clause-same c = slots_kept (view_of c.args.self.now) c.args.frame _ (vie
 
 pub returns-clause-others : goal.returns-clause-others
 returns-clause-others c = others_kept (view_of c.args.self.now) c.args.frame _ (view_of c.hold.new.self) c.hold.ensures.holds
+
+pub returns-clause-directs : goal.returns-clause-directs
+returns-clause-directs c = directs_kept (view_of c.args.self.now) c.args.frame _ (view_of c.hold.new.self) c.hold.ensures.holds

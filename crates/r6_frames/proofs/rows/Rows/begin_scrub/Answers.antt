@@ -5,7 +5,7 @@ use Rattle.r6_frames.specs.declared.frames.Job.TheVariants as job
 use Rattle.r6_frames.specs.Calls.{Holds}
 use Rattle.r6_frames.specs.Uses.{begun_row}
 use Rattle.r6_frames.specs.Sound.{MayHold}
-use Rattle.r6_frames.proofs.Beginning.{others_kept, slots_kept}
+use Rattle.r6_frames.proofs.Beginning.{others_kept, slots_kept, directs_kept}
 use Rattle.r6_frames.proofs.BegunFor.{may_scrub, begins_scrub}
 use Rattle.r6_frames.proofs.rows.Rows.begin_scrub.Goals as goal
 
@@ -29,3 +29,6 @@ returns-clause-same c = slots_kept (view_of c.args.self.now) c.args.frame _ (vie
 
 pub returns-clause-others : goal.returns-clause-others
 returns-clause-others c = others_kept (view_of c.args.self.now) c.args.frame _ (view_of c.hold.new.self) c.hold.ensures.holds
+
+pub returns-clause-directs : goal.returns-clause-directs
+returns-clause-directs c = directs_kept (view_of c.args.self.now) c.args.frame _ (view_of c.hold.new.self) c.hold.ensures.holds

@@ -1,4 +1,6 @@
-use Rattle.std.proofs.Common.{◌≤◌, length, arith, set, sym, ap, subst, ◌∙◌}
+use Rattle.std.specs.FinMap as map
+use Rattle.r6_frames.specs.declared.directs.Direct.{Direct}
+use Rattle.std.proofs.Common.{◌≤◌, ◌-◌, refl, inl, inr, List, length, arith, set, sym, ap, subst, ◌∙◌}
 use Rattle.std.proofs.lemmas.List.{length-append, set-set}
 use Rattle.std.specs.List.{All}
 use Rattle.std.proofs.lemmas.List.Elements.{All-append}
@@ -7,8 +9,9 @@ use Rattle.r6_frames.specs.Uses.{IsForRow, spared_home}
 use Rattle.r6_tables.specs.Table.{Numbered}
 use Rattle.r6_frames.specs.Inside.{view_of, commands_in}
 use Rattle.r6_frames.specs.declared.command.Outstanding.{Outstanding}
+use Rattle.r6_frames.proofs.DirectUses.{frees_direct, readers_kept}
 use Rattle.r6_frames.proofs.HeldRows.{use_found}
-use Rattle.r6_frames.proofs.LateBuffers.{CameHome, is_late, stopped_home, brought_home, spared_shapes, awaits_buffer, has_room}
+use Rattle.r6_frames.proofs.LateBuffers.{CameHome, is_late, stopped_home, direct_home, brought_home, spared_shapes, awaits_buffer, has_room}
 use Rattle.r6_frames.proofs.rows.Rows.come_home.Goals as goal
 
 pub position_at-position-requires-clause-row_within : goal.position_at-position-requires-clause-row_within
@@ -24,7 +27,7 @@ bring_home-used-requires-clause-away c =
     let fs = view_of c.args.self.now in
     let command = c.in-Some.command in
     let late =
-    is_late fs c.args.token command c.requires.sound (c.is_live.ensures.0 c.if-is_live.true) c.requires.awaited c.requires.abandoned (sym c.remove.ensures.entry ∙ c.in-Some.is) in
+    is_late fs c.args.token command c.requires.sound (c.is_live.ensures.0 c.if-is_live.true) c.requires.awaited c.requires.abandoned (sym c.remove.ensures.entry ∙ c.in-Some.is) (omega (arith, c.if-command-ge-FRAMES.false)) in
     let was = use_found fs.held command.frame c.index_mut.result.now c.replace-used.result late.below c.index_mut.ensures.value (sym c.replace-used.ensures.value) in
     awaits_buffer fs c.args.token command c.requires.sound late c.replace-used.result c.position_at-position.result c.args.buffer was c.position_at-position.ensures.value c.requires.size
 
@@ -33,15 +36,15 @@ bring_home-used-requires-clause-room c =
     let fs = view_of c.args.self.now in
     let command = c.in-Some.command in
     let late =
-    is_late fs c.args.token command c.requires.sound (c.is_live.ensures.0 c.if-is_live.true) c.requires.awaited c.requires.abandoned (sym c.remove.ensures.entry ∙ c.in-Some.is) in
+    is_late fs c.args.token command c.requires.sound (c.is_live.ensures.0 c.if-is_live.true) c.requires.awaited c.requires.abandoned (sym c.remove.ensures.entry ∙ c.in-Some.is) (omega (arith, c.if-command-ge-FRAMES.false)) in
     omega (arith, has_room fs c.args.token command c.requires.sound late, c.requires.room.buffer_room)
 
-came : (c : goal.Joined-command) → CameHome (view_of c.args.self.now) c.args.token (record (view_of c.args.self.now) { held = c.put.new.held.items; spare = length c.bring_home-used.new.spare.items; commands = commands_in c.remove.new.self })
+came : (c : goal.Joined-command-2) → CameHome (view_of c.args.self.now) c.args.token (record (view_of c.args.self.now) { held = c.put.new.held.items; spare = length c.bring_home-used.new.spare.items; commands = commands_in c.remove.new.self })
 came c =
     let fs = view_of c.args.self.now in
     let command = c.in-Some.command in
     let late =
-    is_late fs c.args.token command c.requires.sound (c.is_live.ensures.0 c.if-is_live.true) c.requires.awaited c.requires.abandoned (sym c.remove.ensures.entry ∙ c.in-Some.is) in
+    is_late fs c.args.token command c.requires.sound (c.is_live.ensures.0 c.if-is_live.true) c.requires.awaited c.requires.abandoned (sym c.remove.ensures.entry ∙ c.in-Some.is) (omega (arith, c.if-command-ge-FRAMES.false)) in
     let was = use_found fs.held command.frame c.index_mut.result.now c.replace-used.result late.below c.index_mut.ensures.value (sym c.replace-used.ensures.value) in
     let home = c.bring_home-used in
     let items =
@@ -60,7 +63,7 @@ returns-then-is_live-clause-room c =
     let IsFor = IsForRow fs.geometry in
     let command = c.in-Some.command in
     let late =
-    is_late fs c.args.token command c.requires.sound (c.is_live.ensures.0 c.if-is_live.true) c.requires.awaited c.requires.abandoned (sym c.remove.ensures.entry ∙ c.in-Some.is) in
+    is_late fs c.args.token command c.requires.sound (c.is_live.ensures.0 c.if-is_live.true) c.requires.awaited c.requires.abandoned (sym c.remove.ensures.entry ∙ c.in-Some.is) (omega (arith, c.if-command-ge-FRAMES.false)) in
     let was = use_found fs.held command.frame c.index_mut.result.now c.replace-used.result late.below c.index_mut.ensures.value (sym c.replace-used.ensures.value) in
     let home = c.bring_home-used in
     let more = spared_shapes fs c.args.token command c.requires.sound late c.replace-used.result c.position_at-position.result c.args.buffer was c.position_at-position.ensures.value in
@@ -89,7 +92,7 @@ returns-then-is_live-clause-requests c = (came c).requests
 -- the shard has stopped
 stopped : (c : goal.After-drop-buffer-inside) → CameHome (view_of c.args.self.now) c.args.token (record (view_of c.args.self.now) { commands = commands_in c.remove.new.self })
 stopped c =
-    stopped_home (view_of c.args.self.now) c.args.token c.in-Some.command (commands_in c.remove.new.self) c.requires.sound c.requires.awaited c.requires.abandoned (sym c.remove.ensures.entry ∙ c.in-Some.is)
+    stopped_home (view_of c.args.self.now) c.args.token c.in-Some.command (commands_in c.remove.new.self) c.requires.sound c.requires.awaited c.requires.abandoned (sym c.remove.ensures.entry ∙ c.in-Some.is) (omega (arith, c.if-command-ge-FRAMES.false))
     (λ live. let is = c.is_live.ensures.1 live in let none = c.if-is_live.false in absurd (cc)) (ap commands_in c.remove.ensures.rest)
 
 pub returns-else-is_live-clause-sound : goal.returns-else-is_live-clause-sound
@@ -100,3 +103,41 @@ returns-else-is_live-clause-room c = record { buffer_room = c.requires.room.buff
 
 pub returns-else-is_live-clause-comes : goal.returns-else-is_live-clause-comes
 returns-else-is_live-clause-comes c = (stopped c).comes
+
+-- the command was that of a direct read
+direct : (c : goal.Joined-command) → CameHome (view_of c.args.self.now) c.args.token
+    (record (view_of c.args.self.now) { commands = commands_in c.remove.new.self; directs = c.bring_back.new.directs.items })
+direct c =
+    let fs = view_of c.args.self.now in
+    let frame = c.if-command-ge-FRAMES.true in
+    let home =
+    direct_home fs c.args.token c.in-Some.command (c.in-Some.command.frame - 64) c.args.buffer c.requires.sound c.requires.awaited c.requires.abandoned (sym c.remove.ensures.entry ∙ c.in-Some.is)
+    (omega arith) c.requires.size in
+    subst (λ (t : Numbered Outstanding). CameHome fs c.args.token (record fs { commands = commands_in t; directs = c.bring_back.new.directs.items })) (sym c.remove.ensures.rest)
+    (subst (λ (ds : List Direct). CameHome fs c.args.token (record fs { commands = record { next = fs.commands.next; entries = map.remove fs.commands.entries c.args.token }; directs = ds })) (sym c.bring_back.ensures) home)
+
+pub returns-then-command-ge-FRAMES-clause-sound : goal.returns-then-command-ge-FRAMES-clause-sound
+returns-then-command-ge-FRAMES-clause-sound c = (direct c).sound
+
+pub returns-then-command-ge-FRAMES-clause-comes : goal.returns-then-command-ge-FRAMES-clause-comes
+returns-then-command-ge-FRAMES-clause-comes c = (direct c).comes
+
+pub returns-then-command-ge-FRAMES-clause-frees : goal.returns-then-command-ge-FRAMES-clause-frees
+returns-then-command-ge-FRAMES-clause-frees c =
+    let fs = view_of c.args.self.now in
+    inr (
+      refl,
+      c.in-Some.command.frame - 64,
+      frees_direct fs (record fs { commands = commands_in c.remove.new.self; directs = c.bring_back.new.directs.items }) (c.in-Some.command.frame - 64) _ c.bring_back.ensures,
+    )
+
+pub returns-then-command-ge-FRAMES-clause-readers : goal.returns-then-command-ge-FRAMES-clause-readers
+returns-then-command-ge-FRAMES-clause-readers c =
+    let fs = view_of c.args.self.now in
+    readers_kept fs (record fs { commands = commands_in c.remove.new.self; directs = c.bring_back.new.directs.items }) (c.in-Some.command.frame - 64) c.args.buffer c.bring_back.ensures
+
+pub returns-then-is_live-clause-frees : goal.returns-then-is_live-clause-frees
+returns-then-is_live-clause-frees c = inl ((came c).others.0, (came c).others.1, refl)
+
+pub returns-else-is_live-clause-frees : goal.returns-else-is_live-clause-frees
+returns-else-is_live-clause-frees c = inl (0, (λ other ne. refl), refl)

@@ -33,6 +33,7 @@ loop-preserved c = (
     drives = drives_then (view_of c.args.self.now) (view_of c.loop.self) (view_of c.put_out.new.self) c.loop.invariant.0.drives c.put_out.ensures.drives;
     rows = λ frame. c.put_out.ensures.rows frame ∙ c.loop.invariant.0.rows frame;
     others = λ other ne. c.put_out.ensures.others other ne ∙ c.loop.invariant.0.others other ne;
+    directs = c.put_out.ensures.directs ∙ c.loop.invariant.0.directs;
     sum = let now = c.put_out.ensures.owed in let sum = c.loop.invariant.0.sum in omega arith;
     requests = c.put_out.ensures.requests ∙ c.loop.invariant.0.requests;
     started = inr (c.put_out.ensures.out c.loop-test.true);
@@ -48,6 +49,9 @@ returns-clause-rows c = λ frame. c.put_out.ensures.rows frame ∙ c.loop.invari
 
 pub returns-clause-others : goal.returns-clause-others
 returns-clause-others c = λ other ne. c.put_out.ensures.others other ne ∙ c.loop.invariant.0.others other ne
+
+pub returns-clause-directs : goal.returns-clause-directs
+returns-clause-directs c = c.put_out.ensures.directs ∙ c.loop.invariant.0.directs
 
 pub returns-clause-owed : goal.returns-clause-owed
 returns-clause-owed c = let now = c.put_out.ensures.owed in let sum = c.loop.invariant.0.sum in omega arith

@@ -1,11 +1,10 @@
-use Rattle.std.proofs.Common.{◌≡◌, ◌≢◌, inl, inr, ◌<◌, length, Some, List, refl, sym, ap, subst, ◌∙◌, arith}
+use Rattle.std.proofs.Common.{◌≡◌, inl, inr, ◌<◌, length, List, refl, sym, ap, subst, ◌∙◌, arith}
 use Rattle.std.proofs.lemmas.Bool.{cases_lt}
 use Rattle.std.proofs.lemmas.List.{get_or_default}
 use Rattle.r6_frames.specs.Inside.{view_of}
-use Rattle.r6_frames.specs.Views.{use_at, row_in, hold_at}
+use Rattle.r6_frames.specs.Views.{use_at, row_in}
 use Rattle.r6_frames.specs.Calls.{NotHeldBy}
 use Rattle.r6_frames.specs.declared.frames.FrameUse.TheVariants.{Free, Held as HeldIn}
-use Rattle.r6_frames.specs.declared.frames.HeldRow.{HeldRow}
 use Rattle.r6_frames.proofs.Finishing.{count_free-le}
 use Rattle.r6_frames.proofs.Held.{held_within}
 use Rattle.r6_frames.proofs.InUse.{AreInUseFrom, none_past}

@@ -1,4 +1,6 @@
-use Rattle.std.proofs.Common.{sym, ◌∙◌}
+use Rattle.std.proofs.Common.{List, sym, ap, ◌∙◌}
+use Rattle.r6_frames.specs.declared.directs.Direct.{Direct}
+use Rattle.r6_frames.specs.Directs.{direct_at}
 use Rattle.r6_frames.specs.Inside.{view_of}
 use Rattle.r6_frames.specs.Views.{hold_at}
 use Rattle.r6_frames.proofs.Held.{rows_kept}
@@ -14,3 +16,6 @@ returns-clause-loses c =
 
 pub returns-clause-rows : goal.returns-clause-rows
 returns-clause-rows c = λ frame. rows_kept (hold_at c.take_out.new.self.held.items frame) (hold_at c.come_home.new.self.held.items frame) (c.come_home.ensures.holds frame) ∙ c.take_out.ensures.rows frame
+
+pub returns-clause-readers : goal.returns-clause-readers
+returns-clause-readers c = λ number. c.come_home.ensures.readers number ∙ ap (λ (ds : List Direct). (direct_at ds number).read) c.take_out.ensures.directs

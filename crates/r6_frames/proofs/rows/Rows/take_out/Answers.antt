@@ -63,3 +63,9 @@ returns-else-not-self-clause-owed c = (live c).same_owed
 
 pub returns-else-not-self-clause-requests : goal.returns-else-not-self-clause-requests
 returns-else-not-self-clause-requests c = (live c).same_requests
+
+pub returns-then-not-self-clause-directs : goal.returns-then-not-self-clause-directs
+returns-then-not-self-clause-directs c = ap (λ (fs : FramesState). fs.directs) c.replace_device.ensures.without.same
+
+pub returns-else-not-self-clause-directs : goal.returns-else-not-self-clause-directs
+returns-else-not-self-clause-directs c = ap (λ (fs : FramesState). fs.directs) c.replace_device.ensures.without.same

@@ -1,0 +1,59 @@
+use Rattle.std.proofs.Common.{◌≡◌, ◌-◌, List, set, Some, None, sym, ap, subst, ◌∙◌}
+use Rattle.std.proofs.lemmas.List.{set-set}
+use Rattle.r6_frames.specs.declared.directs.Direct.{Direct}
+use Rattle.r6_frames.specs.FramesState.{FramesState}
+use Rattle.r6_frames.specs.Inside.{view_of, commands_in}
+use Rattle.r6_frames.specs.Views.{outstanding}
+use Rattle.r6_frames.specs.Directs.{direct_at, left_by, returned}
+use Rattle.r6_frames.specs.Reads.{AnswersRead}
+use Rattle.r6_frames.specs.Sound.{IsSound}
+use Rattle.r6_frames.proofs.DirectReads.{direct_own}
+use Rattle.r6_frames.proofs.DirectUses.{frees_direct}
+use Rattle.r6_frames.proofs.DirectSteps.{read_in, answered_sound, answered, within_answered, live_answered}
+use Rattle.r6_frames.proofs.rows.Rows.answer_read.Goals.{Joined-command}
+use Rattle.r6_frames.proofs.rows.Rows.answer_read.Goals as goal
+
+there : (c : Joined-command) → outstanding (view_of c.args.self.now) c.args.token ≡ Some c.in-Some.command
+there c = sym c.remove.ensures.entry ∙ c.in-Some.is
+
+has : (c : Joined-command) → (direct_at c.args.self.now.directs.items (c.in-Some.command.frame - 64)).read ≡ Some c.in-Some-take_read.read
+has c = sym c.take_read.ensures.read ∙ c.in-Some-take_read.is
+
+-- the frames that are left
+left : (c : Joined-command) → read_in (view_of c.args.self.now) c.args.token (c.in-Some.command.frame - 64) c.in-Some-take_read.read
+    ≡ record (view_of c.args.self.now) { commands = commands_in c.remove.new.self; directs = c.bring_back.new.directs.items }
+left c =
+    let fs = view_of c.args.self.now in
+    let number = c.in-Some.command.frame - 64 in
+    let r = c.in-Some-take_read.read in
+    let none = left_by (direct_at fs.directs number) in
+    let within = within_answered fs c.args.token c.in-Some.command r c.requires.sound c.requires.awaited c.requires.wanted c.requires.read (there c) (has c) in
+    let directs : c.bring_back.new.directs.items ≡ set fs.directs number (record { read = None; buffer = Some r.buffer }) =
+    c.bring_back.ensures ∙ ap (λ (ds : List Direct). set ds number (returned (direct_at ds number) r.buffer)) c.take_read.ensures.left
+    ∙ ap (λ (d : Direct). set (set fs.directs number none) number (returned d r.buffer)) (direct_own fs.directs number none within)
+    ∙ set-set fs.directs number none (returned none r.buffer) in
+    let commands = ap commands_in c.remove.ensures.rest in
+    sym (λ i. record fs { commands = commands i; directs = directs i })
+
+pub returns-clause-sound : goal.returns-clause-sound
+returns-clause-sound c =
+    subst IsSound (left c)
+    (answered_sound (view_of c.args.self.now) c.args.token c.in-Some.command c.in-Some-take_read.read c.requires.sound c.requires.awaited c.requires.wanted c.requires.read (there c) (has c))
+
+pub returns-clause-live : goal.returns-clause-live
+returns-clause-live c =
+    live_answered (view_of c.args.self.now) c.args.token c.in-Some.command c.in-Some-take_read.read c.requires.sound c.requires.awaited c.requires.wanted c.requires.read (there c) (has c)
+
+pub returns-clause-answers : goal.returns-clause-answers
+returns-clause-answers c =
+    let fs = view_of c.args.self.now in
+    let r = c.in-Some-take_read.read in
+    subst (AnswersRead fs c.args.token c.args.buffer _) (left c)
+    (answered fs c.args.token c.in-Some.command r c.requires.sound c.requires.awaited c.requires.wanted c.requires.read (there c) (has c) c.args.buffer)
+
+pub returns-clause-frees : goal.returns-clause-frees
+returns-clause-frees c =
+    let fs = view_of c.args.self.now in
+    let number = c.in-Some.command.frame - 64 in
+    let directs = ap (λ (x : FramesState). x.directs) (sym (left c)) in
+    (number, frees_direct fs (record fs { commands = commands_in c.remove.new.self; directs = c.bring_back.new.directs.items }) number _ directs)

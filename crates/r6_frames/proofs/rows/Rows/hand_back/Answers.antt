@@ -1,0 +1,45 @@
+use Rattle.std.proofs.Common.{◌≡◌, ℕ, List, Option, Some, refl, sym, subst, ◌∙◌}
+use Rattle.std.specs.Prelude.{MatchOption}
+use Rattle.r6_frames.specs.declared.directs.Direct.{Direct}
+use Rattle.r6_frames.specs.declared.directs.DirectRead.{DirectRead}
+use Rattle.r6_frames.specs.declared.op.Request.{Request}
+use Rattle.r6_frames.specs.Inside.{view_of}
+use Rattle.r6_frames.specs.Directs.{read_request}
+use Rattle.r6_frames.specs.Reads.{HandsBack, IsFirstStopped, NoneStopped}
+use Rattle.r6_frames.specs.Sound.{IsSound}
+use Rattle.r6_frames.proofs.DirectCommands.{back_sound}
+use Rattle.r6_frames.proofs.DirectSteps.{hands_back}
+use Rattle.r6_frames.proofs.DirectUses.{fewer_readers}
+use Rattle.r6_frames.proofs.FirstStopped.{read_within}
+use Rattle.r6_frames.proofs.rows.Rows.hand_back.Goals.{After-request}
+use Rattle.r6_frames.proofs.rows.Rows.hand_back.Goals as goal
+
+-- the read that is taken is the first that has stopped
+taken : (c : After-request) → IsFirstStopped (view_of c.args.self.now) c.in_ok-number.number c.in-Some.read
+taken c =
+    let fs = view_of c.args.self.now in
+    let Tells : Option ℕ → Type 0 = λ number. MatchOption number (NoneStopped fs) (λ number. (r : DirectRead) × IsFirstStopped fs number r) in
+    let first = subst Tells c.in_ok-number.was c.first_stopped.ensures in
+    let both : Some first.0 ≡ Some c.in-Some.read = sym first.1.0.0 ∙ sym c.take_read.ensures.read ∙ c.in-Some.is in
+    let same : first.0 ≡ c.in-Some.read = cc in
+    subst (IsFirstStopped fs c.in_ok-number.number) same first.1
+
+pub returns-clause-sound : goal.returns-clause-sound
+returns-clause-sound c =
+    let fs = view_of c.args.self.now in
+    let first = taken c in
+    subst (λ (ds : List Direct). IsSound (record fs { directs = ds })) (sym c.take_read.ensures.left)
+    (back_sound fs c.in_ok-number.number c.in-Some.read c.requires.sound first.0.0 first.0.1 (read_within fs.directs c.in_ok-number.number c.in-Some.read first.0.0))
+
+pub returns-clause-back : goal.returns-clause-back
+returns-clause-back c =
+    let fs = view_of c.args.self.now in
+    let first = taken c in
+    subst (λ (request : Request). HandsBack fs request (record fs { directs = c.take_read.new.directs.items })) (sym c.request.ensures)
+    (subst (λ (ds : List Direct). HandsBack fs (read_request c.in-Some.read) (record fs { directs = ds })) (sym c.take_read.ensures.left)
+    (hands_back fs c.in_ok-number.number c.in-Some.read c.requires.sound first (read_within fs.directs c.in_ok-number.number c.in-Some.read first.0.0)))
+
+pub returns-clause-readers : goal.returns-clause-readers
+returns-clause-readers c =
+    let fs = view_of c.args.self.now in
+    fewer_readers fs (record fs { directs = c.take_read.new.directs.items }) c.in_ok-number.number _ refl c.take_read.ensures.left

@@ -1,0 +1,94 @@
+use Rattle.std.proofs.Common.{refl, true, ◌≡◌, ℕ, ◌+◌, List, set, Some, None, sym, ap, subst, ◌∙◌, arith}
+use Rattle.r6_layout.specs.Layout as layout
+use Rattle.r6_stripe.specs.Plans.{is_in_sync}
+use Rattle.r6_world.specs.ShardStates.{frames, standing_of}
+use Rattle.r6_frames.specs.declared.command.CommandKind.TheVariants as command
+use Rattle.r6_frames.specs.Inside.{view_of, commands_in}
+use Rattle.r6_frames.specs.Slots.{slot_in, states_of, generation_of}
+use Rattle.r6_frames.specs.Directs.{direct_at}
+use Rattle.r6_frames.specs.Reads.{ReadsDirectly}
+use Rattle.r6_frames.specs.Sound.{IsSound}
+use Rattle.r6_frames.proofs.CommandComes.{pushed}
+use Rattle.r6_frames.proofs.DirectCommands.{read_sound, room_for_read}
+use Rattle.r6_frames.proofs.DirectUses.{takes_direct}
+use Rattle.r6_frames.proofs.DirectSteps.{free_parts, read_out, own_row, slot_below, reads_directly}
+use Rattle.r6_frames.proofs.rows.Rows.read.Goals.{After-push}
+use Rattle.r6_frames.proofs.rows.Rows.read.Goals as goal
+
+pub push-requires-clause-room : goal.push-requires-clause-room
+push-requires-clause-room c =
+    let fs = view_of c.args.self.now in
+    let free = free_parts (direct_at fs.directs c.args.number) c.requires.free.1 in
+    let row = layout.row_of fs.geometry c.args.served.block in
+    let slot = layout.slot_at fs.geometry row (layout.index_of fs.geometry c.args.served.block) in
+    let generation = c.in-Some.generation in
+    let own = own_row fs c.args.number generation c.args.served c.args.buffer free.1 c.requires.sound c.requires.live c.requires.free.0 free.2 free.0 c.requires.request in
+    let below = slot_below fs c.args.number generation c.args.served c.args.buffer free.1 c.requires.sound c.requires.live c.requires.free.0 free.2 free.0 c.requires.request in
+    let slot_is = c.requires.place.slot ∙ (λ i. layout.slot_at fs.geometry (c.requires.place.row i) (c.requires.place.index i)) in
+    let synced = sym (λ i. is_in_sync (standing_of (states_of fs.slots (slot_is i)) (c.requires.place.row i))) ∙ c.requires.synced in
+    let room = room_for_read fs c.args.number slot generation row c.args.served c.args.buffer free.1 c.requires.sound c.requires.live c.requires.free.0 free.2 below own c.requires.request refl synced in
+    let capacity = c.requires.room.command_room in
+    omega arith
+
+-- where the block stands
+row_is : (c : After-push) → c.args.place.row ≡ layout.row_of c.args.self.now.geometry c.args.served.block
+row_is c = c.requires.place.row
+
+slot_is : (c : After-push) → c.args.place.slot ≡ layout.slot_at c.args.self.now.geometry (layout.row_of c.args.self.now.geometry c.args.served.block) (layout.index_of c.args.self.now.geometry c.args.served.block)
+slot_is c = c.requires.place.slot ∙ (λ i. layout.slot_at c.args.self.now.geometry (c.requires.place.row i) (c.requires.place.index i))
+
+abbrev block_in : After-push → List ℕ
+block_in c = (free_parts (direct_at c.args.self.now.directs.items c.args.number) c.requires.free.1).1
+
+home : (c : After-push) → (direct_at c.args.self.now.directs.items c.args.number).buffer ≡ Some (block_in c)
+home c = (free_parts (direct_at c.args.self.now.directs.items c.args.number) c.requires.free.1).2
+
+none : (c : After-push) → (direct_at c.args.self.now.directs.items c.args.number).read ≡ None
+none c = (free_parts (direct_at c.args.self.now.directs.items c.args.number) c.requires.free.1).0
+
+-- the frames that are left
+left : (c : After-push)
+    → read_out (view_of c.args.self.now) c.args.number c.in-Some.generation c.args.served c.args.buffer (block_in c) c.requires.sound c.requires.live c.requires.free.0 (home c) (none c) c.requires.request
+    ≡ record (view_of c.args.self.now) { commands = commands_in c.push.new.self; directs = c.lend-lent.new.directs.items }
+left c =
+    let fs = view_of c.args.self.now in
+    let buffer = c.lend-lent.ensures.buffer ∙ home c in
+    let commands =
+    ap commands_in c.push.ensures.entry
+    ∙ (λ i. pushed fs.commands (record { frame = frames + c.args.number; slot = slot_is c i; generation = c.in-Some.generation; row = row_is c i; kind = command.Read; buffer = buffer i })) in
+    let directs =
+    c.lend-lent.ensures.lent
+    ∙ (λ i. set fs.directs c.args.number (record { read = Some (record { served = c.args.served; slot = slot_is c i; token = c.next-token.ensures i; buffer = c.args.buffer }); buffer = None })) in
+    sym (λ i. record fs { commands = commands i; directs = directs i })
+
+synced : (c : After-push) → (let fs = view_of c.args.self.now in
+    let row = layout.row_of fs.geometry c.args.served.block in
+    is_in_sync (standing_of (states_of fs.slots (layout.slot_at fs.geometry row (layout.index_of fs.geometry c.args.served.block))) row) ≡ true)
+synced c = sym (λ i. is_in_sync (standing_of (states_of c.args.self.now.slots (slot_is c i)) (row_is c i))) ∙ c.requires.synced
+
+pub returns-clause-sound : goal.returns-clause-sound
+returns-clause-sound c =
+    let fs = view_of c.args.self.now in
+    let row = layout.row_of fs.geometry c.args.served.block in
+    let slot = layout.slot_at fs.geometry row (layout.index_of fs.geometry c.args.served.block) in
+    let own = own_row fs c.args.number c.in-Some.generation c.args.served c.args.buffer (block_in c) c.requires.sound c.requires.live c.requires.free.0 (home c) (none c) c.requires.request in
+    let below = slot_below fs c.args.number c.in-Some.generation c.args.served c.args.buffer (block_in c) c.requires.sound c.requires.live c.requires.free.0 (home c) (none c) c.requires.request in
+    subst IsSound (left c)
+    (read_sound fs c.args.number slot c.in-Some.generation row c.args.served c.args.buffer (block_in c) c.requires.sound c.requires.live c.requires.free.0 (home c) below own c.requires.request refl (synced c))
+
+pub returns-clause-reads : goal.returns-clause-reads
+returns-clause-reads c =
+    let fs = view_of c.args.self.now in
+    let has : generation_of (slot_in fs.slots c.args.place.slot).device ≡ Some c.in-Some.generation = sym c.generation.ensures ∙ c.in-Some.is in
+    subst (ReadsDirectly fs c.args.number c.args.served) (left c)
+    (reads_directly fs c.args.number c.in-Some.generation c.args.served c.args.buffer (block_in c) c.requires.sound c.requires.live c.requires.free.0 (home c) (none c) c.requires.request
+    c.requires.numbers
+    (synced c)
+    (sym (λ i. generation_of (slot_in fs.slots (slot_is c i)).device) ∙ has))
+
+pub returns-clause-taken : goal.returns-clause-taken
+returns-clause-taken c =
+    let fs = view_of c.args.self.now in
+    let count = c.requires.sound.directs.count in
+    let below = c.requires.free.0 in
+    takes_direct fs (record fs { commands = commands_in c.push.new.self; directs = c.lend-lent.new.directs.items }) c.args.number _ (omega arith) c.lend-lent.ensures.lent
