@@ -23,9 +23,11 @@ use Rattle.r6_core.specs.declared.state.State.{State}
 use Rattle.r6_frames.specs.Views.{op_of, buffer_of, hold_at, held_requests}
 use Rattle.r6_frames.specs.Calls.{IsRequestOf}
 use Rattle.r6_frames.specs.Owed.{owed, owed_by, owed_in, is_unsent}
-use Rattle.r6_core.specs.Shards.{state_of, layout_in, requests_of, waiting_request, replied_requests, core_of}
-use Rattle.r6_core.specs.Refusals.{limit, most_unanswered, HasSubmitFault, HasNone, submit_faults}
-use Rattle.r6_core.specs.Inside.{IsSound, IsSettled, AreRequests, bound, most_tokens}
+use Rattle.r6_core.specs.Shards.{state_of, layout_in, framed_requests, requests_of, waiting_request, replied_requests, core_of}
+use Rattle.r6_world.specs.ShardStates.{limit}
+use Rattle.r6_core.specs.Refusals.{most_unanswered, HasSubmitFault, HasNone, submit_faults}
+use Rattle.r6_frames.specs.Directs.{read_requests}
+use Rattle.r6_core.specs.Inside.{IsSound, IsSettled, AreRequests, count_unheld, most_tokens}
 use Rattle.r6_core.proofs.Passed.{all-append}
 use Rattle.r6_frames.proofs.Lists.{Entries, table, came, none_of, distinct_with, all_with}
 
@@ -43,7 +45,7 @@ all_below_more n (k ∷ ks) h = (let below = h.0 in omega arith, all_below_more 
 
 -- the requests that don't wait
 abbrev pub others : State → Entries Request
-others s = held_requests s.frames ++ replied_requests s.frames.saw_failed s.released s.replies.items
+others s = framed_requests s.frames ++ replied_requests s.frames.saw_failed s.released s.replies.items
 
 pub record IsAccepted (s : State) (r : Entered) (new : Entries Request) : Type 0 where
   pub now : table new ≡ put (table (requests_of s)) r.id (Some (record { op = op_of r.op; stage = Waiting }))
@@ -92,16 +94,29 @@ owed_in-le slots (uses.Held h ∷ held) wide =
     let own = owed_by-le slots h (wide zero h refl) in
     omega (arith, suc-mul (length held) (2 * slots), rest, own)
 
--- with so few frames, so few requests that wait, and one more that comes, so many commands may come at most
-room_for : (slots waiting held owes : ℕ) → slots ≤ 32 → owes ≤ held * (2 * slots) → held ≡ frames → waiting + 1 ≤ most_unanswered
-    → owes + 2 * slots * (waiting + 1) ≤ 2 * 32 * (most_unanswered + frames)
-room_for slots waiting held owes few at_most_owes count all =
-    let both : (held + (waiting + 1)) * (2 * slots) ≡ held * (2 * slots) + (waiting + 1) * (2 * slots) = add-mul held (waiting + 1) (2 * slots) in
-    let turned : 2 * slots * (waiting + 1) ≡ (waiting + 1) * (2 * slots) = mul_comm (2 * slots) (waiting + 1) in
-    let rows : held + (waiting + 1) ≤ 320 = omega (arith, count, all) in
+-- with so few frames, and so few requests that wait or may wait again, so many commands may come at most
+pub room_for_all : (slots waiting held owes : ℕ) → slots ≤ 32 → owes ≤ held * (2 * slots) → held ≡ frames → waiting ≤ most_unanswered
+    → owes + 2 * slots * waiting ≤ 2 * 32 * (most_unanswered + frames)
+room_for_all slots waiting held owes few at_most_owes count all =
+    let both : (held + waiting) * (2 * slots) ≡ held * (2 * slots) + waiting * (2 * slots) = add-mul held waiting (2 * slots) in
+    let turned : 2 * slots * waiting ≡ waiting * (2 * slots) = mul_comm (2 * slots) waiting in
+    let rows : held + waiting ≤ 320 = omega (arith, count, all) in
     let commands : 2 * slots ≤ 64 = omega arith in
-    let at_most : (held + (waiting + 1)) * (2 * slots) ≤ 320 * 64 = mul-le-mul rows commands in
+    let at_most : (held + waiting) * (2 * slots) ≤ 320 * 64 = mul-le-mul rows commands in
     omega (arith, both, turned, at_most, at_most_owes)
+
+-- those that wait or may wait again are among the unanswered
+parts_counted : (s : State) → IsSound s
+    → length s.waiting.items + (length (held_requests s.frames) + length (read_requests s.frames) + length (replied_requests s.frames.saw_failed s.released s.replies.items)) ≡ s.unanswered
+parts_counted s sound =
+    let w = length-map s.waiting.items waiting_request in
+    let all = length-append (map waiting_request s.waiting.items) (others s) in
+    let rest = length-append (framed_requests s.frames) (replied_requests s.frames.saw_failed s.released s.replies.items) in
+    let framed = length-append (held_requests s.frames) (read_requests s.frames) in
+    omega (arith, w, all, rest, framed, sound.requests.counted)
+
+pub few_unheld : (s : State) → IsSound s → count_unheld s ≤ most_unanswered
+few_unheld s sound = omega (arith, parts_counted s sound, sound.requests.few)
 
 -- ---- the state with one more request
 
@@ -129,13 +144,9 @@ accepted_core s o core right sized =
     let fresh : s.accepted < limit = lt_of_not-le (λ le. right.1.1.1.1.0 (inr le)) in
     let few : s.unanswered < most_unanswered = lt_of_not-le right.1.1.1.1.1.0 in
     let longer : length (s.waiting.items ++ r ∷ []) ≡ length s.waiting.items + 1 = length-append s.waiting.items (r ∷ []) in
-    let counted : length s.waiting.items + (length (held_requests s.frames) + length (replied_requests s.frames.saw_failed s.released s.replies.items)) ≡ s.unanswered =
-    ap (λ n. n + (length (held_requests s.frames) + length (replied_requests s.frames.saw_failed s.released s.replies.items))) (sym (length-map s.waiting.items waiting_request))
-    ∙ ap (λ n. length (map waiting_request s.waiting.items) + n) (sym (length-append (held_requests s.frames) (replied_requests s.frames.saw_failed s.released s.replies.items)))
-    ∙ sym (length-append (map waiting_request s.waiting.items) (others s)) ∙ sound.requests.counted in
     let owes = owed_in-le s.frames.geometry.slots s.frames.held (λ frame h is. (sound.frames.frames.rows frame h is).wide) in
-    let room = room_for s.frames.geometry.slots (length s.waiting.items) (length s.frames.held) (owed s.frames) sound.frames.shape.slots_allowed.1 owes sound.frames.frames.count (omega (arith, counted, few)) in
-    let all : bound s + 0 ≡ bound s = omega arith in
+    let many : length s.waiting.items + 1 + length (read_requests s.frames) ≤ most_unanswered = omega (arith, parts_counted s sound, few) in
+    let room = room_for_all s.frames.geometry.slots (length s.waiting.items + 1 + length (read_requests s.frames)) (length s.frames.held) (owed s.frames) sound.frames.shape.slots_allowed.1 owes sound.frames.frames.count many in
     record {
       sound = record {
         frames = sound.frames;
@@ -154,11 +165,12 @@ accepted_core s o core right sized =
           calls = sound.room.calls;
           few_calls = sound.room.few_calls;
         };
-        tokens = subst (λ n. s.frames.commands.next + owed s.frames + 2 * s.frames.geometry.slots * n ≤ most_tokens) (sym longer) (omega (arith, room, tokens));
+        tokens = subst (λ n. s.frames.commands.next + owed s.frames + 2 * s.frames.geometry.slots * (n + length (read_requests s.frames)) ≤ most_tokens) (sym longer) (omega (arith, room, tokens));
         accepted = omega (arith, fresh);
         counted = sound.counted;
         next_rows = sound.next_rows;
       };
+      reading = core.reading;
       rested = core.rested;
     }
 

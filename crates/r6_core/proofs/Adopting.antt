@@ -1,11 +1,12 @@
 -- A look takes over what the register has of each slot.
-use Rattle.std.proofs.Common.{◌≡◌, ◌≢◌, ℕ, Bool, true, false, cond, ◌+◌, ◌*◌, ◌<◌, ◌≤◌, [], ◌++◌, map, refl, sym, ap, subst, ◌∙◌, inl, inr, length, arith}
+use Rattle.std.proofs.Common.{◌≡◌, ◌≢◌, ℕ, Bool, true, false, cond, ◌+◌, ◌*◌, ◌<◌, ◌≤◌, [], ◌++◌, map, refl, sym, ap, subst, ◌∙◌, Option, inl, inr, length, take, drop, arith, append-nil}
 use Rattle.std.specs.Prelude.{nat_eq}
 use Rattle.std.specs.List.{IsDistinct, AllByRecursion}
 use Rattle.std.specs.Map.{keys_of}
 use Rattle.std.proofs.lemmas.Bool.{cases_lt, ne_eqb, eq-eqb}
 use Rattle.r6_world.specs.Tables.{put}
 use Rattle.r6_world.specs.Registers.{Snapshot, status_of}
+use Rattle.r6_world.specs.ShardStates as shards
 use Rattle.r6_world.specs.ShardStates.{Shard}
 use Rattle.r6_world.specs.Changes.{Adopt, adopted, differs, taken_out, after}
 use Rattle.r6_world.specs.Steps.{TakesOver, Through}
@@ -14,18 +15,20 @@ use Rattle.r6_frames.specs.declared.slots.Device.{Device}
 use Rattle.r6_frames.specs.Slots as slots
 use Rattle.r6_frames.specs.Slots.{states_of}
 use Rattle.r6_frames.specs.Views.{held_requests, shard_with}
-use Rattle.r6_frames.specs.Calls.{KeepsRows, TakesOut}
+use Rattle.r6_frames.specs.Directs.{direct_at, read_requests}
+use Rattle.r6_frames.specs.Calls.{KeepsDirects, KeepsRows, TakesOut, entry_on}
 use Rattle.r6_frames.specs.Owed.{owed}
 use Rattle.r6_frames.specs.Sound as held
-use Rattle.r6_frames.proofs.Lists.{table}
 use Rattle.r6_core.specs.declared.state.State.{State}
-use Rattle.r6_core.specs.Shards.{state_of, rest_of, layout_in, requests_of, waiting_request, replied_requests, core_of}
+use Rattle.r6_core.specs.Shards.{state_of, rest_of, layout_in, requests_of, core_of}
 use Rattle.r6_core.specs.Order.{Agrees, SameReplies}
-use Rattle.r6_core.specs.Inside.{SameFrames, NoCalls, IsSound, bound, most_tokens, count_untold, SameCalls, Seen}
+use Rattle.r6_core.specs.Inside.{HandsBack, IsSettled, KeepsShard, ReadAgain, SameFrames, NoCalls, IsSound, bound, most_tokens, count_untold, SameCalls, Seen}
 use Rattle.r6_core.proofs.CountedRows.{counted_kept, same_or_fewer}
 use Rattle.r6_core.proofs.Throughs.{through_both, through_in, through_one}
 use Rattle.r6_core.proofs.Kept.{own_rows_kept, requests_kept, sizes_kept}
-use Rattle.r6_core.proofs.NoneReading.{none_reading}
+use Rattle.r6_core.proofs.HandedBack.{were_read}
+use Rattle.r6_core.proofs.ReadOn.{keys_on, requests_on, tables_on}
+use Rattle.r6_core.proofs.Replied.{as_many}
 
 -- the first slots are as the look has them, the others as they were
 pub record IsAdopting (s new : State) (seen : Snapshot) (count : ℕ) (went_out : Bool) : Type 0 where
@@ -40,6 +43,7 @@ pub record IsAdopting (s new : State) (seen : Snapshot) (count : ℕ) (went_out 
   pub order : Seen SameReplies s new
   pub unanswered : new.unanswered ≡ s.unanswered
   pub waiting : new.waiting ≡ s.waiting
+  pub directs : KeepsDirects s.frames new.frames
 
 pub adopting_none : (s : State) (seen : Snapshot) → IsSound s → IsAdopting s s seen 0 false
 adopting_none s seen sound =
@@ -55,11 +59,12 @@ adopting_none s seen sound =
       order = (refl, refl);
       unanswered = refl;
       waiting = refl;
+      directs = refl;
     }
 
 -- the slots when one is taken out
 states-taken : (s : State) (slot : ℕ) (device : Device) (fs : Frames) → TakesOut s.frames slot device fs → states_of fs.slots ≡ put (states_of s.frames.slots) slot (slots.state_of device)
-states-taken s slot device fs takes = ap (λ (x : Shard). x.slot) (takes.2 (rest_of s) (none_reading s))
+states-taken s slot device fs takes = ap (λ (x : Shard). x.slot) (takes.2 (rest_of s))
 
 put-here : {A : Type 0} (f : ℕ → A) (k : ℕ) (v : A) → put f k v k ≡ v
 put-here f k v = ap (λ b. cond b v (f k)) (eq-eqb k k refl)
@@ -71,28 +76,32 @@ abbrev with_frames : State → Frames → State
 with_frames s fs = record s { frames = fs }
 
 module _ (s : State) (slot : ℕ) (device : Device) (fs : Frames) (takes : TakesOut s.frames slot device fs) (requests : held_requests fs ≡ held_requests s.frames) where
-  requests-taken : requests_of (with_frames s fs) ≡ requests_of s
+  requests-taken : requests_of (with_frames s fs) ≡ map (entry_on fs) (requests_of s)
   requests-taken =
-      let failed : fs.saw_failed ≡ s.frames.saw_failed = ap (λ (x : Shard). x.saw_failed) (takes.2 (rest_of s) (none_reading s)) in
-      λ i. map waiting_request s.waiting.items ++ (requests i ++ replied_requests (failed i) s.released s.replies.items)
+      let failed : fs.saw_failed ≡ s.frames.saw_failed = ap (λ (x : Shard). x.saw_failed) (takes.2 (rest_of s)) in
+      requests_on s (with_frames s fs) refl refl refl requests takes.3 failed
 
   state-taken : state_of (with_frames s fs) ≡ taken_out (layout_in s) (state_of s) slot (slots.state_of device)
-  state-taken = (λ i. shard_with (record (rest_of s) { request = table (requests-taken i) }) fs) ∙ takes.2 (rest_of s) (none_reading s)
+  state-taken =
+      ap (λ (request : ℕ → Option shards.Request). shard_with (record (rest_of s) { request = request }) fs) (tables_on s fs _ requests-taken)
+      ∙ takes.2 (rest_of s)
 
 -- a slot went out, while no call is to be made
 sound_taken : (s : State) (slot : ℕ) (device : Device) (fs : Frames) → IsSound s → NoCalls s → TakesOut s.frames slot device fs → held.IsSound fs
     → fs.commands.next ≡ s.frames.commands.next → owed fs ≡ owed s.frames → held_requests fs ≡ held_requests s.frames → KeepsRows s.frames fs → IsSound (with_frames s fs)
 sound_taken s slot device fs sound told takes is next owes requests rows =
-    let same = requests-taken s slot device fs takes requests in
+    let same : keys_of (requests_of (with_frames s fs)) ≡ keys_of (requests_of s) =
+    ap keys_of (requests-taken s slot device fs takes requests) ∙ keys_on fs (requests_of s) in
+    let reads = as_many (read_requests fs) (read_requests s.frames) (ap keys_of takes.3 ∙ keys_on fs (read_requests s.frames)) in
     let no_calls = ap length told.0 in
     let no_untold = ap count_untold told.1 in
-    let bounds : bound (with_frames s fs) ≡ bound s = λ i. next i + owes i + 2 * (takes.0 i).slots * length s.waiting.items in
+    let bounds : bound (with_frames s fs) ≡ bound s = λ i. next i + owes i + 2 * (takes.0 i).slots * (length s.waiting.items + reads i) in
     record {
       frames = is;
       requests = record {
-        distinct = subst (λ es. IsDistinct nat_eq (keys_of es)) (sym same) sound.requests.distinct;
-        numbered = subst (λ es. AllByRecursion (λ id. id < s.accepted) (keys_of es)) (sym same) sound.requests.numbered;
-        counted = ap length same ∙ sound.requests.counted;
+        distinct = subst (IsDistinct nat_eq) (sym same) sound.requests.distinct;
+        numbered = subst (AllByRecursion (λ id. id < s.accepted)) (sym same) sound.requests.numbered;
+        counted = as_many (requests_of (with_frames s fs)) (requests_of s) same ∙ sound.requests.counted;
         few = sound.requests.few;
         waiting = requests_kept s.frames fs s.waiting.items takes.0 takes.1 sound.requests.waiting;
         sized = sizes_kept s.frames.geometry fs.geometry s.replies.items takes.0 sound.requests.sized;
@@ -115,8 +124,8 @@ pub adopting_out : (s mid : State) (seen : Snapshot) (slot : ℕ) (went_out : Bo
     → slot < mid.frames.geometry.slots → differs (states_of mid.frames.slots slot) (status_of seen slot) ≡ true
     → slots.state_of device ≡ adopted (states_of mid.frames.slots slot) (status_of seen slot)
     → TakesOut mid.frames slot device fs → held.IsSound fs → fs.commands.next ≡ mid.frames.commands.next → owed fs ≡ owed mid.frames → held_requests fs ≡ held_requests mid.frames
-    → KeepsRows mid.frames fs → IsAdopting s (with_frames mid fs) seen (slot + 1) true
-adopting_out s mid seen slot went_out device fs told is lt other becomes takes sound next owes requests rows =
+    → KeepsRows mid.frames fs → KeepsDirects mid.frames fs → IsAdopting s (with_frames mid fs) seen (slot + 1) true
+adopting_out s mid seen slot went_out device fs told is lt other becomes takes sound next owes requests rows directs =
     let status = status_of seen slot in
     let here = is.left slot (omega arith) in
     let states = states-taken mid slot device fs takes in
@@ -144,6 +153,7 @@ adopting_out s mid seen slot went_out device fs told is lt other becomes takes s
       order = is.order;
       unanswered = is.unanswered;
       waiting = is.waiting;
+      directs = directs ∙ is.directs;
     }
 
 -- one more slot was looked at, and stays
@@ -179,6 +189,7 @@ adopting_stay s mid seen slot went_out is agrees stays =
       order = is.order;
       unanswered = is.unanswered;
       waiting = is.waiting;
+      directs = is.directs;
     }
 
 -- when all were looked at
@@ -192,3 +203,34 @@ module _ (s new : State) (seen : Snapshot) (count : ℕ) (went_out : Bool) (is :
 
 pub adopted_some : (s new : State) (seen : Snapshot) (count : ℕ) (went_out : Bool) → IsAdopting s new seen count went_out → went_out ≡ true → Agrees (core_of s) seen → ⊥
 adopted_some s new seen count went_out is some agrees = let there = is.some some in let same = agrees there.0 there.1 in let other = there.2 in absurd (cc)
+
+-- ---- direct reads from the slots that went out wait again
+
+module _ (s mid new : State) (seen : Snapshot) (count : ℕ) (went_out : Bool) (core : IsSettled s) (is : IsAdopting s mid seen count went_out) (back : HandsBack mid new) where
+  pub back_takes : Through (layout_in s) s.frames.shard (TakesOver seen) (state_of s) (state_of new)
+  back_takes = subst (λ x. Through (layout_in s) s.frames.shard (TakesOver seen) (state_of s) x) (sym back.state) is.takes
+
+  pub back_slots : (slot : ℕ) → states_of new.frames.slots slot ≡ states_of mid.frames.slots slot
+  back_slots slot = ap (λ slots. states_of slots slot) back.slots.0
+
+  pub back_keeps : KeepsShard s new
+  back_keeps = ((back.geometry.0 ∙ is.same.0, back.geometry.1 ∙ is.same.1), ap (λ (x : State). x.unanswered) back.rest ∙ is.unanswered)
+
+  pub back_calls : SameCalls s new
+  back_calls = (ap (λ (x : State). x.calls) back.rest ∙ is.calls.0, ap (λ (x : State). x.untold) back.rest ∙ is.calls.1)
+
+  pub back_order : Seen SameReplies s new
+  back_order = (
+    (λ i. drop (back.rest i).released (back.rest i).replies.items) ∙ is.order.0,
+    (λ i. take (back.rest i).released (back.rest i).replies.items) ∙ is.order.1,
+  )
+
+  pub back_again : ReadAgain s new
+  back_again = (
+    back.again,
+    were_read s mid.frames 0 back.again core.sound core.reading (λ number r has. ap (λ ds. (direct_at ds number).read) (sym is.directs) ∙ has) back.were,
+    back.waiting ∙ ap (λ b. b.items ++ back.again) is.waiting,
+  )
+
+pub none_back : (s mid : State) (seen : Snapshot) (count : ℕ) (went_out : Bool) → IsAdopting s mid seen count went_out → ReadAgain s mid
+none_back s mid seen count went_out is = ([], tt, ap (λ b. b.items) is.waiting ∙ sym (append-nil s.waiting.items))

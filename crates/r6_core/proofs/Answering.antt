@@ -1,5 +1,5 @@
 -- A command is answered: its hold goes on, and may end.
-use Rattle.std.proofs.Common.{◌≡◌, ◌⊎◌, ℕ, ◌+◌, ◌≤◌, List, refl, sym, ap, subst, ◌∙◌, Some, None, inl, inr, arith}
+use Rattle.std.proofs.Common.{◌≡◌, ℕ, ◌+◌, ◌≤◌, List, refl, sym, ap, subst, ◌∙◌, Some, None, inl, inr, arith}
 use Rattle.std.specs.List.{AllByRecursion}
 use Rattle.std.proofs.lemmas.Bool.{cases_eq, cases_lt}
 use Rattle.circular_buffer.specs.Buffer.{Buffer}
@@ -8,17 +8,18 @@ use Rattle.r6_world.specs.Steps.{GoesOn, Through, Good, Taken}
 use Rattle.r6_frames.specs.declared.op.Request.{Request}
 use Rattle.r6_frames.specs.declared.frames.Frames.{Frames}
 use Rattle.r6_frames.specs.Views.{row_in, hold_at, held_requests, outstanding, shard_with, AreLive}
-use Rattle.r6_frames.specs.Calls.{Answers, Classifies, Drives, IsAwaited, IsHeldFrame, KeepsOthers, KeepsRows}
+use Rattle.r6_frames.specs.Calls.{Answers, Classifies, Drives, IsAwaited, IsHeldFrame, KeepsDirects, KeepsOthers, KeepsReads, KeepsRows}
 use Rattle.r6_frames.specs.Owed.{owed, IsDriven, IsOver}
 use Rattle.r6_frames.specs.Sound as held
 use Rattle.r6_core.specs.declared.state.State.{State}
 use Rattle.r6_core.specs.Shards.{state_of, rest_of, layout_in}
 use Rattle.r6_core.specs.declared.scan.Freed.{Freed}
-use Rattle.r6_core.specs.declared.scan.Freed.TheVariants.{Nothing, OneFrame}
-use Rattle.r6_core.specs.Inside.{CannotStart, HasFreed, NoneCanStart, IsSound, IsSettled, IsRestedFrame, SameFrames, TakesThrough}
-use Rattle.r6_core.proofs.Waking.{none_more, row_stays}
+use Rattle.r6_core.specs.declared.scan.Freed.TheVariants.{Nothing, One, Any}
+use Rattle.r6_frames.specs.Slots.{states_of}
+use Rattle.r6_core.specs.Inside.{CannotStart, HasEnded, HasFreed, NoneCanStart, IsSound, IsSettled, IsRestedFrame, SameFrames, TakesThrough}
+use Rattle.r6_core.proofs.Waking.{frees_kept, none_more, row_stays}
 use Rattle.r6_core.proofs.Throughs.{through_both, through_in, through_of}
-use Rattle.r6_core.proofs.Going.{Goes, SlotsStay, classifies_on, goes_still, answers_still, gone_state, gone_sound}
+use Rattle.r6_core.proofs.Going.{Goes, SlotsStay, classifies_on, drives_give, drives_still, reading_kept, goes_still, answers_still, gone_state, gone_sound}
 use Rattle.r6_core.proofs.SlotsKept.{out_same}
 use Rattle.r6_core.proofs.Settling.{driven_goes, driven_leads}
 
@@ -49,7 +50,7 @@ live_still old new geometry slots live =
 pub answered_goes : (s : State) (fs : Frames) (token : ℕ) (block : List ℕ) → IsSound s → held.IsSound fs → Answers s.frames token block fs → held_requests fs ≡ held_requests s.frames
     → KeepsRows s.frames fs → (owed fs ≡ owed s.frames) × (fs.commands.next ≡ s.frames.commands.next) → Goes s fs s.calls
 answered_goes s fs token block sound frames answers requests rows tokens =
-    goes_still s fs sound frames answers.0 answers.1 (answers_still s.frames fs token block answers) requests rows (let a = tokens.0 in let b = tokens.1 in omega (arith, a, b)) (let b = tokens.1 in omega (arith, b))
+    goes_still s fs sound frames answers.0 answers.1 (answers_still s.frames fs token block answers) requests answers.3 rows (let a = tokens.0 in let b = tokens.1 in omega (arith, a, b)) (let b = tokens.1 in omega (arith, b))
 
 -- the command is answered, and its hold puts out what comes next
 module _ (s : State) (token : ℕ) (block : List ℕ) (middle driven : Frames) (core : IsSettled s) (sound : held.IsSound middle) (live : AreLive middle) (answers : Answers s.frames token block middle)
@@ -83,14 +84,15 @@ module _ (s : State) (token : ℕ) (block : List ℕ) (middle driven : Frames) (
       let both = through_both (layout_in s) s.frames.shard GoesOn (state_of answered_state) (state_of driven_state) (state_of new) first second in
       let taken = after (layout_in s) (state_of s) took.0 in
       let classed = through_of (layout_in s) s.frames.shard Classifies GoesOn classifies_on taken (shard_with (rest_of s) middle) took.3 in
-      let to_state = subst (Through (layout_in s) s.frames.shard GoesOn taken) (sym (gone_state s middle s.calls first_goes)) classed in
+      let to_state = subst (Through (layout_in s) s.frames.shard GoesOn taken) (sym (gone_state s middle s.calls first_goes answers.3)) classed in
       (took.0, took.1, took.2, through_both (layout_in s) s.frames.shard GoesOn taken (state_of answered_state) (state_of new) to_state both)
 
   pub answered_core : (new : State) (frame : ℕ) → KeepsOthers s.frames frame middle → KeepsOthers middle frame driven → KeepsOthers driven frame new.frames
-      → IsSound new → IsRestedFrame new frame → IsSettled new
-  answered_core new frame kept still others new_sound rests =
+      → KeepsReads driven new.frames → IsSound new → IsRestedFrame new frame → IsSettled new
+  answered_core new frame kept still others reads new_sound rests =
       record {
         sound = new_sound;
+        reading = reading_kept s.frames new.frames (reads ∙ drives.3 ∙ answers.3) core.reading;
         rested = λ _ at. elim (cases_eq at frame) [
           | inl e ↦ subst (IsRestedFrame new) (sym e) rests
           | inr ne ↦
@@ -100,26 +102,38 @@ module _ (s : State) (token : ℕ) (block : List ℕ) (middle driven : Frames) (
       }
 
   -- if but the frame's hold has ended, one request at most can start, and if it hasn't none can
+  slots_same : states_of driven.slots ≡ states_of s.frames.slots
+  slots_same = (drives_still middle driven live driven_live drives).0 ∙ (answers_still s.frames middle token block answers).0
+
+  tokens_same : s.frames.commands.next ≤ driven.commands.next
+  tokens_same = let given = drives_give middle driven drives in let same = tokens.1 in omega arith
+
   pub answered_freed : (new : State) (frame : ℕ) (freed : Freed) → KeepsOthers s.frames frame middle → KeepsOthers middle frame driven → KeepsOthers driven frame new.frames
+      → KeepsDirects s.frames middle → KeepsDirects middle driven
       → NoneCanStart s → IsHeldFrame driven frame → new.waiting ≡ s.waiting → SameFrames driven_state new
-      → (freed ≡ OneFrame) ⊎ ((freed ≡ Nothing) × (new ≡ driven_state)) → HasFreed freed new
-  answered_freed new frame freed kept still others waits held waiting same by =
+      → HasEnded freed driven_state new → HasFreed freed new
+  answered_freed new frame freed kept still others first second waits held waiting same by =
       let shape : driven.geometry ≡ s.frames.geometry = drives.0 ∙ answers.0 in
       let lives : AreLive s.frames = live_still s.frames middle answers.0 (answers_still s.frames middle token block answers) live in
-      elim by [
-        | inl one ↦
-            subst (λ f. HasFreed f new) (sym one) (
-              s.frames,
-              frame,
-              same.0 ∙ shape,
-              (λ alive. lives),
-              (λ other ne. others other ne ∙ still other ne ∙ kept other ne),
-              subst (λ (b : Buffer Request). AllByRecursion (CannotStart s.frames) b.items) (sym waiting) waits,
-            )
-        | inr none ↦
-            subst (λ f. HasFreed f new) (sym none.0)
-            (subst NoneCanStart (sym none.1)
-            (none_more s.frames driven s.waiting.items shape (λ alive. lives)
+      let directs : KeepsDirects s.frames driven = second ∙ first in
+      elim freed as (λ f. HasEnded f driven_state new → HasFreed f new) [
+        | Any ↦ λ any. tt
+        | One ↦ λ one. (
+          s.frames,
+          record {
+            geometry = same.0 ∙ shape;
+            live = λ alive. lives;
+            slots = one.1 ∙ slots_same;
+            tokens = let next = one.2 in let given = tokens_same in omega arith;
+          },
+          inl (frame, (λ other ne. others other ne ∙ still other ne ∙ kept other ne), one.0 ∙ directs),
+          subst (λ (b : Buffer Request). AllByRecursion (CannotStart s.frames) b.items) (sym waiting) waits,
+        )
+        | Nothing ↦ λ none.
+            (subst NoneCanStart (sym none)
+            (none_more s.frames driven s.waiting.items
+            (record { geometry = shape; live = λ alive. lives; slots = slots_same; tokens = tokens_same })
+            (frees_kept s.frames driven directs)
             (λ row unheld at h is at_row.
             let there = row_stays s.frames driven at h (λ f. more_rows f ∙ rows f) is in
             unheld at there.0 there.1 (there.2 ∙ at_row))
@@ -128,4 +142,4 @@ module _ (s : State) (token : ℕ) (block : List ℕ) (middle driven : Frames) (
               | inr ne ↦ (free.0, sym (still at ne ∙ kept at ne) ∙ free.1)
             ])
             waits))
-      ]
+      ] by

@@ -1,23 +1,25 @@
 -- Between public calls, with no request left that could start, a shard is at rest.
-use Rattle.std.proofs.Common.{◌≡◌, ℕ, Bool, true, false, cond, List, [], ◌∷◌, ◌++◌, map, sym, ap, subst, ◌∙◌, Option, Some, None}
+use Rattle.std.proofs.Common.{◌≡◌, ◌≢◌, ◌-◌, refl, ℕ, Bool, true, false, cond, List, [], ◌∷◌, ◌++◌, map, sym, ap, subst, Option, Some, None}
 use Rattle.std.specs.Prelude.{nat_eq, option_map}
 use Rattle.std.specs.List.{AllByRecursion}
-use Rattle.r6_layout.specs.Layout as layout
 use Rattle.r6_layout.specs.Shape.{Shape}
 use Rattle.r6_world.specs.Geometries.{layout_of}
 use Rattle.r6_world.specs.PlainArray as world
-use Rattle.r6_world.specs.ShardStates.{Request, Stage, Waiting, Held, Finished, Released, NotHeld, Reading}
+use Rattle.r6_world.specs.ShardStates.{Request, Stage, Waiting, Held, Finished, Released, NotHeld, CouldStart, Reading}
 use Rattle.r6_world.specs.Steps.{AtRest}
 use Rattle.r6_frames.specs.declared.op.Request.{Request as Entered}
 use Rattle.r6_core.specs.declared.state.State.{State}
-use Rattle.r6_frames.specs.Views.{op_of, hold_of, requests_from}
+use Rattle.r6_frames.specs.Views.{op_of, hold_of, held_requests}
 use Rattle.r6_frames.specs.Calls.{NotHeldBy}
-use Rattle.r6_core.specs.Shards.{state_of, rest_of, layout_in, waiting_request, finished_request, replied_requests}
+use Rattle.r6_core.specs.Shards.{state_of, rest_of, layout_in, framed_requests, waiting_request, finished_request, replied_requests}
+use Rattle.r6_frames.specs.declared.frames.Frames.{Frames}
+use Rattle.r6_frames.specs.Directs.{read_requests}
 use Rattle.r6_core.specs.Order.{MustWait}
-use Rattle.r6_core.specs.Inside.{CannotStart, IsCore, IsSettled, SameFrames}
+use Rattle.r6_core.specs.Inside.{AreReadOn, CannotStart, IsCore, IsReadOn, IsSettled, SameFrames}
 use Rattle.r6_frames.proofs.Lists.{Entries, table, looked_up}
 use Rattle.r6_core.proofs.HeldRequests.{all_held}
 use Rattle.r6_core.proofs.Passed.{all-append}
+use Rattle.r6_core.proofs.ReadOn.{free_direct_is, read_synced, synced_read}
 use Rattle.r6_core.proofs.Replied.{all_replied}
 use Rattle.r6_frames.proofs.Resting.{goes_on, nothing_next, brought_in, free_frame_is}
 
@@ -36,6 +38,21 @@ AllPast es = AllByRecursion (λ e. IsPast e.1.stage) es
 ended_past : (saw_failed : Bool) (r : Entered) → IsPast (finished_request saw_failed r).1.stage
 ended_past true r = tt
 ended_past false r = tt
+
+read_past : (es : Entries Request) → AllByRecursion IsReadOn es → AllPast es
+read_past [] on = tt
+read_past (e ∷ es) on = (by_stage e.1.stage on.0, read_past es on.1)
+  where
+    by_stage : (stage : Stage) → stage ≢ Waiting → IsPast stage
+    by_stage Waiting ne = absurd (ne refl)
+    by_stage (Held f) ne = tt
+    by_stage (Reading token) ne = tt
+    by_stage (Finished reply) ne = tt
+    by_stage (Released reply) ne = tt
+
+framed_past : (fs : Frames) → AreReadOn fs → AllPast (framed_requests fs)
+framed_past fs on =
+    all-append (λ e. IsPast e.1.stage) (held_requests fs) (read_requests fs) (all_held (λ e. IsPast e.1.stage) (λ f r. tt) 0 fs.held) (read_past (read_requests fs) on)
 
 abbrev asked : Option Request → world.Op → world.Op
 asked None op = op
@@ -58,8 +75,14 @@ not_held_by s row not_held frame h is at = not_held frame (hold_of h) (ap (optio
 
 -- what can't start in the frames of the code can't start in the shard
 pub must_wait : (s : State) → IsSettled s → (r : Entered) → CannotStart s.frames r → MustWait (layout_in s) (state_of s) r
-must_wait s core r cannot live not_held frame free =
-    cannot live (not_held_by s _ not_held) frame (free_frame_is (rest_of s) s.frames frame core.sound.frames live free)
+must_wait s core r cannot live could = cannot live (record {
+  buffer = λ synced.
+      let free = could.0 (read_synced (rest_of s) s.frames r.op synced) in
+      (free.0 - 64, free_direct_is (rest_of s) s.frames core.sound.frames core.reading free.0 free.1);
+  frame = λ held.
+      let free = could.1 (λ direct. held (direct.0, synced_read (rest_of s) s.frames r.op direct.1)) in
+      (not_held_by s _ free.0, free.1, free_frame_is (rest_of s) s.frames free.1 core.sound.frames live free.2);
+})
 
 -- ---- at rest
 
@@ -68,12 +91,11 @@ at_rest s core =
     record {
       goes_on = λ live frame h is. goes_on (rest_of s) s.frames core.settled.sound.frames live frame h (core.settled.rested live frame).0 (core.settled.rested live frame).1 is;
       nothing_next = λ live frame h is. nothing_next s.frames frame h (core.settled.rested live frame).0 is;
-      none_could_start = λ live id op is free_row frame free.
-          let rest : Entries Request = requests_from 0 s.frames.held ++ replied_requests s.frames.saw_failed s.released s.replies.items in
-          let past = all-append (λ e. IsPast e.1.stage) (requests_from 0 s.frames.held) _ (all_held (λ e. IsPast e.1.stage) (λ f r. tt) 0 s.frames.held) (all_replied (λ e. IsPast e.1.stage) s.frames.saw_failed (λ r. tt) (ended_past s.frames.saw_failed) s.released s.replies.items) in
+      none_could_start = λ live id op is could.
+          let rest : Entries Request = framed_requests s.frames ++ replied_requests s.frames.saw_failed s.released s.replies.items in
+          let past = all-append (λ e. IsPast e.1.stage) (framed_requests s.frames) _ (framed_past s.frames core.settled.reading) (all_replied (λ e. IsPast e.1.stage) s.frames.saw_failed (λ r. tt) (ended_past s.frames.saw_failed) s.released s.replies.items) in
           let there = waits_at (CannotStart s.frames) s.waiting.items rest id op past core.waits is in
-          let row = ap (λ o. layout.row_of s.frames.geometry (world.block_of o)) there.2 in
-          there.1 live (not_held_by s _ (λ f h held at. free_row f h held (at ∙ sym row))) frame (free_frame_is (rest_of s) s.frames frame core.settled.sound.frames live free);
+          must_wait s core.settled there.0 there.1 live (subst (CouldStart (layout_in s) (state_of s)) there.2 could);
       brought_in = λ live slot built. brought_in (rest_of s) s.frames core.settled.sound.frames slot built;
     }
 

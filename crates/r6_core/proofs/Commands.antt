@@ -1,5 +1,5 @@
 -- What taking a command does to the state.
-use Rattle.std.proofs.Common.{◌≡◌, ℕ, ◌*◌, ◌<◌, ◌≤◌, List, ◌++◌, Bool, length, map, sym, ap, subst, ◌∙◌, Option, Some, None, MatchOption, arith}
+use Rattle.std.proofs.Common.{◌≡◌, ℕ, ◌*◌, ◌<◌, ◌≤◌, List, ◌++◌, Bool, length, map, sym, ap, subst, ◌∙◌, Option, Some, None, MatchOption, arith, ◌+◌}
 use Rattle.std.specs.Prelude.{nat_eq}
 use Rattle.std.specs.List.{IsDistinct, AllByRecursion}
 use Rattle.std.specs.Map.{keys_of}
@@ -12,19 +12,19 @@ use Rattle.r6_frames.specs.declared.command.Command.{Command}
 use Rattle.r6_frames.specs.declared.frames.Frames.{Frames}
 use Rattle.r6_core.specs.declared.state.State.{State}
 use Rattle.r6_frames.specs.Views.{world_command, held_requests, Rest, shard_with, hold_at, use_at, AreLive}
-use Rattle.r6_frames.specs.Calls.{Steps, KeepsHolds}
+use Rattle.r6_frames.specs.Calls.{Steps, KeepsHolds, KeepsReads, KeepsDirects}
 use Rattle.r6_frames.specs.Owed.{owed_in, IsDriven, IsOver}
 use Rattle.r6_frames.specs.Slots.{count_out, states_of}
 use Rattle.r6_frames.specs.Sound as held
 use Rattle.r6_core.specs.Shards.{Step, layout_in, state_of, rest_of, requests_of, waiting_request, replied_requests, core_of}
 use Rattle.r6_core.specs.Effects.{HandsCommand}
-use Rattle.r6_core.specs.Inside.{IsCore, IsSettled, most_calls, count_rows}
+use Rattle.r6_core.specs.Inside.{IsCore, IsSettled, most_calls, count_rows, count_unheld}
 use Rattle.r6_core.proofs.SlotsKept.{calls_same}
 use Rattle.r6_frames.proofs.Lists.{table}
 use Rattle.r6_core.proofs.CountedRows.{counted_kept}
-use Rattle.r6_core.proofs.Going.{no_rest}
+use Rattle.r6_core.proofs.Going.{no_rest, reading_kept}
 use Rattle.r6_core.proofs.Kept.{own_rows_kept, requests_kept, sizes_kept}
-use Rattle.r6_core.proofs.Waking.{none_more}
+use Rattle.r6_core.proofs.Waking.{frees_kept, none_more}
 
 -- a frame that has what it had
 pub rested_kept : (old new : Frames) (frame : ℕ) → hold_at new.held frame ≡ hold_at old.held frame → IsDriven old frame × (IsOver old frame → ⊥) → IsDriven new frame × (IsOver new frame → ⊥)
@@ -34,14 +34,17 @@ rested_kept old new frame same rested = (λ h is. rested.0 h (sym same ∙ is), 
 pub record IsTaken (old new : Frames) : Type 0 where
   pub sound : held.IsSound new
   pub holds : KeepsHolds old new
+  pub reads : KeepsReads old new
+  pub directs : KeepsDirects old new
   pub geometry : new.geometry ≡ old.geometry
   pub shard : new.shard ≡ old.shard
   pub tokens : new.commands.next ≡ old.commands.next
   pub slots : new.slots ≡ old.slots
   pub saw_failed : new.saw_failed ≡ old.saw_failed
 
-same_requests : (s : State) (new : Frames) → KeepsHolds s.frames new → new.saw_failed ≡ s.frames.saw_failed → requests_of (record s { frames = new }) ≡ requests_of s
-same_requests s new holds failed = λ i. map waiting_request s.waiting.items ++ (held_requests (record new { held = holds i }) ++ replied_requests (failed i) s.released s.replies.items)
+same_requests : (s : State) (new : Frames) → KeepsHolds s.frames new → KeepsReads s.frames new → new.saw_failed ≡ s.frames.saw_failed → requests_of (record s { frames = new }) ≡ requests_of s
+same_requests s new holds reads failed =
+    λ i. map waiting_request s.waiting.items ++ ((held_requests (record new { held = holds i }) ++ reads i) ++ replied_requests (failed i) s.released s.replies.items)
 
 live_before : (old new : Frames) → IsTaken old new → AreLive new → AreLive old
 live_before old new is live =
@@ -50,7 +53,7 @@ live_before old new is live =
 taken_core : (s : State) (new : Frames) → IsSettled s → IsTaken s.frames new → IsSettled (record s { frames = new })
 taken_core s new core is =
     let sound = core.sound in
-    let same = same_requests s new is.holds is.saw_failed in
+    let same = same_requests s new is.holds is.reads is.saw_failed in
     let out : most_calls new ≡ most_calls s.frames = calls_same s.frames new (ap states_of is.slots) is.geometry in
     record {
       sound = record {
@@ -71,20 +74,22 @@ taken_core s new core is =
           few_calls = omega (arith, sound.room.few_calls, out);
         };
         tokens =
-            let slots = ap (λ (g : Shape). 2 * g.slots * length s.waiting.items) is.geometry in
+            let slots : 2 * new.geometry.slots * count_unheld (record s { frames = new }) ≡ 2 * s.frames.geometry.slots * count_unheld s =
+            λ i. 2 * (is.geometry i).slots * (length s.waiting.items + length (is.reads i)) in
             let owes = ap (λ held. owed_in held) is.holds in
             omega (arith, slots, owes, is.tokens, sound.tokens);
         accepted = sound.accepted;
         counted = counted_kept s.counts s.frames new sound.counted (λ test. let many = ap (λ held. count_rows test held) is.holds in omega (arith, many)) (let next = is.tokens in omega (arith, next));
         next_rows = own_rows_kept s.frames new s.check_row s.repair_row is.geometry is.shard sound.next_rows;
       };
+      reading = reading_kept s.frames new is.reads core.reading;
       rested = λ live frame.
           rested_kept s.frames new frame (ap (λ held. hold_at held frame) is.holds) (core.rested (live_before s.frames new is live) frame);
     }
 
 step_of : (s : State) (new : Frames) (event : steps.Event) → KeepsHolds s.frames new → new.saw_failed ≡ s.frames.saw_failed → Steps s.frames event new → Step (core_of s) event (core_of (record s { frames = new }))
 step_of s new event holds failed stepped =
-    let same = same_requests s new holds failed in
+    let same = same_requests s new holds stepped.3 failed in
     let rest : List (ℕ × shards.Request) → Rest = λ es. record (rest_of s) { request = table es } in
     ((stepped.0, stepped.1), subst (λ es. steps.Step (layout_in s) s.frames.shard (state_of s) event (shard_with (rest es) new)) (sym same) (stepped.2 (rest_of s)))
 
@@ -94,19 +99,21 @@ TakesCommand old result new = MatchOption result (Steps old No_command new) (λ 
 abbrev pub SameSlots : Frames → Frames → Type 0
 SameSlots old new = (new.slots ≡ old.slots) × (new.saw_failed ≡ old.saw_failed)
 
-is_taken : (old new : Frames) (result : Option Command) → held.IsSound new → KeepsHolds old new → SameSlots old new → TakesCommand old result new → IsTaken old new
-is_taken old new None sound holds same took =
-    record { sound = sound; holds = holds; geometry = took.0; shard = took.1; tokens = ap (λ (s : Shard). s.tokens) (took.2 no_rest).1; slots = same.0; saw_failed = same.1 }
-is_taken old new (Some c) sound holds same took =
+is_taken : (old new : Frames) (result : Option Command) → held.IsSound new → KeepsHolds old new → SameSlots old new → KeepsDirects old new → TakesCommand old result new → IsTaken old new
+is_taken old new None sound holds same directs took =
+    record { sound = sound; holds = holds; reads = took.3; directs = directs; geometry = took.0; shard = took.1; tokens = ap (λ (s : Shard). s.tokens) (took.2 no_rest).1; slots = same.0; saw_failed = same.1 }
+is_taken old new (Some c) sound holds same directs took =
     let stepped = took.2 in
-    record { sound = sound; holds = holds; geometry = stepped.0; shard = stepped.1; tokens = ap (λ (s : Shard). s.tokens) (stepped.2 no_rest).1; slots = same.0; saw_failed = same.1 }
+    record { sound = sound; holds = holds; reads = stepped.3; directs = directs; geometry = stepped.0; shard = stepped.1; tokens = ap (λ (s : Shard). s.tokens) (stepped.2 no_rest).1; slots = same.0; saw_failed = same.1 }
 
-pub taken_rests : (s : State) (new : Frames) (result : Option Command) → IsCore s → held.IsSound new → KeepsHolds s.frames new → SameSlots s.frames new → TakesCommand s.frames result new → IsCore (record s { frames = new })
-taken_rests s new result core sound holds same took =
-    let is = is_taken s.frames new result sound holds same took in
+pub taken_rests : (s : State) (new : Frames) (result : Option Command) → IsCore s → held.IsSound new → KeepsHolds s.frames new → SameSlots s.frames new → KeepsDirects s.frames new → TakesCommand s.frames result new → IsCore (record s { frames = new })
+taken_rests s new result core sound holds same directs took =
+    let is = is_taken s.frames new result sound holds same directs took in
     record {
       settled = taken_core s new core.settled is;
-      waits = none_more s.frames new s.waiting.items is.geometry (live_before s.frames new is)
+      waits = none_more s.frames new s.waiting.items
+          (record { geometry = is.geometry; live = live_before s.frames new is; slots = ap states_of is.slots; tokens = let next = is.tokens in omega arith })
+          (frees_kept s.frames new is.directs)
           (λ row unheld frame h there. unheld frame h (ap (λ held. hold_at held frame) is.holds ∙ there))
           (λ frame free. (free.0, ap (λ held. use_at held frame) (sym is.holds) ∙ free.1)) core.waits;
     }

@@ -1,7 +1,6 @@
 -- A completion is taken, or comes late; with what starts behind it, it is one step of the shard.
 use Rattle.std.proofs.Common.{◌≡◌, ℕ, true, List, [], drop, refl, sym, ap, subst, ◌∙◌, Option, Some, None, Result, Ok, Err, IfOk, arith, append-nil}
 use Rattle.std.specs.Prelude.{option_map}
-use Rattle.circular_buffer.specs.Buffer.{Buffer}
 use Rattle.r6_layout.specs.Shape.{Shape}
 use Rattle.r6_stripe.specs.Plans.{Planned, next}
 use Rattle.r6_stripe.specs.Steps.{has_outcome}
@@ -25,11 +24,12 @@ use Rattle.r6_core.specs.declared.refusal.Receipt.{Receipt}
 use Rattle.r6_core.specs.declared.state.State.{State}
 use Rattle.r6_core.specs.Shards.{Step, completion_of, state_of, rest_of, layout_in, core_of, receipt_of}
 use Rattle.r6_core.specs.Order.{FinishesBy, HaveTurns, HaveTurnsBehind, SameReplies, KeepsFrames}
-use Rattle.r6_core.specs.Inside.{HasFreedOne, NoneCanStart, SameFrames, IsSettled, Seen, TakesThrough}
+use Rattle.r6_frames.specs.Reads.{FreesOne}
+use Rattle.r6_core.specs.Inside.{HasFreedOne, ReadAgainFor, NoneCanStart, SameFrames, IsSettled, Seen, TakesThrough}
 use Rattle.r6_core.proofs.Throughs.{through_in, through_none}
 use Rattle.r6_core.proofs.Scanned.{turns_in}
 use Rattle.r6_core.proofs.CountedRows.{rows_of_holds}
-use Rattle.r6_core.proofs.Going.{no_rest, Goes, SlotsStay, goes_still, gone_state, gone_sound}
+use Rattle.r6_core.proofs.Going.{no_rest, Goes, SlotsStay, goes_still, gone_state, gone_sound, reading_kept}
 use Rattle.r6_core.proofs.Answering.{live_still}
 
 -- ---- a completion that comes late
@@ -58,18 +58,29 @@ module _ (s : State) (token : ℕ) (fs : Frames) (core : IsSettled s) (sound : h
     (tokens : (owed fs ≡ owed s.frames) × (fs.commands.next ≡ s.frames.commands.next)) (requests : held_requests fs ≡ held_requests s.frames) (keeps : KeepsHeld s.frames fs) where
   late_goes : Goes s fs s.calls
   late_goes =
-      goes_still s fs core.sound sound comes.0 comes.1 (comes_still s.frames fs token comes) requests (rows_of_holds s.frames fs keeps) (let a = tokens.0 in let b = tokens.1 in omega (arith, a, b)) (let b = tokens.1 in omega (arith, b))
+      goes_still s fs core.sound sound comes.0 comes.1 (comes_still s.frames fs token comes) requests comes.3 (rows_of_holds s.frames fs keeps) (let a = tokens.0 in let b = tokens.1 in omega (arith, a, b)) (let b = tokens.1 in omega (arith, b))
 
   pub late_core : IsSettled (record s { frames = fs })
   late_core =
       record {
         sound = gone_sound s fs s.calls core.sound late_goes;
+        reading = reading_kept s.frames fs comes.3 core.reading;
         rested = λ live frame. rested_still s.frames fs frame keeps (core.rested (live_still s.frames fs comes.0 (comes_still s.frames fs token comes) live) frame);
       }
 
-  -- but for one frame all is as it was
-  pub late_freed : ((frame : ℕ) × KeepsOthers s.frames frame fs) → NoneCanStart s → HasFreedOne (record s { frames = fs })
-  late_freed others waits = (s.frames, others.0, comes.0, live_still s.frames fs comes.0 (comes_still s.frames fs token comes), others.1, waits)
+  -- but for one buffer all is as it was
+  pub late_freed : FreesOne s.frames fs → NoneCanStart s → HasFreedOne (record s { frames = fs })
+  late_freed frees waits = (
+    s.frames,
+    record {
+      geometry = comes.0;
+      live = live_still s.frames fs comes.0 (comes_still s.frames fs token comes);
+      slots = (comes_still s.frames fs token comes).0;
+      tokens = let next = tokens.1 in omega arith;
+    },
+    frees,
+    waits,
+  )
 
   pub late_takes : (completion : Result (List ℕ) DeviceFault) → TakesThrough s token (completion_of completion) Late (record s { frames = fs })
   late_takes completion =
@@ -78,7 +89,7 @@ module _ (s : State) (token : ℕ) (fs : Frames) (core : IsSettled s) (sound : h
         change,
         takes home.0 home.1 completion,
         home.2,
-        through_none (layout_in s) s.frames.shard GoesOn (after (layout_in s) (state_of s) change) (state_of (record s { frames = fs })) (gone_state s fs s.calls late_goes ∙ home.3),
+        through_none (layout_in s) s.frames.shard GoesOn (after (layout_in s) (state_of s) change) (state_of (record s { frames = fs })) (gone_state s fs s.calls late_goes comes.3 ∙ home.3),
       )
     where
       takes : (c : shards.Command) → c.taken ≡ true → (completion : Result (List ℕ) DeviceFault) → Takes token (completion_of completion) Late (Come_home token c)
@@ -93,6 +104,11 @@ finishes_none (Err fault) s fs = ([], tt, sym (append-nil (drop s.released s.rep
 pub if_ok_all : (completion : Result (List ℕ) DeviceFault) (P : Type 0) → P → IfOk completion (λ _. P)
 if_ok_all (Ok buffer) P p = p
 if_ok_all (Err fault) P p = tt
+
+-- no direct read waits again
+pub none_again : (completion : Result (List ℕ) DeviceFault) (s new : State) → new.waiting ≡ s.waiting → ReadAgainFor completion s new
+none_again (Ok buffer) s new waiting = ([], refl, ap (λ b. b.items) waiting ∙ sym (append-nil s.waiting.items))
+none_again (Err fault) s new waiting = ([], tt, ap (λ b. b.items) waiting ∙ sym (append-nil s.waiting.items))
 
 -- ---- the whole call
 
@@ -125,16 +141,18 @@ frames_kept s mid kept = (kept.0, λ other ne. ap (λ (u : FrameUse). option_map
 
 pub turns_behind : (completion : Result (List ℕ) DeviceFault) (s mid new : State) (token : ℕ) (receipt : Receipt)
     → TakesThrough s token (completion_of completion) (receipt_of receipt) mid → SameFrames s mid
-    → IfOk completion (λ _. (frame : ℕ) × KeepsOthers s.frames frame mid.frames) → mid.waiting ≡ s.waiting
+    → IfOk completion (λ _. (frame : ℕ) × KeepsOthers s.frames frame mid.frames) → ReadAgainFor completion s mid
     → HaveTurns (core_of mid) (state_of mid) mid.waiting.items (core_of new) → HaveTurnsBehind (core_of s) token completion receipt (core_of new)
-turns_behind completion s mid new token receipt took same others waiting turns = (
+turns_behind completion s mid new token receipt took same others again turns = (
   took.0,
   took.1,
   took.2,
   state_of mid,
   took.3,
   kept completion others,
-  subst (λ (b : Buffer Request). HaveTurns (core_of s) (state_of mid) b.items (core_of new)) waiting
+  again.0,
+  again.1,
+  subst (λ (rs : List Request). HaveTurns (core_of s) (state_of mid) rs (core_of new)) again.2
       (turns_in s.frames.geometry mid.frames.geometry s.frames.shard mid.frames.shard (state_of mid) (state_of new) mid.waiting.items new.waiting.items same.0 same.1 turns),
 )
   where

@@ -1,12 +1,11 @@
 -- A hold ends: its request is finished.
-use Rattle.std.proofs.Common.{◌≡◌, ◌≢◌, ℕ, suc, Bool, false, cond, ◌+◌, ◌*◌, ◌<◌, ◌≤◌, inl, inr, List, [], ◌∷◌, ◌++◌, map, refl, sym, ap, subst, ◌∙◌, Option, Some, None, length, arith, append_assoc, append-nil, length-append}
+use Rattle.std.proofs.Common.{◌≡◌, ◌≢◌, ℕ, suc, Bool, true, false, cond, ◌+◌, ◌*◌, ◌<◌, ◌≤◌, inl, inr, List, [], ◌∷◌, ◌++◌, map, refl, sym, ap, subst, ◌∙◌, Option, Some, None, length, arith, append_assoc, append-nil, length-append}
 use Rattle.std.specs.Prelude.{nat_eq, option_map}
 use mathlib.Core.Path.{fun_ext}
 use Rattle.std.specs.List.{IsDistinct, AllByRecursion}
 use Rattle.std.specs.Map.{keys_of}
 use Rattle.std.proofs.lemmas.Bool.{cases_eq, ne_eqb, eq-eqb}
 use Rattle.circular_buffer.specs.Buffer.{Buffer, buffer}
-use Rattle.r6_layout.specs.Shape.{Shape}
 use Rattle.r6_world.specs.Tables.{put}
 use Rattle.r6_world.specs.PlainArray as world
 use Rattle.r6_world.specs.Tasks.{Hold, Outcome, Task}
@@ -28,16 +27,17 @@ use Rattle.r6_frames.specs.declared.frames.Frames.{Frames}
 use Rattle.r6_core.specs.declared.counts.Counts.{Counts}
 use Rattle.r6_core.specs.declared.state.State.{State}
 use Rattle.r6_frames.specs.Views.{op_of, outcome_of, held_entry, held_for, held_requests, is_scrub, task_by, task_for, kind_in, hold_at, hold_of, request_at, requests_by, requests_from, row_in, use_at, AreLive}
-use Rattle.r6_frames.specs.Calls.{entry_of, ended_outcome, ended_task, Ends, IsElsewhere, HasOneBlock, KeepsOthers}
+use Rattle.r6_frames.specs.Calls.{entry_of, ended_outcome, ended_task, Ends, IsElsewhere, HasOneBlock, KeepsOthers, KeepsReads}
 use Rattle.r6_frames.specs.Owed.{owed, IsDriven, IsOver}
 use Rattle.r6_frames.specs.Sound as held
-use Rattle.r6_core.specs.Shards.{answer_of, counts_of, state_of, rest_of, layout_in, requests_of, waiting_request, finished_request, replied_requests}
-use Rattle.r6_core.specs.Inside.{AreBounded, IsPlainEnd, IsSound, count_rows, is_turn, numbered_op, one_if, requests_ended}
+use Rattle.r6_core.specs.Shards.{answer_of, counts_of, state_of, rest_of, layout_in, framed_requests, requests_of, waiting_request, finished_request, replied_requests}
+use Rattle.r6_core.specs.Inside.{AreBounded, IsPlainEnd, IsSound, count_unheld, count_rows, is_turn, numbered_op, one_if, requests_ended}
 use Rattle.r6_frames.proofs.Lists.{Entries, table, looked_up, same_put, other}
 use Rattle.r6_frames.proofs.Held.{use_of_row}
 use Rattle.r6_core.proofs.CountedRows.{row_weight, rows_counted_but_one}
 use Rattle.r6_core.proofs.Scrubs.{Weighs, counted_few, requests_for, requests_of_end, requests_of_job, scrub_weight, scrubs_weigh, turn_weight, turns_weigh}
-use Rattle.r6_core.proofs.HeldRequests.{all_entries}
+use Rattle.r6_core.proofs.HeldRequests.{all_entries, all_read}
+use Rattle.r6_frames.specs.Directs.{is_stopped, read_requests, stage_of}
 use Rattle.r6_core.proofs.Replied.{all_replied, length_replied, more_replied}
 use Rattle.r6_core.proofs.Passed.{Passed, passed, all-append}
 use Rattle.r6_core.proofs.Throughs.{through_one}
@@ -64,6 +64,13 @@ unfinished_all frame outcome (Some r) h = unfinished_at frame outcome r.op r.sta
 waiting_elsewhere : (frame : ℕ) (rs : List Request) → AllByRecursion (IsElsewhere frame) (map waiting_request rs)
 waiting_elsewhere frame [] = tt
 waiting_elsewhere frame (r ∷ rs) = (λ e. (cc), waiting_elsewhere frame rs)
+
+read_elsewhere : (frame : ℕ) (stopped : Bool) (token : ℕ) → stage_of stopped token ≢ Held frame
+read_elsewhere frame true token = λ e. (cc)
+read_elsewhere frame false token = λ e. (cc)
+
+reads_elsewhere : (frame : ℕ) (fs : Frames) → AllByRecursion (IsElsewhere frame) (read_requests fs)
+reads_elsewhere frame fs = all_read (IsElsewhere frame) fs.slots (λ r. read_elsewhere frame (is_stopped fs.slots r) r.token) fs.directs
 
 answer_is : (o : Op) → outcome_reply (outcome_of o) (op_of o) ≡ answer_of o
 answer_is (op.Read block buffer) = refl
@@ -190,29 +197,32 @@ module _ (s : State) (frame : ℕ) (r : Request) (fs : Frames) (done : Buffer Re
   b = ends.leaves.0.behind
 
   -- the requests before, and behind
-  old_requests : requests_of s ≡ (w ++ a) ++ entry_of frame r ∷ (b ++ p)
+  abbrev d : Entries shards.Request
+  d = read_requests s.frames
+
+  old_requests : requests_of s ≡ (w ++ a) ++ entry_of frame r ∷ (b ++ (d ++ p))
   old_requests =
-      (λ i. w ++ (ends.leaves.0.with i ++ replied_requests (live.1 i) s.released s.replies.items))
+      (λ i. w ++ ((ends.leaves.0.with i ++ d) ++ replied_requests (live.1 i) s.released s.replies.items))
       ∙ (simp append_assoc)
 
-  new_requests : requests_of new ≡ (w ++ (a ++ (b ++ p))) ++ finished_request false r ∷ []
+  new_requests : requests_of new ≡ (w ++ (a ++ (b ++ (d ++ p)))) ++ finished_request false r ∷ []
   new_requests =
-      (λ i. w ++ (ends.leaves.0.without i ++ replied_requests (((ends_still s.frames fs frame (ended.Request r) ends).1 ∙ live.1) i) s.released (last i)))
-      ∙ ap (λ es. w ++ ((a ++ b) ++ es)) (more_replied false s.released s.replies.items (r ∷ []) sound.requests.marked)
+      (λ i. w ++ ((ends.leaves.0.without i ++ ends.shard.3 i) ++ replied_requests (((ends_still s.frames fs frame (ended.Request r) ends).1 ∙ live.1) i) s.released (last i)))
+      ∙ ap (λ es. w ++ (((a ++ b) ++ d) ++ es)) (more_replied false s.released s.replies.items (r ∷ []) sound.requests.marked)
       ∙ (simp append_assoc)
 
   one_finished : Passed (requests_of s) (requests_of new) r.id (entry_of frame r).1 (finished_request false r).1
   one_finished =
-      let same : (w ++ a) ++ (b ++ p) ≡ (w ++ (a ++ (b ++ p))) ++ [] = append_assoc w a (b ++ p) ∙ sym (append-nil (w ++ (a ++ (b ++ p)))) in
-      passed (w ++ a) (b ++ p) (w ++ (a ++ (b ++ p))) [] r.id (entry_of frame r).1 (finished_request false r).1 _ _ old_requests new_requests same sound.requests.distinct
+      let same : (w ++ a) ++ (b ++ (d ++ p)) ≡ (w ++ (a ++ (b ++ (d ++ p)))) ++ [] = append_assoc w a (b ++ (d ++ p)) ∙ sym (append-nil (w ++ (a ++ (b ++ (d ++ p))))) in
+      passed (w ++ a) (b ++ (d ++ p)) (w ++ (a ++ (b ++ (d ++ p)))) [] r.id (entry_of frame r).1 (finished_request false r).1 _ _ old_requests new_requests same sound.requests.distinct
 
   requests_finished : table (requests_of new) ≡ (λ q. finished frame (outcome_of r.op) (table (requests_of s) q))
   requests_finished =
       let one = one_finished in
-      let all : AllByRecursion (IsElsewhere frame) (w ++ ((a ++ b) ++ p)) =
-      all-append (IsElsewhere frame) w ((a ++ b) ++ p) (waiting_elsewhere frame s.waiting.items)
-      (all-append (IsElsewhere frame) (a ++ b) p ends.leaves.0.elsewhere (all_replied (IsElsewhere frame) false (λ x e. (cc)) (λ x e. (cc)) s.released s.replies.items)) in
-      let parts : w ++ ((a ++ b) ++ p) ≡ (w ++ a) ++ (b ++ p) = simp append_assoc in
+      let all : AllByRecursion (IsElsewhere frame) (w ++ ((a ++ b) ++ (d ++ p))) =
+      all-append (IsElsewhere frame) w ((a ++ b) ++ (d ++ p)) (waiting_elsewhere frame s.waiting.items)
+      (all-append (IsElsewhere frame) (a ++ b) (d ++ p) ends.leaves.0.elsewhere (all-append (IsElsewhere frame) d p (reads_elsewhere frame s.frames) (all_replied (IsElsewhere frame) false (λ x e. (cc)) (λ x e. (cc)) s.released s.replies.items))) in
+      let parts : w ++ ((a ++ b) ++ (d ++ p)) ≡ (w ++ a) ++ (b ++ (d ++ p)) = simp append_assoc in
       let others = subst (AllByRecursion (IsElsewhere frame)) parts all in
       let here : finished frame (outcome_of r.op) (table (requests_of s) r.id) ≡ Some (finished_request false r).1 =
       ap (finished frame (outcome_of r.op)) one.was
@@ -221,7 +231,7 @@ module _ (s : State) (frame : ℕ) (r : Request) (fs : Frames) (done : Buffer Re
       one.now
       ∙ sym (same_put (table (requests_of s)) (λ q. finished frame (outcome_of r.op) (table (requests_of s) q)) r.id (Some (finished_request false r).1) here (λ q e.
       unfinished_all frame (outcome_of r.op) (table (requests_of s) q) (λ x there.
-      looked_up (λ (y : shards.Request). y.stage ≢ Held frame) q _ x others (sym (other q (w ++ a) r.id (entry_of frame r).1 (b ++ p) e) ∙ ap (λ es. table es q) (sym old_requests) ∙ there))))
+      looked_up (λ (y : shards.Request). y.stage ≢ Held frame) q _ x others (sym (other q (w ++ a) r.id (entry_of frame r).1 (b ++ (d ++ p)) e) ∙ ap (λ es. table es q) (sym old_requests) ∙ there))))
 
   request_ends : AreEnded frame (outcome_of r.op) (requests_of s) (requests_of new)
   request_ends =
@@ -230,11 +240,11 @@ module _ (s : State) (frame : ℕ) (r : Request) (fs : Frames) (done : Buffer Re
 
 -- the row of a check or repair was held, and no request ends
 module _ (s : State) (frame : ℕ) (fs : Frames) (done : Buffer Request) (counts : Counts) (outcome : Outcome) (sound : IsSound s) (stay : SlotsStay s.frames fs)
-    (leaves : held_requests fs ≡ held_requests s.frames) (elsewhere : AllByRecursion (IsElsewhere frame) (held_requests s.frames))
+    (reads : KeepsReads s.frames fs) (leaves : held_requests fs ≡ held_requests s.frames) (elsewhere : AllByRecursion (IsElsewhere frame) (held_requests s.frames))
     (live : AreLive s.frames) (last : done.items ≡ s.replies.items ++ []) where
   requests_left : requests_of (ended_state s fs done counts) ≡ requests_of s
   requests_left =
-      λ i. map waiting_request s.waiting.items ++ (leaves i ++ replied_requests (stay.1 i) s.released ((last ∙ append-nil s.replies.items) i))
+      λ i. map waiting_request s.waiting.items ++ ((leaves i ++ reads i) ++ replied_requests (stay.1 i) s.released ((last ∙ append-nil s.replies.items) i))
 
   none_ends : AreEnded frame outcome (requests_of s) (requests_of (ended_state s fs done counts))
   none_ends =
@@ -243,8 +253,9 @@ module _ (s : State) (frame : ℕ) (fs : Frames) (done : Buffer Request) (counts
       subst (λ (b : Bool). AllByRecursion P (replied_requests b s.released s.replies.items)) (sym live.1)
       (all_replied P false (λ x e. (cc)) (λ x e. (cc)) s.released s.replies.items) in
       let all : AllByRecursion P (requests_of s) =
-      all-append P (map waiting_request s.waiting.items) (held_requests s.frames ++ replied_requests s.frames.saw_failed s.released s.replies.items)
-      (waiting_elsewhere frame s.waiting.items) (all-append P (held_requests s.frames) _ elsewhere replied) in
+      all-append P (map waiting_request s.waiting.items) (framed_requests s.frames ++ replied_requests s.frames.saw_failed s.released s.replies.items)
+      (waiting_elsewhere frame s.waiting.items)
+      (all-append P (framed_requests s.frames) _ (all-append P (held_requests s.frames) (read_requests s.frames) elsewhere (reads_elsewhere frame s.frames)) replied) in
       record {
         now =
             ap (λ es. table es) requests_left
@@ -261,19 +272,19 @@ hold_ends : (s : State) (frame : ℕ) (e : Ended) (fs : Frames) (done : Buffer R
 hold_ends s frame (ended.Request r) fs done counts h sound live ends is last = request_ends s frame r fs done counts sound live ends last
 hold_ends s frame (ended.Classed scrub class) fs done counts h sound live ends is last =
     let e = ended.Classed scrub class in
-    none_ends s frame fs done counts (ended_outcome e) sound (ends_still s.frames fs frame e ends) ends.leaves
+    none_ends s frame fs done counts (ended_outcome e) sound (ends_still s.frames fs frame e ends) ends.shard.3 ends.leaves
     (none_in_frame s.frames frame h is (sym (ended_requests s.frames fs frame e h ends is))) live last
 hold_ends s frame (ended.Skipped scrub) fs done counts h sound live ends is last =
     let e = ended.Skipped scrub in
-    none_ends s frame fs done counts (ended_outcome e) sound (ends_still s.frames fs frame e ends) ends.leaves
+    none_ends s frame fs done counts (ended_outcome e) sound (ends_still s.frames fs frame e ends) ends.shard.3 ends.leaves
     (none_in_frame s.frames frame h is (sym (ended_requests s.frames fs frame e h ends is))) live last
 hold_ends s frame (ended.Rebuilt target row) fs done counts h sound live ends is last =
     let e = ended.Rebuilt target row in
-    none_ends s frame fs done counts (ended_outcome e) sound (ends_still s.frames fs frame e ends) ends.leaves
+    none_ends s frame fs done counts (ended_outcome e) sound (ends_still s.frames fs frame e ends) ends.shard.3 ends.leaves
     (none_in_frame s.frames frame h is (sym (ended_requests s.frames fs frame e h ends is))) live last
 hold_ends s frame (ended.GivenUp target) fs done counts h sound live ends is last =
     let e = ended.GivenUp target in
-    none_ends s frame fs done counts (ended_outcome e) sound (ends_still s.frames fs frame e ends) ends.leaves
+    none_ends s frame fs done counts (ended_outcome e) sound (ends_still s.frames fs frame e ends) ends.shard.3 ends.leaves
     (none_in_frame s.frames frame h is (sym (ended_requests s.frames fs frame e h ends is))) live last
 
 -- the buffer of a request that has ended is one block
@@ -370,7 +381,10 @@ module _ (s : State) (frame : ℕ) (e : Ended) (fs : Frames) (done : Buffer Requ
           calls = sound.room.calls;
           few_calls = let out = calls_same s.frames fs slots.0 ends.shard.0 in omega (arith, out, sound.room.few_calls);
         };
-        tokens = let slots = ap (λ (g : Shape). 2 * g.slots * length s.waiting.items) ends.shard.0 in omega (arith, slots, fewer, next, sound.tokens);
+        tokens =
+            let slots : 2 * fs.geometry.slots * count_unheld after_end ≡ 2 * s.frames.geometry.slots * count_unheld s =
+            λ i. 2 * (ends.shard.0 i).slots * (length s.waiting.items + length (ends.shard.3 i)) in
+            omega (arith, slots, fewer, next, sound.tokens);
         accepted = sound.accepted;
         counted = counts_ended frames others next;
         next_rows = own_rows_kept s.frames fs s.check_row s.repair_row ends.shard.0 ends.shard.1 sound.next_rows;
@@ -384,11 +398,12 @@ room_to_end s frame e fs h sound live ends is =
     let ended = hold_ends s frame e fs done s.counts h sound live ends is refl in
     let w = map waiting_request s.waiting.items in
     let p = replied_requests fs.saw_failed s.released done.items in
-    let all = length-append w (held_requests fs ++ p) in
-    let held = length-append (held_requests fs) p in
+    let all = length-append w (framed_requests fs ++ p) in
+    let framed = length-append (framed_requests fs) p in
+    let held = length-append (held_requests fs) (read_requests fs) in
     let many = length_replied fs.saw_failed s.released done.items in
     let long = length-append s.replies.items (requests_ended e) in
-    omega (arith, all, held, many, long, ended.count, sound.requests.counted, sound.requests.few, sound.room.replies)
+    omega (arith, all, framed, held, many, long, ended.count, sound.requests.counted, sound.requests.few, sound.room.replies)
 
 pub few_ended : (e : Ended) → length (requests_ended e) ≤ 1
 few_ended (ended.Request r) = omega arith

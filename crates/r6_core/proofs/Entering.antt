@@ -16,6 +16,7 @@ use Rattle.r6_core.specs.Inside.{CannotStart, IsCore, IsSettled}
 use Rattle.r6_core.proofs.Accepting.{with_request, accepted_core, accepted_state}
 use Rattle.r6_core.proofs.Passed.{all-append}
 use Rattle.r6_core.proofs.Scanned.{turns_both, turn_of, all_wait, all_still}
+use Rattle.r6_core.proofs.ReadStarts.{IsReadStart, read_core, read_leads, read_no_more, read_started}
 use Rattle.r6_core.proofs.Starting.{IsStart, with_frames, started, started_core, started_leads, started_no_more}
 
 module _ (s : State) (o : Op) (core : IsCore s) (right : HasNone (HasSubmitFault (core_of s) o) submit_faults) (sized : IsBlock (length (buffer_of o)) (buffer_of o)) where
@@ -71,7 +72,39 @@ module _ (s : State) (o : Op) (core : IsCore s) (right : HasNone (HasSubmitFault
         let n = s.frames.shard in
         let first = all_wait waiting s.waiting.items waiting_settled core.waits in
         let start = subst (λ (x : State). InTurn l n (state_of waiting) (entered ∷ []) (state_of x) []) same
-        (turn_of l n (state_of waiting) entered _ (started waiting s.waiting.items entered [] frame mid new is waiting_settled.sound)) in
+        (turn_of l n (state_of waiting) entered _ (started waiting s.waiting.items entered [] frame mid new is waiting_settled)) in
         let both = turns_both l n (state_of waiting) s.waiting.items (state_of waiting) s.waiting.items (entered ∷ []) (state_of running) [] first start in
         subst (λ (from : Shard). InTurn l n from (s.waiting.items ++ entered ∷ []) (state_of running) s.waiting.items) accepts
         (subst (λ rs. InTurn l n (state_of waiting) (s.waiting.items ++ entered ∷ []) (state_of running) rs) (append-nil s.waiting.items) both)
+
+  -- it is read directly
+  module _ (number : ℕ) (new : Frames) (is : IsReadStart waiting s.waiting.items entered [] number new) where
+    abbrev pub reading : State
+    reading = with_frames waiting s.waiting.items new
+
+    read_same : with_frames waiting (s.waiting.items ++ []) new ≡ reading
+    read_same = ap (λ items. with_frames waiting items new) (append-nil s.waiting.items)
+
+    pub reads_core : IsCore reading
+    reads_core =
+        record {
+          settled = subst IsSettled read_same (read_core waiting s.waiting.items entered [] number new is waiting_settled);
+          waits = all_still waiting reading s.waiting.items (read_no_more waiting s.waiting.items entered [] number new is) core.waits;
+        }
+
+    pub reads_leads : Through (layout_in s) s.frames.shard Scans (after (layout_in s) (state_of s) (Accept (op_of o))) (state_of reading)
+    reads_leads =
+        subst (λ (from : Shard). Through (layout_in s) s.frames.shard Scans from (state_of reading)) accepts
+        (subst (λ (x : State). Through (layout_in s) s.frames.shard Scans (state_of waiting) (state_of x)) read_same
+        (read_leads waiting s.waiting.items entered [] number new is waiting_settled.sound))
+
+    pub reads_turns : HaveTurns (core_of s) (after (layout_in s) (state_of s) (Accept (op_of o))) (s.waiting.items ++ entered ∷ []) (core_of reading)
+    reads_turns =
+        let l = layout_in s in
+        let n = s.frames.shard in
+        let first = all_wait waiting s.waiting.items waiting_settled core.waits in
+        let start = subst (λ (x : State). InTurn l n (state_of waiting) (entered ∷ []) (state_of x) []) read_same
+        (turn_of l n (state_of waiting) entered _ (read_started waiting s.waiting.items entered [] number new is waiting_settled.sound)) in
+        let both = turns_both l n (state_of waiting) s.waiting.items (state_of waiting) s.waiting.items (entered ∷ []) (state_of reading) [] first start in
+        subst (λ (from : Shard). InTurn l n from (s.waiting.items ++ entered ∷ []) (state_of reading) s.waiting.items) accepts
+        (subst (λ rs. InTurn l n (state_of waiting) (s.waiting.items ++ entered ∷ []) (state_of reading) rs) (append-nil s.waiting.items) both)

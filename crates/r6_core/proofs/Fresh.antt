@@ -27,7 +27,7 @@ use Rattle.r6_frames.specs.Sound as held
 use Rattle.r6_core.specs.declared.counts.Counts.{Counts}
 use Rattle.r6_core.specs.Shards.{call_of, counts_of, devices_state, state_of, requests_of, waiting_request, replied_requests}
 use Rattle.r6_core.specs.Refusals.{most_unanswered}
-use Rattle.r6_core.specs.Inside.{AreOwnRows, CannotStart, IsCore, IsFresh, count_untold, is_turn, none_counted, rows_found}
+use Rattle.r6_core.specs.Inside.{AreOwnRows, CannotStart, IsCore, IsFresh, IsReadOn, count_unheld, count_untold, is_turn, none_counted, rows_found}
 use Rattle.r6_frames.proofs.Lists.{table}
 use Rattle.r6_core.proofs.CountedRows.{no_rows_counted}
 
@@ -59,9 +59,9 @@ pub fresh_core : (s : State) → s.accepted ≡ 0 → s.unanswered ≡ 0 → s.w
     → (shape : Shape) (shard : ℕ) → IsShape shape → shard < shape.shards → s.frames.geometry ≡ shape → s.frames.shard ≡ shard
     → s.check_row ≡ first_row shape shard → s.repair_row ≡ first_row shape shard → held.IsSound s.frames → IsAtStart s.frames → IsCore s
 fresh_core s accepted unanswered waiting replies released calls untold counts shape shard lawful below same_shape same_shard check repair sound start =
-    let none : requests_of s ≡ [] = λ i. map waiting_request (waiting i).items ++ (start.3 i ++ replied_requests s.frames.saw_failed (released i) (replies i).items) in
+    let none : requests_of s ≡ [] = λ i. map waiting_request (waiting i).items ++ ((start.3 i ++ start.4 i) ++ replied_requests s.frames.saw_failed (released i) (replies i).items) in
     let nobody : s.waiting.items ≡ [] = ap (λ b. b.items) waiting in
-    let some : 2 * s.frames.geometry.slots * length s.waiting.items ≡ 0 = ap (λ (rs : List Request). 2 * s.frames.geometry.slots * length rs) nobody ∙ (omega arith) in
+    let some : 2 * s.frames.geometry.slots * count_unheld s ≡ 0 = (λ i. 2 * s.frames.geometry.slots * (length (nobody i) + length (start.4 i))) ∙ (omega arith) in
     record {
       settled = record {
         sound = record {
@@ -93,6 +93,7 @@ fresh_core s accepted unanswered waiting replies released calls untold counts sh
               record { found = omega (arith, rows, turns); skipped = omega (arith, passed, scrubs) };
           next_rows = fresh_rows s shape shard lawful below same_shape same_shard check repair;
         };
+        reading = subst (AllByRecursion IsReadOn) (sym start.4) tt;
         rested = λ live frame. (λ h is. let free = ap row_in (start.0 frame) in absurd (cc), λ over. let free = ap row_in (start.0 frame) in let is = over.1 in absurd (cc));
       };
       waits = subst (λ rs. AllByRecursion (CannotStart s.frames) rs) (sym nobody) tt;

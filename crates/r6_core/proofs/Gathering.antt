@@ -20,6 +20,7 @@ use Rattle.r6_frames.specs.declared.frames.FrameUse.{FrameUse}
 use Rattle.r6_frames.specs.declared.frames.FrameUse.TheVariants as uses
 use Rattle.r6_frames.specs.Views.{held_requests, requests_from, hold_at, hold_of, use_at, row_in, shard_with, AreLive}
 use Rattle.r6_frames.specs.Calls.{entry_of, Between, GivesUp, GivesTurnUp, IsWith, KeepsOthers, HasOneBlock}
+use Rattle.r6_frames.specs.Directs.{read_requests}
 use Rattle.r6_frames.specs.Owed.{owed}
 use Rattle.r6_frames.specs.Sound as held
 use Rattle.r6_core.specs.declared.state.State.{State}
@@ -72,7 +73,7 @@ gathering_none s sound stopped =
       waiting_sized = waiting_sized s.frames s.waiting.items sound.requests.waiting;
       sized = tt;
       tokens = omega arith;
-      shard = (refl, refl, λ rest. refl);
+      shard = (refl, refl, (λ rest. refl), refl);
       waiting_room = refl;
       replies_room = refl;
       accepted = refl;
@@ -159,10 +160,11 @@ module _ (s mid : State) (count : ℕ) (r : Request) (is : IsGathering s mid cou
         shard = (
           gives.shard.0 ∙ is.shard.0,
           gives.shard.1 ∙ is.shard.1,
-          λ rest.
+          (λ rest.
               let one = gives.shard.2 rest in
               let before = is.shard.2 rest in
-              frame_only (shard_with rest fs) (shard_with rest s.frames) _ (one ∙ ap (λ (x : Shard). record x { frame = put (shard_with rest mid.frames).frame count None }) before),
+              frame_only (shard_with rest fs) (shard_with rest s.frames) _ (one ∙ ap (λ (x : Shard). record x { frame = put (shard_with rest mid.frames).frame count None }) before)),
+          gives.shard.3 ∙ is.shard.3,
         );
         waiting_room = is.waiting_room;
         replies_room = long ∙ is.replies_room;
@@ -196,10 +198,11 @@ gathering_scrub s mid count fs is sound stopped gives others none owes =
       shard = (
         gives.1.shard.0 ∙ is.shard.0,
         gives.1.shard.1 ∙ is.shard.1,
-        λ rest.
+        (λ rest.
             let one = gives.1.shard.2 rest in
             let before = is.shard.2 rest in
-            frame_only (shard_with rest fs) (shard_with rest s.frames) _ (one ∙ ap (λ (x : Shard). record x { frame = put (shard_with rest mid.frames).frame count None }) before),
+            frame_only (shard_with rest fs) (shard_with rest s.frames) _ (one ∙ ap (λ (x : Shard). record x { frame = put (shard_with rest mid.frames).frame count None }) before)),
+        gives.1.shard.3 ∙ is.shard.3,
       );
       waiting_room = is.waiting_room;
       replies_room = is.replies_room;
@@ -259,7 +262,12 @@ gathered s new count is past none =
       all = subst (λ es. IsPermutation (unreplied s) (es ++ map numbered_op is.more)) nothing is.all;
       sized = is.sized;
       tokens = is.tokens;
-      shard = (is.shard.0, is.shard.1, λ rest. is.shard.2 rest ∙ ap (λ f. record (shard_with rest s.frames) { frame = f }) (fun_ext (λ frame. ap (option_map hold_of) (no_row frame))));
+      shard = (
+        is.shard.0,
+        is.shard.1,
+        (λ rest. is.shard.2 rest ∙ ap (λ f. record (shard_with rest s.frames) { frame = f }) (fun_ext (λ frame. ap (option_map hold_of) (no_row frame)))),
+        is.shard.3,
+      );
       room = (is.waiting_room, is.replies_room);
       rest = (is.accepted, is.unanswered, is.released, is.calls);
       scrubs = is.scrubs;
@@ -271,8 +279,10 @@ replies_room s mid count sound is some =
     let w = map waiting_request s.waiting.items in
     let h = held_requests s.frames in
     let p = replied_requests s.frames.saw_failed s.released s.replies.items in
-    let all = length-append w (h ++ p) in
-    let held = length-append h p in
+    let d = read_requests s.frames in
+    let all = length-append w ((h ++ d) ++ p) in
+    let framed = length-append (h ++ d) p in
+    let held = length-append h d in
     let many_w = length-map s.waiting.items waiting_request in
     let many_p = length_replied s.frames.saw_failed s.released s.replies.items in
     let own = length-append (map numbered_op s.waiting.items) (map held_op h) in
@@ -282,7 +292,7 @@ replies_room s mid count sound is some =
     let parts = length-append (unreplied mid) (map numbered_op is.more) in
     let gone = length-map is.more numbered_op in
     let now = ap length is.replies ∙ length-append s.replies.items is.more in
-    omega (arith, all, held, many_w, many_p, own, own_w, own_h, same, parts, gone, now, sound.requests.counted, sound.requests.few, sound.room.replies, is.replies_room, some)
+    omega (arith, all, framed, held, many_w, many_p, own, own_w, own_h, same, parts, gone, now, sound.requests.counted, sound.requests.few, sound.room.replies, is.replies_room, some)
 
 pub some_waits : (mid : State) (r : Request) (rest : List Request) → mid.waiting.items ≡ r ∷ rest → 0 < length (unreplied mid)
 some_waits mid r rest first = let some = ap (λ rs. length (map numbered_op rs ++ map held_op (held_requests mid.frames))) first in omega (arith, some)

@@ -3,8 +3,8 @@ use Rattle.std.proofs.Common.{◌≡◌, ℕ, ◌+◌, ◌*◌, ◌<◌, ◌≤�
 use Rattle.std.specs.Prelude.{nat_eq}
 use Rattle.std.specs.List.{IsDistinct, AllByRecursion}
 use Rattle.std.specs.Map.{keys_of}
+use Rattle.std.proofs.lemmas.List.{map-append}
 use Rattle.circular_buffer.specs.Buffer.{Buffer}
-use Rattle.r6_layout.specs.Shape.{Shape}
 use Rattle.r6_world.specs.Layouts.{Layout}
 use Rattle.r6_world.specs.Geometries.{layout_of}
 use Rattle.r6_world.specs.ShardStates.{Shard}
@@ -13,15 +13,17 @@ use Rattle.r6_world.specs.Steps.{GoesOn, Leads, Takes, Good, Taken}
 use Rattle.r6_frames.specs.declared.frames.Frames.{Frames}
 use Rattle.r6_frames.specs.Slots.{states_of}
 use Rattle.r6_frames.specs.Views.{Rest, AreLive, held_requests, shard_with}
-use Rattle.r6_frames.specs.Calls.{Between, PutsOut, Drives, Answers, Classifies, KeepsRows}
+use Rattle.r6_frames.specs.Directs.{read_requests}
+use Rattle.r6_frames.specs.Calls.{Between, PutsOut, Drives, Answers, Classifies, KeepsReads, KeepsRows}
 use Rattle.r6_frames.specs.Owed.{owed}
 use Rattle.r6_frames.specs.Sound as held
 use Rattle.r6_core.specs.declared.call.Call.{Call}
 use Rattle.r6_core.specs.declared.state.State.{State}
-use Rattle.r6_core.specs.Shards.{state_of, layout_in, rest_of, requests_of, call_of, counts_of, waiting_request, replied_requests, table}
-use Rattle.r6_core.specs.Inside.{IsSound, most_calls, count_untold, none_counted}
+use Rattle.r6_core.specs.Shards.{state_of, layout_in, rest_of, requests_of, framed_requests, call_of, counts_of, waiting_request, replied_requests, table}
+use Rattle.r6_core.specs.Inside.{AreReadOn, IsReadOn, IsSound, count_unheld, most_calls, count_untold, none_counted}
 use Rattle.r6_core.proofs.CountedRows.{counted_kept, same_or_fewer}
 use Rattle.r6_core.proofs.Kept.{own_rows_kept, requests_kept, sizes_kept}
+use Rattle.r6_core.proofs.Replied.{as_many, keys_requests, numbers}
 use Rattle.r6_core.proofs.SlotsKept.{drives_keep, calls_same}
 use Rattle.r6_core.proofs.Throughs.{tokens_grow}
 
@@ -68,6 +70,7 @@ pub record Goes (s : State) (fs : Frames) (calls : Buffer Call) : Type 0 where
   pub shard : fs.shard ≡ s.frames.shard
   pub seen : fs.saw_failed ≡ s.frames.saw_failed
   pub requests : held_requests fs ≡ held_requests s.frames
+  pub reads : keys_of (read_requests fs) ≡ keys_of (read_requests s.frames)
   pub rows : KeepsRows s.frames fs
   pub tokens : fs.commands.next + owed fs ≤ s.frames.commands.next + owed s.frames
   pub given : s.frames.commands.next ≤ fs.commands.next
@@ -77,31 +80,47 @@ pub record Goes (s : State) (fs : Frames) (calls : Buffer Call) : Type 0 where
 abbrev pub gone_on : State → Frames → Buffer Call → State
 gone_on s fs calls = record s { frames = fs; calls = calls }
 
-pub gone_requests : (s : State) (fs : Frames) (calls : Buffer Call) → Goes s fs calls → requests_of (gone_on s fs calls) ≡ requests_of s
-gone_requests s fs calls goes = λ i. map waiting_request s.waiting.items ++ (goes.requests i ++ replied_requests (goes.seen i) s.released s.replies.items)
+-- the numbers of the requests are the same
+pub keys_framed : (old new : Frames) → held_requests new ≡ held_requests old → keys_of (read_requests new) ≡ keys_of (read_requests old)
+    → keys_of (framed_requests new) ≡ keys_of (framed_requests old)
+keys_framed old new held reads =
+    map-append (λ e. e.0) (held_requests new) (read_requests new)
+    ∙ (λ i. keys_of (held i) ++ reads i)
+    ∙ sym (map-append (λ e. e.0) (held_requests old) (read_requests old))
+
+pub gone_keys : (s : State) (fs : Frames) (calls : Buffer Call) → Goes s fs calls → keys_of (requests_of (gone_on s fs calls)) ≡ keys_of (requests_of s)
+gone_keys s fs calls goes =
+    keys_requests (gone_on s fs calls)
+    ∙ ap (λ ks. keys_of (map waiting_request s.waiting.items) ++ (ks ++ numbers s.replies.items)) (keys_framed s.frames fs goes.requests goes.reads)
+    ∙ sym (keys_requests s)
+
+-- and so are the requests, if none was read directly whose command is abandoned
+pub gone_requests : (s : State) (fs : Frames) (calls : Buffer Call) → Goes s fs calls → KeepsReads s.frames fs → requests_of (gone_on s fs calls) ≡ requests_of s
+gone_requests s fs calls goes reads =
+    λ i. map waiting_request s.waiting.items ++ ((goes.requests i ++ reads i) ++ replied_requests (goes.seen i) s.released s.replies.items)
 
 -- what the shard has beside its frames, with these calls
 abbrev pub rest_with : State → Buffer Call → Rest
 rest_with s calls = record (rest_of s) { calls = map call_of calls.items }
 
-pub gone_state : (s : State) (fs : Frames) (calls : Buffer Call) → Goes s fs calls → state_of (gone_on s fs calls) ≡ shard_with (rest_with s calls) fs
-gone_state s fs calls goes = ap (λ es. shard_with (record (rest_with s calls) { request = table es }) fs) (gone_requests s fs calls goes)
+pub gone_state : (s : State) (fs : Frames) (calls : Buffer Call) → Goes s fs calls → KeepsReads s.frames fs → state_of (gone_on s fs calls) ≡ shard_with (rest_with s calls) fs
+gone_state s fs calls goes reads = ap (λ es. shard_with (record (rest_with s calls) { request = table es }) fs) (gone_requests s fs calls goes reads)
 
 -- what is between the frames is between the states
 pub between_states : (Leads : Layout → ℕ → Shard → Shard → Type 0) (s : State) (fs : Frames) → Goes s fs s.calls → Between Leads s.frames fs
     → Leads (layout_in s) s.frames.shard (state_of s) (state_of (gone_on s fs s.calls))
 between_states Leads s fs goes between =
-    subst (λ (x : Shard). Leads (layout_in s) s.frames.shard (state_of s) x) (sym (gone_state s fs s.calls goes)) (between.2 (rest_of s))
+    subst (λ (x : Shard). Leads (layout_in s) s.frames.shard (state_of s) x) (sym (gone_state s fs s.calls goes between.3)) (between.2 (rest_of s))
 
 pub gone_sound : (s : State) (fs : Frames) (calls : Buffer Call) → IsSound s → Goes s fs calls → IsSound (gone_on s fs calls)
 gone_sound s fs calls sound goes =
-    let same = gone_requests s fs calls goes in
+    let same = gone_keys s fs calls goes in
     record {
       frames = goes.sound;
       requests = record {
-        distinct = subst (λ es. IsDistinct nat_eq (keys_of es)) (sym same) sound.requests.distinct;
-        numbered = subst (λ es. AllByRecursion (λ id. id < s.accepted) (keys_of es)) (sym same) sound.requests.numbered;
-        counted = ap length same ∙ sound.requests.counted;
+        distinct = subst (IsDistinct nat_eq) (sym same) sound.requests.distinct;
+        numbered = subst (AllByRecursion (λ id. id < s.accepted)) (sym same) sound.requests.numbered;
+        counted = as_many (requests_of (gone_on s fs calls)) (requests_of s) same ∙ sound.requests.counted;
         few = sound.requests.few;
         waiting = requests_kept s.frames fs s.waiting.items goes.geometry goes.shard sound.requests.waiting;
         sized = sizes_kept s.frames.geometry fs.geometry s.replies.items goes.geometry sound.requests.sized;
@@ -113,11 +132,19 @@ gone_sound s fs calls sound goes =
         calls = goes.room ∙ sound.room.calls;
         few_calls = goes.few;
       };
-      tokens = let slots = ap (λ (g : Shape). 2 * g.slots * length s.waiting.items) goes.geometry in omega (arith, slots, goes.tokens, sound.tokens);
+      tokens =
+          let reads = as_many (read_requests fs) (read_requests s.frames) goes.reads in
+          let most : 2 * fs.geometry.slots * count_unheld (gone_on s fs calls) ≡ 2 * s.frames.geometry.slots * count_unheld s =
+          λ i. 2 * (goes.geometry i).slots * (length s.waiting.items + reads i) in
+          omega (arith, most, goes.tokens, sound.tokens);
       accepted = sound.accepted;
       counted = counted_kept s.counts s.frames fs sound.counted (same_or_fewer s.frames fs sound.frames goes.sound goes.rows) goes.given;
       next_rows = own_rows_kept s.frames fs s.check_row s.repair_row goes.geometry goes.shard sound.next_rows;
     }
+
+-- the direct reads go on where they are the same
+pub reading_kept : (old new : Frames) → KeepsReads old new → AreReadOn old → AreReadOn new
+reading_kept old new reads on = subst (AllByRecursion IsReadOn) (sym reads) on
 
 -- ---- frames whose slots stay as they are
 
@@ -130,15 +157,16 @@ abbrev pub SlotsStay : Frames → Frames → Type 0
 SlotsStay old new = (states_of new.slots ≡ states_of old.slots) × (new.saw_failed ≡ old.saw_failed)
 
 pub goes_still : (s : State) (fs : Frames) → IsSound s → held.IsSound fs → fs.geometry ≡ s.frames.geometry → fs.shard ≡ s.frames.shard → SlotsStay s.frames fs
-    → held_requests fs ≡ held_requests s.frames → KeepsRows s.frames fs → fs.commands.next + owed fs ≤ s.frames.commands.next + owed s.frames
+    → held_requests fs ≡ held_requests s.frames → KeepsReads s.frames fs → KeepsRows s.frames fs → fs.commands.next + owed fs ≤ s.frames.commands.next + owed s.frames
     → s.frames.commands.next ≤ fs.commands.next → Goes s fs s.calls
-goes_still s fs sound frames geometry shard slots requests rows tokens given =
+goes_still s fs sound frames geometry shard slots requests reads rows tokens given =
     record {
       sound = frames;
       geometry = geometry;
       shard = shard;
       seen = slots.1;
       requests = requests;
+      reads = ap keys_of reads;
       rows = rows;
       tokens = tokens;
       given = given;

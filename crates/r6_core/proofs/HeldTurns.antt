@@ -1,17 +1,15 @@
 -- A row is held for what a shard does by itself: a check, a repair or a rebuild.
-use Rattle.std.proofs.Common.{◌≡◌, ◌≢◌, ℕ, ◌+◌, ◌*◌, ◌^◌, ◌<◌, ◌≤◌, ◌⊎◌, Bool, true, false, List, [], ◌∷◌, ◌++◌, map, length, refl, sym, ap, subst, ◌∙◌, Option, Some, None, inl, inr, arith, length-append}
+use Rattle.std.proofs.Common.{◌≡◌, ◌≢◌, ℕ, ◌+◌, ◌*◌, ◌^◌, ◌<◌, ◌≤◌, ◌⊎◌, Bool, true, false, List, [], ◌∷◌, ◌++◌, map, length, refl, sym, ap, subst, ◌∙◌, Option, Some, None, inl, inr, arith}
 use Rattle.std.specs.Prelude.{nat_eq, option_map, if◌then◌else◌}
 use Rattle.std.specs.List.{IsDistinct, AllByRecursion}
 use Rattle.std.specs.Map.{keys_of}
-use Rattle.std.proofs.Math.Nat.{add-mul, mul_comm, mul-le-mul}
 use Rattle.std.proofs.lemmas.Bool.{cases_eq}
-use Rattle.std.proofs.lemmas.List.{length-map}
 use Rattle.r6_stripe.specs.Holds.{MayBegin}
 use Rattle.r6_world.specs.Tables.{put}
 use Rattle.r6_world.specs.Layouts.{IsRowOf, Layout}
 use Rattle.r6_world.specs.Geometries.{layout_of}
 use Rattle.r6_world.specs.Tasks.{Hold, Task, ReadFor, WriteFor, Rebuild, Check, Repair, kind_of}
-use Rattle.r6_world.specs.ShardStates.{Command, Shard, begun, found, frames}
+use Rattle.r6_world.specs.ShardStates.{Command, Shard, begun, found}
 use Rattle.r6_world.specs.Changes.{MayStart, Start, Allowed, after, next_check, next_repair}
 use Rattle.r6_world.specs.Steps as steps
 use Rattle.r6_world.specs.Steps.{Through, Scans}
@@ -20,25 +18,25 @@ use Rattle.r6_frames.specs.declared.frames.Frames.{Frames}
 use Rattle.r6_frames.specs.declared.frames.HeldRow.{HeldRow}
 use Rattle.r6_frames.specs.declared.frames.Job.{Job}
 use Rattle.r6_frames.specs.Views.{frame_of, held_for, held_requests, hold_at, hold_of, is_scrub, kind_in, row_in, shard_with, use_at, AreLive}
-use Rattle.r6_frames.specs.Calls.{Between, Drives, IsFreeFrame, IsHeldFrame, KeepsOthers, KeepsRows, PutsOut}
+use Rattle.r6_frames.specs.Calls.{Between, Drives, IsFreeFrame, IsHeldFrame, KeepsDirects, KeepsOthers, KeepsReads, KeepsRows, PutsOut}
 use Rattle.r6_frames.specs.Owed.{owed, IsDriven, IsOver}
 use Rattle.r6_frames.specs.Slots.{states_of}
 use Rattle.r6_frames.specs.Sound as held
 use Rattle.r6_frames.proofs.Held.{put_own}
 use Rattle.r6_frames.proofs.Resting.{frame-held, free_is, goes_on}
 use Rattle.r6_core.specs.declared.state.State.{State}
-use Rattle.r6_core.specs.Refusals.{limit, most_unanswered}
+use Rattle.r6_world.specs.ShardStates.{limit}
 use Rattle.r6_core.specs.Shards.{layout_in, requests_of, rest_of, state_of, table, waiting_request, replied_requests}
-use Rattle.r6_core.specs.Inside.{AreBounded, AreOwnRows, CanHold, CannotStart, IsCore, IsRestedFrame, IsSettled, IsSound, count_rows, is_turn, one_if}
-use Rattle.r6_core.proofs.Accepting.{others, owed_in-le}
+use Rattle.r6_core.specs.Inside.{AreBounded, AreOwnRows, CanHold, CannotStart, IsCore, IsRestedFrame, IsSettled, IsSound, count_rows, count_unheld, is_turn, one_if}
+use Rattle.r6_core.proofs.Accepting.{few_unheld, owed_in-le, room_for_all}
 use Rattle.r6_core.proofs.CountedRows.{row_weight, rows_counted_but_one, rows_counted_still}
-use Rattle.r6_core.proofs.Going.{no_rest}
+use Rattle.r6_core.proofs.Going.{no_rest, reading_kept}
 use Rattle.r6_core.proofs.Kept.{own_rows_kept, requests_kept, sizes_kept}
 use Rattle.r6_core.proofs.Scrubs.{Weighs, scrub_weight, scrubs_weigh, turn_weight, turns_weigh}
 use Rattle.r6_core.proofs.SlotsKept.{drives_keep, calls_same}
 use Rattle.r6_core.proofs.Starting.{no_row, not_held, scans}
 use Rattle.r6_core.proofs.Throughs.{keeps_or_gives, through_in, through_of}
-use Rattle.r6_core.proofs.Waking.{none_more}
+use Rattle.r6_core.proofs.Waking.{frees_kept, none_more}
 
 -- ---- the limits
 
@@ -53,24 +51,6 @@ at_most_one test (Some x) = by_test (test x.1)
 pub few_rows : (test : Job → Bool) (held : List FrameUse) → count_rows test held ≤ length held
 few_rows test [] = omega arith
 few_rows test (u ∷ held) = omega (arith, few_rows test held, at_most_one test (option_map held_for (row_in u)))
-
--- with so few frames, and so few requests that wait, so many commands may come at most
-room_for_all : (slots waiting held owes : ℕ) → slots ≤ 32 → owes ≤ held * (2 * slots) → held ≡ frames → waiting ≤ most_unanswered
-    → owes + 2 * slots * waiting ≤ 2 * 32 * (most_unanswered + frames)
-room_for_all slots waiting held owes few at_most_owes count all =
-    let both : (held + waiting) * (2 * slots) ≡ held * (2 * slots) + waiting * (2 * slots) = add-mul held waiting (2 * slots) in
-    let turned : 2 * slots * waiting ≡ waiting * (2 * slots) = mul_comm (2 * slots) waiting in
-    let rows : held + waiting ≤ 320 = omega (arith, count, all) in
-    let commands : 2 * slots ≤ 64 = omega arith in
-    let at_most : (held + waiting) * (2 * slots) ≤ 320 * 64 = mul-le-mul rows commands in
-    omega (arith, both, turned, at_most, at_most_owes)
-
--- what waits is as many requests as are unanswered at most
-few_waiting : (s : State) → IsSound s → length s.waiting.items ≤ most_unanswered
-few_waiting s sound =
-    let all = length-append (map waiting_request s.waiting.items) (others s) in
-    let many = length-map s.waiting.items waiting_request in
-    omega (arith, all, many, sound.requests.counted, sound.requests.few)
 
 -- ---- the row may be held
 
@@ -149,6 +129,7 @@ pub record IsTurnTaken (s : State) (task : Task) (frame row check_row repair_row
   pub all_owed : new.commands.next + owed new ≤ mid.commands.next + owed mid
   pub live : AreLive new
   pub goes_out : IsOver new frame → ⊥
+  pub directs : KeepsDirects s.frames new
 
 module _ (s : State) (task : Task) (frame row check_row repair_row : ℕ) (mid new : Frames) (is : IsTurnTaken s task frame row check_row repair_row mid new) where
   abbrev pub turned : State
@@ -163,21 +144,19 @@ module _ (s : State) (task : Task) (frame row check_row repair_row : ℕ) (mid n
   frames_same : (other : ℕ) → other ≢ frame → use_at new.held other ≡ use_at s.frames.held other
   frames_same other ne = is.others_kept other ne ∙ is.begun_others other ne
 
+  reads_same : KeepsReads s.frames new
+  reads_same = is.drives.3 ∙ is.begins.shard.3
+
   requests_same : requests_of turned ≡ requests_of s
   requests_same = λ i. map waiting_request s.waiting.items
-      ++ ((is.requests ∙ is.begins.requests) i ++ replied_requests ((is.live.1 ∙ sym is.can.0.1) i) s.released s.replies.items)
+      ++ (((is.requests ∙ is.begins.requests) i ++ reads_same i) ++ replied_requests ((is.live.1 ∙ sym is.can.0.1) i) s.released s.replies.items)
 
   -- the frame was free, and its row is held
   not_frame : (f : ℕ) → IsFreeFrame new f → f ≢ frame
   not_frame f free e = let both : Some is.held_still.0 ≡ None = sym is.held_still.1 ∙ ap (hold_at new.held) (sym e) ∙ no_row new f free in absurd (cc)
 
-  turned_waits : AllByRecursion (CannotStart new) s.waiting.items
-  turned_waits =
-      none_more s.frames new s.waiting.items geometry_same (λ live. is.can.0)
-      (λ row unheld f h there.
-      let apart : f ≢ frame = λ e. let both : Some h ≡ None = sym there ∙ ap (hold_at s.frames.held) e ∙ no_row s.frames frame is.can.1 in absurd (cc) in
-      unheld f h (ap row_in (frames_same f apart) ∙ there))
-      (λ f free. (free.0, sym (frames_same f (not_frame f free)) ∙ free.1)) is.core.waits
+  turned_slots : states_of new.slots ≡ states_of s.frames.slots
+  turned_slots = drives_keep no_rest mid new is.drives ∙ ap (λ (x : Shard). x.slot) (is.begins.shard.2 no_rest)
 
   -- the hold has put out a command
   turned_tokens : s.frames.commands.next < new.commands.next
@@ -195,6 +174,16 @@ module _ (s : State) (task : Task) (frame row check_row repair_row : ℕ) (mid n
             ap (λ (x : Shard). x.command out.0) (sym (is.begins.shard.2 rest)) ∙ ap (λ (command : ℕ → Option Command). command out.0) (sym same) ∙ out.2 in
             absurd ((free_is rest s.frames frame is.core.settled.sound.frames is.can.0 is.can.1).2 out.0 out.1 before out.4)
       ]
+
+  turned_waits : AllByRecursion (CannotStart new) s.waiting.items
+  turned_waits =
+      none_more s.frames new s.waiting.items
+      (record { geometry = geometry_same; live = λ live. is.can.0; slots = turned_slots; tokens = omega (arith, turned_tokens) })
+      (frees_kept s.frames new is.directs)
+      (λ row unheld f h there.
+      let apart : f ≢ frame = λ e. let both : Some h ≡ None = sym there ∙ ap (hold_at s.frames.held) e ∙ no_row s.frames frame is.can.1 in absurd (cc) in
+      unheld f h (ap row_in (frames_same f apart) ∙ there))
+      (λ f free. (free.0, sym (frames_same f (not_frame f free)) ∙ free.1)) is.core.waits
 
   -- the row is held for the task, and the others for what they were
   turned_rows : (test : Job → Bool) (weight : Task → ℕ) → Weighs test weight → count_rows test new.held ≡ count_rows test s.frames.held + weight task
@@ -220,9 +209,6 @@ module _ (s : State) (task : Task) (frame row check_row repair_row : ℕ) (mid n
         ];
       }
 
-  turned_slots : states_of new.slots ≡ states_of s.frames.slots
-  turned_slots = drives_keep no_rest mid new is.drives ∙ ap (λ (x : Shard). x.slot) (is.begins.shard.2 no_rest)
-
   turned_settled : IsSettled turned
   turned_settled =
       let sound = is.core.settled.sound in
@@ -247,14 +233,16 @@ module _ (s : State) (task : Task) (frame row check_row repair_row : ℕ) (mid n
           };
           tokens =
               let owes = owed_in-le mid.geometry.slots mid.held (λ f h there. (is.begun_sound.frames.rows f h there).wide) in
-              let room = room_for_all mid.geometry.slots (length s.waiting.items) (length mid.held) (owed mid) is.begun_sound.shape.slots_allowed.1 owes is.begun_sound.frames.count (few_waiting s sound) in
-              let slots = ap (λ g. 2 * g.slots * length s.waiting.items) is.drives.0 in
+              let room = room_for_all mid.geometry.slots (count_unheld s) (length mid.held) (owed mid) is.begun_sound.shape.slots_allowed.1 owes is.begun_sound.frames.count (few_unheld s sound) in
+              let slots : 2 * new.geometry.slots * count_unheld turned ≡ 2 * mid.geometry.slots * count_unheld s =
+              λ i. 2 * (is.drives.0 i).slots * (length s.waiting.items + length (reads_same i)) in
               let next = ap (λ (x : Shard). x.tokens) (is.begins.shard.2 no_rest) in
               omega (arith, room, slots, next, is.all_owed, is.given);
           accepted = sound.accepted;
           counted = turned_counts;
           next_rows = own_rows_kept s.frames new check_row repair_row geometry_same shard_same is.own;
         };
+        reading = reading_kept s.frames new reads_same is.core.settled.reading;
         rested = λ live f. elim (cases_eq f frame) [
           | inl e ↦ subst (IsRestedFrame turned) (sym e) (is.driven, is.goes_out)
           | inr ne ↦

@@ -11,7 +11,9 @@ pub mod Delivering
 pub mod Entering
 pub mod Fresh
 pub mod Gathering
+pub mod Giving
 pub mod Going
+pub mod HandedBack
 pub mod HeldRebuilds
 pub mod HeldRequests
 pub mod HeldTurns
@@ -20,9 +22,10 @@ pub mod Known
 pub mod Looking
 pub mod Losing
 pub mod MayBegin
-pub mod NoneReading
 pub mod OneCore
 pub mod Passed
+pub mod ReadOn
+pub mod ReadStarts
 pub mod Rebuilding
 pub mod MarkedRows
 pub mod Releasing

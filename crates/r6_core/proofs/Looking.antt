@@ -14,7 +14,7 @@ use Rattle.r6_frames.specs.Slots.{states_of}
 use Rattle.r6_core.specs.declared.state.State.{State}
 use Rattle.r6_core.specs.Shards.{Step, layout_in, state_of, call_of, core_of}
 use Rattle.r6_core.specs.Order.{SameReplies, Agrees, Finishes, IsRising, ReleasesAll, InTurn, HaveTurns, HaveTurnsAfter}
-use Rattle.r6_core.specs.Inside.{SameFrames, NoCalls, IsCore, IsSettled, ReleasesFinished, Seen}
+use Rattle.r6_core.specs.Inside.{ReadAgain, SameFrames, NoCalls, IsCore, IsSettled, ReleasesFinished, Seen}
 use Rattle.r6_core.proofs.AtRest.{at_rest}
 use Rattle.r6_core.proofs.Releasing.{released_nothing}
 use Rattle.r6_core.proofs.Scanned.{all_stopped, turns_in}
@@ -67,7 +67,7 @@ pub record TookOver (s mid : State) (seen : Snapshot) : Type 0 where
   pub slots : (slot : ℕ) → slot < s.frames.geometry.slots → states_of mid.frames.slots slot ≡ adopted (states_of s.frames.slots slot) (status_of seen slot)
   pub same : SameFrames s mid
   pub order : Seen SameReplies s mid
-  pub waiting : mid.waiting ≡ s.waiting
+  pub again : ReadAgain s mid
 
 step_from : (s mid new : State) (seen : Snapshot) → TookOver s mid seen → SameFrames s new → Looks (layout_in s) s.frames.shard seen.failed (state_of mid) (state_of new)
     → AtRest (layout_in s) s.frames.shard (state_of new) → Step (core_of s) (Look seen) (core_of new)
@@ -171,10 +171,10 @@ looked_releases s mid settled released new seen same done order kept = (
   kept.0 ∙ order.1,
 )
 
-pub looked_turns : (s mid settled released new : State) (seen : Snapshot) → TookOver s mid seen → HasSettled s mid settled seen → HasReleased mid settled released new
-    → released.waiting ≡ settled.waiting → HaveTurns (core_of released) (state_of released) released.waiting.items (core_of new)
+pub looked_turns : (s mid settled released new : State) (seen : Snapshot) (took : TookOver s mid seen) → HasSettled s mid settled seen → HasReleased mid settled released new
+    → (Agrees (core_of s) seen → took.again.0 ≡ []) → released.waiting ≡ settled.waiting → HaveTurns (core_of released) (state_of released) released.waiting.items (core_of new)
     → HaveTurnsAfter (core_of s) seen (core_of new)
-looked_turns s mid settled released new seen took done has waiting turns = λ unfailed.
+looked_turns s mid settled released new seen took done has none waiting turns = λ unfailed.
     let shape = done.same.0 ∙ took.same.0 in
     let shard = done.same.1 ∙ took.same.1 in
     let own = turns_in s.frames.geometry released.frames.geometry s.frames.shard released.frames.shard (state_of released) (state_of new) released.waiting.items new.waiting.items
@@ -184,19 +184,23 @@ looked_turns s mid settled released new seen took done has waiting turns = λ un
       took.takes,
       state_of settled,
       through_in s.frames.geometry mid.frames.geometry s.frames.shard mid.frames.shard GoesOn (state_of mid) (state_of settled) took.same.0 took.same.1 done.leads,
-      done.stays,
-      subst (λ rs. HaveTurns (core_of s) (after (layout_in s) (state_of settled) Release) rs (core_of new)) (ap (λ b. b.items) (waiting ∙ done.waiting ∙ took.waiting)) from,
+      took.again.0,
+      took.again.1,
+      (λ agrees. (done.stays agrees, none agrees)),
+      subst (λ rs. HaveTurns (core_of s) (after (layout_in s) (state_of settled) Release) rs (core_of new)) (ap (λ b. b.items) (waiting ∙ done.waiting) ∙ took.again.2) from,
     )
 
-pub stopped_turns : (s mid : State) (seen : Snapshot) → TookOver s mid seen → mid.frames.saw_failed ≡ true → (Agrees (core_of s) seen → state_of mid ≡ state_of s)
-    → HaveTurnsAfter (core_of s) seen (core_of mid)
-stopped_turns s mid seen took failed stays = λ unfailed. (
+pub stopped_turns : (s mid : State) (seen : Snapshot) (took : TookOver s mid seen) → mid.frames.saw_failed ≡ true → (Agrees (core_of s) seen → state_of mid ≡ state_of s)
+    → (Agrees (core_of s) seen → took.again.0 ≡ []) → HaveTurnsAfter (core_of s) seen (core_of mid)
+stopped_turns s mid seen took failed stays none = λ unfailed. (
   state_of mid,
   took.takes,
   state_of mid,
   ([], refl),
-  stays,
-  subst (λ x. HaveTurns (core_of s) x s.waiting.items (core_of mid)) (released_nothing mid failed)
-      (subst (λ rs. InTurn (layout_in s) s.frames.shard (state_of mid) rs (state_of mid) mid.waiting.items) (ap (λ b. b.items) took.waiting)
+  took.again.0,
+  took.again.1,
+  (λ agrees. (stays agrees, none agrees)),
+  subst (λ x. HaveTurns (core_of s) x (s.waiting.items ++ took.again.0) (core_of mid)) (released_nothing mid failed)
+      (subst (λ rs. InTurn (layout_in s) s.frames.shard (state_of mid) rs (state_of mid) mid.waiting.items) took.again.2
       (all_stopped (layout_in s) s.frames.shard (state_of mid) mid.waiting.items (λ live. let not = live.1 in absurd (cc)))),
 )

@@ -1,15 +1,17 @@
 -- A device is lost: its slot goes out, and the loss is to be declared.
-use Rattle.std.proofs.Common.{◌≡◌, ◌≢◌, ℕ, zero, suc, ◌+◌, ◌<◌, ◌≤◌, ◌⊎◌, Bool, true, false, cond, [], ◌∷◌, ◌++◌, map, length, refl, sym, ap, subst, ◌∙◌, Some, inl, inr, arith, length-append}
+use Rattle.std.proofs.Common.{◌≡◌, ◌≢◌, ℕ, zero, suc, ◌+◌, ◌<◌, ◌≤◌, ◌⊎◌, Bool, true, false, cond, [], ◌∷◌, ◌++◌, map, length, take, drop, refl, sym, ap, subst, ◌∙◌, Option, Some, inl, inr, arith, length-append}
 use Rattle.std.proofs.lemmas.Bool.{cases_eq, cases_lt, false≢true}
 use Rattle.std.proofs.lemmas.List.{map-append}
 use Rattle.circular_buffer.specs.Buffer.{Buffer, buffer}
 use Rattle.r6_layout.specs.Layout as layout
-use Rattle.r6_stripe.specs.Plans.{is_out}
+use Rattle.std.specs.Map.{keys_of}
+use Rattle.std.specs.Prelude.{nat_lt}
+use Rattle.r6_stripe.specs.Plans.{is_in_sync, is_out}
+use Rattle.r6_frames.specs.Directs.{IsOfDirect, is_stopped, read_requests}
 use Rattle.r6_layout.specs.Shape.{Shape}
 use Rattle.r6_world.specs.Tables.{put, count_below}
-use Rattle.r6_world.specs.Geometries.{layout_of}
 use Rattle.r6_world.specs.ShardStates as shards
-use Rattle.r6_world.specs.ShardStates.{Shard, Missing, standing_of}
+use Rattle.r6_world.specs.ShardStates.{Shard, SlotState, Synced, Missing, Building, standing_of}
 use Rattle.r6_world.specs.Changes.{Lose, after}
 use Rattle.r6_world.specs.Steps.{GoesOn, Through, Error, Taken}
 use Rattle.r6_world.proofs.Geometries.{layouts}
@@ -23,7 +25,7 @@ use Rattle.r6_frames.specs.declared.slots.Device.{Device}
 use Rattle.r6_stripe.specs.Holds.{cell_at}
 use Rattle.r6_frames.specs.declared.slots.Device.TheVariants as device
 use Rattle.r6_frames.specs.Slots.{state_of as state_of_device, slot_in, states_of, count_out, is_abandoned}
-use Rattle.r6_frames.specs.Views.{use_at, row_in, hold_at, outstanding, held_requests, shard_with, AreLive}
+use Rattle.r6_frames.specs.Views.{use_at, row_in, hold_at, outstanding, held_requests, reads_on, shard_with, AreLive}
 use Rattle.r6_frames.specs.Calls.{Loses, KeepsRows}
 use Rattle.r6_frames.specs.Owed.{owed}
 use Rattle.r6_frames.specs.Sound as held
@@ -33,11 +35,14 @@ use Rattle.r6_core.specs.declared.call.Call.{Call}
 use Rattle.r6_core.specs.declared.call.Call.TheVariants as call
 use Rattle.r6_core.specs.declared.state.State.{State}
 use Rattle.r6_core.specs.Shards.{call_of, state_of, rest_of, layout_in}
-use Rattle.r6_core.specs.Inside.{IsSound, TakesThrough, count_slots, most_calls, is_missing, is_settled}
+use Rattle.r6_frames.specs.Reads.{KeepsReaders}
+use Rattle.r6_core.specs.Order.{Finishes}
+use Rattle.r6_core.proofs.HandedBack.{were_read}
+use Rattle.r6_core.specs.Inside.{HandsBack, IsSettled, IsSound, ReadAgain, Seen, TakesThrough, count_slots, most_calls, is_missing, is_settled}
 use Rattle.r6_core.proofs.CallRoom.{few_slots}
-use Rattle.r6_core.proofs.Going.{no_rest, Goes, gone_on, gone_state}
+use Rattle.r6_core.proofs.Going.{no_rest, Goes, gone_on, rest_with}
+use Rattle.r6_core.proofs.ReadOn.{keys_on, requests_on, tables_on}
 use Rattle.r6_core.proofs.Throughs.{through_in}
-use Rattle.r6_core.proofs.NoneReading.{none_asked, none_reading}
 
 -- ---- counts
 
@@ -76,10 +81,18 @@ there_for (device.Synced generation) row home = refl
 there_for device.Missing row home = absurd (cc)
 there_for (device.Building generation rebuilt) row home = refl
 
+synced_there : (state : SlotState) (row : ℕ) → is_in_sync (standing_of state row) ≡ true → is_missing state ≡ false
+synced_there (Synced generation) row is = refl
+synced_there Missing row is = absurd (cc)
+synced_there (Building generation built) row is = refl
+
 pub wanted_there : (fs : Frames) (token : ℕ) (c : Outstanding) → held.IsSound fs → outstanding fs token ≡ Some c → is_abandoned fs.slots token c ≡ false → is_missing (states_of fs.slots c.slot) ≡ false
 wanted_there fs token c sound is wanted =
     elim (live_or_not fs) [
-      | inl live ↦ by_use live (use_at fs.held c.frame) refl
+      | inl live ↦ elim (cases_lt c.frame 64) [
+        | inl lower ↦ by_use live lower (use_at fs.held c.frame) refl
+        | inr higher ↦ of_read (sound.directs.of_direct token c is (omega arith))
+      ]
       | inr stopped ↦ absurd (false≢true (sym wanted ∙ sound.commands.stopped stopped token c is))
     ]
   where
@@ -92,9 +105,18 @@ wanted_there fs token c sound is wanted =
         let at = target.1 in
         ap (λ (k : ℕ). is_missing (states_of fs.slots k)) (sym slot ∙ at.slot) ∙ ap (λ (d : Device). is_missing (state_of_device d)) at.device
 
-    of_row : AreLive fs → (h : HeldRow) → hold_at fs.held c.frame ≡ Some h → is_missing (states_of fs.slots c.slot) ≡ false
-    of_row live h there =
-        let of = (sound.commands.of_frame live token c is).held h there in
+    -- a direct read goes to a device that is in sync for its row
+    of_read : ((number : ℕ) × IsOfDirect fs.slots fs.directs token c number) → is_missing (states_of fs.slots c.slot) ≡ false
+    of_read of =
+        let read = of.1.read wanted in
+        let r = read.0 in
+        let same : is_stopped fs.slots r ≡ false = (λ i. nat_lt (read.2 i) (slot_in fs.slots (read.3 i)).since) ∙ wanted in
+        let synced = sound.directs.synced of.0 r read.1 same in
+        ap (λ (k : ℕ). is_missing (states_of fs.slots k)) (sym read.3) ∙ synced_there (states_of fs.slots r.slot) (layout.row_of fs.geometry r.served.block) synced
+
+    of_row : AreLive fs → c.frame < 64 → (h : HeldRow) → hold_at fs.held c.frame ≡ Some h → is_missing (states_of fs.slots c.slot) ≡ false
+    of_row live lower h there =
+        let of = (sound.commands.of_frame live token c is lower).held h there in
         let row = sound.frames.rows c.frame h there in
         let inside = sound.commands.lawful token c is in
         let place = (layouts fs.geometry sound.shape).there c.row c.slot inside.1.0 inside.0 in
@@ -103,11 +125,11 @@ wanted_there fs token c sound is wanted =
         let home = sym of.abandoned ∙ wanted in
         there_by h (place_of fs c) slot home stands
 
-    by_use : AreLive fs → (u : FrameUse) → use_at fs.held c.frame ≡ u → is_missing (states_of fs.slots c.slot) ≡ false
-    by_use live uses.Free u =
-        absurd (false≢true (sym (ap (λ (u : FrameUse). is_away_from u (place_of fs c)) u) ∙ (sound.commands.of_frame live token c is).away))
-    by_use live (uses.Held h) u = of_row live h (ap row_in u)
-    by_use live (uses.Returning r) u = absurd (false≢true (sym wanted ∙ (sound.commands.of_frame live token c is).ended (ap row_in u)))
+    by_use : AreLive fs → c.frame < 64 → (u : FrameUse) → use_at fs.held c.frame ≡ u → is_missing (states_of fs.slots c.slot) ≡ false
+    by_use live lower uses.Free u =
+        absurd (false≢true (sym (ap (λ (u : FrameUse). is_away_from u (place_of fs c)) u) ∙ (sound.commands.of_frame live token c is lower).away))
+    by_use live lower (uses.Held h) u = of_row live lower h (ap row_in u)
+    by_use live lower (uses.Returning r) u = absurd (false≢true (sym wanted ∙ (sound.commands.of_frame live token c is lower).ended (ap row_in u)))
 
 -- ---- the loss
 
@@ -115,7 +137,7 @@ wanted_there fs token c sound is wanted =
 lost_more : (old new : Frames) (token slot generation : ℕ) → held.IsSound old → Loses old token slot generation new
     → most_calls old + 1 ≤ most_calls new
 lost_more old new token slot generation sound loses =
-    let lost = loses.2 no_rest none_asked in
+    let lost = loses.2 no_rest in
     let c = lost.0 in
     let there = command-there no_rest old token c lost.4.0 in
     let x = there.0 in
@@ -153,8 +175,9 @@ lost_goes s fs calls token slot generation sound frames loses tokens requests ro
       sound = frames;
       geometry = loses.0;
       shard = loses.1;
-      seen = ap (λ (x : Shard). x.saw_failed) (loses.2 no_rest none_asked).5;
+      seen = ap (λ (x : Shard). x.saw_failed) (loses.2 no_rest).5;
       requests = requests;
+      reads = ap keys_of loses.3 ∙ keys_on fs (read_requests s.frames);
       rows = rows;
       tokens = let a = tokens.0 in let b = tokens.1 in omega (arith, a, b);
       given = let b = tokens.1 in omega (arith, b);
@@ -166,13 +189,34 @@ lost_goes s fs calls token slot generation sound frames loses tokens requests ro
     }
 
 -- the loss, with what holds do behind it
-pub lost_takes : (s : State) (fs : Frames) (calls : Buffer Call) (token slot generation : ℕ) (new : State) → Goes s fs calls → Loses s.frames token slot generation fs
-    → calls ≡ buffer (s.calls.items ++ call.DeclareLost slot generation ∷ []) s.calls.capacity
-    → Through (layout_of fs.geometry) fs.shard GoesOn (state_of (gone_on s fs calls)) (state_of new) → TakesThrough s token Error Taken new
-lost_takes s fs calls token slot generation new goes loses pushed leads =
-    let lost = loses.2 (rest_of s) (none_reading s) in
+pub lost_takes : (s : State) (fs : Frames) (calls : Buffer Call) (token slot generation : ℕ) (back new : State) → Goes s fs calls → Loses s.frames token slot generation fs
+    → calls ≡ buffer (s.calls.items ++ call.DeclareLost slot generation ∷ []) s.calls.capacity → HandsBack (gone_on s fs calls) back
+    → Through (layout_in back) back.frames.shard GoesOn (state_of back) (state_of new) → TakesThrough s token Error Taken new
+lost_takes s fs calls token slot generation back new goes loses pushed handed leads =
+    let lost = loses.2 (rest_of s) in
     let more = ap (λ (b : Buffer Call). map call_of b.items) pushed ∙ map-append call_of s.calls.items (call.DeclareLost slot generation ∷ []) in
-    let is : state_of (gone_on s fs calls) ≡ after (layout_in s) (state_of s) (Lose token lost.0) =
-    gone_state s fs calls goes ∙ ap (λ cs. shard_with (record (rest_of s) { calls = cs }) fs) more ∙ lost.5 in
-    let behind = through_in s.frames.geometry fs.geometry s.frames.shard fs.shard GoesOn (state_of (gone_on s fs calls)) (state_of new) loses.0 loses.1 leads in
+    let is : state_of back ≡ after (layout_in s) (state_of s) (Lose token lost.0) =
+    handed.state
+    ∙ ap (λ (request : ℕ → Option shards.Request). shard_with (record (rest_with s calls) { request = request }) fs)
+    (tables_on s fs _ (requests_on s (gone_on s fs calls) refl refl refl goes.requests loses.3 goes.seen))
+    ∙ ap (λ cs. shard_with (record (reads_on fs (rest_of s)) { calls = cs }) fs) more ∙ lost.5 in
+    let behind = through_in s.frames.geometry back.frames.geometry s.frames.shard back.frames.shard GoesOn (state_of back) (state_of new)
+    (handed.geometry.0 ∙ loses.0) (handed.geometry.1 ∙ loses.1) leads in
     (Lose token lost.0, (refl, lost.3), lost.4, subst (λ (x : Shard). Through (layout_in s) s.frames.shard GoesOn x (state_of new)) is behind)
+
+-- direct reads from the slot wait again
+pub lost_again : (s : State) (fs : Frames) (calls : Buffer Call) (back new : State) → IsSettled s → KeepsReaders s.frames fs → HandsBack (gone_on s fs calls) back
+    → new.waiting ≡ back.waiting → ReadAgain s new
+lost_again s fs calls back new core readers handed waiting = (
+  handed.again,
+  were_read s fs 0 handed.again core.sound core.reading (λ number r has. sym (readers number) ∙ has) handed.were,
+  ap (λ b. b.items) waiting ∙ handed.waiting,
+)
+
+pub lost_order : (s : State) (fs : Frames) (calls : Buffer Call) (back new : State) → HandsBack (gone_on s fs calls) back → Seen Finishes back new → Seen Finishes s new
+lost_order s fs calls back new handed order = (
+  order.0,
+  order.1,
+  order.2 ∙ (λ i. drop (handed.rest i).released (handed.rest i).replies.items ++ order.0),
+  order.3 ∙ (λ i. take (handed.rest i).released (handed.rest i).replies.items),
+)

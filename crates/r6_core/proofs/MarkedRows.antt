@@ -23,11 +23,12 @@ use Rattle.r6_frames.specs.declared.rebuilt.Target.{Target}
 use Rattle.r6_frames.specs.Rebuilt.{is_rebuilt}
 use Rattle.r6_frames.specs.Slots.{state_of as slot_state, states_of}
 use Rattle.r6_frames.specs.Views.{held_for, hold_at, requests_from, shard_with, use_at, AreLive}
-use Rattle.r6_frames.specs.Calls.{BringsIn, Ends, KeepsHolds, KeepsOthers, Marks, MayMark}
+use Rattle.r6_frames.specs.Calls.{BringsIn, Ends, KeepsHolds, KeepsOthers, Marks, MayMark, KeepsReads}
 use Rattle.r6_frames.specs.Owed.{owed, owed_in}
 use Rattle.r6_frames.specs.Sound as held
 use Rattle.r6_core.specs.declared.call.Call.{Call}
 use Rattle.r6_core.specs.declared.call.Call.TheVariants as call
+use Rattle.std.specs.Map.{keys_of}
 use Rattle.r6_core.specs.declared.state.State.{State}
 use Rattle.r6_core.specs.Shards.{call_of, layout_in, rest_of, state_of}
 use Rattle.r6_core.specs.Inside.{FinishesHeld, IsMarked, IsRestedFrame, IsSound, count_slots, count_untold, is_missing, is_settled, most_calls, one_rebuilt}
@@ -94,15 +95,16 @@ module _ (s : State) (frame : ℕ) (target : Target) (row : ℕ) (fs : Frames) (
   -- the frames hold what they held, and the calls are these
   module _ (new : State) (new_sound : held.IsSound new.frames) (holds : KeepsHolds fs new.frames) (commands : new.frames.commands ≡ fs.commands)
       (same : new ≡ gone_on mid new.frames new.calls) where
-    goes_by : new.frames.geometry ≡ fs.geometry → new.frames.shard ≡ fs.shard → new.frames.saw_failed ≡ fs.saw_failed → new.calls.capacity ≡ s.calls.capacity
+    goes_by : KeepsReads fs new.frames → new.frames.geometry ≡ fs.geometry → new.frames.shard ≡ fs.shard → new.frames.saw_failed ≡ fs.saw_failed → new.calls.capacity ≡ s.calls.capacity
         → length new.calls.items + count_untold s.untold ≤ most_calls new.frames → Goes mid new.frames new.calls
-    goes_by geometry shard seen room few =
+    goes_by reads geometry shard seen room few =
         record {
           sound = new_sound;
           geometry = geometry;
           shard = shard;
           seen = seen;
           requests = ap (λ (held : List FrameUse). requests_from 0 held) holds;
+          reads = ap keys_of reads;
           rows = λ other. ap (λ (held : List FrameUse). option_map held_for (hold_at held other)) holds;
           tokens =
               let given = ap (λ (t : Commands). t.next) commands in
@@ -122,7 +124,7 @@ module _ (s : State) (frame : ℕ) (target : Target) (row : ℕ) (fs : Frames) (
         let missing = as_many is_missing (ap (λ (x : SlotState). is_missing (with_row x row)) building ∙ sym (ap is_missing building)) in
         let settled = as_many is_settled (ap (λ (x : SlotState). is_settled (with_row x row)) building ∙ sym (ap is_settled building)) in
         let calls = ap (λ (b : Buffer Call). length b.items) m.1 in
-        goes_by marks.0 marks.1 (ap (λ (x : Shard). x.saw_failed) (marks.2 no_rest)) (ap (λ (b : Buffer Call). b.capacity) m.1)
+        goes_by marks.3 marks.0 marks.1 (ap (λ (x : Shard). x.saw_failed) (marks.2 no_rest)) (ap (λ (b : Buffer Call). b.capacity) m.1)
         (omega (arith, missing, settled, calls, mid_sound.room.few_calls))
 
     goes_brought : BringsIn fs target row new.frames × (new.calls.items ≡ s.calls.items ++ call.ReportRebuilt target.slot target.generation ∷ []) × (new.calls.capacity ≡ s.calls.capacity)
@@ -140,7 +142,7 @@ module _ (s : State) (frame : ℕ) (target : Target) (row : ℕ) (fs : Frames) (
         count-more n target.slot (λ d. is_settled (states_of fs.slots d)) (λ d. is_settled (put (states_of fs.slots) target.slot in_sync d)) may.0 (ap is_settled building)
         (ap is_settled (put-same (states_of fs.slots) target.slot in_sync target.slot refl)) (λ d ne. ap is_settled (put-other (states_of fs.slots) target.slot in_sync d ne)) in
         let calls = ap length b.1 ∙ length-append s.calls.items (call.ReportRebuilt target.slot target.generation ∷ []) in
-        goes_by brings.0 brings.1 (ap (λ (x : Shard). x.saw_failed) (brings.2 no_rest).1) b.2
+        goes_by brings.3 brings.0 brings.1 (ap (λ (x : Shard). x.saw_failed) (brings.2 no_rest).1) b.2
         (omega (arith, missing, settled, more, calls, mid_sound.room.few_calls))
 
     -- ---- in the world
@@ -160,13 +162,13 @@ module _ (s : State) (frame : ℕ) (target : Target) (row : ℕ) (fs : Frames) (
     mid_is : state_of mid ≡ left s frame end fs s.replies (one_rebuilt s.counts) h sound live ends is last refl
     mid_is = ended_is s frame end fs s.replies (one_rebuilt s.counts) h sound live ends is last refl
 
-    state_is : Goes mid new.frames new.calls → state_of new ≡ shard_with (rest_with mid new.calls) new.frames
-    state_is goes = ap state_of same ∙ gone_state mid new.frames new.calls goes
+    state_is : Goes mid new.frames new.calls → KeepsReads fs new.frames → state_of new ≡ shard_with (rest_with mid new.calls) new.frames
+    state_is goes reads = ap state_of same ∙ gone_state mid new.frames new.calls goes reads
 
     pub leads_marked : Marks fs target row new.frames × (new.calls ≡ s.calls) → Through (layout_in s) s.frames.shard GoesOn (state_of s) (state_of new)
     leads_marked m =
         let is_now : state_of new ≡ marked_left =
-        state_is (goes_marked m)
+        state_is (goes_marked m) m.0.3
         ∙ (λ i. shard_with (rest_with mid (m.1 i)) new.frames)
         ∙ m.0.2 (rest_of mid)
         ∙ (λ i. record (mid_is i) { slot = put (mid_is i).slot target.slot (with_row ((mid_is i).slot target.slot) row) }) in
@@ -205,7 +207,7 @@ module _ (s : State) (frame : ℕ) (target : Target) (row : ℕ) (fs : Frames) (
         ap (map call_of) b.1 ∙ map-append call_of s.calls.items (call.ReportRebuilt target.slot target.generation ∷ []) in
         let x = left s frame end fs s.replies (one_rebuilt s.counts) h sound live ends is last refl in
         let is_now : state_of new ≡ after l marked_left bring =
-        state_is (goes_brought b)
+        state_is (goes_brought b) b.0.3
         ∙ (b.0.2 (rest_with mid new.calls)).1
         ∙ (λ i. record (mid_is i) { slot = put (mid_is i).slot target.slot (Synced target.generation); calls = calls i })
         ∙ (λ i. record x {
@@ -245,3 +247,7 @@ module _ (s : State) (frame : ℕ) (target : Target) (row : ℕ) (fs : Frames) (
 
     pub marked_ends : FinishesHeld s frame new
     marked_ends i there over = ([], ended_requests s.frames fs frame end i ends there, ap (λ (x : State). x.replies.items) same ∙ last, none_now)
+
+    pub marked_reads : IsMarked (record s { frames = fs }) target row new → KeepsReads s.frames new.frames
+    marked_reads (inl m) = m.0.3 ∙ ends.shard.3
+    marked_reads (inr b) = b.0.3 ∙ ends.shard.3

@@ -1,5 +1,10 @@
 -- What releasing all that is finished does to the state.
-use Rattle.std.proofs.Common.{◌≡◌, ℕ, zero, suc, ◌+◌, ◌<◌, true, false, cond, List, [], ◌∷◌, ◌++◌, length, map, refl, sym, ap, subst, ◌∙◌, Some, arith}
+use Rattle.r6_frames.specs.Directs.{is_stopped, read_by, read_entry, read_requests, reads_from, stage_of}
+use Rattle.r6_frames.specs.declared.frames.Frames.{Frames}
+use Rattle.r6_frames.specs.declared.directs.DirectRead.{DirectRead}
+use Rattle.r6_frames.specs.declared.directs.Direct.{Direct}
+use Rattle.r6_frames.specs.declared.slots.Slot.{Slot}
+use Rattle.std.proofs.Common.{◌≡◌, ℕ, zero, suc, ◌+◌, ◌<◌, true, false, cond, List, [], ◌∷◌, ◌++◌, length, map, refl, sym, ap, subst, ◌∙◌, Some, arith, Bool, Option, None}
 use mathlib.Core.Path.{fun_ext}
 use Rattle.std.specs.Prelude.{nat_eq}
 use Rattle.std.specs.List.{IsDistinct, AllByRecursion}
@@ -14,7 +19,7 @@ use Rattle.r6_frames.specs.declared.frames.FrameUse.TheVariants as uses
 use Rattle.r6_frames.specs.Views.{held_entry, held_requests, kind_in, requests_by, requests_from}
 use Rattle.r6_frames.proofs.Lists.{Entries, table}
 use Rattle.r6_core.specs.declared.state.State.{State}
-use Rattle.r6_core.specs.Shards.{state_of, layout_in, requests_of, waiting_request, finished_request, released_request, replied_requests}
+use Rattle.r6_core.specs.Shards.{state_of, layout_in, requests_of, waiting_request, finished_request, released_request, replied_requests, framed_requests}
 use Rattle.r6_core.specs.Inside.{IsSettled, ReleasesFinished, Seen}
 use Rattle.r6_core.proofs.Replied.{as_many, keys_requests, released_all}
 
@@ -48,6 +53,25 @@ held_stay frame (uses.Free ∷ held) = held_stay (frame + 1) held
 held_stay frame (uses.Held h ∷ held) = entries_stay frame (requests_by h.job (kind_in h)) (requests_from (frame + 1) held) (held_stay (frame + 1) held)
 held_stay frame (uses.Returning r ∷ held) = held_stay (frame + 1) held
 
+-- a direct read
+read_stays : (stopped : Bool) (token : ℕ) → released_stage (stage_of stopped token) ≡ stage_of stopped token
+read_stays true token = refl
+read_stays false token = refl
+
+reads_stay : (slots : List Slot) (directs : List Direct) → map entry_released (reads_from slots directs) ≡ reads_from slots directs
+reads_stay slots [] = refl
+reads_stay slots (d ∷ directs) = by_read d.read (reads_stay slots directs)
+  where
+    by_read : (o : Option DirectRead) → map entry_released (reads_from slots directs) ≡ reads_from slots directs
+        → map entry_released (read_by slots o ++ reads_from slots directs) ≡ read_by slots o ++ reads_from slots directs
+    by_read None rest = rest
+    by_read (Some r) rest = λ i. read_entry r (read_stays (is_stopped slots r) r.token i) ∷ rest i
+
+framed_stay : (fs : Frames) → map entry_released (framed_requests fs) ≡ framed_requests fs
+framed_stay fs =
+    map-append entry_released (held_requests fs) (read_requests fs)
+    ∙ (λ i. held_stay 0 fs.held i ++ reads_stay fs.slots fs.directs i)
+
 finished_go : (count : ℕ) (rs : List Request) → map entry_released (replied_requests false count rs) ≡ map released_request rs
 finished_go zero [] = refl
 finished_go zero (r ∷ rs) = ap (λ es. released_request r ∷ es) (finished_go zero rs)
@@ -63,14 +87,14 @@ failed_stay (suc count) (r ∷ rs) = ap (λ es. released_request r ∷ es) (fail
 
 -- the entries of a state, as a look leaves them
 all_go : (s : State) (replied : Entries shards.Request) → map entry_released (replied_requests s.frames.saw_failed s.released s.replies.items) ≡ replied
-    → map entry_released (requests_of s) ≡ map waiting_request s.waiting.items ++ (held_requests s.frames ++ replied)
+    → map entry_released (requests_of s) ≡ map waiting_request s.waiting.items ++ (framed_requests s.frames ++ replied)
 all_go s replied is =
     let w = map waiting_request s.waiting.items in
-    let h = held_requests s.frames in
+    let h = framed_requests s.frames in
     let p = replied_requests s.frames.saw_failed s.released s.replies.items in
     map-append entry_released w (h ++ p)
     ∙ ap (λ es. map entry_released w ++ es) (map-append entry_released h p)
-    ∙ (λ i. waiting_stay s.waiting.items i ++ (held_stay 0 s.frames.held i ++ is i))
+    ∙ (λ i. waiting_stay s.waiting.items i ++ (framed_stay s.frames i ++ is i))
 
 look-up : (s : State) (es : Entries shards.Request) → map entry_released (requests_of s) ≡ es → table es ≡ (λ q. released (table (requests_of s) q))
 look-up s es is = fun_ext (λ q. ap (λ xs. table xs q) (sym is) ∙ table-released (requests_of s) q)
@@ -115,5 +139,6 @@ released_settled s core =
         counted = sound.counted;
         next_rows = sound.next_rows;
       };
+      reading = core.reading;
       rested = core.rested;
     }

@@ -1,4 +1,6 @@
 -- What taking a reply does to the state.
+use Rattle.r6_frames.specs.Directs.{is_stopped, read_requests, stage_of}
+use Rattle.r6_frames.specs.declared.frames.Frames.{Frames}
 use Rattle.std.proofs.Common.{◌≡◌, ◌≢◌, ◌⊎◌, inl, inr, ℕ, zero, suc, ◌+◌, ◌-◌, ◌<◌, Bool, true, false, List, [], ◌∷◌, ◌++◌, map, take, drop, refl, sym, ap, subst, ◌∙◌, Option, Some, None, length, arith, append_assoc, length-append}
 use Rattle.std.specs.Prelude.{nat_eq, nat_lt, slice_get}
 use Rattle.std.specs.List.{IsDistinct, AllByRecursion}
@@ -16,11 +18,11 @@ use Rattle.r6_frames.specs.declared.op.Op.{Op as Entered}
 use Rattle.r6_frames.specs.declared.op.Op.TheVariants as op
 use Rattle.r6_frames.specs.Views.{op_of, held_requests}
 use Rattle.r6_frames.specs.Calls.{HasOneBlock}
-use Rattle.r6_core.specs.Shards.{Step, reply_of, answer_of, state_of, requests_of, waiting_request, finished_request, released_request, replied_requests, core_of}
+use Rattle.r6_core.specs.Shards.{Step, reply_of, answer_of, state_of, requests_of, waiting_request, finished_request, released_request, replied_requests, core_of, framed_requests}
 use Rattle.r6_core.specs.Order.{HasNoReply, BringsBack, TakesFirst, reply_to}
 use Rattle.r6_core.specs.Inside.{IsSettled, reply_for}
 use Rattle.r6_frames.proofs.Lists.{Entries, table, gone, own, apart, all_parts, distinct_without, looked_up}
-use Rattle.r6_core.proofs.HeldRequests.{all_held}
+use Rattle.r6_core.proofs.HeldRequests.{all_held, all_read}
 use Rattle.r6_core.proofs.Passed.{all-append}
 
 -- the first of a buffer goes
@@ -56,14 +58,23 @@ ended_unreleased : (saw_failed : Bool) (rs : List Request) → (saw_failed ≡ t
 ended_unreleased false rs none = finished_unreleased rs
 ended_unreleased true rs none = subst (λ (rs : List Request). AllUnreleased (map (finished_request true) rs)) (sym (none refl)) tt
 
+read_unreleased : (stopped : Bool) (token : ℕ) → IsUnreleased (stage_of stopped token)
+read_unreleased true token = tt
+read_unreleased false token = tt
+
+framed_unreleased : (fs : Frames) → AllUnreleased (framed_requests fs)
+framed_unreleased fs =
+    all-append (λ e. IsUnreleased e.1.stage) (held_requests fs) (read_requests fs) (all_held (λ e. IsUnreleased e.1.stage) (λ f r. tt) 0 fs.held)
+    (all_read (λ e. IsUnreleased e.1.stage) fs.slots (λ r. read_unreleased (is_stopped fs.slots r) r.token) fs.directs)
+
 none_released : (s : State) → HasNoReply (core_of s) → (id : ℕ) (op : Op) (reply : Reply) → table (requests_of s) id ≢ Some (record { op = op; stage = Released reply })
 none_released s empty id op reply is =
     let P = λ (r : shards.Request). IsUnreleased r.stage in
     let finished = drop s.released s.replies.items in
-    let es = λ (released : List Request). map waiting_request s.waiting.items ++ (held_requests s.frames ++ (map released_request released ++ map (finished_request s.frames.saw_failed) finished)) in
+    let es = λ (released : List Request). map waiting_request s.waiting.items ++ (framed_requests s.frames ++ (map released_request released ++ map (finished_request s.frames.saw_failed) finished)) in
     let all : AllUnreleased (es []) =
     all-append (λ e. P e.1) _ _ (waiting_unreleased s.waiting.items)
-    (all-append (λ e. P e.1) _ _ (all_held (λ e. P e.1) (λ f r. tt) 0 s.frames.held) (ended_unreleased s.frames.saw_failed finished empty.1)) in
+    (all-append (λ e. P e.1) (framed_requests s.frames) _ (framed_unreleased s.frames) (ended_unreleased s.frames.saw_failed finished empty.1)) in
     looked_up P id (es []) _ all (ap (λ rs. table (es rs) id) (sym empty.0) ∙ is)
 
 -- no reply is ready
@@ -135,14 +146,14 @@ module _ (s : State) (is_released : Bool) (r : Request) (rest : Buffer Request) 
 
   taken : IsTaken s is_released r (requests_of without_first)
   taken =
-      let before = map waiting_request s.waiting.items ++ held_requests s.frames in
+      let before = map waiting_request s.waiting.items ++ framed_requests s.frames in
       let behind = replied_requests s.frames.saw_failed (s.released - 1) rest.items in
       let x = answered is_released r in
       let es : requests_of s ≡ before ++ (r.id, x) ∷ behind =
-      ap (λ rs. map waiting_request s.waiting.items ++ (held_requests s.frames ++ replied_requests s.frames.saw_failed s.released rs)) is
-      ∙ ap (λ rs. map waiting_request s.waiting.items ++ (held_requests s.frames ++ rs)) (first_replied s.frames.saw_failed is_released s.released r rest.items marked failed)
-      ∙ sym (append_assoc (map waiting_request s.waiting.items) (held_requests s.frames) ((r.id, x) ∷ behind)) in
-      let fewer : requests_of without_first ≡ before ++ behind = sym (append_assoc (map waiting_request s.waiting.items) (held_requests s.frames) behind) in
+      ap (λ rs. map waiting_request s.waiting.items ++ (framed_requests s.frames ++ replied_requests s.frames.saw_failed s.released rs)) is
+      ∙ ap (λ rs. map waiting_request s.waiting.items ++ (framed_requests s.frames ++ rs)) (first_replied s.frames.saw_failed is_released s.released r rest.items marked failed)
+      ∙ sym (append_assoc (map waiting_request s.waiting.items) (framed_requests s.frames) ((r.id, x) ∷ behind)) in
+      let fewer : requests_of without_first ≡ before ++ behind = sym (append_assoc (map waiting_request s.waiting.items) (framed_requests s.frames) behind) in
       let h = subst (λ xs. IsDistinct nat_eq (keys_of xs)) es core.sound.requests.distinct in
       record {
         was = ap (λ xs. table xs r.id) es ∙ own before r.id x behind (apart before r.id x behind h);
@@ -199,5 +210,6 @@ module _ (s : State) (is_released : Bool) (r : Request) (rest : Buffer Request) 
           counted = sound.counted;
           next_rows = sound.next_rows;
         };
+        reading = core.reading;
         rested = core.rested;
       }

@@ -6,7 +6,7 @@ use Rattle.r6_layout.specs.Shape.{Shape}
 use Rattle.r6_world.specs.Layouts.{Layout}
 use Rattle.r6_world.specs.Geometries.{layout_of}
 use Rattle.r6_world.specs.ShardStates.{Shard, IsLive}
-use Rattle.r6_frames.specs.Calls.{IsFreeFrame}
+use Rattle.r6_core.specs.declared.scan.Room.{Room}
 use Rattle.r6_world.specs.Steps.{Through, Scans}
 use Rattle.r6_frames.specs.declared.op.Request.{Request}
 use Rattle.r6_frames.specs.declared.frames.Frames.{Frames}
@@ -44,7 +44,7 @@ all_wait s (r ∷ rs) settled cannot = inr (must_wait s settled r cannot.0, rs, 
 -- in a shard that has stopped none starts
 pub all_stopped : (l : Layout) (n : ℕ) (s : Shard) (rs : List Request) → (IsLive l s → ⊥) → InTurn l n s rs s rs
 all_stopped l n s [] stopped = (refl, refl)
-all_stopped l n s (r ∷ rs) stopped = inr ((λ live. absurd (stopped live)), rs, refl, all_stopped l n s rs stopped)
+all_stopped l n s (r ∷ rs) stopped = inr ((λ live could. stopped live), rs, refl, all_stopped l n s rs stopped)
 
 -- over a shape and a shard that are known to be others
 pub turns_in : (g g' : Shape) (n n' : ℕ) (old new : Shard) (requests waiting : List Request) → g' ≡ g → n' ≡ n
@@ -144,8 +144,8 @@ same_split (w ∷ xs) x ys (v ∷ zs) z ws is long =
     let more = same_split xs x ys zs z ws rest (omega arith) in
     (more.0, (λ i. first i ∷ more.1 i), more.2)
 
-pub is_next : (s : State) (from index frame : ℕ) (new : State) → IsFirstToStart s from index frame → StartsAt s index new → IsNext s from index new
-is_next s from index frame new first starts =
+pub is_next : (s : State) (from index : ℕ) (with : Room) (new : State) → IsFirstToStart s from index with → StartsAt s index new → IsNext s from index new
+is_next s from index with new first starts =
     let same = same_split starts.0 starts.1 starts.2 first.before first.request first.behind (sym starts.3 ∙ first.items) (starts.4 ∙ sym first.at) in
     record {
       before = first.before;
@@ -207,12 +207,7 @@ scanned_all old new from done none =
 -- in a shard that has stopped none can
 pub none_starts : (fs : Frames) (rs : List Request) → (AreLive fs → ⊥) → AllByRecursion (CannotStart fs) rs
 none_starts fs [] stopped = tt
-none_starts fs (r ∷ rs) stopped = ((λ live. absurd (stopped live)), none_starts fs rs stopped)
-
--- nor where no frame is free
-pub none_free : (fs : Frames) (rs : List Request) → ((frame : ℕ) → IsFreeFrame fs frame → ⊥) → AllByRecursion (CannotStart fs) rs
-none_free fs [] none = tt
-none_free fs (r ∷ rs) none = ((λ live unheld frame is. none frame is), none_free fs rs none)
+none_starts fs (r ∷ rs) stopped = ((λ live could. stopped live), none_starts fs rs stopped)
 
 -- ---- where a request stands
 

@@ -1,5 +1,5 @@
 -- What a shard that sees the failure of the array makes of its requests, and what it is then.
-use Rattle.std.proofs.Common.{◌≡◌, ◌≢◌, ℕ, zero, suc, Bool, true, false, cond, ◌+◌, ◌*◌, ◌<◌, ◌≤◌, List, [], ◌∷◌, ◌++◌, map, take, drop, refl, sym, ap, subst, ◌∙◌, Some, None, length, get_or, arith, append_assoc, length-append}
+use Rattle.std.proofs.Common.{◌≡◌, ◌≢◌, ℕ, zero, suc, Bool, true, false, cond, ◌+◌, ◌*◌, ◌<◌, ◌≤◌, List, [], ◌∷◌, ◌++◌, map, take, drop, refl, sym, ap, subst, ◌∙◌, Option, Some, None, length, get_or, arith, append_assoc, append-nil, length-append}
 use mathlib.Core.Path.{fun_ext}
 use Rattle.std.specs.Prelude.{nat_eq, option_map, IsPermutation}
 use Rattle.std.specs.List.{IsDistinct, AllByRecursion}
@@ -13,12 +13,11 @@ use Rattle.std.proofs.lemmas.List.Elements.{All-from_recursion, recursion_from_A
 use Rattle.std.proofs.lemmas.List.Sorted.{IsNonDecreasingBy-drop, IsPermutation-sym, IsPermutation-trans, IsPermutation-append_comm, IsPermutation-append_right, IsPermutation-map, All-permutation, Contains-permutation, length_permutation}
 use Rattle.std.proofs.lemmas.Map.Views.{Contains-from_lookup, lookup-from_Contains}
 use Rattle.std.proofs.lemmas.Map.Keys.{IsDistinct-head, IsDistinct-tail, IsDistinct-IsPermutation}
-use Rattle.r6_layout.specs.Shape.{Shape}
 use Rattle.r6_world.specs.PlainArray as world
 use Rattle.r6_world.specs.PlainArray.{ArrayFailed}
 use Rattle.r6_world.specs.ShardStates as shards
 use Rattle.r6_world.specs.ShardStates.{Shard, Released}
-use Rattle.r6_world.specs.Changes.{See_failed, abandoned_if, failed_stage, failed_request, after}
+use Rattle.r6_world.specs.Changes.{See_failed, abandoned_if, failed_stage, failed_request, is_going_on, read_stage, after}
 use Rattle.r6_frames.specs.FramesState.{Commands}
 use Rattle.r6_frames.specs.declared.op.Request.{Request}
 use Rattle.r6_frames.specs.declared.frames.Job.{Job}
@@ -26,20 +25,24 @@ use Rattle.r6_frames.specs.declared.frames.Frames.{Frames}
 use Rattle.r6_frames.specs.declared.frames.FrameUse.{FrameUse}
 use Rattle.r6_frames.specs.declared.frames.FrameUse.TheVariants as uses
 use Rattle.r6_frames.specs.Slots.{states_of}
-use Rattle.r6_frames.specs.Views.{held_entry, held_requests, kind_in, requests_by, requests_from, Rest, shard_with}
-use Rattle.r6_frames.specs.Calls.{SeesFailure, IsRequestOf, HasOneBlock, KeepsHeld}
+use Rattle.r6_frames.specs.Views.{held_entry, held_requests, kind_in, requests_by, requests_from, Rest, shard_with, world_commands, AreLive}
+use Rattle.r6_frames.specs.Directs.{read_requests}
+use Rattle.r6_frames.specs.Calls.{SeesFailure, entry_on, IsRequestOf, HasOneBlock, KeepsHeld}
 use Rattle.r6_frames.specs.Owed.{owed}
 use Rattle.r6_frames.specs.Sound as held
 use Rattle.r6_frames.proofs.Lists.{Entries, table}
 use Rattle.r6_core.specs.declared.state.State.{State}
 use Rattle.r6_core.specs.Shards.{state_of, rest_of, layout_in, requests_of, waiting_request, finished_request, released_request, replied_requests, call_of, counts_of}
-use Rattle.r6_core.specs.Refusals.{limit, most_unanswered}
+use Rattle.r6_world.specs.ShardStates.{limit}
+use Rattle.r6_core.specs.Refusals.{most_unanswered}
 use Rattle.r6_core.specs.Order.{IsRising, FailsAll}
-use Rattle.r6_core.specs.Inside.{AreBounded, AreOwnRows, IsSound, IsSettled, Gathers, Seen, held_op, numbered_op, unreplied, count_untold}
+use Rattle.r6_core.specs.Inside.{AreBounded, AreOwnRows, HandsBack, IsReadOn, IsSound, IsSettled, Gathers, count_unheld, Seen, held_op, numbered_op, unreplied, count_untold}
 use Rattle.r6_core.proofs.CountedRows.{counted_kept, no_rows_counted, rows_of_holds, same_or_fewer}
 use Rattle.r6_core.proofs.Kept.{own_rows_kept, requests_kept, sizes_kept}
 use Rattle.r6_core.proofs.SlotsKept.{calls_same}
 use Rattle.r6_core.proofs.Gathering.{none_from}
+use Rattle.r6_core.proofs.Going.{keys_framed}
+use Rattle.r6_core.proofs.ReadOn.{keys_on, none_reading}
 use Rattle.r6_core.proofs.Passed.{all-append}
 use Rattle.r6_core.proofs.Replied.{as_many, keys_replied, keys_requests, numbers}
 
@@ -117,15 +120,18 @@ replied_failed zero (r ∷ rs) = ap (λ es. answered (numbered_op r) ∷ es) (re
 replied_failed (suc count) [] = refl
 replied_failed (suc count) (r ∷ rs) = ap (λ es. released_request r ∷ es) (replied_failed count rs)
 
-all_fail : (s : State) → map failed (requests_of s) ≡ map answered (unreplied s) ++ failed_behind s.released s.replies.items
-all_fail s =
+-- where none is read directly
+all_fail : (s : State) → read_requests s.frames ≡ [] → map failed (requests_of s) ≡ map answered (unreplied s) ++ failed_behind s.released s.replies.items
+all_fail s none =
     let w = map waiting_request s.waiting.items in
     let h = held_requests s.frames in
     let p = replied_requests s.frames.saw_failed s.released s.replies.items in
     let w' = map numbered_op s.waiting.items in
     let h' = map held_op h in
     let p' = failed_behind s.released s.replies.items in
-    map-append failed w (h ++ p)
+    (λ i. map failed (w ++ ((h ++ none i) ++ p)))
+    ∙ ap (λ es. map failed (w ++ (es ++ p))) (append-nil h)
+    ∙ map-append failed w (h ++ p)
     ∙ ap (λ es. map failed w ++ es) (map-append failed h p)
     ∙ (λ i. waiting_fail s.waiting.items i ++ (held_fail 0 s.frames.held i ++ replied_fail s.frames.saw_failed s.released s.replies.items i))
     ∙ sym (append_assoc (map answered w') (map answered h') p')
@@ -135,10 +141,13 @@ all_fail s =
 
 module _ (s : State) (fs : Frames) (sound : IsSound s) (sees : SeesFailure s.frames fs) (commands : fs.commands ≡ s.frames.commands) (owes : owed fs ≡ owed s.frames)
     (requests : held_requests fs ≡ held_requests s.frames) (holds : KeepsHeld s.frames fs) where
+  keys_read : keys_of (read_requests fs) ≡ keys_of (read_requests s.frames)
+  keys_read = ap keys_of sees.3 ∙ keys_on fs (read_requests s.frames)
+
   keys_seen : keys_of (requests_of (record s { frames = fs })) ≡ keys_of (requests_of s)
   keys_seen =
       keys_requests (record s { frames = fs })
-      ∙ ap (λ (h : Entries shards.Request). keys_of (map waiting_request s.waiting.items) ++ (keys_of h ++ numbers s.replies.items)) requests
+      ∙ ap (λ ks. keys_of (map waiting_request s.waiting.items) ++ (ks ++ numbers s.replies.items)) (keys_framed s.frames fs requests keys_read)
       ∙ sym (keys_requests s)
 
   slots_seen : states_of fs.slots ≡ states_of s.frames.slots
@@ -164,7 +173,9 @@ module _ (s : State) (fs : Frames) (sound : IsSound s) (sees : SeesFailure s.fra
           few_calls = let same = calls_same s.frames fs slots_seen sees.0 in omega (arith, same, sound.room.few_calls);
         };
         tokens =
-            let slots = ap (λ (g : Shape). 2 * g.slots * length s.waiting.items) sees.0 in
+            let reads = as_many (read_requests fs) (read_requests s.frames) keys_read in
+            let slots : 2 * fs.geometry.slots * count_unheld (record s { frames = fs }) ≡ 2 * s.frames.geometry.slots * count_unheld s =
+            λ i. 2 * (sees.0 i).slots * (length s.waiting.items + reads i) in
             let next = ap (λ (t : Commands). t.next) commands in
             omega (arith, slots, next, owes, sound.tokens);
         accepted = sound.accepted;
@@ -198,8 +209,7 @@ distinct_behind (x ∷ xs) ys h = distinct_behind xs ys (IsDistinct-tail nat_eq 
 all_permuted : {X : Type 0} (P : X → Type 0) (xs ys : List X) → IsPermutation xs ys → AllByRecursion P xs → AllByRecursion P ys
 all_permuted P xs ys same all = recursion_from_All P ys (All-permutation P xs ys same (All-from_recursion P xs all))
 
-module _ (s : State) (fs : Frames) (mid : State) (sorted : Buffer Request) (sound : IsSound s) (sees : SeesFailure s.frames fs) (owes : owed fs ≡ owed s.frames)
-    (requests : held_requests fs ≡ held_requests s.frames) (gathers : Gathers (record s { frames = fs }) mid)
+module _ (s : State) (mid : State) (sorted : Buffer Request) (sound : IsSound s) (seen : s.frames.saw_failed ≡ true) (none : read_requests s.frames ≡ []) (gathers : Gathers s mid)
     (before : take mid.released sorted.items ≡ take mid.released mid.replies.items) (same : IsPermutation (drop mid.released mid.replies.items) (drop mid.released sorted.items))
     (up : IsNonDecreasingBy (λ r. r.id) (drop mid.released sorted.items)) (capacity : sorted.capacity ≡ mid.replies.capacity) where
   abbrev new : State
@@ -230,15 +240,19 @@ module _ (s : State) (fs : Frames) (mid : State) (sorted : Buffer Request) (soun
   none_held : held_requests mid.frames ≡ []
   none_held = none_from 0 mid.frames.held gathers.none_held
 
-  shard_is : (rest : Rest) → shard_with rest mid.frames ≡ record (shard_with rest s.frames) { saw_failed = true; command = λ t. abandoned_if true ((shard_with rest s.frames).command t); frame = λ f. None }
-  shard_is rest = gathers.shard.2 rest ∙ ap (λ (x : Shard). record x { frame = λ f. None }) (sees.2 rest)
+  none_read : read_requests mid.frames ≡ []
+  none_read = gathers.shard.3 ∙ none
+
+  shard_is : (rest : Rest) → shard_with rest mid.frames ≡ record (shard_with rest s.frames) { frame = λ f. None }
+  shard_is rest = gathers.shard.2 rest
 
   abbrev now : Entries shards.Request
   now = failed_behind mid.released sorted.items
 
   new_requests : requests_of new ≡ now
   new_requests =
-      (λ i. map waiting_request (gathers.none_waiting i) ++ (none_held i ++ replied_requests (shard_is (rest_of s) i).saw_failed mid.released sorted.items))
+      (λ i. map waiting_request (gathers.none_waiting i) ++ ((none_held i ++ none_read i) ++ replied_requests (shard_is (rest_of s) i).saw_failed mid.released sorted.items))
+      ∙ ap (λ (b : Bool). replied_requests b mid.released sorted.items) seen
       ∙ replied_failed mid.released sorted.items
 
   abbrev fails : ℕ × world.Op → ℕ × shards.Request
@@ -251,12 +265,11 @@ module _ (s : State) (fs : Frames) (mid : State) (sorted : Buffer Request) (soun
       let f = map numbered_op finished in
       let more = map numbered_op gathers.more in
       let u = unreplied s in
-      let gone : IsPermutation u more = subst (λ es. IsPermutation es more) (ap (λ (h : Entries shards.Request). map numbered_op s.waiting.items ++ map held_op h) requests) gathers.all in
       let last : IsPermutation (f ++ more) (map numbered_op (drop mid.released sorted.items)) =
       subst (λ es. IsPermutation es (map numbered_op (drop mid.released sorted.items))) (ap (map numbered_op) was_behind ∙ map-append numbered_op finished gathers.more)
       (IsPermutation-map numbered_op (drop mid.released mid.replies.items) (drop mid.released sorted.items) same) in
       let ops : IsPermutation (f ++ u) (map numbered_op (drop mid.released sorted.items)) =
-      IsPermutation-trans (f ++ u) (f ++ more) (map numbered_op (drop mid.released sorted.items)) (IsPermutation-append_right f u more gone) last in
+      IsPermutation-trans (f ++ u) (f ++ more) (map numbered_op (drop mid.released sorted.items)) (IsPermutation-append_right f u more gathers.all) last in
       let turned : IsPermutation (map fails u ++ (r ++ map fails f)) (r ++ map fails (f ++ u)) =
       subst (IsPermutation (map fails u ++ (r ++ map fails f))) (append_assoc r (map fails f) (map fails u) ∙ ap (λ es. r ++ es) (sym (map-append fails f u)))
       (IsPermutation-append_comm (map fails u) (r ++ map fails f)) in
@@ -264,7 +277,7 @@ module _ (s : State) (fs : Frames) (mid : State) (sorted : Buffer Request) (soun
       IsPermutation-trans (map fails u ++ (r ++ map fails f)) (r ++ map fails (f ++ u)) now turned
       (subst (λ rs. IsPermutation (r ++ map fails (f ++ u)) (map released_request rs ++ map fails (map numbered_op (drop mid.released sorted.items)))) (sym still_released)
       (IsPermutation-append_right r (map fails (f ++ u)) (map fails (map numbered_op (drop mid.released sorted.items))) (IsPermutation-map fails (f ++ u) (map numbered_op (drop mid.released sorted.items)) ops))) in
-      subst (λ es. IsPermutation es now) (sym (all_fail s)) all
+      subst (λ es. IsPermutation es now) (sym (all_fail s none)) all
 
   whole_keys : IsPermutation (keys_of (requests_of s)) (keys_of now)
   whole_keys = subst (λ ks. IsPermutation ks (keys_of now)) (keys_failed (requests_of s)) (IsPermutation-map (λ e. e.0) (map failed (requests_of s)) now whole)
@@ -291,8 +304,8 @@ module _ (s : State) (fs : Frames) (mid : State) (sorted : Buffer Request) (soun
       distinct_behind (map released_request (take mid.released sorted.items)) (replied_requests true 0 last) (subst (λ (es : Entries shards.Request). IsDistinct nat_eq (keys_of es)) (sym (replied_failed mid.released sorted.items)) now_distinct) in
       (rising last up (subst (IsDistinct nat_eq) (keys_replied true 0 last) own), still_released, gathers.none_waiting)
 
-  pub failed_state : state_of new ≡ after (layout_in s) (state_of s) See_failed
-  failed_state =
+  pub gathered_state : state_of new ≡ record (state_of s) { frame = λ f. None; request = λ q. failed_request ((state_of s).request q) }
+  gathered_state =
       shard_is (rest_of new)
       ∙ (λ i. record (shard_with (record {
         accepted = gathers.rest.0 i;
@@ -302,15 +315,11 @@ module _ (s : State) (fs : Frames) (mid : State) (sorted : Buffer Request) (soun
         check_row = gathers.scrubs.0 i;
         repair_row = gathers.scrubs.1 i;
         counts = counts_of (gathers.scrubs.2 i);
-      }) s.frames) {
-        saw_failed = true;
-        command = λ t. abandoned_if true ((state_of s).command t);
-        frame = λ f. None;
-      })
+      }) s.frames) { frame = λ f. None })
 
   pub failed_core : IsSettled new
   failed_core =
-      let geometry : mid.frames.geometry ≡ s.frames.geometry = gathers.shard.0 ∙ sees.0 in
+      let geometry : mid.frames.geometry ≡ s.frames.geometry = gathers.shard.0 in
       let slots : states_of mid.frames.slots ≡ states_of s.frames.slots = ap (λ (x : Shard). x.slot) (shard_is (rest_of s)) in
       record {
         sound = record {
@@ -326,8 +335,7 @@ module _ (s : State) (fs : Frames) (mid : State) (sorted : Buffer Request) (soun
             waiting = subst (λ (rs : List Request). AllByRecursion (IsRequestOf mid.frames) rs) (sym gathers.none_waiting) tt;
             sized =
                 let One = HasOneBlock s.frames.geometry in
-                let more = sizes_kept fs.geometry s.frames.geometry gathers.more (sym sees.0) gathers.sized in
-                let all = subst (AllByRecursion One) (sym gathers.replies) (all-append One s.replies.items gathers.more sound.requests.sized more) in
+                let all = subst (AllByRecursion One) (sym gathers.replies) (all-append One s.replies.items gathers.more sound.requests.sized gathers.sized) in
                 sizes_kept s.frames.geometry mid.frames.geometry sorted.items geometry (all_permuted One mid.replies.items sorted.items whole_queue all);
             marked =
                 let long = length_permutation mid.replies.items sorted.items whole_queue in
@@ -346,8 +354,9 @@ module _ (s : State) (fs : Frames) (mid : State) (sorted : Buffer Request) (soun
           tokens =
               let next : mid.frames.commands.next ≡ s.frames.commands.next = ap (λ (x : Shard). x.tokens) (shard_is (rest_of s)) in
               let fewer = gathers.tokens in
-              let none : 2 * mid.frames.geometry.slots * length mid.waiting.items ≡ 0 = ap (λ (rs : List Request). 2 * mid.frames.geometry.slots * length rs) gathers.none_waiting ∙ (omega arith) in
-              omega (arith, next, fewer, owes, none, sound.tokens);
+              let none : 2 * mid.frames.geometry.slots * count_unheld new ≡ 0 =
+              (λ i. 2 * mid.frames.geometry.slots * (length (gathers.none_waiting i) + length (none_read i))) ∙ (omega arith) in
+              omega (arith, next, fewer, none, sound.tokens);
           accepted = subst (λ (n : ℕ). n ≤ limit) (sym gathers.rest.0) sound.accepted;
           counted =
               let none = λ (test : Job → Bool). no_rows_counted test mid.frames.held gathers.none_held in
@@ -356,14 +365,74 @@ module _ (s : State) (fs : Frames) (mid : State) (sorted : Buffer Request) (soun
               (counted_kept s.counts s.frames mid.frames sound.counted (λ test. let zero = none test in omega (arith, zero)) (omega (arith, next)));
           next_rows =
               subst (λ (rows : ℕ × ℕ). AreOwnRows mid.frames rows.0 rows.1) (λ i. (sym gathers.scrubs.0 i, sym gathers.scrubs.1 i))
-              (own_rows_kept s.frames mid.frames s.check_row s.repair_row geometry (gathers.shard.1 ∙ sees.1) sound.next_rows);
+              (own_rows_kept s.frames mid.frames s.check_row s.repair_row geometry gathers.shard.1 sound.next_rows);
         };
+        reading = subst (AllByRecursion IsReadOn) (sym none_read) tt;
         rested = λ live. absurd (gathers.stopped live);
       }
 
 -- the mark lies within the queue that is sorted
-pub marked_within : (s mid : State) (fs : Frames) → IsSound s → Gathers (record s { frames = fs }) mid → mid.released ≤ length mid.replies.items
-marked_within s mid fs sound gathers =
+pub marked_within : (s mid : State) → IsSound s → Gathers s mid → mid.released ≤ length mid.replies.items
+marked_within s mid sound gathers =
     let marked = gathers.rest.2 in
     let parts = ap length gathers.replies ∙ length-append s.replies.items gathers.more in
     omega (arith, marked, parts, sound.requests.marked)
+
+-- ---- the failure is seen, and direct reads wait again before all are answered
+
+failed_on_stage : (command : ℕ → Option shards.Command) (stage : shards.Stage) → failed_stage (read_stage command stage) ≡ failed_stage stage
+failed_on_stage command shards.Waiting = refl
+failed_on_stage command (shards.Held frame) = refl
+failed_on_stage command (shards.Reading token) = by_going (is_going_on (command token))
+  where
+    by_going : (b : Bool) → failed_stage (cond b (shards.Reading token) shards.Waiting) ≡ Released ArrayFailed
+    by_going true = refl
+    by_going false = refl
+failed_on_stage command (shards.Finished reply) = refl
+failed_on_stage command (shards.Released reply) = refl
+
+reads_fail : (fs : Frames) (es : Entries shards.Request) → map failed (map (entry_on fs) es) ≡ map failed es
+reads_fail fs [] = refl
+reads_fail fs (e ∷ es) = λ i. (e.0, record { op = e.1.op; stage = failed_on_stage (world_commands fs) e.1.stage i }) ∷ reads_fail fs es i
+
+module _ (s : State) (fs : Frames) (back : State) (sees : SeesFailure s.frames fs) (requests : held_requests fs ≡ held_requests s.frames) (handed : HandsBack (record s { frames = fs }) back) where
+  fails_same : map failed (requests_of (record s { frames = fs })) ≡ map failed (requests_of s)
+  fails_same =
+      let w = map waiting_request s.waiting.items in
+      let h = held_requests s.frames in
+      let d = read_requests s.frames in
+      let p = λ (b : Bool). replied_requests b s.released s.replies.items in
+      let parts : (h d p : Entries shards.Request) → map failed (w ++ ((h ++ d) ++ p)) ≡ map failed w ++ ((map failed h ++ map failed d) ++ map failed p) = λ h d p.
+      map-append failed w ((h ++ d) ++ p)
+      ∙ ap (λ es. map failed w ++ es) (map-append failed (h ++ d) p ∙ ap (λ es. es ++ map failed p) (map-append failed h d)) in
+      parts (held_requests fs) (read_requests fs) (p fs.saw_failed)
+      ∙ (λ i. map failed w ++ ((map failed (requests i) ++ (ap (map failed) sees.3 ∙ reads_fail fs d) i)
+      ++ (replied_fail fs.saw_failed s.released s.replies.items ∙ sym (replied_fail s.frames.saw_failed s.released s.replies.items)) i))
+      ∙ sym (parts h d (p s.frames.saw_failed))
+
+  pub seen_in : back.frames.saw_failed ≡ true
+  seen_in = handed.slots.1 ∙ ap (λ (x : Shard). x.saw_failed) (sees.2 (rest_of s))
+
+  pub stopped_in : AreLive back.frames → ⊥
+  stopped_in live = let no = sym seen_in ∙ live.1 in absurd (cc)
+
+  pub none_read_in : read_requests back.frames ≡ []
+  none_read_in = none_reading back.frames handed.sound.frames stopped_in handed.reading
+
+  pub see_failed_state : (new : State) → state_of new ≡ record (state_of back) { frame = λ f. None; request = λ q. failed_request ((state_of back).request q) }
+      → state_of new ≡ after (layout_in s) (state_of s) See_failed
+  see_failed_state new is =
+      let seen = record s { frames = fs } in
+      is
+      ∙ (λ i. record (handed.state i) { frame = λ f. None; request = λ q. failed_request ((handed.state i).request q) })
+      ∙ (λ i. record (sees.2 (rest_of seen) i) { frame = λ f. None; request = λ q. failed_request (table (requests_of seen) q) })
+      ∙ ap (λ (request : ℕ → Option shards.Request). record (state_of s) {
+        saw_failed = true;
+        frame = λ f. None;
+        command = λ t. abandoned_if true ((state_of s).command t);
+        request = request;
+      })
+      (fun_ext (λ q. sym (table_failed (requests_of seen) q) ∙ ap (λ (es : Entries shards.Request). table es q) fails_same ∙ table_failed (requests_of s) q))
+
+  pub see_failed_order : (new : State) → Seen FailsAll back new → Seen FailsAll s new
+  see_failed_order new order = (order.0, order.1 ∙ (λ i. take (handed.rest i).released (handed.rest i).replies.items), order.2)

@@ -17,19 +17,20 @@ use Rattle.r6_frames.specs.declared.frames.Job.TheVariants as job
 use Rattle.r6_frames.specs.declared.frames.FrameUse.TheVariants.{Free}
 use Rattle.r6_frames.specs.declared.frames.Frames.{Frames}
 use Rattle.r6_frames.specs.Views.{row_in, hold_at, held_entry, held_for, held_requests, is_request, kind_in, new_data_of, rank_of, request_at, requests_by, use_at, AreLive}
-use Rattle.r6_frames.specs.Calls.{KeepsOthers, KeepsRows, Drives}
+use Rattle.r6_frames.specs.Directs.{read_requests}
+use Rattle.r6_frames.specs.Calls.{KeepsOthers, KeepsReads, KeepsRows, Drives}
 use Rattle.r6_frames.specs.Owed.{owed, IsDriven, IsOver, IsLowestOver}
 use Rattle.r6_frames.specs.Sound as held
 use Rattle.r6_core.specs.declared.state.State.{State}
 use Rattle.r6_core.specs.Shards.{core_of, state_of, layout_in, requests_of, table, waiting_request, replied_requests}
 use Rattle.r6_core.specs.Order.{IsRising, Finishes}
-use Rattle.r6_core.specs.Inside.{SameFrames, IsSound, IsSettled, IsRestedFrame, FinishesHeld, Seen, count_rows, numbered_op, one_if}
+use Rattle.r6_core.specs.Inside.{AreReadOn, SameFrames, IsSound, IsSettled, IsRestedFrame, FinishesHeld, Seen, count_rows, numbered_op, one_if}
 use Rattle.r6_frames.proofs.Held.{held_goes, held_within, use_held}
 use Rattle.r6_frames.proofs.Lists.{Entries, all_parts, own, apart}
 use Rattle.r6_core.proofs.CountedRows.{row_weight, rows_counted_but_one}
 use Rattle.r6_core.proofs.Passed.{all-append}
 use Rattle.r6_core.proofs.Throughs.{through_both, through_in, through_of}
-use Rattle.r6_core.proofs.Going.{Goes, goes_still, drives_give, drives_still, between_states, gone_sound, puts_out_on}
+use Rattle.r6_core.proofs.Going.{Goes, goes_still, drives_give, drives_still, between_states, gone_sound, puts_out_on, reading_kept}
 
 -- ---- the numbers of the requests of held rows
 
@@ -42,14 +43,14 @@ record IsAmong (s : State) (frame : ℕ) (r : ℕ × world.Op) : Type 0 where
 among : (s : State) (frame : ℕ) (h : HeldRow) (r : ℕ × world.Op) → hold_at s.frames.held frame ≡ Some h → requests_by h.job (kind_in h) ≡ r ∷ [] → IsAmong s frame r
 among s frame h r is only =
     let w = map waiting_request s.waiting.items in
-    let rest = replied_requests s.frames.saw_failed s.released s.replies.items in
+    let rest = read_requests s.frames ++ replied_requests s.frames.saw_failed s.released s.replies.items in
     let entry : request_at frame (use_at s.frames.held frame) ≡ held_entry frame r ∷ [] =
     ap (request_at frame) (use_held s.frames.held frame h is) ∙ ap (map (held_entry frame)) only in
     let place = held_goes 0 s.frames.held frame frame Free (held_entry frame r) (held_within s.frames.held frame h is) refl (omega arith) entry in
     record {
       before = w ++ place.before;
       behind = place.behind ++ rest;
-      parts = ap (λ es. w ++ (es ++ rest)) place.with ∙ (simp append_assoc);
+      parts = ap (λ es. w ++ es) (append_assoc (held_requests s.frames) (read_requests s.frames) _) ∙ ap (λ es. w ++ (es ++ rest)) place.with ∙ (simp append_assoc);
     }
 
 held_there : (s : State) (frame : ℕ) (r : ℕ × world.Op) → IsSound s → IsAmong s frame r → table (requests_of s) r.0 ≡ Some (held_entry frame r).1
@@ -153,6 +154,7 @@ behind_finished old new more sound released items = (
 -- since the old state requests were finished, and their numbers are lower than the ranks of the rows whose holds are over
 pub record IsSettling (old now : State) : Type 0 where
   pub sound : IsSound now
+  pub reading : AreReadOn now.frames
   pub live : AreLive now.frames
   pub leads : Through (layout_in old) old.frames.shard GoesOn (state_of old) (state_of now)
   pub driven : (frame : ℕ) → IsDriven now.frames frame
@@ -169,18 +171,19 @@ pub record IsSettling (old now : State) : Type 0 where
 pub driven_goes : (s : State) (fs : Frames) → IsSound s → AreLive s.frames → held.IsSound fs → AreLive fs → Drives s.frames fs → held_requests fs ≡ held_requests s.frames
     → KeepsRows s.frames fs → fs.commands.next + owed fs ≤ s.frames.commands.next + owed s.frames → Goes s fs s.calls
 driven_goes s fs sound live frames still drives requests rows tokens =
-    goes_still s fs sound frames drives.0 drives.1 (drives_still s.frames fs live still drives) requests rows tokens (drives_give s.frames fs drives)
+    goes_still s fs sound frames drives.0 drives.1 (drives_still s.frames fs live still drives) requests drives.3 rows tokens (drives_give s.frames fs drives)
 
 pub driven_leads : (s : State) (fs : Frames) → Goes s fs s.calls → Drives s.frames fs
     → Through (layout_in s) s.frames.shard GoesOn (state_of s) (state_of (record s { frames = fs }))
 driven_leads s fs goes drives =
     between_states (λ l n old new. Through l n GoesOn old new) s fs goes
-    (drives.0, drives.1, λ rest. through_of (layout_in s) s.frames.shard _ GoesOn puts_out_on _ _ (drives.2 rest))
+    (drives.0, drives.1, (λ rest. through_of (layout_in s) s.frames.shard _ GoesOn puts_out_on _ _ (drives.2 rest)), drives.3)
 
-pub settling : (s : State) (fs : Frames) → Goes s fs s.calls → Drives s.frames fs → IsSound s → AreLive fs → ((frame : ℕ) → IsDriven fs frame) → IsSettling s (record s { frames = fs })
-settling s fs goes drives sound live driven =
+pub settling : (s : State) (fs : Frames) → Goes s fs s.calls → Drives s.frames fs → IsSound s → AreReadOn s.frames → AreLive fs → ((frame : ℕ) → IsDriven fs frame) → IsSettling s (record s { frames = fs })
+settling s fs goes drives sound reading live driven =
     record {
       sound = gone_sound s fs s.calls sound goes;
+      reading = reading_kept s.frames fs drives.3 reading;
       live = live;
       leads = driven_leads s fs goes drives;
       driven = driven;
@@ -198,7 +201,7 @@ settling s fs goes drives sound live driven =
 module _ (old now new : State) (frame : ℕ) (before : IsSettling old now) (lowest : IsLowestOver now.frames frame)
     (sound : IsSound new) (live : AreLive new.frames) (leads : Through (layout_in now) now.frames.shard GoesOn (state_of now) (state_of new))
     (rests : IsRestedFrame new frame) (others : KeepsOthers now.frames frame new.frames) (same : SameFrames now new)
-    (released : new.released ≡ now.released) (ends : FinishesHeld now frame new) (unanswered : new.unanswered ≡ now.unanswered) (waiting : new.waiting ≡ now.waiting) where
+    (released : new.released ≡ now.released) (ends : FinishesHeld now frame new) (unanswered : new.unanswered ≡ now.unanswered) (waiting : new.waiting ≡ now.waiting) (reads : KeepsReads now.frames new.frames) where
   abbrev h : HeldRow
   h = lowest.0.0
 
@@ -232,6 +235,7 @@ module _ (old now new : State) (frame : ℕ) (before : IsSettling old now) (lowe
   settling_on =
       record {
         sound = sound;
+        reading = reading_kept now.frames new.frames reads before.reading;
         live = live;
         leads =
             through_both (layout_in old) old.frames.shard GoesOn (state_of old) (state_of now) (state_of new) before.leads
@@ -267,4 +271,4 @@ settled_order old now sound is = let both = behind_finished old now is.more soun
 
 -- when none is over, all have rested
 pub settled : (old now : State) → IsSettling old now → ((frame : ℕ) → IsOver now.frames frame → ⊥) → IsSettled now
-settled old now is none = record { sound = is.sound; rested = λ live frame. (is.driven frame, none frame) }
+settled old now is none = record { sound = is.sound; reading = is.reading; rested = λ live frame. (is.driven frame, none frame) }

@@ -7,6 +7,7 @@ use Rattle.std.specs.Map.{keys_of}
 use Rattle.std.proofs.Math.Nat.{mul-suc}
 use Rattle.std.proofs.lemmas.Bool.{cases_eq, eqb-true}
 use Rattle.std.proofs.lemmas.List.{map-append, length-map}
+use Rattle.r6_layout.specs.Shape.{Shape}
 use Rattle.r6_layout.specs.Layout.{row_of}
 use Rattle.r6_layout.proofs.Places.{row_of-lt}
 use Rattle.r6_world.specs.Tables.{put}
@@ -16,7 +17,7 @@ use Rattle.r6_world.specs.Layouts.{Layout}
 use Rattle.r6_world.specs.Geometries.{layout_of}
 use Rattle.r6_world.specs.Tasks.{Hold, Task}
 use Rattle.r6_frames.specs.declared.frames.Job.{Job}
-use Rattle.r6_world.specs.ShardStates.{Shard, Request, Stage, Waiting, Held, NotHeld, begun}
+use Rattle.r6_world.specs.ShardStates.{Shard, Request, Stage, Waiting, Held, NotHeld, IsDirect, limit, begun}
 use Rattle.r6_world.specs.Changes.{Change, Start, Ask, Prepare, Send, after, MayStart, staged}
 use Rattle.r6_world.specs.Steps.{Through, Scans, IsRequest}
 use Rattle.r6_frames.specs.declared.op.Op.{Op}
@@ -26,18 +27,21 @@ use Rattle.r6_frames.specs.declared.frames.Frames.{Frames}
 use Rattle.r6_frames.specs.declared.frames.HeldRow.{HeldRow}
 use Rattle.r6_core.specs.declared.state.State.{State}
 use Rattle.r6_frames.specs.Views.{op_of, task_for, held_for, hold_at, hold_of, is_scrub, kind_in, use_at, row_in, frame_of, held_requests, Rest, shard_with, AreLive}
-use Rattle.r6_frames.specs.Calls.{begun_for, Begins, Drives, PutsOut, IsFreeFrame, IsHeldFrame, NotHeldBy, IsRequestOf, KeepsOthers, KeepsRows}
+use Rattle.r6_frames.specs.Calls.{begun_for, Begins, Drives, PutsOut, IsFreeFrame, IsHeldFrame, NotHeldBy, IsRequestOf, KeepsDirects, KeepsOthers, KeepsReads, KeepsRows}
 use Rattle.r6_frames.specs.Owed.{owed, IsDriven, IsOver}
 use Rattle.r6_frames.specs.Slots.{states_of}
 use Rattle.r6_frames.specs.Sound as held
 use Rattle.r6_core.specs.Shards.{state_of, rest_of, layout_in, requests_of, waiting_request, replied_requests, table}
-use Rattle.r6_core.specs.Order.{start_of, Starts}
-use Rattle.r6_core.specs.Inside.{CanStart, CannotStart, HasFreedOne, IsFirstToStart, IsSound, IsSettled, IsRestedFrame, NoMoreCanStart, most_calls, count_rows, count_untold, bound, most_tokens, is_turn, one_if}
-use Rattle.r6_core.proofs.Waking.{row_stays, one_more}
+use Rattle.r6_frames.specs.Directs.{read_requests}
+use Rattle.r6_core.specs.declared.scan.Room.{Room}
+use Rattle.r6_core.specs.Order.{start_of, IsHeldFor, Starts}
+use Rattle.r6_core.specs.Inside.{CanHold, IsReadDirectly, IsSyncedRead, CanStart, CannotStart, HasFreedOne, IsLike, count_unheld, row_of_request, IsFirstToStart, IsSound, IsSettled, IsRestedFrame, NoMoreCanStart, most_calls, count_rows, count_untold, bound, most_tokens, is_turn, one_if}
+use Rattle.r6_core.proofs.ReadOn.{synced_read}
+use Rattle.r6_core.proofs.Waking.{free_same, still_cannot, synced_after, frees_kept, held_same, row_stays, one_more}
 use Rattle.r6_frames.proofs.Lists.{Entries}
 use Rattle.r6_frames.proofs.Held.{put_own}
 use Rattle.r6_core.proofs.CountedRows.{counted_still, row_weight, rows_counted_but_one, rows_counted_still}
-use Rattle.r6_core.proofs.Going.{drives_give, no_rest}
+use Rattle.r6_core.proofs.Going.{drives_give, no_rest, reading_kept}
 use Rattle.r6_core.proofs.Scrubs.{Weighs, scrub_weight, scrubs_weigh, turn_weight, turns_weigh}
 use Rattle.r6_core.proofs.Kept.{own_rows_kept, requests_kept, sizes_kept}
 use Rattle.r6_core.proofs.Passed.{Passed, passed, all-middle}
@@ -74,9 +78,10 @@ is_request : (id : ℕ) (o : Op) → IsRequest (task_for id o)
 is_request id (op.Read block buffer) = record {}
 is_request id (op.Write block buffer) = record {}
 
-may_start : (l : Layout) (s : Shard) (id : ℕ) (o : Op) → s.request id ≡ Some (record { op = op_of o; stage = Waiting }) → MayStart l s (l.row_of (block_of (op_of o))) (task_for id o)
-may_start l s id (op.Read block buffer) is = (is, refl)
-may_start l s id (op.Write block buffer) is = ((λ e. (cc)), (is, refl, refl, record {}))
+may_start : (l : Layout) (s : Shard) (id : ℕ) (o : Op) → s.request id ≡ Some (record { op = op_of o; stage = Waiting }) → (IsDirect l s (op_of o) → ⊥)
+    → MayStart l s (l.row_of (block_of (op_of o))) (task_for id o)
+may_start l s id (op.Read block buffer) is held = (is, refl, held)
+may_start l s id (op.Write block buffer) is held = ((λ e. (cc)), (is, refl, refl, record {}))
 
 pub scans : (change : Change) → PutsOut change → Scans change
 scans (Ask frame h slot generation) p = record {}
@@ -115,10 +120,11 @@ module _ (old : Frames) (frame : ℕ) (request : Entered) (mid : Frames) (begins
       → mid.commands.next + owed mid < 2 ^ 63
   begun_numbers s rest sound items same owes =
       let slots = s.frames.geometry.slots in
-      let all : 2 * slots * length s.waiting.items ≡ 2 * slots * length rest + 2 * slots = ap (λ n. 2 * slots * n) (let more : length s.waiting.items ≡ suc (length rest) = omega (arith, items) in more) ∙ mul-suc (2 * slots) (length rest) in
+      let others = length rest + length (read_requests s.frames) in
+      let all : 2 * slots * count_unheld s ≡ 2 * slots * others + 2 * slots = ap (λ n. 2 * slots * n) (let more : count_unheld s ≡ suc others = omega (arith, items) in more) ∙ mul-suc (2 * slots) others in
       let tokens = begun_tokens ∙ ap (λ fs. fs.commands.next) same in
       let more : owed mid ≡ owed s.frames + 2 * slots = owes ∙ ap (λ fs. owed fs + 2 * fs.geometry.slots) same in
-      few s.frames.commands.next mid.commands.next (owed s.frames) (owed mid) (2 * slots) (2 * slots * length rest) (2 * slots * length s.waiting.items) tokens more all sound.tokens
+      few s.frames.commands.next mid.commands.next (owed s.frames) (owed mid) (2 * slots) (2 * slots * others) (2 * slots * count_unheld s) tokens more all sound.tokens
     where
       few : (n0 n1 o0 o1 each fewer all : ℕ) → n1 ≡ n0 → o1 ≡ o0 + each → all ≡ fewer + each → n0 + o0 + all ≤ most_tokens → n1 + o1 < 2 ^ 63
       few n0 n1 o0 o1 each fewer all a b c d = omega arith
@@ -127,7 +133,8 @@ module _ (old : Frames) (frame : ℕ) (request : Entered) (mid : Frames) (begins
 
 pub record IsStart (s : State) (before : List Entered) (request : Entered) (behind : List Entered) (frame : ℕ) (mid new : Frames) : Type 0 where
   pub items : s.waiting.items ≡ before ++ request ∷ behind
-  pub can : CanStart s.frames request frame
+  pub plain : IsReadDirectly s.frames request.op → ⊥
+  pub can : CanHold s.frames (row_of_request s.frames request) frame
   pub begins : Begins s.frames frame request mid
   pub begun_sound : held.IsSound mid
   pub begun_others : KeepsOthers s.frames frame mid
@@ -142,6 +149,7 @@ pub record IsStart (s : State) (before : List Entered) (request : Entered) (behi
   pub all_owed : new.commands.next + owed new ≤ mid.commands.next + owed mid
   pub live : AreLive new
   pub goes_out : IsOver new frame → ⊥
+  pub directs : KeepsDirects s.frames new
 
 abbrev pub with_frames : State → List Entered → Frames → State
 with_frames s rest new = record s { waiting = record { items = rest; capacity = s.waiting.capacity }; frames = new }
@@ -165,6 +173,9 @@ module _ (s : State) (before : List Entered) (request : Entered) (behind : List 
   unfailed_same : new.saw_failed ≡ s.frames.saw_failed
   unfailed_same = is.live.1 ∙ sym is.can.0.1
 
+  reads_same : KeepsReads s.frames new
+  reads_same = is.drives.3 ∙ is.begins.shard.3
+
   -- the request goes from those that wait to those that rows are held for
   requests_started : IsDistinct nat_eq (keys_of (requests_of s))
       → Passed (requests_of s) (requests_of (with_frames s rest new)) request.id (record { op = op_of request.op; stage = Waiting }) (record { op = op_of request.op; stage = Held frame })
@@ -174,13 +185,14 @@ module _ (s : State) (before : List Entered) (request : Entered) (behind : List 
       let first : Entries Request = map waiting_request before in
       let last : Entries Request = map waiting_request behind in
       let waiting : Entries Request = map waiting_request rest in
-      let tail_same : requests_of (with_frames s rest new) ≡ waiting ++ (held_requests new ++ tail) =
-      ap (λ (b : Bool). waiting ++ (held_requests new ++ replied_requests b s.released s.replies.items)) unfailed_same in
-      passed first (last ++ ((to.before ++ to.behind) ++ tail)) ((first ++ last) ++ to.before) (to.behind ++ tail) request.id _ _ _ _
-      ((λ i. map waiting_request (is.items i) ++ (to.without i ++ tail))
-      ∙ ap (λ (es : Entries Request). es ++ ((to.before ++ to.behind) ++ tail)) (map-append waiting_request before (request ∷ behind)) ∙ (simp append_assoc))
-      (tail_same ∙ ap (λ (es : Entries Request). es ++ (held_requests new ++ tail)) (map-append waiting_request before behind)
-      ∙ ap (λ (es : Entries Request). (first ++ last) ++ (es ++ tail)) (is.requests ∙ to.with) ∙ (simp append_assoc))
+      let reads : Entries Request = read_requests s.frames in
+      let tail_same : requests_of (with_frames s rest new) ≡ waiting ++ ((held_requests new ++ reads) ++ tail) =
+      λ i. waiting ++ ((held_requests new ++ reads_same i) ++ replied_requests (unfailed_same i) s.released s.replies.items) in
+      passed first (last ++ (((to.before ++ to.behind) ++ reads) ++ tail)) ((first ++ last) ++ to.before) ((to.behind ++ reads) ++ tail) request.id _ _ _ _
+      ((λ i. map waiting_request (is.items i) ++ ((to.without i ++ reads) ++ tail))
+      ∙ ap (λ (es : Entries Request). es ++ (((to.before ++ to.behind) ++ reads) ++ tail)) (map-append waiting_request before (request ∷ behind)) ∙ (simp append_assoc))
+      (tail_same ∙ ap (λ (es : Entries Request). es ++ ((held_requests new ++ reads) ++ tail)) (map-append waiting_request before behind)
+      ∙ ap (λ (es : Entries Request). (first ++ last) ++ ((es ++ reads) ++ tail)) (is.requests ∙ to.with) ∙ (simp append_assoc))
       (simp append_assoc)
       distinct
 
@@ -197,8 +209,8 @@ module _ (s : State) (before : List Entered) (request : Entered) (behind : List 
       (requests.now ∙ stage_put (table (requests_of s)) request.id (op_of request.op) Waiting (Held frame) requests.was)
       ∙ sym (start_after l (state_of s) frame row request.id request.op)
 
-  pub started : IsSound s → Starts (layout_in s) s.frames.shard (state_of s) request (state_of (with_frames s rest new))
-  started sound =
+  held_for_it : IsSound s → IsHeldFor (layout_in s) s.frames.shard (state_of s) request (state_of (with_frames s rest new))
+  held_for_it sound =
       let n = s.frames.shard in
       let row = row_of s.frames.geometry (block_of (op_of request.op)) in
       let distinct = sound.requests.distinct in
@@ -212,16 +224,20 @@ module _ (s : State) (before : List Entered) (request : Entered) (behind : List 
           not_held (rest_of s) s.frames row is.can.2,
           (row_of-lt s.frames.geometry (block_of (op_of request.op)) sound.frames.shape own.there, own.own),
           is.can.0,
-          may_start (layout_in s) (state_of s) request.id request.op (requests_started distinct).was,
+          may_start (layout_in s) (state_of s) request.id request.op (requests_started distinct).was
+              (λ direct. is.plain (direct.0, synced_read (rest_of s) s.frames request.op direct.1)),
           may_begin s.frames.geometry (states_of s.frames.slots) row request.id request.op sound.frames.shape own.sized,
         ),
         subst (λ (from : Shard). Through (layout_in s) n PutsOut from (state_of (with_frames s rest new))) (started_mid distinct) here,
       )
 
+  pub started : IsSettled s → Starts (layout_in s) s.frames.shard (state_of s) request (state_of (with_frames s rest new))
+  started core = inr (held_for_it core.sound)
+
   pub started_leads : IsSound s → Through (layout_in s) s.frames.shard Scans (state_of s) (state_of (with_frames s rest new))
   started_leads sound =
       let l = layout_in s in
-      let starts = started sound in
+      let starts = held_for_it sound in
       let start = start_of l request starts.0 in
       let driven = through_of l s.frames.shard PutsOut Scans scans (after l (state_of s) start) (state_of (with_frames s rest new)) starts.2 in
       (start ∷ driven.0, (is_request request.id request.op, starts.1, driven.1))
@@ -230,21 +246,24 @@ module _ (s : State) (before : List Entered) (request : Entered) (behind : List 
   started_bound : bound (with_frames s rest new) ≤ bound s
   started_bound =
       let slots = s.frames.geometry.slots in
-      let more : length s.waiting.items ≡ suc (length rest) = omega (arith, ap length is.items, longer before request behind) in
-      let fewer : 2 * slots * length s.waiting.items ≡ 2 * slots * length rest + 2 * slots = ap (λ n. 2 * slots * n) more ∙ mul-suc (2 * slots) (length rest) in
-      let same : 2 * new.geometry.slots * length rest ≡ 2 * slots * length rest = ap (λ g. 2 * g.slots * length rest) geometry_same in
+      let others = length rest + length (read_requests s.frames) in
+      let more : count_unheld s ≡ suc others = omega (arith, ap length is.items, longer before request behind) in
+      let fewer : 2 * slots * count_unheld s ≡ 2 * slots * others + 2 * slots = ap (λ n. 2 * slots * n) more ∙ mul-suc (2 * slots) others in
+      let same : 2 * new.geometry.slots * count_unheld (with_frames s rest new) ≡ 2 * slots * others =
+      λ i. 2 * (geometry_same i).slots * (length rest + length (reads_same i)) in
       summed s.frames.commands.next mid.commands.next new.commands.next (owed s.frames) (owed mid) (owed new) (2 * slots)
-      (2 * new.geometry.slots * length rest) (2 * slots * length rest) (2 * slots * length s.waiting.items)
+      (2 * new.geometry.slots * count_unheld (with_frames s rest new)) (2 * slots * others) (2 * slots * count_unheld s)
       (begun_tokens s.frames frame request mid is.begins) is.begun_owed is.all_owed same fewer
     where
       summed : (n0 n1 n2 o0 o1 o2 each few few' all : ℕ) → n1 ≡ n0 → o1 ≡ o0 + each → n2 + o2 ≤ n1 + o1 → few ≡ few' → all ≡ few' + each → n2 + o2 + few ≤ n0 + o0 + all
       summed n0 n1 n2 o0 o1 o2 each few few' all a b c d e = omega arith
 
   -- as many slots are out as before
+  slots_same : states_of new.slots ≡ states_of s.frames.slots
+  slots_same = drives_keep no_rest mid new is.drives ∙ ap (λ (x : Shard). x.slot) (is.begins.shard.2 no_rest)
+
   few_still : IsSound s → length s.calls.items + count_untold s.untold ≤ most_calls new
-  few_still sound =
-      let begun : states_of mid.slots ≡ states_of s.frames.slots = ap (λ (x : Shard). x.slot) (is.begins.shard.2 no_rest) in
-      omega (arith, calls_same s.frames new (drives_keep no_rest mid new is.drives ∙ begun) geometry_same, sound.room.few_calls)
+  few_still sound = omega (arith, calls_same s.frames new slots_same geometry_same, sound.room.few_calls)
 
   -- the row is held for the request, and not for a scrub
   begun_for_request : (test : Job → Bool) (weight : Task → ℕ) → Weighs test weight → (h : HeldRow) → hold_of h ≡ begun_for s.frames request
@@ -295,6 +314,7 @@ module _ (s : State) (before : List Entered) (request : Entered) (behind : List 
               counted_still s.counts s.frames new sound.counted (started_rows is_turn turn_weight turns_weigh sound) (started_rows is_scrub scrub_weight scrubs_weigh sound) started_tokens;
           next_rows = own_rows_kept s.frames new s.check_row s.repair_row geometry_same shard_same sound.next_rows;
         };
+        reading = reading_kept s.frames new reads_same core.reading;
         rested = λ live f. elim (cases_eq f frame) [
           | inl e ↦ subst (IsRestedFrame (with_frames s rest new)) (sym e) (is.driven, is.goes_out)
           | inr ne ↦
@@ -304,15 +324,22 @@ module _ (s : State) (before : List Entered) (request : Entered) (behind : List 
         ];
       }
 
+  like : IsLike s.frames new
+  like = record { geometry = geometry_same; live = λ live. is.can.0; slots = slots_same; tokens = started_tokens }
+
+  not_held_before : (row : ℕ) → NotHeldBy new row → NotHeldBy s.frames row
+  not_held_before at free_row g h held_row is_row =
+      let other_frame : g ≢ frame = λ e. let both : Some h ≡ None = sym held_row ∙ ap (hold_at s.frames.held) e ∙ no_row s.frames frame is.can.1 in absurd (cc) in
+      free_row g h (ap row_in (frames_same g other_frame) ∙ held_row) is_row
+
+  free_before : (f : ℕ) → IsFreeFrame new f → IsFreeFrame s.frames f
+  free_before f free =
+      let apart : f ≢ frame = λ e. let both : Some is.held_still.0 ≡ None = sym is.held_still.1 ∙ ap (hold_at new.held) (sym e) ∙ no_row new f free in absurd (cc) in
+      (free.0, sym (frames_same f apart) ∙ free.1)
+
   -- what could not start can't start now
   pub started_no_more : NoMoreCanStart s (with_frames s rest new)
-  started_no_more other cannot live free_row f free =
-      let apart : f ≢ frame = λ e. let both : Some is.held_still.0 ≡ None = sym is.held_still.1 ∙ ap (hold_at new.held) (sym e) ∙ no_row new f free in absurd (cc) in
-      cannot is.can.0
-      (λ g h held_row row.
-      let other_frame : g ≢ frame = λ e. let both : Some h ≡ None = sym held_row ∙ ap (hold_at s.frames.held) e ∙ no_row s.frames frame is.can.1 in absurd (cc) in
-      free_row g h (ap row_in (frames_same g other_frame) ∙ held_row) (row ∙ ap (λ shape. row_of shape (block_of (op_of other.op))) (sym geometry_same)))
-      f (free.0, sym (frames_same f apart) ∙ free.1)
+  started_no_more other = still_cannot s.frames new other.op like (frees_kept s.frames new is.directs) not_held_before free_before
 
   -- the row is held in the frame
   pub started_row : (h : HeldRow) × (hold_at new.held frame ≡ Some h) × (h.row ≡ row_of s.frames.geometry (block_of (op_of request.op)))
@@ -321,24 +348,42 @@ module _ (s : State) (before : List Entered) (request : Entered) (behind : List 
       let there = row_stays mid new frame begun.0 is.rows begun.1 in
       (there.0, there.1, there.2 ∙ ap (λ (h : Hold). h.row) begun.2)
 
-  -- if but for one frame all was as it was when none could start, none can
-  pub started_last : HasFreedOne s → AllByRecursion (CannotStart new) rest
-  started_last freed =
-      let all = all-middle (CannotStart freed.0) before request behind (subst (λ rs. AllByRecursion (CannotStart freed.0) rs) is.items freed.5) in
-      one_more freed.0 freed.1 s.frames frame new request freed.2 geometry_same freed.3 freed.4 is.can frames_same started_row all.0 rest all.1
+  -- if but for one frame, or one buffer, all was as it was when none could start, none can
+  pub started_last : s.frames.commands.next < limit → HasFreedOne s → AllByRecursion (CannotStart new) rest
+  started_last below freed =
+      let all = all-middle (CannotStart freed.0) before request behind (subst (λ rs. AllByRecursion (CannotStart freed.0) rs) is.items freed.3) in
+      let was = freed.1 in
+      let out : IsSyncedRead freed.0 request.op → ⊥ = λ synced. is.plain (below, synced_after freed.0 s.frames request.op was synced) in
+      elim freed.2 [
+        | inl one ↦
+            let tokens = was.tokens in
+            let both : IsLike freed.0 new =
+            record { geometry = geometry_same ∙ was.geometry; live = λ live. was.live is.can.0; slots = slots_same ∙ was.slots; tokens = let more = started_tokens in omega arith } in
+            one_more freed.0 one.0 s.frames frame new request was.geometry geometry_same was.live one.1 is.can frames_same started_row all.0 out both
+            (λ number free. frees_kept freed.0 s.frames one.2 number (frees_kept s.frames new is.directs number free)) rest all.1
+        | inr one ↦
+            absurd (all.0 (was.live is.can.0) (record {
+              buffer = λ synced. absurd (out synced);
+              frame = λ not. (
+                subst (λ (g : Shape). NotHeldBy freed.0 (row_of g (block_of (op_of request.op)))) was.geometry (held_same freed.0 s.frames _ one.0 is.can.2),
+                frame,
+                free_same freed.0 s.frames frame one.0 is.can.1,
+              );
+            }))
+      ]
 
 -- ---- which request starts
 
 -- the one at the index was taken out
-module _ (s : State) (from index frame : ℕ) (first : IsFirstToStart s from index frame) where
+module _ (s : State) (from index : ℕ) (with : Room) (first : IsFirstToStart s from index with) where
   pub first_there : index < length s.waiting.items
   first_there = omega (arith, first.at, ap length first.items, longer first.before first.request first.behind, length-append first.before first.behind)
 
   pub first_items : (request : Entered) → request ≡ first.request → s.waiting.items ≡ first.before ++ request ∷ first.behind
   first_items request is = first.items ∙ ap (λ r. first.before ++ r ∷ first.behind) (sym is)
 
-  pub first_can : (request : Entered) → request ≡ first.request → CanStart s.frames request frame
-  first_can request is = subst (λ r. CanStart s.frames r frame) (sym is) first.can
+  pub first_can : (request : Entered) → request ≡ first.request → CanStart s.frames request with
+  first_can request is = subst (λ r. CanStart s.frames r with) (sym is) first.can
 
   pub first_own : (request : Entered) → request ≡ first.request → IsSettled s → IsRequestOf s.frames request
   first_own request is settled =

@@ -15,7 +15,8 @@ use Rattle.r6_frames.specs.Slots.{slot_in, states_of}
 use Rattle.r6_frames.proofs.BegunFor.{may_scrub}
 use Rattle.r6_frames.proofs.NewDevices.{in_sync_of, not_in_sync}
 use Rattle.r6_core.specs.declared.state.State.{State}
-use Rattle.r6_core.specs.Refusals.{HasTurnFault, IsTurnHeld, IsTurnWhole, limit}
+use Rattle.r6_world.specs.ShardStates.{limit}
+use Rattle.r6_core.specs.Refusals.{HasTurnFault, IsTurnHeld, IsTurnWhole}
 use Rattle.r6_core.specs.declared.refusal.Refusal.TheVariants.{NothingToDo}
 use Rattle.r6_core.specs.Effects.{turn_event}
 use Rattle.r6_core.specs.declared.turn.Turn.TheVariants.{Started, Skipped}
@@ -118,6 +119,7 @@ module _ (s : State) (check_row repair_row : ℕ) (core : IsCore s) (few : s.cou
             counted = record { found = sound.counted.found; skipped = omega (arith, rows, sound.frames.frames.count, few) };
             next_rows = own;
           };
+          reading = core.settled.reading;
           rested = core.settled.rested;
         };
         waits = core.waits;

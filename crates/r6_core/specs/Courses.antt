@@ -48,7 +48,8 @@ pub record HasRun (shape : Shape) (Ours : ℕ → Type 0) (Comes : RegisterCall 
   pub run : CoresRun (layout_of shape) Ours Comes (started (layout_of shape) r device) first moments
   pub events_are : events_of moments ≡ events
   pub cores_are : (n : ℕ) → Ours n → cores_behind first moments n ≡ cores n
-  pub register_is : (after_all (layout_of shape) (started (layout_of shape) r device) (map moment_of moments)).register ≡ register
+  pub register_is : (after_all (layout_of shape) (started (layout_of shape) r device) (map moment_of moments)).register
+      ≡ register
 
 -- ---- the calls of such a run
 
@@ -92,11 +93,12 @@ pub record Tells (call : shards.Call) (answer : RegisterAnswer) (old new : CoreV
 
 -- ---- one core
 
--- A read of block 0 of the smallest array, whose device fails: its block stands on slot 1, the other data block of the row on
--- slot 2 and P on slot 3. The core takes the slot out and reads the two others, its caller declares the loss, and after a
--- look the read is answered with this block.
+-- A read of block 0 of the smallest array, whose device fails: its block stands on slot 1, the other data block of the
+-- row on slot 2 and P on slot 3. The core takes the slot out and reads the two others, its caller declares the loss,
+-- and after a look the read is answered with this block.
 pub record RunsThroughLoss (other parity block : Block) (core : CoreView) : Type 0 where
-  pub runs : (device : Devices) (array : Array) → IsLawfulStart small (starting 0) device array → device 2 0 0 ≡ other → device 3 0 0 ≡ parity
+  pub runs : (device : Devices) (array : Array) → IsLawfulStart small (starting 0) device array → device 2 0 0 ≡ other
+      → device 3 0 0 ≡ parity
       → (failed second third : ℕ × Command)
       × HasRun smallest (IsShard smallest) IsOfOutside (starting 0) device array
       (of_core 0 (Submit (Read 0) 0
@@ -140,11 +142,12 @@ pub record ReadsAround (register : Snapshot) (other parity block : Block) (old n
   pub looked : Step whole (Look register) seeing
   pub replied : Step seeing (Take_reply 0 (Data block)) new
 
--- Two cores at one register. The first reads block 0, whose device answers an error on slot 1, and declares the loss. The
--- second sees it at a look. Block 3 stands on the lost slot, in the second's row, whose other data block is on slot 0 and P
--- on slot 2: those it reads, and after a look its read is answered with this block.
+-- Two cores at one register. The first reads block 0, whose device answers an error on slot 1, and declares the loss.
+-- The second sees it at a look. Block 3 stands on the lost slot, in the second's row, whose other data block is on
+-- slot 0 and P on slot 2: those it reads, and after a look its read is answered with this block.
 pub record RunsBesideLoss (other parity block : Block) (first second : CoreView) : Type 0 where
-  pub runs : (device : Devices) (array : Array) → IsLawfulStart (layout_of two_shards) (starting 0) device array → device 0 0 1 ≡ other → device 2 0 1 ≡ parity
+  pub runs : (device : Devices) (array : Array) → IsLawfulStart (layout_of two_shards) (starting 0) device array
+      → device 0 0 1 ≡ other → device 2 0 1 ≡ parity
       → (failed here there : ℕ × Command)
       × HasRun two_shards (IsShard two_shards) IsOfOutside (starting 0) device array
       (of_core 0 (Submit (Read 0) 0

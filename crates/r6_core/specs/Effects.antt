@@ -52,7 +52,8 @@ pub record Accepts (old : CoreView) (o : Op) (id : ℕ) (new : CoreView) : Type 
   pub right : HasNone (HasSubmitFault old o) submit_faults
   pub order : SameReplies old new
   pub unanswered : new.unanswered ≡ old.unanswered + 1
-  pub turns : HaveTurns old (after (core_layout old) (world_shard old) (Accept (op_of o))) (old.waiting ++ record { id = id; op = o } ∷ []) new
+  pub turns : HaveTurns old (after (core_layout old) (world_shard old) (Accept (op_of o)))
+      (old.waiting ++ record { id = id; op = o } ∷ []) new
 
 -- it comes back, and nothing changes
 pub record RefusesOp (old : CoreView) (o : Op) (refusal : Refusal) (back : Op) (new : CoreView) : Type 0 where
@@ -63,7 +64,8 @@ pub record RefusesOp (old : CoreView) (o : Op) (refusal : Refusal) (back : Op) (
 -- ---- deliver
 
 -- the completion is taken, or comes late
-pub record Receives (old : CoreView) (token : ℕ) (completion : Result (List ℕ) DeviceFault) (receipt : Receipt) (new : CoreView) : Type 0 where
+pub record Receives (old : CoreView) (token : ℕ) (completion : Result (List ℕ) DeviceFault) (receipt : Receipt)
+    (new : CoreView) : Type 0 where
   pub step : Step old (steps.Deliver token (completion_of completion) (receipt_of receipt)) new
   pub right : HasNone (HasDeliverFault old token (buffer_in completion)) deliver_faults
   pub order : FinishesBy completion old new
@@ -71,7 +73,8 @@ pub record Receives (old : CoreView) (token : ℕ) (completion : Result (List �
   pub turns : HaveTurnsBehind old token completion receipt new
 
 -- it comes back, and nothing changes
-pub record RefusesCompletion (old : CoreView) (token : ℕ) (completion : Result (List ℕ) DeviceFault) (refusal : Refusal) (back : Result (List ℕ) DeviceFault) (new : CoreView) : Type 0 where
+pub record RefusesCompletion (old : CoreView) (token : ℕ) (completion : Result (List ℕ) DeviceFault)
+    (refusal : Refusal) (back : Result (List ℕ) DeviceFault) (new : CoreView) : Type 0 where
   pub same : new ≡ old
   pub back_is : back ≡ completion
   pub fault : IsFirstFault (HasDeliverFault old token (buffer_in completion)) deliver_faults refusal
@@ -148,11 +151,13 @@ pub record IsCommandOf (core : CoreView) (c : Command) : Type 0 where
   pub row : IsRowOf (core_layout core) core.shard c.row
 
 abbrev pub HandsCommand : CoreView → Command → CoreView → Type 0
-HandsCommand old c new = (frame : ℕ) × (abandoned : Bool) × Step old (steps.Take_command c.token (world_command frame abandoned c)) new
+HandsCommand old c new =
+    (frame : ℕ) × (abandoned : Bool) × Step old (steps.Take_command c.token (world_command frame abandoned c)) new
 
 -- no command that wasn't taken has a lower token
 abbrev pub IsOldestUntaken : CoreView → (token : ℕ) → Type 0
-IsOldestUntaken core token = (t : ℕ) (c : shards.Command) → (world_shard core).command t ≡ Some c → c.taken ≡ false → token ≤ t
+IsOldestUntaken core token =
+    (t : ℕ) (c : shards.Command) → (world_shard core).command t ≡ Some c → c.taken ≡ false → token ≤ t
 
 -- ---- calls at the register
 

@@ -1,8 +1,9 @@
 -- What is true of a state between calls, and what internal calls do. No public clause needs it.
-use Rattle.std.specs.Prelude.{◌≡◌, ℕ, ◌+◌, ◌*◌, ◌<◌, ◌≤◌, nat_eq, not, ◌⊎◌, Bool, true, false, List, [], ◌∷◌, ◌++◌, length, map, if◌then◌else◌, option_map, IsPermutation, Option, Some, None, Result}
+use Rattle.std.specs.Prelude.{◌≡◌, ◌≢◌, ℕ, ◌+◌, ◌*◌, ◌<◌, ◌≤◌, nat_eq, not, ◌⊎◌, Bool, true, false, List, [], ◌∷◌, ◌++◌, length, map, if◌then◌else◌, option_map, IsPermutation, Option, Some, None, Result}
 use Rattle.std.specs.List.{AllByRecursion, IsDistinct}
 use Rattle.std.specs.Map.{keys_of}
 use Rattle.r6_stripe.specs.Plans.{is_in_sync}
+use Rattle.r6_layout.specs.Shape.{blocks}
 use Rattle.r6_layout.specs.Layout as layout
 use Rattle.r6_world.specs.PlainArray as world
 use Rattle.r6_world.specs.Layouts.{IsRowOf}
@@ -25,6 +26,8 @@ use Rattle.r6_core.specs.declared.refusal.DeviceFault.{DeviceFault}
 use Rattle.r6_core.specs.declared.refusal.Refusal.{Refusal}
 use Rattle.r6_core.specs.declared.scan.Freed.{Freed}
 use Rattle.r6_core.specs.declared.scan.Freed.TheVariants as freed
+use Rattle.r6_core.specs.declared.scan.Room.{Room}
+use Rattle.r6_core.specs.declared.scan.Room.TheVariants as room
 use Rattle.r6_core.specs.declared.counts.Counts.{Counts}
 use Rattle.r6_core.specs.declared.state.State.{State}
 use Rattle.r6_frames.specs.declared.finish.Ended.{Ended}
@@ -37,14 +40,20 @@ use Rattle.r6_frames.specs.declared.frames.HeldRow.{HeldRow}
 use Rattle.r6_frames.specs.declared.rebuilt.Rebuilt.{Rebuilt}
 use Rattle.r6_frames.specs.Rebuilt.{IsRebuilt, next_row as built_next}
 use Rattle.r6_frames.specs.Slots.{states_of}
+use Rattle.r6_frames.specs.declared.op.Op.TheVariants as op
+use Rattle.r6_frames.specs.declared.frames.Served.{Served}
+use Rattle.r6_frames.specs.declared.directs.DirectRead.{DirectRead}
+use Rattle.r6_frames.specs.Directs.{direct_at, read_request, read_requests}
+use Rattle.r6_frames.specs.Reads.{FreesDirect, IsFreeDirect}
 use Rattle.r6_frames.specs.Views.{op_of, buffer_of, is_request, is_scrub, held_for, row_in, kind_in, requests_by, held_requests, hold_at, AreLive}
-use Rattle.r6_frames.specs.Calls.{AreAllInSync, Between, BringsIn, HasOneBlock, Marks, IsAwaited, IsFreeFrame, IsRequestOf, KeepsOthers, NotHeldBy}
+use Rattle.r6_frames.specs.Calls.{AreAllInSync, Between, BringsIn, HasOneBlock, Marks, IsAwaited, IsFreeFrame, IsRequestOf, KeepsDirects, KeepsHolds, KeepsOthers, NotHeldBy}
 use Rattle.r6_frames.specs.Owed.{owed, IsDriven, IsOver}
 use Rattle.r6_frames.specs.Calls as frames
 use Rattle.r6_frames.specs.Sound as held
 use Rattle.r6_core.specs.Shards.{CoreView, SameShard, buffer_in, core_of, layout_in, requests_of, state_of, turn_row}
-use Rattle.r6_core.specs.Refusals.{most_unanswered, limit, HasCompletionFault}
-use Rattle.r6_core.specs.Order.{Starts, HaveTurns, KeepsReplies, reply_to}
+use Rattle.r6_world.specs.ShardStates.{limit}
+use Rattle.r6_core.specs.Refusals.{most_unanswered, HasCompletionFault}
+use Rattle.r6_core.specs.Order.{Starts, HaveTurns, KeepsReplies, ReadAgainBy, WereRead, reply_to}
 
 -- ---- a state, as callers see it
 
@@ -125,8 +134,8 @@ is_settled (Building generation built) = false
 abbrev pub count_slots : (SlotState → Bool) → Frames → ℕ
 count_slots test fs = count_below (λ slot. test (states_of fs.slots slot)) fs.geometry.slots
 
--- As many calls may wait to be made, since a look had none to wait for: of a slot in sync its rebuild, and of one that is
--- missing its loss behind it
+-- As many calls may wait to be made, since a look had none to wait for: of a slot in sync its rebuild, and of one that
+-- is missing its loss behind it
 abbrev pub most_calls : Frames → ℕ
 most_calls fs = count_slots is_missing fs + count_slots is_settled fs
 
@@ -136,11 +145,16 @@ pub record HasRoom (s : State) : Type 0 where
   pub calls : s.calls.capacity ≡ 64
   pub few_calls : length s.calls.items + count_untold s.untold ≤ most_calls s.frames
 
--- what was put out, with what may still come: each request that waits puts out at most two commands a position
-abbrev pub bound : State → ℕ
-bound s = s.frames.commands.next + owed s.frames + 2 * s.frames.geometry.slots * length s.waiting.items
+-- as many requests wait, or may wait again
+abbrev pub count_unheld : State → ℕ
+count_unheld s = length s.waiting.items + length (read_requests s.frames)
 
--- so many may still come at the limit: for each frame, and each request that waits
+-- what was put out, with what may still come: each request that waits, or may wait again, puts out at most two
+-- commands a position
+abbrev pub bound : State → ℕ
+bound s = s.frames.commands.next + owed s.frames + 2 * s.frames.geometry.slots * count_unheld s
+
+-- so many may still come at the limit, from which on no request is read directly: for each frame, and each request
 abbrev pub most_tokens : ℕ
 most_tokens = limit + 2 * 32 * (most_unanswered + shards.frames)
 
@@ -168,9 +182,17 @@ IsRestedFrame s frame = IsDriven s.frames frame × (IsOver s.frames frame → �
 abbrev pub IsRested : State → Type 0
 IsRested s = (frame : ℕ) → IsRestedFrame s frame
 
+-- the direct reads go on: none waits to be handed back
+abbrev pub IsReadOn : ℕ × shards.Request → Type 0
+IsReadOn entry = entry.1.stage ≢ shards.Waiting
+
+abbrev pub AreReadOn : Frames → Type 0
+AreReadOn fs = AllByRecursion IsReadOn (read_requests fs)
+
 -- each hold rests; requests that wait may be able to start
 pub record IsSettled (s : State) : Type 0 where
   pub sound : IsSound s
+  pub reading : AreReadOn s.frames
   pub rested : AreLive s.frames → IsRested s
 
 -- the row can be held in the frame
@@ -196,7 +218,8 @@ IsTakenUp s scrub frame = AreAllInSync s.frames (next_row scrub s) × CanHold s.
 -- The row of this number, among those that are rebuilt next, could be rebuilt: it is the shard's, and isn't held
 abbrev pub IsUnheldRow : Frames → Rebuilt → (number : ℕ) → Type 0
 IsUnheldRow fs rebuilt number =
-    (built_next rebuilt number < layout.first_row fs.geometry (fs.shard + 1)) × NotHeldBy fs (built_next rebuilt number)
+    (built_next rebuilt number < layout.first_row fs.geometry (fs.shard + 1))
+    × NotHeldBy fs (built_next rebuilt number)
 
 -- the first such row, within the window
 pub record IsFirstUnheld (fs : Frames) (rebuilt : Rebuilt) (window row : ℕ) : Type 0 where
@@ -214,12 +237,60 @@ NoneUnheld fs rebuilt window = (number : ℕ) → number < window → IsUnheldRo
 abbrev pub IsBuiltIn : Frames → Rebuilt → Type 0
 IsBuiltIn fs = IsRebuilt (layout.first_row fs.geometry fs.shard) (layout.first_row fs.geometry (fs.shard + 1))
 
--- a waiting request can start in the frame, or can't: so it is of the row of its block
-abbrev pub CanStart : Frames → Request → ℕ → Type 0
-CanStart fs request = CanHold fs (layout.row_of fs.geometry (world.block_of (op_of request.op)))
+-- a read of a position that is in sync for its row
+abbrev pub IsSyncedRead : Frames → Op → Type 0
+IsSyncedRead fs (op.Read block buffer) =
+    let row = layout.row_of fs.geometry block in
+    is_in_sync
+    (shards.standing_of (states_of fs.slots (layout.slot_at fs.geometry row (layout.index_of fs.geometry block))) row)
+    ≡ true
+IsSyncedRead fs (op.Write block buffer) = ⊥
+
+-- for a block of the shard
+pub record IsOpOf (fs : Frames) (o : Op) : Type 0 where
+  pub there : world.block_of (op_of o) < blocks fs.geometry
+  pub own : layout.shard_of fs.geometry (layout.row_of fs.geometry (world.block_of (op_of o))) ≡ fs.shard
+
+-- below the limit such a read is read directly
+abbrev pub IsReadDirectly : Frames → Op → Type 0
+IsReadDirectly fs o = (fs.commands.next < limit) × IsSyncedRead fs o
+
+-- it may have the direct buffer
+abbrev pub MayLend : Frames → (number : ℕ) → Type 0
+MayLend fs number = (fs.commands.next < limit) × IsFreeDirect fs number
+
+-- what is asked is read directly with the buffer, or a row is held for it in the frame: that of its block
+abbrev pub CanBeRead : Frames → Op → (number : ℕ) → Type 0
+CanBeRead fs o number = AreLive fs × IsSyncedRead fs o × MayLend fs number
+
+abbrev pub row_for : Frames → Op → ℕ
+row_for fs o = layout.row_of fs.geometry (world.block_of (op_of o))
+
+abbrev pub CanBegin : Frames → Op → Room → Type 0
+CanBegin fs o (room.Direct number) = CanBeRead fs o number
+CanBegin fs o (room.Frame frame) = (IsReadDirectly fs o → ⊥) × CanHold fs (row_for fs o) frame
+
+-- what it would need: a free direct buffer where it is a read of a position in sync, and where it isn't read directly
+-- its row and a free frame
+pub record CouldBegin (fs : Frames) (o : Op) : Type 0 where
+  pub buffer : IsSyncedRead fs o → (number : ℕ) × IsFreeDirect fs number
+  pub frame : (IsReadDirectly fs o → ⊥) → NotHeldBy fs (row_for fs o) × (frame : ℕ) × IsFreeFrame fs frame
+
+abbrev pub CannotBegin : Frames → Op → Type 0
+CannotBegin fs o = AreLive fs → CouldBegin fs o → ⊥
+
+-- so is a request that waits
+abbrev pub CanRead : Frames → Request → (number : ℕ) → Type 0
+CanRead fs request = CanBeRead fs request.op
+
+abbrev pub row_of_request : Frames → Request → ℕ
+row_of_request fs request = row_for fs request.op
+
+abbrev pub CanStart : Frames → Request → Room → Type 0
+CanStart fs request = CanBegin fs request.op
 
 abbrev pub CannotStart : Frames → Request → Type 0
-CannotStart fs request = CannotHold fs (layout.row_of fs.geometry (world.block_of (op_of request.op)))
+CannotStart fs request = CannotBegin fs request.op
 
 abbrev pub NoneCanStart : State → Type 0
 NoneCanStart s = AllByRecursion (CannotStart s.frames) s.waiting.items
@@ -231,19 +302,40 @@ pub record IsCore (s : State) : Type 0 where
 
 -- ---- what may start after a change of the frames
 
--- but for one frame, all is as it was when none could start
+-- what doesn't change while one thing is freed
+pub record IsLike (before fs : Frames) : Type 0 where
+  pub geometry : fs.geometry ≡ before.geometry
+  pub live : AreLive fs → AreLive before
+  pub slots : states_of fs.slots ≡ states_of before.slots
+  pub tokens : before.commands.next ≤ fs.commands.next
+
+-- but for one frame, or for one direct buffer, all is as it was
+abbrev pub IsButOne : (before fs : Frames) → Type 0
+IsButOne before fs =
+    ((frame : ℕ) × KeepsOthers before frame fs × KeepsDirects before fs)
+    ⊎ (KeepsHolds before fs × (number : ℕ) × FreesDirect before number fs)
+
+-- but for that, all is as it was when none could start
 abbrev pub HasFreedOne : State → Type 0
 HasFreedOne s =
-    (before : Frames) × (frame : ℕ) × (s.frames.geometry ≡ before.geometry) × (AreLive s.frames → AreLive before)
-    × KeepsOthers before frame s.frames × AllByRecursion (CannotStart before) s.waiting.items
+    (before : Frames) × IsLike before s.frames × IsButOne before s.frames
+    × AllByRecursion (CannotStart before) s.waiting.items
 
 abbrev pub HasFreed : Freed → State → Type 0
 HasFreed freed.Nothing s = NoneCanStart s
-HasFreed freed.OneFrame s = HasFreedOne s
-HasFreed freed.Frames s = Unit {0}
+HasFreed freed.One s = HasFreedOne s
+HasFreed freed.Any s = Unit {0}
 
--- the oldest request that can start, from an index on, is the one at this index, in this frame
-pub record IsFirstToStart (s : State) (from index frame : ℕ) : Type 0 where
+-- a hold has ended, or hasn't: one frame let its row go, or with a row that is rebuilt a slot is in sync for it
+abbrev pub HasEnded : Freed → State → State → Type 0
+HasEnded freed.Nothing old new = new ≡ old
+HasEnded freed.One old new =
+    KeepsDirects old.frames new.frames × (states_of new.frames.slots ≡ states_of old.frames.slots)
+    × (new.frames.commands.next ≡ old.frames.commands.next)
+HasEnded freed.Any old new = Unit {0}
+
+-- the oldest request that can start, from an index on, is the one at this index, with this
+pub record IsFirstToStart (s : State) (from index : ℕ) (with : Room) : Type 0 where
   pub before : List Request
   pub request : Request
   pub behind : List Request
@@ -251,7 +343,7 @@ pub record IsFirstToStart (s : State) (from index frame : ℕ) : Type 0 where
   pub at : length before ≡ index
   pub past : from ≤ index
   pub cannot : AllByRecursion (CannotStart s.frames) before
-  pub can : CanStart s.frames request frame
+  pub can : CanStart s.frames request with
 
 -- ---- what internal calls do
 
@@ -269,6 +361,45 @@ SameScrubs old new = (new.check_row ≡ old.check_row) × (new.repair_row ≡ ol
 -- the shard stays the shard that it is; what waited waits, and as many requests are unanswered
 abbrev pub KeepsWaiting : State → State → Type 0
 KeepsWaiting old new = SameFrames old new × (new.waiting ≡ old.waiting) × (new.unanswered ≡ old.unanswered)
+
+-- behind what waited, these wait too
+abbrev pub WaitBehind : State → List Request → State → Type 0
+WaitBehind old more new = new.waiting.items ≡ old.waiting.items ++ more
+
+-- direct reads whose commands are gone or abandoned wait again
+abbrev pub ReadAgain : State → State → Type 0
+ReadAgain old new = (again : List Request) × WereRead (state_of old) 0 again × WaitBehind old again new
+
+-- those that a completion takes or abandons do
+abbrev pub ReadAgainFor : Result (List ℕ) DeviceFault → State → State → Type 0
+ReadAgainFor completion old new =
+    (again : List Request) × ReadAgainBy completion (state_of old) again × WaitBehind old again new
+
+-- the shard stays the shard that it is, and as many requests are unanswered
+abbrev pub KeepsShard : State → State → Type 0
+KeepsShard old new = SameFrames old new × (new.unanswered ≡ old.unanswered)
+
+-- these are direct reads of the frames, with tokens from this one on that don't fall
+abbrev pub WereStopped : Frames → (from : ℕ) → List Request → Type 0
+WereStopped fs from [] = Unit {0}
+WereStopped fs from (request ∷ later) =
+    (number : ℕ) × (read : DirectRead) × ((direct_at fs.directs number).read ≡ Some read) × (from ≤ read.token)
+    × (request ≡ read_request read) × WereStopped fs read.token later
+
+-- the stopped ones of the direct reads wait again, and nothing else changes
+pub record HandsBack (old new : State) : Type 0 where
+  pub sound : IsSound new
+  pub reading : AreReadOn new.frames
+  pub state : state_of new ≡ state_of old
+  pub again : List Request
+  pub were : WereStopped old.frames 0 again
+  pub waiting : WaitBehind old again new
+  pub holds : KeepsHolds old.frames new.frames
+  pub slots : frames.KeepsSlots old.frames new.frames
+  pub commands : new.frames.commands ≡ old.frames.commands
+  pub geometry : (new.frames.geometry ≡ old.frames.geometry) × (new.frames.shard ≡ old.frames.shard)
+  pub rest :
+      new ≡ record old { waiting = new.waiting; frames = new.frames }
 
 -- the shard stays the shard that it is, with its calls and its replies
 abbrev pub OnlyStarts : State → State → Type 0
@@ -290,12 +421,17 @@ IsFresh s =
 abbrev pub StartsAt : State → (index : ℕ) → State → Type 0
 StartsAt old index new =
     (before : List Request) × (request : Request) × (behind : List Request)
-    × (old.waiting.items ≡ before ++ request ∷ behind) × (length before ≡ index) × (new.waiting.items ≡ before ++ behind)
+    × (old.waiting.items ≡ before ++ request ∷ behind) × (length before ≡ index)
+    × (new.waiting.items ≡ before ++ behind)
     × Starts (layout_in old) old.frames.shard (state_of old) request (state_of new)
 
 -- what could not start can't start now
 abbrev pub NoMoreCanStart : State → State → Type 0
 NoMoreCanStart old new = (request : Request) → CannotStart old.frames request → CannotStart new.frames request
+
+-- the request, as the frames have it
+abbrev pub served_of : Request → Served
+served_of request = record { id = request.id; block = world.block_of (op_of request.op) }
 
 -- a request with its number
 abbrev pub numbered_op : Request → ℕ × world.Op
@@ -318,7 +454,8 @@ abbrev pub IsMarked : State → Target → (row : ℕ) → State → Type 0
 IsMarked old target row new =
     (Marks old.frames target row new.frames × (new.calls ≡ old.calls))
     ⊎ (BringsIn old.frames target row new.frames
-    × (new.calls ≡ buffer (old.calls.items ++ call.ReportRebuilt target.slot target.generation ∷ []) old.calls.capacity))
+    × (new.calls
+    ≡ buffer (old.calls.items ++ call.ReportRebuilt target.slot target.generation ∷ []) old.calls.capacity))
 
 -- no row is rebuilt with it
 abbrev pub IsPlainEnd : Ended → Type 0
@@ -344,7 +481,7 @@ reply_for false o = reply.ArrayFailed (buffer_of o)
 abbrev pub ReleasesFinished : CoreView → CoreView → Type 0
 ReleasesFinished old new = (new.released ≡ old.released ++ old.finished) × (new.finished ≡ [])
 
--- the requests with no reply, each with its number
+-- the requests with no reply, each with its number, in a shard in which none is read directly
 abbrev pub held_op : ℕ × shards.Request → ℕ × world.Op
 held_op entry = (entry.0, entry.1.op)
 
@@ -364,12 +501,14 @@ pub record Gathers (old new : State) : Type 0 where
   pub tokens : owed new.frames ≤ owed old.frames
   pub shard : Between (λ l n s s'. s' ≡ record s { frame = λ frame. None }) old.frames new.frames
   pub room : (new.waiting.capacity ≡ old.waiting.capacity) × (new.replies.capacity ≡ old.replies.capacity)
-  pub rest : (new.accepted ≡ old.accepted) × (new.unanswered ≡ old.unanswered) × (new.released ≡ old.released) × SameCalls old new
+  pub rest : (new.accepted ≡ old.accepted) × (new.unanswered ≡ old.unanswered) × (new.released ≡ old.released)
+      × SameCalls old new
   pub scrubs : SameScrubs old new
 
 -- why a completion is refused
 abbrev pub HasFault : State → ℕ → Result (List ℕ) DeviceFault → Refusal → Type 0
-HasFault s token completion = HasCompletionFault (IsAwaited s.frames token) s.frames.geometry.block (buffer_in completion)
+HasFault s token completion =
+    HasCompletionFault (IsAwaited s.frames token) s.frames.geometry.block (buffer_in completion)
 
 -- a completion of this kind opens the call, and then holds go on
 abbrev pub TakesThrough : State → ℕ → steps.Completion → steps.Receipt → State → Type 0

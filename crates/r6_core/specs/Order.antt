@@ -5,8 +5,8 @@ use Rattle.r6_world.specs.PlainArray as world
 use Rattle.r6_world.specs.Layouts.{Layout}
 use Rattle.r6_world.specs.Registers.{Snapshot, status_of}
 use Rattle.r6_world.specs.ShardStates as shards
-use Rattle.r6_world.specs.ShardStates.{Shard, IsFree, IsLive, NotHeld}
-use Rattle.r6_world.specs.Changes.{Change, Start, Release, after, Allowed, differs}
+use Rattle.r6_world.specs.ShardStates.{Shard, Reading, IsLive, CouldStart}
+use Rattle.r6_world.specs.Changes.{Change, Read_direct, Start, Release, after, Allowed, differs}
 use Rattle.r6_world.specs.Steps.{Through, GoesOn, Takes, TakesOver}
 use Rattle.r6_frames.specs.declared.op.Op.{Op}
 use Rattle.r6_frames.specs.declared.op.Op.TheVariants as op
@@ -17,6 +17,7 @@ use Rattle.r6_core.specs.declared.reply.Reply.{Reply}
 use Rattle.r6_core.specs.declared.reply.Reply.TheVariants as reply
 use Rattle.r6_core.specs.declared.refusal.DeviceFault.{DeviceFault}
 use Rattle.r6_core.specs.declared.refusal.Receipt.{Receipt}
+use Rattle.r6_world.specs.ShardStates.{limit}
 use Rattle.r6_core.specs.Shards.{CoreView, world_shard, core_layout, completion_of, receipt_of}
 
 -- ---- replies
@@ -29,7 +30,8 @@ reply_to (op.Write block buffer) = reply.Done buffer
 abbrev pub BringsBack : Option shards.Request → Reply → Type 0
 BringsBack (Some request) (reply.Done buffer) = (block : ℕ) × (request.op ≡ world.Op.Write block buffer)
 BringsBack (Some request) (reply.Data buffer) = (block : ℕ) × (request.op ≡ world.Op.Read block)
-BringsBack (Some request) (reply.ArrayFailed buffer) = (block : ℕ) (new_data : world.Block) → request.op ≡ world.Op.Write block new_data → buffer ≡ new_data
+BringsBack (Some request) (reply.ArrayFailed buffer) =
+    (block : ℕ) (new_data : world.Block) → request.op ≡ world.Op.Write block new_data → buffer ≡ new_data
 BringsBack None back = ⊥
 
 -- no request is finished, and no reply released
@@ -66,7 +68,8 @@ FinishesBy (Err fault) old new = Finishes old new
 
 -- a look finds no slot other than the shard has it
 abbrev pub Agrees : CoreView → Snapshot → Type 0
-Agrees core snapshot = (slot : ℕ) → slot < core.shape.slots → differs ((world_shard core).slot slot) (status_of snapshot slot) ≡ false
+Agrees core snapshot =
+    (slot : ℕ) → slot < core.shape.slots → differs ((world_shard core).slot slot) (status_of snapshot slot) ≡ false
 
 -- all that were finished are released, in their order, behind those that were, and behind them those that the look
 -- finished, from the oldest to the newest: none if it found no slot other
@@ -105,21 +108,33 @@ HasNoReply core = (core.released ≡ []) × ((world_shard core).saw_failed ≡ t
 abbrev pub start_of : Layout → Request → (frame : ℕ) → Change
 start_of l request frame = Start frame (l.row_of (world.block_of (op_of request.op))) (task_for request.id request.op)
 
--- the request starts in a frame, and its hold puts out what comes first
-abbrev pub Starts : Layout → ℕ → Shard → Request → Shard → Type 0
-Starts l n old request new =
-    (frame : ℕ) × Allowed l n old (start_of l request frame) × Through l n PutsOut (after l old (start_of l request frame)) new
+-- the request is a read, and is read directly, with one command and a direct buffer
+abbrev pub IsRead : Layout → ℕ → Shard → (id : ℕ) → Op → Shard → Type 0
+IsRead l n old id (op.Read block buffer) new =
+    (direct : ℕ) × (generation : ℕ) × Allowed l n old (Read_direct direct id block generation)
+    × (new ≡ after l old (Read_direct direct id block generation))
+IsRead l n old id (op.Write block buffer) new = ⊥
 
--- it can't: nothing goes on, its row is held, or no frame is free
+-- its row is held for it in a frame, and the hold puts out what comes first
+abbrev pub IsHeldFor : Layout → ℕ → Shard → Request → Shard → Type 0
+IsHeldFor l n old request new =
+    (frame : ℕ) × Allowed l n old (start_of l request frame)
+    × Through l n PutsOut (after l old (start_of l request frame)) new
+
+-- the request starts: it is read directly, or its row is held for it
+abbrev pub Starts : Layout → ℕ → Shard → Request → Shard → Type 0
+Starts l n old request new = IsRead l n old request.id request.op new ⊎ IsHeldFor l n old request new
+
 abbrev pub MustWait : Layout → Shard → Request → Type 0
-MustWait l s request = IsLive l s → NotHeld s (l.row_of (world.block_of (op_of request.op))) → (frame : ℕ) → IsFree l s frame → ⊥
+MustWait l s request = IsLive l s → CouldStart l s (op_of request.op) → ⊥
 
 -- Each request has its turn, from the oldest to the newest: it starts if it can at its turn, and else it waits still
 abbrev pub InTurn : Layout → ℕ → (old : Shard) → List Request → (new : Shard) → (waiting : List Request) → Type 0
 InTurn l n old [] new waiting = (new ≡ old) × (waiting ≡ [])
 InTurn l n old (request ∷ newer) new waiting =
     ((mid : Shard) × Starts l n old request mid × InTurn l n mid newer new waiting)
-    ⊎ (MustWait l old request × (others : List Request) × (waiting ≡ request ∷ others) × InTurn l n old newer new others)
+    ⊎ (MustWait l old request × (others : List Request) × (waiting ≡ request ∷ others)
+    × InTurn l n old newer new others)
 
 -- from this shard on each of these requests has its turn, and those that wait still are what then waits
 abbrev pub HaveTurns : CoreView → Shard → List Request → CoreView → Type 0
@@ -129,19 +144,38 @@ HaveTurns old from requests new = InTurn (core_layout old) old.shard from reques
 abbrev pub KeepsFrames : Shard → Shard → Type 0
 KeepsFrames old new = (frame : ℕ) × ((other : ℕ) → other ≢ frame → new.frame other ≡ old.frame other)
 
--- those that waited have their turns behind the completion of a command: a good one changes one frame
+-- these were read directly in the shard, with tokens from this one on that don't fall
+abbrev pub WereRead : Shard → (from : ℕ) → List Request → Type 0
+WereRead s from [] = Unit {0}
+WereRead s from (request ∷ later) =
+    (token : ℕ) × (from ≤ token)
+    × (s.request request.id ≡ Some (record { op = op_of request.op; stage = Reading token }))
+    × WereRead s token later
+
+-- the direct reads whose commands a completion takes or abandons: of a good one there are none
+abbrev pub ReadAgainBy : Result (List ℕ) DeviceFault → Shard → List Request → Type 0
+ReadAgainBy (Ok buffer) s again = again ≡ []
+ReadAgainBy (Err fault) s again = WereRead s 0 again
+
+-- Those that waited have their turns behind the completion of a command, and behind them the direct reads that wait
+-- again, in the order of their tokens. A good completion changes one frame
 abbrev pub HaveTurnsBehind : CoreView → ℕ → Result (List ℕ) DeviceFault → Receipt → CoreView → Type 0
 HaveTurnsBehind old token completion receipt new =
     let l = core_layout old in
-    (change : Change) × Takes token (completion_of completion) (receipt_of receipt) change × Allowed l old.shard (world_shard old) change
+    (change : Change) × Takes token (completion_of completion) (receipt_of receipt) change
+    × Allowed l old.shard (world_shard old) change
     × (behind : Shard) × Through l old.shard GoesOn (after l (world_shard old) change) behind
-    × IfOk completion (λ _. KeepsFrames (world_shard old) behind) × HaveTurns old behind old.waiting new
+    × IfOk completion (λ _. KeepsFrames (world_shard old) behind)
+    × (again : List Request) × ReadAgainBy completion (world_shard old) again
+    × HaveTurns old behind (old.waiting ++ again) new
 
--- and behind a look at an array that hasn't failed: from the shard as it was, if the look found no slot other
+-- and so behind a look at an array that hasn't failed: from the shard as it was, if the look found no slot other
 abbrev pub HaveTurnsAfter : CoreView → Snapshot → CoreView → Type 0
 HaveTurnsAfter old snapshot new =
     let l = core_layout old in
     snapshot.failed ≡ false
     → (mid : Shard) × Through l old.shard (TakesOver snapshot) (world_shard old) mid
     × (behind : Shard) × Through l old.shard GoesOn mid behind
-    × (Agrees old snapshot → behind ≡ world_shard old) × HaveTurns old (after l behind Release) old.waiting new
+    × (again : List Request) × WereRead (world_shard old) 0 again
+    × (Agrees old snapshot → (behind ≡ world_shard old) × (again ≡ []))
+    × HaveTurns old (after l behind Release) (old.waiting ++ again) new

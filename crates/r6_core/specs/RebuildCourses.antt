@@ -22,9 +22,10 @@ pub record TakesUp (old new : CoreView) : Type 0 where
   pub generation : ℕ
   pub started : Step old (Turn_started (Rebuild slot generation)) new
 
--- A row of slot 1 is rebuilt on the slot's first new device, from these blocks of two other slots, and the shard's report
--- has this answer
-pub record RebuildsRow (one another row : ℕ) (blocks : LostRow) (answer : RegisterAnswer) (old new : CoreView) : Type 0 where
+-- A row of slot 1 is rebuilt on the slot's first new device, from these blocks of two other slots, and the shard's
+-- report has this answer
+pub record RebuildsRow (one another row : ℕ) (blocks : LostRow) (answer : RegisterAnswer) (old new : CoreView)
+    : Type 0 where
   pub held : CoreView
   pub turned : TakesUp old held
   pub half : CoreView
@@ -51,7 +52,8 @@ pub record Replaces (register attached : Snapshot) (first second first' second' 
   pub looked_again : BothLook attached here there first' second'
 
 -- both rebuild their rows, which their reports complete, and look at the register
-pub record RebuildsBoth (attached : Snapshot) (one two : LostRow) (rebuilt : Snapshot) (first second first' second' : CoreView) : Type 0 where
+pub record RebuildsBoth (attached : Snapshot) (one two : LostRow) (rebuilt : Snapshot)
+    (first second first' second' : CoreView) : Type 0 where
   pub here : CoreView
   pub there : CoreView
   pub one_rebuilt : RebuildsRow 2 3 0 one More first here
@@ -87,7 +89,8 @@ rebuild_events t blocks answer =
     ∷ Take_command t.write.0 t.write.1 ∷ Deliver t.write.0 (Good blocks.lost) Taken
     ∷ Take_call (RebuildOf 1 1) ∷ steps.Told (RebuildOf 1 1) (Ok answer) ∷ []
 
--- the register of two shards with slot 1 failed, then with a new device, then with the report of the first shard, and of both
+-- the register of two shards with slot 1 failed, then with a new device, then with the report of the first shard, and
+-- of both
 abbrev pub with_lost : Snapshot
 with_lost = after 2 (starting 0) (Fail 1)
 
@@ -100,9 +103,10 @@ half_rebuilt = after 2 with_new (ReportRebuilt 0 1 1)
 abbrev pub rebuilt : Snapshot
 rebuilt = after 2 half_rebuilt (ReportRebuilt 1 1 1)
 
--- Two cores at one register, at which a slot is failed and a new device attached from outside. Each sees it at its looks,
--- rebuilds its row of the new device and reports it, which completes the rebuild. Block 0 stands on the rebuilt slot, in the
--- first core's row: that core reads it from the new device, and after a look its read is answered with this block.
+-- Two cores at one register, at which a slot is failed and a new device attached from outside. Each sees it at its
+-- looks, rebuilds its row of the new device and reports it, which completes the rebuild. Block 0 stands on the rebuilt
+-- slot, in the first core's row: that core reads it from the new device, and after a look its read is answered with
+-- this block.
 pub record RunsThroughRebuild (one two : LostRow) (block : Block) (first second : CoreView) : Type 0 where
   pub runs : (device : Devices) (array : Array) → IsLawfulStart (layout_of two_shards) (starting 0) device array
       → device 2 0 0 ≡ one.other → device 3 0 0 ≡ one.parity → device 0 0 1 ≡ two.other → device 2 0 1 ≡ two.parity

@@ -9,8 +9,8 @@ use Rattle.r6_core.specs.Shards.{CoreView, core_layout, world_shard}
 abbrev pub unbuilt_before : Layout → (n : ℕ) → (built : ℕ → Bool) → (row : ℕ) → ℕ
 unbuilt_before l n built row = count_below (λ other. nat_le (l.first_row n) other && not (built other)) row
 
--- the row could be rebuilt now on the new device of the slot: it is among the first rows of the shard that are not built
--- there, as many as the window, and it isn't held
+-- the row could be rebuilt now on the new device of the slot: it is among the first rows of the shard that are not
+-- built there, as many as the window, and it isn't held
 pub record MayRebuild (core : CoreView) (window slot generation row : ℕ) : Type 0 where
   pub there : slot < core.shape.slots
   pub built : ℕ → Bool

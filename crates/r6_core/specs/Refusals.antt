@@ -1,9 +1,9 @@
 -- The refusals of a core, each with its number and its name, and when a call is refused.
-use Rattle.std.specs.Prelude.{◌≡◌, ◌≢◌, ℕ, ◌^◌, ◌≤◌, ◌⊎◌, true, List, [], ◌∷◌, length, codes, Some, None}
+use Rattle.std.specs.Prelude.{◌≡◌, ◌≢◌, ℕ, ◌≤◌, ◌⊎◌, true, List, [], ◌∷◌, length, codes, Some, None}
 use Rattle.r6_layout.specs.Shape.{blocks}
 use Rattle.r6_layout.specs.Layout as layout
 use Rattle.r6_world.specs.PlainArray as world
-use Rattle.r6_world.specs.ShardStates.{Command, IsFree, IsLive, NotHeld}
+use Rattle.r6_world.specs.ShardStates.{Command, limit, IsFree, IsLive, NotHeld}
 use Rattle.r6_world.specs.Changes.{AllInSync}
 use Rattle.r6_frames.specs.declared.op.Op.{Op}
 use Rattle.r6_core.specs.declared.refusal.CoreError.{CoreError}
@@ -50,17 +50,13 @@ name_of UnknownCall = codes "UnknownCall"
 abbrev pub most_unanswered : ℕ
 most_unanswered = 256
 
--- requests and turns are refused from so many commands on, requests from so many requests on, and turns from so many
--- rows on that were passed over
-abbrev pub limit : ℕ
-limit = 2 ^ 60
-
 -- ---- why a request, a completion or a turn is refused, in this order
 
--- why a request is refused; the first that holds
+-- why a request is refused; the first that holds. From the limit on no tokens and no numbers of requests are given
 abbrev pub HasSubmitFault : CoreView → Op → Refusal → Type 0
 HasSubmitFault core o NoSuchBlock = blocks core.shape ≤ world.block_of (op_of o)
-HasSubmitFault core o WrongShard = layout.shard_of core.shape (layout.row_of core.shape (world.block_of (op_of o))) ≢ core.shard
+HasSubmitFault core o WrongShard =
+    layout.shard_of core.shape (layout.row_of core.shape (world.block_of (op_of o))) ≢ core.shard
 HasSubmitFault core o WrongLength = length (buffer_of o) ≢ core.shape.block
 HasSubmitFault core o ArrayFailed = (world_shard core).saw_failed ≡ true
 HasSubmitFault core o Exhausted = (limit ≤ (world_shard core).tokens) ⊎ (limit ≤ (world_shard core).accepted)
@@ -124,7 +120,8 @@ turn_faults = ArrayFailed ∷ Exhausted ∷ NothingToDo ∷ NoFrame ∷ []
 -- the first of these faults that there is
 abbrev pub IsFirstFault : (Refusal → Type 0) → List Refusal → Refusal → Type 0
 IsFirstFault HasFault [] refusal = ⊥
-IsFirstFault HasFault (fault ∷ faults) refusal = ((refusal ≡ fault) × HasFault fault) ⊎ ((HasFault fault → ⊥) × IsFirstFault HasFault faults refusal)
+IsFirstFault HasFault (fault ∷ faults) refusal =
+    ((refusal ≡ fault) × HasFault fault) ⊎ ((HasFault fault → ⊥) × IsFirstFault HasFault faults refusal)
 
 -- there is none of them
 abbrev pub HasNone : (Refusal → Type 0) → List Refusal → Type 0

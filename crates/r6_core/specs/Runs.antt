@@ -54,19 +54,23 @@ cores_after cores (Tell n call answer middle new) = put cores n new
 cores_after cores (Outside call) = cores
 
 -- What may happen next, where these cores are ours and these calls come at the register from outside: a call of one of
--- ours that keeps its contract, with the world's completions and the register as it is and answers; and what the devices
--- and the register's other callers may do
-abbrev pub MayHappen : Layout → (Ours : ℕ → Type 0) → (Comes : RegisterCall → Type 0) → World → (ℕ → CoreView) → Happening → Type 0
+-- ours that keeps its contract, with the world's completions and the register as it is and answers; and what the
+-- devices and the register's other callers may do
+abbrev pub MayHappen : Layout → (Ours : ℕ → Type 0) → (Comes : RegisterCall → Type 0) → World → (ℕ → CoreView)
+    → Happening → Type 0
 MayHappen l Ours Comes w cores (Call n event new) = Ours n × MayCome w n event × Step (cores n) event new
 MayHappen l Ours Comes w cores (Perform n token c) = Ours n × Possible l Comes w (worlds.Perform n token c)
 MayHappen l Ours Comes w cores (Tell n call answer middle new) =
-    Ours n × IsAnswer l w.register (as_made n call) answer × Step (cores n) (Take_call call) middle × Step middle (steps.Told call answer) new
+    Ours n × IsAnswer l w.register (as_made n call) answer × Step (cores n) (Take_call call) middle
+    × Step middle (steps.Told call answer) new
 MayHappen l Ours Comes w cores (Outside call) = Comes call
 
-abbrev pub CoresRun : Layout → (Ours : ℕ → Type 0) → (Comes : RegisterCall → Type 0) → World → (ℕ → CoreView) → List Moment → Type 0
+abbrev pub CoresRun : Layout → (Ours : ℕ → Type 0) → (Comes : RegisterCall → Type 0) → World → (ℕ → CoreView)
+    → List Moment → Type 0
 CoresRun l Ours Comes w cores [] = record {}
 CoresRun l Ours Comes w cores (m ∷ moments) =
-    MayHappen l Ours Comes w cores m.happening × CoresRun l Ours Comes (next l w (moment_of m)) (cores_after cores m.happening) moments
+    MayHappen l Ours Comes w cores m.happening
+    × CoresRun l Ours Comes (next l w (moment_of m)) (cores_after cores m.happening) moments
 
 abbrev pub AreMade : Shape → (Ours : ℕ → Type 0) → Snapshot → (ℕ → CoreView) → Type 0
 AreMade shape Ours r cores = (n : ℕ) → Ours n → IsMade shape r n (cores n)
@@ -84,7 +88,8 @@ StayShards l Ours w cores (m ∷ moments) =
 abbrev pub AreRuns : Shape → (Ours : ℕ → Type 0) → (Comes : RegisterCall → Type 0) → Type 0
 AreRuns shape Ours Comes =
     (r : Snapshot) (device : Devices) (cores : ℕ → CoreView) → AreMade shape Ours r cores
-    → (moments : List Moment) → CoresRun (layout_of shape) Ours Comes (started (layout_of shape) r device) cores moments
+    → (moments : List Moment)
+    → CoresRun (layout_of shape) Ours Comes (started (layout_of shape) r device) cores moments
     → Run (layout_of shape) Comes (started (layout_of shape) r device) (map moment_of moments)
     × StayShards (layout_of shape) Ours (started (layout_of shape) r device) cores moments
 
@@ -106,21 +111,28 @@ RunsOfOneCore = (shape : Shape) → IsShape shape → (n : ℕ) → n < shape.sh
 -- a law of every run of the cores of all shards from every lawful start
 abbrev pub OfEveryRunOfCores : (Layout → Array → World → List worlds.Moment → Type 0) → Type 0
 OfEveryRunOfCores Law =
-    (shape : Shape) → IsShape shape → (r : Snapshot) (device : Devices) (array : Array) → IsLawfulStart (layout_of shape) r device array
+    (shape : Shape) → IsShape shape → (r : Snapshot) (device : Devices) (array : Array)
+    → IsLawfulStart (layout_of shape) r device array
     → (cores : ℕ → CoreView) → AreMade shape (IsShard shape) r cores
-    → (moments : List Moment) → CoresRun (layout_of shape) (IsShard shape) IsOfOutside (started (layout_of shape) r device) cores moments
+    → (moments : List Moment)
+    → CoresRun (layout_of shape) (IsShard shape) IsOfOutside (started (layout_of shape) r device) cores moments
     → Law (layout_of shape) array (started (layout_of shape) r device) (map moment_of moments)
 
 -- Every run of cores is explained by requests that act one by one on one plain array, and at each moment the rows, the
 -- replies and the rebuilt slots are as the array law claims
 abbrev pub ArrayOfCores : Type 0
-ArrayOfCores = OfEveryRunOfCores (λ l array start moments. ArrayHolds l start start (at_start array) × Explained l (ArrayHolds l) start (at_start array) moments)
+ArrayOfCores =
+    OfEveryRunOfCores (λ l array start moments. ArrayHolds l start start (at_start array)
+    × Explained l (ArrayHolds l) start (at_start array) moments)
 
 -- and whenever a core is quiet, every request that it accepted has its reply ready, or it was taken
 abbrev pub QuietOfCores : Type 0
-QuietOfCores = OfEveryRunOfCores (λ l array start moments. AtEach l (λ w. (n : ℕ) → n < l.shards → IsQuiet w n → AllAnswered w n) start moments)
+QuietOfCores =
+    OfEveryRunOfCores
+    (λ l array start moments. AtEach l (λ w. (n : ℕ) → n < l.shards → IsQuiet w n → AllAnswered w n) start moments)
 
--- and what the counts of each core say of the checks and repairs that have ended in the run, and of the rows passed over
+-- and what the counts of each core say of the checks and repairs that have ended in the run, and of the rows passed
+-- over
 abbrev pub CountsOfCores : Type 0
 CountsOfCores = OfEveryRunOfCores AreCounted
 
@@ -128,16 +140,19 @@ CountsOfCores = OfEveryRunOfCores AreCounted
 -- throughout: the replies are those of the plain array that runs the requests in the order of their submission
 abbrev pub SequentialOfCores : Type 0
 SequentialOfCores =
-    OfEveryRunOfCores (λ l array start moments. l.shards ≡ 1 → OneAtATime l start moments → FewOut l start moments → PlainThroughout l start (at_start array) moments)
+    OfEveryRunOfCores (λ l array start moments. l.shards ≡ 1 → OneAtATime l start moments → FewOut l start moments
+    → PlainThroughout l start (at_start array) moments)
 
 -- The core of one shard, whatever else happens at the register: its thread knows no more of the others. Its runs are
--- explained by requests that act one by one on one plain array, and at each moment its rows and replies are that array's
+-- explained by requests that act one by one on one plain array, and at each moment its rows and replies are that
+-- array's
 abbrev pub ShardOfCores : Type 0
 ShardOfCores =
     (shape : Shape) → IsShape shape → (n : ℕ) → n < shape.shards
     → (r : Snapshot) (device : Devices) (array : Array) → IsLawfulStart (layout_of shape) r device array
     → (core : CoreView) → IsMade shape r n core
-    → (moments : List Moment) → CoresRun (layout_of shape) (IsThis n) IsByAnyone (started (layout_of shape) r device) (λ m. core) moments
+    → (moments : List Moment)
+    → CoresRun (layout_of shape) (IsThis n) IsByAnyone (started (layout_of shape) r device) (λ m. core) moments
     → let start = started (layout_of shape) r device in
     ShardHolds (layout_of shape) n start start (at_start array)
     × Explained (layout_of shape) (ShardHolds (layout_of shape) n) start (at_start array) (map moment_of moments)
@@ -181,5 +196,7 @@ CountsOfOneCore =
     (shape : Shape) → IsShape shape → (n : ℕ) → n < shape.shards
     → (r : Snapshot) (device : Devices) (array : Array) → IsLawfulStart (layout_of shape) r device array
     → (core : CoreView) → IsMade shape r n core
-    → (moments : List Moment) → CoresRun (layout_of shape) (IsThis n) IsByAnyone (started (layout_of shape) r device) (λ m. core) moments
-    → OneCoreCounts (layout_of shape) n (started (layout_of shape) r device) moments (cores_behind (λ m. core) moments n)
+    → (moments : List Moment)
+    → CoresRun (layout_of shape) (IsThis n) IsByAnyone (started (layout_of shape) r device) (λ m. core) moments
+    → OneCoreCounts (layout_of shape) n (started (layout_of shape) r device) moments
+    (cores_behind (λ m. core) moments n)

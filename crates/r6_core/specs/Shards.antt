@@ -26,6 +26,8 @@ use Rattle.r6_frames.specs.declared.frames.Scrub.{Scrub}
 use Rattle.r6_frames.specs.declared.frames.Scrub.TheVariants as scrub
 use Rattle.r6_frames.specs.Slots as slots
 use Rattle.r6_frames.specs.Views.{op_of, held_requests, Rest, shard_with}
+use Rattle.r6_frames.specs.Directs.{read_requests}
+use Rattle.r6_frames.specs.declared.frames.Frames.{Frames}
 
 -- ---- requests
 
@@ -53,11 +55,15 @@ abbrev pub replied_requests : (saw_failed : Bool) → (released : ℕ) → List 
 replied_requests saw_failed released replies =
     map released_request (take released replies) ++ map (finished_request saw_failed) (drop released replies)
 
--- the requests, each with its number: those that wait, are held, and have a reply
+-- those that rows are held for, and those that are read directly
+abbrev pub framed_requests : Frames → List (ℕ × shards.Request)
+framed_requests fs = held_requests fs ++ read_requests fs
+
+-- the requests, each with its number: those that wait, are held or read directly, and have a reply
 abbrev pub requests_of : State → List (ℕ × shards.Request)
 requests_of s =
     map waiting_request s.waiting.items
-    ++ (held_requests s.frames ++ replied_requests s.frames.saw_failed s.released s.replies.items)
+    ++ (framed_requests s.frames ++ replied_requests s.frames.saw_failed s.released s.replies.items)
 
 -- the request of a number in a list
 abbrev pub table : List (ℕ × shards.Request) → ℕ → Option shards.Request
@@ -137,7 +143,8 @@ abbrev pub Fields : Type 0
 Fields = Shape × (ℕ × (List Request × (List Request × (List Request × (ℕ × (ℕ × State))))))
 
 abbrev pub fields : CoreView → Fields
-fields core = (core.shape, (core.shard, (core.waiting, (core.finished, (core.released, (core.unanswered, (core.window, core.inside)))))))
+fields core =
+    (core.shape, (core.shard, (core.waiting, (core.finished, (core.released, (core.unanswered, (core.window, core.inside)))))))
 
 abbrev pub of_fields : Fields → CoreView
 of_fields f =
@@ -169,7 +176,8 @@ SameShard old new = (new.shape ≡ old.shape) × (new.shard ≡ old.shard)
 
 -- a step of this shard, which stays the shard that it is
 abbrev pub Step : CoreView → steps.Event → CoreView → Type 0
-Step old event new = SameShard old new × steps.Step (core_layout old) old.shard (world_shard old) event (world_shard new)
+Step old event new =
+    SameShard old new × steps.Step (core_layout old) old.shard (world_shard old) event (world_shard new)
 
 -- ---- completions and replies, as the world has them
 

@@ -18,13 +18,13 @@ use r6_kernels::Buffer;
 use r6_layout::Geometry;
 use std::alloc::Global;
 
-/// Reads block 0 of the smallest array through the loss of its device, and answers the core with the block: a core is made,
-/// the read submitted, its command answered by an error and the loss declared; then the other data block and P are read,
-/// the core looks at the register, and its reply is taken. `None` where memory is refused, a buffer isn't of 16 bytes, or
-/// a call answers anything else than this run has.
+/// Reads block 0 of the smallest array through the loss of its device, and answers the core with the block: a core is
+/// made, the read submitted, its command answered by an error and the loss declared; then the other data block and P
+/// are read, the core looks at the register, and its reply is taken. `None` where memory is refused, a buffer isn't of
+/// 16 bytes, or a call answers anything else than this run has.
 ///
-/// The contract carries the run (`run`): whatever array has these two blocks on slots 2 and 3, the calls are a run of the
-/// core beside its devices and its register, such as the laws of [`array_law`](crate::array_law) speak of.
+/// The contract carries the run (`run`): whatever array has these two blocks on slots 2 and 3, the calls are a run of
+/// the core beside its devices and its register, such as the laws of [`array_law`](crate::array_law) speak of.
 pub fn read_through_a_loss(
     alloc: Global,
     room: Buffer,
@@ -46,13 +46,14 @@ pub fn read_through_a_loss(
     Some((core, block))
 }
 
-/// Reads block 3 of the smallest array of two shards, whose device was lost by the other shard, and answers both cores with
-/// the block: the core of shard 0 is handed a read of block 0, whose command is answered by an error, and declares the loss
-/// at the register; the core of shard 1 sees it at a look, reads the other data block of its row and P, and after another
-/// look its reply is taken. `None` as of [`read_through_a_loss`].
+/// Reads block 3 of the smallest array of two shards, whose device was lost by the other shard, and answers both cores
+/// with the block: the core of shard 0 is handed a read of block 0, whose command is answered by an error, and
+/// declares the loss at the register; the core of shard 1 sees it at a look, reads the other data block of its row and
+/// P, and after another look its reply is taken. `None` as of [`read_through_a_loss`].
 ///
-/// The contract carries the run (`run`): whatever array has these two blocks on slots 0 and 2 of row 1, the calls are a run
-/// of both cores beside their devices and the one register, such as the laws of [`array_law`](crate::array_law) speak of.
+/// The contract carries the run (`run`): whatever array has these two blocks on slots 0 and 2 of row 1, the calls are
+/// a run of both cores beside their devices and the one register, such as the laws of [`array_law`](crate::array_law)
+/// speak of.
 pub fn read_beside_a_loss(
     alloc: Global,
     lost: Buffer,
@@ -123,7 +124,8 @@ fn fail_command(core: &mut Core) -> Option<()>
     }
 }
 
-// The next command is the read of this slot in this row, from the device of this generation, and is answered with this block.
+// The next command is the read of this slot in this row, from the device of this generation, and is answered with this
+// block.
 pub(crate) fn answer_read(
     core: &mut Core,
     slot: usize,

@@ -5,13 +5,14 @@ ghost use Rattle.circular_buffer.specs.Buffer.{buffer};
 ghost use Rattle.r6_world.specs.Changes.{counted};
 ghost use Rattle.r6_world.specs.Steps.{Deliver, Good, Error, Taken, GoesOn};
 ghost use Rattle.r6_frames.specs.Views.{AreLive};
-ghost use Rattle.r6_frames.specs.Calls.{IsAwaited, IsAbandoned, IsHeldFrame, KeepsHolds, KeepsOthers, MayMark, ended_task, ended_outcome};
+ghost use Rattle.r6_frames.specs.Reads.{IsOfRead};
+ghost use Rattle.r6_frames.specs.Calls.{IsAwaited, IsAbandoned, IsHeldFrame, KeepsHolds, KeepsOthers, KeepsReads, MayMark, ended_task, ended_outcome};
 ghost use Rattle.r6_frames.specs.Sound as held;
 ghost use Rattle.r6_frames.specs.Owed.{IsDriven};
 ghost use Rattle.r6_core.specs.Shards.{Step, core_of, completion_of, receipt_of, counts_of};
 ghost use Rattle.r6_core.specs.Refusals.{IsFirstFault, HasNone, deliver_faults};
 ghost use Rattle.r6_core.specs.Order.{MayFinish, Finishes, FinishesBy, HaveTurnsBehind};
-ghost use Rattle.r6_core.specs.Inside.{IsSound, IsSettled, IsCore, IsMarked, IsPlainEnd, IsRestedFrame, one_rebuilt, HasFault, HasFreed, FinishesHeld, requests_ended, rows_counted, KeepsWaiting, Leads, Seen, TakesThrough};
+ghost use Rattle.r6_core.specs.Inside.{IsSound, IsSettled, IsCore, IsMarked, IsPlainEnd, IsRestedFrame, one_rebuilt, HasFault, HasFreed, HasFreedOne, HasEnded, HandsBack, AreReadOn, FinishesHeld, requests_ended, rows_counted, KeepsShard, KeepsWaiting, ReadAgain, ReadAgainFor, Leads, Seen, TakesThrough};
 
 use crate::call::Call;
 use crate::refusal::{DeviceFault, Receipt, Refusal, Refused};
@@ -80,7 +81,8 @@ impl State {
         ensures settled { IsSettled self.new }
         ensures freed { HasFreed result.1 self.new }
         ensures takes { TakesThrough self.old token (completion_of completion) (receipt_of result.0) self.new }
-        ensures keeps { KeepsWaiting self.old self.new }
+        ensures keeps { KeepsShard self.old self.new }
+        ensures again { ReadAgainFor completion self.old self.new }
         ensures order { Seen (FinishesBy completion) self.old self.new }
         ensures others { IfOk completion (λ _. (frame : ℕ) × KeepsOthers self.old.frames frame self.new.frames) }
     {
@@ -90,18 +92,18 @@ impl State {
                 Err(DeviceFault { kind: _, buffer }) => buffer,
             };
             self.frames.come_home(token, buffer);
-            return (Receipt::Late, Freed::OneFrame);
+            return (Receipt::Late, Freed::One);
         }
         match completion {
             Ok(buffer) => (Receipt::Taken, self.answer(token, buffer)),
             Err(DeviceFault { kind: _, buffer }) => {
                 self.lose(token, buffer);
-                (Receipt::Taken, Freed::Frames)
+                (Receipt::Taken, Freed::Any)
             }
         }
     }
 
-    // The command is answered; its hold goes on, and ends if it is over.
+    // The command is answered: a direct read has its reply; or its hold goes on, and ends if it is over.
     fn answer(&mut self, token: u64, buffer: Buffer) -> Freed
         requires core { IsCore self.old }
         requires awaited { IsAwaited self.old.frames token }
@@ -114,12 +116,37 @@ impl State {
         ensures order { Seen MayFinish self.old self.new }
         ensures others { (frame : ℕ) × KeepsOthers self.old.frames frame self.new.frames }
     {
+        if self.frames.is_read(token) {
+            self.give(token, buffer);
+            return Freed::One;
+        }
         let frame = self.frames.answer(token, buffer);
         self.frames.drive(frame);
         self.finish(frame)
     }
 
-    // The device of the command has failed: its slot is out, the loss is to be declared, and holds go on without it.
+    // The command of a direct read is answered: its request has its reply, the block.
+    fn give(&mut self, token: u64, buffer: Buffer)
+        requires core { IsCore self.old }
+        requires awaited { IsAwaited self.old.frames token }
+        requires wanted { IsAbandoned self.old.frames token → ⊥ }
+        requires read { IsOfRead self.old.frames token }
+        requires size { length buffer ≡ self.old.frames.geometry.block }
+        ensures settled { IsSettled self.new }
+        ensures freed { HasFreedOne self.new }
+        ensures takes { TakesThrough self.old token (Good buffer) Taken self.new }
+        ensures keeps { KeepsWaiting self.old self.new }
+        ensures order { Seen MayFinish self.old self.new }
+        ensures holds { KeepsHolds self.old.frames self.new.frames }
+    {
+        let request = self.frames.answer_read(token, buffer);
+        let Ok(()) = self.replies.try_push_back(request) else {
+            unreachable!()
+        };
+    }
+
+    // The device of the command has failed: its slot is out, and the loss is to be declared. Direct reads from it wait
+    // again, and holds go on without it.
     fn lose(&mut self, token: u64, buffer: Buffer)
         requires core { IsSettled self.old }
         requires awaited { IsAwaited self.old.frames token }
@@ -127,7 +154,8 @@ impl State {
         requires size { length buffer ≡ self.old.frames.geometry.block }
         ensures core { IsSettled self.new }
         ensures takes { TakesThrough self.old token Error Taken self.new }
-        ensures keeps { KeepsWaiting self.old self.new }
+        ensures keeps { KeepsShard self.old self.new }
+        ensures again { ReadAgain self.old self.new }
         ensures order { Seen Finishes self.old self.new }
     {
         let (slot, generation) = self.frames.lose(token, buffer);
@@ -137,12 +165,27 @@ impl State {
         else {
             unreachable!()
         };
+        self.read_again();
         self.settle();
+    }
+
+    /// The direct reads whose commands are gone or abandoned wait again, behind all others, in the order of their
+    /// tokens.
+    pub(crate) fn read_again(&mut self)
+        requires { IsSound self.old }
+        ensures { HandsBack self.old self.new }
+    {
+        while let Some(request) = self.frames.hand_back() {
+            let Ok(()) = self.waiting.try_push_back(request) else {
+                unreachable!()
+            };
+        }
     }
 
     /// Holds go on after a loss. Those that are over end, from the one with the oldest request on.
     pub(crate) fn settle(&mut self)
-        requires { IsSound self.old }
+        requires sound { IsSound self.old }
+        requires reading { AreReadOn self.old.frames }
         ensures core { IsSettled self.new }
         ensures leads { Leads GoesOn self.old self.new }
         ensures keeps { KeepsWaiting self.old self.new }
@@ -172,24 +215,26 @@ impl State {
         ensures others { KeepsOthers self.old.frames frame self.new.frames }
         ensures keeps { KeepsWaiting self.old self.new }
         ensures order { Seen MayFinish self.old self.new }
+        ensures reads { KeepsReads self.old.frames self.new.frames }
         ensures released { self.new.released ≡ self.old.released }
         ensures ends { FinishesHeld self.old frame self.new }
-        ensures freed { (result ≡ Freed.OneFrame) ⊎ ((result ≡ Freed.Nothing) × (self.new ≡ self.old)) }
+        ensures freed { HasEnded result self.old self.new }
     {
         match self.frames.finish(frame) {
             Some(Ended::Rebuilt(target, row)) => {
                 self.mark_rebuilt(target, row);
-                Freed::OneFrame
+                Freed::Any
             }
             Some(ended) => {
                 self.close(ended);
-                Freed::OneFrame
+                Freed::One
             }
             None => Freed::Nothing,
         }
     }
 
-    // The row is rebuilt, and counted. With the last row of the shard the slot is in sync, and the register is to hear it.
+    // The row is rebuilt, and counted. With the last row of the shard the slot is in sync, and the register is to hear
+    // it.
     fn mark_rebuilt(&mut self, target: Target, row: u64)
         requires live { AreLive self.old.frames }
         requires may { MayMark self.old.frames (Ended.Rebuilt target row) }

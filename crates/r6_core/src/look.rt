@@ -10,7 +10,7 @@ ghost use Rattle.r6_frames.specs.Slots as slots;
 ghost use Rattle.r6_frames.specs.Slots.{states_of};
 ghost use Rattle.r6_core.specs.Shards.{Step, core_of, state_of, layout_in};
 ghost use Rattle.r6_core.specs.Order.{Agrees, SameReplies, FailsAll, LooksOn, HaveTurnsAfter};
-ghost use Rattle.r6_core.specs.Inside.{IsSound, IsSettled, IsCore, KeepsWaiting, Leads, SameFrames, SameCalls, NoCalls, Seen, ReleasesFinished, Gathers};
+ghost use Rattle.r6_core.specs.Inside.{IsSound, IsSettled, IsCore, AreReadOn, ReadAgain, KeepsShard, Leads, SameFrames, SameCalls, NoCalls, Seen, ReleasesFinished, Gathers};
 
 use crate::refusal::Refusal;
 use crate::scan::Freed;
@@ -20,8 +20,9 @@ use r6_frames::{Device, FRAMES, Rebuilt, Request};
 use r6_health::{SlotState, Snapshot};
 
 impl State {
-    /// Takes over what the register has of each slot. Then all finished requests are released, those too that a loss has
-    /// finished, and what can start starts; or, if the array has failed, every request that isn't answered is answered so.
+    /// Takes over what the register has of each slot. Then all finished requests are released, those too that a loss
+    /// has finished, and what can start starts; or, if the array has failed, every request that isn't answered is
+    /// answered so.
     pub(crate) fn look(&mut self, snapshot: &Snapshot) -> Result<(), Refusal>
         requires { IsCore self.old }
         ensures core { IsCore self.new }
@@ -48,7 +49,7 @@ impl State {
         }
         let freed = if went_out {
             self.settle();
-            Freed::Frames
+            Freed::Any
         } else {
             Freed::Nothing
         };
@@ -57,19 +58,22 @@ impl State {
         Ok(())
     }
 
-    // Takes over what the register has of each slot: whether one went out.
+    // Takes over what the register has of each slot: whether one went out. Direct reads from those wait again.
     fn adopt(&mut self, snapshot: &Snapshot) -> bool
-        requires sound { IsSound self.old }
+        requires settled { IsSettled self.old }
         requires told { NoCalls self.old }
         ensures sound { IsSound self.new }
+        ensures reading { AreReadOn self.new.frames }
         ensures takes { Leads (TakesOver snapshot.now) self.old self.new }
         ensures slots { (slot : ℕ) → slot < self.old.frames.geometry.slots
-            → states_of self.new.frames.slots slot ≡ adopted (states_of self.old.frames.slots slot) (status_of snapshot.now slot) }
+            → states_of self.new.frames.slots slot
+            ≡ adopted (states_of self.old.frames.slots slot) (status_of snapshot.now slot) }
         ensures none { result ≡ false → (self.new ≡ self.old) × Agrees (core_of self.old) snapshot.now }
         ensures some { result ≡ true → Agrees (core_of self.old) snapshot.now → ⊥ }
 
-        // nothing else changes
-        ensures keeps { KeepsWaiting self.old self.new }
+        // direct reads wait again, and nothing else changes
+        ensures again { ReadAgain self.old self.new }
+        ensures keeps { KeepsShard self.old self.new }
         ensures calls { SameCalls self.old self.new }
         ensures order { Seen SameReplies self.old self.new }
     {
@@ -85,6 +89,9 @@ impl State {
                 went_out = true;
             }
         }
+        if went_out {
+            self.read_again();
+        }
         went_out
     }
 
@@ -99,6 +106,7 @@ impl State {
         ensures unanswered { self.new.unanswered ≡ self.old.unanswered }
     {
         self.frames.see_failure();
+        self.read_again();
         self.gather();
         sort_behind(&mut self.replies, self.released);
     }
@@ -106,6 +114,7 @@ impl State {
     // All requests with no reply go behind those that have one.
     fn gather(&mut self)
         requires sound { IsSound self.old }
+        requires reading { AreReadOn self.old.frames }
         requires stopped { AreLive self.old.frames → ⊥ }
         ensures gathers { Gathers self.old self.new }
     {

@@ -10,7 +10,8 @@ ghost use Rattle.r6_frames.specs.Sound as held;
 ghost use Rattle.r6_core.specs.Shards.{core_with, layout_in, state_of};
 ghost use Rattle.r6_core.specs.Effects.{KeepsRequests, Rebuilds};
 ghost use Rattle.r6_core.specs.Rebuilds.{IsNextRebuild, NoneToRebuild};
-ghost use Rattle.r6_core.specs.Refusals.{limit, HasRebuildFault, IsFirstFault, HasNone, turn_faults};
+ghost use Rattle.r6_world.specs.ShardStates.{limit};
+ghost use Rattle.r6_core.specs.Refusals.{HasRebuildFault, IsFirstFault, HasNone, turn_faults};
 ghost use Rattle.r6_core.specs.Inside.{CanHold, IsBuiltIn, IsCore, IsFirstUnheld, NoneUnheld, SameFrames, Seen};
 
 use crate::refusal::Refusal;
@@ -27,7 +28,8 @@ pub(crate) struct NextRebuild {
 }
 
 impl State {
-    /// The row that is rebuilt next is held for its rebuild. Of a slot at most `window` rows are under way at one time.
+    /// The row that is rebuilt next is held for its rebuild. Of a slot at most `window` rows are under way at one
+    /// time.
     pub(crate) fn rebuild(&mut self, window: usize) -> Result<Turn, Refusal>
         requires core { IsCore self.old }
         requires window { window ≤ 8 }
@@ -36,7 +38,8 @@ impl State {
             × Rebuilds window (core_with window self.old) (core_with window self.new)) }
         ensures right { IfOk result (λ _. HasNone (HasRebuildFault (core_with window self.old) window) turn_faults) }
         ensures refused { IfErr result (λ refusal.
-            (self.new ≡ self.old) × IsFirstFault (HasRebuildFault (core_with window self.old) window) turn_faults refusal) }
+            (self.new ≡ self.old)
+            × IsFirstFault (HasRebuildFault (core_with window self.old) window) turn_faults refusal) }
         ensures kept { Seen KeepsRequests self.old self.new }
         ensures unanswered { self.new.unanswered ≡ self.old.unanswered }
     {
@@ -45,13 +48,14 @@ impl State {
         Ok(Turn::Started)
     }
 
-    /// The row that is rebuilt next and a free frame for it, or why the turn is refused. Of a slot at most `window` rows
-    /// are under way at one time.
+    /// The row that is rebuilt next and a free frame for it, or why the turn is refused. Of a slot at most `window`
+    /// rows are under way at one time.
     pub(crate) fn frame_for_rebuild(&self, window: usize) -> Result<NextRebuild, Refusal>
         requires core { IsCore self.now }
         requires window { window ≤ 8 }
         ensures right { IfOk result (λ _. HasNone (HasRebuildFault (core_with window self.now) window) turn_faults) }
-        ensures refused { IfErr result (IsFirstFault (HasRebuildFault (core_with window self.now) window) turn_faults) }
+        ensures refused { IfErr result
+            (IsFirstFault (HasRebuildFault (core_with window self.now) window) turn_faults) }
         ensures next { IfOk result (λ next.
             IsNextRebuild (core_with window self.now) window next.target.slot next.target.generation next.row) }
         ensures on { IfOk result (λ next. IsNextOn self.now.frames next.target next.row) }

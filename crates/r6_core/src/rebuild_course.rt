@@ -28,16 +28,16 @@ pub struct LostRow {
     pub lost: Buffer,
 }
 
-/// Rebuilds slot 1 of the smallest array of two shards, and answers both cores with block 0, read from the new device: two
-/// cores are made; slot 1 is failed and a new device attached, and both look at the register each time; each core takes its
-/// row up, reads the other data block and P, and writes the block that was lost to the new device; their reports complete
-/// the rebuild, and after a look the first core is handed a read of block 0, which goes to the rebuilt slot. `None` where
-/// memory is refused, a buffer isn't of 16 bytes, a restored block isn't the one that was lost, or a call answers anything
-/// else than this run has.
+/// Rebuilds slot 1 of the smallest array of two shards, and answers both cores with block 0, read from the new device:
+/// two cores are made; slot 1 is failed and a new device attached, and both look at the register each time; each core
+/// takes its row up, reads the other data block and P, and writes the block that was lost to the new device; their
+/// reports complete the rebuild, and after a look the first core is handed a read of block 0, which goes to the
+/// rebuilt slot. `None` where memory is refused, a buffer isn't of 16 bytes, a restored block isn't the one that was
+/// lost, or a call answers anything else than this run has.
 ///
-/// The contract carries the run (`run`): whatever array has these data blocks and parities on the slots 2 and 3 of row 0 and
-/// 0 and 2 of row 1, the calls are a run of both cores beside their devices and the one register, such as the laws of
-/// [`array_law`](crate::array_law) speak of.
+/// The contract carries the run (`run`): whatever array has these data blocks and parities on the slots 2 and 3 of row
+/// 0 and 0 and 2 of row 1, the calls are a run of both cores beside their devices and the one register, such as the
+/// laws of [`array_law`](crate::array_law) speak of.
 pub fn rebuild_in_two_shards(
     alloc: Global,
     here: LostRow,
@@ -67,7 +67,8 @@ fn replace(first: &mut Core, second: &mut Core, register: &Snapshot) -> Option<S
     Some(attached)
 }
 
-// Each core rebuilds its row and reports it, and both look at the register. The block that the first restored is answered.
+// Each core rebuilds its row and reports it, and both look at the register. The block that the first restored is
+// answered.
 fn rebuild_both(
     first: &mut Core,
     second: &mut Core,
@@ -113,7 +114,8 @@ fn after(register: &Snapshot, call: RegisterCall) -> Option<Snapshot>
     Some(next)
 }
 
-// The core takes up its row of the new device on slot 1, restores the block from these two slots' blocks, and reports it.
+// The core takes up its row of the new device on slot 1, restores the block from these two slots' blocks, and reports
+// it.
 fn rebuild_row(
     core: &mut Core,
     one: usize,
@@ -142,7 +144,8 @@ fn take_up(core: &mut Core) -> Option<()>
     }
 }
 
-// The next command is the write of this block to this slot in this row, on the device of this generation, and is confirmed.
+// The next command is the write of this block to this slot in this row, on the device of this generation, and is
+// confirmed.
 fn confirm_write(
     core: &mut Core,
     slot: usize,

@@ -23,9 +23,9 @@ use std::marker::Model;
 
 /// The core of a shard.
 ///
-/// It is passive: its caller submits requests, takes commands and performs them on devices, delivers their completions,
-/// takes calls and makes them at the register, looks at the register and takes replies, in any order. No call but
-/// [`Core::new`] takes memory.
+/// It is passive: its caller submits requests, takes commands and performs them on devices, delivers their
+/// completions, takes calls and makes them at the register, looks at the register and takes replies, in any order. No
+/// call but [`Core::new`] takes memory.
 ///
 /// No call asks for more than its conditions. The laws of what blocks hold ([`array_law`](crate::array_law)) suppose a
 /// little order: a call is taken, made and told with no event of this core between, and a look follows the reading of
@@ -58,8 +58,8 @@ impl Model for Core {
 impl Core {
     /// The core of shard `shard` of the array, one of those of the geometry. All room is made here.
     ///
-    /// `window`, 1 to 8, is how many rows of a slot may be rebuilt at one time. The snapshot is of a register at which no
-    /// device was attached, and that has not failed.
+    /// `window`, 1 to 8, is how many rows of a slot may be rebuilt at one time. The snapshot is of a register at which
+    /// no device was attached, and that has not failed.
     ///
     /// # Errors
     /// 1 `NoMemory`.
@@ -87,8 +87,8 @@ impl Core {
     /// Takes a request, and starts what can start.
     ///
     /// # Errors
-    /// In this order: 1 `NoSuchBlock`, 2 `WrongShard`, 3 `WrongLength`, 5 `ArrayFailed`, 6 `Exhausted`, 4 `Busy`, with the
-    /// request back. Nothing changes.
+    /// In this order: 1 `NoSuchBlock`, 2 `WrongShard`, 3 `WrongLength`, 5 `ArrayFailed`, 6 `Exhausted`, 4 `Busy`, with
+    /// the request back. Nothing changes.
     pub fn submit(&mut self, op: Op) -> Result<OpId, Refused<Op>>
         ensures accepted { IfOk result (λ id. Accepts self.old op id.0 self.new) }
         ensures refused { IfErr result (λ r. RefusesOp self.old op r.refusal r.back self.new) }
@@ -97,9 +97,9 @@ impl Core {
         self.state.submit(op)
     }
 
-    /// Takes the completion of a command, with its buffer: a read's with the block. An error takes the slot of the command
-    /// out, and its loss is to be declared at the register. The completion of a command that was abandoned is late: it only
-    /// brings its buffer home.
+    /// Takes the completion of a command, with its buffer: a read's with the block. An error takes the slot of the
+    /// command out, and its loss is to be declared at the register. The completion of a command that was abandoned is
+    /// late: it only brings its buffer home.
     ///
     /// # Errors
     /// In this order: 7 `UnknownToken`, 3 `WrongLength`, with the completion back. Nothing changes.
@@ -115,9 +115,9 @@ impl Core {
         self.state.deliver(token, completion)
     }
 
-    /// Sees the register: slots that it has lost, or with another device, go out. Then all finished requests are released, in
-    /// the order in which they finished, those too that the look finished. If the array has failed, every request that
-    /// isn't released is answered so, from the oldest to the newest, and nothing goes on any more.
+    /// Sees the register: slots that it has lost, or with another device, go out. Then all finished requests are
+    /// released, in the order in which they finished, those too that the look finished. If the array has failed, every
+    /// request that isn't released is answered so, from the oldest to the newest, and nothing goes on any more.
     ///
     /// # Errors
     /// 8 `UntoldFirst`. Nothing changes.
@@ -132,16 +132,16 @@ impl Core {
     /// Takes up the next row of a task.
     ///
     /// A rebuild's is on the lowest slot with a new device that has one: the first that isn't held among the first
-    /// `window` rows of the shard that aren't rebuilt on it. Its block is restored from the others and written there. With
-    /// the last row the slot is in sync in the shard, and a call is to be made that reports it.
+    /// `window` rows of the shard that aren't rebuilt on it. Its block is restored from the others and written there.
+    /// With the last row the slot is in sync in the shard, and a call is to be made that reports it.
     ///
-    /// Checks and repairs go each by themselves from the shard's first row to its last, and on from the first. All blocks
-    /// of the row are read and its class is counted; a repair writes P and Q anew, each if it differs from that of the
-    /// data. A row for which a slot isn't in sync is passed over, and counted as skipped, held or not.
+    /// Checks and repairs go each by themselves from the shard's first row to its last, and on from the first. All
+    /// blocks of the row are read and its class is counted; a repair writes P and Q anew, each if it differs from that
+    /// of the data. A row for which a slot isn't in sync is passed over, and counted as skipped, held or not.
     ///
     /// # Errors
-    /// In this order: 5 `ArrayFailed`, 6 `Exhausted`, 10 `NothingToDo` (three slots are out, the row of a check or repair
-    /// is held, or no row is to be rebuilt), 9 `NoFrame`. Nothing changes.
+    /// In this order: 5 `ArrayFailed`, 6 `Exhausted`, 10 `NothingToDo` (three slots are out, the row of a check or
+    /// repair is held, or no row is to be rebuilt), 9 `NoFrame`. Nothing changes.
     pub fn turn(&mut self, task: Task) -> Result<Turn, Refusal>
         ensures turned { IfOk result (λ turn. Turns self.old task turn self.new) }
         ensures refused { IfErr result (λ refusal. RefusesTurn self.old task refusal self.new) }
@@ -163,8 +163,8 @@ impl Core {
 
     /// Takes the command that was put out first and not taken.
     ///
-    /// Commands that were abandoned meanwhile are handed out too, and are to be delivered as all others: their buffers stay
-    /// away until then, and the frames of their rows with them. Any completion does, also with an error.
+    /// Commands that were abandoned meanwhile are handed out too, and are to be delivered as all others: their buffers
+    /// stay away until then, and the frames of their rows with them. Any completion does, also with an error.
     pub fn take_command(&mut self) -> Option<Command>
         ensures step { MatchOption result (Step self.old No_command self.new) (λ c. HandsCommand self.old c self.new) }
         ensures oldest { IfSome result (λ c. IsOldestUntaken self.old c.token) }
@@ -184,8 +184,8 @@ impl Core {
         self.state.take_call()
     }
 
-    /// Hears the answer of the call that was taken last. A call that was answered `Contended` is to be made again, before the
-    /// others.
+    /// Hears the answer of the call that was taken last. A call that was answered `Contended` is to be made again,
+    /// before the others.
     ///
     /// # Errors
     /// 11 `UnknownCall`. Nothing changes.
@@ -204,15 +204,19 @@ impl Core {
 
     /// Takes the reply that was released first.
     pub fn take_reply(&mut self) -> Option<(OpId, Reply)>
-        ensures reply { MatchOption result (HandsNoReply self.old self.new) (λ r. HandsReply self.old (r.0).0 r.1 self.new) }
+        ensures reply { MatchOption result
+            (HandsNoReply self.old self.new)
+            (λ r. HandsReply self.old (r.0).0 r.1 self.new) }
         ensures window { self.new.window ≡ self.old.window }
     {
         self.state.take_reply()
     }
 
-    /// The generation with which the shard has the slot in sync; `None` for any other slot, and for a number that no slot has.
+    /// The generation with which the shard has the slot in sync; `None` for any other slot, and for a number that no
+    /// slot has.
     pub fn in_sync(&self, slot: usize) -> Option<u32>
-        ensures { result ≡ (if nat_lt slot self.now.shape.slots then synced ((world_shard self.now).slot slot) else None) }
+        ensures { result
+            ≡ (if nat_lt slot self.now.shape.slots then synced ((world_shard self.now).slot slot) else None) }
     {
         if slot >= self.state.frames.geometry().slots() {
             return None;

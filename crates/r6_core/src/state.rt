@@ -19,6 +19,7 @@ use crate::call::Call;
 use crate::counts::Counts;
 use crate::refusal::{Refusal, Refused};
 use crate::reply::{OpId, Reply};
+use crate::scan::Room;
 use circular_buffer::HeapCircularBuffer;
 use r6_frames::{Command, Device, Frames, MOST_SLOTS, Op, Request};
 use r6_layout::{Geometry, Place};
@@ -166,8 +167,9 @@ impl State {
         let request = Request { id, op };
         self.accepted += 1;
         self.unanswered += 1;
-        match self.frame_for(place.row) {
-            Some(frame) => {
+        match self.room_for(&request.op, &place) {
+            Some(Room::Direct(number)) => self.read(number, request, place),
+            Some(Room::Frame(frame)) => {
                 self.frames.begin(frame, request, place);
                 self.frames.drive(frame);
             }

@@ -30,7 +30,8 @@ impl State {
         Some(call)
     }
 
-    /// Hears the answer of the call that was taken. One that came between others' calls is to be made again, before the others.
+    /// Hears the answer of the call that was taken. One that came between others' calls is to be made again, before
+    /// the others.
     pub(crate) fn told(
         &mut self,
         call: Call,

@@ -8,7 +8,8 @@ ghost use Rattle.r6_frames.specs.Calls.{AreAllInSync};
 ghost use Rattle.r6_frames.specs.Views.{scrub_task};
 ghost use Rattle.r6_frames.specs.Sound as held;
 ghost use Rattle.r6_core.specs.Shards.{Step, core_of, layout_in, state_of};
-ghost use Rattle.r6_core.specs.Refusals.{limit, HasTurnFault, IsFirstFault, HasNone, turn_faults};
+ghost use Rattle.r6_world.specs.ShardStates.{limit};
+ghost use Rattle.r6_core.specs.Refusals.{HasTurnFault, IsFirstFault, HasNone, turn_faults};
 ghost use Rattle.r6_core.specs.Effects.{KeepsRequests, turn_event};
 ghost use Rattle.r6_core.specs.Inside.{AreOwnRows, HasSlotOut, IsCore, IsPassedOver, IsSound, IsTakenUp, SameFrames, Seen, next_row};
 

@@ -492,7 +492,8 @@ impl Bench {
         }
     }
 
-    /// A request is run to its reply, with an error at each of these tokens: the number of its commands, and the answer.
+    /// A request is run to its reply, with an error at each of these tokens: the number of its commands, and the
+    /// answer.
     pub(crate) fn run(
         &mut self,
         request: Step,

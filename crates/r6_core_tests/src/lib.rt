@@ -1,5 +1,5 @@
-//! Tests of the core: courses of requests, completions and losses, played over devices in memory by the calls that every
-//! caller has.
+//! Tests of the core: courses of requests, completions and losses, played over devices in memory by the calls that
+//! every caller has.
 #![tactic(auto)]
 
 #[cfg(test)]
@@ -10,6 +10,8 @@ mod caller;
 mod course;
 #[cfg(test)]
 mod losses;
+#[cfg(test)]
+mod reads;
 #[cfg(test)]
 mod requests;
 #[cfg(test)]

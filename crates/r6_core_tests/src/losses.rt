@@ -74,7 +74,7 @@ fn losses_are_declared_in_turn_before_a_look(rt: HostRuntime) -> Result<(), Fail
     bench.play(&rt, &last)
 }
 
-// Requests in rows 2, 1, 3 and 0, and one that waits for the last; the first finishes.
+// Blocks of rows 2, 1, 3, 0 and 0 are read; the first request finishes.
 #[test]
 fn a_third_loss_fails_all_that_is_not_answered(rt: HostRuntime) -> Result<(), Fail> {
     let course = [
@@ -88,12 +88,12 @@ fn a_third_loss_fails_all_that_is_not_answered(rt: HostRuntime) -> Result<(), Fa
         // row 1 is read in slots 1 and 2
         (Step::Fail(1), Answer::Taken),
         (Step::Take, Answer::Command(2, 2, 3)),
-        // row 1 is read in slot 3 in place of slot 2, and row 3 in slots 3 and 1
+        // row 1 is read in slot 3 in place of slot 2, row 3 in slots 3 and 1, and row 0 in slots 1 and 3
         (Step::Fail(2), Answer::Taken),
         (Step::Take, Answer::Command(3, 1, 0)),
         (Step::Fail(3), Answer::Taken),
-        // all five commands that were put out are abandoned
-        (Step::Drive(99), Answer::Driven(0, 5)),
+        // all eight commands that were put out and not taken are abandoned
+        (Step::Drive(99), Answer::Driven(0, 8)),
         (Step::TellAll, Answer::Told(3, true)),
         (Step::Look, Answer::Looked),
         (Step::Reply, Answer::Failed(0)),
@@ -130,47 +130,51 @@ fn late_completions_bring_only_their_buffers_home(rt: HostRuntime) -> Result<(),
     play(&rt, rt.alloc(), 4, 1, &[], &course)
 }
 
-// The second takes over the frame of the first, before that of the one between. All is done but their writes to slot 3,
-// which has P of row 0 and the block of row 2.
+// The third takes over the frame of the first, in front of that of the second. All is done but the second's and the
+// third's writes to slot 3, which has P of row 0 and the block of row 2.
 #[test]
 fn what_one_loss_finishes_is_answered_by_number(rt: HostRuntime) -> Result<(), Fail> {
     let course = [
-        (Step::Read(2), Answer::Accepted(0)),
+        (Step::Write(2, 0x33), Answer::Accepted(0)),
         (Step::Write(0, 0x5a), Answer::Accepted(1)),
-        (Step::Drive(1), Answer::Driven(1, 0)),
-        (Step::Write(4, 0xa5), Answer::Accepted(2)),
+        // the read of the first, the read of the second, and three writes of the first
+        (Step::Take, Answer::Command(0, 1, 1)),
         (Step::Take, Answer::Command(1, 2, 0)),
+        (Step::Do(0), Answer::Taken),
+        (Step::Drive(3), Answer::Driven(3, 0)),
+        (Step::Write(4, 0xa5), Answer::Accepted(2)),
         (Step::Do(1), Answer::Taken),
-        (Step::Take, Answer::Command(2, 0, 2)),
-        (Step::Do(2), Answer::Taken),
-        (Step::Take, Answer::Command(3, 1, 0)),
-        (Step::Do(3), Answer::Taken),
-        (Step::Take, Answer::Command(4, 3, 0)),
-        (Step::Take, Answer::Command(5, 0, 0)),
+        (Step::Take, Answer::Command(5, 0, 2)),
         (Step::Do(5), Answer::Taken),
-        (Step::Take, Answer::Command(6, 3, 2)),
-        (Step::Take, Answer::Command(7, 1, 2)),
-        (Step::Do(7), Answer::Taken),
-        (Step::Take, Answer::Command(8, 2, 2)),
+        (Step::Take, Answer::Command(6, 1, 0)),
+        (Step::Do(6), Answer::Taken),
+        (Step::Take, Answer::Command(7, 3, 0)),
+        (Step::Take, Answer::Command(8, 0, 0)),
         (Step::Do(8), Answer::Taken),
-        (Step::Fail(6), Answer::Taken),
+        (Step::Take, Answer::Command(9, 3, 2)),
+        (Step::Take, Answer::Command(10, 1, 2)),
+        (Step::Do(10), Answer::Taken),
+        (Step::Take, Answer::Command(11, 2, 2)),
+        (Step::Do(11), Answer::Taken),
+        (Step::Fail(9), Answer::Taken),
         (Step::TellAll, Answer::Told(1, false)),
         (Step::Look, Answer::Looked),
-        (Step::Reply, Answer::Data(0, 0)),
+        (Step::Reply, Answer::Done(0, 0x33)),
         (Step::Reply, Answer::Done(1, 0x5a)),
         (Step::Reply, Answer::Done(2, 0xa5)),
     ];
     play(&rt, rt.alloc(), 4, 1, &[], &course)
 }
 
-// Both blocks stand in slot 1. The error is the answer of the second one's command.
+// Both read the other block of their row first, which stands in slot 1. The error is the answer of the second one's
+// command.
 #[test]
 fn holds_that_hear_of_one_loss_go_on_in_the_order_of_their_frames(
     rt: HostRuntime,
 ) -> Result<(), Fail> {
     let course = [
-        (Step::Read(3), Answer::Accepted(0)),
-        (Step::Read(0), Answer::Accepted(1)),
+        (Step::Write(2, 0x11), Answer::Accepted(0)),
+        (Step::Write(1, 0x22), Answer::Accepted(1)),
         (Step::Take, Answer::Command(0, 1, 1)),
         (Step::Take, Answer::Command(1, 1, 0)),
         (Step::Fail(1), Answer::Taken),
@@ -183,50 +187,55 @@ fn holds_that_hear_of_one_loss_go_on_in_the_order_of_their_frames(
     play(&rt, rt.alloc(), 4, 1, &[], &course)
 }
 
-// The third takes over the frame of the first, in front of that of the second. Its block and the second's stand in
-// slot 1.
+// The third takes over the frame of the first, in front of that of the second. Both read the other block of their row
+// first, which stands in slot 1.
 #[test]
 fn a_hold_that_begins_takes_the_lowest_free_frame(rt: HostRuntime) -> Result<(), Fail> {
     let course = [
-        (Step::Read(2), Answer::Accepted(0)),
-        (Step::Read(0), Answer::Accepted(1)),
-        (Step::Take, Answer::Command(0, 0, 1)),
+        (Step::Write(4, 0x11), Answer::Accepted(0)),
+        (Step::Write(1, 0x22), Answer::Accepted(1)),
+        (Step::Take, Answer::Command(0, 0, 2)),
         (Step::Take, Answer::Command(1, 1, 0)),
         (Step::Do(0), Answer::Taken),
-        (Step::Read(3), Answer::Accepted(2)),
-        (Step::Take, Answer::Command(2, 1, 1)),
+        (Step::Drive(3), Answer::Driven(3, 0)),
+        (Step::Write(2, 0x33), Answer::Accepted(2)),
+        (Step::Take, Answer::Command(5, 1, 1)),
         (Step::Fail(1), Answer::Taken),
         // row 1 goes on before row 0
-        (Step::Take, Answer::Command(3, 0, 1)),
-        (Step::Take, Answer::Command(4, 2, 1)),
-        (Step::Take, Answer::Command(5, 2, 0)),
-        (Step::Take, Answer::Command(6, 3, 0)),
+        (Step::Take, Answer::Command(6, 0, 1)),
+        (Step::Take, Answer::Command(7, 2, 1)),
+        (Step::Take, Answer::Command(8, 2, 0)),
+        (Step::Take, Answer::Command(9, 3, 0)),
         (Step::Take, Answer::Nothing),
     ];
     play(&rt, rt.alloc(), 4, 1, &[], &course)
 }
 
-// Of rows 0, 1, 4, 5, 8 and so on the block in slot 1 is read, and then, without it, from two other slots each, while the
-// first commands are out.
+// Of rows 0, 1, 4, 5, 8 and so on the block is written whose other block stands in slot 1. That is read, and then,
+// without it, two other slots are, while the first commands are out; three blocks are written. Block 4 is the first of
+// row 2, whose other one stands in slot 0.
 #[test]
 fn frames_are_free_when_late_buffers_are_home(rt: HostRuntime) -> Result<(), Fail> {
     let course = [
         (Step::TakeAll, Answer::Commands(64)),
         (Step::Lose(1), Answer::Lost),
         (Step::Look, Answer::Looked),
-        (Step::Drive(999), Answer::Driven(128, 0)),
-        (Step::Read(2), Answer::Accepted(64)),
+        (Step::Drive(999), Answer::Driven(320, 0)),
+        (Step::Write(4, 0x5a), Answer::Accepted(64)),
         (Step::Take, Answer::Nothing),
         (Step::Deliver(7, 16, 0), Answer::Late),
-        (Step::Take, Answer::Command(192, 0, 1)),
+        (Step::Take, Answer::Command(384, 0, 2)),
     ];
     let mut bench = Bench::new(rt.alloc(), 132, 1, &[])?;
     for pair in 0..32u64 {
         bench.play(
             &rt,
             &[
-                (Step::Read(8 * pair), Answer::Accepted(2 * pair)),
-                (Step::Read(8 * pair + 3), Answer::Accepted(2 * pair + 1)),
+                (Step::Write(8 * pair + 1, 0x11), Answer::Accepted(2 * pair)),
+                (
+                    Step::Write(8 * pair + 2, 0x22),
+                    Answer::Accepted(2 * pair + 1),
+                ),
             ],
         )?;
     }

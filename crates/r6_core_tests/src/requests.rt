@@ -20,7 +20,8 @@ fn requests_are_refused_in_order(rt: HostRuntime) -> Result<(), Fail> {
     play(&rt, rt.alloc(), 4, 2, &[], &course)
 }
 
-/// Whether so many requests to read are accepted: of blocks at this distance, which begin again at the count of blocks.
+/// Whether so many requests to read are accepted: of blocks at this distance, which begin again at the count of
+/// blocks.
 fn accepts_reads(
     bench: &mut Bench,
     requests: u64,
@@ -113,44 +114,60 @@ fn rows_go_on_side_by_side(rt: HostRuntime) -> Result<(), Fail> {
     play(&rt, rt.alloc(), 4, 1, &[], &course)
 }
 
-// One block is read of each row. When a row is let go of, the oldest that waits has its turn.
+// The first block of each row is written. When a row is let go of, with its last write, the oldest that waits has its
+// turn.
 #[test]
 fn sixty_four_rows_are_held_at_once(rt: HostRuntime) -> Result<(), Fail> {
     let course = [
-        (Step::Take, Answer::Command(0, 1, 0)),
+        (Step::Take, Answer::Command(0, 2, 0)),
         (Step::TakeAll, Answer::Commands(63)),
         (Step::Do(0), Answer::Taken),
-        (Step::Take, Answer::Command(64, 1, 64)),
+        (Step::Take, Answer::Command(64, 1, 0)),
+        (Step::Take, Answer::Command(65, 3, 0)),
+        (Step::Take, Answer::Command(66, 0, 0)),
+        (Step::Do(64), Answer::Taken),
+        (Step::Do(65), Answer::Taken),
+        (Step::Take, Answer::Nothing),
+        (Step::Do(66), Answer::Taken),
+        (Step::Take, Answer::Command(67, 2, 64)),
         (Step::Take, Answer::Nothing),
     ];
     let mut bench = Bench::new(rt.alloc(), 70, 1, &[])?;
-    assert!(rt; accepts_reads(&mut bench, 66, 2, 140)?);
+    for row in 0..66u64 {
+        let write = (Step::Write(2 * row, 0x5a), Answer::Accepted(row));
+        bench.play(&rt, &[write])?;
+    }
     bench.play(&rt, &course)
 }
 
-// Row 0 has blocks 0 and 1; row 1 has block 2.
+// Row 0 has blocks 0 and 1; row 1 has block 2. The reads wait for no row: what they read is what stands there.
 #[test]
-fn requests_to_one_row_wait_for_each_other(rt: HostRuntime) -> Result<(), Fail> {
+fn writes_to_one_row_wait_for_each_other(rt: HostRuntime) -> Result<(), Fail> {
     let course = [
         (Step::Write(0, 0x11), Answer::Accepted(0)),
         (Step::Write(0, 0x22), Answer::Accepted(1)),
         (Step::Write(0, 0x33), Answer::Accepted(2)),
         (Step::Read(0), Answer::Accepted(3)),
         (Step::Read(2), Answer::Accepted(4)),
-        // the oldest of row 0, and the one of row 1
+        // the oldest of row 0, and both reads
         (Step::Take, Answer::Command(0, 2, 0)),
-        (Step::Take, Answer::Command(1, 0, 1)),
+        (Step::Take, Answer::Command(1, 1, 0)),
+        (Step::Take, Answer::Command(2, 0, 1)),
         (Step::Take, Answer::Nothing),
         (Step::Do(0), Answer::Taken),
         (Step::Do(1), Answer::Taken),
-        // three writes, a read and three writes twice, and a read
-        (Step::Drive(99), Answer::Driven(12, 0)),
+        (Step::Do(2), Answer::Taken),
+        // three writes, and a read and three writes twice
+        (Step::Drive(99), Answer::Driven(11, 0)),
+        (Step::Read(0), Answer::Accepted(5)),
+        (Step::Drive(99), Answer::Driven(1, 0)),
         (Step::Look, Answer::Looked),
+        (Step::Reply, Answer::Data(3, 0)),
         (Step::Reply, Answer::Data(4, 0)),
         (Step::Reply, Answer::Done(0, 0x11)),
         (Step::Reply, Answer::Done(1, 0x22)),
         (Step::Reply, Answer::Done(2, 0x33)),
-        (Step::Reply, Answer::Data(3, 0x33)),
+        (Step::Reply, Answer::Data(5, 0x33)),
     ];
     play(&rt, rt.alloc(), 4, 1, &[], &course)
 }

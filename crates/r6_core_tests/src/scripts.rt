@@ -20,8 +20,8 @@ const ANSWERS: [Answer; 4] = [
     Answer::Data(3, 0xa5),
 ];
 
-/// The script, each request run to its reply, with an error at each of these tokens: the number of its commands, and the
-/// answers.
+/// The script, each request run to its reply, with an error at each of these tokens: the number of its commands, and
+/// the answers.
 fn run(alloc: Global, failing: &[u64]) -> Result<(u64, [Answer; 4]), Fail> {
     let mut bench = Bench::new(alloc, 4, 1, &[])?;
     let mut answers = [Answer::Nothing; 4];

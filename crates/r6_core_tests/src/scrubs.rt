@@ -137,8 +137,8 @@ fn a_request_waits_for_the_row_of_a_check(rt: HostRuntime) -> Result<(), Fail> {
 #[test]
 fn a_row_with_a_slot_out_is_passed_over_held_or_not(rt: HostRuntime) -> Result<(), Fail> {
     let course = [
-        (Step::Read(0), Answer::Accepted(0)),
-        (Step::Take, Answer::Command(0, 1, 0)),
+        (Step::Write(0, 0x5a), Answer::Accepted(0)),
+        (Step::Take, Answer::Command(0, 2, 0)),
         (Step::Turn(Task::Check), Answer::Refused(10)),
         (Step::Lose(3), Answer::Lost),
         (Step::Look, Answer::Looked),
@@ -210,18 +210,20 @@ fn a_stopped_shard_has_nothing_to_do(rt: HostRuntime) -> Result<(), Fail> {
     play(&rt, rt.alloc(), 4, 1, &[2, 3], &course)
 }
 
-// Block 2 of a row is its first; rows 1 to 64 are read, and row 0 is free.
+// Rows 1 to 64 are written, each its first block, and row 0 is free.
 #[test]
 fn a_turn_needs_a_frame(rt: HostRuntime) -> Result<(), Fail> {
     let mut bench = Bench::new(rt.alloc(), 66, 1, &[])?;
-    for row in 1..65 {
-        let read = (Step::Read(2 * row), Answer::Accepted(row - 1));
-        bench.play(&rt, &[read])?;
+    for row in 1..65u64 {
+        let write = (Step::Write(2 * row, 0x5a), Answer::Accepted(row - 1));
+        bench.play(&rt, &[write])?;
     }
     let course = [
         (Step::Turn(Task::Check), Answer::Refused(9)),
         (Step::TakeAll, Answer::Commands(64)),
         (Step::Do(63), Answer::Taken),
+        (Step::Turn(Task::Check), Answer::Refused(9)),
+        (Step::Drive(3), Answer::Driven(3, 0)),
         (Step::Turn(Task::Check), STARTED),
         (Step::Turn(Task::Check), Answer::Refused(10)),
         (Step::Turn(Task::Repair), Answer::Refused(10)),

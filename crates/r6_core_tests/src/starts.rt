@@ -86,7 +86,49 @@ fn a_rebuilding_slot_counts_as_out(rt: HostRuntime) -> Result<(), Fail> {
     bench.play(&rt, &course)
 }
 
-// Two rows of slot 1 are under way, and no third before one of them is rebuilt. In rows 0 to 3 slot 1 has D0, D1, P and Q.
+// In rows 0 and 1 slot 1 has D0 and D1, blocks 0 and 3; its new device has other bytes. Row 0 is rebuilt: then the
+// device is asked for the block, and the row isn't held. Row 1 isn't: its block is computed from D0 and P, and the row
+// is held.
+#[test]
+fn a_rebuilding_slot_is_read_in_rows_that_are_rebuilt(rt: HostRuntime) -> Result<(), Fail> {
+    let course = [
+        (Step::Spoil(1, 0, 0xff), Answer::Spoilt),
+        (Step::Spoil(1, 1, 0xff), Answer::Spoilt),
+        (Step::Look, Answer::Looked),
+        (Step::Turn(Task::Rebuild), STARTED),
+        (Step::Read(0), Answer::Accepted(0)),
+        (Step::Take, Answer::Command(0, 2, 0)),
+        (Step::Take, Answer::Command(1, 3, 0)),
+        (Step::Take, Answer::Nothing),
+        (Step::Do(0), Answer::Taken),
+        (Step::Do(1), Answer::Taken),
+        (Step::Take, Answer::Command(2, 1, 0)),
+        (Step::Take, Answer::Nothing),
+        (Step::Do(2), Answer::Taken),
+        (Step::Take, Answer::Command(3, 1, 0)),
+        (Step::Take, Answer::Nothing),
+        (Step::Turn(Task::Check), STARTED),
+        (Step::Drive(4), Answer::Driven(4, 0)),
+        (Step::Read(3), Answer::Accepted(1)),
+        (Step::Take, Answer::Command(8, 0, 1)),
+        (Step::Take, Answer::Command(9, 2, 1)),
+        (Step::Take, Answer::Nothing),
+        (Step::Turn(Task::Rebuild), Answer::Refused(10)),
+        (Step::Do(3), Answer::Taken),
+        (Step::Do(8), Answer::Taken),
+        (Step::Do(9), Answer::Taken),
+        (Step::Turn(Task::Rebuild), STARTED),
+        (Step::Look, Answer::Looked),
+        (Step::Reply, Answer::Data(0, 0)),
+        (Step::Reply, Answer::Data(1, 0)),
+    ];
+    let mut bench = Bench::new(rt.alloc(), 4, 1, &[])?;
+    bench.register = rebuilding(&rt, rt.alloc(), &Geometry::new(4, 1, 16, 4, 1)?)?;
+    bench.play(&rt, &course)
+}
+
+// Two rows of slot 1 are under way, and no third before one of them is rebuilt. In rows 0 to 3 slot 1 has D0, D1, P
+// and Q.
 #[test]
 fn as_many_rows_are_rebuilt_at_one_time_as_the_window_says(rt: HostRuntime) -> Result<(), Fail> {
     let course = [

@@ -24,4 +24,5 @@ start_of geometry number snapshot device array =
 -- the devices hold what the parts tell, also those that are attached later
 abbrev pub Hold : Start → (ℕ → ℕ → Option Telling) → Type 0
 Hold s part =
-    (slot generation : ℕ) (telling : Telling) → part slot generation ≡ Some telling → Tells s (s.device slot generation) telling
+    (slot generation : ℕ) (telling : Telling) → part slot generation ≡ Some telling
+    → Tells s (s.device slot generation) telling

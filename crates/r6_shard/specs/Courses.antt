@@ -11,8 +11,8 @@ use Rattle.r6_shard.specs.Histories.{asked_in, replied_in, answered_before, numb
 use Rattle.r6_shard.specs.declared.ledger.Asked.{Asked as Accepted}
 use Rattle.r6_shard.specs.declared.ledger.Entry.{Entry}
 
--- where a core stands with its parts, beside a register that its pass has seen so far and of which it looked at so many
--- attaches
+-- where a core stands with its parts, beside a register that its pass has seen so far and of which it looked at so
+-- many attaches
 abbrev pub stand_of : CoreView → View → (looked : ℕ) → (ℕ → ℕ → Option Telling) → List Mark → Stand
 stand_of core v looked part history =
     record { shard = world_shard core; register = held v.start v.seen; looked = looked; part = part; history = history }

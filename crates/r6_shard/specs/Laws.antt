@@ -24,6 +24,7 @@ HandedLaw {D = D} told =
 
 abbrev pub LedgerLaw : {P : Type 0} → (P → ℕ → ℕ → Option Telling) → Type 0
 LedgerLaw {P = P} tells =
-    (shard : Shard P) (geometry : Shape) (number : ℕ) (snapshot : Snapshot) (taken : ℕ → ℕ → Option Telling) (ops : List world.Op)
+    (shard : Shard P) (geometry : Shape) (number : ℕ) (snapshot : Snapshot) (taken : ℕ → ℕ → Option Telling)
+    (ops : List world.Op)
     → ComesFrom tells geometry number snapshot taken ops shard
     → HasLedgerFrom tells geometry number snapshot taken ops shard

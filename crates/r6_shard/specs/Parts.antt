@@ -16,7 +16,8 @@ part_in told (part ∷ parts) slot generation =
 -- that part
 abbrev pub part_of : {D : Type 0} → List (Part D) → (slot generation : ℕ) → Option (Part D)
 part_of [] slot generation = None
-part_of (part ∷ parts) slot generation = if is_of slot generation part then Some part else part_of parts slot generation
+part_of (part ∷ parts) slot generation =
+    if is_of slot generation part then Some part else part_of parts slot generation
 
 -- a part is taken in: from now on it is the one of its slot and generation, no other changes, and back comes the one
 -- that was there

@@ -26,7 +26,8 @@ IsEnding ArrayFailed = record {}
 IsEnding Exhausted = record {}
 IsEnding _ = ⊥
 
--- a request is refused for the first thing that it has wrong in itself; if there is none, because the service has ended
+-- a request is refused for the first thing that it has wrong in itself; if there is none, because the service has
+-- ended
 abbrev pub IsRefusedFor : CoreView → Op → Refusal → Type 0
 IsRefusedFor core o refusal =
     IsFirstFault (HasSubmitFault core o) own_faults refusal

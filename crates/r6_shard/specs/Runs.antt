@@ -27,7 +27,8 @@ use Rattle.r6_shard.specs.Shards.{CourseOf, GoesOn, Rests}
 use Rattle.r6_shard.specs.Refusing.{Lasts, own_faults, ending_faults, IsEnding, IsRefusedFor}
 
 -- each request was accepted, in their order, with its event and what it asks, and had nothing wrong in itself; or its
--- event stands among the refused, in their order too, with the reason; and once the service had ended none was accepted
+-- event stands among the refused, in their order too, with the reason; and once the service had ended none was
+-- accepted
 abbrev pub AreServed : CoreView → List Asking → List Asked → List world.Op → List (ℕ × Refusal) → Type 0
 AreServed core [] asked ops refused = (asked ≡ []) × (ops ≡ []) × (refused ≡ [])
 AreServed core (asking ∷ askings) asked ops refused =
@@ -40,18 +41,20 @@ AreServed core (asking ∷ askings) asked ops refused =
     × AreServed core askings asked ops others)
 
 -- a request is accepted behind the others, while the shard goes on
-pub record HandsOver {P : Type 0} (tells : P → ℕ → ℕ → Option Telling) (asking : Asking) (old new : Shard P) : Type 0 where
+pub record HandsOver {P : Type 0} (tells : P → ℕ → ℕ → Option Telling) (asking : Asking) (old new : Shard P)
+    : Type 0 where
   pub lasts : Lasts old.core new.core
   pub right : HasNone (HasSubmitFault old.core asking.op) own_faults
   pub serving : HasNone (HasSubmitFault old.core asking.op) ending_faults
-  pub course : (s : Start) (ops : List world.Op) → CourseOf tells s ops old → CourseOf tells s (ops ++ op_of asking.op ∷ []) new
+  pub course : (s : Start) (ops : List world.Op) → CourseOf tells s ops old
+      → CourseOf tells s (ops ++ op_of asking.op ∷ []) new
   pub accepted : Asked
   pub event : accepted.event ≡ asking.event
   pub asked : new.asked.items ≡ old.asked.items ++ accepted ∷ []
 
 -- it is refused, while the shard goes on
-pub record Refuses {P : Type 0} (tells : P → ℕ → ℕ → Option Telling) (asking : Asking) (old : Shard P) (refusal : Refusal)
-    (new : Shard P) : Type 0 where
+pub record Refuses {P : Type 0} (tells : P → ℕ → ℕ → Option Telling) (asking : Asking) (old : Shard P)
+    (refusal : Refusal) (new : Shard P) : Type 0 where
   pub lasts : Lasts old.core new.core
   pub reason : IsRefusedFor new.core asking.op refusal
   pub course : GoesOn tells old new
@@ -62,9 +65,10 @@ abbrev pub seen_by : View → Snapshot
 seen_by v = held v.start v.seen
 
 -- the ledger of a shard in which these ops were handed in, in this order: it is explained by one plain array that the
--- parts hold; only a shard that saw the failure answers so, and it sees so only where its pass did; and with nothing left
--- to do all rows of a live one are idle
-pub record IsLedger {P : Type 0} (tells : P → ℕ → ℕ → Option Telling) (s : Start) (ops : List world.Op) (shard : Shard P) : Type 0 where
+-- parts hold; only a shard that saw the failure answers so, and it sees so only where its pass did; and with nothing
+-- left to do all rows of a live one are idle
+pub record IsLedger {P : Type 0} (tells : P → ℕ → ℕ → Option Telling) (s : Start) (ops : List world.Op)
+    (shard : Shard P) : Type 0 where
   pub history : List Mark
   pub told : Tells shard.asked.items shard.entries.items ops history
   pub explained : HasLedger s (stand_of shard.core (view_of shard.pass) shard.looked (tells shard.parts) history)
@@ -81,8 +85,9 @@ HasLedgerFrom tells geometry number snapshot before ops shard =
     → IsLedger tells (start_of geometry number snapshot device array) ops shard
 
 -- a shard has served these requests
-pub record Serves {P : Type 0} (tells : P → ℕ → ℕ → Option Telling) (geometry : Shape) (number : ℕ) (snapshot : Snapshot)
-    (before : ℕ → ℕ → Option Telling) (askings : List Asking) (shard : Shard P) (refused : List (ℕ × Refusal)) : Type 0 where
+pub record Serves {P : Type 0} (tells : P → ℕ → ℕ → Option Telling) (geometry : Shape) (number : ℕ)
+    (snapshot : Snapshot) (before : ℕ → ℕ → Option Telling) (askings : List Asking) (shard : Shard P)
+    (refused : List (ℕ × Refusal)) : Type 0 where
   pub ops : List world.Op
   pub shape : shard.core.shape ≡ geometry
   pub place : shard.core.shard ≡ number

@@ -25,7 +25,8 @@ use Rattle.r6_shard.specs.Kept.{NoneIsOut, NoneIsToTell}
 -- the shard has had a course from this start, in which these ops were handed in, in this order
 abbrev pub CourseOf : {P : Type 0} → (P → ℕ → ℕ → Option Telling) → Start → List world.Op → Shard P → Type 0
 CourseOf tells s ops shard =
-    HasCourse s shard.core (view_of shard.pass) shard.looked (tells shard.parts) shard.asked.items shard.entries.items ops
+    HasCourse s shard.core (view_of shard.pass) shard.looked (tells shard.parts)
+    shard.asked.items shard.entries.items ops
 
 -- whatever its course was, it has gone on
 abbrev pub GoesOn : {P : Type 0} → (P → ℕ → ℕ → Option Telling) → Shard P → Shard P → Type 0
@@ -38,11 +39,14 @@ pub record SameLedger {P : Type 0} (old new : Shard P) : Type 0 where
   pub room : new.room ≡ old.room
 
 -- a request of an event was handed in
-pub record Submits {P : Type 0} (tells : P → ℕ → ℕ → Option Telling) (event : ℕ) (op : Op) (old : Shard P) (id : ℕ) (new : Shard P) : Type 0 where
-  pub course : (s : Start) (ops : List world.Op) → CourseOf tells s ops old → CourseOf tells s (ops ++ op_of op ∷ []) new
+pub record Submits {P : Type 0} (tells : P → ℕ → ℕ → Option Telling) (event : ℕ) (op : Op) (old : Shard P) (id : ℕ)
+    (new : Shard P) : Type 0 where
+  pub course : (s : Start) (ops : List world.Op) → CourseOf tells s ops old
+      → CourseOf tells s (ops ++ op_of op ∷ []) new
   pub number : id ≡ length old.asked.items
   pub asked : new.asked.items
-      ≡ old.asked.items ++ record { event = event; block = world.block_of (op_of op); answered = length old.entries.items } ∷ []
+      ≡ old.asked.items
+      ++ record { event = event; block = world.block_of (op_of op); answered = length old.entries.items } ∷ []
   pub entries : new.entries.items ≡ old.entries.items
   pub room : new.room ≡ old.room
   pub pass : new.pass ≡ old.pass
@@ -65,7 +69,8 @@ ComesFrom tells geometry number snapshot taken ops shard =
 abbrev pub Begins : {P : Type 0} → (P → ℕ → ℕ → Option Telling) → Shape → (number : ℕ) → Snapshot → Shard P → Type 0
 Begins tells geometry number snapshot shard = ComesFrom tells geometry number snapshot (tells shard.parts) [] shard
 
--- nothing is left to do: each request is answered, no command is out, no call is to be made, and no row is to be rebuilt
+-- nothing is left to do: each request is answered, no command is out, no call is to be made, and no row is to be
+-- rebuilt
 pub record Rests {P : Type 0} (shard : Shard P) : Type 0 where
   pub answered : length shard.entries.items ≡ length shard.asked.items
   pub none_out : NoneIsOut (world_shard shard.core)

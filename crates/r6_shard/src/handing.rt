@@ -42,13 +42,14 @@ impl<D: BlockDevice + Drop> Parts<D> {
     ghost use Rattle.std.specs.Prelude.{IfOk, IfErr};
     ghost use Rattle.r6_shard.specs.Parts.{TakesIn, HasNoRoom};
 
-    // Takes a part in, in the place of that of its slot and generation if one is there. Back comes the earlier one, or,
-    // where there is no room, the part itself.
+    // Takes a part in, in the place of that of its slot and generation if one is there. Back comes the earlier one,
+    // or, where there is no room, the part itself.
     fn take_in(&mut self, part: Part<D>) -> Result<Option<Part<D>>, Part<D>>
         ensures taken { IfOk result (λ earlier.
             TakesIn D.told part earlier self.old.parts.items self.new.parts.items) }
         ensures full { IfErr result (λ back.
-            (back ≡ part) × (self.new ≡ self.old) × HasNoRoom part self.old.parts.items (vec_capacity self.old.parts)) }
+            (back ≡ part) × (self.new ≡ self.old)
+            × HasNoRoom part self.old.parts.items (vec_capacity self.old.parts)) }
     {
         match self.place_of(part.slot, part.generation) {
             Some(at) => Ok(Some(mem::replace(&mut self.parts[at], part))),
@@ -62,7 +63,8 @@ impl<D: BlockDevice + Drop> Parts<D> {
         ensures taken { IfOk result (λ earlier.
             TakesIn D.told part earlier self.old.parts.items self.new.parts.items) }
         ensures full { IfErr result (λ back.
-            (back ≡ part) × (self.new ≡ self.old) × HasNoRoom part self.old.parts.items (vec_capacity self.old.parts)) }
+            (back ≡ part) × (self.new ≡ self.old)
+            × HasNoRoom part self.old.parts.items (vec_capacity self.old.parts)) }
     {
         if self.parts.len() >= self.parts.capacity() {
             return Err(part);
@@ -76,9 +78,9 @@ impl<D: BlockDevice + Drop> Shard<Parts<D>> {
     ghost use Rattle.std.specs.Prelude.{IfOk, IfErr};
     ghost use Rattle.r6_shard.specs.Handing.{HandsIn, RefusesPart};
 
-    /// Hands a part in, of a device of a generation that the core hasn't looked at: before its attach, or behind it. Of
-    /// two parts for one slot and generation the later counts, and the earlier comes back. No memory is taken: there is
-    /// room for as many parts as the vector of [`Parts`] was made for.
+    /// Hands a part in, of a device of a generation that the core hasn't looked at: before its attach, or behind it.
+    /// Of two parts for one slot and generation the later counts, and the earlier comes back. No memory is taken:
+    /// there is room for as many parts as the vector of [`Parts`] was made for.
     ///
     /// # Errors
     /// [`PartRefusal`], with the part back. Nothing changes.

@@ -6,12 +6,12 @@ ghost use Rattle.r6_health.specs.Passes.{view_of, IsPassOf};
 ghost use Rattle.r6_health.specs.Registers.{starting};
 ghost use Rattle.r6_shard.specs.Beginnings.{IsFirstPass};
 
-use r6_core::{Op, Reply};
+use r6_core::{Op, Refused, Reply};
 use r6_dev::MemoryDevice;
 use r6_health::{Pass, Register, Snapshot};
 use r6_kernels::Buffer;
 use r6_layout::Geometry;
-use r6_shard::{Asking, Job, Part, Parts, Place, Served, serve};
+use r6_shard::{Asking, Job, Part, Parts, Place, Served, Shard, serve};
 use std::alloc::{AllocError, Global};
 use std::collections::VecDeque;
 use std::sync::Wait;
@@ -116,6 +116,40 @@ pub(crate) fn play<R: Wait>(
         askings: askings_of(alloc, asks)?,
     };
     serve(rt, alloc, &snapshot, register, job)
+}
+
+/// The same, and each request is answered before the next is handed in.
+pub(crate) fn play_in_turn<R: Wait>(
+    rt: &R,
+    alloc: Global,
+    place: Place,
+    register: &Register,
+    pass: Pass,
+    rows: &[u64],
+    asks: &[Ask],
+) -> Result<Ended, AllocError>
+    requires limits { IsShape place.geometry }
+    requires number { place.number < place.geometry.shards }
+    requires window { place.window ≡ 1 }
+    requires pass { IsPassOf register.now pass }
+    requires first { IsFirstPass place.geometry (starting 0) (view_of pass) }
+    ensures { IfOk result (λ ended. IsPassOf register.now ended.shard.pass) }
+{
+    let snapshot = Snapshot::start(&place.geometry, 0);
+    let parts = parts_of(alloc, rows, 0)?;
+    let mut askings = askings_of(alloc, asks)?;
+    let mut refused = Vec::new(alloc);
+    let mut shard = Shard::new(alloc, place, &snapshot, pass, parts, askings.len())?;
+    while let Some(Asking { event, op }) = askings.pop_front() {
+        if !shard.has_room() {
+            break;
+        }
+        if let Err(Refused { refusal, back: _ }) = shard.submit(event, op) {
+            refused.push((event, refusal))?;
+        }
+        shard.run(rt, register);
+    }
+    Ok(Served { shard, refused })
 }
 
 fn read_of(block: &Buffer) -> Answer {

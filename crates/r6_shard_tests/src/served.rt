@@ -1,6 +1,6 @@
 //! Requests that shards serve. Block 0 stands in slot 1, in row 0.
 
-use crate::bench::{Answer, Ask, answers, play};
+use crate::bench::{Answer, Ask, answers, play, play_in_turn};
 use r6_health::Register;
 use r6_layout::Geometry;
 use r6_shard::Place;
@@ -30,7 +30,7 @@ fn what_was_written_is_read(rt: HostRuntime) -> Result<(), Fail> {
         Ask::Read(3),
         Ask::Read(1),
     ];
-    let ended = play(&rt, rt.alloc(), place, &register, pass, &ROWS, &asks)?;
+    let ended = play_in_turn(&rt, rt.alloc(), place, &register, pass, &ROWS, &asks)?;
     let wanted = [
         Answer::Done,
         Answer::Done,
@@ -71,6 +71,30 @@ fn a_failed_device_is_named_and_read_by_parity(rt: HostRuntime) -> Result<(), Fa
     Ok(())
 }
 
+// The first command of each request is put out when it is handed in, and those are performed in this order: the reads
+// come before what the writes write.
+#[test]
+#[tactic(auto, using(crate::proofs::Passes::first_pass))]
+fn reads_beside_writes_give_what_the_devices_have(rt: HostRuntime) -> Result<(), Fail> {
+    let geometry = Geometry::new(4, 1, 16, 4, 1)?;
+    let (register, pass) = Register::new(&rt, rt.alloc(), &geometry, 0)?;
+    let place = Place {
+        geometry,
+        number: 0,
+        window: WINDOW,
+    };
+    let asks = [
+        Ask::Write(0, 7),
+        Ask::Write(3, 9),
+        Ask::Read(0),
+        Ask::Read(3),
+    ];
+    let ended = play(&rt, rt.alloc(), place, &register, pass, &ROWS, &asks)?;
+    let wanted = [Answer::Done, Answer::Done, Answer::Data(0), Answer::Data(0)];
+    assert!(rt; answers(&ended, &wanted));
+    Ok(())
+}
+
 // Only 256 requests may be open at one time.
 #[test]
 #[tactic(auto, using(crate::proofs::Passes::first_pass))]
@@ -103,13 +127,13 @@ fn a_request_of_another_length_is_refused(rt: HostRuntime) -> Result<(), Fail> {
         number: 0,
         window: WINDOW,
     };
-    let asks = [Ask::Write(0, 7), Ask::ReadInto(0, 15), Ask::Read(0)];
+    let asks = [Ask::Write(0, 7), Ask::ReadInto(0, 15), Ask::Write(1, 9)];
     let ended = play(&rt, rt.alloc(), place, &register, pass, &ROWS, &asks)?;
-    assert!(rt; answers(&ended, &[Answer::Done, Answer::Refused(3), Answer::Data(7)]));
+    assert!(rt; answers(&ended, &[Answer::Done, Answer::Refused(3), Answer::Done]));
     Ok(())
 }
 
-// Shard 0 has blocks 0 to 3, and shard 1 blocks 4 to 7. What the one loses, the other answers by parity.
+// Shard 0 has blocks 0 to 3, and shard 1 blocks 4 to 7. What the one loses, the other answers without.
 #[test]
 #[tactic(auto, using(crate::proofs::Passes::first_pass, crate::proofs::Passes::split_pass))]
 fn two_shards_have_one_register(rt: HostRuntime) -> Result<(), Fail> {
@@ -138,7 +162,7 @@ fn two_shards_have_one_register(rt: HostRuntime) -> Result<(), Fail> {
         window: WINDOW,
     };
     let asks = [Ask::Write(4, 8), Ask::Read(4), Ask::Read(0)];
-    let mut other = play(&rt, rt.alloc(), place, &register, second, &ROWS, &asks)?;
+    let mut other = play_in_turn(&rt, rt.alloc(), place, &register, second, &ROWS, &asks)?;
     assert!(rt; answers(&other, &[Answer::Done, Answer::Data(8), Answer::Refused(2)]));
     assert!(rt; other.shard.named == [false; 32]);
     assert!(rt; register.read(&rt, &mut other.shard.pass).slot(1).is_lost());

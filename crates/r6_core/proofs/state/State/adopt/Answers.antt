@@ -5,12 +5,13 @@ use Rattle.r6_world.specs.Changes.{adopted, differs}
 use Rattle.r6_frames.specs.FramesState.{Commands}
 use Rattle.r6_frames.specs.Slots.{state_of, states_of}
 use Rattle.r6_core.specs.declared.state.State.{State}
-use Rattle.r6_core.proofs.Adopting.{IsAdopting, adopting_none, adopting_out, adopting_stay, adopted_all, adopted_none, adopted_some}
+use Rattle.r6_core.specs.Inside.{AreReadOn}
+use Rattle.r6_core.proofs.Adopting.{IsAdopting, adopting_none, adopting_out, adopting_stay, adopted_all, adopted_none, adopted_some, back_again, back_calls, back_keeps, back_order, back_slots, back_takes, none_back}
 use Rattle.r6_core.proofs.state.State.adopt.Goals as goal
 use Rattle.r6_core.proofs.state.State.adopt.Goals.{in-Some, in_default}
 
 pub loop-slot-init : goal.loop-slot-init
-loop-slot-init c = adopting_none c.args.self.now c.args.snapshot.now c.requires.sound
+loop-slot-init c = adopting_none c.args.self.now c.args.snapshot.now c.requires.settled.sound
 
 pub loop-slot-preserved : goal.loop-slot-preserved
 loop-slot-preserved c =
@@ -30,7 +31,7 @@ loop-slot-preserved c =
           let other : differs state (status_of seen slot) ≡ true = ap (differs state) (sym c.slot.ensures.value) ∙ ap (λ x. differs x c.slot.result) (sym here) ∙ sym c.renewed.ensures.differs ∙ ap is_some w.in-Some.is in
           let becomes = w.in-Some.ensures.device.0 ∙ ap (λ x. adopted x c.slot.result) here ∙ ap (adopted state) c.slot.ensures.value in
           let out = adopting_out s mid seen slot c.loop-slot.went_out w.in-Some.device w.take_out.new.self c.requires.told inv
-          (omega (arith, lt, c.slots-slot-end.ensures.value, count, geometry)) other becomes took.takes took.sound (ap (λ (t : Commands). t.next) took.commands.0) took.owed took.requests took.rows in
+          (omega (arith, lt, c.slots-slot-end.ensures.value, count, geometry)) other becomes took.takes took.sound (ap (λ (t : Commands). t.next) took.commands.0) took.owed took.requests took.rows took.directs in
           subst (λ (x : State). IsAdopting s x seen (slot + 1) c.match-renewed.went_out) (sym w.self-is)
           (subst (λ (b : Bool). IsAdopting s (record mid { frames = w.take_out.new.self }) seen (slot + 1) b) (sym w.went_out-is) out)
       | in_default w ↦
@@ -41,13 +42,69 @@ loop-slot-preserved c =
           (subst (λ (b : Bool). IsAdopting s mid seen (slot + 1) b) (sym w.went_out-is) stay)
     ]
 
-pub returns-clause-slots : goal.returns-clause-slots
-returns-clause-slots c =
-    adopted_all c.args.self.now c.loop-slot.self c.args.snapshot.now c.loop-slot.slot c.loop-slot.went_out c.loop-slot.invariant (omega (arith, c.slots-slot-end.ensures.value, ap (λ (shape : Shape). shape.slots) c.geometry-2.ensures, c.loop-slot-test.false))
+-- ---- a slot went out
 
-pub returns-clause-none : goal.returns-clause-none
-returns-clause-none c =
-    adopted_none c.args.self.now c.loop-slot.self c.args.snapshot.now c.loop-slot.slot c.loop-slot.went_out c.loop-slot.invariant (omega (arith, c.slots-slot-end.ensures.value, ap (λ (shape : Shape). shape.slots) c.geometry-2.ensures, c.loop-slot-test.false))
+pub read_again-requires : goal.read_again-requires
+read_again-requires c = c.loop-slot.invariant.sound
 
-pub returns-clause-some : goal.returns-clause-some
-returns-clause-some c = adopted_some c.args.self.now c.loop-slot.self c.args.snapshot.now c.loop-slot.slot c.loop-slot.went_out c.loop-slot.invariant
+pub returns-then-went_out-clause-sound : goal.returns-then-went_out-clause-sound
+returns-then-went_out-clause-sound c = c.read_again.ensures.sound
+
+pub returns-then-went_out-clause-reading : goal.returns-then-went_out-clause-reading
+returns-then-went_out-clause-reading c = c.read_again.ensures.reading
+
+pub returns-then-went_out-clause-takes : goal.returns-then-went_out-clause-takes
+returns-then-went_out-clause-takes c = back_takes c.args.self.now c.loop-slot.self c.read_again.new.self c.args.snapshot.now c.loop-slot.slot c.loop-slot.went_out c.requires.settled c.loop-slot.invariant c.read_again.ensures
+
+pub returns-then-went_out-clause-slots : goal.returns-then-went_out-clause-slots
+returns-then-went_out-clause-slots c = λ slot below. back_slots c.args.self.now c.loop-slot.self c.read_again.new.self c.args.snapshot.now c.loop-slot.slot c.loop-slot.went_out c.requires.settled c.loop-slot.invariant c.read_again.ensures slot ∙ adopted_all c.args.self.now c.loop-slot.self c.args.snapshot.now c.loop-slot.slot c.loop-slot.went_out c.loop-slot.invariant (omega (arith, c.slots-slot-end.ensures.value, ap (λ (shape : Shape). shape.slots) c.geometry-2.ensures, c.loop-slot-test.false)) slot below
+
+pub returns-then-went_out-clause-none : goal.returns-then-went_out-clause-none
+returns-then-went_out-clause-none c = λ none. let both : true ≡ false = sym c.if-went_out.true ∙ none in absurd (cc)
+
+pub returns-then-went_out-clause-some : goal.returns-then-went_out-clause-some
+returns-then-went_out-clause-some c = adopted_some c.args.self.now c.loop-slot.self c.args.snapshot.now c.loop-slot.slot c.loop-slot.went_out c.loop-slot.invariant
+
+pub returns-then-went_out-clause-again : goal.returns-then-went_out-clause-again
+returns-then-went_out-clause-again c = back_again c.args.self.now c.loop-slot.self c.read_again.new.self c.args.snapshot.now c.loop-slot.slot c.loop-slot.went_out c.requires.settled c.loop-slot.invariant c.read_again.ensures
+
+pub returns-then-went_out-clause-keeps : goal.returns-then-went_out-clause-keeps
+returns-then-went_out-clause-keeps c = back_keeps c.args.self.now c.loop-slot.self c.read_again.new.self c.args.snapshot.now c.loop-slot.slot c.loop-slot.went_out c.requires.settled c.loop-slot.invariant c.read_again.ensures
+
+pub returns-then-went_out-clause-calls : goal.returns-then-went_out-clause-calls
+returns-then-went_out-clause-calls c = back_calls c.args.self.now c.loop-slot.self c.read_again.new.self c.args.snapshot.now c.loop-slot.slot c.loop-slot.went_out c.requires.settled c.loop-slot.invariant c.read_again.ensures
+
+pub returns-then-went_out-clause-order : goal.returns-then-went_out-clause-order
+returns-then-went_out-clause-order c = back_order c.args.self.now c.loop-slot.self c.read_again.new.self c.args.snapshot.now c.loop-slot.slot c.loop-slot.went_out c.requires.settled c.loop-slot.invariant c.read_again.ensures
+
+-- ---- none did
+
+pub returns-else-went_out-clause-sound : goal.returns-else-went_out-clause-sound
+returns-else-went_out-clause-sound c = c.loop-slot.invariant.sound
+
+pub returns-else-went_out-clause-reading : goal.returns-else-went_out-clause-reading
+returns-else-went_out-clause-reading c = subst (λ (x : State). AreReadOn x.frames) (sym (c.loop-slot.invariant.none c.if-went_out.false).0) c.requires.settled.reading
+
+pub returns-else-went_out-clause-takes : goal.returns-else-went_out-clause-takes
+returns-else-went_out-clause-takes c = c.loop-slot.invariant.takes
+
+pub returns-else-went_out-clause-slots : goal.returns-else-went_out-clause-slots
+returns-else-went_out-clause-slots c = λ slot below. adopted_all c.args.self.now c.loop-slot.self c.args.snapshot.now c.loop-slot.slot c.loop-slot.went_out c.loop-slot.invariant (omega (arith, c.slots-slot-end.ensures.value, ap (λ (shape : Shape). shape.slots) c.geometry-2.ensures, c.loop-slot-test.false)) slot below
+
+pub returns-else-went_out-clause-none : goal.returns-else-went_out-clause-none
+returns-else-went_out-clause-none c = adopted_none c.args.self.now c.loop-slot.self c.args.snapshot.now c.loop-slot.slot c.loop-slot.went_out c.loop-slot.invariant (omega (arith, c.slots-slot-end.ensures.value, ap (λ (shape : Shape). shape.slots) c.geometry-2.ensures, c.loop-slot-test.false))
+
+pub returns-else-went_out-clause-some : goal.returns-else-went_out-clause-some
+returns-else-went_out-clause-some c = adopted_some c.args.self.now c.loop-slot.self c.args.snapshot.now c.loop-slot.slot c.loop-slot.went_out c.loop-slot.invariant
+
+pub returns-else-went_out-clause-again : goal.returns-else-went_out-clause-again
+returns-else-went_out-clause-again c = none_back c.args.self.now c.loop-slot.self c.args.snapshot.now c.loop-slot.slot c.loop-slot.went_out c.loop-slot.invariant
+
+pub returns-else-went_out-clause-keeps : goal.returns-else-went_out-clause-keeps
+returns-else-went_out-clause-keeps c = (c.loop-slot.invariant.same, c.loop-slot.invariant.unanswered)
+
+pub returns-else-went_out-clause-calls : goal.returns-else-went_out-clause-calls
+returns-else-went_out-clause-calls c = c.loop-slot.invariant.calls
+
+pub returns-else-went_out-clause-order : goal.returns-else-went_out-clause-order
+returns-else-went_out-clause-order c = c.loop-slot.invariant.order

@@ -1,4 +1,4 @@
-use Rattle.std.proofs.Common.{refl, inl}
+use Rattle.std.proofs.Common.{refl, inl, ◌∙◌}
 use Rattle.r6_frames.specs.Views.{rebuild_task}
 use Rattle.r6_core.proofs.HeldRebuilds.{begins_turn, rebuild_allowed}
 use Rattle.r6_core.proofs.HeldTurns.{IsTurnTaken, begun_turn, turn_numbers, turned_core, turned_leads}
@@ -36,6 +36,7 @@ turn c =
       all_owed = c.drive.ensures.owed;
       live = c.drive.ensures.live;
       goes_out = c.drive.ensures.out c.begin_rebuild.ensures.owes;
+      directs = c.drive.ensures.directs ∙ c.begin_rebuild.ensures.directs;
     }
 
 pub returns-clause-core : goal.returns-clause-core

@@ -3,7 +3,7 @@ use Rattle.r6_world.specs.Changes.{Start, after}
 use Rattle.r6_world.specs.Steps.{Scans, Through}
 use Rattle.r6_frames.specs.Views.{scrub_task}
 use Rattle.r6_core.specs.Shards.{layout_in, state_of}
-use Rattle.r6_frames.specs.Calls.{KeepsOthers}
+use Rattle.r6_frames.specs.Calls.{KeepsDirects, KeepsOthers}
 use Rattle.r6_frames.specs.Owed.{owed}
 use Rattle.r6_core.specs.declared.state.State.{State}
 use Rattle.r6_core.specs.Inside.{IsCore, next_row}
@@ -47,6 +47,7 @@ turn c =
       all_owed = c.drive.ensures.owed;
       live = c.drive.ensures.live;
       goes_out = c.drive.ensures.out c.begin_scrub.ensures.owes;
+      directs = c.drive.ensures.directs ∙ subst (λ (x : State). KeepsDirects x.frames c.begin_scrub.new.self) c.pass.ensures.same c.begin_scrub.ensures.directs;
     }
 
 pub returns-clause-core : goal.returns-clause-core

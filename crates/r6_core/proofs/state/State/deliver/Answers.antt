@@ -16,5 +16,5 @@ returns-clause-order c = finishes_on c.args.completion c.args.self.now c.take-re
 pub returns-clause-turns : goal.returns-clause-turns
 returns-clause-turns c =
     let take = c.take-receipt.ensures in
-    turns_behind c.args.completion c.args.self.now c.take-receipt.new.self c.start_waiting.new.self c.args.token c.take-receipt.result.0 take.takes take.keeps.0 take.others take.keeps.1
+    turns_behind c.args.completion c.args.self.now c.take-receipt.new.self c.start_waiting.new.self c.args.token c.take-receipt.result.0 take.takes take.keeps.0 take.others take.again
     c.start_waiting.ensures.turns

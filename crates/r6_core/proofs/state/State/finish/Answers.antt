@@ -1,4 +1,4 @@
-use Rattle.std.proofs.Common.{◌++◌, [], refl, sym, ap, subst, ◌∙◌, arith, inl, append-nil}
+use Rattle.std.proofs.Common.{◌++◌, [], refl, sym, ap, subst, ◌∙◌, arith, append-nil}
 use Rattle.circular_buffer.specs.Buffer.{buffer}
 use Rattle.r6_world.specs.Steps.{Through, GoesOn}
 use Rattle.r6_frames.specs.declared.frames.Frames.{Frames}
@@ -8,8 +8,10 @@ use Rattle.r6_frames.specs.Views.{hold_at, use_at, AreLive}
 use Rattle.r6_core.specs.declared.state.State.{State}
 use Rattle.r6_core.specs.Shards.{layout_in, state_of}
 use Rattle.r6_core.specs.Inside.{IsRestedFrame, IsSound, requests_ended}
-use Rattle.r6_core.proofs.Delivering.{few_ended, freed, none_rested, ended_requests, one_ends, ended_sound, room_to_end}
-use Rattle.r6_core.proofs.MarkedRows.{marked_ends, marked_frames, marked_leads, marked_others, marked_rests, marked_sound, report_fits}
+use Rattle.r6_frames.specs.Directs.{read_requests}
+use Rattle.r6_frames.specs.Slots.{states_of}
+use Rattle.r6_core.proofs.Delivering.{ends_still, few_ended, freed, none_rested, ended_requests, one_ends, ended_sound, room_to_end}
+use Rattle.r6_core.proofs.MarkedRows.{marked_ends, marked_frames, marked_leads, marked_others, marked_reads, marked_rests, marked_sound, report_fits}
 use Rattle.r6_core.proofs.Settling.{behind_finished}
 use Rattle.r6_core.proofs.Throughs.{through_none}
 use Rattle.r6_core.proofs.state.State.finish.Goals as goal
@@ -59,6 +61,13 @@ returns-in-Some-Rebuilt-clause-keeps c =
       ap (λ (x : State). x.waiting) mark.same,
       ap (λ (x : State). x.unanswered) mark.same,
     )
+
+pub returns-in-Some-Rebuilt-clause-reads : goal.returns-in-Some-Rebuilt-clause-reads
+returns-in-Some-Rebuilt-clause-reads c =
+    let done = c.in-Some-Rebuilt.ensures in
+    let mark = c.mark_rebuilt.ensures in
+    marked_reads c.args.self.now c.args.frame c.in-Some-Rebuilt.target c.in-Some-Rebuilt.row c.finish.new.self c.requires.held.0 c.requires.sound c.requires.live (subst (λ (e : Ended). Ends c.args.self.now.frames c.args.frame e c.finish.new.self) c.in-Some-Rebuilt.field-0-is done.ends) c.requires.held.1
+    done.sound done.others done.owed.0 done.owed.1 (subst (MayMark c.finish.new.self) c.in-Some-Rebuilt.field-0-is done.marks) c.mark_rebuilt.new.self mark.sound mark.holds mark.commands mark.same mark.marked
 
 pub returns-in-Some-Rebuilt-clause-order : goal.returns-in-Some-Rebuilt-clause-order
 returns-in-Some-Rebuilt-clause-order c =
@@ -117,7 +126,12 @@ returns-in-Some c =
         ap (λ (x : State). x.replies.items) same,
         ap (λ (x : State). hold_at x.frames.held c.args.frame) same ∙ freed s.frames fs c.args.frame e ends,
       );
-      freed = inl refl;
+      reads = ap (λ (x : State). read_requests x.frames) same ∙ ends.shard.3;
+      freed = (
+        ap (λ (x : State). x.frames.directs) same ∙ left.directs,
+        ap (λ (x : State). states_of x.frames.slots) same ∙ (ends_still s.frames fs c.args.frame e ends).0,
+        ap (λ (x : State). x.frames.commands.next) same ∙ left.owed.1,
+      );
     }
 
 pub returns-in-None-clause-leads : goal.returns-in-None-clause-leads

@@ -1,4 +1,4 @@
-use Rattle.std.proofs.Common.{◌≡◌, Bool, true, false, Option, Some, None, is_some, length, refl, sym, ap, subst, ◌∙◌}
+use Rattle.std.proofs.Common.{◌≡◌, Bool, true, false, Option, Some, None, List, [], ◌++◌, is_some, length, arith, length-append, refl, sym, ap, subst, ◌∙◌}
 use Rattle.std.specs.Prelude.{nat_eq}
 use Rattle.std.proofs.lemmas.Bool.{eqb-true}
 use Rattle.std.proofs.lemmas.List.{nil_from_length}
@@ -10,7 +10,7 @@ use Rattle.circular_buffer.specs.Buffer.{Buffer}
 use Rattle.r6_frames.specs.declared.op.Request.{Request}
 use Rattle.r6_frames.specs.declared.frames.Frames.{Frames}
 use Rattle.r6_frames.specs.Views.{AreLive}
-use Rattle.r6_core.specs.Inside.{CannotStart, HasFreed, IsSettled, NoCalls}
+use Rattle.r6_core.specs.Inside.{CannotStart, HasFreed, IsSettled, NoCalls, ReadAgain}
 use Rattle.r6_core.proofs.Scanned.{none_starts}
 use Rattle.r6_core.specs.declared.state.State.{State}
 use Rattle.r6_core.proofs.Looking.{TookOver, HasSettled, HasReleased, settled_some, settled_none, failed_by-takes_over, failed_by-goes_on, looked, looked_failed, looked_stopped, looked_releases, looked_turns, stopped_turns}
@@ -27,7 +27,18 @@ told_of s empty none = (nil_from_length s.calls.items (eqb-true (length s.calls.
 no_both : (b : Bool) → b ≡ true → b ≡ false → ⊥
 no_both b is not = let e : true ≡ false = sym is ∙ not in absurd (cc)
 
--- a look that finds no slot other leaves the shard
+-- nothing stands behind what is all
+none_more : (xs ys : List Request) → xs ≡ xs ++ ys → ys ≡ []
+none_more xs ys same = nil_from_length ys (let long = ap length same ∙ length-append xs ys in omega (arith, long))
+
+-- a look that finds no slot other lets no direct read wait again
+none_again : (s mid : State) (seen : Snapshot) (went_out : Bool) (again : ReadAgain s mid) → (went_out ≡ true → Agrees (core_of s) seen → ⊥) → (went_out ≡ false → (mid ≡ s) × Agrees (core_of s) seen)
+    → Agrees (core_of s) seen → again.0 ≡ []
+none_again s mid seen true again some none agrees = absurd (some refl agrees)
+none_again s mid seen false again some none agrees =
+    none_more s.waiting.items again.0 (sym (ap (λ (x : State). x.waiting.items) (none refl).0) ∙ again.2)
+
+-- and leaves the shard
 stays : (s mid : State) (seen : Snapshot) (went_out : Bool) → (went_out ≡ true → Agrees (core_of s) seen → ⊥) → (went_out ≡ false → (mid ≡ s) × Agrees (core_of s) seen)
     → Agrees (core_of s) seen → state_of mid ≡ state_of s
 stays s mid seen true some none agrees = absurd (some refl agrees)
@@ -40,7 +51,7 @@ returns-then-failed-clause-step c =
     let mid = c.adopt-went_out.new.self in
     let fails = c.see_failure.ensures in
     looked_failed c.args.self.now mid c.see_failure.new.self c.args.snapshot.now
-    (record { told = told_of s (sym c.is_empty.ensures ∙ c.if-not-is_empty.false) (sym c.is_some.ensures ∙ c.if-is_some.false); takes = adopt.takes; slots = adopt.slots; same = adopt.keeps.0; order = adopt.order; waiting = adopt.keeps.1 })
+    (record { told = told_of s (sym c.is_empty.ensures ∙ c.if-not-is_empty.false) (sym c.is_some.ensures ∙ c.if-is_some.false); takes = adopt.takes; slots = adopt.slots; same = adopt.keeps.0; order = adopt.order; again = adopt.again })
     (sym c.failed.ensures ∙ c.if-failed.true) fails.same fails.fails
 
 pub returns-then-saw_failed-clause-step : goal.returns-then-saw_failed-clause-step
@@ -49,7 +60,7 @@ returns-then-saw_failed-clause-step c =
     let adopt = c.adopt-went_out.ensures in
     let mid = c.adopt-went_out.new.self in
     looked_stopped c.args.self.now mid c.args.snapshot.now
-    (record { told = told_of s (sym c.is_empty.ensures ∙ c.if-not-is_empty.false) (sym c.is_some.ensures ∙ c.if-is_some.false); takes = adopt.takes; slots = adopt.slots; same = adopt.keeps.0; order = adopt.order; waiting = adopt.keeps.1 })
+    (record { told = told_of s (sym c.is_empty.ensures ∙ c.if-not-is_empty.false) (sym c.is_some.ensures ∙ c.if-is_some.false); takes = adopt.takes; slots = adopt.slots; same = adopt.keeps.0; order = adopt.order; again = adopt.again })
     (sym c.failed.ensures ∙ c.if-failed.false) (sym c.saw_failed.ensures ∙ c.if-saw_failed.true)
 
 pub returns-then-saw_failed-clause-order : goal.returns-then-saw_failed-clause-order
@@ -84,12 +95,13 @@ returns-then-saw_failed-clause-turns c =
     let s = c.args.self.now in
     let mid = c.adopt-went_out.new.self in
     stopped_turns s mid c.args.snapshot.now
-    (record { told = told_of s (sym c.is_empty.ensures ∙ c.if-not-is_empty.false) (sym c.is_some.ensures ∙ c.if-is_some.false); takes = adopt.takes; slots = adopt.slots; same = adopt.keeps.0; order = adopt.order; waiting = adopt.keeps.1 })
+    (record { told = told_of s (sym c.is_empty.ensures ∙ c.if-not-is_empty.false) (sym c.is_some.ensures ∙ c.if-is_some.false); takes = adopt.takes; slots = adopt.slots; same = adopt.keeps.0; order = adopt.order; again = adopt.again })
     (sym c.saw_failed.ensures ∙ c.if-saw_failed.true) (stays s mid c.args.snapshot.now c.adopt-went_out.result adopt.some adopt.none)
+    (none_again s mid c.args.snapshot.now c.adopt-went_out.result adopt.again adopt.some adopt.none)
 
 -- ---- a look at an array that hasn't failed
 
-took : (c : goal.After-start_waiting) → TookOver c.args.self.now c.adopt-went_out.new.self c.args.snapshot.now
+abbrev took : (c : goal.After-start_waiting) → TookOver c.args.self.now c.adopt-went_out.new.self c.args.snapshot.now
 took c =
     let adopt = c.adopt-went_out.ensures in
     record {
@@ -98,7 +110,7 @@ took c =
       slots = adopt.slots;
       same = adopt.keeps.0;
       order = adopt.order;
-      waiting = adopt.keeps.1;
+      again = adopt.again;
     }
 
 went_on : (c : goal.After-start_waiting) → HasSettled c.args.self.now c.adopt-went_out.new.self c.if-went_out.self c.args.snapshot.now
@@ -141,6 +153,7 @@ returns-clause-order c =
 pub returns-clause-turns : goal.returns-clause-turns
 returns-clause-turns c =
     looked_turns c.args.self.now c.adopt-went_out.new.self c.if-went_out.self c.release.new.self c.start_waiting.new.self c.args.snapshot.now (took c) (went_on c) (released c)
+    (none_again c.args.self.now c.adopt-went_out.new.self c.args.snapshot.now c.adopt-went_out.result c.adopt-went_out.ensures.again c.adopt-went_out.ensures.some c.adopt-went_out.ensures.none)
     c.release.ensures.waiting c.start_waiting.ensures.turns
 
 -- in a shard that has stopped none could start
@@ -157,7 +170,7 @@ returns-then-saw_failed-clause-core c =
     let mid = c.adopt-went_out.new.self in
     let stopped : AreLive mid.frames → ⊥ = λ live. no_both _ (sym c.saw_failed.ensures ∙ c.if-saw_failed.true) live.1 in
     record {
-      settled = record { sound = c.adopt-went_out.ensures.sound; rested = λ live. absurd (stopped live) };
+      settled = record { sound = c.adopt-went_out.ensures.sound; reading = c.adopt-went_out.ensures.reading; rested = λ live. absurd (stopped live) };
       waits = none_starts mid.frames mid.waiting.items stopped;
     }
 
@@ -181,3 +194,11 @@ start_waiting-requires-clause-freed c =
 
 pub returns-clause-told : goal.returns-clause-told
 returns-clause-told c = told_of c.args.self.now (sym c.is_empty.ensures ∙ c.if-not-is_empty.false) (sym c.is_some.ensures ∙ c.if-is_some.false)
+
+pub returns-clause-unanswered : goal.returns-clause-unanswered
+returns-clause-unanswered c =
+    let unanswered = c.start_waiting.ensures.only.2.1 ∙ c.release.ensures.unanswered in
+    elim c.if-went_out.branch [
+      | then-went_out w ↦ unanswered ∙ ap (λ (x : State). x.unanswered) w.self-is ∙ w.settle.ensures.keeps.2 ∙ c.adopt-went_out.ensures.keeps.1
+      | else-went_out w ↦ unanswered ∙ ap (λ (x : State). x.unanswered) w.self-is ∙ c.adopt-went_out.ensures.keeps.1
+    ]

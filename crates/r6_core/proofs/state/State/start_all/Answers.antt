@@ -14,7 +14,7 @@ loop-index-preserved c =
     let s = c.loop-index.self in
     let new = c.start.new.self in
     let start = c.start.ensures in
-    let next = is_next s c.loop-index.from c.in-Some.index c.in-Some.frame new c.in-Some.ensures start.starts in
+    let next = is_next s c.loop-index.from c.in-Some.index c.in-Some.room new c.in-Some.ensures start.starts in
     scanned_on c.args.self.now s new c.loop-index.from c.in-Some.index c.loop-index.invariant next start.settled start.leads start.no_more start.only.0 start.only.1 start.only.2
 
 pub loop-index-smaller : goal.loop-index-smaller

@@ -1,0 +1,296 @@
+-- One of the requests that wait is read directly.
+use Rattle.std.proofs.Common.{◌≡◌, ◌≢◌, Bool, ℕ, ◌+◌, ◌*◌, ◌<◌, ◌≤◌, true, List, [], ◌∷◌, ◌++◌, length, map, refl, sym, ap, subst, ◌∙◌, Option, Some, inl, inr, arith, append_assoc, length-append}
+use Rattle.std.specs.List.{IsDistinct, AllByRecursion}
+use Rattle.std.specs.Map.{keys_of}
+use Rattle.std.specs.Prelude.{nat_eq}
+use Rattle.std.proofs.lemmas.Bool.{cases_eq}
+use Rattle.std.proofs.lemmas.List.{map-append}
+use Rattle.r6_kernels.specs.Blocks.{IsBlock}
+use Rattle.r6_layout.specs.Shape.{blocks}
+use Rattle.r6_layout.specs.Layout.{index_of, row_of, shard_of, slot_at}
+use Rattle.r6_layout.specs.declared.place.Place.{Place}
+use Rattle.r6_stripe.specs.Plans.{is_in_sync}
+use Rattle.r6_world.proofs.Geometries.{layouts}
+use Rattle.r6_world.specs.PlainArray as world
+use Rattle.r6_world.specs.PlainArray.{block_of}
+use Rattle.r6_world.specs.Layouts.{Layout}
+use Rattle.r6_world.specs.ShardStates.{Shard, Request, Reading, Waiting, standing_of}
+use Rattle.r6_world.specs.Changes.{Read_direct, Allowed, after}
+use Rattle.r6_world.specs.Steps.{Through, Scans}
+use Rattle.r6_frames.specs.declared.op.Op.{Op}
+use Rattle.r6_frames.specs.declared.op.Op.TheVariants as op
+use Rattle.r6_frames.specs.declared.op.Request.{Request as Entered}
+use Rattle.r6_frames.specs.declared.frames.Frames.{Frames}
+use Rattle.r6_frames.specs.declared.frames.Job.{Job}
+use Rattle.r6_frames.specs.Slots.{states_of}
+use Rattle.r6_frames.specs.Directs.{read_requests}
+use Rattle.r6_frames.specs.Reads.{FreesDirect, IsFreeDirect, IsReadable, ReadsDirectly, StandsIn, TakesDirect, reading}
+use Rattle.r6_frames.specs.Views.{buffer_of, hold_at, held_requests, is_scrub, op_of, requests_from, shard_with, AreLive}
+use Rattle.r6_frames.specs.Calls.{IsPlaceOf, IsRequestOf, KeepsHolds, KeepsSlots}
+use Rattle.r6_frames.specs.Owed.{owed, owed_in}
+use Rattle.r6_frames.specs.Sound as held
+use Rattle.r6_frames.proofs.Lists.{Entries}
+use Rattle.r6_core.specs.declared.state.State.{State}
+use Rattle.r6_world.specs.ShardStates.{limit}
+use Rattle.r6_core.specs.Shards.{layout_in, replied_requests, requests_of, rest_of, state_of, waiting_request}
+use Rattle.r6_core.specs.Order.{IsRead, Starts}
+use Rattle.r6_core.specs.Inside.{AreReadOn, CanRead, CannotStart, HasFreedOne, IsLike, IsOpOf, IsReadOn, IsSettled, IsSound, IsSyncedRead, NoMoreCanStart, count_rows, count_unheld, is_turn, most_tokens, served_of}
+use Rattle.r6_core.proofs.Accepting.{few_unheld, owed_in-le, room_for_all}
+use Rattle.r6_core.proofs.Answering.{rested_kept}
+use Rattle.r6_core.proofs.CountedRows.{counted_still}
+use Rattle.r6_core.proofs.Kept.{own_rows_kept, requests_kept, sizes_kept}
+use Rattle.r6_core.proofs.Passed.{Passed, passed, all-append, all-middle}
+use Rattle.r6_core.proofs.SlotsKept.{calls_same}
+use Rattle.r6_core.proofs.Starting.{longer, with_frames}
+use Rattle.r6_core.proofs.Throughs.{through_one}
+use Rattle.r6_core.proofs.Waking.{free_same, still_cannot, frees_kept, held_same, synced_before}
+
+read_op : (fs : Frames) (o : Op) → IsSyncedRead fs o → op_of o ≡ world.Op.Read (block_of (op_of o))
+read_op fs (op.Read block buffer) synced = refl
+read_op fs (op.Write block buffer) synced = absurd synced
+
+as_read : (l : Layout) (n : ℕ) (old new : Shard) (id : ℕ) (o : Op) (direct generation : ℕ) → op_of o ≡ world.Op.Read (block_of (op_of o))
+    → Allowed l n old (Read_direct direct id (block_of (op_of o)) generation) → new ≡ after l old (Read_direct direct id (block_of (op_of o)) generation)
+    → IsRead l n old id o new
+as_read l n old new id (op.Read block buffer) direct generation is allowed becomes = (direct, generation, allowed, becomes)
+as_read l n old new id (op.Write block buffer) direct generation is allowed becomes = absurd (cc)
+
+pub record IsReadStart (s : State) (before : List Entered) (request : Entered) (behind : List Entered) (number : ℕ) (new : Frames) : Type 0 where
+  pub items : s.waiting.items ≡ before ++ request ∷ behind
+  pub can : CanRead s.frames request number
+  pub sound : held.IsSound new
+  pub live : AreLive new
+  pub reads : ReadsDirectly s.frames number (served_of request) new
+  pub holds : KeepsHolds s.frames new
+  pub slots : KeepsSlots s.frames new
+  pub taken : TakesDirect s.frames number new
+  pub next : new.commands.next ≡ s.frames.commands.next + 1
+
+module _ (s : State) (before : List Entered) (request : Entered) (behind : List Entered) (number : ℕ) (new : Frames) (is : IsReadStart s before request behind number new) where
+  abbrev rest : List Entered
+  rest = before ++ behind
+
+  abbrev block : ℕ
+  block = block_of (op_of request.op)
+
+  abbrev read : State
+  read = with_frames s rest new
+
+  is_read_op : op_of request.op ≡ world.Op.Read block
+  is_read_op = read_op s.frames request.op is.can.1
+
+  -- the request goes from those that wait to those that are read directly
+  requests_read : IsDistinct nat_eq (keys_of (requests_of s))
+      → Passed (requests_of s) (requests_of read) request.id (record { op = op_of request.op; stage = Waiting }) (record { op = world.Op.Read block; stage = Reading s.frames.commands.next })
+  requests_read distinct =
+      let to = is.reads.requests in
+      let tail : Entries Request = replied_requests s.frames.saw_failed s.released s.replies.items in
+      let h = held_requests s.frames in
+      let first : Entries Request = map waiting_request before in
+      let last : Entries Request = map waiting_request behind in
+      let entry = reading request.id block (Reading s.frames.commands.next) in
+      passed first (last ++ ((h ++ (to.before ++ to.behind)) ++ tail)) ((first ++ last) ++ (h ++ to.before)) (to.behind ++ tail) request.id _ _ _ _
+      ((λ i. map waiting_request (is.items i) ++ ((h ++ to.without i) ++ tail))
+      ∙ ap (λ (es : Entries Request). es ++ ((h ++ (to.before ++ to.behind)) ++ tail)) (map-append waiting_request before (request ∷ behind)) ∙ (simp append_assoc))
+      ((λ i. map waiting_request rest ++ ((requests_from 0 (is.holds i) ++ to.with i) ++ replied_requests (is.slots.1 i) s.released s.replies.items))
+      ∙ ap (λ (es : Entries Request). es ++ ((h ++ (to.before ++ entry ∷ to.behind)) ++ tail)) (map-append waiting_request before behind)
+      ∙ (simp append_assoc))
+      (simp append_assoc)
+      distinct
+
+  stands : IsSound s → StandsIn (rest_of s) (reading request.id block Waiting)
+  stands sound = (requests_read sound.requests.distinct).was ∙ ap (λ o. Some (record { op = o; stage = Waiting })) is_read_op
+
+  read_state : (sound : IsSound s) → state_of read ≡ after (layout_in s) (state_of s) (Read_direct (64 + number) request.id block is.reads.generation)
+  read_state sound =
+      ap (λ (request : ℕ → Option Request). shard_with (record (rest_of s) { request = request }) new) (requests_read sound.requests.distinct).now
+      ∙ (is.reads.shard (rest_of s) (stands sound)).1
+
+  pub read_started : IsSound s → Starts (layout_in s) s.frames.shard (state_of s) request (state_of read)
+  read_started sound =
+      inl (as_read (layout_in s) s.frames.shard (state_of s) (state_of read) request.id request.op (64 + number) is.reads.generation is_read_op
+      (is.reads.shard (rest_of s) (stands sound)).0 (read_state sound))
+
+  pub read_leads : IsSound s → Through (layout_in s) s.frames.shard Scans (state_of s) (state_of read)
+  read_leads sound =
+      through_one (layout_in s) s.frames.shard Scans (state_of s) (state_of read) (Read_direct (64 + number) request.id block is.reads.generation)
+      (record {}) (is.reads.shard (rest_of s) (stands sound)).0 (read_state sound)
+
+  more_reads : length (read_requests new) ≡ length (read_requests s.frames) + 1
+  more_reads =
+      let few = ap length is.reads.requests.without ∙ length-append is.reads.requests.before is.reads.requests.behind in
+      let many = ap length is.reads.requests.with ∙ length-append is.reads.requests.before (reading request.id block (Reading s.frames.commands.next) ∷ is.reads.requests.behind) in
+      omega (arith, few, many)
+
+  read_tokens : IsSound s → new.commands.next + owed new + 2 * new.geometry.slots * count_unheld read ≤ most_tokens
+  read_tokens sound =
+      let owes = owed_in-le s.frames.geometry.slots s.frames.held (λ f h there. (sound.frames.frames.rows f h there).wide) in
+      let room = room_for_all s.frames.geometry.slots (count_unheld s) (length s.frames.held) (owed s.frames) sound.frames.shape.slots_allowed.1 owes sound.frames.frames.count (few_unheld s sound) in
+      let same : owed new ≡ owed s.frames = ap (λ held. owed_in held) is.holds in
+      let more = more_reads in
+      let fewer = ap length is.items ∙ longer before request behind in
+      let many : count_unheld read ≡ count_unheld s = omega (arith, more, fewer) in
+      let most : 2 * new.geometry.slots * count_unheld read ≡ 2 * s.frames.geometry.slots * count_unheld s = λ i. 2 * (is.reads.same.0 i).slots * many i in
+      let given = is.can.2.0 in
+      let next = is.next in
+      omega (arith, room, same, most, given, next)
+
+  reading_now : AreReadOn s.frames → AreReadOn new
+  reading_now on =
+      let to = is.reads.requests in
+      let parts = subst (AllByRecursion IsReadOn) to.without on in
+      subst (AllByRecursion IsReadOn) (sym to.with)
+      (all-append IsReadOn to.before (reading request.id block (Reading s.frames.commands.next) ∷ to.behind) (first to.before to.behind parts) ((λ e. (cc)), last to.before to.behind parts))
+    where
+      first : (xs ys : Entries Request) → AllByRecursion IsReadOn (xs ++ ys) → AllByRecursion IsReadOn xs
+      first [] ys all = tt
+      first (x ∷ xs) ys all = (all.0, first xs ys all.1)
+
+      last : (xs ys : Entries Request) → AllByRecursion IsReadOn (xs ++ ys) → AllByRecursion IsReadOn ys
+      last [] ys all = all
+      last (x ∷ xs) ys all = last xs ys all.1
+
+  own_waiting : IsSound s → AllByRecursion (IsRequestOf s.frames) rest
+  own_waiting sound = (all-middle (IsRequestOf s.frames) before request behind (subst (λ rs. AllByRecursion (IsRequestOf s.frames) rs) is.items sound.requests.waiting)).1
+
+  pub read_core : IsSettled s → IsSettled read
+  read_core core =
+      let sound = core.sound in
+      let requests = requests_read sound.requests.distinct in
+      let geometry = is.reads.same.0 in
+      let shard = is.reads.same.1 in
+      record {
+        sound = record {
+          frames = is.sound;
+          requests = record {
+            distinct = requests.distinct;
+            numbered = requests.keeps (λ id. id < s.accepted) sound.requests.numbered;
+            counted = requests.count ∙ sound.requests.counted;
+            few = sound.requests.few;
+            waiting = requests_kept s.frames new rest geometry shard (own_waiting sound);
+            sized = sizes_kept s.frames.geometry new.geometry s.replies.items geometry sound.requests.sized;
+            marked = sound.requests.marked;
+          };
+          room = record {
+            waiting = sound.room.waiting;
+            replies = sound.room.replies;
+            calls = sound.room.calls;
+            few_calls = let same = calls_same s.frames new (ap states_of is.slots.0) geometry in omega (arith, same, sound.room.few_calls);
+          };
+          tokens = read_tokens sound;
+          accepted = sound.accepted;
+          counted =
+              let rows = λ (test : Job → Bool). ap (λ held. count_rows test held) is.holds in
+              let next = is.next in
+              counted_still s.counts s.frames new sound.counted (let n = rows is_turn in omega (arith, n)) (let n = rows is_scrub in omega (arith, n)) (omega (arith, next));
+          next_rows = own_rows_kept s.frames new s.check_row s.repair_row geometry shard sound.next_rows;
+        };
+        reading = reading_now core.reading;
+        rested = λ live f. rested_kept s.frames new f (ap (λ held. hold_at held f) is.holds) (core.rested is.can.0 f);
+      }
+
+  like : IsLike s.frames new
+  like = record { geometry = is.reads.same.0; live = λ live. is.can.0; slots = ap states_of is.slots.0; tokens = let next = is.next in omega arith }
+
+  -- what could not start can't start now
+  pub read_no_more : NoMoreCanStart s read
+  read_no_more other =
+      still_cannot s.frames new other.op like (λ k free. (is.taken k free).1) (λ row unheld. held_same s.frames new row is.holds unheld)
+      (λ frame free. free_same s.frames new frame is.holds free)
+
+  -- if but for one buffer all was as it was when none could start, none can
+  pub read_last : HasFreedOne s → AllByRecursion (CannotStart new) rest
+  read_last freed = elim freed.2 [
+    | inl one ↦ absurd (none_free number (frees_kept freed.0 s.frames one.2 number is.can.2.1))
+    | inr one ↦ each one.0 one.1 one.2 rest own.1
+  ]
+    where
+      own : CannotStart freed.0 request × AllByRecursion (CannotStart freed.0) rest
+      own = all-middle (CannotStart freed.0) before request behind (subst (λ rs. AllByRecursion (CannotStart freed.0) rs) is.items freed.3)
+
+      lend : freed.0.commands.next < limit
+      lend = let given = is.can.2.0 in let tokens = freed.1.tokens in omega arith
+
+      -- no direct buffer was free before
+      none_free : (k : ℕ) → IsFreeDirect freed.0 k → ⊥
+      none_free k free = own.0 (freed.1.live is.can.0) (record {
+        buffer = λ synced. (k, free);
+        frame = λ not. absurd (not (lend, synced_before freed.0 s.frames request.op freed.1 is.can.1));
+      })
+
+      -- none is free now
+      none_left : (k : ℕ) → FreesDirect freed.0 k s.frames → (m : ℕ) → IsFreeDirect new m → ⊥
+      none_left k frees m free =
+          let there = is.taken m free in
+          elim (cases_eq m k) [
+            | inl e ↦
+                let apart : number ≢ k = λ same. there.0 (e ∙ sym same) in
+                none_free number (frees number apart is.can.2.1)
+            | inr ne ↦ none_free m (frees m ne there.1)
+          ]
+
+      tokens_now : freed.0.commands.next ≤ new.commands.next
+      tokens_now = let first = freed.1.tokens in let second = like.tokens in omega arith
+
+      was_like : IsLike freed.0 new
+      was_like = record { geometry = like.geometry ∙ freed.1.geometry; live = λ live. freed.1.live is.can.0; slots = like.slots ∙ freed.1.slots; tokens = tokens_now }
+
+      each : KeepsHolds freed.0 s.frames → (k : ℕ) → FreesDirect freed.0 k s.frames → (rs : List Entered) → AllByRecursion (CannotStart freed.0) rs → AllByRecursion (CannotStart new) rs
+      each holds k frees [] all = tt
+      each holds k frees (r ∷ rs) all = (
+        still_cannot freed.0 new r.op was_like (λ m free. absurd (none_left k frees m free))
+            (λ row unheld. held_same freed.0 s.frames row holds (held_same s.frames new row is.holds unheld))
+            (λ frame free. free_same freed.0 s.frames frame holds (free_same s.frames new frame is.holds free))
+            all.0,
+        each holds k frees rs all.1,
+      )
+
+-- ---- what the frames are asked
+
+pub slot_of_place : (fs : Frames) (o : Op) (place : Place) → IsPlaceOf fs.geometry o place
+    → place.slot ≡ slot_at fs.geometry (row_of fs.geometry (block_of (op_of o))) (index_of fs.geometry (block_of (op_of o)))
+slot_of_place fs o place at = at.slot ∙ (λ i. slot_at fs.geometry (at.row i) (at.index i))
+
+pub synced_at : (fs : Frames) (block : ℕ) (buffer : List ℕ) (place : Place) → IsPlaceOf fs.geometry (op.Read block buffer) place
+    → IsSyncedRead fs (op.Read block buffer) → is_in_sync (standing_of (states_of fs.slots place.slot) place.row) ≡ true
+synced_at fs block buffer place at synced =
+    (λ i. is_in_sync (standing_of (states_of fs.slots (slot_of_place fs (op.Read block buffer) place at i)) (at.row i))) ∙ synced
+
+pub synced_of : (fs : Frames) (block : ℕ) (buffer : List ℕ) (place : Place) → IsPlaceOf fs.geometry (op.Read block buffer) place
+    → is_in_sync (standing_of (states_of fs.slots place.slot) place.row) ≡ true → IsSyncedRead fs (op.Read block buffer)
+synced_of fs block buffer place at synced =
+    sym (λ i. is_in_sync (standing_of (states_of fs.slots (slot_of_place fs (op.Read block buffer) place at i)) (at.row i))) ∙ synced
+
+pub own_op : (fs : Frames) (request : Entered) → IsRequestOf fs request → IsOpOf fs request.op
+own_op fs request own = record { there = own.there; own = own.own }
+
+-- its slot is one of the array's
+pub place_within : (fs : Frames) (o : Op) (place : Place) → held.IsSound fs → IsOpOf fs o → IsPlaceOf fs.geometry o place → place.slot < 32
+place_within fs o place sound own at =
+    let all = layouts fs.geometry sound.shape in
+    let placed = all.placed (block_of (op_of o)) own.there in
+    let index = placed.1 in
+    let wide = all.wide in
+    let below = (all.back (row_of fs.geometry (block_of (op_of o))) (index_of fs.geometry (block_of (op_of o))) placed.0 (omega arith)).0 in
+    let slot = slot_of_place fs o place at in
+    omega (arith, below, slot, sound.shape.slots_allowed.1)
+
+module _ (fs : Frames) (request : Entered) (block : ℕ) (buffer : List ℕ) (is : request.op ≡ op.Read block buffer) where
+  pub readable : IsRequestOf fs request → IsReadable fs (record { id = request.id; block = block }) buffer
+  readable own = record {
+    there = subst (λ (o : Op). block_of (op_of o) < blocks fs.geometry) is own.there;
+    own = subst (λ (o : Op). shard_of fs.geometry (row_of fs.geometry (block_of (op_of o))) ≡ fs.shard) is own.own;
+    sized = subst (λ (o : Op). IsBlock fs.geometry.block (buffer_of o)) is own.sized;
+  }
+
+  pub place_for : (place : Place) → IsPlaceOf fs.geometry request.op place → IsPlaceOf fs.geometry (op.Read block buffer) place
+  place_for place at = subst (λ (o : Op). IsPlaceOf fs.geometry o place) is at
+
+  pub synced_for : (place : Place) → IsPlaceOf fs.geometry request.op place → IsSyncedRead fs request.op
+      → is_in_sync (standing_of (states_of fs.slots place.slot) place.row) ≡ true
+  synced_for place at synced =
+      let here = place_for place at in
+      synced_at fs block buffer place here (subst (IsSyncedRead fs) is synced)
+
+  pub served_is : record { id = request.id; block = block } ≡ served_of request
+  served_is = ap (λ (o : Op). record { id = request.id; block = block_of (op_of o) }) (sym is)
