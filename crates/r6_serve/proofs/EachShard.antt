@@ -1,6 +1,7 @@
 -- What the threads of an array's shards did, shard by shard (this project's own).
 use Rattle.std.proofs.Common.{◌≡◌, ◌∙◌, ℕ, List, [], ◌∷◌, ◌<◌, length, map, All, Bool, Some, None, zero, suc, ap, sym, subst, slice_get, slice_index_or, refl}
 use Rattle.std.specs.List.{AllZip}
+use Rattle.std.proofs.lemmas.List.{length-map}
 use Rattle.std.proofs.lemmas.Option.{none-some, get_or_from_slice_get, slice_get_within, slice_get-get_or}
 use Rattle.r6_dev.specs.History.{Telling}
 use Rattle.r6_layout.specs.Shape.{Shape}
@@ -14,7 +15,7 @@ use Rattle.r6_health.specs.declared.history.View.{View}
 use Rattle.r6_health.specs.Views.{Looks}
 use Rattle.r6_feed.specs.declared.answer.EventAnswer.{EventAnswer}
 use Rattle.r6_feed.specs.Feeds.{Sees}
-use Rattle.r6_serve.specs.Serves.{AreNumbered, Begins, HasAnswered, HasRun, HaveServed}
+use Rattle.r6_serve.specs.Serves.{AreNumbered, Begins, HasAnswered, HasRun, HasServed, HaveServed}
 
 some_same : {A : Type 0} (x y : A) → Some x ≡ Some y → x ≡ y
 some_same x y is = ap (λ o. elim o [ None ↦ x | Some z ↦ z ]) is
@@ -59,15 +60,16 @@ numbered_still R number same olds news all before k d below =
     same partner.0 (slice_index_or news k d) partner.2 ∙ number_at number olds k partner.0 partner.1 before
 
 -- each shard's thread began with its parts, ran, and took all of the shard's tasks
-pub have_served : {D T : Type 0} (told : D → Telling) (shape : Shape) (events : List Event) (start : Snapshot)
+each_served : {D T : Type 0} (told : D → Telling) (shape : Shape) (events : List Event) (start : Snapshot)
     (number : T → ℕ) (numbers : T → List ℕ) (finished : T → Bool) (runner : T → Runner D)
     (parts : List (Parts D)) (olds news : List T) (runners : List (Runner D))
     → AllZip (λ p t. Begins told shape events start p (number t) (numbers t) (runner t)) parts olds
     → AllZip (λ old new. HasRun told shape events (number old) (numbers old) (runner old) (number new) (numbers new) (finished new) (runner new)) olds news
     → AreNumbered number olds
     → ((shard : ℕ) (t : T) → slice_get news shard ≡ Some t → numbers t ≡ numbers_of (tasks_of shape shard events))
-    → runners ≡ map runner news → HaveServed told shape events start parts runners
-have_served told shape events start number numbers finished runner parts olds news runners begins run numbered taken is shard own r part_at runner_at =
+    → runners ≡ map runner news → (shard : ℕ) (own : Parts D) (r : Runner D) → slice_get parts shard ≡ Some own
+    → slice_get runners shard ≡ Some r → HasServed told shape events start own shard r
+each_served told shape events start number numbers finished runner parts olds news runners begins run numbered taken is shard own r part_at runner_at =
     let new = mapped_at runner news shard r (ap (λ all. slice_get all shard) (sym is) ∙ runner_at) in
     let old = partner_at (λ a b. HasRun told shape events (number a) (numbers a) (runner a) (number b) (numbers b) (finished b) (runner b)) olds news shard new.0 run new.1 in
     let first = partner_at (λ p t. Begins told shape events start p (number t) (numbers t) (runner t)) parts olds shard old.0 begins old.1 in
@@ -82,6 +84,26 @@ have_served told shape events start number numbers finished runner parts olds ne
       done = subst (HasDone told shape events shape shard start (parts_tell told own) (numbers_of (tasks_of shape shard events))) new.2 all;
       over = subst IsOver new.2 old.2.over;
     }
+
+zip-length : {A B : Type 0} (R : A → B → Type 0) (xs : List A) (ys : List B) → AllZip R xs ys → length xs ≡ length ys
+zip-length R [] [] all = refl
+zip-length R [] (y ∷ ys) all = absurd all
+zip-length R (x ∷ xs) [] all = absurd all
+zip-length R (x ∷ xs) (y ∷ ys) all = ap suc (zip-length R xs ys all.1)
+
+-- and each shard has its thread
+pub have_served : {D T : Type 0} (told : D → Telling) (shape : Shape) (events : List Event) (start : Snapshot)
+    (number : T → ℕ) (numbers : T → List ℕ) (finished : T → Bool) (runner : T → Runner D)
+    (parts : List (Parts D)) (olds news : List T) (runners : List (Runner D))
+    → AllZip (λ p t. Begins told shape events start p (number t) (numbers t) (runner t)) parts olds
+    → AllZip (λ old new. HasRun told shape events (number old) (numbers old) (runner old) (number new) (numbers new) (finished new) (runner new)) olds news
+    → AreNumbered number olds
+    → ((shard : ℕ) (t : T) → slice_get news shard ≡ Some t → numbers t ≡ numbers_of (tasks_of shape shard events))
+    → runners ≡ map runner news → HaveServed told shape events start parts runners
+have_served told shape events start number numbers finished runner parts olds news runners begins run numbered taken is = record {
+  as_many = ap length is ∙ length-map news runner ∙ sym (zip-length _ olds news run) ∙ sym (zip-length _ parts olds begins);
+  each = each_served told shape events start number numbers finished runner parts olds news runners begins run numbered taken is;
+}
 
 -- what ties each to its partner, or less
 pub less : {A B : Type 0} (R S : A → B → Type 0) → ((x : A) (y : B) → R x y → S x y) → (xs : List A) (ys : List B)

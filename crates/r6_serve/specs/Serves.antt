@@ -34,17 +34,21 @@ AreNumbered {T} number threads = (k : ℕ) (d : T) → k < length threads → nu
 -- a shard was handed all of its part of these events, in their order, and nothing of it is left to do
 pub record HasServed {D : Type 0} (told : D → Telling) (shape : Shape) (events : List Event) (start : Snapshot)
     (parts : Parts D) (shard : ℕ) (runner : Runner D) : Type 0 where
-  pub done : HasDone told shape events shape shard start (parts_tell told parts) (numbers_of (tasks_of shape shard events)) runner
+  pub done : HasDone told shape events shape shard start (parts_tell told parts)
+      (numbers_of (tasks_of shape shard events)) runner
   pub over : IsOver runner
 
--- each shard did so, from its parts on
-abbrev pub HaveServed : {D : Type 0} → (D → Telling) → Shape → List Event → Snapshot → List (Parts D) → List (Runner D) → Type 0
-HaveServed {D} told shape events start parts runners =
-    (shard : ℕ) (own : Parts D) (runner : Runner D) → slice_get parts shard ≡ Some own
-    → slice_get runners shard ≡ Some runner → HasServed told shape events start own shard runner
+-- each shard did so, from its parts on, and has its runner
+pub record HaveServed {D : Type 0} (told : D → Telling) (shape : Shape) (events : List Event) (start : Snapshot)
+    (parts : List (Parts D)) (runners : List (Runner D)) : Type 0 where
+  pub as_many : length runners ≡ length parts
+  pub each : (shard : ℕ) (own : Parts D) (runner : Runner D) → slice_get parts shard ≡ Some own
+      → slice_get runners shard ≡ Some runner → HasServed told shape events start own shard runner
 
--- what no shard answers was answered, each event once and in the order of the events, to a thread whose pass knew this first
-pub record HasAnswered (shape : Shape) (events : List Event) (first : View) (answers : List EventAnswer) (last : View) : Type 0 where
+-- what no shard answers was answered, each event once and in the order of the events, to a thread whose pass knew this
+-- first
+pub record HasAnswered (shape : Shape) (events : List Event) (first : View) (answers : List EventAnswer) (last : View)
+    : Type 0 where
   pub asked : map asked_in answers ≡ asked_before shape events (length events)
   pub own : last.mine ≡ calls_of answers
   pub settled : All (λ answer. is_unsettled answer.outcome ≡ false) answers

@@ -77,7 +77,8 @@ where
     ensures served { IfOk result (λ served.
         HaveServed D.told L.shape L.events (starting config.lost) parts.items served.runners.items) }
     ensures answered { IfOk result (λ served. HasAnswered L.shape L.events
-        (first_of (start_losing L.shape.slots L.shape.shards config.lost)) served.answers.items (view_of served.pass)) }
+        (first_of (start_losing L.shape.slots L.shape.shards config.lost)) served.answers.items
+        (view_of served.pass)) }
     ensures snapshot { IfOk result (λ served.
         served.snapshot ≡ held (view_of served.pass).start (view_of served.pass).seen) }
 {
@@ -128,8 +129,8 @@ where
 /// first to the last, while this thread hands them out and fails and attaches slots. It returns once all is done, as
 /// after a wait.
 ///
-/// Each shard must have its parts, and each new device a part for every shard. All memory is taken, and all threads are
-/// there, before the first command.
+/// Each shard must have its parts, and each new device a part for every shard. All memory is taken, and all threads
+/// are there, before the first command.
 ///
 /// # Errors
 /// `NoMemory` or `ThreadRefused`: no device was written, and the parts and events are dropped.

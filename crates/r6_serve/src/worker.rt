@@ -36,9 +36,12 @@ fn run_on<L: Events, D: BlockDevice + Drop, R: Wait>(
 }
 
 impl<'a, L: Events, D: BlockDevice + Drop> Work<Station<'a, L, D>> for Taking<L, D> {
-    ghost ready = { λ station taking. IsPassOf station.shards.register.now taking.runner.shard.pass × (taking.consumer.shard < L.shape.shards) };
+    ghost ready = { λ station taking. IsPassOf station.shards.register.now taking.runner.shard.pass
+        × (taking.consumer.shard < L.shape.shards) };
 
-    ghost done = { λ station old new. IsPassOf station.shards.register.now new.runner.shard.pass × HasRun D.told L.shape L.events old.consumer.shard old.consumer.numbers.items old.runner new.consumer.shard new.consumer.numbers.items new.consumer.finished new.runner };
+    ghost done = { λ station old new. IsPassOf station.shards.register.now new.runner.shard.pass
+        × HasRun D.told L.shape L.events old.consumer.shard old.consumer.numbers.items old.runner new.consumer.shard
+        new.consumer.numbers.items new.consumer.finished new.runner };
 
     fn run<R: Wait>(&mut self, rt: &R, station: &Station<'a, L, D>)
         requires { IsPassOf station.now.shards.register.now self.old.runner.shard.pass
