@@ -145,10 +145,10 @@ cut_elsewhere c ascii other text found h none n rest fits e =
 -- ---- lines
 
 -- two texts that begin with other bytes are not the same
-other_first : (a b : ℕ) (xs ys : Text) → (a == b) ≡ false → a ∷ xs ≢ b ∷ ys
+pub other_first : (a b : ℕ) (xs ys : Text) → (a == b) ≡ false → a ∷ xs ≢ b ∷ ys
 other_first a b xs ys differ e = let same : a ≡ b = ap (λ (word : Text). get_or word 0 0) e in grind (arith, nat_tests)
 
-drop_same : (n : ℕ) (xs ys : Text) → xs ≡ ys → drop n xs ≡ drop n ys
+pub drop_same : (n : ℕ) (xs ys : Text) → xs ≡ ys → drop n xs ≡ drop n ys
 drop_same n xs ys e = ap (λ (word : Text). drop n word) e
 
 pub only_write : (text : Text) (event : Event) → codes "write" ++ 32 ∷ text ≡ line_of event → IsEvent event

@@ -56,7 +56,8 @@ IsTask task = Unit {0}
 
 abbrev pub words_of_call : (shard : ℕ) → Call → List Text
 words_of_call shard (Perform token) = codes "perform" ∷ command_word shard token ∷ []
-words_of_call shard (Answer token completion) = codes "answer" ∷ command_word shard token ∷ completion_word completion ∷ []
+words_of_call shard (Answer token completion) =
+    codes "answer" ∷ command_word shard token ∷ completion_word completion ∷ []
 words_of_call shard (Do token) = codes "do" ∷ command_word shard token ∷ []
 words_of_call shard Tell = codes "tell" ∷ decimal shard ∷ []
 words_of_call shard Look = codes "look" ∷ decimal shard ∷ []
@@ -129,14 +130,17 @@ Say lines said = IsSaid said × (without_comments lines ≡ lines_saying said)
 abbrev pub IsScript : List Text → Type 0
 IsScript lines = (said : Said) × Say lines said
 
--- the first line with which the lines are no script, counted from 1
-abbrev pub IsFirstFault : List Text → ℕ → Type 0
-IsFirstFault lines number = IsScript (take (number - 1) lines) × ¬ IsScript (take number lines)
+-- the first line with which the lines are no script of a kind, counted from 1
+abbrev pub IsFirstFault : (IsOfKind : List Text → Type 0) → List Text → ℕ → Type 0
+IsFirstFault IsOfKind lines number = IsOfKind (take (number - 1) lines) × ¬ IsOfKind (take number lines)
 
 -- want of memory can come at any place
+abbrev pub ExplainsBy : (IsOfKind : List Text → Type 0) → List Text → ScriptFault → Type 0
+ExplainsBy IsOfKind lines (Line number) = IsFirstFault IsOfKind lines number
+ExplainsBy IsOfKind lines Memory = Unit {0}
+
 abbrev pub Explains : List Text → ScriptFault → Type 0
-Explains lines (Line number) = IsFirstFault lines number
-Explains lines Memory = Unit {0}
+Explains lines fault = ExplainsBy IsScript lines fault
 
 -- the same, as the program holds it
 abbrev pub said_of : Option Script → Said

@@ -10,8 +10,8 @@ use crate::script::{Call, Completion, Event, Script, ScriptFault, Task};
 use r6_layout::Geometry;
 use std::alloc::Global;
 
-// A decimal number without leading zeros, below 2^64.
-fn parse_number(word: &str) -> Option<u64>
+/// A decimal number without leading zeros, below 2^64.
+pub fn parse_number(word: &str) -> Option<u64>
     ensures { Reads decimal IsNumber word.now result }
 {
     if word.starts_with('+') {
@@ -23,8 +23,8 @@ fn parse_number(word: &str) -> Option<u64>
     word.parse().ok()
 }
 
-// A number with the text after the character that ends it.
-fn parse_number_before(text: &str, end: char) -> Option<(u64, &str)>
+/// A number with the text after the character that ends it.
+pub fn parse_number_before(text: &str, end: char) -> Option<(u64, &str)>
     requires ascii { end < 128 }
     requires no_digit { 10 ≤ digit_value end }
     ensures { MatchOption result
@@ -46,8 +46,8 @@ fn parse_digit(byte: u8) -> Option<u8>
     }
 }
 
-// A byte of two hexadecimal digits.
-fn parse_byte(word: &str) -> Option<u8>
+/// A byte of two hexadecimal digits.
+pub fn parse_byte(word: &str) -> Option<u8>
     ensures { Reads byte_word IsByte word.now result }
 {
     match word.as_bytes() {
@@ -198,7 +198,8 @@ fn parse_array(line: &str) -> Option<Geometry>
     Geometry::new(slots as usize, chunk, block as usize, rows, shards as usize).ok()
 }
 
-fn is_passed_over(line: &str) -> bool
+/// Whether a line is empty or a comment.
+pub fn is_passed_over(line: &str) -> bool
     ensures { result ≡ is_passed_over line.now }
 {
     line.is_empty() || line.starts_with('#')
