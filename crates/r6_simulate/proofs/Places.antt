@@ -1,5 +1,5 @@
 -- What is true of each item of a list at its place.
-use Rattle.std.proofs.Common.{ℕ, ◌+◌, zero, suc, List, [], ◌∷◌, ◌++◌, length, subst, sym, arith}
+use Rattle.std.proofs.Common.{ℕ, zero, suc, List, [], ◌∷◌, ◌++◌, length, subst, sym, arith}
 use Rattle.r6_simulate.specs.Devices.{IsAt}
 
 pub each_of_none : {A : Type 0} (P : ℕ → A → Type 0) (place : ℕ) (item : A) → IsAt [] place item → P place item

@@ -219,7 +219,8 @@ Makes (call.Turn task) blocks old register devices outcome new register' devices
 -- replies that a core hands out, one after another
 abbrev pub HandsReplies : CoreView → List (OpId × Reply) → CoreView → Type 0
 HandsReplies old [] new = new ≡ old
-HandsReplies old (r ∷ replies) new = (next : CoreView) × HandsReply old (r.0).0 r.1 next × HandsReplies next replies new
+HandsReplies old (r ∷ replies) new =
+    (next : CoreView) × HandsReply old (r.0).0 r.1 next × HandsReplies next replies new
 
 -- commands that a core hands out, one after another
 abbrev pub HandsCommands : CoreView → List Command → CoreView → Type 0

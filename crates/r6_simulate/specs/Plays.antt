@@ -13,10 +13,12 @@ use Rattle.r6_health.specs.declared.snapshot.Snapshot.{Snapshot}
 use Rattle.r6_script.specs.declared.script.Call.{Call}
 use Rattle.r6_script.specs.declared.script.Event.{Event}
 use Rattle.r6_script.specs.declared.script.Event.TheVariants as event
+use Rattle.r6_script.specs.Script.{Text}
+use Rattle.r6_texts.specs.Texts.{answer_text, attach_answer}
 use Rattle.r6_simulate.specs.AtShards.{Submits, Makes, Reports, held_by}
 use Rattle.r6_simulate.specs.Beginnings.{AreFirstShards, IsFirstPass}
 use Rattle.r6_simulate.specs.Devices.{IsAt, AddsAs, AreFirst}
-use Rattle.r6_simulate.specs.Lines.{Text, answer_text, attach_answer, outcome_text}
+use Rattle.r6_simulate.specs.Lines.{outcome_text}
 use Rattle.r6_simulate.specs.Shards.{shard_of_block}
 use Rattle.r6_simulate.specs.declared.lines.Outcome.{Outcome}
 use Rattle.r6_simulate.specs.declared.lines.Outcome.TheVariants.{NoSuchShard}
@@ -75,8 +77,8 @@ Calls number call old text new text' =
     ⊎ ((length old.shards.items ≤ number) × (text' ≡ text ++ outcome_text NoSuchShard) × (new ≡ old))
 
 -- a call from outside is answered so: that is printed, and no shard goes on
-pub record IsToldOutside (answer : Result Answer Refusal) (old : Simulation) (text : Text) (new : Simulation) (text' : Text)
-    : Type 0 where
+pub record IsToldOutside (answer : Result Answer Refusal) (old : Simulation) (text : Text) (new : Simulation)
+    (text' : Text) : Type 0 where
   pub printed : text' ≡ text ++ answer_text answer
   pub shards : new.shards.items ≡ old.shards.items
   pub geometry : new.geometry ≡ old.geometry

@@ -6,13 +6,14 @@ ghost use Rattle.r6_simulate.specs.Shards.{shard_of_block};
 
 use crate::devices::{Blocks, Devices};
 use crate::fault::SimulationFault;
-use crate::lines::{Answered, Outcome};
+use crate::lines::Outcome;
 use crate::register::OwnRegister;
 use crate::shard::Shard;
 use r6_core::{Core, Op};
 use r6_health::Snapshot;
 use r6_layout::Geometry;
 use r6_script::{Call, Event};
+use r6_texts::Answered;
 use std::alloc::Global;
 use std::fmt::Write as _;
 use std::sync::Wait;

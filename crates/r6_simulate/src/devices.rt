@@ -9,6 +9,7 @@ use r6_dev::{BlockDevice, Fault as DeviceFault, MemoryDevice};
 use r6_health::Refusal;
 use r6_kernels::Buffer;
 use r6_layout::Geometry;
+use r6_texts::block_of;
 use std::alloc::{AllocError, Global};
 
 /// Makes the blocks of an array.
@@ -24,10 +25,7 @@ impl Blocks {
     pub fn of(&self, byte: u8) -> Result<Buffer, AllocError>
         ensures { IfOk result (λ block. block ≡ replicate self.now.len byte) }
     {
-        let bytes = vec![in self.alloc; byte; self.len]?;
-        let mut block = Buffer::new(self.alloc, self.len)?;
-        block.copy_from_slice(bytes.as_slice());
-        Ok(block)
+        block_of(self.alloc, self.len, byte)
     }
 }
 

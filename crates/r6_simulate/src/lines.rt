@@ -1,12 +1,10 @@
 //! The lines that the command `simulate` prints.
 
-ghost use Rattle.std.specs.Prelude.{◌≡◌, ◌==◌, ◌++◌, OnOk, string_bytes};
-ghost use Rattle.std.specs.List.{list_all};
-ghost use Rattle.r6_script.specs.Script.{byte_word};
-ghost use Rattle.r6_simulate.specs.Lines.{block_text, command_text, only_byte, reply_text};
+ghost use Rattle.std.specs.Prelude.{◌≡◌, ◌++◌, OnOk, string_bytes};
+ghost use Rattle.r6_simulate.specs.Lines.{command_text, reply_text};
 
 use r6_core::{Call, Command, CommandKind, OpId, Receipt, Refusal, Reply, Turn};
-use r6_health::{Answer, Refusal as RegisterRefusal};
+use r6_texts::{Answered, Refused, write_block};
 use std::alloc::AllocError;
 use std::fmt::{self, Write};
 
@@ -26,42 +24,6 @@ impl fmt::Display for Made {
             Call::ReportRebuilt(slot, generation) => {
                 write!(f, "report_rebuilt {slot} {generation}")
             }
-        }
-    }
-}
-
-/// What the register answers to a call.
-#[derive(Clone, Copy)]
-pub struct Answered(pub Result<Answer, RegisterRefusal>);
-
-impl Answered {
-    ghost use Rattle.r6_simulate.specs.Lines.{attach_answer};
-
-    /// The answer to an attach.
-    pub fn of_attach(answer: Result<u32, RegisterRefusal>) -> Answered
-        ensures { result.0 ≡ attach_answer answer }
-    {
-        match answer {
-            Ok(generation) => Answered(Ok(Answer::Generation(generation))),
-            Err(refusal) => Answered(Err(refusal)),
-        }
-    }
-}
-
-impl fmt::Display for Answered {
-    ghost use Rattle.std.specs.Prelude.{Some};
-    ghost use Rattle.r6_simulate.specs.Lines.{answer_text};
-
-    ghost output = { λ answered. Some (answer_text answered.0) };
-
-    fn fmt<W: fmt::Write>(&self, f: &mut fmt::Formatter<W>) -> fmt::Result {
-        match self.0 {
-            Ok(Answer::Degraded) => write!(f, "degraded"),
-            Ok(Answer::Failed) => write!(f, "failed"),
-            Ok(Answer::Generation(generation)) => write!(f, "generation {generation}"),
-            Ok(Answer::More) => write!(f, "more"),
-            Ok(Answer::Complete) => write!(f, "complete"),
-            Err(refusal) => write!(f, "refused {} {}", refusal.number(), refusal.name()),
         }
     }
 }
@@ -115,52 +77,11 @@ impl fmt::Display for Outcome {
             Outcome::Looked => write!(f, "looked"),
             Outcome::Turned(Turn::Started) => write!(f, "started"),
             Outcome::Turned(Turn::Skipped) => write!(f, "skipped"),
-            Outcome::Refused(refusal) => {
-                write!(f, "refused {} {}", refusal.number(), refusal.name())
-            }
+            Outcome::Refused(refusal) => write!(f, "{}", Refused(*refusal)),
             Outcome::Told(made, answered) => write!(f, "{made}: {answered}"),
             Outcome::Nothing => write!(f, "nothing"),
             Outcome::Called(answered) => write!(f, "{answered}"),
             Outcome::NoSuchShard => write!(f, "no such shard"),
-        }
-    }
-}
-
-fn write_byte(line: &mut String, byte: u8) -> Result<(), AllocError>
-    ensures { OnOk result (string_bytes line.new ≡ string_bytes line.old ++ byte_word byte) }
-{
-    write!(line, "{byte:02x}")
-}
-
-fn are_all(bytes: &[u8], byte: u8) -> bool
-    ensures { result ≡ list_all (λ other. other == byte) bytes.now }
-{
-    bytes.iter().all(|other| *other == byte)
-}
-
-// The byte that all bytes of a block are, if they are equal.
-fn only_byte(block: &[u8]) -> Option<u8>
-    ensures { result ≡ only_byte block.now }
-{
-    let (first, rest) = block.split_first()?;
-    if are_all(rest, *first) {
-        Some(*first)
-    } else {
-        None
-    }
-}
-
-// Writes the byte of a block, if all its bytes are equal, else all of them.
-fn write_block(line: &mut String, block: &[u8]) -> Result<(), AllocError>
-    ensures { OnOk result (string_bytes line.new ≡ string_bytes line.old ++ block_text block.now) }
-{
-    match only_byte(block) {
-        Some(byte) => write_byte(line, byte),
-        None => {
-            for byte in block {
-                write_byte(line, *byte)?;
-            }
-            Ok(())
         }
     }
 }
@@ -175,14 +96,7 @@ pub fn write_reply(
     ensures { OnOk result (string_bytes line.new ≡ string_bytes line.old ++ reply_text shard id.0 reply.now) }
 {
     write!(line, " | reply {shard}:{} ", id.0)?;
-    match reply {
-        Reply::Data(buffer) => {
-            write!(line, "data ")?;
-            write_block(line, buffer.as_slice())
-        }
-        Reply::Done(_) => write!(line, "done"),
-        Reply::ArrayFailed(_) => write!(line, "failed"),
-    }
+    r6_texts::write_reply(line, reply)
 }
 
 /// Goes on with a line: a command that the shard puts out.

@@ -5,11 +5,12 @@ ghost use Rattle.r6_simulate.specs.AtShards.{place_of, fault_of, Submits, Delive
 
 use crate::devices::{Blocks, Devices};
 use crate::fault::SimulationFault;
-use crate::lines::{Answered, Made, Outcome, write_command, write_reply};
+use crate::lines::{Made, Outcome, write_command, write_reply};
 use crate::register::OwnRegister;
 use r6_core::{Command, CommandKind, Core, DeviceFault, FaultKind, Op, Task as CoreTask};
 use r6_kernels::Buffer;
 use r6_script::{Call, Completion, Task};
+use r6_texts::Answered;
 use std::fmt::Write as _;
 use std::sync::Wait;
 
@@ -195,7 +196,8 @@ impl Shard {
         blocks: &Blocks,
     ) -> Result<Outcome, SimulationFault>
         ensures { IfOk result
-            (λ outcome. Makes call blocks.now self.old register.old devices.old outcome self.new register.new devices.new) }
+            (λ outcome.
+            Makes call blocks.now self.old register.old devices.old outcome self.new register.new devices.new) }
     {
         match call {
             Call::Perform(token) => self.perform(devices, token),

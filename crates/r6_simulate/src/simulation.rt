@@ -60,8 +60,8 @@ fn play_and_print<R: Wait, W: Write>(
     print(out, line.as_str())
 }
 
-/// Plays the events of a script, in order, against an array in memory: devices of zeros, all in sync, and one register.
-/// A line for the array and for each event goes to `out`, when the event was played.
+/// Plays the events of a script, in order, against an array in memory: devices of zeros, all in sync, and one
+/// register. A line for the array and for each event goes to `out`, when the event was played.
 ///
 /// # Errors
 /// `Memory`; `Output` where `out` refuses a line; `Device` where a device does not do what a core tells it.
