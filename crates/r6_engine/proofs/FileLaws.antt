@@ -1,5 +1,5 @@
 -- Parts that are opened, one after another.
-use Rattle.std.proofs.Common.{◌≡◌, ℕ, ◌+◌, ◌*◌, ◌%◌, ◌<◌, ◌≤◌, List, [], ◌∷◌, ◌++◌, length, get_or, is_some, not, option_map, Option, Some, None, refl, ap, subst, ◌∙◌, arith, ⊎_elim}
+use Rattle.std.proofs.Common.{◌≡◌, ℕ, ◌+◌, ◌*◌, ◌%◌, ◌<◌, ◌≤◌, false, List, [], ◌∷◌, ◌++◌, length, get_or, is_some, not, option_map, Option, Some, None, refl, sym, ap, subst, ◌∙◌, arith, ⊎_elim}
 use Rattle.std.proofs.lemmas.Bool.{cases_lt}
 use Rattle.std.proofs.lemmas.List.{length-append, get_or_append_left}
 use Rattle.std.proofs.lemmas.Nat.{mod-mul-add, mul-add-lt}
@@ -7,6 +7,11 @@ use Rattle.std.proofs.Math.Nat.{mul_comm}
 use Rattle.std.proofs.Math.Seq.{get_or-append_seam}
 use Rattle.r6_dev.specs.History.{Telling}
 use Rattle.r6_layout.specs.Shape.{Shape}
+use Rattle.r6_dev.specs.OpenErrors.{IsOpenError}
+use Rattle.r6_dev.specs.declared.file.OpenError.TheVariants as refused
+use Rattle.r6_engine.specs.Errors.{IsOpeningFault, IsSlotFault}
+use Rattle.r6_engine.specs.declared.error.EngineError.{EngineError}
+use Rattle.r6_engine.specs.declared.error.EngineError.TheVariants.{NoMemory, ThreadRefused, Device}
 use Rattle.r6_engine.specs.Parts.{AreThoseNotLost, is_lost, part_number, parts_of, tells_nothing}
 
 -- the parts below this number, of which those of lost slots aren't there
@@ -50,3 +55,11 @@ opened_all shape lost parts opened shard slot in_shards in_slots =
     let below : number < shape.shards * shape.slots = number_below shape shard slot in_shards in_slots in
     is_some_told tells_nothing (get_or parts number None) ∙ opened.each number below
     ∙ ap (λ s. not (is_lost lost s)) (mod-mul-add shard shape.slots slot in_slots)
+
+-- the fault of a slot that isn't lost is one of the array
+pub opening_of : (slots slot : ℕ) (lost : List ℕ) (error : EngineError) → slot < slots → is_lost lost slot ≡ false → IsSlotFault slot error
+    → IsOpeningFault slots lost error
+opening_of slots slot lost NoMemory below other is = tt
+opening_of slots slot lost ThreadRefused below other is = absurd is
+opening_of slots slot lost (Device named fault) below other is =
+    subst (λ s. (s < slots) × (is_lost lost s ≡ false) × IsOpenError (refused.Device fault)) (sym is.0) (below, other, is.1)

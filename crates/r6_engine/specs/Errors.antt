@@ -14,12 +14,19 @@ number_of NoMemory = 1
 number_of ThreadRefused = 2
 number_of (Device _ _) = 3
 
--- why the devices of an array are not opened: that of a slot of the array, which isn't lost, can't be opened or measured, or
--- has another length
+-- why the device of a slot is not opened: it can't be opened or measured, or has another length
+abbrev pub IsSlotFault : (slot : ℕ) → EngineError → Type 0
+IsSlotFault slot NoMemory = ⊤
+IsSlotFault slot ThreadRefused = ⊥
+IsSlotFault slot (Device named fault) = (named ≡ slot) × IsOpenError (refused.Device fault)
+
+-- why the devices of an array are not opened: that of a slot of the array, which isn't lost, can't be opened or
+-- measured, or has another length
 abbrev pub IsOpeningFault : (slots : ℕ) → (lost : List ℕ) → EngineError → Type 0
 IsOpeningFault slots lost NoMemory = ⊤
 IsOpeningFault slots lost ThreadRefused = ⊥
-IsOpeningFault slots lost (Device slot fault) = (slot < slots) × (is_lost lost slot ≡ false) × IsOpenError (refused.Device fault)
+IsOpeningFault slots lost (Device slot fault) =
+    (slot < slots) × (is_lost lost slot ≡ false) × IsOpenError (refused.Device fault)
 
 -- and why they are not made
 abbrev pub IsMakingFault : (slots : ℕ) → EngineError → Type 0

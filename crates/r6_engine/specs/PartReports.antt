@@ -10,7 +10,8 @@ use Rattle.r6_engine.specs.declared.report.RowFault.{RowFault}
 -- what is found of the rows from this one on
 abbrev pub AreFound : Shape → Parts → (row : ℕ) → List Finding → Type 0
 AreFound shape parts row [] = ⊤
-AreFound shape parts row (finding ∷ findings) = IsFinding shape parts row finding × AreFound shape parts (row + 1) findings
+AreFound shape parts row (finding ∷ findings) =
+    IsFinding shape parts row finding × AreFound shape parts (row + 1) findings
 
 -- a report with what is found of these rows
 abbrev pub noted_all : Report → (row : ℕ) → List Finding → Report
@@ -28,7 +29,8 @@ pub record IsPartReport (shape : Shape) (parts : Parts) (first end : ℕ) (repor
   pub are_found : AreFound shape parts first findings
   pub count : first + length findings ≡ end_at end report.fault
   pub is : report ≡ record (noted_all no_report first findings) { fault = report.fault }
-  pub fault : IfSome report.fault (λ fault. (fault.row < end) × ReadFails shape parts fault.row (record { slot = fault.slot; fault = fault.fault }))
+  pub fault : IfSome report.fault (λ fault. (fault.row < end)
+      × ReadFails shape parts fault.row (record { slot = fault.slot; fault = fault.fault }))
 
 -- the reports of the shards, from the first on, up to the first fault
 abbrev pub joined_all : Report → (reports : List Report) → Report

@@ -35,13 +35,15 @@ abbrev pub IsAbsent : Shape → (slot : ℕ) → Parts → Type 0
 IsAbsent shape slot parts = (shard : ℕ) → shard < shape.shards → is_some (parts (part_number shape shard slot)) ≡ false
 
 abbrev pub IsThere : Shape → (slot : ℕ) → Parts → Type 0
-IsThere shape slot parts = (shard : ℕ) × (shard < shape.shards) × (is_some (parts (part_number shape shard slot)) ≡ true)
+IsThere shape slot parts =
+    (shard : ℕ) × (shard < shape.shards) × (is_some (parts (part_number shape shard slot)) ≡ true)
 
 -- the blocks of the devices, by slot and row
 abbrev pub Devices : Type 0
 Devices = ℕ → ℕ → Block
 
--- a part tells these blocks, of the rows from the first on, below the end. A part that isn't there tells what one likes
+-- a part tells these blocks, of the rows from the first on, below the end. A part that isn't there tells what one
+-- likes
 abbrev pub TellsRows : (first end : ℕ) → (ℕ → Block) → Option Telling → Type 0
 TellsRows first end blocks None = ⊤
 TellsRows first end blocks (Some None) = ⊥
@@ -51,15 +53,18 @@ TellsRows first end blocks (Some (Some told)) = (row : ℕ) → first ≤ row �
 abbrev pub AllTell : Shape → Parts → Devices → Type 0
 AllTell shape parts device =
     (shard slot : ℕ) → shard < shape.shards → slot < shape.slots
-    → TellsRows (first_row shape shard) (first_row shape (shard + 1)) (device slot) (parts (part_number shape shard slot))
+    → TellsRows (first_row shape shard) (first_row shape (shard + 1)) (device slot)
+    (parts (part_number shape shard slot))
 
 -- what was done to the parts changed no block: each tells what it told, and the same are there
 pub record OnlyRead (old new : Parts) : Type 0 where
-  pub tells : (number first end : ℕ) (blocks : ℕ → Block) → TellsRows first end blocks (old number) → TellsRows first end blocks (new number)
+  pub tells : (number first end : ℕ) (blocks : ℕ → Block) → TellsRows first end blocks (old number)
+      → TellsRows first end blocks (new number)
   pub there : (number : ℕ) → is_some (new number) ≡ is_some (old number)
 
 -- a row was read from a part, or the part isn't there
 pub record PartRead (old new : Parts) (number row : ℕ) (there : Bool) (block : Block) : Type 0 where
   pub only_read : OnlyRead old new
-  pub gives : there ≡ true → (first end : ℕ) (blocks : ℕ → Block) → first ≤ row → row < end → TellsRows first end blocks (old number) → block ≡ blocks row
+  pub gives : there ≡ true → (first end : ℕ) (blocks : ℕ → Block) → first ≤ row → row < end
+      → TellsRows first end blocks (old number) → block ≡ blocks row
   pub is_there : there ≡ is_some (old number)

@@ -24,12 +24,14 @@ devices_of shape full slot row = block_at (full row) (position_at shape row slot
 
 -- each new part tells its blocks
 abbrev pub AreTelling : Shape → Parts → Type 0
-AreTelling shape targets = (shard : ℕ) → shard < shape.shards → (blocks : Blocks) × (targets shard ≡ Some (Some blocks))
+AreTelling shape targets =
+    (shard : ℕ) → shard < shape.shards → (blocks : Blocks) × (targets shard ≡ Some (Some blocks))
 
 -- the new part of a shard holds these blocks, in the rows below the end
 abbrev pub HoldsBelow : Shape → Parts → (shard end : ℕ) → (ℕ → Block) → Type 0
 HoldsBelow shape targets shard end column =
-    (blocks : Blocks) × (targets shard ≡ Some (Some blocks)) × ((row : ℕ) → OwnsRow shape shard row → row < end → blocks row ≡ column row)
+    (blocks : Blocks) × (targets shard ≡ Some (Some blocks))
+    × ((row : ℕ) → OwnsRow shape shard row → row < end → blocks row ≡ column row)
 
 -- the blocks of a row are those of the one full row with which the parts agree
 abbrev pub IsRestoredRow : Shape → Parts → ℕ → List Block → Type 0
@@ -50,8 +52,8 @@ pub record RowRebuilt (shape : Shape) (target row : ℕ) (parts parts' targets t
   pub restored : IsRestoredRow shape parts row blocks
   pub written : PartWritten targets targets' (shard_of shape row) row (block_at blocks (position_at shape row target))
 
--- a row was not rebuilt: the part of another slot answered a fault to its read, or the target answered one to its write, or
--- too few parts of the row are there, which is a fault of the target
+-- a row was not rebuilt: the part of another slot answered a fault to its read, or the target answered one to its
+-- write, or too few parts of the row are there, which is a fault of the target
 pub record RebuildFails (shape : Shape) (target : ℕ) (old new : Parts) (fault : SlotFault) : Type 0 where
   pub within : fault.slot < shape.slots
   pub of_source : fault.slot ≢ target → fault.fault ≢ WriteFault
@@ -67,12 +69,14 @@ pub record IsRebuildFault (shape : Shape) (target : ℕ) (fault : RowFault) : Ty
   pub of_source : fault.slot ≢ target → fault.fault ≢ WriteFault
   pub of_target : fault.slot ≡ target → fault.fault ≢ ReadFault
 
--- the rows below the end were rebuilt: those before the first fault, or all. Each new part that did not fail holds of them
--- the blocks of every array of full rows that the parts tell
+-- the rows below the end were rebuilt: those before the first fault, or all. Each new part that did not fail holds of
+-- them the blocks of every array of full rows that the parts tell
 pub record IsRebuilt (shape : Shape) (target : ℕ) (parts targets targets' : Parts) (rebuilt : Rebuilt) : Type 0 where
   pub rows : rebuilt.rows ≡ rows_before shape rebuilt.fault
   pub fault : IfSome rebuilt.fault (IsRebuildFault shape target)
   pub holds :
-      (full : ℕ → List Block) → AreFullRows shape full → AllTell shape parts (devices_of shape full) → AreTelling shape targets
-      → (shard : ℕ) → shard < shape.shards → IfSome rebuilt.fault (λ fault. IsSpared shape target shard fault.row fault.slot)
+      (full : ℕ → List Block) → AreFullRows shape full → AllTell shape parts (devices_of shape full)
+      → AreTelling shape targets
+      → (shard : ℕ) → shard < shape.shards
+      → IfSome rebuilt.fault (λ fault. IsSpared shape target shard fault.row fault.slot)
       → HoldsBelow shape targets' shard rebuilt.rows (devices_of shape full target)

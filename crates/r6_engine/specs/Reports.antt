@@ -23,7 +23,8 @@ abbrev pub IsFinding : Shape → Parts → ℕ → Finding → Type 0
 IsFinding shape parts row None = HasAbsent shape parts row
 IsFinding shape parts row (Some class) =
     AreThere shape parts row
-    × ((device : Devices) → AllTell shape parts device → (blocks : List Block) × IsRow shape device row blocks × HasClass blocks class)
+    × ((device : Devices) → AllTell shape parts device
+    → (blocks : List Block) × IsRow shape device row blocks × HasClass blocks class)
 
 -- ---- counts by class
 

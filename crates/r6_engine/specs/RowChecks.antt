@@ -12,7 +12,8 @@ use Rattle.r6_engine.specs.declared.row_check.RowCheck.{RowCheck}
 pub record IsRead (shape : Shape) (parts : Parts) (row : ℕ) (check : RowCheck) : Type 0 where
   pub there : check.is_whole ≡ true → AreThere shape parts row
   pub absent : check.is_whole ≡ false → HasAbsent shape parts row
-  pub gives : check.is_whole ≡ true → (device : Devices) → AllTell shape parts device → IsRow shape device row check.reader.blocks
+  pub gives : check.is_whole ≡ true → (device : Devices) → AllTell shape parts device
+      → IsRow shape device row check.reader.blocks
 
 -- the row that was read has its class, and stays
 pub record IsClassified (old new : RowCheck) : Type 0 where
@@ -32,14 +33,17 @@ pub record HasRoom (shape : Shape) (batch : List RowCheck) : Type 0 where
 
 -- so many rows, from one on
 abbrev pub AreRead : Shape → Parts → (row count : ℕ) → List RowCheck → Type 0
-AreRead shape parts row count batch = (k : ℕ) (other : RowCheck) → k < count → IsRead shape parts (row + k) (slice_index_or batch k other)
+AreRead shape parts row count batch =
+    (k : ℕ) (other : RowCheck) → k < count → IsRead shape parts (row + k) (slice_index_or batch k other)
 
 pub record AreClassified (old new : List RowCheck) : Type 0 where
   pub count : length new ≡ length old
-  pub each : (k : ℕ) (other : RowCheck) → k < length old → IsClassified (slice_index_or old k other) (slice_index_or new k other)
+  pub each : (k : ℕ) (other : RowCheck) → k < length old
+      → IsClassified (slice_index_or old k other) (slice_index_or new k other)
 
 -- Of so many rows, from one on, those before the first fault were read, each into its place
-pub record IsBatchRead (shape : Shape) (old new : Parts) (row count : ℕ) (before after : List RowCheck) (read : BatchRead) : Type 0 where
+pub record IsBatchRead (shape : Shape) (old new : Parts) (row count : ℕ) (before after : List RowCheck)
+    (read : BatchRead) : Type 0 where
   pub places : length after ≡ length before
   pub room : AllFit shape after
   pub rows : read.rows ≤ count

@@ -19,14 +19,18 @@ pub record Fits (shape : Shape) (reader : RowReader) : Type 0 where
 -- the blocks of a row, in row order
 pub record IsRow (shape : Shape) (device : Devices) (row : ℕ) (blocks : List Block) : Type 0 where
   pub count : length blocks ≡ shape.slots
-  pub each : (position : ℕ) → position < shape.slots → block_at blocks position ≡ device (slot_at shape row position) row
+  pub each : (position : ℕ) → position < shape.slots
+      → block_at blocks position ≡ device (slot_at shape row position) row
 
 -- the block of one slot was read into its place of the row, if its part is there
-pub record SlotRead (shape : Shape) (old new : Parts) (row slot : ℕ) (there : Bool) (before after : List Block) : Type 0 where
+pub record SlotRead (shape : Shape) (old new : Parts) (row slot : ℕ) (there : Bool) (before after : List Block)
+    : Type 0 where
   pub only_read : OnlyRead old new
-  pub gives : there ≡ true → (device : Devices) → AllTell shape old device → block_at after (position_at shape row slot) ≡ device slot row
+  pub gives : there ≡ true → (device : Devices) → AllTell shape old device
+      → block_at after (position_at shape row slot) ≡ device slot row
   pub is_there : there ≡ is_some (old (part_number shape (shard_of shape row) slot))
-  pub others : (position : ℕ) → position ≢ position_at shape row slot → block_at after position ≡ block_at before position
+  pub others : (position : ℕ) → position ≢ position_at shape row slot
+      → block_at after position ≡ block_at before position
 
 -- the known positions, with one more whose block is there
 abbrev pub marked : List Bool → ℕ → Bool → List Bool
@@ -38,10 +42,12 @@ pub record RowRead (shape : Shape) (old new : Parts) (row : ℕ) (known : List B
   pub only_read : OnlyRead old new
   pub gives :
       (device : Devices) → AllTell shape old device
-      → (position : ℕ) → position < shape.slots → IsKnown known position → block_at blocks position ≡ device (slot_at shape row position) row
+      → (position : ℕ) → position < shape.slots → IsKnown known position
+      → block_at blocks position ≡ device (slot_at shape row position) row
   pub is_there :
       (position : ℕ) → position < shape.slots
-      → slice_index_or known position false ≡ is_some (old (part_number shape (shard_of shape row) (slot_at shape row position)))
+      → slice_index_or known position false
+      ≡ is_some (old (part_number shape (shard_of shape row) (slot_at shape row position)))
 
 -- a part that is there answered a fault to the read of a row
 pub record ReadFails (shape : Shape) (parts : Parts) (row : ℕ) (fault : SlotFault) : Type 0 where
@@ -51,7 +57,9 @@ pub record ReadFails (shape : Shape) (parts : Parts) (row : ℕ) (fault : SlotFa
 
 -- some part of a row isn't there; all of them are
 abbrev pub HasAbsent : Shape → Parts → ℕ → Type 0
-HasAbsent shape parts row = (slot : ℕ) × (slot < shape.slots) × (is_some (parts (part_number shape (shard_of shape row) slot)) ≡ false)
+HasAbsent shape parts row =
+    (slot : ℕ) × (slot < shape.slots) × (is_some (parts (part_number shape (shard_of shape row) slot)) ≡ false)
 
 abbrev pub AreThere : Shape → Parts → ℕ → Type 0
-AreThere shape parts row = (slot : ℕ) → slot < shape.slots → is_some (parts (part_number shape (shard_of shape row) slot)) ≡ true
+AreThere shape parts row =
+    (slot : ℕ) → slot < shape.slots → is_some (parts (part_number shape (shard_of shape row) slot)) ≡ true

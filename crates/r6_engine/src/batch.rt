@@ -64,7 +64,8 @@ pub(crate) fn read_batch<D: BlockDevice>(
     requires bounded { geometry.now.rows < 2 ^ 64 }
     requires places { count ≤ length batch.old }
     requires room { AllFit geometry.now batch.old }
-    ensures { IsBatchRead geometry.now (parts_of D.told parts.old) (parts_of D.told parts.new) row count batch.old batch.new result }
+    ensures { IsBatchRead geometry.now (parts_of D.told parts.old) (parts_of D.told parts.new)
+        row count batch.old batch.new result }
 {
     for index in 0..count {
         if let Err(fault) = batch[index].read(geometry, parts, row + index as u64) {
@@ -109,7 +110,8 @@ pub(crate) fn classify_and_read<R: Threads + Sync, D: BlockDevice>(
     requires places { count ≤ length batch.old }
     requires room { AllFit geometry.now batch.old }
     ensures classified { AreClassified classified.old classified.new }
-    ensures read { IsBatchRead geometry.now (parts_of D.told parts.old) (parts_of D.told parts.new) row count batch.old batch.new result }
+    ensures read { IsBatchRead geometry.now (parts_of D.told parts.old) (parts_of D.told parts.new)
+        row count batch.old batch.new result }
 {
     let (_, read) = join_mut(
         rt,
@@ -123,8 +125,8 @@ pub(crate) fn classify_and_read<R: Threads + Sync, D: BlockDevice>(
             requires bounded { geometry.now.rows < 2 ^ 64 }
             requires places { count ≤ length batch.now }
             requires room { AllFit geometry.now batch.now }
-            ensures { IsBatchRead geometry.entry.now (parts_of D.told parts.entry.now) (parts_of D.told parts.exit.now) row count
-                batch.entry.now batch.exit.now result }
+            ensures { IsBatchRead geometry.entry.now (parts_of D.told parts.entry.now) (parts_of D.told parts.exit.now)
+                row count batch.entry.now batch.exit.now result }
         { read_batch(geometry, parts, row, count, batch) },
     );
     read

@@ -26,9 +26,9 @@ use std::thread::Threads;
 // A pass tells how far it has come each time it has gone over so many rows.
 const ROWS_A_WORD: u64 = 16384;
 
-/// Reads all rows, the rows of each shard in a thread of their own, and counts them by class. What it answers is what one
-/// thread answers that reads all rows in their order, each by slot: a row of which some part isn't there is skipped, and
-/// nothing of it is read; the first fault ends it, and no row behind it is counted.
+/// Reads all rows, the rows of each shard in a thread of their own, and counts them by class. What it answers is what
+/// one thread answers that reads all rows in their order, each by slot: a row of which some part isn't there is
+/// skipped, and nothing of it is read; the first fault ends it, and no row behind it is counted.
 ///
 /// Nothing is written. All memory is taken, and all threads are there, before the first read.
 ///
@@ -42,7 +42,8 @@ pub fn check_all<R: Threads + Wait + Sync, D: BlockDevice + Drop + Send>(
 ) -> Result<Report, EngineError>
     requires { length parts.old ≡ geometry.now.shards * geometry.now.slots }
     ensures report { IfOk result (IsReport geometry.now (parts_of D.told parts.old)) }
-    ensures kept { IfOk result (λ report. report.fault ≡ None → OnlyRead (parts_of D.told parts.old) (parts_of D.told parts.new)) }
+    ensures kept { IfOk result (λ report. report.fault ≡ None
+        → OnlyRead (parts_of D.told parts.old) (parts_of D.told parts.new)) }
     ensures err { IfErr result IsRefusal }
     ensures unread { OnErr result (parts.new ≡ parts.old) }
 {
@@ -92,7 +93,8 @@ pub fn verify<R: Threads + Sync, D: BlockDevice, W: Watch>(
 ) -> Result<Report, EngineError>
     requires { length parts.old ≡ geometry.now.shards * geometry.now.slots }
     ensures report { IfOk result (IsReport geometry.now (parts_of D.told parts.old)) }
-    ensures kept { IfOk result (λ report. report.fault ≡ None → OnlyRead (parts_of D.told parts.old) (parts_of D.told parts.new)) }
+    ensures kept { IfOk result (λ report. report.fault ≡ None
+        → OnlyRead (parts_of D.told parts.old) (parts_of D.told parts.new)) }
     ensures err { IfErr result (λ error. error ≡ EngineError.NoMemory) }
 {
     let first = new_batch(alloc, geometry)?;

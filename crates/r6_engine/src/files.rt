@@ -2,7 +2,7 @@
 
 ghost use Rattle.std.specs.Prelude.{◌≡◌, ◌+◌, ◌*◌, ◌%◌, ◌<◌, length, is_some, not, IfErr, IfOk};
 ghost use Rattle.r6_dev.specs.OpenErrors.{IsOpenError};
-ghost use Rattle.r6_engine.specs.Errors.{IsMakingFault, IsOpeningFault};
+ghost use Rattle.r6_engine.specs.Errors.{IsMakingFault, IsOpeningFault, IsSlotFault};
 ghost use Rattle.r6_engine.specs.Parts.{AreThoseNotLost, is_lost, parts_of, tells_nothing};
 
 use crate::error::EngineError;
@@ -14,13 +14,13 @@ use std::io::{ErrorKind, Seek};
 use std::os::unix::fs::FileExt;
 use std::rt::Files;
 
-/// Opens the parts of an array whose devices are files, or block devices of the system: the path of a slot leads to its
-/// device, and one without a path has none. The devices of the slots in `lost` are not opened, and their parts aren't there.
-/// No file is changed, nor made.
+/// Opens the parts of an array whose devices are files, or block devices of the system: the path of a slot leads to
+/// its device, and one without a path has none. The devices of the slots in `lost` are not opened, and their parts
+/// aren't there. No file is changed, nor made.
 ///
 /// # Errors
-/// `Device(slot, fault)` for the first slot whose device answers a fault: 3 `Gone` if it can't be opened or measured, 4
-/// `Length` if it hasn't `rows * block` bytes. `NoMemory`.
+/// `Device(slot, fault)` for the first slot whose device answers a fault: 3 `Gone` if it can't be opened or measured,
+/// 4 `Length` if it hasn't `rows * block` bytes. `NoMemory`.
 pub fn open_parts<F: FileExt + Seek + Drop, R: Files<File = F>>(
     files: &R,
     alloc: Global,
@@ -30,7 +30,8 @@ pub fn open_parts<F: FileExt + Seek + Drop, R: Files<File = F>>(
     access: Access,
 ) -> Result<Vec<Option<FileDevice<F>>>, EngineError>
     ensures parts { IfOk result (λ parts. length parts.items ≡ geometry.now.shards * geometry.now.slots) }
-    ensures absent { IfOk result (λ parts. AreThoseNotLost geometry.now lost.now (parts_of tells_nothing parts.items)) }
+    ensures absent { IfOk result
+        (λ parts. AreThoseNotLost geometry.now lost.now (parts_of tells_nothing parts.items)) }
     ensures err { IfErr result (IsOpeningFault geometry.now.slots lost.now) }
 {
     let count = part_count(geometry);
@@ -81,8 +82,52 @@ fn open_numbered<F: FileExt + Seek + Drop, R: Files<File = F>>(
         });
     };
     let shard = shard_of(geometry, number);
-    match open_part(files, alloc, geometry, shard, path.as_str(), access) {
+    match open_shard(files, alloc, geometry, shard, slot, path.as_str(), access) {
         Ok(device) => Ok(Some(device)),
+        Err(error) => Err(error),
+    }
+}
+
+/// Opens the parts of a new device for a slot, one for each shard, from the first on: a file, or a block device of the
+/// system, at this path. It isn't changed.
+///
+/// # Errors
+/// `Device(slot, fault)`: 3 `Gone` if it can't be opened or measured, 4 `Length` if it hasn't `rows * block` bytes.
+/// `NoMemory`.
+pub fn open_slot<F: FileExt + Seek + Drop, R: Files<File = F>>(
+    files: &R,
+    alloc: Global,
+    geometry: &Geometry,
+    slot: usize,
+    path: &str,
+    access: Access,
+) -> Result<Vec<FileDevice<F>>, EngineError>
+    ensures parts { IfOk result (λ parts. length parts.items ≡ geometry.now.shards) }
+    ensures err { IfErr result (IsSlotFault slot) }
+{
+    let shards = geometry.shards();
+    let mut parts = Vec::with_capacity(alloc, shards)?;
+    for shard in 0..shards {
+        parts.push_reserved(open_shard(files, alloc, geometry, shard, slot, path, access)?);
+    }
+    Ok(parts)
+}
+
+// Opens the part of a shard of a slot's device.
+fn open_shard<F: FileExt + Seek + Drop, R: Files<File = F>>(
+    files: &R,
+    alloc: Global,
+    geometry: &Geometry,
+    shard: usize,
+    slot: usize,
+    path: &str,
+    access: Access,
+) -> Result<FileDevice<F>, EngineError>
+    requires { shard < geometry.now.shards }
+    ensures { IfErr result (IsSlotFault slot) }
+{
+    match open_part(files, alloc, geometry, shard, path, access) {
+        Ok(device) => Ok(device),
         Err(OpenError::NoMemory) => Err(EngineError::NoMemory),
         Err(OpenError::Device(fault)) => Err(EngineError::Device { slot, fault }),
     }
@@ -107,12 +152,12 @@ fn open_part<F: FileExt + Seek + Drop, R: Files<File = F>>(
     FileDevice::open(files, alloc, path, access, size, geometry.shard_rows(shard))
 }
 
-/// Makes the files of an array's devices, of zeros, `rows * block` bytes each, in the order of the slots. The zeros take no
-/// room on a file system that keeps files with holes.
+/// Makes the files of an array's devices, of zeros, `rows * block` bytes each, in the order of the slots. The zeros
+/// take no room on a file system that keeps files with holes.
 ///
 /// # Errors
-/// `Device(slot, WriteFault)` for the first slot whose file is there already, or can't be made or written. The files that
-/// were made before it stay. `NoMemory`.
+/// `Device(slot, WriteFault)` for the first slot whose file is there already, or can't be made or written. The files
+/// that were made before it stay. `NoMemory`.
 pub fn create_files<R: Files>(
     files: &R,
     geometry: &Geometry,

@@ -15,8 +15,10 @@ pub(crate) fn read_part<D: BlockDevice>(
 ) -> Result<bool, Fault>
     requires { number < length parts.old }
     ensures same_length { length block.new ≡ length block.old }
-    ensures fails { IfErr result (λ fault. (is_some (slice_index_or parts.old number None) ≡ true) × (fault ≢ Fault.WriteFault)) }
-    ensures read { IfOk result (λ there. PartRead (parts_of D.told parts.old) (parts_of D.told parts.new) number row there block.new) }
+    ensures fails { IfErr result (λ fault. (is_some (slice_index_or parts.old number None) ≡ true)
+        × (fault ≢ Fault.WriteFault)) }
+    ensures read { IfOk result
+        (λ there. PartRead (parts_of D.told parts.old) (parts_of D.told parts.new) number row there block.new) }
 {
     match &mut parts[number] {
         Some(device) => match device.read(row, block) {

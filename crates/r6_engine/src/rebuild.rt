@@ -27,7 +27,9 @@ pub struct Rebuilt {
 pub fn is_absent<D: BlockDevice>(geometry: &Geometry, parts: &[Option<D>], slot: usize) -> bool
     requires parts { length parts.now ≡ geometry.now.shards * geometry.now.slots }
     requires slot { slot < geometry.now.slots }
-    ensures { MatchBool result (IsAbsent geometry.now slot (parts_of D.told parts.now)) (IsThere geometry.now slot (parts_of D.told parts.now)) }
+    ensures { MatchBool result
+        (IsAbsent geometry.now slot (parts_of D.told parts.now))
+        (IsThere geometry.now slot (parts_of D.told parts.now)) }
 {
     for shard in 0..geometry.shards() {
         if parts[shard * geometry.slots() + slot].is_some() {
@@ -37,8 +39,8 @@ pub fn is_absent<D: BlockDevice>(geometry: &Geometry, parts: &[Option<D>], slot:
     true
 }
 
-/// Rebuilds a slot: computes each row from the parts that are there, and writes the target's block to its new parts, of
-/// which there is one for each shard. The first fault ends it; rows that are written stay.
+/// Rebuilds a slot: computes each row from the parts that are there, and writes the target's block to its new parts,
+/// of which there is one for each shard. The first fault ends it; rows that are written stay.
 /// No part of the target may be there: [`is_absent`] tells.
 ///
 /// A row of which more than two parts aren't there can't be restored: it is the fault `Gone` of the target.
@@ -79,8 +81,10 @@ fn rebuild_rows<D: BlockDevice>(
     requires absent { IsAbsent geometry.now target (parts_of D.told parts.old) }
     requires targets { length targets.old ≡ geometry.now.shards }
     requires room { Fits geometry.now reader.old }
-    ensures rebuilt { IsRebuilt geometry.now target (parts_of D.told parts.old) (targets_of D.told targets.old) (targets_of D.told targets.new) result }
-    ensures kept { IfSome result.fault (λ fault. fault.slot ≡ target) → OnlyRead (parts_of D.told parts.old) (parts_of D.told parts.new) }
+    ensures rebuilt { IsRebuilt geometry.now target (parts_of D.told parts.old) (targets_of D.told targets.old)
+        (targets_of D.told targets.new) result }
+    ensures kept { IfSome result.fault (λ fault. fault.slot ≡ target)
+        → OnlyRead (parts_of D.told parts.old) (parts_of D.told parts.new) }
 {
     for row in 0..geometry.rows() {
         match rebuild_row(geometry, parts, row, target, targets, reader) {
@@ -96,7 +100,8 @@ fn rebuild_rows<D: BlockDevice>(
 
 // A rebuild that ends at this row.
 fn ended(row: u64, fault: SlotFault) -> Rebuilt
-    ensures { result ≡ record { rows = row; fault = Some (record { row = row; slot = fault.slot; fault = fault.fault }) } }
+    ensures { result
+        ≡ record { rows = row; fault = Some (record { row = row; slot = fault.slot; fault = fault.fault }) } }
 {
     Rebuilt {
         rows: row,
@@ -123,9 +128,11 @@ fn rebuild_row<D: BlockDevice>(
     requires targets { length targets.old ≡ geometry.now.shards }
     requires room { Fits geometry.now reader.old }
     ensures room { Fits geometry.now reader.new }
-    ensures rebuilt { OnOk result (RowRebuilt geometry.now target row (parts_of D.told parts.old) (parts_of D.told parts.new)
+    ensures rebuilt { OnOk result
+        (RowRebuilt geometry.now target row (parts_of D.told parts.old) (parts_of D.told parts.new)
         (targets_of D.told targets.old) (targets_of D.told targets.new)) }
-    ensures fails { IfErr result (RebuildFails geometry.now target (parts_of D.told parts.old) (parts_of D.told parts.new)) }
+    ensures fails { IfErr result
+        (RebuildFails geometry.now target (parts_of D.told parts.old) (parts_of D.told parts.new)) }
     ensures unwritten { IfErr result (λ fault. (shard : ℕ) → IsSpared geometry.now target shard row fault.slot
         → targets_of D.told targets.new shard ≡ targets_of D.told targets.old shard) }
 {
@@ -159,7 +166,8 @@ fn restore_row<D: BlockDevice>(
     ensures room { Fits geometry.now reader.new }
     ensures only_read { OnOk result (OnlyRead (parts_of D.told parts.old) (parts_of D.told parts.new)) }
     ensures restored { OnOk result (IsRestoredRow geometry.now (parts_of D.told parts.old) row reader.new.blocks) }
-    ensures fails { IfErr result (RebuildFails geometry.now target (parts_of D.told parts.old) (parts_of D.told parts.new)) }
+    ensures fails { IfErr result
+        (RebuildFails geometry.now target (parts_of D.told parts.old) (parts_of D.told parts.new)) }
 {
     let known = match reader.read_row(geometry, parts, row) {
         Ok(known) => known,
@@ -182,8 +190,10 @@ fn write_part<D: BlockDevice>(
     block: &Buffer,
 ) -> Result<(), Fault>
     requires { shard < length targets.old }
-    ensures written { OnOk result (PartWritten (targets_of D.told targets.old) (targets_of D.told targets.new) shard row block.now) }
-    ensures others { (other : ℕ) → other ≢ shard → targets_of D.told targets.new other ≡ targets_of D.told targets.old other }
+    ensures written { OnOk result
+        (PartWritten (targets_of D.told targets.old) (targets_of D.told targets.new) shard row block.now) }
+    ensures others { (other : ℕ) → other ≢ shard
+        → targets_of D.told targets.new other ≡ targets_of D.told targets.old other }
     ensures of_write { IfErr result (λ fault. fault ≢ Fault.ReadFault) }
 {
     targets[shard].write(row, block)

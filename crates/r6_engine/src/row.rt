@@ -48,9 +48,11 @@ impl RowReader {
         requires parts { length parts.old ≡ geometry.now.shards * geometry.now.slots }
         requires room { Fits geometry.now self.old }
         ensures room { Fits geometry.now self.new }
-        ensures read { IfOk result (λ there. SlotRead geometry.now (parts_of D.told parts.old) (parts_of D.told parts.new) row slot
+        ensures read { IfOk result
+            (λ there. SlotRead geometry.now (parts_of D.told parts.old) (parts_of D.told parts.new) row slot
             there self.old.blocks self.new.blocks) }
-        ensures fails { IfErr result (λ fault. ReadFails geometry.now (parts_of D.told parts.old) row (record { slot = slot; fault = fault })) }
+        ensures fails { IfErr result
+            (λ fault. ReadFails geometry.now (parts_of D.told parts.old) row (record { slot = slot; fault = fault })) }
     {
         let number = geometry.shard_of(row) * geometry.slots() + slot;
         let there = read_part(parts, number, row, &mut self.block)?;
@@ -72,7 +74,8 @@ impl RowReader {
         requires parts { length parts.old ≡ geometry.now.shards * geometry.now.slots }
         requires room { Fits geometry.now self.old }
         ensures room { Fits geometry.now self.new }
-        ensures read { IfOk result (λ known. RowRead geometry.now (parts_of D.told parts.old) (parts_of D.told parts.new) row known self.new.blocks) }
+        ensures read { IfOk result (λ known.
+            RowRead geometry.now (parts_of D.told parts.old) (parts_of D.told parts.new) row known self.new.blocks) }
         ensures fails { IfErr result (ReadFails geometry.now (parts_of D.told parts.old) row) }
         ensures limits { IsShape geometry.now }
     {

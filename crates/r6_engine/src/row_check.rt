@@ -77,7 +77,9 @@ impl RowCheck {
 fn has_absent<D: BlockDevice>(geometry: &Geometry, parts: &[Option<D>], row: u64) -> bool
     requires row_within { row < geometry.now.rows }
     requires parts { length parts.now ≡ geometry.now.shards * geometry.now.slots }
-    ensures { MatchBool result (HasAbsent geometry.now (parts_of D.told parts.now) row) (AreThere geometry.now (parts_of D.told parts.now) row) }
+    ensures { MatchBool result
+        (HasAbsent geometry.now (parts_of D.told parts.now) row)
+        (AreThere geometry.now (parts_of D.told parts.now) row) }
 {
     let first = geometry.shard_of(row) * geometry.slots();
     for slot in 0..geometry.slots() {

@@ -1,7 +1,7 @@
 -- What a settings document decides: the values that it gives, or the first thing that is wrong with
 -- it. The keys, their ranges and the order of the checks are this project's own.
-use Rattle.std.specs.Prelude.{◌≡◌, ◌≢◌, ℕ, ◌==◌, ◌&&◌, ◌||◌, pos, Bool, false, not, List, [], ◌∷◌, length, map, Option, Some, None, Result, Ok, Err, is_some, nat_le, nat_lt, if◌then◌else◌, unwrap_or, option_map, option_and_then, string_bytes}
-use Rattle.std.specs.List.{list_any}
+use Rattle.std.specs.Prelude.{◌≡◌, ◌≢◌, ℕ, ◌<◌, ◌≤◌, ◌==◌, ◌&&◌, ◌||◌, pos, Bool, false, not, List, [], ◌∷◌, length, map, Option, Some, None, Result, Ok, Err, is_some, nat_le, nat_lt, if◌then◌else◌, unwrap_or, option_map, option_and_then, string_bytes}
+use Rattle.std.specs.List.{All, list_any}
 use Rattle.std.specs.Option.{option_map_or}
 use Rattle.toml.specs.Data.{Data, integer, Items, no_items, item, Members, no_members, member, as_array, as_str, get_member}
 use Rattle.toml.specs.Parse.{parse_document}
@@ -175,6 +175,17 @@ values_of config = record {
   lost = config.lost.items;
   devices = map string_bytes config.devices.items;
 }
+
+-- ---- the ranges that values are in
+
+-- at most two of the slots
+abbrev pub MayBeLost : (slots : ℕ) → List ℕ → Type 0
+MayBeLost slots lost = (length lost ≤ 2) × All (λ slot. slot < slots) lost
+
+pub record AreInRange (values : Values) : Type 0 where
+  pub window_from : 1 ≤ values.window
+  pub window_to : values.window ≤ 8
+  pub lost : MayBeLost values.shape.slots values.lost
 
 -- ---- what a fault says
 

@@ -1,7 +1,7 @@
 //! The settings of an array, read from a TOML document.
 ghost use Rattle.std.specs.Prelude.{◌≡◌, Ok, Err, IfErr, IfOk};
 ghost use Rattle.toml.specs.View.{table_view};
-ghost use Rattle.r6_settings.specs.Settings.{IsMemoryOr, decided, settings_in, values_of};
+ghost use Rattle.r6_settings.specs.Settings.{AreInRange, IsMemoryOr, decided, settings_in, values_of};
 
 use crate::document::{device_paths, geometry_integer, has_unknown_key, lost_slots, one_to_eight};
 use crate::fault::SettingsFault;
@@ -27,6 +27,7 @@ pub struct Config {
 
 fn decide(alloc: Global, table: &Table, with_devices: bool) -> Result<Config, SettingsFault>
     ensures ok { IfOk result (λ config. decided with_devices (table_view table.now) ≡ Ok (values_of config)) }
+    ensures in_range { IfOk result (λ config. AreInRange (values_of config)) }
     ensures err { IfErr result (IsMemoryOr (λ fault. decided with_devices (table_view table.now) ≡ Err fault)) }
 {
     if has_unknown_key(table) {
@@ -70,6 +71,7 @@ fn decide(alloc: Global, table: &Table, with_devices: bool) -> Result<Config, Se
 /// any place.
 pub fn settings(alloc: Global, text: &str, with_devices: bool) -> Result<Config, SettingsFault>
     ensures ok { IfOk result (λ config. settings_in with_devices text.now ≡ Ok (values_of config)) }
+    ensures in_range { IfOk result (λ config. AreInRange (values_of config)) }
     ensures err { IfErr result (IsMemoryOr (λ fault. settings_in with_devices text.now ≡ Err fault)) }
 {
     match toml::table_from_str(alloc, text) {

@@ -1,9 +1,9 @@
 //! What the keys of a settings document say.
-ghost use Rattle.std.specs.Prelude.{◌≡◌, Some, IfErr, IfOk, MatchResult, map, option_map, string_bytes};
+ghost use Rattle.std.specs.Prelude.{◌≡◌, ◌≤◌, ◌<◌, Some, IfErr, IfOk, IfSome, MatchResult, map, option_map, string_bytes};
 ghost use Rattle.toml.specs.Data.{get_member, as_str};
 ghost use Rattle.toml.specs.View.{items_view, view, table_view};
 ghost use Rattle.r6_settings.specs.Keys.{is_key, name_of};
-ghost use Rattle.r6_settings.specs.Settings.{IsMemoryOr, IsOf, device_paths, each_of, geometry_integer, has_unknown_key, integer_from_to, lost_slots, one_to_eight, slot_below, slots_written};
+ghost use Rattle.r6_settings.specs.Settings.{IsMemoryOr, IsOf, MayBeLost, device_paths, each_of, geometry_integer, has_unknown_key, integer_from_to, lost_slots, one_to_eight, slot_below, slots_written};
 
 use crate::fault::SettingsFault;
 use crate::key::Key;
@@ -42,7 +42,8 @@ fn value_at<'a>(table: &'a Table, key: Key) -> Option<&'a Value>
 }
 
 fn integer_from_to(low: u32, high: u32, value: &Value) -> Option<u32>
-    ensures { result ≡ integer_from_to low high (view value.now) }
+    ensures value { result ≡ integer_from_to low high (view value.now) }
+    ensures range { IfSome result (λ n. (low ≤ n) × (n ≤ high)) }
 {
     let number = u32::try_from(value.as_integer()?).ok()?;
     if low <= number && number <= high {
@@ -66,6 +67,7 @@ pub fn geometry_integer(table: &Table, key: Key) -> Result<u32, SettingsFault>
 /// An integer from 1 to 8, and 1 where the document does not have the key.
 pub fn one_to_eight(table: &Table, key: Key) -> Result<u32, SettingsFault>
     ensures ok { IfOk result (λ n. one_to_eight key (table_view table.now) ≡ Some n) }
+    ensures range { IfOk result (λ n. (1 ≤ n) × (n ≤ 8)) }
     ensures err { IfErr result (IsOf key (one_to_eight key (table_view table.now))) }
 {
     match value_at(table, key) {
@@ -76,6 +78,7 @@ pub fn one_to_eight(table: &Table, key: Key) -> Result<u32, SettingsFault>
 
 fn slot_below(slots: u32, value: &Value) -> Result<u32, SettingsFault>
     ensures ok { IfOk result (λ n. slot_below slots (view value.now) ≡ Some n) }
+    ensures below { IfOk result (λ n. n < slots) }
     ensures err { IfErr result (IsOf Key.Lost (slot_below slots (view value.now))) }
 {
     match integer_from_to(0, u32::MAX, value) {
@@ -88,6 +91,7 @@ fn slot_below(slots: u32, value: &Value) -> Result<u32, SettingsFault>
 pub fn lost_slots(alloc: Global, table: &Table, slots: u32) -> Result<Vec<u32>, SettingsFault>
     requires { slots ≡ slots_written (table_view table.now) }
     ensures ok { IfOk result (λ lost. lost_slots (table_view table.now) ≡ Some lost.items) }
+    ensures may_be { IfOk result (λ lost. MayBeLost slots lost.items) }
     ensures err { IfErr result (IsMemoryOr (IsOf Key.Lost (lost_slots (table_view table.now)))) }
 {
     let Some(value) = value_at(table, Key::Lost) else {

@@ -1,0 +1,175 @@
+//! The lines of a run.
+
+ghost use Rattle.std.specs.Prelude.{◌≡◌, ◌<◌, ◌++◌, length, string_bytes, OnOk};
+ghost use Rattle.r6_outcomes.specs.Lines.{event_line, classes_text, found_text, is_degraded, is_wait, lines_text, outcome_text, rest_text, skipped_of, slot_text, state_text};
+
+use crate::found::Found;
+use crate::outcome::Outcome;
+use r6_health::Snapshot;
+use r6_layout::Geometry;
+use r6_run_script::Event;
+use r6_texts::{Answered, Refused, write_reply};
+use std::alloc::AllocError;
+use std::fmt::Write;
+
+// The classes of wrong rows with one block to blame.
+fn write_classes(text: &mut String, found: &Found) -> Result<(), AllocError>
+    ensures { OnOk result (string_bytes text.new ≡ string_bytes text.old ++ classes_text found.now) }
+{
+    let (wrong_p, wrong_q, wrong_data) = (found.wrong_p, found.wrong_q, found.wrong_data);
+    write!(
+        text,
+        " wrong_p {wrong_p} wrong_q {wrong_q} wrong_data {wrong_data}"
+    )
+}
+
+// How many of so many rows no class was found of.
+fn skipped_of(rows: u64, found: &Found) -> u64
+    ensures { result ≡ skipped_of rows found.now }
+{
+    rows.saturating_sub(found.consistent)
+        .saturating_sub(found.wrong_p)
+        .saturating_sub(found.wrong_q)
+        .saturating_sub(found.wrong_data)
+        .saturating_sub(found.many)
+}
+
+// The other words of a line of counts.
+fn write_rest(text: &mut String, rows: u64, found: &Found) -> Result<(), AllocError>
+    ensures { OnOk result (string_bytes text.new ≡ string_bytes text.old ++ rest_text rows found.now) }
+{
+    let (many, repaired) = (found.many, found.repaired);
+    let skipped = skipped_of(rows, found);
+    write!(text, " many {many} skipped {skipped} repaired {repaired}")
+}
+
+fn write_found(text: &mut String, rows: u64, found: &Found) -> Result<(), AllocError>
+    ensures { OnOk result (string_bytes text.new ≡ string_bytes text.old ++ found_text rows found.now) }
+{
+    write!(text, "consistent {}", found.consistent)?;
+    write_classes(text, found)?;
+    write_rest(text, rows, found)
+}
+
+fn write_outcome(text: &mut String, rows: u64, outcome: &Outcome) -> Result<(), AllocError>
+    ensures { OnOk result (string_bytes text.new ≡ string_bytes text.old ++ outcome_text rows outcome.now) }
+{
+    match outcome {
+        Outcome::Unanswered => write!(text, "unanswered"),
+        Outcome::Replied(reply) => write_reply(text, reply),
+        Outcome::Refused(refusal) => write!(text, "{}", Refused(*refusal)),
+        Outcome::Called(answer) => write!(text, "{}", Answered(*answer)),
+        Outcome::Counted(found) => write_found(text, rows, found),
+    }
+}
+
+// The line of an event.
+fn write_line(
+    text: &mut String,
+    rows: u64,
+    number: u64,
+    outcome: &Outcome,
+) -> Result<(), AllocError>
+    ensures { OnOk result (string_bytes text.new ≡ string_bytes text.old ++ event_line rows number outcome.now) }
+{
+    write!(text, "{number} ")?;
+    write_outcome(text, rows, outcome)?;
+    writeln!(text)
+}
+
+fn is_wait(event: &Event<'_>) -> bool
+    ensures { result ≡ is_wait event.now }
+{
+    matches!(event, Event::Wait)
+}
+
+/// Writes the lines of the events, in their order, numbered from 0. A wait has none.
+///
+/// # Errors
+/// `AllocError` where there is no memory for the text.
+pub fn write_lines(
+    text: &mut String,
+    geometry: &Geometry,
+    events: &[Event<'_>],
+    outcomes: &[Outcome],
+) -> Result<(), AllocError>
+    requires { length outcomes.now ≡ length events.now }
+    ensures { OnOk result (string_bytes text.new
+        ≡ string_bytes text.old ++ lines_text geometry.now.rows 0 events.now outcomes.now) }
+{
+    let rows = geometry.rows();
+    let mut number = 0;
+    for (place, event) in events.iter().enumerate() {
+        if !is_wait(event) {
+            write_line(text, rows, number, &outcomes[place])?;
+            number += 1;
+        }
+    }
+    Ok(())
+}
+
+fn write_slot(text: &mut String, snapshot: &Snapshot, slot: usize) -> Result<(), AllocError>
+    requires { slot < 32 }
+    ensures { OnOk result (string_bytes text.new ≡ string_bytes text.old ++ slot_text snapshot.now slot) }
+{
+    if snapshot.slot(slot).is_lost() {
+        writeln!(text, "slot {slot} lost")
+    } else {
+        Ok(())
+    }
+}
+
+// Whether a slot is out.
+fn is_degraded(geometry: &Geometry, snapshot: &Snapshot) -> bool
+    ensures { result ≡ is_degraded geometry.now.slots snapshot.now }
+{
+    let mut degraded = false;
+    for slot in 0..geometry.slots() {
+        degraded = degraded || snapshot.slot(slot).is_out();
+    }
+    degraded
+}
+
+/// Writes which slots are lost, and how the array is.
+///
+/// # Errors
+/// `AllocError` where there is no memory for the text.
+pub fn write_state(
+    text: &mut String,
+    geometry: &Geometry,
+    snapshot: &Snapshot,
+) -> Result<(), AllocError>
+    ensures { OnOk result (string_bytes text.new
+        ≡ string_bytes text.old ++ state_text geometry.now.slots snapshot.now) }
+{
+    for slot in 0..geometry.slots() {
+        write_slot(text, snapshot, slot)?;
+    }
+    if snapshot.failed() {
+        writeln!(text, "state failed")
+    } else if is_degraded(geometry, snapshot) {
+        writeln!(text, "state degraded")
+    } else {
+        writeln!(text, "state good")
+    }
+}
+
+// Bytes that a line has at most, but for the block of a read.
+const LINE: usize = 256;
+
+// As many bytes as the line of an event has at most, in hexadecimal digits of a block of so many bytes.
+fn line_room(event: &Event<'_>, block: usize) -> usize {
+    match event {
+        Event::Read(_) => block.saturating_mul(2).saturating_add(LINE),
+        _ => LINE,
+    }
+}
+
+/// As many bytes as the lines of a run have at most.
+pub fn room_for(geometry: &Geometry, events: &[Event<'_>]) -> usize {
+    let mut room = geometry.slots().saturating_add(1).saturating_mul(LINE);
+    for event in events {
+        room = room.saturating_add(line_room(event, geometry.block()));
+    }
+    room
+}

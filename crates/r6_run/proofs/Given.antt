@@ -1,0 +1,58 @@
+-- Events as they are given, one after another.
+use Rattle.std.proofs.Common.{◌≡◌, ◌∙◌, ℕ, ◌+◌, ◌<◌, List, [], ◌∷◌, ◌++◌, length, take, get_or, All, Result, Ok, Err, OnOk, suc, zero, ap, append_assoc, sym, subst, arith}
+use Rattle.std.specs.List.{AllZip}
+use Rattle.std.proofs.lemmas.List.{take_more}
+use Rattle.r6_layout.specs.Shape.{Shape}
+use Rattle.r6_feed.specs.Events.{AreWhole, IsWhole}
+use Rattle.r6_feed.specs.declared.event.Event as feed
+use Rattle.r6_feed.specs.declared.event.Event.TheVariants as fed
+use Rattle.r6_run_script.specs.declared.event.Event.{Event}
+use Rattle.r6_run_script.specs.declared.event.Event.TheVariants.{Read, Write, Wait, Fail, Attach, Check, Repair}
+use Rattle.r6_run.specs.Runs.{IsAsked}
+
+-- one pair more
+pub one_more : {X Y : Type 0} (R : X → Y → Type 0) (xs : List X) (ys : List Y) (x : X) (y : Y) → AllZip R xs ys → R x y → AllZip R (xs ++ x ∷ []) (ys ++ y ∷ [])
+one_more R [] [] x y all holds = (holds, tt)
+one_more R [] (z ∷ ys) x y all holds = absurd all
+one_more R (z ∷ xs) [] x y all holds = absurd all
+one_more R (w ∷ xs) (z ∷ ys) x y all holds = (all.0, one_more R xs ys x y all.1 holds)
+
+pub next_more : {X Y : Type 0} (R : X → Y → Type 0) (xs : List X) (ys more : List Y) (y : Y) (i : ℕ) (d : X) → i < length xs → AllZip R (take i xs) ys
+    → R (get_or xs i d) y → more ≡ ys ++ y ∷ [] → AllZip R (take (i + 1) xs) more
+next_more R xs ys more y i d within all holds is =
+    subst (AllZip R (take (i + 1) xs)) (sym is)
+    (subst (λ these. AllZip R these (ys ++ y ∷ [])) (sym (take_more xs i d within)) (one_more R (take i xs) ys (get_or xs i d) y all holds))
+
+-- each has its parts
+whole_one : {D : Type 0} (shape : Shape) (event : Event) (given : feed.Event D) → IsAsked shape event given → IsWhole shape.shards given
+whole_one shape event (fed.Request op) is = tt
+whole_one shape event fed.Wait is = tt
+whole_one shape event (fed.Fail failed) is = tt
+whole_one shape event fed.Check is = tt
+whole_one shape event fed.Repair is = tt
+whole_one shape (Read block) (fed.Attach attached parts) is = absurd is
+whole_one shape (Write block byte) (fed.Attach attached parts) is = absurd is
+whole_one shape Wait (fed.Attach attached parts) is = absurd is
+whole_one shape (Fail slot) (fed.Attach attached parts) is = absurd is
+whole_one shape (Attach slot path) (fed.Attach attached parts) is = is.1
+whole_one shape Check (fed.Attach attached parts) is = absurd is
+whole_one shape Repair (fed.Attach attached parts) is = absurd is
+
+all_cons : {X : Type 0} (P : X → Type 0) (x : X) (xs : List X) → P x → All P xs → All P (x ∷ xs)
+all_cons P x xs holds rest zero d within = holds
+all_cons P x xs holds rest (suc k) d within = rest k d (omega (arith, within))
+
+pub are_whole : {D : Type 0} (shape : Shape) (script : List Event) (events : List (feed.Event D)) → AllZip (IsAsked shape) script events
+    → AreWhole shape.shards events
+are_whole shape [] [] all = λ k d within. absurd (omega (arith, within))
+are_whole shape [] (given ∷ events) all = absurd all
+are_whole shape (event ∷ script) [] all = absurd all
+are_whole shape (event ∷ script) (given ∷ events) all =
+    all_cons (IsWhole shape.shards) given events (whole_one shape event given all.0) (are_whole shape script events all.1)
+
+-- lines, and then how the array is
+pub both_written : {T E : Type 0} (r : Result T E) (old mid new lines state : List ℕ) → mid ≡ old ++ lines → OnOk r (new ≡ mid ++ state)
+    → OnOk r (new ≡ old ++ (lines ++ state))
+both_written (Ok done) old mid new lines state before after =
+    after ∙ ap (λ (text : List ℕ). text ++ state) before ∙ append_assoc old lines state
+both_written (Err error) old mid new lines state before after = tt

@@ -1,0 +1,4 @@
+pub mod Arrays
+pub mod Ends
+pub mod Faults
+pub mod Runs

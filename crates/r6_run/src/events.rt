@@ -1,0 +1,93 @@
+//! A script's events, as an array's threads are given them.
+
+ghost use Rattle.std.specs.Prelude.{◌≡◌, length, replicate, IfOk};
+ghost use Rattle.std.specs.List.{AllZip};
+ghost use Rattle.r6_frames.specs.Views.{op_of, buffer_of};
+ghost use Rattle.r6_world.specs.PlainArray.{Read as Reads, Write as Writes};
+ghost use Rattle.r6_run_script.specs.declared.event.Event.TheVariants.{Attach as Attaches};
+ghost use Rattle.r6_run.specs.Runs.{IsAsked};
+
+use crate::fault::RunFault;
+use r6_dev::{Access, FileDevice};
+use r6_engine::open_slot;
+use r6_feed::Event;
+use r6_frames::Op;
+use r6_kernels::Buffer;
+use r6_layout::Geometry;
+use r6_run_script::Event as Entry;
+use r6_texts::block_of;
+use std::alloc::{AllocError, Global};
+use std::io::Seek;
+use std::os::unix::fs::FileExt;
+use std::rt::Files;
+
+// A read, with room for its block.
+fn read_of(alloc: Global, len: usize, block: u64) -> Result<Op, AllocError>
+    ensures asked { IfOk result (λ op. op_of op ≡ Reads block) }
+    ensures room { IfOk result (λ op. length (buffer_of op) ≡ len) }
+{
+    Ok(Op::Read(block, Buffer::new(alloc, len)?))
+}
+
+// A write of a block of one byte.
+fn write_of(alloc: Global, len: usize, block: u64, byte: u8) -> Result<Op, AllocError>
+    ensures { IfOk result (λ op. op_of op ≡ Writes block (replicate len byte)) }
+{
+    Ok(Op::Write(block, block_of(alloc, len, byte)?))
+}
+
+// The event that attaches the device at a path.
+fn attach_of<F: FileExt + Seek + Drop, R: Files<File = F>>(
+    files: &R,
+    alloc: Global,
+    geometry: &Geometry,
+    slot: u64,
+    path: &str,
+) -> Result<Event<FileDevice<F>>, RunFault>
+    ensures { IfOk result (IsAsked geometry.now (Attaches slot path.entry)) }
+{
+    let slot = slot as usize;
+    let parts = open_slot(files, alloc, geometry, slot, path, Access::ReadWrite)?;
+    Ok(Event::Attach(slot, parts))
+}
+
+// An event, with its device opened if it attaches one.
+fn event_of<F: FileExt + Seek + Drop, R: Files<File = F>>(
+    files: &R,
+    alloc: Global,
+    geometry: &Geometry,
+    entry: Entry<'_>,
+) -> Result<Event<FileDevice<F>>, RunFault>
+    ensures { IfOk result (IsAsked geometry.now entry.entry) }
+{
+    match entry {
+        Entry::Read(block) => Ok(Event::Request(read_of(alloc, geometry.block(), block)?)),
+        Entry::Write(block, byte) => Ok(Event::Request(write_of(
+            alloc,
+            geometry.block(),
+            block,
+            byte,
+        )?)),
+        Entry::Wait => Ok(Event::Wait),
+        Entry::Fail(slot) => Ok(Event::Fail(slot as usize)),
+        Entry::Attach(slot, path) => attach_of(files, alloc, geometry, slot, path),
+        Entry::Check => Ok(Event::Check),
+        Entry::Repair => Ok(Event::Repair),
+    }
+}
+
+/// The events of a script, in their order. The devices that are attached are opened, and no file is changed.
+pub(crate) fn events_of<F: FileExt + Seek + Drop, R: Files<File = F>>(
+    files: &R,
+    alloc: Global,
+    geometry: &Geometry,
+    script: &[Entry<'_>],
+) -> Result<Vec<Event<FileDevice<F>>>, RunFault>
+    ensures { IfOk result (λ events. AllZip (IsAsked geometry.now) script.now events.items) }
+{
+    let mut events = Vec::with_capacity(alloc, script.len())?;
+    for entry in script {
+        events.push(event_of(files, alloc, geometry, *entry)?)?;
+    }
+    Ok(events)
+}
