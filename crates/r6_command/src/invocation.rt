@@ -131,18 +131,6 @@ fn with_shown<'a>(
     program.subcommand(with_paths(alloc, name, paths)?.about(about))
 }
 
-// A command that is not built yet is read, so that it is answered by name, and left out of help.
-fn with_hidden<'a>(
-    alloc: Global,
-    program: Command<'a>,
-    name: &'a str,
-    paths: Paths,
-) -> Result<Command<'a>, AllocError>
-    ensures { IfOk result (λ made. app_of made ≡ with_command (app_of program.entry) paths name.entry.now) }
-{
-    program.subcommand(with_paths(alloc, name, paths)?.hide(true))
-}
-
 fn grammar<'a>(alloc: Global) -> Result<Command<'a>, AllocError>
     ensures { IfOk result (λ made. app_of made ≡ grammar) }
 {
@@ -175,7 +163,13 @@ fn grammar<'a>(alloc: Global) -> Result<Command<'a>, AllocError>
         Paths::Script,
         "Play a script against an array in memory",
     )?;
-    with_hidden(alloc, program, "run", Paths::Both)
+    with_shown(
+        alloc,
+        program,
+        "run",
+        Paths::Both,
+        "Give the array on the device files the events of a script",
+    )
 }
 
 fn matched<'a>(alloc: Global, words: &'a [String]) -> Result<ArgMatches<'a>, Error>

@@ -1,4 +1,5 @@
 pub mod Writes
 mod Played
+mod Served
 mod Verified
 mod Stopped

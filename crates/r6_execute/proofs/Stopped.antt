@@ -1,5 +1,5 @@
 -- Passes over devices that a fault stops.
-use Rattle.std.proofs.Common.{◌≡◌, ◌≢◌, ◌<◌, true, ℕ, List, length, Option, None, Some, Result, Ok, Err, IfErr, IfSome, inl, inr, refl, sym, subst}
+use Rattle.std.proofs.Common.{◌≡◌, ◌≢◌, true, ℕ, List, length, Option, None, Some, Result, Ok, IfErr, IfSome, inl, inr, refl, sym, subst}
 use Rattle.std.specs.Prelude.{IsErrAnd}
 use Rattle.std.specs.Io.KnownBytes.{Keeps}
 use Rattle.std.proofs.lemmas.Result.{err_from_is_err_and}

@@ -1,6 +1,6 @@
 -- How a command ends, over the text of its settings file and that of its script where these are known. The
 -- commands are this project's own.
-use Rattle.std.specs.Prelude.{◌≡◌, ◌≢◌, ◌⊎◌, ◌<◌, ℕ, Bool, true, false, List, length, codes, Option, None, Some, Ok, Err, IfSome}
+use Rattle.std.specs.Prelude.{◌≡◌, ◌≢◌, ◌⊎◌, ◌<◌, ℕ, Bool, true, false, List, length, Option, None, Some, Ok, Err, IfSome}
 use Rattle.std.specs.Io.KnownBytes.{Appends, Keeps}
 use Rattle.r6_command.specs.CommandLine.{Asked, geometry, create, verify, simulate, run}
 use Rattle.r6_dev.specs.declared.fault.Fault.TheVariants.{WriteFault}
@@ -8,17 +8,22 @@ use Rattle.r6_engine.specs.Parts.{Parts, AreThoseNotLost}
 use Rattle.r6_engine.specs.Reports.{IsReport}
 use Rattle.r6_engine.specs.declared.report.Report.{Report}
 use Rattle.r6_layout.specs.Shape.{Shape}
+use Rattle.r6_run.specs.Runs.{HasRun}
+use Rattle.r6_run.specs.declared.ending.Ending as run_ending
+use Rattle.r6_run_script.specs.Script as run_scripts
+use Rattle.r6_run_script.specs.declared.event.Event as run_script
 use Rattle.r6_script.specs.Script.{Explains, Said, Say, lines_of}
+use Rattle.r6_script.specs.declared.script.ScriptFault.{ScriptFault}
 use Rattle.r6_settings.specs.declared.fault.SettingsFault.TheVariants as settings
 use Rattle.r6_settings.specs.Settings.{Values, settings_in}
 use Rattle.r6_execute.specs.declared.ending.Ending.{Ending}
 use Rattle.r6_execute.specs.declared.ending.Ending.TheVariants as ending
 use Rattle.r6_execute.specs.declared.fault.Fault.{Fault}
-use Rattle.r6_execute.specs.declared.fault.Fault.TheVariants.{NotBuilt, Unreadable, Settings, Script, Device, Output, Memory}
+use Rattle.r6_execute.specs.declared.fault.Fault.TheVariants.{Unreadable, Settings, Script, Device, Output, Memory, Thread}
 use Rattle.r6_execute.specs.declared.fault.Input.TheVariants as input
 use Rattle.r6_execute.specs.Layouts.{layout_text}
 use Rattle.r6_execute.specs.Reports.{created_text, report_text}
-use Rattle.r6_execute.specs.Status.{ending_of, ending_of_report}
+use Rattle.r6_execute.specs.Status.{ending_of, ending_of_report, ending_of_run}
 use Rattle.r6_simulate.specs.Plays as plays
 use Rattle.r6_simulate.specs.declared.simulation.Ending as simulation
 
@@ -29,15 +34,17 @@ Text = List ℕ
 
 abbrev pub IsSettingsFault : (with_devices : Bool) → Option Text → Fault → Type 0
 IsSettingsFault with_devices text (Unreadable file) = file ≡ input.Settings
-IsSettingsFault with_devices text (Settings fault) = IfSome text (λ t. fault ≢ settings.Memory → settings_in with_devices t ≡ Err fault)
+IsSettingsFault with_devices text (Settings fault) =
+    IfSome text (λ t. fault ≢ settings.Memory → settings_in with_devices t ≡ Err fault)
 IsSettingsFault with_devices text Memory = Unit {0}
 IsSettingsFault with_devices text _ = ⊥
 
-abbrev pub IsScriptFault : Option Text → Fault → Type 0
-IsScriptFault text (Unreadable file) = file ≡ input.Script
-IsScriptFault text (Script fault) = IfSome text (λ t. Explains (lines_of t) fault)
-IsScriptFault text Memory = Unit {0}
-IsScriptFault text _ = ⊥
+-- what is wrong with a script of the kind that is explained so
+abbrev pub IsScriptFault : (Explains : List Text → ScriptFault → Type 0) → Option Text → Fault → Type 0
+IsScriptFault Explains text (Unreadable file) = file ≡ input.Script
+IsScriptFault Explains text (Script fault) = IfSome text (λ t. Explains (lines_of t) fault)
+IsScriptFault Explains text Memory = Unit {0}
+IsScriptFault Explains text _ = ⊥
 
 -- ---- the faults of a run
 
@@ -59,10 +66,12 @@ IsReadingFault values (Device slot fault) = (slot < values.shape.slots) × (faul
 IsReadingFault values Memory = Unit {0}
 IsReadingFault values _ = ⊥
 
--- the fault says that the command of this name is not built
-abbrev pub IsNotBuilt : (name : Text) → Fault → Type 0
-IsNotBuilt name (NotBuilt told) = told.now ≡ name
-IsNotBuilt name _ = ⊥
+-- a script is not run: a device can't be had, or there is no memory or no thread
+abbrev pub IsServingFault : Fault → Type 0
+IsServingFault (Device slot fault) = Unit {0}
+IsServingFault Memory = Unit {0}
+IsServingFault Thread = Unit {0}
+IsServingFault _ = ⊥
 
 -- ---- how a command ends; `old` and `new` are what its standard output holds before and after it
 
@@ -97,11 +106,20 @@ HasVerified settings_text old new end = (values : Values) × (parts : Parts) × 
     × IfSome settings_text (λ text. settings_in true text ≡ Ok values) × AreThoseNotLost values.shape values.lost parts
     × IsReport values.shape parts report × (report.fault ≡ None) × HasReported values.shape report old new end
 
+-- the events of the script were run on the array of the settings, and their lines printed
+abbrev pub HasServed : (settings_text script_text old new : Option Text) → Ending → Type 0
+HasServed settings_text script_text old new end =
+    (values : Values) × (events : List run_script.Event) × (ended : run_ending.Ending)
+    × IfSome settings_text (λ text. settings_in true text ≡ Ok values)
+    × IfSome script_text (λ text. run_scripts.Say (lines_of text) events)
+    × HasRun values.shape values.lost events old new ended × (end ≡ ending_of_run ended)
+
 abbrev pub EndsAs : Asked → (settings_text script_text old new : Option Text) → Ending → Type 0
 EndsAs (geometry path) settings_text script_text old new ending.Good = HasPrinted settings_text old new
 EndsAs (create path) settings_text script_text old new ending.Good = HasCreated settings_text old new
 EndsAs (verify path) settings_text script_text old new end = HasVerified settings_text old new end
 EndsAs (simulate path) settings_text script_text old new end = HasPlayed script_text old new end
+EndsAs (run config script) settings_text script_text old new end = HasServed settings_text script_text old new end
 EndsAs _ settings_text script_text old new _ = ⊥
 
 abbrev pub IsDone : Asked → (settings_text script_text old new : Option Text) → Type 0
@@ -112,18 +130,20 @@ abbrev pub IsAmiss : Asked → (settings_text script_text old new : Option Text)
 IsAmiss asked settings_text script_text old new = EndsAs asked settings_text script_text old new ending.Failed
     ⊎ EndsAs asked settings_text script_text old new ending.Wrong
 
--- a fault of a file, and of a command that is not built, comes before anything is printed
+-- a fault of a file comes before anything is printed
 abbrev pub StopsGeometry : (settings_text old new : Option Text) → Fault → Type 0
-StopsGeometry settings_text old new fault = (IsSettingsFault false settings_text fault × Keeps old new) ⊎ IsRunFault fault
+StopsGeometry settings_text old new fault =
+    (IsSettingsFault false settings_text fault × Keeps old new) ⊎ IsRunFault fault
 
 abbrev pub StopsPlay : (script_text old new : Option Text) → Fault → Type 0
-StopsPlay script_text old new fault = (IsScriptFault script_text fault × Keeps old new) ⊎ IsRunFault fault
+StopsPlay script_text old new fault = (IsScriptFault Explains script_text fault × Keeps old new) ⊎ IsRunFault fault
 
 -- a fault of the settings or of a device comes before anything is printed
 abbrev pub StopsOnDevices : (IsOf : Values → Fault → Type 0) → (settings_text old new : Option Text) → Fault → Type 0
 StopsOnDevices IsOf settings_text old new fault =
     (IsSettingsFault true settings_text fault × Keeps old new)
-    ⊎ ((values : Values) × IfSome settings_text (λ text. settings_in true text ≡ Ok values) × IsOf values fault × Keeps old new)
+    ⊎ ((values : Values) × IfSome settings_text (λ text. settings_in true text ≡ Ok values) × IsOf values fault
+    × Keeps old new)
     ⊎ (fault ≡ Output)
 
 abbrev pub StopsCreate : (settings_text old new : Option Text) → Fault → Type 0
@@ -136,9 +156,18 @@ StopsReport old new fault = ((fault ≡ Memory) × Keeps old new) ⊎ (fault ≡
 abbrev pub StopsVerify : (settings_text old new : Option Text) → Fault → Type 0
 StopsVerify settings_text old new fault = StopsOnDevices IsReadingFault settings_text old new fault
 
+-- a fault of the settings, of the script or of a device comes before anything is printed
+abbrev pub StopsServing : (settings_text script_text old new : Option Text) → Fault → Type 0
+StopsServing settings_text script_text old new fault =
+    (IsSettingsFault true settings_text fault × Keeps old new)
+    ⊎ (IsScriptFault run_scripts.Explains script_text fault × Keeps old new)
+    ⊎ (IsServingFault fault × Keeps old new)
+    ⊎ (fault ≡ Output)
+
 abbrev pub EndsBy : Asked → (settings_text script_text old new : Option Text) → Fault → Type 0
 EndsBy (geometry path) settings_text script_text old new fault = StopsGeometry settings_text old new fault
 EndsBy (simulate path) settings_text script_text old new fault = StopsPlay script_text old new fault
 EndsBy (create path) settings_text script_text old new fault = StopsCreate settings_text old new fault
 EndsBy (verify path) settings_text script_text old new fault = StopsVerify settings_text old new fault
-EndsBy (run config script) settings_text script_text old new fault = IsNotBuilt (codes "run") fault × Keeps old new
+EndsBy (run config script) settings_text script_text old new fault =
+    StopsServing settings_text script_text old new fault

@@ -3,12 +3,14 @@ use Rattle.std.specs.Prelude.{ℕ, List, ◌++◌, codes, decimal}
 use Rattle.r6_dev.specs.Faults.{number_of}
 use Rattle.r6_engine.specs.declared.error.EngineError.{EngineError}
 use Rattle.r6_engine.specs.declared.error.EngineError.TheVariants as pass
+use Rattle.r6_run.specs.declared.fault.RunFault.{RunFault}
+use Rattle.r6_run.specs.declared.fault.RunFault.TheVariants as run
 use Rattle.r6_script.specs.Script as script
 use Rattle.r6_settings.specs.Faults as settings
 use Rattle.r6_simulate.specs.declared.fault.SimulationFault.{SimulationFault}
 use Rattle.r6_simulate.specs.declared.fault.SimulationFault.TheVariants as simulation
 use Rattle.r6_execute.specs.declared.fault.Fault.{Fault}
-use Rattle.r6_execute.specs.declared.fault.Fault.TheVariants.{NotText, NotBuilt, Unreadable, Settings, Script, Device, Output, Memory, Thread}
+use Rattle.r6_execute.specs.declared.fault.Fault.TheVariants.{NotText, Unreadable, Settings, Script, Device, Output, Memory, Thread}
 use Rattle.r6_execute.specs.declared.fault.Input.{Input}
 use Rattle.r6_execute.specs.declared.fault.Input.TheVariants as input
 
@@ -20,7 +22,6 @@ name_of input.Script = codes "script"
 -- how a fault is printed
 abbrev pub fault_text : Fault → List ℕ
 fault_text NotText = codes "raid6: the command line is not UTF-8"
-fault_text (NotBuilt name) = codes "raid6: " ++ name.now ++ codes " is not built yet"
 fault_text (Unreadable file) = name_of file ++ codes ": unreadable"
 fault_text (Settings fault) = settings.fault_text fault
 fault_text (Script fault) = script.fault_text fault
@@ -40,3 +41,10 @@ abbrev pub fault_of_pass : EngineError → Fault
 fault_of_pass (pass.Device slot fault) = Device slot fault
 fault_of_pass pass.NoMemory = Memory
 fault_of_pass pass.ThreadRefused = Thread
+
+-- the program's fault, where a script isn't run
+abbrev pub fault_of_run : RunFault → Fault
+fault_of_run (run.Device slot fault) = Device slot fault
+fault_of_run run.Output = Output
+fault_of_run run.Memory = Memory
+fault_of_run run.Thread = Thread

@@ -1,22 +1,11 @@
 -- What the command `geometry` prints. The words are this project's own.
-use Rattle.std.specs.Prelude.{ℕ, zero, suc, ◌+◌, ◌-◌, ◌*◌, min, List, [], ◌∷◌, ◌++◌, codes, decimal}
-use Rattle.std.specs.List.{join_with_byte}
+use Rattle.std.specs.Prelude.{ℕ, ◌+◌, ◌-◌, ◌*◌, min, [], ◌∷◌, ◌++◌, codes, decimal}
 use Rattle.r6_layout.specs.Layout.{first_row, role_at}
 use Rattle.r6_layout.specs.Shape.{Shape, blocks, chunk_rows}
 use Rattle.r6_layout.specs.declared.place.Role.{Role}
 use Rattle.r6_layout.specs.declared.place.Role.TheVariants.{Data, P, Q}
-
-abbrev pub Text : Type 0
-Text = List ℕ
-
--- the texts of the numbers below n, one after the other
-abbrev pub texts_below : (text_of : ℕ → Text) → (n : ℕ) → Text
-texts_below text_of zero = []
-texts_below text_of (suc n) = texts_below text_of n ++ text_of n
-
--- words, with one space between them, and a newline
-abbrev pub line : List Text → Text
-line words = join_with_byte 32 words ++ 10 ∷ []
+use Rattle.r6_script.specs.Script.{Text}
+use Rattle.r6_texts.specs.Texts.{line, texts_below}
 
 -- what a slot keeps
 abbrev pub role_text : Role → Text

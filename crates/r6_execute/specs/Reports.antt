@@ -6,7 +6,8 @@ use Rattle.r6_recover.specs.declared.class.RowClass.TheVariants.{Consistent, Wro
 use Rattle.r6_engine.specs.declared.report.Counts.{Counts}
 use Rattle.r6_engine.specs.declared.report.Report.{Report}
 use Rattle.r6_engine.specs.declared.report.WrongRow.{WrongRow}
-use Rattle.r6_execute.specs.Layouts.{Text, line}
+use Rattle.r6_script.specs.Script.{Text}
+use Rattle.r6_texts.specs.Texts.{line}
 
 -- as many files as slots
 abbrev pub created_text : Shape → Text
@@ -34,4 +35,5 @@ first_text None = []
 first_text (Some wrong) = codes "first " ++ decimal wrong.row ++ codes " " ++ class_text wrong.class ++ 10 ∷ []
 
 abbrev pub report_text : Shape → Report → Text
-report_text shape report = parities_text shape.rows report.counts ++ others_text report.counts ++ first_text report.first
+report_text shape report =
+    parities_text shape.rows report.counts ++ others_text report.counts ++ first_text report.first

@@ -2,17 +2,19 @@
 
 ghost use Rattle.std.specs.Prelude.{◌≡◌, ◌≢◌, IfErr, IfOk, OnOk};
 ghost use Rattle.r6_command.specs.CommandLine.{asked_of};
-ghost use Rattle.r6_execute.specs.Commands.{EndsAs, EndsBy, HasPlayed, HasPrinted, IsAmiss, IsDone, StopsGeometry, StopsPlay};
+ghost use Rattle.r6_execute.specs.Commands.{EndsAs, EndsBy, HasPlayed, HasPrinted, HasServed, IsAmiss, IsDone, StopsGeometry, StopsPlay, StopsServing};
 ghost use Rattle.r6_execute.specs.Status.{status_of};
 
 use crate::devices::{create, verify};
 use crate::ending::Ending;
 use crate::errors::ErrorOutput;
-use crate::fault::Fault;
+use crate::fault::{Fault, Input};
 use crate::geometry::described;
 use crate::output::{finish, print};
-use crate::read::{read_script, read_settings};
+use crate::read::{read_script, read_settings, read_text};
 use r6_command::Invocation;
+use r6_run::run;
+use r6_run_script::parse_run_script;
 use r6_simulate::simulate;
 use std::alloc::Global;
 use std::io::{Read, Seek, Write};
@@ -54,6 +56,33 @@ fn play<R: Wait, T: Read, W: Write>(
     Ok(ending)
 }
 
+// Runs a script on the devices of the settings.
+fn serve<F, R, S, T, W>(
+    rt: &R,
+    alloc: Global,
+    settings: &mut S,
+    script: &mut T,
+    out: &mut W,
+) -> Result<Ending, Fault>
+where
+    F: FileExt + Seek + Drop + Send,
+    R: Wait + Threads + Files<File = F> + Sync,
+    S: Read,
+    T: Read,
+    W: Write,
+    ensures ok { IfOk result (HasServed (S.remaining settings.old) (T.remaining script.old)
+        (W.contents out.old) (W.contents out.new)) }
+    ensures err { IfErr result (StopsServing (S.remaining settings.old) (T.remaining script.old)
+        (W.contents out.old) (W.contents out.new)) }
+{
+    let config = read_settings(alloc, settings, true)?;
+    let text = read_text(alloc, script, Input::Script)?;
+    let events = parse_run_script(alloc, text.as_str())?;
+    let ending = run(rt, alloc, &config, events.as_slice(), out)?;
+    finish(out)?;
+    Ok(Ending::from(ending))
+}
+
 fn carry_out<F, R, S, T, W, E>(
     rt: &R,
     alloc: Global,
@@ -64,7 +93,7 @@ fn carry_out<F, R, S, T, W, E>(
     err: &mut ErrorOutput<E>,
 ) -> Result<Ending, Fault>
 where
-    F: FileExt + Seek + Drop,
+    F: FileExt + Seek + Drop + Send,
     R: Wait + Threads + Files<File = F> + Sync,
     S: Read,
     T: Read,
@@ -86,15 +115,15 @@ where
         }
         Invocation::Verify { .. } => verify(rt, alloc, settings, out, err),
         Invocation::Simulate { .. } => play(rt, alloc, script, out),
-        Invocation::Run { .. } => Err(Fault::NotBuilt("run")),
+        Invocation::Run { .. } => serve(rt, alloc, settings, script, out),
     }
 }
 
 /// Carries a command out over its settings file and its script, each of which is read only where the
 /// command uses it, and gives the status with which the program ends. What the command prints goes to
-/// `out`; a fault is one line on `err`. The status is 0 if all is well, 1 if the array of a script has failed at its end or
-/// a row that was read isn't consistent, and else that of a fault. A fault of the settings, of the script or of a device
-/// file comes before anything is written to `out`.
+/// `out`; a fault is one line on `err`. The status is 0 if all is well, 1 if the array of a script has failed at its
+/// end or a row that was read isn't consistent, and else that of a fault. A fault of the settings, of the script or of
+/// a device file comes before anything is written to `out`.
 pub fn execute<F, R, S, T, W, E>(
     rt: &R,
     alloc: Global,
@@ -105,7 +134,7 @@ pub fn execute<F, R, S, T, W, E>(
     err: &mut ErrorOutput<E>,
 ) -> u8
 where
-    F: FileExt + Seek + Drop,
+    F: FileExt + Seek + Drop + Send,
     R: Wait + Threads + Files<File = F> + Sync,
     S: Read,
     T: Read,

@@ -63,8 +63,8 @@ fn print_report<W: Write>(
     Ok(Ending::of_report(report))
 }
 
-/// Reads every row of the devices of the settings, classifies it in one of several threads, and prints how many rows have
-/// each class. The devices are opened for reading alone.
+/// Reads every row of the devices of the settings, classifies it in one of several threads, and prints how many rows
+/// have each class. The devices are opened for reading alone.
 pub(crate) fn verify<F, R, S, W, E>(
     rt: &R,
     alloc: Global,

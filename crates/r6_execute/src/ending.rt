@@ -4,6 +4,7 @@ ghost use Rattle.std.specs.Prelude.{◌≡◌};
 ghost use Rattle.r6_execute.specs.Status.{ending_of_report, status_of_ending};
 
 use r6_engine::Report;
+use r6_run::Ending as RunEnding;
 use r6_simulate::Ending as SimulationEnding;
 
 /// How a command ends that met no fault.
@@ -48,6 +49,19 @@ impl From<SimulationEnding> for Ending {
         match ending {
             SimulationEnding::InService => Ending::Good,
             SimulationEnding::Failed => Ending::Failed,
+        }
+    }
+}
+
+impl From<RunEnding> for Ending {
+    ghost use Rattle.r6_execute.specs.Status.{ending_of_run};
+
+    ghost from_gives = { λ run ending. ending ≡ ending_of_run run };
+
+    fn from(ending: RunEnding) -> Ending {
+        match ending {
+            RunEnding::InService => Ending::Good,
+            RunEnding::Failed => Ending::Failed,
         }
     }
 }

@@ -30,7 +30,8 @@ impl<W: Write> ErrorOutput<W> {
 
     /// Writes the line of a fault.
     pub(crate) fn report(&mut self, fault: Fault) -> io::Result<()>
-        ensures { OnOk result (Appends (W.contents self.old.writer) (W.contents self.new.writer) (fault_text fault ++ 10 ∷ [])) }
+        ensures { OnOk result
+            (Appends (W.contents self.old.writer) (W.contents self.new.writer) (fault_text fault ++ 10 ∷ [])) }
     {
         writeln!(self.writer, "{fault}")
     }

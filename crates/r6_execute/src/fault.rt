@@ -3,6 +3,7 @@ ghost use Rattle.std.specs.Prelude.{◌≡◌};
 
 use r6_dev::Fault as DeviceFault;
 use r6_engine::EngineError;
+use r6_run::RunFault;
 use r6_script::ScriptFault;
 use r6_settings::SettingsFault;
 use r6_simulate::SimulationFault;
@@ -21,8 +22,6 @@ pub enum Input {
 pub enum Fault {
     /// The command line is not UTF-8.
     NotText,
-    /// The command is in the grammar and not in the program.
-    NotBuilt(&'static str),
     /// The file can't be read, or isn't UTF-8.
     Unreadable(Input),
     /// The settings are refused.
@@ -42,13 +41,13 @@ pub enum Fault {
 impl Fault {
     ghost use Rattle.r6_execute.specs.Status.{status_of};
 
-    /// The status with which the program ends: 2 for a use that it does not have, 3 for settings and scripts,
+    /// The status with which the program ends: 2 for a command line that is no text, 3 for settings and scripts,
     /// 4 for output and devices, and 5 for memory and threads.
     pub fn status(&self) -> u8
         ensures { result ≡ status_of self.now }
     {
         match self {
-            Fault::NotText | Fault::NotBuilt(_) => 2,
+            Fault::NotText => 2,
             Fault::Unreadable(_) => 3,
             Fault::Settings(SettingsFault::Memory) => 5,
             Fault::Settings(_) => 3,
@@ -70,7 +69,6 @@ impl fmt::Display for Fault {
     fn fmt<W: fmt::Write>(&self, f: &mut fmt::Formatter<W>) -> fmt::Result {
         match self {
             Fault::NotText => write!(f, "raid6: the command line is not UTF-8"),
-            Fault::NotBuilt(name) => write!(f, "raid6: {name} is not built yet"),
             Fault::Unreadable(Input::Settings) => write!(f, "settings: unreadable"),
             Fault::Unreadable(Input::Script) => write!(f, "script: unreadable"),
             Fault::Settings(fault) => write!(f, "{fault}"),
@@ -127,6 +125,21 @@ impl From<EngineError> for Fault {
             EngineError::Device { slot, fault } => Fault::Device(slot, fault),
             EngineError::NoMemory => Fault::Memory,
             EngineError::ThreadRefused => Fault::Thread,
+        }
+    }
+}
+
+impl From<RunFault> for Fault {
+    ghost use Rattle.r6_execute.specs.Faults.{fault_of_run};
+
+    ghost from_gives = { λ fault told. told ≡ fault_of_run fault };
+
+    fn from(fault: RunFault) -> Fault {
+        match fault {
+            RunFault::Device(slot, fault) => Fault::Device(slot, fault),
+            RunFault::Output => Fault::Output,
+            RunFault::Memory => Fault::Memory,
+            RunFault::Thread => Fault::Thread,
         }
     }
 }

@@ -1,5 +1,5 @@
-//! What the commands of the program do, over readers and writers and the files of devices: each reads its settings or its
-//! script, and prints, or says why not.
+//! What the commands of the program do, over readers and writers and the files of devices: each reads its settings or
+//! its script, and prints, or says why not.
 #![tactic(auto)]
 
 mod commands;

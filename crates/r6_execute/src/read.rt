@@ -1,8 +1,8 @@
 //! The files that a command reads, as text.
 
 ghost use Rattle.std.specs.Prelude.{◌≡◌, ◌⊎◌, Ok, IfErr, IfOk, IfSome, string_bytes};
-ghost use Rattle.r6_script.specs.Script.{Say, lines_of, said_of};
-ghost use Rattle.r6_settings.specs.Settings.{settings_in, values_of};
+ghost use Rattle.r6_script.specs.Script.{Explains, Say, lines_of, said_of};
+ghost use Rattle.r6_settings.specs.Settings.{AreInRange, settings_in, values_of};
 ghost use Rattle.r6_execute.specs.Commands.{IsScriptFault, IsSettingsFault};
 
 use crate::fault::{Fault, Input};
@@ -11,7 +11,12 @@ use r6_settings::{Config, settings};
 use std::alloc::Global;
 use std::io::{self, ErrorKind, Read};
 
-fn read_text<R: Read>(alloc: Global, reader: &mut R, input: Input) -> Result<String, Fault>
+/// Reads a file as text.
+pub(crate) fn read_text<R: Read>(
+    alloc: Global,
+    reader: &mut R,
+    input: Input,
+) -> Result<String, Fault>
     ensures ok { IfOk result (λ text. IfSome (R.remaining reader.old) (λ bytes. string_bytes text ≡ bytes)) }
     ensures err { IfErr result (λ fault. (fault ≡ Fault.Memory) ⊎ (fault ≡ Fault.Unreadable input)) }
 {
@@ -28,7 +33,9 @@ pub(crate) fn read_settings<R: Read>(
     reader: &mut R,
     with_devices: bool,
 ) -> Result<Config, Fault>
-    ensures ok { IfOk result (λ config. IfSome (R.remaining reader.old) (λ text. settings_in with_devices text ≡ Ok (values_of config))) }
+    ensures ok { IfOk result
+        (λ config. IfSome (R.remaining reader.old) (λ text. settings_in with_devices text ≡ Ok (values_of config))) }
+    ensures in_range { IfOk result (λ config. AreInRange (values_of config)) }
     ensures err { IfErr result (IsSettingsFault with_devices (R.remaining reader.old)) }
 {
     let text = read_text(alloc, reader, Input::Settings)?;
@@ -37,8 +44,9 @@ pub(crate) fn read_settings<R: Read>(
 
 /// Reads the script of a command, or none of a text without events.
 pub(crate) fn read_script<R: Read>(alloc: Global, reader: &mut R) -> Result<Option<Script>, Fault>
-    ensures ok { IfOk result (λ script. IfSome (R.remaining reader.old) (λ text. Say (lines_of text) (said_of script))) }
-    ensures err { IfErr result (IsScriptFault (R.remaining reader.old)) }
+    ensures ok { IfOk result
+        (λ script. IfSome (R.remaining reader.old) (λ text. Say (lines_of text) (said_of script))) }
+    ensures err { IfErr result (IsScriptFault Explains (R.remaining reader.old)) }
 {
     let text = read_text(alloc, reader, Input::Script)?;
     Ok(parse_script(alloc, text.as_str())?)

@@ -55,8 +55,8 @@ fn write_first(text: &mut String, first: Option<WrongRow>) -> Result<(), AllocEr
     writeln!(text)
 }
 
-/// A report as text: a line of how many rows have each class, and, where some row isn't consistent, a line of the first
-/// with its class.
+/// A report as text: a line of how many rows have each class, and, where some row isn't consistent, a line of the
+/// first with its class.
 pub fn reported(alloc: Global, geometry: &Geometry, report: &Report) -> Result<String, AllocError>
     ensures { IfOk result (λ text. string_bytes text ≡ report_text geometry.now report.now) }
 {

@@ -8,27 +8,33 @@ use std::os::unix::fs::FileExt;
 use std::test::Fail;
 use std::{env, fs, process};
 
-const CREATE: Invocation<'static> = Invocation::Create {
+pub(crate) const CREATE: Invocation<'static> = Invocation::Create {
     config: "array.toml",
 };
 
-const VERIFY: Invocation<'static> = Invocation::Verify {
+pub(crate) const VERIFY: Invocation<'static> = Invocation::Verify {
     config: "array.toml",
 };
 
-const CREATED: &str = "created 4\n";
+pub(crate) const CREATED: &str = "created 4\n";
 
-const CONSISTENT: &str = "rows 4 consistent 4 wrong_p 0 wrong_q 0 wrong_data 0 many 0 skipped 0\n";
+pub(crate) const CONSISTENT: &str =
+    "rows 4 consistent 4 wrong_p 0 wrong_q 0 wrong_data 0 many 0 skipped 0\n";
 
 /// The path of a slot's file in one test.
-fn path_of(rt: &HostRuntime, test: &str, slot: usize) -> Result<String, Fail> {
+pub(crate) fn path_of(rt: &HostRuntime, test: &str, slot: usize) -> Result<String, Fail> {
     let name = format!(in rt.alloc(); "raid6-{test}-{}-{slot}", process::id(rt.process()))?;
     let path = env::temp_dir(rt)?.join(rt.alloc(), name.as_str())?;
     Ok(String::from_str(rt.alloc(), path.as_str())?)
 }
 
 /// Settings for files of one test: their five integers, what else they say, and the paths, at which there is nothing.
-fn settings_of(rt: &HostRuntime, test: &str, integers: &str, more: &str) -> Result<String, Fail> {
+pub(crate) fn settings_of(
+    rt: &HostRuntime,
+    test: &str,
+    integers: &str,
+    more: &str,
+) -> Result<String, Fail> {
     let mut text = String::from_str(rt.alloc(), integers)?;
     write!(text, "{more}devices = [")?;
     for slot in 0..4usize {
@@ -40,7 +46,7 @@ fn settings_of(rt: &HostRuntime, test: &str, integers: &str, more: &str) -> Resu
     Ok(text)
 }
 
-fn remove(rt: &HostRuntime, test: &str) -> Result<(), Fail> {
+pub(crate) fn remove(rt: &HostRuntime, test: &str) -> Result<(), Fail> {
     for slot in 0..4usize {
         remove_one(rt, test, slot)?;
     }
@@ -48,7 +54,13 @@ fn remove(rt: &HostRuntime, test: &str) -> Result<(), Fail> {
 }
 
 /// Sets a byte of a slot's file.
-fn set(rt: &HostRuntime, test: &str, slot: usize, offset: u64, byte: u8) -> Result<(), Fail> {
+pub(crate) fn set(
+    rt: &HostRuntime,
+    test: &str,
+    slot: usize,
+    offset: u64,
+    byte: u8,
+) -> Result<(), Fail> {
     let mut how = fs::OpenOptions::new();
     how.write(true);
     let file = how.open(rt, path_of(rt, test, slot)?.as_str())?;
@@ -57,19 +69,24 @@ fn set(rt: &HostRuntime, test: &str, slot: usize, offset: u64, byte: u8) -> Resu
 }
 
 /// Makes a slot's file one of so many zeros.
-fn set_length(rt: &HostRuntime, test: &str, slot: usize, length: usize) -> Result<(), Fail> {
+pub(crate) fn set_length(
+    rt: &HostRuntime,
+    test: &str,
+    slot: usize,
+    length: usize,
+) -> Result<(), Fail> {
     let bytes = vec![in rt.alloc(); 0u8; length]?;
     fs::write(rt, path_of(rt, test, slot)?.as_str(), bytes.as_slice())?;
     Ok(())
 }
 
 /// Removes a slot's file.
-fn remove_one(rt: &HostRuntime, test: &str, slot: usize) -> Result<(), Fail> {
+pub(crate) fn remove_one(rt: &HostRuntime, test: &str, slot: usize) -> Result<(), Fail> {
     fs::remove_file(rt, path_of(rt, test, slot)?.as_str())?;
     Ok(())
 }
 
-const FOUR_ROWS: &str = "slots = 4\nchunk = 1\nblock = 16\nrows = 4\nshards = 1\n";
+pub(crate) const FOUR_ROWS: &str = "slots = 4\nchunk = 1\nblock = 16\nrows = 4\nshards = 1\n";
 
 #[test]
 fn created_files_verify_until_a_byte_changes(rt: HostRuntime) -> Result<(), Fail> {

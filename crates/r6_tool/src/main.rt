@@ -62,7 +62,8 @@ fn refused(rt: &HostRuntime, fault: Fault) -> u8
 
 // Prints clap's words, help on standard output and all else on standard error.
 fn explained(rt: &HostRuntime, error: &Error) -> u8
-    ensures shown { (kind_of error.now ≡ DisplayHelp) ⊎ (kind_of error.now ≡ DisplayVersion) → (result ≡ 0) ⊎ (result ≡ status_of Fault.Output) }
+    ensures shown { (kind_of error.now ≡ DisplayHelp) ⊎ (kind_of error.now ≡ DisplayVersion)
+        → (result ≡ 0) ⊎ (result ≡ status_of Fault.Output) }
     ensures wrong { kind_of error.now ≢ DisplayHelp → kind_of error.now ≢ DisplayVersion → result ≡ 2 }
 {
     let printed = error.print(rt);
@@ -120,6 +121,8 @@ fn main(rt: HostRuntime) -> ExitCode {
 
 #[cfg(test)]
 mod device_tests;
+#[cfg(test)]
+mod run_tests;
 #[cfg(test)]
 mod runs;
 #[cfg(test)]

@@ -56,15 +56,26 @@ impl Write for Full {
     }
 }
 
-/// A command whose file has this text has to end so.
-pub(crate) fn ends<F: FileExt + Seek + Drop, R: Abort + Wait + Threads + Files<File = F> + Sync>(
+/// A command whose one file has this text has to end so.
+pub(crate) fn ends<
+    F: FileExt + Seek + Drop + Send,
+    R: Abort + Wait + Threads + Files<File = F> + Sync,
+>(rt: &R, alloc: Global, invocation: &Invocation<'_>, text: &[u8], wanted: Ended<'_>) {
+    ends_with(rt, alloc, invocation, (text, text), wanted)
+}
+
+/// A command whose settings and script are these has to end so.
+pub(crate) fn ends_with<
+    F: FileExt + Seek + Drop + Send,
+    R: Abort + Wait + Threads + Files<File = F> + Sync,
+>(
     rt: &R,
     alloc: Global,
     invocation: &Invocation<'_>,
-    text: &[u8],
+    (mut settings, mut script): (&[u8], &[u8]),
     wanted: Ended<'_>,
 ) {
-    let (mut settings, mut script) = (text, text);
+    let text = script;
     let mut out = Vec::new(alloc);
     let mut err = ErrorOutput::new(Vec::new(alloc), false);
     let status = execute(
@@ -83,7 +94,7 @@ pub(crate) fn ends<F: FileExt + Seek + Drop, R: Abort + Wait + Threads + Files<F
 
 /// A command whose file fails behind this text has to print nothing, and to end so.
 pub(crate) fn ends_unread<
-    F: FileExt + Seek + Drop,
+    F: FileExt + Seek + Drop + Send,
     R: Abort + Wait + Threads + Files<File = F> + Sync,
 >(
     rt: &R,
@@ -112,7 +123,7 @@ pub(crate) fn ends_unread<
 
 /// A command whose output takes so many bytes has to say so, and to end with 4, where standard error refuses too.
 pub(crate) fn ends_unwritten<
-    F: FileExt + Seek + Drop,
+    F: FileExt + Seek + Drop + Send,
     R: Abort + Wait + Threads + Files<File = F> + Sync,
 >(rt: &R, alloc: Global, invocation: &Invocation<'_>, text: &[u8], room: usize) {
     let (mut settings, mut script) = (text, text);

@@ -16,9 +16,9 @@ const SIMULATE: Invocation<'static> = Invocation::Simulate { script: "script" };
 
 const FOUR_SLOTS: &str = "array 4 1 16 4 1\n";
 
-/// A script has to print what its transcript says, and to end with this status. Each line of a transcript is an event and
-/// what it prints, with an arrow between.
-fn plays<F: FileExt + Seek + Drop, R: Abort + Wait + Threads + Files<File = F> + Sync>(
+/// A script has to print what its transcript says, and to end with this status. Each line of a transcript is an event
+/// and what it prints, with an arrow between.
+fn plays<F: FileExt + Seek + Drop + Send, R: Abort + Wait + Threads + Files<File = F> + Sync>(
     rt: &R,
     alloc: Global,
     transcript: &str,
@@ -41,12 +41,10 @@ fn plays<F: FileExt + Seek + Drop, R: Abort + Wait + Threads + Files<File = F> +
 }
 
 /// A script has to be refused at this line.
-fn is_refused_at<F: FileExt + Seek + Drop, R: Abort + Wait + Threads + Files<File = F> + Sync>(
-    rt: &R,
-    alloc: Global,
-    text: &str,
-    line: u64,
-) -> Result<(), AllocError> {
+fn is_refused_at<
+    F: FileExt + Seek + Drop + Send,
+    R: Abort + Wait + Threads + Files<File = F> + Sync,
+>(rt: &R, alloc: Global, text: &str, line: u64) -> Result<(), AllocError> {
     let fault = format!(in alloc; "script: line {line}\n")?;
     ends(
         rt,
@@ -155,10 +153,10 @@ do 1:1 -> taken | 1:2 write slot 0 gen 0 row 2 5a | 1:3 write slot 1 gen 0 row 2
 #[test]
 fn a_shard_takes_256_requests_at_a_time(rt: HostRuntime) -> Result<(), Fail> {
     let (mut script, mut lines) = (String::new(rt.alloc()), String::new(rt.alloc()));
-    write!(script, "{FOUR_SLOTS}read 0\n")?;
-    write!(lines, "array\nop 0:0 | 0:0 read slot 1 gen 0 row 0\n")?;
+    write!(script, "{FOUR_SLOTS}write 0 5a\n")?;
+    write!(lines, "array\nop 0:0 | 0:0 read slot 2 gen 0 row 0\n")?;
     for id in 1..256 {
-        writeln!(script, "read 0")?;
+        writeln!(script, "write 0 5a")?;
         writeln!(lines, "op 0:{id}")?;
     }
     writeln!(script, "read 1")?;
@@ -173,7 +171,8 @@ fn a_shard_takes_256_requests_at_a_time(rt: HostRuntime) -> Result<(), Fail> {
     Ok(())
 }
 
-// The device of block 0 confirms the new block and is failed; P and Q then have it. `examples/loss.script` is this course.
+// The device of block 0 confirms the new block and is failed; P and Q then have it. `examples/loss.script` is this
+// course.
 #[test]
 fn a_write_outlives_the_device_that_confirmed_it(rt: HostRuntime) -> Result<(), Fail> {
     let transcript = "array 4 1 16 4 1 -> array
@@ -230,6 +229,50 @@ look 0 -> looked | reply 0:3 data a5
     Ok(())
 }
 
+// Block 0 is read when its own device has written it, and P and Q aren't written. Then three slots fail: the read was
+// answered, and the write is `failed`. `examples/direct_read.script` is this course.
+#[test]
+fn a_read_beside_a_write_is_answered_before_the_array_fails(rt: HostRuntime) -> Result<(), Fail> {
+    let transcript = "array 4 1 16 4 1 -> array
+write 0 5a -> op 0:0 | 0:0 read slot 2 gen 0 row 0
+do 0:0 -> taken | 0:1 write slot 1 gen 0 row 0 5a | 0:2 write slot 3 gen 0 row 0 5a | 0:3 write slot 0 gen 0 row 0 5a
+perform 0:1 -> performed
+read 0 -> op 0:1 | 0:4 read slot 1 gen 0 row 0
+do 0:4 -> taken
+look 0 -> looked | reply 0:1 data 5a
+fail 0 -> degraded
+fail 2 -> degraded
+fail 3 -> failed
+look 0 -> looked | reply 0:0 failed
+read 0 -> refused 5 ArrayFailed
+";
+    plays(&rt, rt.alloc(), transcript, 1)?;
+    Ok(())
+}
+
+// The read's own device is asked before it has written the block, and lost before it answers: the block is made of the
+// others when the write has ended.
+#[test]
+fn a_read_waits_again_for_the_row_when_its_device_is_lost(rt: HostRuntime) -> Result<(), Fail> {
+    let transcript = "array 4 1 16 4 1 -> array
+write 0 5a -> op 0:0 | 0:0 read slot 2 gen 0 row 0
+read 0 -> op 0:1 | 0:1 read slot 1 gen 0 row 0
+perform 0:1 -> performed
+do 0:0 -> taken | 0:2 write slot 1 gen 0 row 0 5a | 0:3 write slot 3 gen 0 row 0 5a | 0:4 write slot 0 gen 0 row 0 5a
+fail 1 -> degraded
+look 0 -> looked
+answer 0:1 ok -> late
+do 0:2 -> late
+do 0:3 -> taken
+do 0:4 -> taken | 0:5 read slot 2 gen 0 row 0 | 0:6 read slot 3 gen 0 row 0
+do 0:5 -> taken
+do 0:6 -> taken
+look 0 -> looked | reply 0:0 done | reply 0:1 data 5a
+";
+    plays(&rt, rt.alloc(), transcript, 0)?;
+    Ok(())
+}
+
 // `examples/third_loss.script` is this course.
 #[test]
 fn three_losses_found_by_two_shards_fail_the_array(rt: HostRuntime) -> Result<(), Fail> {
@@ -280,8 +323,8 @@ look 0 -> looked | reply 0:1 failed
 
 // The shard lost the device that has been replaced since.
 // A slot with a new device counts as out until it is rebuilt.
-// Two writes and the reads of their blocks, each run to its reply; 57 is a5 times 2. What is out at one time is answered
-// in reverse order, and every completion comes twice.
+// Two writes and the reads of their blocks, each run to its reply; 57 is a5 times 2. What is out at one time is
+// answered in reverse order, and every completion comes twice.
 #[test]
 fn completions_that_come_in_reverse_and_twice_change_no_reply(rt: HostRuntime) -> Result<(), Fail> {
     let transcript = "array 4 1 16 4 1 -> array
@@ -322,7 +365,7 @@ look 0 -> looked | reply 0:3 data a5
     Ok(())
 }
 
-// The last block of the first write is never answered, and the read of its row waits.
+// The last block of the first write is never answered, and the write to its row waits; a read of it doesn't.
 #[test]
 fn a_completion_that_stays_away_keeps_back_its_row_alone(rt: HostRuntime) -> Result<(), Fail> {
     let transcript = "array 4 1 16 4 1 -> array
@@ -338,11 +381,13 @@ do 0:7 -> taken
 do 0:6 -> taken
 do 0:5 -> taken
 look 0 -> looked | reply 0:1 done
-read 0 -> op 0:2
+write 1 11 -> op 0:2
 look 0 -> looked
-read 5 -> op 0:3 | 0:8 read slot 0 gen 0 row 2
+read 0 -> op 0:3 | 0:8 read slot 1 gen 0 row 0
+read 5 -> op 0:4 | 0:9 read slot 0 gen 0 row 2
+do 0:9 -> taken
 do 0:8 -> taken
-look 0 -> looked | reply 0:3 data a5
+look 0 -> looked | reply 0:4 data a5 | reply 0:3 data 5a
 tell 0 -> nothing
 look 0 -> looked
 ";
@@ -370,8 +415,8 @@ look 0 -> looked
     Ok(())
 }
 
-// One error in the first write, one in the second and one in a read. The second write restores the block of slot 3 from
-// the other data block and Q.
+// One error in the first write, one in the second and one in a read. The second write restores the block of slot 3
+// from the other data block and Q.
 #[test]
 fn three_errors_in_three_requests_fail_the_last(rt: HostRuntime) -> Result<(), Fail> {
     let transcript = "array 4 1 16 4 1 -> array
@@ -424,7 +469,8 @@ write 5 a5 -> refused 5 ArrayFailed
     Ok(())
 }
 
-// Both writes and the first read are answered; two errors find the second read, whose data block and P are lost by then.
+// Both writes and the first read are answered; two errors find the second read, whose data block and P are lost by
+// then.
 #[test]
 fn three_errors_in_two_reads_fail_the_second(rt: HostRuntime) -> Result<(), Fail> {
     let transcript = "array 4 1 16 4 1 -> array
@@ -574,27 +620,30 @@ fn lines_out_of_the_grammar_are_refused(rt: HostRuntime) -> Result<(), Fail> {
     Ok(())
 }
 
-// Row 0 is read as a whole, and then the request that waits for it has its turn. The repairs have a row of their own.
+// Row 2 is read as a whole, and then the write that waits for it has its turn. The repairs have a row of their own.
 #[test]
 fn a_check_and_a_repair_take_their_rows_in_turn(rt: HostRuntime) -> Result<(), Fail> {
     let transcript = "array 4 1 16 4 2 -> array
 turn 2 check -> no such shard
 turn 1 check -> started | 1:0 read slot 3 gen 0 row 2 | 1:1 read slot 0 gen 0 row 2 | 1:2 read slot 1 gen 0 row 2 | 1:3 read slot 2 gen 0 row 2
 turn 1 repair -> refused 10 NothingToDo
-read 4 -> op 1:0
+write 4 5a -> op 1:0
 do 1:0 -> taken
 do 1:1 -> taken
 do 1:2 -> taken
-do 1:3 -> taken | 1:4 read slot 3 gen 0 row 2
+do 1:3 -> taken | 1:4 read slot 0 gen 0 row 2
 turn 1 check -> started | 1:5 read slot 2 gen 0 row 3 | 1:6 read slot 3 gen 0 row 3 | 1:7 read slot 0 gen 0 row 3 | 1:8 read slot 1 gen 0 row 3
 turn 1 check -> refused 10 NothingToDo
-do 1:4 -> taken
-look 1 -> looked | reply 1:0 data 00
-turn 1 repair -> started | 1:9 read slot 3 gen 0 row 2 | 1:10 read slot 0 gen 0 row 2 | 1:11 read slot 1 gen 0 row 2 | 1:12 read slot 2 gen 0 row 2
+do 1:4 -> taken | 1:9 write slot 3 gen 0 row 2 5a | 1:10 write slot 1 gen 0 row 2 5a | 1:11 write slot 2 gen 0 row 2 5a
 do 1:9 -> taken
 do 1:10 -> taken
 do 1:11 -> taken
+look 1 -> looked | reply 1:0 done
+turn 1 repair -> started | 1:12 read slot 3 gen 0 row 2 | 1:13 read slot 0 gen 0 row 2 | 1:14 read slot 1 gen 0 row 2 | 1:15 read slot 2 gen 0 row 2
 do 1:12 -> taken
+do 1:13 -> taken
+do 1:14 -> taken
+do 1:15 -> taken
 look 1 -> looked
 ";
     plays(&rt, rt.alloc(), transcript, 0)?;

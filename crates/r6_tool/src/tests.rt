@@ -1,4 +1,4 @@
-//! The command `geometry`, and the command to come.
+//! The command `geometry`.
 
 use crate::runs::{ends, ends_unread, ends_unwritten};
 use r6_command::Invocation;
@@ -164,14 +164,4 @@ fn an_output_that_refuses_is_reported(rt: HostRuntime) {
     for room in [0, 60, FOUR_SLOTS_LAYOUT.len() - 1, FOUR_SLOTS_LAYOUT.len()] {
         ends_unwritten(&rt, rt.alloc(), &GEOMETRY, FOUR_SLOTS.as_bytes(), room);
     }
-}
-
-#[test]
-fn a_command_to_come_says_so(rt: HostRuntime) {
-    let run = Invocation::Run {
-        config: "config",
-        script: "script",
-    };
-    let line = "raid6: run is not built yet\n";
-    ends(&rt, rt.alloc(), &run, b"", ("", line, 2));
 }

@@ -1,5 +1,6 @@
 use Rattle.std.proofs.Common.{◌≡◌, ◌++◌, string_bytes}
-use Rattle.r6_execute.specs.Layouts.{chunk_row_line, shard_line, texts_below}
+use Rattle.r6_execute.specs.Layouts.{chunk_row_line, shard_line}
+use Rattle.r6_texts.specs.Texts.{texts_below}
 use Rattle.r6_execute.proofs.geometry.described.Given as goal
 
 abbrev pub invariant-loop-shard : goal.invariant-loop-shard
