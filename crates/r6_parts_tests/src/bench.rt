@@ -12,7 +12,8 @@ use std::test::Fail;
 /// The bytes of a block.
 const BLOCK: usize = 16;
 
-/// What a hold is asked: the index of a data block, and the byte that is written throughout; the position of the target.
+/// What a hold is asked: the index of a data block, and the byte that is written throughout; the position of the
+/// target.
 #[derive(Clone, Copy)]
 pub(crate) enum Ask {
     Read(usize),
@@ -145,8 +146,8 @@ fn perform(command: RowCommand, devices: &mut Vec<Buffer>) -> (usize, Buffer) {
     }
 }
 
-/// A row of these bytes, of whose positions these are in sync, has to take this course. Then its devices have the bytes
-/// `after` but at the lost positions.
+/// A row of these bytes, of whose positions these are in sync, has to take this course. Then its devices have the
+/// bytes `after` but at the lost positions.
 pub(crate) fn plays<R: Abort>(
     rt: &R,
     alloc: Global,

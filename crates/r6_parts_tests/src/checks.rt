@@ -10,7 +10,8 @@ use std::test::Fail;
 /// A full row of four positions: P is the sum of the data, and Q is 01 + x 80 = 01 + 1d.
 const ROW: [u8; 4] = [0x01, 0x80, 0x81, 0x1c];
 
-/// A hold over the row with these P and Q puts out so many commands and ends with this class. Then these bytes stand there.
+/// A hold over the row with these P and Q puts out so many commands and ends with this class. Then these bytes stand
+/// there.
 fn classes<R: Abort>(
     rt: &R,
     alloc: Global,
@@ -29,8 +30,8 @@ fn classes<R: Abort>(
     plays(rt, alloc, ask, &bytes, &[true; 4], &course, after, &[])
 }
 
-/// P and Q with the class of the row that they make, and how many of them a repair writes: what they differ by is 0 or 1
-/// in the place of P, and that times g^z in the place of Q where data block z is wrong.
+/// P and Q with the class of the row that they make, and how many of them a repair writes: what they differ by is 0 or
+/// 1 in the place of P, and that times g^z in the place of Q where data block z is wrong.
 const CLASSES: [(u8, u8, RowClass, usize); 5] = [
     (0x81, 0x1c, RowClass::Consistent, 0),
     (0x80, 0x1c, RowClass::WrongP, 1),

@@ -67,14 +67,12 @@ fn refuses_other_words(rt: HostRuntime) -> Result<(), Fail> {
     Ok(())
 }
 
-// Help names the commands that are built, and no other.
 #[test]
-fn help_leaves_out_what_is_not_built(rt: HostRuntime) -> Result<(), Fail> {
+fn help_names_each_command(rt: HostRuntime) -> Result<(), Fail> {
     let alloc = rt.alloc();
     let (_, help) = said(alloc, "raid6 --help")?;
-    for name in ["geometry", "create", "verify", "simulate"] {
+    for name in ["geometry", "create", "verify", "simulate", "  run "] {
         assert!(rt; help.as_str().contains(name), "at {name}");
     }
-    assert!(rt; !help.as_str().contains("run"));
     Ok(())
 }

@@ -3,7 +3,8 @@
 use r6_kernels::Buffer;
 use r6_stripe::{Hold, Outcome, RowCommand};
 
-/// The position's block is read into the command's buffer, or taken from it: the position, and the buffer that comes back.
+/// The position's block is read into the command's buffer, or taken from it: the position, and the buffer that comes
+/// back.
 fn perform(command: RowCommand, blocks: &mut Vec<Buffer>) -> (usize, Buffer) {
     match command {
         RowCommand::Read(position, mut buffer) => {

@@ -32,7 +32,8 @@ fn is_write_of(task: &Task, index: usize, byte: u8) -> bool {
     }
 }
 
-// One read, of the other data block, and three writes, put out together. Then the caller's buffer and the frame come back.
+// One read, of the other data block, and three writes, put out together. Then the caller's buffer and the frame come
+// back.
 #[test]
 fn write_over_zeros_reads_one_block(rt: HostRuntime) -> Result<(), Fail> {
     let mut bench = write_over_zeros(rt.alloc())?;
@@ -177,8 +178,8 @@ fn is_changed(alloc: Global, bench: &Bench, lost: &[usize]) -> Result<bool, Allo
     Ok(has_bytes(&bench.devices, after.as_slice(), lost))
 }
 
-/// A write of 5a as data block 1, of whose row these positions are in sync, has to take this course. Then the row is changed
-/// but at the lost positions.
+/// A write of 5a as data block 1, of whose row these positions are in sync, has to take this course. Then the row is
+/// changed but at the lost positions.
 fn changes<R: Abort>(
     rt: &R,
     alloc: Global,
@@ -257,7 +258,8 @@ fn modify_without_p_reads_two(rt: HostRuntime) -> Result<(), Fail> {
     changes(&rt, rt.alloc(), &in_sync, &course, &[6])
 }
 
-// All three reads are out when the parity is lost. The block and the other parity are written while its buffer is away.
+// All three reads are out when the parity is lost. The block and the other parity are written while its buffer is
+// away.
 #[test]
 fn modify_goes_on_without_a_lost_parity(rt: HostRuntime) -> Result<(), Fail> {
     for (lost, other) in [(6usize, 7usize), (7, 6)] {

@@ -45,3 +45,5 @@ mod settings;
 mod tables;
 #[cfg(test)]
 mod threads;
+#[cfg(test)]
+mod waiters;

@@ -85,7 +85,8 @@ fn run(
     Ok(late)
 }
 
-/// Whether the hold has ended and done its task: a read has its block, and a write changed all positions that aren't lost.
+/// Whether the hold has ended and done its task: a read has its block, and a write changed all positions that aren't
+/// lost.
 fn is_done(bench: &Bench, writes: bool, row: &[u8], lost: &[usize]) -> bool {
     bench.hold.outcome() == Some(Outcome::Done)
         && has_bytes(&bench.devices, row, lost)

@@ -9,8 +9,8 @@ use std::test::Fail;
 /// A full row of six positions: P is the sum of the data, and Q is 01 + x 02 + x^2 03 + x^3 04 = 01 + 04 + 0c + 20.
 const ROW: [u8; 6] = [0x01, 0x02, 0x03, 0x04, 0x04, 0x29];
 
-/// The rebuild of the target in the row, with ee on its device and dd on that of another position, which is out too, has to
-/// take this course. Then the row is full but at the position that is lost.
+/// The rebuild of the target in the row, with ee on its device and dd on that of another position, which is out too,
+/// has to take this course. Then the row is full but at the position that is lost.
 fn rebuilds<R: Abort>(
     rt: &R,
     alloc: Global,
@@ -56,8 +56,8 @@ fn end_of(target: usize, lost: usize) -> Outcome {
     }
 }
 
-// A position is lost after so many commands. A target that is lost is given up, and the others stay; else the row is full
-// but there.
+// A position is lost after so many commands. A target that is lost is given up, and the others stay; else the row is
+// full but there.
 #[test]
 fn a_position_lost_at_any_step_is_survived(rt: HostRuntime) -> Result<(), Fail> {
     for target in 0..6usize {
@@ -76,7 +76,8 @@ fn a_position_lost_at_any_step_is_survived(rt: HostRuntime) -> Result<(), Fail> 
     Ok(())
 }
 
-// Q is rebuilt. The reads of the data are out when the first is lost: P is read for it, and its buffer comes home last.
+// Q is rebuilt. The reads of the data are out when the first is lost: P is read for it, and its buffer comes home
+// last.
 #[test]
 fn a_read_that_is_lost_comes_late(rt: HostRuntime) -> Result<(), Fail> {
     let course = [

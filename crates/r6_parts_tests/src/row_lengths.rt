@@ -117,7 +117,8 @@ fn class_with_wrong(alloc: Global, len: usize, position: usize) -> Result<RowCla
     Ok(classify(&row))
 }
 
-/// The classes of a full row after a byte of the block at each position has changed, and, last, of a row of which none has.
+/// The classes of a full row after a byte of the block at each position has changed, and, last, of a row of which none
+/// has.
 const CLASSES: [RowClass; 7] = [
     RowClass::WrongData(0),
     RowClass::WrongData(1),

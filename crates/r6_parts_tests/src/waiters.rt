@@ -1,0 +1,182 @@
+//! Lines of numbers that wait.
+
+use r6_waiters::Waiters;
+use std::test::Fail;
+
+/// What is done to a line.
+#[derive(Clone, Copy)]
+enum Step {
+    /// An entry comes for a cause.
+    Push(usize, u32),
+    Oldest(usize),
+    Pop(usize),
+    PopAny,
+    /// The oldest of the first cause waits for the second.
+    MoveOldest(usize, usize),
+    /// All of the first cause wait for the second.
+    MoveAll(usize, usize),
+    Gather(usize),
+}
+
+/// The entry that came, was shown or went out; `Some(0)` for entries that were moved.
+fn answer(line: &mut Waiters<u32>, step: Step) -> Option<u32> {
+    match step {
+        Step::Push(cause, value) if cause < line.causes() => {
+            line.push(cause, value).ok()?;
+            Some(value)
+        }
+        Step::Oldest(cause) if cause < line.causes() => line.oldest(cause).copied(),
+        Step::Pop(cause) if cause < line.causes() => line.pop_oldest(cause),
+        Step::PopAny => line.pop_any(),
+        Step::MoveOldest(from, to) if from < line.causes() && to < line.causes() => {
+            if line.move_oldest(from, to) {
+                Some(0)
+            } else {
+                None
+            }
+        }
+        Step::MoveAll(from, to) if from < line.causes() && to < line.causes() => {
+            line.move_all(from, to);
+            Some(0)
+        }
+        Step::Gather(cause) if cause < line.causes() => {
+            line.gather(cause);
+            Some(0)
+        }
+        _ => None,
+    }
+}
+
+#[test]
+fn an_entry_that_moves_keeps_its_age(rt: HostRuntime) -> Result<(), Fail> {
+    let mut line = Waiters::with_capacity(rt.alloc(), 4, 3)?;
+    let steps = [
+        (Step::Push(0, 10), Some(10)),
+        (Step::Push(1, 11), Some(11)),
+        (Step::Push(0, 12), Some(12)),
+        (Step::Push(2, 13), Some(13)),
+        (Step::Push(1, 14), None),
+        (Step::Oldest(0), Some(10)),
+        (Step::MoveOldest(0, 1), Some(0)),
+        (Step::Oldest(0), Some(12)),
+        (Step::Pop(1), Some(10)),
+        (Step::Pop(1), Some(11)),
+        (Step::Pop(1), None),
+        (Step::MoveOldest(1, 0), None),
+        (Step::Push(1, 15), Some(15)),
+        (Step::MoveAll(2, 1), Some(0)),
+        (Step::MoveAll(0, 1), Some(0)),
+        (Step::Oldest(0), None),
+        (Step::Pop(1), Some(12)),
+        (Step::Pop(1), Some(13)),
+        (Step::Pop(1), Some(15)),
+    ];
+    for (step, answered) in steps {
+        assert_eq!(rt; answer(&mut line, step), answered);
+    }
+    assert_eq!(rt; (line.len(), line.capacity(), line.causes()), (0, 4, 3));
+    Ok(())
+}
+
+#[test]
+fn all_go_out_by_age_whatever_they_wait_for(rt: HostRuntime) -> Result<(), Fail> {
+    let mut line = Waiters::with_capacity(rt.alloc(), 4, 3)?;
+    let steps = [
+        (Step::PopAny, None),
+        (Step::Push(2, 5), Some(5)),
+        (Step::Push(0, 6), Some(6)),
+        (Step::Push(1, 7), Some(7)),
+        (Step::Push(2, 8), Some(8)),
+        (Step::PopAny, Some(5)),
+        (Step::PopAny, Some(6)),
+        (Step::Gather(0), Some(0)),
+        (Step::Pop(2), None),
+        (Step::Pop(0), Some(7)),
+        (Step::Pop(0), Some(8)),
+        (Step::PopAny, None),
+    ];
+    for (step, answered) in steps {
+        assert_eq!(rt; answer(&mut line, step), answered);
+    }
+    assert!(rt; line.is_empty() && line.oldest_cause().is_none());
+    Ok(())
+}
+
+/// Whether entries that come for cause 0 go out in their order, two behind the last, while others stay. In a line with
+/// room for four that is a sweep in every five rounds.
+fn is_passed_through(line: &mut Waiters<u32>) -> bool {
+    for round in 10..40_u32 {
+        let out = match round {
+            10 => 1,
+            11 => 3,
+            _ => round - 2,
+        };
+        if answer(line, Step::Push(0, round)) != Some(round)
+            || answer(line, Step::Pop(0)) != Some(out)
+        {
+            return false;
+        }
+    }
+    true
+}
+
+#[test]
+fn ages_stay_through_sweeps(rt: HostRuntime) -> Result<(), Fail> {
+    let mut line = Waiters::with_capacity(rt.alloc(), 4, 2)?;
+    for (step, answered) in [
+        (Step::Push(0, 1), Some(1)),
+        (Step::Push(1, 2), Some(2)),
+        (Step::Push(0, 3), Some(3)),
+    ] {
+        assert_eq!(rt; answer(&mut line, step), answered);
+    }
+    assert!(rt; is_passed_through(&mut line));
+    for (step, answered) in [
+        (Step::MoveOldest(1, 0), Some(0)),
+        (Step::Pop(0), Some(2)),
+        (Step::MoveAll(0, 1), Some(0)),
+        (Step::Pop(1), Some(38)),
+        (Step::Pop(1), Some(39)),
+        (Step::PopAny, None),
+    ] {
+        assert_eq!(rt; answer(&mut line, step), answered);
+    }
+    Ok(())
+}
+
+/// Whether that many entries come, for cause 0 and 1 by turns.
+fn have_come(line: &mut Waiters<u32>, first: u32, end: u32) -> bool {
+    for value in first..end {
+        if answer(line, Step::Push((value % 2) as usize, value)) != Some(value) {
+            return false;
+        }
+    }
+    true
+}
+
+/// Whether those entries go out of cause 1.
+fn have_gone(line: &mut Waiters<u32>, first: u32, end: u32) -> bool {
+    for value in first..end {
+        if answer(line, Step::Pop(1)) != Some(value) {
+            return false;
+        }
+    }
+    true
+}
+
+#[test]
+fn more_wait_than_a_word_has_bits(rt: HostRuntime) -> Result<(), Fail> {
+    let mut line = Waiters::with_capacity(rt.alloc(), 100, 2)?;
+    assert!(rt; have_come(&mut line, 0, 100));
+    assert_eq!(rt; answer(&mut line, Step::Push(0, 100)), None);
+    assert_eq!(rt; answer(&mut line, Step::MoveAll(0, 1)), Some(0));
+    assert!(rt; have_gone(&mut line, 0, 90));
+    assert!(rt; have_come(&mut line, 100, 190));
+    assert_eq!(rt; answer(&mut line, Step::MoveAll(0, 1)), Some(0));
+    assert!(rt; have_gone(&mut line, 90, 150));
+    assert!(rt; have_come(&mut line, 190, 250));
+    assert_eq!(rt; answer(&mut line, Step::Gather(1)), Some(0));
+    assert!(rt; have_gone(&mut line, 150, 250));
+    assert!(rt; line.is_empty());
+    Ok(())
+}

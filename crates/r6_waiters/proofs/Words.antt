@@ -1,0 +1,151 @@
+-- What a write of a word does to a set of positions.
+use Rattle.std.proofs.Common.{◌≡◌, inl, inr, ℕ, ◌+◌, ◌-◌, ◌*◌, ◌/◌, ◌%◌, ◌^◌, ◌<◌, ◌≤◌, Bool, true, false, max, bit_and, bit_or, w64, List, length, get_or, set, refl, sym, ap, ◌∙◌, arith}
+use Rattle.std.specs.Prelude.{◌==◌, ◌||◌, sum, if◌then◌else◌}
+use Rattle.std.specs.Int.{bit_at, trailing_zeros}
+use Rattle.std.proofs.lemmas.Bool.{cases_eq, cases_lt, eq-eqb, ne_eqb}
+use Rattle.std.proofs.lemmas.List.{get_or-set_same, get_or-set_other, get_or_past}
+use Rattle.std.proofs.lemmas.List.Sums.{sum_by-set}
+use Rattle.std.proofs.lemmas.Nat.{and_le_l}
+use Rattle.std.proofs.lemmas.Nat.Bits.{bit_at_or, bit_at-lt, bit_at-zero, bit_at_set_same, bit_at_set_other, bit_at_clear_same, bit_at_clear_other, bit_at-trailing_zeros}
+use Rattle.r6_waiters.specs.Positions.{has, HasNone, IsLowest}
+
+abbrev pub is_set : ℕ → ℕ → Bool
+is_set word i = bit_at word i == 1
+
+either_set : (a b : ℕ) → a < 2 → b < 2 → (max a b == 1) ≡ ((a == 1) || (b == 1))
+either_set a b h g = grind arith
+
+pub set-or : (a b i : ℕ) → is_set (bit_or a b) i ≡ (is_set a i || is_set b i)
+set-or a b i = ap (λ (n : ℕ). n == 1) (bit_at_or a b i) ∙ either_set (bit_at a i) (bit_at b i) (bit_at-lt a i) (bit_at-lt b i)
+
+-- the word with the bit, and without it
+pub set-with : (a k i : ℕ) → k < 64 → is_set (bit_or a (1 * 2 ^ k % 18446744073709551616)) i ≡ (if i == k then true else is_set a i)
+set-with a k i within =
+    elim (cases_eq i k) [
+      | inl same ↦ rw (eq-eqb i k same, same) (ap (λ (n : ℕ). n == 1) (bit_at_set_same w64 a k within))
+      | inr other ↦ rw (ne_eqb i k other) (ap (λ (n : ℕ). n == 1) (bit_at_set_other w64 a k within i other))
+    ]
+
+pub set-without : (a k i : ℕ) → k < 64 → i < 64 → is_set (bit_and a (18446744073709551615 - 1 * 2 ^ k % 18446744073709551616)) i ≡ (if i == k then false else is_set a i)
+set-without a k i within inside =
+    elim (cases_eq i k) [
+      | inl same ↦ rw (eq-eqb i k same, same) (ap (λ (n : ℕ). n == 1) (bit_at_clear_same w64 a k within))
+      | inr other ↦ rw (ne_eqb i k other) (ap (λ (n : ℕ). n == 1) (bit_at_clear_other w64 a k within i inside other))
+    ]
+
+-- of two positions of one word
+same_word : (q k : ℕ) → q / 64 ≡ k / 64 → (q % 64 == k % 64) ≡ (q == k)
+same_word q k same =
+    elim (cases_eq q k) [
+      | inl one ↦ ap (λ (n : ℕ). n % 64 == k % 64) one ∙ eq-eqb (k % 64) (k % 64) refl ∙ sym (eq-eqb q k one)
+      | inr two ↦ ne_eqb (q % 64) (k % 64) (λ e. two (omega arith)) ∙ sym (ne_eqb q k two)
+    ]
+
+other_word : (q k : ℕ) → (q / 64 ≡ k / 64 → ⊥) → (q == k) ≡ false
+other_word q k other = ne_eqb q k (λ e. other (ap (λ (n : ℕ). n / 64) e))
+
+-- another word at one place
+has-set : (words : List ℕ) (w word q : ℕ) → w < length words → q / 64 ≡ w → has (set words w word) q ≡ is_set word (q % 64)
+has-set words w word q within here = rw here (ap (λ (n : ℕ). is_set n (q % 64)) (get_or-set_same words w word 0 within))
+
+has-set_other : (words : List ℕ) (w word q : ℕ) → (q / 64 ≡ w → ⊥) → has (set words w word) q ≡ has words q
+has-set_other words w word q other = ap (λ (n : ℕ). is_set n (q % 64)) (get_or-set_other words w (q / 64) word 0 other)
+
+pub has-inserted : (words : List ℕ) (k old q : ℕ) → old ≡ get_or words (k / 64) 0 → k < 64 * length words
+    → has (set words (k / 64) (bit_or old (1 * 2 ^ (k % 64) % 18446744073709551616))) q ≡ (if q == k then true else has words q)
+has-inserted words k old q is within =
+    let word = bit_or old (1 * 2 ^ (k % 64) % 18446744073709551616) in
+    elim (cases_eq (q / 64) (k / 64)) [
+      | inl here ↦
+          has-set words (k / 64) word q (omega arith) here
+          ∙ set-with old (k % 64) (q % 64) (omega arith)
+          ∙ ap (λ (b : Bool). if b then true else is_set old (q % 64)) (same_word q k here)
+          ∙ ap (λ (n : ℕ). if q == k then true else is_set n (q % 64)) (is ∙ ap (λ (w : ℕ). get_or words w 0) (sym here))
+      | inr other ↦ has-set_other words (k / 64) word q other ∙ sym (ap (λ (b : Bool). if b then true else has words q) (other_word q k other))
+    ]
+
+pub has-removed : (words : List ℕ) (k old q : ℕ) → old ≡ get_or words (k / 64) 0 → k < 64 * length words
+    → has (set words (k / 64) (bit_and old (18446744073709551615 - 1 * 2 ^ (k % 64) % 18446744073709551616))) q ≡ (if q == k then false else has words q)
+has-removed words k old q is within =
+    let word = bit_and old (18446744073709551615 - 1 * 2 ^ (k % 64) % 18446744073709551616) in
+    elim (cases_eq (q / 64) (k / 64)) [
+      | inl here ↦
+          has-set words (k / 64) word q (omega arith) here
+          ∙ set-without old (k % 64) (q % 64) (omega arith) (omega arith)
+          ∙ ap (λ (b : Bool). if b then false else is_set old (q % 64)) (same_word q k here)
+          ∙ ap (λ (n : ℕ). if q == k then false else is_set n (q % 64)) (is ∙ ap (λ (w : ℕ). get_or words w 0) (sym here))
+      | inr other ↦ has-set_other words (k / 64) word q other ∙ sym (ap (λ (b : Bool). if b then false else has words q) (other_word q k other))
+    ]
+
+-- a position that is in the set is within its room
+pub has-within : (words : List ℕ) (k : ℕ) → has words k ≡ true → k < 64 * length words
+has-within words k there =
+    elim (cases_lt (k / 64) (length words)) [
+      | inl within ↦ omega arith
+      | inr past ↦
+          let none : has words k ≡ false = ap (λ (n : ℕ). is_set n (k % 64)) (get_or_past words (k / 64) 0 past) ∙ ap (λ (n : ℕ). n == 1) (bit_at-zero (k % 64)) in
+          absurd (cc)
+    ]
+
+-- without a bit that it has a word is less
+less : (a k : ℕ) → k < 64 → is_set a k ≡ true → bit_and a (18446744073709551615 - 1 * 2 ^ k % 18446744073709551616) < a
+less a k within there =
+    let most = and_le_l a (18446744073709551615 - 1 * 2 ^ k % 18446744073709551616) in
+    let gone = ap (λ (n : ℕ). n == 1) (bit_at_clear_same w64 a k within) in
+    elim (cases_eq (bit_and a (18446744073709551615 - 1 * 2 ^ k % 18446744073709551616)) a) [
+      | inl same ↦
+          let kept : is_set (bit_and a (18446744073709551615 - 1 * 2 ^ k % 18446744073709551616)) k ≡ true = ap (λ (n : ℕ). is_set n k) same ∙ there in
+          absurd (cc)
+      | inr other ↦ omega arith
+    ]
+
+pub sum-removed : (words : List ℕ) (k old : ℕ) → old ≡ get_or words (k / 64) 0 → has words k ≡ true
+    → sum (set words (k / 64) (bit_and old (18446744073709551615 - 1 * 2 ^ (k % 64) % 18446744073709551616))) < sum words
+sum-removed words k old is there =
+    let within = has-within words k there in
+    let word = bit_and old (18446744073709551615 - 1 * 2 ^ (k % 64) % 18446744073709551616) in
+    let set_there : is_set old (k % 64) ≡ true = ap (λ (n : ℕ). is_set n (k % 64)) is ∙ there in
+    let fewer = less old (k % 64) (omega arith) set_there in
+    let sums = sum_by-set (λ (n : ℕ). n) words (k / 64) word 0 (omega arith) in
+    omega (arith, fewer, sums, is)
+
+-- the lowest bit of the first word that is not 0
+pub lowest-found : (words : List ℕ) (w word : ℕ) → word ≡ get_or words w 0 → (word ≡ 0 → ⊥) → word < 2 ^ 64 → ((k : ℕ) → k < w → get_or words k 0 ≡ 0)
+    → IsLowest words (64 * w + trailing_zeros w64 word)
+lowest-found words w word is some small before =
+    let found = bit_at-trailing_zeros w64 word (omega arith) small in
+    let zeros = trailing_zeros w64 word in
+    let bound : zeros < 64 = found.0 in
+    let at_word : (64 * w + zeros) / 64 ≡ w = omega (arith, bound) in
+    let at_bit : (64 * w + zeros) % 64 ≡ zeros = omega (arith, bound) in
+    let here : has words (64 * w + zeros) ≡ true =
+    rw (at_word, at_bit) (ap (λ (n : ℕ). is_set n zeros) (sym is) ∙ ap (λ (n : ℕ). n == 1) found.1) in (
+      here,
+      λ lower below.
+          elim (cases_eq (lower / 64) w) [
+            | inl same ↦
+                ap (λ (v : ℕ). is_set (get_or words v 0) (lower % 64)) same
+                ∙ ap (λ (n : ℕ). is_set n (lower % 64)) (sym is)
+                ∙ ap (λ (n : ℕ). n == 1) (found.2 (lower % 64) (omega (arith, bound)))
+            | inr other ↦ ap (λ (n : ℕ). is_set n (lower % 64)) (before (lower / 64) (omega (arith, bound))) ∙ ap (λ (n : ℕ). n == 1) (bit_at-zero (lower % 64))
+          ],
+    )
+
+-- a set whose words are 0 is empty
+pub none-of_zeros : (words : List ℕ) → ((k : ℕ) → k < length words → get_or words k 0 ≡ 0) → HasNone words
+none-of_zeros words zeros position =
+    let word : get_or words (position / 64) 0 ≡ 0 =
+    elim (cases_lt (position / 64) (length words)) [ inl within ↦ zeros (position / 64) within | inr past ↦ get_or_past words (position / 64) 0 past ] in
+    ap (λ (n : ℕ). is_set n (position % 64)) word ∙ ap (λ (n : ℕ). n == 1) (bit_at-zero (position % 64))
+
+-- a set that took the words of another
+pub has-taken : (words more taken : List ℕ) (n : ℕ) → length words ≤ n → length more ≡ length words → length taken ≡ length words
+    → ((k : ℕ) → k < n → get_or taken k 0 ≡ bit_or (get_or words k 0) (get_or more k 0)) → (i : ℕ) → has taken i ≡ (has words i || has more i)
+has-taken words more taken n long other_as_long as_long each i =
+    elim (cases_lt (i / 64) (length words)) [
+      | inl within ↦ ap (λ (m : ℕ). is_set m (i % 64)) (each (i / 64) (omega arith)) ∙ set-or (get_or words (i / 64) 0) (get_or more (i / 64) 0) (i % 64)
+      | inr past ↦
+          let none : is_set 0 (i % 64) ≡ false = ap (λ (m : ℕ). m == 1) (bit_at-zero (i % 64)) in
+          let of = λ (l : List ℕ) (past : length l ≤ i / 64). ap (λ (m : ℕ). is_set m (i % 64)) (get_or_past l (i / 64) 0 past) ∙ none in
+          of taken (omega arith) ∙ sym (ap (λ (b : Bool). b || has more i) (of words past) ∙ of more (omega arith))
+    ]

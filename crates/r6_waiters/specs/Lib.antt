@@ -1,0 +1,4 @@
+pub mod Inside
+pub mod Line
+pub mod Positions
+pub mod Sets

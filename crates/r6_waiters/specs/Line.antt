@@ -1,0 +1,59 @@
+-- A line of entries that wait, as its callers see it (this project's own).
+use Rattle.std.specs.Prelude.{ℕ, ◌<◌, ◌==◌, List, [], ◌∷◌, Option, Some, None, if◌then◌else◌}
+
+-- the entries, the oldest first, each with the cause that it waits for
+abbrev pub Entries : Type 0 → Type 0
+Entries X = List (ℕ × X)
+
+-- how many entries it has room for, how many causes it knows, and the entries that wait
+abbrev pub Line : Type 0 → Type 0
+Line X = ℕ × (ℕ × Entries X)
+
+abbrev pub capacity_of : {X : Type 0} → Line X → ℕ
+capacity_of line = line.0
+
+abbrev pub causes_of : {X : Type 0} → Line X → ℕ
+causes_of line = line.1.0
+
+abbrev pub entries_of : {X : Type 0} → Line X → Entries X
+entries_of line = line.1.1
+
+-- the line with other entries
+abbrev pub with_entries : {X : Type 0} → Line X → Entries X → Line X
+with_entries line entries = (line.0, (line.1.0, entries))
+
+-- the value of the oldest entry that waits for the cause
+abbrev pub oldest_of : {X : Type 0} → ℕ → Entries X → Option X
+oldest_of cause [] = None
+oldest_of cause (entry ∷ entries) = if entry.0 == cause then Some entry.1 else oldest_of cause entries
+
+-- the entries but the oldest one that waits for the cause
+abbrev pub without_oldest : {X : Type 0} → ℕ → Entries X → Entries X
+without_oldest cause [] = []
+without_oldest cause (entry ∷ entries) = if entry.0 == cause then entries else entry ∷ without_oldest cause entries
+
+-- the oldest entry that waited for one cause waits for another, in its place
+abbrev pub oldest_moved : {X : Type 0} → ℕ → ℕ → Entries X → Entries X
+oldest_moved from to [] = []
+oldest_moved from to (entry ∷ entries) =
+    if entry.0 == from then (to, entry.1) ∷ entries else entry ∷ oldest_moved from to entries
+
+-- each entry that waited for one cause waits for another, in its place
+abbrev pub all_moved : {X : Type 0} → ℕ → ℕ → Entries X → Entries X
+all_moved from to [] = []
+all_moved from to (entry ∷ entries) = ((if entry.0 == from then to else entry.0), entry.1) ∷ all_moved from to entries
+
+-- every entry waits for the cause, in its place
+abbrev pub gathered : {X : Type 0} → ℕ → Entries X → Entries X
+gathered cause [] = []
+gathered cause (entry ∷ entries) = (cause, entry.1) ∷ gathered cause entries
+
+-- the oldest entry of all
+abbrev pub first_of : {X : Type 0} → Entries X → Option (ℕ × X)
+first_of [] = None
+first_of (entry ∷ entries) = Some entry
+
+-- each entry waits for a cause below this one
+abbrev pub AreBelow : {X : Type 0} → ℕ → Entries X → Type 0
+AreBelow causes [] = Unit {0}
+AreBelow causes (entry ∷ entries) = (entry.0 < causes) × AreBelow causes entries
