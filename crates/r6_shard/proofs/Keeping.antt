@@ -26,6 +26,8 @@ use Rattle.r6_core.specs.Effects.{TakesTurn}
 use Rattle.r6_course.specs.Courses.{Start, Stand, Mark, marked, looked_by}
 use Rattle.r6_course.specs.Steps.{IsPlainCall}
 use Rattle.r6_course.proofs.Ends.{loss_law}
+use Rattle.r6_world.specs.Counting.{passes}
+use Rattle.r6_shard.specs.Counted.{rows_of}
 use Rattle.r6_shard.specs.Kept.{NoneIsUntold, AreNamed, named_by, IsKept}
 use Rattle.r6_shard.proofs.Steps.{still-numbered, one-more, IsBeside, still-untaken, answered-untaken}
 
@@ -246,3 +248,12 @@ turned old task.Check Started new x = (steps.Turn_started Check, record {}, λ r
 turned old task.Check Skipped new x = (steps.Turn_skipped Check _, record {}, λ register. record {}, λ history. refl, λ looked. refl, x)
 turned old task.Repair Started new x = (steps.Turn_started Repair, record {}, λ register. record {}, λ history. refl, λ looked. refl, x)
 turned old task.Repair Skipped new x = (steps.Turn_skipped Repair _, record {}, λ register. record {}, λ history. refl, λ looked. refl, x)
+
+-- a turn passes what its task says
+pub turned-passes : (old : CoreView) (own : Task) (turn : Turn) (new : CoreView) (x : TakesTurn old own turn new) → passes (turned old own turn new x).0 ≡ rows_of own
+unfolding turned
+turned-passes old task.Rebuild turn new x = refl
+turned-passes old task.Check Started new x = refl
+turned-passes old task.Check Skipped new x = refl
+turned-passes old task.Repair Started new x = refl
+turned-passes old task.Repair Skipped new x = refl

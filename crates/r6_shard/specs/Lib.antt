@@ -6,6 +6,7 @@ pub mod Courses
 pub mod Beginnings
 pub mod Shards
 pub mod Handing
+pub mod Counted
 pub mod Refusing
 pub mod Runs
 pub mod Laws

@@ -20,6 +20,7 @@ impl<D: BlockDevice + Drop> Shard<Parts<D>> {
     ghost use Rattle.std.specs.Prelude.{◌≡◌};
     ghost use Rattle.r6_health.specs.Passes.{IsPassOf};
     ghost use Rattle.r6_shard.specs.Handing.{parts_tell};
+    ghost use Rattle.r6_shard.specs.Counted.{CountsAll, PassesNone};
     ghost use Rattle.r6_shard.specs.Refusing.{Lasts};
     ghost use Rattle.r6_shard.specs.Shards.{GoesOn, SameLedger};
 
@@ -29,6 +30,7 @@ impl<D: BlockDevice + Drop> Shard<Parts<D>> {
         ensures pass { IsPassOf register.now self.new.pass }
         ensures course { GoesOn (parts_tell D.told) self.old self.new }
         ensures lasts { Lasts self.old.core self.new.core }
+        ensures passed { PassesNone self.old.core self.new.core }
         ensures ledger { SameLedger self.old self.new }
     {
         let snapshot = self.read(rt, register);
@@ -46,6 +48,7 @@ impl<D: BlockDevice + Drop> Shard<Parts<D>> {
         ensures pass { IsPassOf register.now self.new.pass }
         ensures course { GoesOn (parts_tell D.told) self.old self.new }
         ensures lasts { Lasts self.old.core self.new.core }
+        ensures passed { CountsAll self.old.core self.new.core }
         ensures asked { self.new.asked.items ≡ self.old.asked.items }
         ensures room { self.new.room ≡ self.old.room }
     {

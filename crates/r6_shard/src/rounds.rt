@@ -11,6 +11,7 @@ impl<P: Performs + Drop> Shard<P> {
     ghost use Rattle.r6_health.specs.Passes.{IsPassOf};
     ghost use Rattle.r6_core.specs.Shards.{world_shard};
     ghost use Rattle.r6_shard.specs.Kept.{NoneIsOut};
+    ghost use Rattle.r6_shard.specs.Counted.{PassesNone};
     ghost use Rattle.r6_shard.specs.Refusing.{Lasts};
     ghost use Rattle.r6_shard.specs.Shards.{GoesOn, SameLedger, Rests};
 
@@ -18,6 +19,7 @@ impl<P: Performs + Drop> Shard<P> {
     pub(crate) fn perform_all<R: Wait>(&mut self, rt: &R)
         ensures course { GoesOn P.tells self.old self.new }
         ensures lasts { Lasts self.old.core self.new.core }
+        ensures passed { PassesNone self.old.core self.new.core }
         ensures ledger { SameLedger self.old self.new }
         ensures pass { self.new.pass ≡ self.old.pass }
         ensures none { NoneIsOut (world_shard self.new.core) }
@@ -35,6 +37,7 @@ impl<P: Performs + Drop> Shard<P> {
         ensures pass { IsPassOf register.now self.new.pass }
         ensures course { GoesOn P.tells self.old self.new }
         ensures lasts { Lasts self.old.core self.new.core }
+        ensures passed { PassesNone self.old.core self.new.core }
         ensures ledger { SameLedger self.old self.new }
     {
         for _ in rt.forever() {
@@ -48,6 +51,7 @@ impl<P: Performs + Drop> Shard<P> {
     pub(crate) fn collect_all<R: Wait>(&mut self, rt: &R)
         ensures course { GoesOn P.tells self.old self.new }
         ensures lasts { Lasts self.old.core self.new.core }
+        ensures passed { PassesNone self.old.core self.new.core }
         ensures asked { self.new.asked ≡ self.old.asked }
         ensures room { self.new.room ≡ self.old.room }
         ensures pass { self.new.pass ≡ self.old.pass }
@@ -65,6 +69,7 @@ impl<P: Performs + Drop> Shard<P> {
         ensures pass { IsPassOf register.now self.new.pass }
         ensures course { GoesOn P.tells self.old self.new }
         ensures lasts { Lasts self.old.core self.new.core }
+        ensures passed { PassesNone self.old.core self.new.core }
         ensures asked { self.new.asked.items ≡ self.old.asked.items }
         ensures room { self.new.room ≡ self.old.room }
     {
@@ -80,6 +85,7 @@ impl<P: Performs + Drop> Shard<P> {
         ensures pass { IsPassOf register.now self.new.pass }
         ensures course { GoesOn P.tells self.old self.new }
         ensures lasts { Lasts self.old.core self.new.core }
+        ensures passed { PassesNone self.old.core self.new.core }
         ensures ledger { SameLedger self.old self.new }
         ensures rests { result ≡ true → Rests self.new }
     {

@@ -108,6 +108,7 @@ impl<P: Performs + Drop> Shard<P> {
     ghost use Rattle.r6_core.specs.Effects.{RefusesOp, RefusesTurn};
     ghost use Rattle.r6_core.specs.Refusals.{HasSubmitFault, submit_faults, HasNone};
     ghost use Rattle.r6_shard.specs.Kept.{NoneIsOut, NoneIsToTell};
+    ghost use Rattle.r6_shard.specs.Counted.{HasPassedRows, PassesMore, PassesNone, rows_of};
     ghost use Rattle.r6_shard.specs.Shards.{GoesOn, SameLedger, Submits, Collects, Begins};
 
     /// A shard of the array as it begins, with room for so many requests.
@@ -132,6 +133,7 @@ impl<P: Performs + Drop> Shard<P> {
         requires unfailed { snapshot.now.failed ≡ false }
         requires pass { IsFirstPass place.geometry snapshot.now (view_of pass) }
         ensures begins { IfOk result (Begins P.tells place.geometry place.number snapshot.now) }
+        ensures passed { IfOk result (λ shard. HasPassedRows false 0 0 shard.core) }
         ensures parts { IfOk result (λ shard. shard.parts ≡ parts) }
         ensures pass { IfOk result (λ shard. shard.pass ≡ pass) }
         ensures empty { IfOk result (λ shard. shard.asked.items ≡ []) }
@@ -180,6 +182,7 @@ impl<P: Performs + Drop> Shard<P> {
         ensures refused { IfErr result (λ r. RefusesOp self.old.core op r.refusal r.back self.new.core) }
         ensures same { IfErr result (λ _. self.new ≡ self.old) }
         ensures lasts { Lasts self.old.core self.new.core }
+        ensures passed { PassesNone self.old.core self.new.core }
     {
         let block = op.block();
         let answered = self.entries.len();
@@ -200,6 +203,7 @@ impl<P: Performs + Drop> Shard<P> {
     pub fn perform_next(&mut self) -> bool
         ensures course { GoesOn P.tells self.old self.new }
         ensures lasts { Lasts self.old.core self.new.core }
+        ensures passed { PassesNone self.old.core self.new.core }
         ensures ledger { SameLedger self.old self.new }
         ensures pass { self.new.pass ≡ self.old.pass }
         ensures none { result ≡ false → NoneIsOut (world_shard self.new.core) }
@@ -224,6 +228,7 @@ impl<P: Performs + Drop> Shard<P> {
         ensures pass { IsPassOf register.now self.new.pass }
         ensures course { GoesOn P.tells self.old self.new }
         ensures lasts { Lasts self.old.core self.new.core }
+        ensures passed { PassesNone self.old.core self.new.core }
         ensures ledger { SameLedger self.old self.new }
     {
         let snapshot = self.read(rt, register);
@@ -247,6 +252,7 @@ impl<P: Performs + Drop> Shard<P> {
         requires { snapshot.now ≡ held (view_of self.old.pass).start (view_of self.old.pass).seen }
         ensures course { GoesOn P.tells self.old self.new }
         ensures lasts { Lasts self.old.core self.new.core }
+        ensures passed { PassesNone self.old.core self.new.core }
         ensures ledger { SameLedger self.old self.new }
         ensures pass { self.new.pass ≡ self.old.pass }
     {
@@ -260,6 +266,7 @@ impl<P: Performs + Drop> Shard<P> {
         ensures pass { IsPassOf register.now self.new.pass }
         ensures course { GoesOn P.tells self.old self.new }
         ensures lasts { Lasts self.old.core self.new.core }
+        ensures passed { PassesNone self.old.core self.new.core }
         ensures ledger { SameLedger self.old self.new }
         ensures none { result ≡ false → (world_shard self.new.core ≡ world_shard self.old.core)
             × NoneIsToTell (world_shard self.new.core) }
@@ -278,6 +285,7 @@ impl<P: Performs + Drop> Shard<P> {
     pub fn collect(&mut self) -> bool
         ensures course { GoesOn P.tells self.old self.new }
         ensures lasts { Lasts self.old.core self.new.core }
+        ensures passed { PassesNone self.old.core self.new.core }
         ensures ledger { Collects result self.old self.new }
         ensures asked { self.new.asked ≡ self.old.asked }
         ensures room { self.new.room ≡ self.old.room }
@@ -303,6 +311,7 @@ impl<P: Performs + Drop> Shard<P> {
     pub fn turn(&mut self, task: Task) -> Result<Turn, Refusal>
         ensures course { GoesOn P.tells self.old self.new }
         ensures lasts { Lasts self.old.core self.new.core }
+        ensures passed { IfOk result (λ _. PassesMore (rows_of task) self.old.core self.new.core) }
         ensures ledger { SameLedger self.old self.new }
         ensures pass { self.new.pass ≡ self.old.pass }
         ensures refused { IfErr result (λ refusal. RefusesTurn self.old.core task refusal self.new.core) }

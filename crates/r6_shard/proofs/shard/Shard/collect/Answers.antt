@@ -1,4 +1,4 @@
-use Rattle.std.proofs.Common.{◌<◌, length, sym, ap, subst, ◌∙◌}
+use Rattle.std.proofs.Common.{◌<◌, length, sym, ap, subst, ◌∙◌, refl}
 use Rattle.std.proofs.lemmas.List.{get_or-map}
 use Rattle.r6_health.specs.Passes.{view_of}
 use Rattle.r6_world.specs.Steps.{No_reply, Take_reply}
@@ -6,6 +6,7 @@ use Rattle.r6_core.specs.Shards.{reply_of}
 use Rattle.r6_shard.specs.declared.ledger.Asked.{Asked}
 use Rattle.r6_shard.specs.declared.ledger.Entry.{Entry}
 use Rattle.r6_shard.specs.Courses.{HasCourse}
+use Rattle.r6_shard.proofs.Counting.{passes-none}
 use Rattle.r6_shard.proofs.Keeping.{kept-plainly}
 use Rattle.r6_shard.proofs.Lasting.{lasts_by}
 use Rattle.r6_shard.proofs.Going.{has-collected}
@@ -44,3 +45,10 @@ returns-in_default-clause-lasts g c = lasts_by c.args.self.now.core No_reply c.t
 pub returns-clause-lasts : goal.returns-clause-lasts
 returns-clause-lasts g c =
     lasts_by c.args.self.now.core (Take_reply c.in-Some.id.0 (reply_of c.in-Some.reply)) c.take_reply.new.self c.in-Some.ensures.reply.step
+
+pub returns-in_default-clause-passed : goal.returns-in_default-clause-passed
+returns-in_default-clause-passed g c = passes-none c.args.self.now.core No_reply c.take_reply.new.self refl c.in_default.ensures.reply.step
+
+pub returns-clause-passed : goal.returns-clause-passed
+returns-clause-passed g c =
+    passes-none c.args.self.now.core (Take_reply c.in-Some.id.0 (reply_of c.in-Some.reply)) c.take_reply.new.self refl c.in-Some.ensures.reply.step

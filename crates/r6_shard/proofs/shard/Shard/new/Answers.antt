@@ -3,6 +3,7 @@ use Rattle.r6_health.specs.Passes.{view_of}
 use Rattle.r6_shard.specs.Beginnings.{start_of}
 use Rattle.r6_shard.specs.Courses.{HasCourse}
 use Rattle.r6_shard.proofs.Beginnings.{begun}
+use Rattle.r6_shard.proofs.Counting.{none-passed}
 use Rattle.r6_shard.proofs.shard.Shard.new.Goals as goal
 
 pub returns-clause-begins : goal.returns-clause-begins
@@ -16,3 +17,6 @@ returns-clause-begins g c = λ device array lawful hold.
     subst (λ y. HasCourse s core v 0 part y c.in_ok-entries.entries.items []) (sym c.in_ok-asked.ensures.items)
     (subst (λ y. HasCourse s core v 0 part [] y []) (sym c.in_ok-entries.ensures.items)
     (begun place.geometry place.number snapshot device array core v part c.requires.limits c.requires.number lawful hold c.in-Ok.ensures.made c.requires.pass))
+
+pub returns-clause-passed : goal.returns-clause-passed
+returns-clause-passed g c = none-passed c.args.place.geometry c.args.snapshot.now c.args.place.number c.in-Ok.core c.in-Ok.ensures.made

@@ -1,5 +1,6 @@
 use Rattle.std.proofs.Common.{◌≡◌}
 use Rattle.r6_shard.specs.Shards.{GoesOn, SameLedger}
+use Rattle.r6_shard.specs.Counted.{PassesNone}
 use Rattle.r6_shard.specs.Refusing.{Lasts}
 use Rattle.r6_shard.proofs.shard.Shard.perform_all.Given as goal
 
@@ -8,6 +9,7 @@ invariant-loop g l =
     (goal.iterator-loop g).can_next l.iterator' × (goal.iterator-loop g).is_finite l.iterator' × record {
       course : GoesOn g.P.Performs.tells l.fn.self l.self;
       lasts : Lasts l.fn.self.core l.self.core;
+      passed : PassesNone l.fn.self.core l.self.core;
       ledger : SameLedger l.fn.self l.self;
       pass : l.self.pass ≡ l.fn.self.pass;
     }

@@ -1,9 +1,10 @@
-use Rattle.std.proofs.Common.{◌<◌, length, sym, subst, arith}
+use Rattle.std.proofs.Common.{◌<◌, length, sym, subst, arith, refl}
 use Rattle.r6_world.specs.Steps.{No_command, Take_command, Deliver}
 use Rattle.r6_frames.specs.Views.{world_command}
 use Rattle.r6_core.specs.Shards.{core_layout, world_shard, completion_of, receipt_of}
 use Rattle.r6_health.specs.Passes.{view_of}
 use Rattle.r6_shard.specs.Kept.{IsKept}
+use Rattle.r6_shard.proofs.Counting.{passes-none}
 use Rattle.r6_shard.proofs.Steps.{none-out}
 use Rattle.r6_shard.proofs.Keeping.{kept-plainly, kept-performing}
 use Rattle.r6_shard.proofs.Courses.{not-refused}
@@ -61,3 +62,14 @@ returns-clause-lasts g c =
     lasts_twice c.args.self.now.core (Take_command command.token (world_command t.0 t.1 command)) c.take_command.new.self
     (Deliver command.token (completion_of c.perform-completion.result) (receipt_of c.in-Ok.receipt)) c.deliver.new.self t.2
     c.in-Ok.ensures.received.step
+
+pub returns-in_default-clause-passed : goal.returns-in_default-clause-passed
+returns-in_default-clause-passed g c = passes-none c.args.self.now.core No_command c.take_command.new.self refl c.in_default.ensures.step
+
+pub returns-clause-passed : goal.returns-clause-passed
+returns-clause-passed g c = λ stopped counted rows x.
+    let command = c.in-Some.command in
+    let t = c.in-Some.ensures.step in
+    passes-none c.take_command.new.self (Deliver command.token (completion_of c.perform-completion.result) (receipt_of c.in-Ok.receipt)) c.deliver.new.self refl
+    c.in-Ok.ensures.received.step stopped counted rows
+    (passes-none c.args.self.now.core (Take_command command.token (world_command t.0 t.1 command)) c.take_command.new.self refl t.2 stopped counted rows x)

@@ -4,7 +4,9 @@ use Rattle.r6_core.specs.Shards.{CoreView, world_shard}
 use Rattle.r6_core.specs.Effects.{HasTaskFault, RefusesTurn}
 use Rattle.r6_core.specs.Refusals.{IsFirstFault, turn_faults}
 use Rattle.r6_shard.specs.Kept.{NoneIsOut, NoneIsToTell}
-use Rattle.r6_shard.proofs.Going.{refused_of}
+use Rattle.r6_shard.specs.Counted.{HasPassedRows, PassesMore, rows_of}
+use Rattle.r6_shard.proofs.Counting.{none-more, passes-same}
+use Rattle.r6_shard.proofs.Going.{either_way, refused_of}
 use Rattle.r6_shard.proofs.shard.Shard.rests.Goals as goal
 
 pub returns-clause-rests : goal.returns-clause-rests
@@ -28,3 +30,16 @@ returns-clause-rests g c = λ e.
       refusal = refused.0;
       none_to_rebuild = subst (λ (y : CoreView). IsFirstFault (HasTaskFault y task.Rebuild) turn_faults refused.0) (sym refused.1.same) refused.1.fault;
     }
+
+pub returns-then-tell_next-clause-passed : goal.returns-then-tell_next-clause-passed
+returns-then-tell_next-clause-passed g c = λ stopped counted rows x. c.tell_next.ensures.passed stopped counted rows (c.perform_next.ensures.passed stopped counted rows x)
+
+pub returns-clause-passed : goal.returns-clause-passed
+returns-clause-passed g c = λ stopped counted rows x.
+    let told = c.tell_next.new.self.core in
+    let new = c.turn.new.self.core in
+    let before = c.tell_next.ensures.passed stopped counted rows (c.perform_next.ensures.passed stopped counted rows x) in
+    either_way c.turn.result (λ _. PassesMore (rows_of task.Rebuild) told new) (λ refusal. RefusesTurn told task.Rebuild refusal new)
+    (HasPassedRows stopped counted rows new) c.turn.ensures.passed c.turn.ensures.refused
+    (λ _ more. none-more told new more stopped counted rows before)
+    (λ refusal refused. passes-same told new refused.same stopped counted rows before)

@@ -5,6 +5,8 @@ use Rattle.r6_core.specs.Shards.{CoreView}
 use Rattle.r6_core.specs.Effects.{LooksAt, RefusesLook}
 use Rattle.r6_shard.specs.Kept.{IsKept}
 use Rattle.r6_shard.specs.Courses.{HasCourse}
+use Rattle.r6_shard.specs.Counted.{PassesNone}
+use Rattle.r6_shard.proofs.Counting.{passes-none, passes-same}
 use Rattle.r6_shard.proofs.Keeping.{kept-plainly}
 use Rattle.r6_shard.specs.Refusing.{Lasts}
 use Rattle.r6_shard.proofs.Lasting.{lasts_by, lasts_same}
@@ -61,3 +63,13 @@ returns-clause-lasts g c =
     c.look.ensures.looked c.look.ensures.refused
     (λ _ looked. lasts_by old (Look snapshot) new looked.step)
     (λ refusal refused. lasts_same old new refused.same)
+
+pub returns-clause-passed : goal.returns-clause-passed
+returns-clause-passed g c =
+    let old = c.args.self.now.core in
+    let new = c.look.new.self in
+    let snapshot = c.args.snapshot.now in
+    either_way c.look.result (λ _. LooksAt old snapshot new) (λ refusal. RefusesLook old refusal new) (PassesNone old new)
+    c.look.ensures.looked c.look.ensures.refused
+    (λ _ looked. passes-none old (Look snapshot) new refl looked.step)
+    (λ refusal refused. passes-same old new refused.same)

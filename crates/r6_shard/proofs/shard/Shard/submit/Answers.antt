@@ -7,6 +7,7 @@ use Rattle.r6_world.specs.Steps.{Submit}
 use Rattle.r6_core.specs.Shards.{CoreView, core_layout, world_shard}
 use Rattle.r6_shard.specs.Kept.{IsKept}
 use Rattle.r6_shard.specs.Courses.{HasCourse}
+use Rattle.r6_shard.proofs.Counting.{passes-none, passes-same}
 use Rattle.r6_shard.proofs.Steps.{one-more}
 use Rattle.r6_shard.proofs.Keeping.{kept-submitting}
 use Rattle.r6_shard.proofs.Going.{has-submitted}
@@ -66,3 +67,10 @@ returns-in-Ok-clause-lasts g c =
 
 pub returns-in-Err-clause-lasts : goal.returns-in-Err-clause-lasts
 returns-in-Err-clause-lasts g c = lasts_same c.args.self.now.core c.submit.new.self c.in-Err.ensures.refused.same
+
+pub returns-in-Ok-clause-passed : goal.returns-in-Ok-clause-passed
+returns-in-Ok-clause-passed g c =
+    passes-none c.args.self.now.core (Submit (op_of c.args.op) c.in-Ok.id.0) c.submit.new.self refl c.in-Ok.ensures.accepted.step
+
+pub returns-in-Err-clause-passed : goal.returns-in-Err-clause-passed
+returns-in-Err-clause-passed g c = passes-same c.args.self.now.core c.submit.new.self c.in-Err.ensures.refused.same

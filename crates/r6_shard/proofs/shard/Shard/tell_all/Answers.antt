@@ -1,5 +1,7 @@
-use Rattle.std.proofs.Common.{sym, subst}
+use Rattle.std.proofs.Common.{◌∙◌, sym, subst}
+use Rattle.r6_shard.specs.Counted.{HasPassedRows}
 use Rattle.r6_shard.specs.Shards.{CourseOf}
+use Rattle.r6_shard.proofs.Lasting.{lasts_on}
 use Rattle.r6_shard.proofs.shard.Shard.tell_all.Goals as goal
 use Rattle.r6_shard.proofs.shard.Shard.tell_all.Goals.{in-None, in-Some+then-not-tell_next}
 
@@ -10,4 +12,31 @@ returns-clause-course g c = λ s ops x.
     elim c.match-next.branch [
       | in-None w ↦ subst (CourseOf tells s ops) (sym w.self-is) before
       | in-Some+then-not-tell_next w ↦ subst (CourseOf tells s ops) (sym w.self-is) (w.tell_next.ensures.course s ops before)
+    ]
+
+pub loop-preserved : goal.loop-preserved
+loop-preserved g c =
+    let before = c.loop.invariant.2 in
+    let now = c.tell_next.ensures in (
+      tt,
+      tt,
+      record {
+        pass = now.pass;
+        course = λ s ops x. now.course s ops (before.course s ops x);
+        lasts = lasts_on c.args.self.now.core c.loop.self.core c.tell_next.new.self.core before.lasts now.lasts;
+        passed = λ stopped counted rows x. now.passed stopped counted rows (before.passed stopped counted rows x);
+        ledger = record {
+          asked = now.ledger.asked ∙ before.ledger.asked;
+          entries = now.ledger.entries ∙ before.ledger.entries;
+          room = now.ledger.room ∙ before.ledger.room;
+        };
+      },
+    )
+
+pub returns-clause-passed : goal.returns-clause-passed
+returns-clause-passed g c = λ stopped counted rows x.
+    let before = c.loop.invariant.2.passed stopped counted rows x in
+    elim c.match-next.branch [
+      | in-None w ↦ subst (λ s. HasPassedRows stopped counted rows s.core) (sym w.self-is) before
+      | in-Some+then-not-tell_next w ↦ subst (λ s. HasPassedRows stopped counted rows s.core) (sym w.self-is) (w.tell_next.ensures.passed stopped counted rows before)
     ]

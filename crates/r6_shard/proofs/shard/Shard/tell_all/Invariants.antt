@@ -1,5 +1,6 @@
 use Rattle.r6_health.specs.Passes.{IsPassOf}
 use Rattle.r6_shard.specs.Shards.{GoesOn, SameLedger}
+use Rattle.r6_shard.specs.Counted.{PassesNone}
 use Rattle.r6_shard.specs.Refusing.{Lasts}
 use Rattle.r6_shard.proofs.shard.Shard.tell_all.Given as goal
 
@@ -9,5 +10,6 @@ invariant-loop g l =
       pass : IsPassOf l.register l.self.pass;
       course : GoesOn g.P.Performs.tells l.fn.self l.self;
       lasts : Lasts l.fn.self.core l.self.core;
+      passed : PassesNone l.fn.self.core l.self.core;
       ledger : SameLedger l.fn.self l.self;
     }

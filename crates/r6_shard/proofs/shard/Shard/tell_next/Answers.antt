@@ -1,10 +1,11 @@
-use Rattle.std.proofs.Common.{length, ap}
+use Rattle.std.proofs.Common.{length, ap, refl}
 use Rattle.r6_world.specs.ShardStates.{Shard}
 use Rattle.r6_core.specs.Effects.{Hears, RefusesAnswer}
 use Rattle.r6_shard.specs.Kept.{IsKept}
 use Rattle.r6_health.specs.Passes.{view_of}
 use Rattle.r6_world.specs.Steps.{No_call, Take_call, Told}
 use Rattle.r6_core.specs.Shards.{call_of}
+use Rattle.r6_shard.proofs.Counting.{passes-none}
 use Rattle.r6_shard.proofs.Keeping.{kept-plainly, kept-telling}
 use Rattle.r6_shard.proofs.Lasting.{lasts_by, lasts_twice}
 use Rattle.r6_shard.proofs.Going.{has-told, either_way}
@@ -43,3 +44,12 @@ returns-clause-lasts g c =
     let call = call_of c.in-Some.call in
     lasts_twice c.args.self.now.core (Take_call call) c.take_call.new.self (Told call c.make-answer.result) c.told.new.self
     c.in-Some.ensures.step c.in-Ok.ensures.heard.step
+
+pub returns-in_default-clause-passed : goal.returns-in_default-clause-passed
+returns-in_default-clause-passed g c = passes-none c.args.self.now.core No_call c.take_call.new.self refl c.in_default.ensures.step
+
+pub returns-clause-passed : goal.returns-clause-passed
+returns-clause-passed g c = λ stopped counted rows x.
+    let call = call_of c.in-Some.call in
+    passes-none c.take_call.new.self (Told call c.make-answer.result) c.told.new.self refl c.in-Ok.ensures.heard.step stopped counted rows
+    (passes-none c.args.self.now.core (Take_call call) c.take_call.new.self refl c.in-Some.ensures.step stopped counted rows x)

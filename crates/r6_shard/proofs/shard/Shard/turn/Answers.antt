@@ -1,10 +1,14 @@
-use Rattle.std.proofs.Common.{◌≡◌, ◌+◌, length, sym, ap, subst, ◌∙◌}
+use Rattle.std.proofs.Common.{◌≡◌, ◌+◌, length, sym, ap, subst, ◌∙◌, Ok, Err}
+use Rattle.std.specs.Prelude.{IfOk}
 use Rattle.r6_health.specs.Passes.{view_of}
 use Rattle.r6_health.specs.Histories.{held}
 use Rattle.r6_core.specs.Shards.{CoreView}
 use Rattle.r6_core.specs.Effects.{Turns, RefusesTurn}
 use Rattle.r6_shard.specs.Kept.{IsKept}
 use Rattle.r6_shard.specs.Courses.{HasCourse}
+use Rattle.r6_core.specs.declared.turn.Turn.{Turn}
+use Rattle.r6_shard.specs.Counted.{PassesMore, rows_of}
+use Rattle.r6_shard.proofs.Counting.{passes-turned}
 use Rattle.r6_shard.proofs.Keeping.{kept-plainly, turned}
 use Rattle.r6_shard.specs.Refusing.{Lasts}
 use Rattle.r6_shard.proofs.Lasting.{lasts_turned, lasts_same}
@@ -57,3 +61,14 @@ returns-clause-lasts g c =
     c.turn.ensures.turned c.turn.ensures.refused
     (λ turn t. lasts_turned old task turn new t.taken)
     (λ refusal refused. lasts_same old new refused.same)
+
+pub returns-clause-passed : goal.returns-clause-passed
+returns-clause-passed g c =
+    let old = c.args.self.now.core in
+    let new = c.turn.new.self in
+    let task = c.args.task in
+    let more = λ (turn : Turn) (t : Turns old task turn new). passes-turned old task turn new t.taken in
+    elim c.turn.result as (λ r. IfOk r (λ turn. Turns old task turn new) → IfOk r (λ _. PassesMore (rows_of task) old new)) [
+      | Ok turn ↦ λ t. more turn t
+      | Err refusal ↦ λ t. t
+    ] c.turn.ensures.turned

@@ -1,0 +1,29 @@
+use Rattle.std.proofs.Common.{◌∙◌, sym, subst}
+use Rattle.r6_shard.specs.Counted.{HasPassedRows}
+use Rattle.r6_shard.proofs.Lasting.{lasts_on}
+use Rattle.r6_shard.proofs.shard.Shard.collect_all.Goals as goal
+use Rattle.r6_shard.proofs.shard.Shard.collect_all.Goals.{in-None, in-Some+then-not-collect}
+
+pub loop-preserved : goal.loop-preserved
+loop-preserved g c =
+    let before = c.loop.invariant.2 in
+    let now = c.collect.ensures in (
+      tt,
+      tt,
+      record {
+        course = λ s ops x. now.course s ops (before.course s ops x);
+        lasts = lasts_on c.args.self.now.core c.loop.self.core c.collect.new.self.core before.lasts now.lasts;
+        passed = λ stopped counted rows x. now.passed stopped counted rows (before.passed stopped counted rows x);
+        asked = now.asked ∙ before.asked;
+        room = now.room ∙ before.room;
+        pass = now.pass ∙ before.pass;
+      },
+    )
+
+pub returns-clause-passed : goal.returns-clause-passed
+returns-clause-passed g c = λ stopped counted rows x.
+    let before = c.loop.invariant.2.passed stopped counted rows x in
+    elim c.match-next.branch [
+      | in-None w ↦ subst (λ s. HasPassedRows stopped counted rows s.core) (sym w.self-is) before
+      | in-Some+then-not-collect w ↦ subst (λ s. HasPassedRows stopped counted rows s.core) (sym w.self-is) (w.collect.ensures.passed stopped counted rows before)
+    ]
