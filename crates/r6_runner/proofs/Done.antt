@@ -384,6 +384,7 @@ shard-on told a b c x y =
         passed = y.kept.passed ∙ x.kept.passed;
         handed = y.kept.handed ∙ x.kept.handed;
         room = y.kept.room ∙ x.kept.room;
+        rows = y.kept.rows ∙ x.kept.rows;
       };
     }
 

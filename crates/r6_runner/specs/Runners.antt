@@ -102,6 +102,7 @@ pub record IsPut {D : Type 0} (due : Due) (old new : Runner D) : Type 0 where
   pub passed : new.passed.items ≡ old.passed.items
   pub handed : new.handed.items ≡ old.handed.items
   pub room : new.room ≡ old.room
+  pub rows : new.rows ≡ old.rows
 
 abbrev pub IsPartTaken : {D : Type 0} → (taken : Bool) → (D → Telling) → Part D → (old new : Shard (Parts D)) → Type 0
 IsPartTaken {D = D} true told part old new = (earlier : Option (Part D)) × HandsIn told part earlier old new
@@ -119,6 +120,7 @@ pub record IsHandedIn {D : Type 0} (told : D → Telling) (event : ℕ) (part : 
   pub passing : new.passing ≡ old.passing
   pub passed : new.passed.items ≡ old.passed.items
   pub room : new.room ≡ old.room
+  pub rows : new.rows ≡ old.rows
 
 -- what is neither the shard's nor of its requests stays as it is
 pub record KeepsTasks {D : Type 0} (old new : Runner D) : Type 0 where
@@ -127,6 +129,7 @@ pub record KeepsTasks {D : Type 0} (old new : Runner D) : Type 0 where
   pub passed : new.passed.items ≡ old.passed.items
   pub handed : new.handed.items ≡ old.handed.items
   pub room : new.room ≡ old.room
+  pub rows : new.rows ≡ old.rows
 
 -- a request was handed in: it was accepted, or it stands among the refused
 abbrev pub IsOutcome : {D : Type 0} → (D → Telling) → (event : ℕ) → Op → (shard shard' : Shard (Parts D))
@@ -151,6 +154,7 @@ pub record IsPassing {D : Type 0} (event : ℕ) (task : Pass) (old new : Runner 
   pub passed : new.passed.items ≡ old.passed.items
   pub handed : new.handed.items ≡ old.handed.items
   pub room : new.room ≡ old.room
+  pub rows : new.rows ≡ old.rows
 
 -- the shard went on by itself
 pub record ShardGoesOn {D : Type 0} (told : D → Telling) (old new : Runner D) : Type 0 where

@@ -1,6 +1,8 @@
 //! What is due is begun.
 
 ghost use Rattle.std.specs.Prelude.{◌≡◌, ◌<◌, true, None};
+ghost use Rattle.r6_shard.specs.Counted.{rows_of};
+ghost use Rattle.r6_runner.specs.Counted.{StaysCounted};
 ghost use Rattle.r6_runner.specs.Runners.{GoesOnSame, IsServed, IsPassing, KeepsSelf, taken_by};
 
 use crate::due::{Due, Duty};
@@ -17,7 +19,8 @@ impl<D: BlockDevice + Drop> Runner<D> {
     // A request is handed in.
     fn hand_over(&mut self, event: u64, op: Op)
         requires { taken_by self.old < self.old.room }
-        ensures { IsServed D.told event op self.old self.new }
+        ensures served { IsServed D.told event op self.old self.new }
+        ensures counted { StaysCounted self.old self.new }
     {
         if let Err(refused) = self.shard.submit(event, op) {
             self.refused.push_reserved((event, refused.refusal));
@@ -28,12 +31,15 @@ impl<D: BlockDevice + Drop> Runner<D> {
     fn begin_pass(&mut self, event: u64, task: Task)
         requires room { taken_by self.old < self.old.room }
         requires none { self.old.passing ≡ None }
-        ensures { IsPassing event task self.old self.new }
+        requires task { rows_of task ≡ 1 }
+        ensures begun { IsPassing event task self.old self.new }
+        ensures counted { StaysCounted self.old self.new }
     {
         self.passing = Some(Passing {
             event,
             task,
             left: self.rows,
+            given_up: false,
             before: self.shard.core.counts(),
         });
     }
@@ -59,6 +65,7 @@ impl<D: BlockDevice + Drop> Runner<D> {
     // Begins what is due next, if it may begin; whether it did.
     fn begin_next(&mut self) -> bool
         ensures course { GoesOnSame D.told self.old self.new }
+        ensures counted { StaysCounted self.old self.new }
         ensures same { KeepsSelf self.old self.new }
         ensures count { taken_by self.new ≡ taken_by self.old }
     {
@@ -81,6 +88,7 @@ impl<D: BlockDevice + Drop> Runner<D> {
     // Begins all that may begin.
     pub(crate) fn begin_all<R: Wait>(&mut self, rt: &R)
         ensures course { GoesOnSame D.told self.old self.new }
+        ensures counted { StaysCounted self.old self.new }
         ensures same { KeepsSelf self.old self.new }
         ensures count { taken_by self.new ≡ taken_by self.old }
     {

@@ -5,6 +5,7 @@ ghost use Rattle.r6_layout.specs.Shape.{IsShape};
 ghost use Rattle.r6_health.specs.Passes.{view_of};
 ghost use Rattle.r6_shard.specs.Beginnings.{IsFirstPass};
 ghost use Rattle.r6_shard.specs.Handing.{parts_tell};
+ghost use Rattle.r6_runner.specs.Counted.{HasCounted, rows_of_shard};
 ghost use Rattle.r6_runner.specs.Runners.{HasDone, taken_by};
 
 use crate::runner::Runner;
@@ -36,6 +37,7 @@ impl<D: BlockDevice + Drop> Runner<D> {
         ensures begins { IfOk result (λ runner. (shape : _) (events : _)
             → HasDone D.told shape events place.geometry place.number snapshot.now (parts_tell D.told parts)
             [] runner) }
+        ensures counted { IfOk result (λ runner. HasCounted (rows_of_shard place.geometry place.number) runner) }
         ensures pass { IfOk result (λ runner. runner.shard.pass ≡ pass) }
         ensures room { IfOk result (λ runner. (runner.room ≡ room) × (taken_by runner ≡ 0)) }
     {

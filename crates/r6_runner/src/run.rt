@@ -3,6 +3,7 @@
 ghost use Rattle.std.specs.Prelude.{◌≡◌, ◌≤◌, [], length, true, false};
 ghost use Rattle.r6_health.specs.Passes.{IsPassOf};
 ghost use Rattle.r6_lists.specs.Events.{tasks_of};
+ghost use Rattle.r6_runner.specs.Counted.{AreCounted, CountsAll, HasCounted, KeepsCounted};
 ghost use Rattle.r6_runner.specs.Runners.{GoesOn, GoesOnSame, IsOver, KeepsSelf, taken_by};
 
 use crate::rest::Rest;
@@ -29,6 +30,7 @@ impl<D: BlockDevice + Drop> Runner<D> {
         requires { IsPassOf register.now self.old.shard.pass }
         ensures pass { IsPassOf register.now self.new.shard.pass }
         ensures course { GoesOnSame D.told self.old self.new }
+        ensures counted { KeepsCounted self.old self.new }
         ensures count { taken_by self.new ≡ taken_by self.old }
         ensures room { self.new.room ≡ self.old.room }
         ensures over { result ≡ true → IsOver self.new }
@@ -44,6 +46,7 @@ impl<D: BlockDevice + Drop> Runner<D> {
         requires { IsPassOf register.now self.old.shard.pass }
         ensures pass { IsPassOf register.now self.new.shard.pass }
         ensures course { GoesOnSame D.told self.old self.new }
+        ensures counted { CountsAll self.old self.new }
         ensures count { taken_by self.new ≡ taken_by self.old }
         ensures room { self.new.room ≡ self.old.room }
     {
@@ -54,6 +57,7 @@ impl<D: BlockDevice + Drop> Runner<D> {
     fn rebuild(&mut self)
         ensures pass { self.new.shard.pass ≡ self.old.shard.pass }
         ensures course { GoesOnSame D.told self.old self.new }
+        ensures counted { KeepsCounted self.old self.new }
         ensures count { taken_by self.new ≡ taken_by self.old }
         ensures room { self.new.room ≡ self.old.room }
     {
@@ -66,6 +70,7 @@ impl<D: BlockDevice + Drop> Runner<D> {
         requires { IsPassOf register.now self.old.shard.pass }
         ensures pass { IsPassOf register.now self.new.shard.pass }
         ensures course { GoesOnSame D.told self.old self.new }
+        ensures counted { KeepsCounted self.old self.new }
         ensures count { taken_by self.new ≡ taken_by self.old }
         ensures room { self.new.room ≡ self.old.room }
     {
@@ -80,6 +85,7 @@ impl<D: BlockDevice + Drop> Runner<D> {
         requires { IsPassOf register.now self.old.shard.pass }
         ensures pass { IsPassOf register.now self.new.shard.pass }
         ensures course { GoesOnSame D.told self.old self.new }
+        ensures counted { KeepsCounted self.old self.new }
         ensures count { taken_by self.new ≡ taken_by self.old }
         ensures room { self.new.room ≡ self.old.room }
         ensures over { result ≡ true → IsOver self.new }
@@ -104,6 +110,7 @@ impl<L: Events, D: BlockDevice + Drop> Taking<L, D> {
         requires { self.old.consumer.finished ≡ false }
         ensures course { GoesOn D.told L.shape L.events self.old.consumer.shard self.old.consumer.numbers.items
             self.new.consumer.numbers.items self.old.runner self.new.runner }
+        ensures counted { KeepsCounted self.old.runner self.new.runner }
         ensures same { KeepsSelf self.old.runner self.new.runner }
         ensures shard { self.new.consumer.shard ≡ self.old.consumer.shard }
         ensures open { self.new.consumer.finished ≡ false }
@@ -120,6 +127,7 @@ impl<L: Events, D: BlockDevice + Drop> Taking<L, D> {
         requires { self.old.consumer.finished ≡ false }
         ensures course { GoesOn D.told L.shape L.events self.old.consumer.shard self.old.consumer.numbers.items
             self.new.consumer.numbers.items self.old.runner self.new.runner }
+        ensures counted { KeepsCounted self.old.runner self.new.runner }
         ensures same { KeepsSelf self.old.runner self.new.runner }
         ensures shard { self.new.consumer.shard ≡ self.old.consumer.shard }
     {
@@ -134,6 +142,7 @@ impl<L: Events, D: BlockDevice + Drop> Taking<L, D> {
     fn take_in<R: Wait>(&mut self, rt: &R, list: &Mutex<List<L, D>>)
         ensures course { GoesOn D.told L.shape L.events self.old.consumer.shard self.old.consumer.numbers.items
             self.new.consumer.numbers.items self.old.runner self.new.runner }
+        ensures counted { KeepsCounted self.old.runner self.new.runner }
         ensures same { KeepsSelf self.old.runner self.new.runner }
         ensures shard { self.new.consumer.shard ≡ self.old.consumer.shard }
     {
@@ -170,6 +179,7 @@ impl<L: Events, D: BlockDevice + Drop> Taking<L, D> {
         ensures pass { IsPassOf register.now self.new.runner.shard.pass }
         ensures course { GoesOn D.told L.shape L.events self.old.consumer.shard self.old.consumer.numbers.items
             self.new.consumer.numbers.items self.old.runner self.new.runner }
+        ensures counted { KeepsCounted self.old.runner self.new.runner }
         ensures shard { self.new.consumer.shard ≡ self.old.consumer.shard }
         ensures over { result ≡ true → IsOver self.new.runner × (self.new.consumer.finished ≡ true) }
     {
@@ -195,6 +205,8 @@ impl<L: Events, D: BlockDevice + Drop> Taking<L, D> {
         ensures pass { IsPassOf register.now self.new.runner.shard.pass }
         ensures course { GoesOn D.told L.shape L.events self.old.consumer.shard self.old.consumer.numbers.items
             self.new.consumer.numbers.items self.old.runner self.new.runner }
+        ensures counted { (rows : _) → HasCounted rows self.old.runner
+            → AreCounted rows self.new.runner.shard.core self.new.runner.passed.items }
         ensures shard { self.new.consumer.shard ≡ self.old.consumer.shard }
         ensures finished { self.new.consumer.finished ≡ true }
         ensures over { IsOver self.new.runner }

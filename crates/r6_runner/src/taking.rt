@@ -1,6 +1,7 @@
 //! What came by the list is taken up.
 
 ghost use Rattle.std.specs.Prelude.{◌≡◌, ◌+◌, ◌<◌, ◌++◌, ◌∷◌, []};
+ghost use Rattle.r6_runner.specs.Counted.{KeepsCounted};
 ghost use Rattle.r6_runner.specs.Runners.{GoesOn, IsPut, IsHandedIn, KeepsSelf, taken_by};
 
 use crate::due::{Due, Duty};
@@ -50,6 +51,7 @@ impl<D: BlockDevice + Drop> Runner<D> {
         requires { taken_by self.old < self.old.room }
         ensures course { (numbers : _) → GoesOn D.told L.shape L.events item.shard numbers
             (numbers ++ item.number ∷ []) self.old self.new }
+        ensures counted { KeepsCounted self.old self.new }
         ensures same { KeepsSelf self.old self.new }
         ensures count { taken_by self.new ≡ taken_by self.old + 1 }
     {

@@ -1,4 +1,5 @@
 use Rattle.std.proofs.Common.{sym, subst}
+use Rattle.r6_runner.specs.Counted.{HasCounted}
 use Rattle.r6_runner.specs.Runners.{HasDone, IsOver}
 use Rattle.r6_runner.specs.declared.runner.Runner.{Runner}
 use Rattle.r6_runner.proofs.run.Taking.go_on.Goals as goal
@@ -25,3 +26,10 @@ returns-clause-course g c = λ geometry snapshot before x.
 pub returns-clause-over : goal.returns-clause-over
 returns-clause-over g c = λ e.
     (subst (λ (y : Runner _). IsOver y) (sym c.is_finished.ensures.runner) (c.go_round.ensures.over c.if-not-go_round.false), c.is_finished.ensures.finished e)
+
+pub returns-then-not-go_round-clause-counted : goal.returns-then-not-go_round-clause-counted
+returns-then-not-go_round-clause-counted g c = λ rows x. c.go_round.ensures.counted rows (c.take_in.ensures.counted rows x)
+
+pub returns-clause-counted : goal.returns-clause-counted
+returns-clause-counted g c = λ rows x.
+    subst (HasCounted rows) (sym c.is_finished.ensures.runner) (c.go_round.ensures.counted rows (c.take_in.ensures.counted rows x))

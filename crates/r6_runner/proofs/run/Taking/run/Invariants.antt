@@ -1,5 +1,6 @@
 use Rattle.std.proofs.Common.{◌≡◌}
 use Rattle.r6_health.specs.Passes.{IsPassOf}
+use Rattle.r6_runner.specs.Counted.{KeepsCounted}
 use Rattle.r6_runner.specs.Runners.{GoesOn}
 use Rattle.r6_runner.proofs.run.Taking.run.Given as goal
 
@@ -9,5 +10,6 @@ invariant-loop g l =
       pass : IsPassOf l.register l.self.runner.shard.pass;
       course : GoesOn g.D.BlockDevice.told g.L.Events.shape g.L.Events.events l.fn.self.consumer.shard l.fn.self.consumer.numbers.items
           l.self.consumer.numbers.items l.fn.self.runner l.self.runner;
+      counted : KeepsCounted l.fn.self.runner l.self.runner;
       shard : l.self.consumer.shard ≡ l.fn.self.consumer.shard;
     }

@@ -1,4 +1,5 @@
 use Rattle.std.proofs.Common.{◌≡◌, false}
+use Rattle.r6_runner.specs.Counted.{KeepsCounted}
 use Rattle.r6_runner.specs.Runners.{GoesOn, KeepsSelf}
 use Rattle.r6_runner.proofs.run.Taking.take_all.Given as goal
 
@@ -7,6 +8,7 @@ invariant-loop g l =
     (goal.iterator-loop g).can_next l.iterator' × (goal.iterator-loop g).is_finite l.iterator' × record {
       course : GoesOn g.D.BlockDevice.told g.L.Events.shape g.L.Events.events l.fn.self.consumer.shard l.fn.self.consumer.numbers.items
           l.self.consumer.numbers.items l.fn.self.runner l.self.runner;
+      counted : KeepsCounted l.fn.self.runner l.self.runner;
       same : KeepsSelf l.fn.self.runner l.self.runner;
       shard : l.self.consumer.shard ≡ l.fn.self.consumer.shard;
       open_yet : l.self.consumer.finished ≡ false;

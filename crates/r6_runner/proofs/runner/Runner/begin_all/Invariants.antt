@@ -1,4 +1,5 @@
 use Rattle.std.proofs.Common.{◌≡◌}
+use Rattle.r6_runner.specs.Counted.{StaysCounted}
 use Rattle.r6_runner.specs.Runners.{GoesOnSame, KeepsSelf, taken_by}
 use Rattle.r6_runner.proofs.runner.Runner.begin_all.Given as goal
 
@@ -6,6 +7,7 @@ abbrev pub invariant-loop : goal.invariant-loop
 invariant-loop g l =
     (goal.iterator-loop g).can_next l.iterator' × (goal.iterator-loop g).is_finite l.iterator' × record {
       course : GoesOnSame g.D.BlockDevice.told l.fn.self l.self;
+      counted : StaysCounted l.fn.self l.self;
       same : KeepsSelf l.fn.self l.self;
       count : taken_by l.self ≡ taken_by l.fn.self;
     }

@@ -4,3 +4,6 @@ pub returns-clause-course : goal.returns-clause-course
 returns-clause-course g c = λ shape events number numbers geometry snapshot before x.
     c.rests.ensures.course shape events number numbers geometry snapshot before
     (c.advance.ensures.course shape events number numbers geometry snapshot before x)
+
+pub returns-clause-counted : goal.returns-clause-counted
+returns-clause-counted g c = λ rows x. c.rests.ensures.counted rows (c.advance.ensures.counted rows x)

@@ -1,4 +1,5 @@
 use Rattle.r6_runner.proofs.Done.{has-gone}
+use Rattle.r6_runner.proofs.Counting.{counts-all}
 use Rattle.r6_runner.proofs.runner.Runner.round.Goals as goal
 
 pub returns-clause-course : goal.returns-clause-course
@@ -6,3 +7,9 @@ returns-clause-course g c = λ shape events number numbers geometry snapshot bef
     let old = c.args.self.now in
     has-gone g.D.BlockDevice.told shape events geometry number snapshot before numbers old.shard c.round_when_here.new.self old.refused.items old.passing
     old.passed.items old.handed.items old.due.items c.round_when_here.ensures.course c.round_when_here.ensures.asked x
+
+pub returns-clause-counted : goal.returns-clause-counted
+returns-clause-counted g c =
+    let old = c.args.self.now in
+    counts-all old.rows old.shard.core c.round_when_here.new.self.core old.passing old.passed.items c.round_when_here.ensures.passed
+    c.round_when_here.ensures.lasts

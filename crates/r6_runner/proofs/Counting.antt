@@ -1,0 +1,273 @@
+-- What the counts of checks and repairs add up to, as their shard goes on.
+use Rattle.std.proofs.Common.{◌≡◌, ℕ, ◌+◌, ◌≤◌, ◌⊎◌, List, [], ◌∷◌, ◌++◌, All, Bool, true, false, inl, inr, refl, sym, ap, subst, ◌∙◌, arith, Option, Some, None}
+use Rattle.std.proofs.lemmas.Bool.{false≢true}
+use Rattle.std.proofs.lemmas.List.Elements.{All-push}
+use Rattle.r6_world.specs.ShardStates as world
+use Rattle.r6_world.specs.Counting.{checks_held}
+use Rattle.r6_world.proofs.Laws.Passing.{call_counts_law}
+use Rattle.r6_core.specs.declared.counts.Counts.{Counts}
+use Rattle.r6_core.specs.declared.refusal.Refusal.{Refusal}
+use Rattle.r6_core.specs.declared.refusal.Refusal.TheVariants.{ArrayFailed, Exhausted}
+use Rattle.r6_core.specs.declared.turn.Task.{Task}
+use Rattle.r6_core.specs.declared.turn.Task.TheVariants as task
+use Rattle.r6_core.specs.Refusals.{IsFirstFault, turn_faults}
+use Rattle.r6_core.specs.Effects.{HasTaskFault, RefusesTurn}
+use Rattle.r6_core.specs.Shards.{CoreView, core_layout, counts_of, world_shard}
+use Rattle.r6_shard.specs.Kept.{NoneIsOut}
+use Rattle.r6_shard.specs.Counted.{HasPassedRows, IsInService, PassesNone, counted_in, rows_of}
+use Rattle.r6_shard.specs.Counted as shards
+use Rattle.r6_shard.specs.Refusing.{IsEnding, Lasts}
+use Rattle.r6_shard.proofs.Counting.{was-in-service}
+use Rattle.r6_runner.specs.declared.pass.Passing.{Passing}
+use Rattle.r6_runner.specs.declared.pass.Passed.{Passed}
+use Rattle.r6_runner.specs.declared.runner.Runner.{Runner}
+use Rattle.r6_runner.specs.Counted.{AddUp, AreCounted, HasCounted, HasTurned, IsCounting, IsUsedUp, IsWhole, StandsAt, rows_in}
+
+-- ---- a shard goes on
+
+-- in service it was so before, and what was used up is so yet
+record Carries (old new : CoreView) : Type 0 where
+  pub service : IsInService new → IsInService old
+  pub used : IsInService new → IsUsedUp old → IsUsedUp new
+
+used-on : (old new : CoreView) → Lasts old new → counted_in old ≤ counted_in new → IsUsedUp old → IsUsedUp new
+used-on old new lasts later used = elim used [
+  | inl many ↦ inl (let tokens = lasts.tokens in omega (arith, many, tokens))
+  | inr many ↦ inr (omega (arith, many, later))
+]
+
+-- rows that are counted now are counted then
+counted-now : (counted rows : ℕ) (core : CoreView) → HasPassedRows false counted rows core → HasPassedRows false (counted_in core) rows core
+counted-now counted rows core x = record { shard = x.shard; least = λ live. omega arith; out = x.out }
+
+carries-by : (counted gone gone' : ℕ) (old new : CoreView)
+    → ((stopped : Bool) (counted : ℕ) → HasPassedRows stopped counted gone old → HasPassedRows stopped counted gone' new)
+    → Lasts old new → HasPassedRows false counted gone old → Carries old new
+carries-by counted gone gone' old new passes lasts x = record {
+  service = was-in-service counted counted gone gone' old new (passes true counted) x;
+  used = λ live. used-on old new lasts ((passes false (counted_in old) (counted-now counted gone old x)).least live);
+}
+
+-- all that was gone over is counted, in service
+pub all-counted : (gone : ℕ) (core : CoreView) → HasPassedRows false gone gone core → IsInService core → counted_in core ≡ gone
+all-counted gone core x live =
+    let least = x.least live in
+    let most : counted_in core + checks_held (world_shard core) ≡ gone = x.shard.2 live in
+    omega (arith, least, most)
+
+carries-all : (counted gone : ℕ) (old new : CoreView) → shards.CountsAll old new → Lasts old new → HasPassedRows false counted gone old
+    → Carries old new
+carries-all counted gone old new counts lasts x =
+    let service = was-in-service counted gone gone gone old new (counts true counted gone) x in
+    record {
+      service = service;
+      used = λ live.
+          let most : counted_in old + checks_held (world_shard old) ≡ gone = x.shard.2 (service live) in
+          let least = (counts false counted gone x).least live in
+          used-on old new lasts (omega (arith, most, least));
+    }
+
+stands-on : (rows gone : ℕ) (old new : CoreView) → Carries old new → IsInService new → (passed : List Passed) (passing : Option Passing)
+    → StandsAt rows gone old passed passing → StandsAt rows gone new passed passing
+stands-on rows gone old new c live passed None x = x
+stands-on rows gone old new c live passed (Some p) x =
+    (x.0, record { one = x.1.one; left = x.1.left; ended = λ e. c.used live (x.1.ended e) })
+
+whole-on : (old new : CoreView) → Carries old new → IsInService new → (passed : List Passed) → All (IsWhole old) passed → All (IsWhole new) passed
+whole-on old new c live passed x k d below = elim (x k d below) [
+  | inl none ↦ inl none
+  | inr used ↦ inr (c.used live used)
+]
+
+counting-on : (rows counted counted' gone : ℕ) (old new : CoreView) (passing : Option Passing) (passed : List Passed) → Carries old new
+    → HasPassedRows false counted' gone new → IsCounting rows counted gone old passing passed → IsCounting rows counted' gone new passing passed
+counting-on rows counted counted' gone old new passing passed c now x = record {
+  passes = now;
+  stands = λ live. stands-on rows gone old new c live passed passing (x.stands (c.service live));
+  whole = λ live. whole-on old new c live passed (x.whole (c.service live));
+}
+
+counting-none : (rows counted gone : ℕ) (old new : CoreView) (passing : Option Passing) (passed : List Passed) → PassesNone old new → Lasts old new
+    → IsCounting rows counted gone old passing passed → IsCounting rows counted gone new passing passed
+counting-none rows counted gone old new passing passed passes lasts x =
+    counting-on rows counted counted gone old new passing passed
+    (carries-by counted gone gone old new (λ stopped counted. passes stopped counted gone) lasts x.passes)
+    (passes false counted gone x.passes) x
+
+-- ---- as calls do it, which keep how many rows the shard has
+
+abbrev Counted : (rows own : ℕ) → CoreView → Option Passing → List Passed → Type 0
+Counted rows own core passing passed = (own ≡ rows) × (counted gone : ℕ) × IsCounting rows counted gone core passing passed
+
+abbrev CountedAll : (rows own : ℕ) → CoreView → Option Passing → List Passed → Type 0
+CountedAll rows own core passing passed = (own ≡ rows) × (gone : ℕ) × IsCounting rows gone gone core passing passed
+
+-- a call that goes over no row
+pub keeps-counted : (own : ℕ) (old new : CoreView) (passing : Option Passing) (passed : List Passed) → PassesNone old new → Lasts old new
+    → (rows : ℕ) → Counted rows own old passing passed → Counted rows own new passing passed
+keeps-counted own old new passing passed passes lasts rows x =
+    (x.0, x.1, x.2, counting-none rows x.1 x.2 old new passing passed passes lasts x.3)
+
+pub stays-counted : (own : ℕ) (old new : CoreView) (passing : Option Passing) (passed : List Passed) → PassesNone old new → Lasts old new
+    → (rows : ℕ) → CountedAll rows own old passing passed → CountedAll rows own new passing passed
+stays-counted own old new passing passed passes lasts rows x =
+    (x.0, x.1, counting-none rows x.1 x.1 old new passing passed passes lasts x.2)
+
+-- a call that counts all that was gone over
+pub counts-all : (own : ℕ) (old new : CoreView) (passing : Option Passing) (passed : List Passed) → shards.CountsAll old new → Lasts old new
+    → (rows : ℕ) → Counted rows own old passing passed → CountedAll rows own new passing passed
+counts-all own old new passing passed counts lasts rows x = (
+  x.0,
+  x.2,
+  counting-on rows x.1 x.2 x.2 old new passing passed (carries-all x.1 x.2 old new counts lasts x.3.passes) (counts false x.1 x.2 x.3.passes) x.3,
+)
+
+-- ---- a check or repair
+
+pub rows-counted : (k : Counts) (core : CoreView) → counts_of k ≡ (world_shard core).counts → rows_in k ≡ counted_in core
+rows-counted k core same =
+    ap (λ (c : world.Counts). c.consistent + c.wrong_p + c.wrong_q + c.wrong_data + c.many + c.skipped) same
+
+-- it begins
+pub counting-begun : (rows gone : ℕ) (core : CoreView) (passed : List Passed) (p : Passing) → rows_of p.task ≡ 1 → p.left ≡ rows → p.given_up ≡ false
+    → counts_of p.before ≡ (world_shard core).counts → IsCounting rows gone gone core None passed → IsCounting rows gone gone core (Some p) passed
+counting-begun rows gone core passed p one left going before x = record {
+  passes = x.passes;
+  stands = λ live.
+      let at : rows_in p.before ≡ gone = rows-counted p.before core before ∙ all-counted gone core x.passes live in (
+        subst (AddUp rows 0 passed) (sym at) (x.stands live),
+        record { one = one; left = omega (arith, at, left); ended = λ e. absurd (false≢true (sym going ∙ e)) },
+      );
+  whole = x.whole;
+}
+
+-- it goes on
+pub counting-turned : (rows counted gone : ℕ) (p q : Passing) (old new : CoreView) (passed : List Passed) (t : HasTurned p q old new)
+    → IsCounting rows counted gone old (Some p) passed → IsCounting rows counted (gone + t.more) new (Some q) passed
+counting-turned rows counted gone p q old new passed t x =
+    let c = carries-by counted gone (gone + t.more) old new (λ stopped counted. t.passes stopped counted gone) t.lasts x.passes in
+    record {
+      passes = t.passes false counted gone x.passes;
+      stands = λ live.
+          let was = x.stands (c.service live) in
+          let before : rows_in q.before ≡ rows_in p.before = ap rows_in t.before in
+          let less = t.left was.1.one in
+          let left = was.1.left in (
+            subst (AddUp rows 0 passed) (sym before) was.0,
+            record {
+              one = ap rows_of t.task ∙ was.1.one;
+              left = omega (arith, before, less, left);
+              ended = λ e. t.ended e live;
+            },
+          );
+      whole = λ live. whole-on old new c live passed (x.whole (c.service live));
+    }
+
+add-up-more : (rows from to : ℕ) (passed : List Passed) (p : Passed) → AddUp rows from passed to → rows_in p.before ≡ to
+    → rows_in p.after + p.left_out ≡ rows_in p.before + rows → AddUp rows from (passed ++ p ∷ []) (rows_in p.after)
+add-up-more rows from to [] p x before adds = (before ∙ x, adds, refl)
+add-up-more rows from to (first ∷ passed) p x before adds = (x.0, x.1, add-up-more rows (rows_in first.after) to passed p x.2 before adds)
+
+-- it is over
+pub counting-over : (rows gone : ℕ) (core : CoreView) (passed : List Passed) (p : Passing) (q : Passed) → (p.left ≡ 0) ⊎ (p.given_up ≡ true)
+    → q.before ≡ p.before → q.left_out ≡ p.left → counts_of q.after ≡ (world_shard core).counts
+    → IsCounting rows gone gone core (Some p) passed → IsCounting rows gone gone core None (passed ++ q ∷ [])
+counting-over rows gone core passed p q over same left now x = record {
+  passes = x.passes;
+  stands = λ live.
+      let was = x.stands live in
+      let after : rows_in q.after ≡ gone = rows-counted q.after core now ∙ all-counted gone core x.passes live in
+      let before : rows_in q.before ≡ rows_in p.before = ap rows_in same in
+      let yet = was.1.left in
+      subst (AddUp rows 0 (passed ++ q ∷ [])) after
+      (add-up-more rows 0 (rows_in p.before) passed q was.0 before (omega (arith, after, before, left, yet)));
+  whole = λ live. All-push (IsWhole core) passed q (x.whole live) (elim over [
+    | inl none ↦ inl (left ∙ none)
+    | inr given ↦ inr ((x.stands live).1.ended given)
+  ]);
+}
+
+-- ---- a run
+
+pub counting-first : (rows : ℕ) (core : CoreView) → HasPassedRows false 0 0 core → IsCounting rows 0 0 core None []
+counting-first rows core x = record {
+  passes = x;
+  stands = λ live. refl;
+  whole = λ live k d below. absurd (omega (arith, below));
+}
+
+-- all is over
+pub counted-at-end : {D : Type 0} (rows : ℕ) (runner : Runner D) → runner.passing ≡ None → NoneIsOut (world_shard runner.shard.core)
+    → HasCounted rows runner → AreCounted rows runner.shard.core runner.passed.items
+counted-at-end rows runner none home x live =
+    let core = runner.shard.core in
+    let passed = runner.passed.items in
+    let all : counted_in core ≡ x.2 = call_counts_law.2 (core_layout core) core.shard x.2 (world_shard core) x.3.passes.shard home live in (
+      subst (AddUp rows 0 passed) (sym all) (subst (StandsAt rows x.2 core passed) none (x.3.stands live)),
+      x.3.whole live,
+    )
+
+-- ---- as calls of the runner do it
+
+pub begun-counted : (own : ℕ) (core : CoreView) (before : Option Passing) (passed : List Passed) (p : Passing) → before ≡ None → rows_of p.task ≡ 1
+    → p.left ≡ own → p.given_up ≡ false → counts_of p.before ≡ (world_shard core).counts
+    → (rows : ℕ) → CountedAll rows own core before passed → CountedAll rows own core (Some p) passed
+begun-counted own core before passed p is one left going counts rows x = (
+  x.0,
+  x.1,
+  counting-begun rows x.1 core passed p one (left ∙ x.0) going counts (subst (λ o. IsCounting rows x.1 x.1 core o passed) is x.2),
+)
+
+pub over-counted : (own : ℕ) (core : CoreView) (some : Option Passing) (passed passed' : List Passed) (p : Passing) (q : Passed) → some ≡ Some p
+    → (p.left ≡ 0) ⊎ (p.given_up ≡ true) → passed' ≡ passed ++ q ∷ [] → q.before ≡ p.before → q.left_out ≡ p.left
+    → counts_of q.after ≡ (world_shard core).counts
+    → (rows : ℕ) → CountedAll rows own core some passed → Counted rows own core None passed'
+over-counted own core some passed passed' p q is over more before left after rows x = (
+  x.0,
+  x.1,
+  x.1,
+  subst (IsCounting rows x.1 x.1 core None) (sym more)
+      (counting-over rows x.1 core passed p q over before left after (subst (λ o. IsCounting rows x.1 x.1 core o passed) is x.2)),
+)
+
+pub turned-counted : (own own' : ℕ) (old new : CoreView) (some : Option Passing) (passed passed' : List Passed) (p q : Passing) → some ≡ Some p
+    → own' ≡ own → passed' ≡ passed → HasTurned p q old new
+    → (rows : ℕ) → CountedAll rows own old some passed → Counted rows own' new (Some q) passed'
+turned-counted own own' old new some passed passed' p q is same kept t rows x = (
+  same ∙ x.0,
+  x.1,
+  x.1 + t.more,
+  subst (IsCounting rows x.1 (x.1 + t.more) new (Some q)) (sym kept)
+      (counting-turned rows x.1 x.1 p q old new passed t (subst (λ o. IsCounting rows x.1 x.1 old o passed) is x.2)),
+)
+
+-- ---- a turn that is refused
+
+failed : (core : CoreView) (task : Task) → HasTaskFault core task ArrayFailed → (world_shard core).saw_failed ≡ true
+failed core task.Rebuild fault = fault
+failed core task.Check fault = fault
+failed core task.Repair fault = fault
+
+used-up : (core : CoreView) (task : Task) → HasTaskFault core task Exhausted → IsUsedUp core
+used-up core task.Rebuild fault = inl fault
+used-up core task.Check fault = elim fault [ inl many ↦ inl many | inr many ↦ inr (omega (arith, many)) ]
+used-up core task.Repair fault = elim fault [ inl many ↦ inl many | inr many ↦ inr (omega (arith, many)) ]
+
+-- in service it is refused for good only once the shard is used up
+pub gives-up : (core : CoreView) (task : Task) (refusal : Refusal) → IsFirstFault (HasTaskFault core task) turn_faults refusal → IsEnding refusal
+    → IsInService core → IsUsedUp core
+gives-up core task refusal fault ending live = elim fault [
+  | inl first ↦ absurd (false≢true (sym live.1 ∙ failed core task first.1))
+  | inr other ↦ elim other.1 [
+    | inl second ↦ used-up core task second.1
+    | inr third ↦ elim third.1 [
+      | inl nothing ↦ absurd (subst IsEnding nothing.0 ending)
+      | inr fourth ↦ elim fourth.1 [ inl none ↦ absurd (subst IsEnding none.0 ending) | inr last ↦ absurd last.1 ]
+    ]
+  ]
+]
+
+pub refused-core : (old new : CoreView) (task : Task) (refusal : Refusal) → RefusesTurn old task refusal new → IsEnding refusal → IsInService new
+    → IsUsedUp new
+refused-core old new task refusal refused ending live =
+    subst IsUsedUp (sym refused.same) (gives-up old task refusal refused.fault ending (subst IsInService refused.same live))

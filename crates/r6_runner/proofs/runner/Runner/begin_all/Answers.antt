@@ -1,0 +1,29 @@
+use Rattle.std.proofs.Common.{sym, subst, ◌∙◌}
+use Rattle.r6_runner.specs.Counted.{HasCountedAll}
+use Rattle.r6_runner.proofs.Done.{self-on}
+use Rattle.r6_runner.proofs.runner.Runner.begin_all.Goals as goal
+use Rattle.r6_runner.proofs.runner.Runner.begin_all.Goals.{in-None, in-Some+then-not-begin_next}
+
+pub returns-clause-counted : goal.returns-clause-counted
+returns-clause-counted g c = λ rows x.
+    let before = c.loop.invariant.2.counted rows x in
+    elim c.match-next.branch [
+      | in-None w ↦ subst (HasCountedAll rows) (sym w.self-is) before
+      | in-Some+then-not-begin_next w ↦ subst (HasCountedAll rows) (sym w.self-is) (w.begin_next.ensures.counted rows before)
+    ]
+
+pub loop-preserved : goal.loop-preserved
+loop-preserved g c =
+    let before = c.loop.invariant.2 in
+    let now = c.begin_next.ensures in (
+      tt,
+      tt,
+      record {
+        course = λ shape events number numbers geometry snapshot earlier x.
+            now.course shape events number numbers geometry snapshot earlier
+            (before.course shape events number numbers geometry snapshot earlier x);
+        counted = λ rows x. now.counted rows (before.counted rows x);
+        same = self-on c.args.self.now c.loop.self c.begin_next.new.self before.same now.same;
+        count = now.count ∙ before.count;
+      },
+    )
