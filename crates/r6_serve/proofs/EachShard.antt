@@ -1,21 +1,24 @@
 -- What the threads of an array's shards did, shard by shard (this project's own).
-use Rattle.std.proofs.Common.{◌≡◌, ◌∙◌, ℕ, List, [], ◌∷◌, ◌<◌, length, map, All, Bool, Some, None, zero, suc, ap, sym, subst, slice_get, slice_index_or, refl}
+use Rattle.std.proofs.Common.{◌≡◌, ◌∙◌, ℕ, List, [], ◌∷◌, ◌++◌, ◌<◌, length, map, All, Bool, Some, None, zero, suc, ap, sym, subst, slice_get, slice_index_or, refl}
 use Rattle.std.specs.List.{AllZip}
-use Rattle.std.proofs.lemmas.List.{length-map}
+use Rattle.std.proofs.lemmas.List.{append-nil, length-map}
 use Rattle.std.proofs.lemmas.Option.{none-some, get_or_from_slice_get, slice_get_within, slice_get-get_or}
 use Rattle.r6_dev.specs.History.{Telling}
-use Rattle.r6_layout.specs.Shape.{Shape}
+use Rattle.r6_layout.specs.Shape.{Shape, IsShape}
 use Rattle.r6_world.specs.Registers.{Snapshot}
 use Rattle.r6_lists.specs.Events.{Event, tasks_of, numbers_of}
 use Rattle.r6_shard.specs.declared.parts.Parts.{Parts}
 use Rattle.r6_shard.specs.Handing.{parts_tell}
 use Rattle.r6_runner.specs.declared.runner.Runner.{Runner}
+use Rattle.r6_runner.specs.Tasks.{passes_in, passed_of, under_way, due_passes}
+use Rattle.r6_runner.specs.Counted.{AreCounted, rows_of_shard}
 use Rattle.r6_runner.specs.Runners.{HasDone, IsOver}
 use Rattle.r6_health.specs.declared.history.View.{View}
 use Rattle.r6_health.specs.Views.{Looks}
 use Rattle.r6_feed.specs.declared.answer.EventAnswer.{EventAnswer}
 use Rattle.r6_feed.specs.Feeds.{Sees}
 use Rattle.r6_serve.specs.Serves.{AreNumbered, Begins, HasAnswered, HasRun, HasServed, HaveServed}
+use Rattle.r6_serve.proofs.Rows.{count-each-row}
 
 some_same : {A : Type 0} (x y : A) → Some x ≡ Some y → x ≡ y
 some_same x y is = ap (λ o. elim o [ None ↦ x | Some z ↦ z ]) is
@@ -80,8 +83,11 @@ each_served told shape events start number numbers finished runner parts olds ne
     (subst (λ ns. HasDone told shape events shape (number old.0) start (parts_tell told own) ns (runner old.0)) (sym first.2.none_taken) begun) in
     let here = subst (λ n. HasDone told shape events shape n start (parts_tell told own) (numbers new.0) (runner new.0)) there ran in
     let all = subst (λ ns. HasDone told shape events shape shard start (parts_tell told own) ns (runner new.0)) (taken shard new.0 new.1) here in
+    let counted = subst (λ n. AreCounted (rows_of_shard shape n) (runner new.0).shard.core (runner new.0).passed.items) there
+    (old.2.counted (rows_of_shard shape (number old.0)) first.2.counted) in
     record {
       done = subst (HasDone told shape events shape shard start (parts_tell told own) (numbers_of (tasks_of shape shard events))) new.2 all;
+      counted = subst (λ (r : Runner _). AreCounted (rows_of_shard shape shard) r.shard.core r.passed.items) new.2 counted;
       over = subst IsOver new.2 old.2.over;
     }
 
@@ -91,19 +97,52 @@ zip-length R [] (y ∷ ys) all = absurd all
 zip-length R (x ∷ xs) [] all = absurd all
 zip-length R (x ∷ xs) (y ∷ ys) all = ap suc (zip-length R xs ys all.1)
 
+-- and its parts
+part_there : {D T : Type 0} (told : D → Telling) (shape : Shape) (events : List Event) (start : Snapshot)
+    (number : T → ℕ) (numbers : T → List ℕ) (finished : T → Bool) (runner : T → Runner D)
+    (parts : List (Parts D)) (olds news : List T) (runners : List (Runner D))
+    → AllZip (λ p t. Begins told shape events start p (number t) (numbers t) (runner t)) parts olds
+    → AllZip (λ old new. HasRun told shape events (number old) (numbers old) (runner old) (number new) (numbers new) (finished new) (runner new)) olds news
+    → runners ≡ map runner news → (shard : ℕ) (r : Runner D) → slice_get runners shard ≡ Some r
+    → (own : Parts D) × (slice_get parts shard ≡ Some own)
+part_there told shape events start number numbers finished runner parts olds news runners begins run is shard r at =
+    let new = mapped_at runner news shard r (ap (λ all. slice_get all shard) (sym is) ∙ at) in
+    let old = partner_at (λ a b. HasRun told shape events (number a) (numbers a) (runner a) (number b) (numbers b) (finished b) (runner b)) olds news shard new.0 run new.1 in
+    let first = partner_at (λ p t. Begins told shape events start p (number t) (numbers t) (runner t)) parts olds shard old.0 begins old.1 in
+    (first.0, first.1)
+
+-- its passes are its checks and repairs, all of them
+all_passed : {D : Type 0} (told : D → Telling) (shape : Shape) (events : List Event) (start : Snapshot) (own : Parts D) (shard : ℕ) (r : Runner D)
+    → HasServed told shape events start own shard r
+    → passes_in shape shard events (numbers_of (tasks_of shape shard events)) ≡ map passed_of r.passed.items
+all_passed told shape events start own shard r served =
+    let passed = map passed_of r.passed.items in
+    served.done.passes
+    ∙ ap (λ o. passed ++ (under_way o ++ due_passes r.due.items)) served.over.no_pass
+    ∙ ap (λ due. passed ++ due_passes due) served.over.none_due
+    ∙ append-nil passed
+
 -- and each shard has its thread
 pub have_served : {D T : Type 0} (told : D → Telling) (shape : Shape) (events : List Event) (start : Snapshot)
     (number : T → ℕ) (numbers : T → List ℕ) (finished : T → Bool) (runner : T → Runner D)
     (parts : List (Parts D)) (olds news : List T) (runners : List (Runner D))
+    → IsShape shape → length parts ≡ shape.shards
     → AllZip (λ p t. Begins told shape events start p (number t) (numbers t) (runner t)) parts olds
     → AllZip (λ old new. HasRun told shape events (number old) (numbers old) (runner old) (number new) (numbers new) (finished new) (runner new)) olds news
     → AreNumbered number olds
     → ((shard : ℕ) (t : T) → slice_get news shard ≡ Some t → numbers t ≡ numbers_of (tasks_of shape shard events))
     → runners ≡ map runner news → HaveServed told shape events start parts runners
-have_served told shape events start number numbers finished runner parts olds news runners begins run numbered taken is = record {
-  as_many = ap length is ∙ length-map news runner ∙ sym (zip-length _ olds news run) ∙ sym (zip-length _ parts olds begins);
-  each = each_served told shape events start number numbers finished runner parts olds news runners begins run numbered taken is;
-}
+have_served told shape events start number numbers finished runner parts olds news runners lawful whole begins run numbered taken is =
+    let as_many = ap length is ∙ length-map news runner ∙ sym (zip-length _ olds news run) ∙ sym (zip-length _ parts olds begins) in
+    let each = each_served told shape events start number numbers finished runner parts olds news runners begins run numbered taken is in
+    record {
+      as_many = as_many;
+      each = each;
+      counted = count-each-row shape events runners lawful (as_many ∙ whole) (λ shard r at.
+          let own = part_there told shape events start number numbers finished runner parts olds news runners begins run is shard r at in
+          let served = each shard own.0 r own.1 at in
+          (all_passed told shape events start own.0 shard r served, served.counted));
+    }
 
 -- what ties each to its partner, or less
 pub less : {A B : Type 0} (R S : A → B → Type 0) → ((x : A) (y : B) → R x y → S x y) → (xs : List A) (ys : List B)

@@ -1,2 +1,3 @@
 mod EachShard
 mod Numbers
+mod Rows

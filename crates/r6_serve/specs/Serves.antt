@@ -10,7 +10,9 @@ use Rattle.r6_shard.specs.Handing.{parts_tell}
 use Rattle.r6_feed.specs.declared.answer.EventAnswer.{EventAnswer}
 use Rattle.r6_feed.specs.Feeds.{asked_before, asked_in, calls_of, is_unsettled, WereTold}
 use Rattle.r6_runner.specs.declared.runner.Runner.{Runner}
+use Rattle.r6_runner.specs.Counted.{AreCounted, HasCounted, rows_of_shard}
 use Rattle.r6_runner.specs.Runners.{GoesOn, HasDone, IsOver}
+use Rattle.r6_serve.specs.Counted.{CountEachRow}
 
 -- the thread of a shard took what its list had until that was finished, and did it
 pub record HasRun {D : Type 0} (told : D → Telling) (shape : Shape) (events : List Event)
@@ -18,6 +20,7 @@ pub record HasRun {D : Type 0} (told : D → Telling) (shape : Shape) (events : 
     (shard' : ℕ) (numbers' : List ℕ) (finished : Bool) (new : Runner D) : Type 0 where
   pub same : shard' ≡ shard
   pub course : GoesOn told shape events shard numbers numbers' old new
+  pub counted : (rows : ℕ) → HasCounted rows old → AreCounted rows new.shard.core new.passed.items
   pub all_taken : finished ≡ true
   pub over : IsOver new
 
@@ -26,6 +29,7 @@ pub record Begins {D : Type 0} (told : D → Telling) (shape : Shape) (events : 
     (parts : Parts D) (shard : ℕ) (numbers : List ℕ) (runner : Runner D) : Type 0 where
   pub none_taken : numbers ≡ []
   pub done : HasDone told shape events shape shard start (parts_tell told parts) [] runner
+  pub counted : HasCounted (rows_of_shard shape shard) runner
 
 -- the numbers of the shards, from 0 on
 abbrev pub AreNumbered : {T : Type 0} → (T → ℕ) → List T → Type 0
@@ -36,6 +40,7 @@ pub record HasServed {D : Type 0} (told : D → Telling) (shape : Shape) (events
     (parts : Parts D) (shard : ℕ) (runner : Runner D) : Type 0 where
   pub done : HasDone told shape events shape shard start (parts_tell told parts)
       (numbers_of (tasks_of shape shard events)) runner
+  pub counted : AreCounted (rows_of_shard shape shard) runner.shard.core runner.passed.items
   pub over : IsOver runner
 
 -- each shard did so, from its parts on, and has its runner
@@ -44,6 +49,7 @@ pub record HaveServed {D : Type 0} (told : D → Telling) (shape : Shape) (event
   pub as_many : length runners ≡ length parts
   pub each : (shard : ℕ) (own : Parts D) (runner : Runner D) → slice_get parts shard ≡ Some own
       → slice_get runners shard ≡ Some runner → HasServed told shape events start own shard runner
+  pub counted : CountEachRow shape events runners
 
 -- what no shard answers was answered, each event once and in the order of the events, to a thread whose pass knew this
 -- first

@@ -1,6 +1,7 @@
 use Rattle.std.proofs.Common.{rules, [], subst, sym}
 use Rattle.r6_shard.specs.Parts.{part_in}
 use Rattle.r6_shard.specs.Handing.{parts_tell}
+use Rattle.r6_runner.specs.Counted.{HasCounted, rows_of_shard}
 use Rattle.r6_runner.specs.Runners.{HasDone}
 use Rattle.r6_serve.proofs.making.taking_of.Goals as goal
 
@@ -20,4 +21,8 @@ returns-clause-begins g c =
           (search rules)
           (subst (λ items. HasDone told shape events c.args.place.geometry c.args.place.number c.args.start.now (part_in told items) []
           c.in_ok-runner.runner) c.in_ok-roomy.ensures done)));
+      counted = subst (λ r. HasCounted (rows_of_shard shape c.new-2.result.consumer.shard) r) (sym c.new-2.ensures.0)
+          (subst (λ s. HasCounted (rows_of_shard s c.new-2.result.consumer.shard) c.in_ok-runner.runner) c.requires.shape
+          (subst (λ n. HasCounted (rows_of_shard c.args.place.geometry n) c.in_ok-runner.runner) (search rules)
+          c.in_ok-runner.ensures.counted));
     }

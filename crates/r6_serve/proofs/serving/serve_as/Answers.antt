@@ -43,6 +43,7 @@ returns-clause-served g c =
     let news = c.in_ok-pass.ended.items in
     have_served told shape events (starting c.args.config.lost) (λ t. t.consumer.shard) (λ t. t.consumer.numbers.items)
     (λ t. t.consumer.finished) (λ t. t.runner) c.args.parts.items olds news c.settle.new.runners.items
+    c.requires.limits c.requires.parts
     (subst (λ start. AllZip (λ p t. Begins told shape events start p t.consumer.shard t.consumer.numbers.items t.runner)
     c.args.parts.items olds) c.start-start.ensures c.in_ok-takings.ensures.begins)
     (less _ (λ old new. HasRun told shape events old.consumer.shard old.consumer.numbers.items old.runner new.consumer.shard

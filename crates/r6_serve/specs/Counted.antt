@@ -1,0 +1,24 @@
+-- What the checks and repairs of an array count, over all shards (md(4): a check reads every row of the array).
+use Rattle.std.specs.Prelude.{◌≡◌, ℕ, ◌-◌, ◌==◌, ◌⊎◌, List, All, slice_get, sum_by, Some, if◌then◌else◌}
+use Rattle.r6_layout.specs.Shape.{Shape}
+use Rattle.r6_core.specs.Shards.{CoreView}
+use Rattle.r6_lists.specs.Events.{Event, Check, Repair}
+use Rattle.r6_shard.specs.Counted.{IsInService}
+use Rattle.r6_runner.specs.declared.pass.Passed.{Passed}
+use Rattle.r6_runner.specs.declared.runner.Runner.{Runner}
+use Rattle.r6_runner.specs.Counted.{IsUsedUp, rows_in}
+
+-- the rows that a shard counted for the event with this number, of whichever class or none
+abbrev pub rows_for : (event : ℕ) → List Passed → ℕ
+rows_for event passed = sum_by (λ p. if p.event == event then rows_in p.after - rows_in p.before else 0) passed
+
+-- a shard may be asked for more
+abbrev pub MayGoOn : CoreView → Type 0
+MayGoOn core = IsInService core × (IsUsedUp core → ⊥)
+
+-- if all shards may be asked for more, each check and each repair has counted each row of the array once
+abbrev pub CountEachRow : {D : Type 0} → Shape → List Event → List (Runner D) → Type 0
+CountEachRow shape events runners =
+    All (λ runner. MayGoOn runner.shard.core) runners → (event : ℕ)
+    → (slice_get events event ≡ Some Check) ⊎ (slice_get events event ≡ Some Repair)
+    → sum_by (λ runner. rows_for event runner.passed.items) runners ≡ shape.rows
