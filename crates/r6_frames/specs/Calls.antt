@@ -201,6 +201,10 @@ IsHeldFrame fs frame = (h : HeldRow) × (hold_at fs.held frame ≡ Some h)
 abbrev pub NotHeldBy : FramesState → (row : ℕ) → Type 0
 NotHeldBy fs row = (frame : ℕ) (h : HeldRow) → hold_at fs.held frame ≡ Some h → h.row ≢ row
 
+-- the frame holds the row
+abbrev pub IsHolder : FramesState → (row frame : ℕ) → Type 0
+IsHolder fs row frame = (frame < frames) × (h : HeldRow) × (hold_at fs.held frame ≡ Some h) × (h.row ≡ row)
+
 -- a request that may begin: for a block of the shard's rows, with a buffer of one block
 pub record IsRequestOf (fs : FramesState) (request : Request) : Type 0 where
   pub there : world.block_of (op_of request.op) < blocks fs.geometry

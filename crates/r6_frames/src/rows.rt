@@ -10,7 +10,7 @@ ghost use Rattle.r6_world.specs.Layouts.{IsRowOf};
 ghost use Rattle.r6_world.specs.Geometries.{layout_of};
 ghost use Rattle.r6_world.specs.ShardStates.{frames};
 ghost use Rattle.r6_frames.specs.Views.{op_of, job_for, row_task, AreLive, is_synced_at};
-ghost use Rattle.r6_frames.specs.Calls.{KeepsDirects, IsFreeFrame, IsNextOn, NotHeldBy, IsRequestOf, IsPlaceOf, Begins, BeginsRebuild, BeginsScrub, AreAllInSync, Holds, KeepsOthers, IsAtStart, KeepsSlots};
+ghost use Rattle.r6_frames.specs.Calls.{KeepsDirects, IsFreeFrame, IsNextOn, NotHeldBy, IsHolder, IsRequestOf, IsPlaceOf, Begins, BeginsRebuild, BeginsScrub, AreAllInSync, Holds, KeepsOthers, IsAtStart, KeepsSlots};
 ghost use Rattle.r6_frames.specs.Owed.{owed, OwesCommands};
 ghost use Rattle.r6_frames.specs.Slots.{slot_before, slot_in, AreUsed};
 ghost use Rattle.r6_frames.specs.Inside.{view_of, HasRoom};
@@ -143,23 +143,23 @@ impl Rows {
         None
     }
 
-    pub(crate) fn is_held(&self, row: u64) -> bool
+    pub(crate) fn holder(&self, row: u64) -> Option<usize>
         requires { IsSound (view_of self.now) }
-        ensures { IsTrue result ↔ (NotHeldBy (view_of self.now) row → ⊥) }
+        ensures { MatchOption result (NotHeldBy (view_of self.now) row) (IsHolder (view_of self.now) row) }
     {
         // no row is held past the last frame in use
         let mut in_use = FRAMES - self.spare.len();
-        for held in &self.held {
+        for (frame, held) in self.held.iter().enumerate() {
             if in_use == 0 {
-                return false;
+                return None;
             }
             match held {
-                FrameUse::Held(held) if held.row == row => return true,
+                FrameUse::Held(held) if held.row == row => return Some(frame),
                 FrameUse::Held(_) | FrameUse::Returning(_) => in_use -= 1,
                 FrameUse::Free => {}
             }
         }
-        false
+        None
     }
 
     pub(crate) fn begin(&mut self, frame: usize, request: Request, place: Place)

@@ -3,6 +3,7 @@ pub mod Gathered
 pub mod Lines
 pub mod Marks
 pub mod Named
+pub mod Older
 pub mod Stepped
 pub mod Swept
 pub mod Words

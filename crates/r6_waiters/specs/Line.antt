@@ -1,5 +1,5 @@
 -- A line of entries that wait, as its callers see it (this project's own).
-use Rattle.std.specs.Prelude.{ℕ, ◌<◌, ◌==◌, List, [], ◌∷◌, Option, Some, None, if◌then◌else◌}
+use Rattle.std.specs.Prelude.{ℕ, ◌<◌, ◌==◌, ◌||◌, List, [], ◌∷◌, Option, Some, None, if◌then◌else◌}
 
 -- the entries, the oldest first, each with the cause that it waits for
 abbrev pub Entries : Type 0 → Type 0
@@ -26,6 +26,12 @@ with_entries line entries = (line.0, (line.1.0, entries))
 abbrev pub oldest_of : {X : Type 0} → ℕ → Entries X → Option X
 oldest_of cause [] = None
 oldest_of cause (entry ∷ entries) = if entry.0 == cause then Some entry.1 else oldest_of cause entries
+
+-- the cause that the oldest entry waits for of those that wait for one of the two
+abbrev pub older_of : {X : Type 0} → ℕ → ℕ → Entries X → Option ℕ
+older_of first second [] = None
+older_of first second (entry ∷ entries) =
+    if (entry.0 == first) || (entry.0 == second) then Some entry.0 else older_of first second entries
 
 -- the entries but the oldest one that waits for the cause
 abbrev pub without_oldest : {X : Type 0} → ℕ → Entries X → Entries X

@@ -42,7 +42,7 @@ impl<V> Model for Waiters<V> {
 }
 
 impl<V: Drop> Waiters<V> {
-    ghost use Rattle.r6_waiters.specs.Line.{capacity_of, causes_of, entries_of, with_entries, oldest_of, without_oldest, oldest_moved, all_moved, gathered, first_of, AreBelow};
+    ghost use Rattle.r6_waiters.specs.Line.{capacity_of, causes_of, entries_of, with_entries, oldest_of, older_of, without_oldest, oldest_moved, all_moved, gathered, first_of, AreBelow};
 
     /// An empty line with room for `capacity` entries, which wait for causes below `causes`.
     ///
@@ -97,6 +97,20 @@ impl<V: Drop> Waiters<V> {
     {
         let position = self.sets[cause].lowest()?;
         value(&self.places, position)
+    }
+
+    /// The cause, of these two, that the oldest entry waits for which waits for one of them.
+    pub fn older(&self, first: usize, second: usize) -> Option<usize>
+        requires first { first < causes_of self.now }
+        requires second { second < causes_of self.now }
+        ensures { result ≡ older_of first second (entries_of self.now) }
+    {
+        match (self.sets[first].lowest(), self.sets[second].lowest()) {
+            (Some(one), Some(other)) if other < one => Some(second),
+            (Some(_), _) => Some(first),
+            (None, Some(_)) => Some(second),
+            (None, None) => None,
+        }
     }
 
     /// Puts an entry in, as the youngest.
