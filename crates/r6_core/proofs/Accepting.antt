@@ -20,16 +20,18 @@ use Rattle.r6_frames.specs.declared.frames.HeldRow.{HeldRow}
 use Rattle.r6_frames.specs.declared.frames.FrameUse.{FrameUse}
 use Rattle.r6_frames.specs.declared.frames.FrameUse.TheVariants as uses
 use Rattle.r6_core.specs.declared.state.State.{State}
-use Rattle.r6_frames.specs.Views.{op_of, buffer_of, hold_at, held_requests}
+use Rattle.r6_frames.specs.Views.{op_of, buffer_of, hold_at, held_requests, shard_with}
 use Rattle.r6_frames.specs.Calls.{IsRequestOf}
 use Rattle.r6_frames.specs.Owed.{owed, owed_by, owed_in, is_unsent}
-use Rattle.r6_core.specs.Shards.{state_of, layout_in, framed_requests, requests_of, waiting_request, replied_requests, core_of}
+use Rattle.r6_core.specs.Shards.{state_of, layout_in, framed_requests, requests_of, waiting_request, replied_requests, core_of, requests_in, rest_of, waiting_of}
 use Rattle.r6_world.specs.ShardStates.{limit}
 use Rattle.r6_core.specs.Refusals.{most_unanswered, HasSubmitFault, HasNone, submit_faults}
 use Rattle.r6_frames.specs.Directs.{read_requests}
 use Rattle.r6_core.specs.Inside.{IsSound, IsSettled, AreRequests, count_unheld, most_tokens}
 use Rattle.r6_core.proofs.Passed.{all-append}
 use Rattle.r6_frames.proofs.Lists.{Entries, table, came, none_of, distinct_with, all_with}
+use Rattle.r6_waiters.specs.Line.{Line, entries_of, with_entries}
+use Rattle.r6_core.proofs.Lined.{values_both}
 
 -- ---- a number above all is new
 
@@ -53,11 +55,11 @@ pub record IsAccepted (s : State) (r : Entered) (new : Entries Request) : Type 0
   pub numbered : AllByRecursion (λ id. id < s.accepted + 1) (keys_of new)
   pub counted : length new ≡ length (requests_of s) + 1
 
-pub accepted : (s : State) (r : Entered) → AreRequests s → r.id ≡ s.accepted → IsAccepted s r (map waiting_request (s.waiting.items ++ r ∷ []) ++ others s)
+pub accepted : (s : State) (r : Entered) → AreRequests s → r.id ≡ s.accepted → IsAccepted s r (map waiting_request (waiting_of s ++ r ∷ []) ++ others s)
 accepted s r are is =
-    let w = map waiting_request s.waiting.items in
-    let new : map waiting_request (s.waiting.items ++ r ∷ []) ++ others s ≡ w ++ waiting_request r ∷ others s =
-    ap (λ es. es ++ others s) (map-append waiting_request s.waiting.items (r ∷ [])) ∙ (simp append_assoc) in
+    let w = map waiting_request (waiting_of s) in
+    let new : map waiting_request (waiting_of s ++ r ∷ []) ++ others s ≡ w ++ waiting_request r ∷ others s =
+    ap (λ es. es ++ others s) (map-append waiting_request (waiting_of s) (r ∷ [])) ∙ (simp append_assoc) in
     let none : table (w ++ others s) r.id ≡ None = ap (table (w ++ others s)) is ∙ none_of s.accepted (w ++ others s) (new_number s.accepted (w ++ others s) are.numbered) in
     record {
       now = ap table new ∙ came w r.id (waiting_request r).1 (others s) none;
@@ -107,10 +109,10 @@ room_for_all slots waiting held owes few at_most_owes count all =
 
 -- those that wait or may wait again are among the unanswered
 parts_counted : (s : State) → IsSound s
-    → length s.waiting.items + (length (held_requests s.frames) + length (read_requests s.frames) + length (replied_requests s.frames.saw_failed s.released s.replies.items)) ≡ s.unanswered
+    → length (waiting_of s) + (length (held_requests s.frames) + length (read_requests s.frames) + length (replied_requests s.frames.saw_failed s.released s.replies.items)) ≡ s.unanswered
 parts_counted s sound =
-    let w = length-map s.waiting.items waiting_request in
-    let all = length-append (map waiting_request s.waiting.items) (others s) in
+    let w = length-map (waiting_of s) waiting_request in
+    let all = length-append (map waiting_request (waiting_of s)) (others s) in
     let rest = length-append (framed_requests s.frames) (replied_requests s.frames.saw_failed s.released s.replies.items) in
     let framed = length-append (held_requests s.frames) (read_requests s.frames) in
     omega (arith, w, all, rest, framed, sound.requests.counted)
@@ -120,9 +122,14 @@ few_unheld s sound = omega (arith, parts_counted s sound, sound.requests.few)
 
 -- ---- the state with one more request
 
-abbrev pub with_request : State → Entered → State
-with_request s r =
-    record s { accepted = s.accepted + 1; unanswered = s.unanswered + 1; waiting = record { items = s.waiting.items ++ r ∷ []; capacity = s.waiting.capacity } }
+abbrev pub pushed : State → (cause : ℕ) → Entered → Line Entered
+pushed s cause r = with_entries s.waiting (entries_of s.waiting ++ (cause, r) ∷ [])
+
+abbrev pub with_request : State → (cause : ℕ) → Entered → State
+with_request s cause r = record s { accepted = s.accepted + 1; unanswered = s.unanswered + 1; waiting = pushed s cause r }
+
+pub pushed_requests : (s : State) (cause : ℕ) (r : Entered) → requests_in (pushed s cause r) ≡ waiting_of s ++ r ∷ []
+pushed_requests s cause r = values_both (entries_of s.waiting) ((cause, r) ∷ [])
 
 -- a request with no fault is one of the shard's
 pub request_of : (s : State) (o : Op) → HasNone (HasSubmitFault (core_of s) o) submit_faults → IsBlock (length (buffer_of o)) (buffer_of o) → (id : ℕ)
@@ -134,38 +141,40 @@ request_of s o right sized id =
       sized = elim (cases_eq (length (buffer_of o)) s.frames.geometry.block) [ inl e ↦ record { length_is = e; bytes = sized.bytes } | inr ne ↦ absurd (right.1.1.0 ne) ];
     }
 
-pub accepted_core : (s : State) (o : Op) → IsSettled s → HasNone (HasSubmitFault (core_of s) o) submit_faults → IsBlock (length (buffer_of o)) (buffer_of o)
-    → IsSettled (with_request s (record { id = s.accepted; op = o }))
-accepted_core s o core right sized =
+pub accepted_core : (s : State) (cause : ℕ) (o : Op) → IsSettled s → HasNone (HasSubmitFault (core_of s) o) submit_faults → IsBlock (length (buffer_of o)) (buffer_of o)
+    → IsSettled (with_request s cause (record { id = s.accepted; op = o }))
+accepted_core s cause o core right sized =
     let sound = core.sound in
     let r : Entered = record { id = s.accepted; op = o } in
+    let back : waiting_of s ++ r ∷ [] ≡ requests_in (pushed s cause r) = sym (pushed_requests s cause r) in
     let more = accepted s r sound.requests refl in
     let tokens : s.frames.commands.next < limit = lt_of_not-le (λ le. right.1.1.1.1.0 (inl le)) in
     let fresh : s.accepted < limit = lt_of_not-le (λ le. right.1.1.1.1.0 (inr le)) in
     let few : s.unanswered < most_unanswered = lt_of_not-le right.1.1.1.1.1.0 in
-    let longer : length (s.waiting.items ++ r ∷ []) ≡ length s.waiting.items + 1 = length-append s.waiting.items (r ∷ []) in
+    let longer : length (waiting_of s ++ r ∷ []) ≡ length (waiting_of s) + 1 = length-append (waiting_of s) (r ∷ []) in
     let owes = owed_in-le s.frames.geometry.slots s.frames.held (λ frame h is. (sound.frames.frames.rows frame h is).wide) in
-    let many : length s.waiting.items + 1 + length (read_requests s.frames) ≤ most_unanswered = omega (arith, parts_counted s sound, few) in
-    let room = room_for_all s.frames.geometry.slots (length s.waiting.items + 1 + length (read_requests s.frames)) (length s.frames.held) (owed s.frames) sound.frames.shape.slots_allowed.1 owes sound.frames.frames.count many in
+    let many : length (waiting_of s) + 1 + length (read_requests s.frames) ≤ most_unanswered = omega (arith, parts_counted s sound, few) in
+    let room = room_for_all s.frames.geometry.slots (length (waiting_of s) + 1 + length (read_requests s.frames)) (length s.frames.held) (owed s.frames) sound.frames.shape.slots_allowed.1 owes sound.frames.frames.count many in
     record {
       sound = record {
         frames = sound.frames;
         requests = record {
-          distinct = more.distinct;
-          numbered = more.numbered;
-          counted = more.counted ∙ ap (λ n. n + 1) sound.requests.counted;
+          distinct = subst (λ rs. IsDistinct nat_eq (keys_of (map waiting_request rs ++ others s))) back more.distinct;
+          numbered = subst (λ rs. AllByRecursion (λ id. id < s.accepted + 1) (keys_of (map waiting_request rs ++ others s))) back more.numbered;
+          counted = subst (λ rs. length (map waiting_request rs ++ others s) ≡ s.unanswered + 1) back (more.counted ∙ ap (λ n. n + 1) sound.requests.counted);
           few = omega (arith, few);
-          waiting = all-append (IsRequestOf s.frames) s.waiting.items (r ∷ []) sound.requests.waiting (request_of s o right sized s.accepted, tt);
+          waiting = subst (AllByRecursion (IsRequestOf s.frames)) back (all-append (IsRequestOf s.frames) (waiting_of s) (r ∷ []) sound.requests.waiting (request_of s o right sized s.accepted, tt));
           sized = sound.requests.sized;
           marked = sound.requests.marked;
         };
         room = record {
           waiting = sound.room.waiting;
+          causes = sound.room.causes;
           replies = sound.room.replies;
           calls = sound.room.calls;
           few_calls = sound.room.few_calls;
         };
-        tokens = subst (λ n. s.frames.commands.next + owed s.frames + 2 * s.frames.geometry.slots * (n + length (read_requests s.frames)) ≤ most_tokens) (sym longer) (omega (arith, room, tokens));
+        tokens = subst (λ n. s.frames.commands.next + owed s.frames + 2 * s.frames.geometry.slots * (n + length (read_requests s.frames)) ≤ most_tokens) (sym longer ∙ ap length back) (omega (arith, room, tokens));
         accepted = omega (arith, fresh);
         counted = sound.counted;
         next_rows = sound.next_rows;
@@ -174,8 +183,9 @@ accepted_core s o core right sized =
       rested = core.rested;
     }
 
-pub accepted_state : (s : State) (o : Op) → IsSound s
-    → state_of (with_request s (record { id = s.accepted; op = o })) ≡ after (layout_in s) (state_of s) (Accept (op_of o))
-accepted_state s o sound =
-    let more = accepted s (record { id = s.accepted; op = o }) sound.requests refl in
-    ap (λ (requests : ℕ → Option Request). record (state_of s) { accepted = s.accepted + 1; request = requests }) more.now
+pub accepted_state : (s : State) (cause : ℕ) (o : Op) → IsSound s
+    → state_of (with_request s cause (record { id = s.accepted; op = o })) ≡ after (layout_in s) (state_of s) (Accept (op_of o))
+accepted_state s cause o sound =
+    ap (λ rs. shard_with (record (rest_of s) { accepted = s.accepted + 1; request = table (map waiting_request rs ++ others s) }) s.frames) (pushed_requests s cause (record { id = s.accepted; op = o }))
+    ∙ (let more = accepted s (record { id = s.accepted; op = o }) sound.requests refl in
+    ap (λ (requests : ℕ → Option Request). record (state_of s) { accepted = s.accepted + 1; request = requests }) more.now)

@@ -20,7 +20,7 @@ use Rattle.r6_frames.specs.Calls.{KeepsDirects, KeepsRows, TakesOut, entry_on}
 use Rattle.r6_frames.specs.Owed.{owed}
 use Rattle.r6_frames.specs.Sound as held
 use Rattle.r6_core.specs.declared.state.State.{State}
-use Rattle.r6_core.specs.Shards.{state_of, rest_of, layout_in, requests_of, core_of}
+use Rattle.r6_core.specs.Shards.{state_of, rest_of, layout_in, requests_of, core_of, waiting_of, requests_in}
 use Rattle.r6_core.specs.Order.{Agrees, SameReplies}
 use Rattle.r6_core.specs.Inside.{HandsBack, IsSettled, KeepsShard, ReadAgain, SameFrames, NoCalls, IsSound, bound, most_tokens, count_untold, SameCalls, Seen}
 use Rattle.r6_core.proofs.CountedRows.{counted_kept, same_or_fewer}
@@ -95,7 +95,7 @@ sound_taken s slot device fs sound told takes is next owes requests rows =
     let reads = as_many (read_requests fs) (read_requests s.frames) (ap keys_of takes.3 ∙ keys_on fs (read_requests s.frames)) in
     let no_calls = ap length told.0 in
     let no_untold = ap count_untold told.1 in
-    let bounds : bound (with_frames s fs) ≡ bound s = λ i. next i + owes i + 2 * (takes.0 i).slots * (length s.waiting.items + reads i) in
+    let bounds : bound (with_frames s fs) ≡ bound s = λ i. next i + owes i + 2 * (takes.0 i).slots * (length (waiting_of s) + reads i) in
     record {
       frames = is;
       requests = record {
@@ -103,12 +103,13 @@ sound_taken s slot device fs sound told takes is next owes requests rows =
         numbered = subst (AllByRecursion (λ id. id < s.accepted)) (sym same) sound.requests.numbered;
         counted = as_many (requests_of (with_frames s fs)) (requests_of s) same ∙ sound.requests.counted;
         few = sound.requests.few;
-        waiting = requests_kept s.frames fs s.waiting.items takes.0 takes.1 sound.requests.waiting;
+        waiting = requests_kept s.frames fs (waiting_of s) takes.0 takes.1 sound.requests.waiting;
         sized = sizes_kept s.frames.geometry fs.geometry s.replies.items takes.0 sound.requests.sized;
         marked = sound.requests.marked;
       };
       room = record {
         waiting = sound.room.waiting;
+        causes = sound.room.causes;
         replies = sound.room.replies;
         calls = sound.room.calls;
         few_calls = omega (arith, no_calls, no_untold);
@@ -229,8 +230,8 @@ module _ (s mid new : State) (seen : Snapshot) (count : ℕ) (went_out : Bool) (
   back_again = (
     back.again,
     were_read s mid.frames 0 back.again core.sound core.reading (λ number r has. ap (λ ds. (direct_at ds number).read) (sym is.directs) ∙ has) back.were,
-    back.waiting ∙ ap (λ b. b.items ++ back.again) is.waiting,
+    back.waiting ∙ ap (λ line. requests_in line ++ back.again) is.waiting,
   )
 
 pub none_back : (s mid : State) (seen : Snapshot) (count : ℕ) (went_out : Bool) → IsAdopting s mid seen count went_out → ReadAgain s mid
-none_back s mid seen count went_out is = ([], tt, ap (λ b. b.items) is.waiting ∙ sym (append-nil s.waiting.items))
+none_back s mid seen count went_out is = ([], tt, ap requests_in is.waiting ∙ sym (append-nil (waiting_of s)))

@@ -1,11 +1,9 @@
 -- A command is answered: its hold goes on, and may end.
-use Rattle.std.proofs.Common.{◌≡◌, ℕ, ◌+◌, ◌≤◌, List, refl, sym, ap, subst, ◌∙◌, Some, None, inl, inr, arith}
+use Rattle.std.proofs.Common.{◌≡◌, ◌⊎◌, ℕ, ◌+◌, ◌≤◌, List, refl, sym, ap, subst, ◌∙◌, Some, None, inl, inr, arith}
 use Rattle.std.specs.List.{AllByRecursion}
 use Rattle.std.proofs.lemmas.Bool.{cases_eq, cases_lt}
-use Rattle.circular_buffer.specs.Buffer.{Buffer}
 use Rattle.r6_world.specs.Changes.{after}
 use Rattle.r6_world.specs.Steps.{GoesOn, Through, Good, Taken}
-use Rattle.r6_frames.specs.declared.op.Request.{Request}
 use Rattle.r6_frames.specs.declared.frames.Frames.{Frames}
 use Rattle.r6_frames.specs.Views.{row_in, hold_at, held_requests, outstanding, shard_with, AreLive}
 use Rattle.r6_frames.specs.Calls.{Answers, Classifies, Drives, IsAwaited, IsHeldFrame, KeepsDirects, KeepsOthers, KeepsReads, KeepsRows}
@@ -14,10 +12,12 @@ use Rattle.r6_frames.specs.Sound as held
 use Rattle.r6_core.specs.declared.state.State.{State}
 use Rattle.r6_core.specs.Shards.{state_of, rest_of, layout_in}
 use Rattle.r6_core.specs.declared.scan.Freed.{Freed}
-use Rattle.r6_core.specs.declared.scan.Freed.TheVariants.{Nothing, One, Any}
+use Rattle.r6_core.specs.declared.scan.Freed.TheVariants.{Nothing, Row, Buffer, Any}
 use Rattle.r6_frames.specs.Slots.{states_of}
-use Rattle.r6_core.specs.Inside.{CannotStart, HasEnded, HasFreed, NoneCanStart, IsSound, IsSettled, IsRestedFrame, SameFrames, TakesThrough}
-use Rattle.r6_core.proofs.Waking.{frees_kept, none_more, row_stays}
+use Rattle.r6_core.specs.Inside.{AllWait, HasEnded, HasFreed, HasLetGo, IsSound, IsSettled, IsRestedFrame, SameFrames, TakesThrough, Waits}
+use Rattle.r6_core.proofs.Lined.{all_then}
+use Rattle.r6_core.proofs.Waking.{all_wait_still, frees_kept, holders_by_rows}
+use Rattle.r6_waiters.specs.Line.{entries_of}
 use Rattle.r6_core.proofs.Throughs.{through_both, through_in, through_of}
 use Rattle.r6_core.proofs.Going.{Goes, SlotsStay, classifies_on, drives_give, drives_still, reading_kept, goes_still, answers_still, gone_state, gone_sound}
 use Rattle.r6_core.proofs.SlotsKept.{out_same}
@@ -101,7 +101,7 @@ module _ (s : State) (token : ℕ) (block : List ℕ) (middle driven : Frames) (
         ];
       }
 
-  -- if but the frame's hold has ended, one request at most can start, and if it hasn't none can
+  -- if the frame's hold has ended, it has let its row go, and if it hasn't all wait still
   slots_same : states_of driven.slots ≡ states_of s.frames.slots
   slots_same = (drives_still middle driven live driven_live drives).0 ∙ (answers_still s.frames middle token block answers).0
 
@@ -110,36 +110,36 @@ module _ (s : State) (token : ℕ) (block : List ℕ) (middle driven : Frames) (
 
   pub answered_freed : (new : State) (frame : ℕ) (freed : Freed) → KeepsOthers s.frames frame middle → KeepsOthers middle frame driven → KeepsOthers driven frame new.frames
       → KeepsDirects s.frames middle → KeepsDirects middle driven
-      → NoneCanStart s → IsHeldFrame driven frame → new.waiting ≡ s.waiting → SameFrames driven_state new
-      → HasEnded freed driven_state new → HasFreed freed new
+      → AllWait s → IsHeldFrame driven frame → new.waiting ≡ s.waiting → SameFrames driven_state new
+      → HasEnded freed frame driven_state new → HasFreed freed new
   answered_freed new frame freed kept still others first second waits held waiting same by =
       let shape : driven.geometry ≡ s.frames.geometry = drives.0 ∙ answers.0 in
       let lives : AreLive s.frames = live_still s.frames middle answers.0 (answers_still s.frames middle token block answers) live in
       let directs : KeepsDirects s.frames driven = second ∙ first in
-      elim freed as (λ f. HasEnded f driven_state new → HasFreed f new) [
+      elim freed as (λ f. HasEnded f frame driven_state new → HasFreed f new) [
         | Any ↦ λ any. tt
-        | One ↦ λ one. (
-          s.frames,
-          record {
+        | Buffer ↦ λ no. absurd no
+        | Row let_go ↦ λ ended. subst (λ at. HasLetGo at new) (sym ended.0) (record {
+          there = ended.1;
+          before = s.frames;
+          like = record {
             geometry = same.0 ∙ shape;
             live = λ alive. lives;
-            slots = one.1 ∙ slots_same;
-            tokens = let next = one.2 in let given = tokens_same in omega arith;
-          },
-          inl (frame, (λ other ne. others other ne ∙ still other ne ∙ kept other ne), one.0 ∙ directs),
-          subst (λ (b : Buffer Request). AllByRecursion (CannotStart s.frames) b.items) (sym waiting) waits,
-        )
-        | Nothing ↦ λ none.
-            (subst NoneCanStart (sym none)
-            (none_more s.frames driven s.waiting.items
-            (record { geometry = shape; live = λ alive. lives; slots = slots_same; tokens = tokens_same })
-            (frees_kept s.frames driven directs)
-            (λ row unheld at h is at_row.
-            let there = row_stays s.frames driven at h (λ f. more_rows f ∙ rows f) is in
-            unheld at there.0 there.1 (there.2 ∙ at_row))
+            slots = ended.4 ∙ slots_same;
+            tokens = let next = ended.5 in let given = tokens_same in omega arith;
+          };
+          others = λ other ne. others other ne ∙ still other ne ∙ kept other ne;
+          directs = ended.3 ∙ directs;
+          empty = ended.2;
+          waits = subst (λ line. AllByRecursion (λ entry. Waits new.frames entry ⊎ Waits s.frames entry) (entries_of line)) (sym waiting)
+              (all_then (Waits s.frames) (λ entry. Waits new.frames entry ⊎ Waits s.frames entry) (entries_of s.waiting) (λ e w. inr w) (waits lives));
+        })
+        | Nothing ↦ λ none. subst AllWait (sym none) (λ alive.
+            all_wait_still s.frames driven (record { geometry = shape; live = λ alive. lives; slots = slots_same; tokens = tokens_same })
+            (frees_kept s.frames driven directs) (holders_by_rows s.frames driven (λ f. more_rows f ∙ rows f))
             (λ at free. elim (cases_eq at frame) [
               | inl e ↦ absurd (let is = ap (hold_at driven.held) e in let none : None ≡ Some held.0 = sym (ap row_in free.1) ∙ is ∙ held.1 in cc)
               | inr ne ↦ (free.0, sym (still at ne ∙ kept at ne) ∙ free.1)
             ])
-            waits))
+            (entries_of s.waiting) (waits lives))
       ] by

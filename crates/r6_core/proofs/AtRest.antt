@@ -11,12 +11,13 @@ use Rattle.r6_frames.specs.declared.op.Request.{Request as Entered}
 use Rattle.r6_core.specs.declared.state.State.{State}
 use Rattle.r6_frames.specs.Views.{op_of, hold_of, held_requests}
 use Rattle.r6_frames.specs.Calls.{NotHeldBy}
-use Rattle.r6_core.specs.Shards.{state_of, rest_of, layout_in, framed_requests, waiting_request, finished_request, replied_requests}
+use Rattle.r6_core.specs.Shards.{state_of, rest_of, layout_in, framed_requests, waiting_request, finished_request, replied_requests, waiting_of}
 use Rattle.r6_frames.specs.declared.frames.Frames.{Frames}
 use Rattle.r6_frames.specs.Directs.{read_requests}
 use Rattle.r6_core.specs.Order.{MustWait}
-use Rattle.r6_core.specs.Inside.{AreReadOn, CannotStart, IsCore, IsReadOn, IsSettled, SameFrames}
+use Rattle.r6_core.specs.Inside.{AreReadOn, IsCore, IsReadOn, IsSettled, SameFrames}
 use Rattle.r6_frames.proofs.Lists.{Entries, table, looked_up}
+use Rattle.r6_core.proofs.Waking.{CannotStart, none_can}
 use Rattle.r6_core.proofs.HeldRequests.{all_held}
 use Rattle.r6_core.proofs.Passed.{all-append}
 use Rattle.r6_core.proofs.ReadOn.{free_direct_is, read_synced, synced_read}
@@ -94,7 +95,7 @@ at_rest s core =
       none_could_start = λ live id op is could.
           let rest : Entries Request = framed_requests s.frames ++ replied_requests s.frames.saw_failed s.released s.replies.items in
           let past = all-append (λ e. IsPast e.1.stage) (framed_requests s.frames) _ (framed_past s.frames core.settled.reading) (all_replied (λ e. IsPast e.1.stage) s.frames.saw_failed (λ r. tt) (ended_past s.frames.saw_failed) s.released s.replies.items) in
-          let there = waits_at (CannotStart s.frames) s.waiting.items rest id op past core.waits is in
+          let there = waits_at (CannotStart s.frames) (waiting_of s) rest id op past (none_can s core.waits) is in
           must_wait s core.settled there.0 there.1 live (subst (CouldStart (layout_in s) (state_of s)) there.2 could);
       brought_in = λ live slot built. brought_in (rest_of s) s.frames core.settled.sound.frames slot built;
     }

@@ -28,7 +28,7 @@ use Rattle.r6_core.specs.declared.state.State.{State}
 use Rattle.r6_core.specs.declared.turn.Turn.{Turn}
 use Rattle.r6_core.specs.declared.turn.Turn.TheVariants.{Started}
 use Rattle.r6_core.specs.declared.turn.Task.TheVariants as task
-use Rattle.r6_core.specs.Shards.{core_of, core_with, call_of, state_of, layout_in, Step, completion_of, receipt_of, buffer_in, reply_of, buffer_back}
+use Rattle.r6_core.specs.Shards.{core_of, core_with, call_of, state_of, layout_in, Step, completion_of, receipt_of, buffer_in, reply_of, buffer_back, waiting_of, requests_in}
 use Rattle.r6_core.specs.Refusals.{HasSubmitFault, submit_faults, IsOut, HasDeliverFault, deliver_faults, HasRebuildFault, HasTurnFault, turn_faults, IsFirstFault, HasNone, AllTold}
 use Rattle.r6_core.specs.Order.{BringsBack, SameReplies, FinishesBy, LooksOn, TakesFirst, HasNoReply, HaveTurns, HaveTurnsBehind, HaveTurnsAfter}
 use Rattle.r6_core.specs.Effects.{Accepts, KeepsRequests, Rebuilds, Turns, turn_event, Receives, LooksAt, HandsCommand, IsOldestUntaken, IsCommandOf, Hears, RefusesAnswer, HandsReply, HandsNoReply}
@@ -139,7 +139,7 @@ pub accepts : {I E : Type 0} (window : ℕ) (number : I → ℕ) (result : Resul
     → IfOk result (λ _. HasNone (HasSubmitFault (core_of s) o) submit_faults)
     → IfOk result (λ _. Seen SameReplies s new)
     → IfOk result (λ _. new.unanswered ≡ s.unanswered + 1)
-    → IfOk result (λ id. HaveTurns (core_of s) (after (layout_in s) (state_of s) (Accept (op_of o))) (s.waiting.items ++ record { id = number id; op = o } ∷ []) (core_of new))
+    → IfOk result (λ id. HaveTurns (core_of s) (after (layout_in s) (state_of s) (Accept (op_of o))) (waiting_of s ++ record { id = number id; op = o } ∷ []) (core_of new))
     → IfOk result (λ id. Accepts (core_with window s) o (number id) (core_with window new))
 accepts window number (Ok id) s new o step right order unanswered turns =
     record { step = step; right = right; order = order; unanswered = unanswered; turns = turns }
@@ -213,7 +213,7 @@ pub hands_reply : {I : Type 0} (window : ℕ) (number : I → ℕ) (result : Opt
 hands_reply window number None s new step first brings sized unanswered waiting =
     record { step = step; none = first.0; same = ap (core_with window) first.1 }
 hands_reply window number (Some r) s new step first brings sized unanswered waiting =
-    record { step = step; first = first; brings = brings; sized = sized; unanswered = unanswered; waiting = ap (λ b. b.items) waiting }
+    record { step = step; first = first; brings = brings; sized = sized; unanswered = unanswered; waiting = ap requests_in waiting }
 
 -- ---- turns
 

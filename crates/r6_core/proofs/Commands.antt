@@ -11,20 +11,21 @@ use Rattle.r6_world.specs.Steps.{Take_command, No_command}
 use Rattle.r6_frames.specs.declared.command.Command.{Command}
 use Rattle.r6_frames.specs.declared.frames.Frames.{Frames}
 use Rattle.r6_core.specs.declared.state.State.{State}
-use Rattle.r6_frames.specs.Views.{world_command, held_requests, Rest, shard_with, hold_at, use_at, AreLive}
+use Rattle.r6_frames.specs.Views.{world_command, held_requests, Rest, shard_with, hold_at, AreLive}
 use Rattle.r6_frames.specs.Calls.{Steps, KeepsHolds, KeepsReads, KeepsDirects}
 use Rattle.r6_frames.specs.Owed.{owed_in, IsDriven, IsOver}
 use Rattle.r6_frames.specs.Slots.{count_out, states_of}
 use Rattle.r6_frames.specs.Sound as held
-use Rattle.r6_core.specs.Shards.{Step, layout_in, state_of, rest_of, requests_of, waiting_request, replied_requests, core_of}
+use Rattle.r6_core.specs.Shards.{Step, layout_in, state_of, rest_of, requests_of, waiting_request, replied_requests, core_of, waiting_of}
 use Rattle.r6_core.specs.Effects.{HandsCommand}
-use Rattle.r6_core.specs.Inside.{IsCore, IsSettled, most_calls, count_rows, count_unheld}
+use Rattle.r6_core.specs.Inside.{IsCore, IsLike, IsSettled, most_calls, count_rows, count_unheld}
 use Rattle.r6_core.proofs.SlotsKept.{calls_same}
 use Rattle.r6_frames.proofs.Lists.{table}
 use Rattle.r6_core.proofs.CountedRows.{counted_kept}
 use Rattle.r6_core.proofs.Going.{no_rest, reading_kept}
 use Rattle.r6_core.proofs.Kept.{own_rows_kept, requests_kept, sizes_kept}
-use Rattle.r6_core.proofs.Waking.{frees_kept, none_more}
+use Rattle.r6_core.proofs.Waking.{all_wait_still, frees_kept, full_same, holders_same}
+use Rattle.r6_waiters.specs.Line.{entries_of}
 
 -- a frame that has what it had
 pub rested_kept : (old new : Frames) (frame : ℕ) → hold_at new.held frame ≡ hold_at old.held frame → IsDriven old frame × (IsOver old frame → ⊥) → IsDriven new frame × (IsOver new frame → ⊥)
@@ -44,7 +45,7 @@ pub record IsTaken (old new : Frames) : Type 0 where
 
 same_requests : (s : State) (new : Frames) → KeepsHolds s.frames new → KeepsReads s.frames new → new.saw_failed ≡ s.frames.saw_failed → requests_of (record s { frames = new }) ≡ requests_of s
 same_requests s new holds reads failed =
-    λ i. map waiting_request s.waiting.items ++ ((held_requests (record new { held = holds i }) ++ reads i) ++ replied_requests (failed i) s.released s.replies.items)
+    λ i. map waiting_request (waiting_of s) ++ ((held_requests (record new { held = holds i }) ++ reads i) ++ replied_requests (failed i) s.released s.replies.items)
 
 live_before : (old new : Frames) → IsTaken old new → AreLive new → AreLive old
 live_before old new is live =
@@ -63,19 +64,20 @@ taken_core s new core is =
           numbered = subst (λ es. AllByRecursion (λ id. id < s.accepted) (keys_of es)) (sym same) sound.requests.numbered;
           counted = ap length same ∙ sound.requests.counted;
           few = sound.requests.few;
-          waiting = requests_kept s.frames new s.waiting.items is.geometry is.shard sound.requests.waiting;
+          waiting = requests_kept s.frames new (waiting_of s) is.geometry is.shard sound.requests.waiting;
           sized = sizes_kept s.frames.geometry new.geometry s.replies.items is.geometry sound.requests.sized;
           marked = sound.requests.marked;
         };
         room = record {
           waiting = sound.room.waiting;
+          causes = sound.room.causes;
           replies = sound.room.replies;
           calls = sound.room.calls;
           few_calls = omega (arith, sound.room.few_calls, out);
         };
         tokens =
             let slots : 2 * new.geometry.slots * count_unheld (record s { frames = new }) ≡ 2 * s.frames.geometry.slots * count_unheld s =
-            λ i. 2 * (is.geometry i).slots * (length s.waiting.items + length (is.reads i)) in
+            λ i. 2 * (is.geometry i).slots * (length (waiting_of s) + length (is.reads i)) in
             let owes = ap (λ held. owed_in held) is.holds in
             omega (arith, slots, owes, is.tokens, sound.tokens);
         accepted = sound.accepted;
@@ -111,11 +113,10 @@ taken_rests s new result core sound holds same directs took =
     let is = is_taken s.frames new result sound holds same directs took in
     record {
       settled = taken_core s new core.settled is;
-      waits = none_more s.frames new s.waiting.items
-          (record { geometry = is.geometry; live = live_before s.frames new is; slots = ap states_of is.slots; tokens = let next = is.tokens in omega arith })
-          (frees_kept s.frames new is.directs)
-          (λ row unheld frame h there. unheld frame h (ap (λ held. hold_at held frame) is.holds ∙ there))
-          (λ frame free. (free.0, ap (λ held. use_at held frame) (sym is.holds) ∙ free.1)) core.waits;
+      waits = λ live.
+          let like : IsLike s.frames new = record { geometry = is.geometry; live = live_before s.frames new is; slots = ap states_of is.slots; tokens = let next = is.tokens in omega arith } in
+          all_wait_still s.frames new like (frees_kept s.frames new is.directs) (holders_same s.frames new is.holds) (full_same s.frames new is.holds)
+          (entries_of s.waiting) (core.waits (live_before s.frames new is live));
     }
 
 pub taken_step : (s : State) (new : Frames) (result : Option Command) → KeepsHolds s.frames new → SameSlots s.frames new → TakesCommand s.frames result new

@@ -22,10 +22,9 @@ use Rattle.r6_frames.specs.Sound as held
 use Rattle.r6_core.specs.declared.refusal.DeviceFault.{DeviceFault}
 use Rattle.r6_core.specs.declared.refusal.Receipt.{Receipt}
 use Rattle.r6_core.specs.declared.state.State.{State}
-use Rattle.r6_core.specs.Shards.{Step, completion_of, state_of, rest_of, layout_in, core_of, receipt_of}
+use Rattle.r6_core.specs.Shards.{Step, completion_of, state_of, rest_of, layout_in, core_of, receipt_of, waiting_of, requests_in}
 use Rattle.r6_core.specs.Order.{FinishesBy, HaveTurns, HaveTurnsBehind, SameReplies, KeepsFrames}
-use Rattle.r6_frames.specs.Reads.{FreesOne}
-use Rattle.r6_core.specs.Inside.{HasFreedOne, ReadAgainFor, NoneCanStart, SameFrames, IsSettled, Seen, TakesThrough}
+use Rattle.r6_core.specs.Inside.{ReadAgainFor, SameFrames, IsSettled, Seen, TakesThrough}
 use Rattle.r6_core.proofs.Throughs.{through_in, through_none}
 use Rattle.r6_core.proofs.Scanned.{turns_in}
 use Rattle.r6_core.proofs.CountedRows.{rows_of_holds}
@@ -68,20 +67,6 @@ module _ (s : State) (token : ℕ) (fs : Frames) (core : IsSettled s) (sound : h
         rested = λ live frame. rested_still s.frames fs frame keeps (core.rested (live_still s.frames fs comes.0 (comes_still s.frames fs token comes) live) frame);
       }
 
-  -- but for one buffer all is as it was
-  pub late_freed : FreesOne s.frames fs → NoneCanStart s → HasFreedOne (record s { frames = fs })
-  late_freed frees waits = (
-    s.frames,
-    record {
-      geometry = comes.0;
-      live = live_still s.frames fs comes.0 (comes_still s.frames fs token comes);
-      slots = (comes_still s.frames fs token comes).0;
-      tokens = let next = tokens.1 in omega arith;
-    },
-    frees,
-    waits,
-  )
-
   pub late_takes : (completion : Result (List ℕ) DeviceFault) → TakesThrough s token (completion_of completion) Late (record s { frames = fs })
   late_takes completion =
       let home = comes.2 (rest_of s) in
@@ -107,8 +92,8 @@ if_ok_all (Err fault) P p = tt
 
 -- no direct read waits again
 pub none_again : (completion : Result (List ℕ) DeviceFault) (s new : State) → new.waiting ≡ s.waiting → ReadAgainFor completion s new
-none_again (Ok buffer) s new waiting = ([], refl, ap (λ b. b.items) waiting ∙ sym (append-nil s.waiting.items))
-none_again (Err fault) s new waiting = ([], tt, ap (λ b. b.items) waiting ∙ sym (append-nil s.waiting.items))
+none_again (Ok buffer) s new waiting = ([], refl, ap requests_in waiting ∙ sym (append-nil (waiting_of s)))
+none_again (Err fault) s new waiting = ([], tt, ap requests_in waiting ∙ sym (append-nil (waiting_of s)))
 
 -- ---- the whole call
 
@@ -142,7 +127,7 @@ frames_kept s mid kept = (kept.0, λ other ne. ap (λ (u : FrameUse). option_map
 pub turns_behind : (completion : Result (List ℕ) DeviceFault) (s mid new : State) (token : ℕ) (receipt : Receipt)
     → TakesThrough s token (completion_of completion) (receipt_of receipt) mid → SameFrames s mid
     → IfOk completion (λ _. (frame : ℕ) × KeepsOthers s.frames frame mid.frames) → ReadAgainFor completion s mid
-    → HaveTurns (core_of mid) (state_of mid) mid.waiting.items (core_of new) → HaveTurnsBehind (core_of s) token completion receipt (core_of new)
+    → HaveTurns (core_of mid) (state_of mid) (waiting_of mid) (core_of new) → HaveTurnsBehind (core_of s) token completion receipt (core_of new)
 turns_behind completion s mid new token receipt took same others again turns = (
   took.0,
   took.1,
@@ -153,7 +138,7 @@ turns_behind completion s mid new token receipt took same others again turns = (
   again.0,
   again.1,
   subst (λ (rs : List Request). HaveTurns (core_of s) (state_of mid) rs (core_of new)) again.2
-      (turns_in s.frames.geometry mid.frames.geometry s.frames.shard mid.frames.shard (state_of mid) (state_of new) mid.waiting.items new.waiting.items same.0 same.1 turns),
+      (turns_in s.frames.geometry mid.frames.geometry s.frames.shard mid.frames.shard (state_of mid) (state_of new) (waiting_of mid) (waiting_of new) same.0 same.1 turns),
 )
   where
     kept : (completion : Result (List ℕ) DeviceFault) → IfOk completion (λ _. (frame : ℕ) × KeepsOthers s.frames frame mid.frames)

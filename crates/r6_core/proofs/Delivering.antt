@@ -30,7 +30,7 @@ use Rattle.r6_frames.specs.Views.{op_of, outcome_of, held_entry, held_for, held_
 use Rattle.r6_frames.specs.Calls.{entry_of, ended_outcome, ended_task, Ends, IsElsewhere, HasOneBlock, KeepsOthers, KeepsReads}
 use Rattle.r6_frames.specs.Owed.{owed, IsDriven, IsOver}
 use Rattle.r6_frames.specs.Sound as held
-use Rattle.r6_core.specs.Shards.{answer_of, counts_of, state_of, rest_of, layout_in, framed_requests, requests_of, waiting_request, finished_request, replied_requests}
+use Rattle.r6_core.specs.Shards.{answer_of, counts_of, state_of, rest_of, layout_in, framed_requests, requests_of, waiting_request, finished_request, replied_requests, waiting_of}
 use Rattle.r6_core.specs.Inside.{AreBounded, IsPlainEnd, IsSound, count_unheld, count_rows, is_turn, numbered_op, one_if, requests_ended}
 use Rattle.r6_frames.proofs.Lists.{Entries, table, looked_up, same_put, other}
 use Rattle.r6_frames.proofs.Held.{use_of_row}
@@ -185,7 +185,7 @@ module _ (s : State) (frame : ℕ) (r : Request) (fs : Frames) (done : Buffer Re
   new = ended_state s fs done counts
 
   abbrev w : Entries shards.Request
-  w = map waiting_request s.waiting.items
+  w = map waiting_request (waiting_of s)
 
   abbrev p : Entries shards.Request
   p = replied_requests false s.released s.replies.items
@@ -220,7 +220,7 @@ module _ (s : State) (frame : ℕ) (r : Request) (fs : Frames) (done : Buffer Re
   requests_finished =
       let one = one_finished in
       let all : AllByRecursion (IsElsewhere frame) (w ++ ((a ++ b) ++ (d ++ p))) =
-      all-append (IsElsewhere frame) w ((a ++ b) ++ (d ++ p)) (waiting_elsewhere frame s.waiting.items)
+      all-append (IsElsewhere frame) w ((a ++ b) ++ (d ++ p)) (waiting_elsewhere frame (waiting_of s))
       (all-append (IsElsewhere frame) (a ++ b) (d ++ p) ends.leaves.0.elsewhere (all-append (IsElsewhere frame) d p (reads_elsewhere frame s.frames) (all_replied (IsElsewhere frame) false (λ x e. (cc)) (λ x e. (cc)) s.released s.replies.items))) in
       let parts : w ++ ((a ++ b) ++ (d ++ p)) ≡ (w ++ a) ++ (b ++ (d ++ p)) = simp append_assoc in
       let others = subst (AllByRecursion (IsElsewhere frame)) parts all in
@@ -244,7 +244,7 @@ module _ (s : State) (frame : ℕ) (fs : Frames) (done : Buffer Request) (counts
     (live : AreLive s.frames) (last : done.items ≡ s.replies.items ++ []) where
   requests_left : requests_of (ended_state s fs done counts) ≡ requests_of s
   requests_left =
-      λ i. map waiting_request s.waiting.items ++ ((leaves i ++ reads i) ++ replied_requests (stay.1 i) s.released ((last ∙ append-nil s.replies.items) i))
+      λ i. map waiting_request (waiting_of s) ++ ((leaves i ++ reads i) ++ replied_requests (stay.1 i) s.released ((last ∙ append-nil s.replies.items) i))
 
   none_ends : AreEnded frame outcome (requests_of s) (requests_of (ended_state s fs done counts))
   none_ends =
@@ -253,8 +253,8 @@ module _ (s : State) (frame : ℕ) (fs : Frames) (done : Buffer Request) (counts
       subst (λ (b : Bool). AllByRecursion P (replied_requests b s.released s.replies.items)) (sym live.1)
       (all_replied P false (λ x e. (cc)) (λ x e. (cc)) s.released s.replies.items) in
       let all : AllByRecursion P (requests_of s) =
-      all-append P (map waiting_request s.waiting.items) (framed_requests s.frames ++ replied_requests s.frames.saw_failed s.released s.replies.items)
-      (waiting_elsewhere frame s.waiting.items)
+      all-append P (map waiting_request (waiting_of s)) (framed_requests s.frames ++ replied_requests s.frames.saw_failed s.released s.replies.items)
+      (waiting_elsewhere frame (waiting_of s))
       (all-append P (framed_requests s.frames) _ (all-append P (held_requests s.frames) (read_requests s.frames) elsewhere (reads_elsewhere frame s.frames)) replied) in
       record {
         now =
@@ -371,19 +371,20 @@ module _ (s : State) (frame : ℕ) (e : Ended) (fs : Frames) (done : Buffer Requ
           numbered = requests.keeps (λ id. id < s.accepted) sound.requests.numbered;
           counted = requests.count ∙ sound.requests.counted;
           few = sound.requests.few;
-          waiting = requests_kept s.frames fs s.waiting.items ends.shard.0 ends.shard.1 sound.requests.waiting;
+          waiting = requests_kept s.frames fs (waiting_of s) ends.shard.0 ends.shard.1 sound.requests.waiting;
           sized = sizes_kept s.frames.geometry fs.geometry done.items ends.shard.0 sizes_ended;
           marked = let more = ap length last ∙ length-append s.replies.items (requests_ended e) in omega (arith, more, sound.requests.marked);
         };
         room = record {
           waiting = sound.room.waiting;
+          causes = sound.room.causes;
           replies = capacity ∙ sound.room.replies;
           calls = sound.room.calls;
           few_calls = let out = calls_same s.frames fs slots.0 ends.shard.0 in omega (arith, out, sound.room.few_calls);
         };
         tokens =
             let slots : 2 * fs.geometry.slots * count_unheld after_end ≡ 2 * s.frames.geometry.slots * count_unheld s =
-            λ i. 2 * (ends.shard.0 i).slots * (length s.waiting.items + length (ends.shard.3 i)) in
+            λ i. 2 * (ends.shard.0 i).slots * (length (waiting_of s) + length (ends.shard.3 i)) in
             omega (arith, slots, fewer, next, sound.tokens);
         accepted = sound.accepted;
         counted = counts_ended frames others next;
@@ -396,7 +397,7 @@ pub room_to_end : (s : State) (frame : ℕ) (e : Ended) (fs : Frames) (h : HeldR
 room_to_end s frame e fs h sound live ends is =
     let done = buffer (s.replies.items ++ requests_ended e) s.replies.capacity in
     let ended = hold_ends s frame e fs done s.counts h sound live ends is refl in
-    let w = map waiting_request s.waiting.items in
+    let w = map waiting_request (waiting_of s) in
     let p = replied_requests fs.saw_failed s.released done.items in
     let all = length-append w (framed_requests fs ++ p) in
     let framed = length-append (framed_requests fs) p in

@@ -25,11 +25,12 @@ use Rattle.r6_frames.specs.Calls.{HasOneBlock, IsAtStart, IsRequestOf}
 use Rattle.r6_frames.specs.Owed.{owed_in}
 use Rattle.r6_frames.specs.Sound as held
 use Rattle.r6_core.specs.declared.counts.Counts.{Counts}
-use Rattle.r6_core.specs.Shards.{call_of, counts_of, devices_state, state_of, requests_of, waiting_request, replied_requests}
+use Rattle.r6_core.specs.Shards.{call_of, counts_of, devices_state, state_of, requests_of, waiting_request, replied_requests, waiting_of, requests_in}
 use Rattle.r6_core.specs.Refusals.{most_unanswered}
-use Rattle.r6_core.specs.Inside.{AreOwnRows, CannotStart, IsCore, IsFresh, IsReadOn, count_unheld, count_untold, is_turn, none_counted, rows_found}
+use Rattle.r6_core.specs.Inside.{AreOwnRows, IsCore, Waits, causes, IsFresh, IsReadOn, count_unheld, count_untold, is_turn, none_counted, rows_found}
 use Rattle.r6_frames.proofs.Lists.{table}
 use Rattle.r6_core.proofs.CountedRows.{no_rows_counted}
+use Rattle.r6_waiters.specs.Line.{capacity_of, causes_of, entries_of}
 
 distinct-none : IsDistinct nat_eq []
 unfolding IsDistinct
@@ -54,13 +55,13 @@ fresh_rows s shape shard lawful below same_shape same_shard check repair =
     (subst (λ (r : ℕ). IsRowOf (layout_of shape) shard r) (sym is) (first_row_own shape shard lawful below))) in
     (own s.check_row check, own s.repair_row repair)
 
-pub fresh_core : (s : State) → s.accepted ≡ 0 → s.unanswered ≡ 0 → s.waiting ≡ buffer [] most_unanswered → s.replies ≡ buffer [] most_unanswered → s.released ≡ 0
+pub fresh_core : (s : State) → s.accepted ≡ 0 → s.unanswered ≡ 0 → s.waiting ≡ (most_unanswered, (causes, [])) → s.replies ≡ buffer [] most_unanswered → s.released ≡ 0
     → s.calls ≡ buffer [] 64 → s.untold ≡ None → s.counts ≡ none_counted
     → (shape : Shape) (shard : ℕ) → IsShape shape → shard < shape.shards → s.frames.geometry ≡ shape → s.frames.shard ≡ shard
     → s.check_row ≡ first_row shape shard → s.repair_row ≡ first_row shape shard → held.IsSound s.frames → IsAtStart s.frames → IsCore s
 fresh_core s accepted unanswered waiting replies released calls untold counts shape shard lawful below same_shape same_shard check repair sound start =
-    let none : requests_of s ≡ [] = λ i. map waiting_request (waiting i).items ++ ((start.3 i ++ start.4 i) ++ replied_requests s.frames.saw_failed (released i) (replies i).items) in
-    let nobody : s.waiting.items ≡ [] = ap (λ b. b.items) waiting in
+    let none : requests_of s ≡ [] = λ i. map waiting_request (requests_in (waiting i)) ++ ((start.3 i ++ start.4 i) ++ replied_requests s.frames.saw_failed (released i) (replies i).items) in
+    let nobody : waiting_of s ≡ [] = ap requests_in waiting in
     let some : 2 * s.frames.geometry.slots * count_unheld s ≡ 0 = (λ i. 2 * s.frames.geometry.slots * (length (nobody i) + length (start.4 i))) ∙ (omega arith) in
     record {
       settled = record {
@@ -78,7 +79,8 @@ fresh_core s accepted unanswered waiting replies released calls untold counts sh
             marked = omega (arith, released);
           };
           room = record {
-            waiting = ap (λ b. b.capacity) waiting;
+            waiting = ap capacity_of waiting;
+            causes = ap causes_of waiting;
             replies = ap (λ b. b.capacity) replies;
             calls = ap (λ b. b.capacity) calls;
             few_calls = let none : length s.calls.items + count_untold s.untold ≡ 0 = λ i. length (calls i).items + count_untold (untold i) in omega (arith, none);
@@ -96,7 +98,7 @@ fresh_core s accepted unanswered waiting replies released calls untold counts sh
         reading = subst (AllByRecursion IsReadOn) (sym start.4) tt;
         rested = λ live frame. (λ h is. let free = ap row_in (start.0 frame) in absurd (cc), λ over. let free = ap row_in (start.0 frame) in let is = over.1 in absurd (cc));
       };
-      waits = subst (λ rs. AllByRecursion (CannotStart s.frames) rs) (sym nobody) tt;
+      waits = λ live. subst (λ line. AllByRecursion (Waits s.frames) (entries_of line)) (sym waiting) tt;
     }
 
 -- ---- what the slots have at the start
@@ -141,5 +143,5 @@ none_before [] others none = refl
 none_before (request ∷ waiting) others none = absurd (cc)
 
 -- no request waits
-pub none_waiting : (s : State) → IsFresh s → s.waiting.items ≡ []
-none_waiting s fresh = none_before s.waiting.items _ fresh.1
+pub none_waiting : (s : State) → IsFresh s → (waiting_of s) ≡ []
+none_waiting s fresh = none_before (waiting_of s) _ fresh.1

@@ -24,11 +24,13 @@ use Rattle.r6_frames.specs.Directs.{read_requests}
 use Rattle.r6_frames.specs.Owed.{owed}
 use Rattle.r6_frames.specs.Sound as held
 use Rattle.r6_core.specs.declared.state.State.{State}
-use Rattle.r6_core.specs.Shards.{waiting_request, replied_requests}
+use Rattle.r6_core.specs.Shards.{waiting_request, replied_requests, waiting_of, requests_in}
 use Rattle.r6_core.specs.Inside.{IsSound, Gathers, SameCalls, SameScrubs, held_op, numbered_op, unreplied}
 use Rattle.r6_core.proofs.Kept.{waiting_sized}
 use Rattle.r6_core.proofs.Passed.{all-append}
 use Rattle.r6_core.proofs.Replied.{length_replied}
+use Rattle.r6_waiters.specs.Line.{Line}
+use Rattle.r6_core.proofs.Lined.{SameRoom}
 
 -- an entry goes from the middle to the end
 pass : {X : Type 0} (before : List X) (x : X) (behind done : List X) → IsPermutation ((before ++ x ∷ behind) ++ done) ((before ++ behind) ++ (done ++ x ∷ []))
@@ -49,11 +51,11 @@ pub record IsGathering (s new : State) (count : ℕ) : Type 0 where
   pub more : List Request
   pub replies : new.replies.items ≡ s.replies.items ++ more
   pub all : IsPermutation (unreplied s) (unreplied new ++ map numbered_op more)
-  pub waiting_sized : AllByRecursion (HasOneBlock s.frames.geometry) new.waiting.items
+  pub waiting_sized : AllByRecursion (HasOneBlock s.frames.geometry) (waiting_of new)
   pub sized : AllByRecursion (HasOneBlock s.frames.geometry) more
   pub tokens : owed new.frames ≤ owed s.frames
   pub shard : Between (λ l n x x'. x' ≡ record x { frame = x'.frame }) s.frames new.frames
-  pub waiting_room : new.waiting.capacity ≡ s.waiting.capacity
+  pub waiting_room : SameRoom s.waiting new.waiting
   pub replies_room : new.replies.capacity ≡ s.replies.capacity
   pub accepted : new.accepted ≡ s.accepted
   pub unanswered : new.unanswered ≡ s.unanswered
@@ -70,11 +72,11 @@ gathering_none s sound stopped =
       more = [];
       replies = sym (append-nil s.replies.items);
       all = subst (IsPermutation (unreplied s)) (sym (append-nil (unreplied s))) (IsPermutation-refl (unreplied s));
-      waiting_sized = waiting_sized s.frames s.waiting.items sound.requests.waiting;
+      waiting_sized = waiting_sized s.frames (waiting_of s) sound.requests.waiting;
       sized = tt;
       tokens = omega arith;
       shard = (refl, refl, (λ rest. refl), refl);
-      waiting_room = refl;
+      waiting_room = (refl, refl);
       replies_room = refl;
       accepted = refl;
       unanswered = refl;
@@ -105,7 +107,7 @@ module _ (s mid : State) (count : ℕ) (r : Request) (is : IsGathering s mid cou
       (subst (λ es. IsPermutation (unreplied s) (es ++ done)) was is.all)
       (subst (IsPermutation ((before ++ numbered_op r ∷ behind) ++ done)) end (pass before (numbered_op r) behind done))
 
-  pub gathering_waiting : (waiting : Buffer Request) → mid.waiting.items ≡ r ∷ waiting.items → waiting.capacity ≡ mid.waiting.capacity → replies.capacity ≡ mid.replies.capacity
+  pub gathering_waiting : (waiting : Line Request) → waiting_of mid ≡ r ∷ requests_in waiting → SameRoom mid.waiting waiting → replies.capacity ≡ mid.replies.capacity
       → IsGathering s (record mid { waiting = waiting; replies = replies }) count
   gathering_waiting waiting first wide long =
       let sizes = subst (AllByRecursion (HasOneBlock s.frames.geometry)) first is.waiting_sized in
@@ -116,12 +118,12 @@ module _ (s mid : State) (count : ℕ) (r : Request) (is : IsGathering s mid cou
         none_held = is.none_held;
         more = more;
         replies = replies_more;
-        all = all_more [] (map numbered_op waiting.items ++ h) (map numbered_op waiting.items ++ h) (ap (λ rs. map numbered_op rs ++ h) first) refl;
+        all = all_more [] (map numbered_op (requests_in waiting) ++ h) (map numbered_op (requests_in waiting) ++ h) (ap (λ rs. map numbered_op rs ++ h) first) refl;
         waiting_sized = sizes.1;
         sized = all-append (HasOneBlock s.frames.geometry) is.more (r ∷ []) is.sized (sizes.0, tt);
         tokens = is.tokens;
         shard = is.shard;
-        waiting_room = wide ∙ is.waiting_room;
+        waiting_room = (wide.0 ∙ is.waiting_room.0, wide.1 ∙ is.waiting_room.1);
         replies_room = long ∙ is.replies_room;
         accepted = is.accepted;
         unanswered = is.unanswered;
@@ -135,7 +137,7 @@ module _ (s mid : State) (count : ℕ) (r : Request) (is : IsGathering s mid cou
       → IsGathering s (record mid { frames = fs; replies = replies }) (count + 1)
   gathering_held fs sound stopped gives others none owes long =
       let fewer = is.tokens in
-      let w = map numbered_op mid.waiting.items in
+      let w = map numbered_op (waiting_of mid) in
       let a = map held_op gives.leaves.0.before in
       let b = map held_op gives.leaves.0.behind in
       let was : unreplied mid ≡ (w ++ a) ++ numbered_op r ∷ b =
@@ -191,7 +193,7 @@ gathering_scrub s mid count fs is sound stopped gives others none owes =
       ];
       more = is.more;
       replies = is.replies;
-      all = subst (λ es. IsPermutation (unreplied s) ((map numbered_op mid.waiting.items ++ map held_op es) ++ map numbered_op is.more)) (sym gives.2) is.all;
+      all = subst (λ es. IsPermutation (unreplied s) ((map numbered_op (waiting_of mid) ++ map held_op es) ++ map numbered_op is.more)) (sym gives.2) is.all;
       waiting_sized = is.waiting_sized;
       sized = is.sized;
       tokens = omega (arith, owes, fewer);
@@ -245,7 +247,7 @@ none_from n (uses.Free ∷ held) none = none_from (n + 1) held (λ frame. none (
 none_from n (uses.Held h ∷ held) none = absurd (let bad = none 0 in cc)
 none_from n (uses.Returning r ∷ held) none = none_from (n + 1) held (λ frame. none (suc frame))
 
-pub gathered : (s new : State) (count : ℕ) → IsGathering s new count → length new.frames.held ≤ count → new.waiting.items ≡ [] → Gathers s new
+pub gathered : (s new : State) (count : ℕ) → IsGathering s new count → length new.frames.held ≤ count → (waiting_of new) ≡ [] → Gathers s new
 gathered s new count is past none =
     let no_row : (frame : ℕ) → hold_at new.frames.held frame ≡ None = λ frame. elim (cases_lt frame count) [
       | inl lower ↦ is.none_held frame lower
@@ -268,7 +270,7 @@ gathered s new count is past none =
         (λ rest. is.shard.2 rest ∙ ap (λ f. record (shard_with rest s.frames) { frame = f }) (fun_ext (λ frame. ap (option_map hold_of) (no_row frame)))),
         is.shard.3,
       );
-      room = (is.waiting_room, is.replies_room);
+      room = (is.waiting_room.0, is.waiting_room.1, is.replies_room);
       rest = (is.accepted, is.unanswered, is.released, is.calls);
       scrubs = is.scrubs;
     }
@@ -276,17 +278,17 @@ gathered s new count is past none =
 -- there is room for all
 pub replies_room : (s mid : State) (count : ℕ) → IsSound s → IsGathering s mid count → 0 < length (unreplied mid) → length mid.replies.items < mid.replies.capacity
 replies_room s mid count sound is some =
-    let w = map waiting_request s.waiting.items in
+    let w = map waiting_request (waiting_of s) in
     let h = held_requests s.frames in
     let p = replied_requests s.frames.saw_failed s.released s.replies.items in
     let d = read_requests s.frames in
     let all = length-append w ((h ++ d) ++ p) in
     let framed = length-append (h ++ d) p in
     let held = length-append h d in
-    let many_w = length-map s.waiting.items waiting_request in
+    let many_w = length-map (waiting_of s) waiting_request in
     let many_p = length_replied s.frames.saw_failed s.released s.replies.items in
-    let own = length-append (map numbered_op s.waiting.items) (map held_op h) in
-    let own_w = length-map s.waiting.items numbered_op in
+    let own = length-append (map numbered_op (waiting_of s)) (map held_op h) in
+    let own_w = length-map (waiting_of s) numbered_op in
     let own_h = length-map h held_op in
     let same = length_permutation (unreplied s) (unreplied mid ++ map numbered_op is.more) is.all in
     let parts = length-append (unreplied mid) (map numbered_op is.more) in
@@ -294,12 +296,12 @@ replies_room s mid count sound is some =
     let now = ap length is.replies ∙ length-append s.replies.items is.more in
     omega (arith, all, framed, held, many_w, many_p, own, own_w, own_h, same, parts, gone, now, sound.requests.counted, sound.requests.few, sound.room.replies, is.replies_room, some)
 
-pub some_waits : (mid : State) (r : Request) (rest : List Request) → mid.waiting.items ≡ r ∷ rest → 0 < length (unreplied mid)
+pub some_waits : (mid : State) (r : Request) (rest : List Request) → (waiting_of mid) ≡ r ∷ rest → 0 < length (unreplied mid)
 some_waits mid r rest first = let some = ap (λ rs. length (map numbered_op rs ++ map held_op (held_requests mid.frames))) first in omega (arith, some)
 
 pub some_held : (mid : State) (few : List (ℕ × shards.Request)) (frame : ℕ) (r : Request) → IsWith few frame (entry_of frame r) (held_requests mid.frames) → 0 < length (unreplied mid)
 some_held mid few frame r place =
-    let all = length-append (map numbered_op mid.waiting.items) (map held_op (held_requests mid.frames)) in
+    let all = length-append (map numbered_op (waiting_of mid)) (map held_op (held_requests mid.frames)) in
     let held = length-map (held_requests mid.frames) held_op in
     let many = ap length place.with ∙ length-append place.before (entry_of frame r ∷ place.behind) in
     omega (arith, all, held, many)

@@ -1,5 +1,5 @@
 -- The command of a direct read is answered: its request is finished.
-use Rattle.std.proofs.Common.{◌≡◌, ℕ, ◌+◌, ◌*◌, ◌<◌, ◌≤◌, Bool, false, List, [], ◌∷◌, ◌++◌, length, map, refl, sym, ap, subst, ◌∙◌, Option, inr, arith, append_assoc, append-nil, length-append}
+use Rattle.std.proofs.Common.{◌≡◌, ℕ, ◌+◌, ◌*◌, ◌<◌, ◌≤◌, Bool, false, List, [], ◌∷◌, ◌++◌, length, map, refl, sym, ap, subst, ◌∙◌, Option, arith, append_assoc, append-nil, length-append}
 use Rattle.std.specs.List.{AllByRecursion}
 use Rattle.std.proofs.Math.Nat.{mul-le-mul}
 use Rattle.r6_layout.specs.Shape.{Shape}
@@ -20,9 +20,9 @@ use Rattle.r6_frames.specs.Calls.{HasOneBlock, KeepsHolds, KeepsSlots}
 use Rattle.r6_frames.specs.Owed.{owed, owed_in}
 use Rattle.r6_frames.specs.Sound as held
 use Rattle.r6_core.specs.declared.state.State.{State}
-use Rattle.r6_core.specs.Shards.{finished_request, layout_in, replied_requests, requests_of, rest_of, state_of, waiting_request}
+use Rattle.r6_core.specs.Shards.{finished_request, layout_in, replied_requests, requests_of, rest_of, state_of, waiting_request, waiting_of}
 use Rattle.r6_core.specs.Order.{MayFinish}
-use Rattle.r6_core.specs.Inside.{HasFreedOne, IsCore, IsReadOn, IsSettled, IsSound, Seen, TakesThrough, count_rows, count_unheld, is_turn}
+use Rattle.r6_core.specs.Inside.{HasBuffer, IsCore, IsReadOn, IsSettled, IsSound, Seen, TakesThrough, count_rows, count_unheld, is_turn}
 use Rattle.r6_core.proofs.Answering.{live_still, rested_kept}
 use Rattle.r6_core.proofs.CountedRows.{counted_still}
 use Rattle.r6_core.proofs.Kept.{own_rows_kept, requests_kept, sizes_kept}
@@ -52,7 +52,7 @@ module _ (s : State) (token : ℕ) (block : List ℕ) (request : Request) (fs : 
 
   requests_given : Passed (requests_of s) (requests_of given) entry.0 entry.1 done.1
   requests_given =
-      let w = map waiting_request s.waiting.items in
+      let w = map waiting_request (waiting_of s) in
       let h = held_requests s.frames in
       let p = replied_requests false s.released s.replies.items in
       let a = answers.requests.before in
@@ -112,13 +112,14 @@ module _ (s : State) (token : ℕ) (block : List ℕ) (request : Request) (fs : 
             numbered = one.keeps (λ id. id < s.accepted) sound.requests.numbered;
             counted = one.count ∙ sound.requests.counted;
             few = sound.requests.few;
-            waiting = requests_kept s.frames fs s.waiting.items geometry shard sound.requests.waiting;
+            waiting = requests_kept s.frames fs (waiting_of s) geometry shard sound.requests.waiting;
             sized = sizes_kept s.frames.geometry fs.geometry replies.items geometry
                 (subst (AllByRecursion (HasOneBlock s.frames.geometry)) (sym items) (all-append (HasOneBlock s.frames.geometry) s.replies.items (request ∷ []) sound.requests.sized (one_block, tt)));
             marked = let more = ap length items ∙ length-append s.replies.items (request ∷ []) in omega (arith, more, sound.requests.marked);
           };
           room = record {
             waiting = sound.room.waiting;
+            causes = sound.room.causes;
             replies = capacity ∙ sound.room.replies;
             calls = sound.room.calls;
             few_calls = let same = calls_same s.frames fs (ap states_of slots.0) geometry in omega (arith, same, sound.room.few_calls);
@@ -139,19 +140,21 @@ module _ (s : State) (token : ℕ) (block : List ℕ) (request : Request) (fs : 
   pub given_order : Seen MayFinish s given
   given_order = let both = behind_finished s given (request ∷ []) core.sound refl items in (request ∷ [], omega arith, both.0, both.1)
 
-  pub given_freed : IsCore s → (number : ℕ) → FreesDirect s.frames number fs → HasFreedOne given
-  given_freed whole number frees = (
-    s.frames,
-    record { geometry = answers.same.0; live = λ _. lives; slots = ap states_of slots.0; tokens = omega (arith, next) },
-    inr (holds, number, frees),
-    whole.waits,
-  )
+  pub given_freed : IsCore s → (number : ℕ) → FreesDirect s.frames number fs → HasBuffer given
+  given_freed whole number frees = record {
+    before = s.frames;
+    like = record { geometry = answers.same.0; live = λ _. lives; slots = ap states_of slots.0; tokens = omega (arith, next) };
+    holds = holds;
+    number = number;
+    frees = frees;
+    waits = whole.waits lives;
+  }
 
 -- there is room for its reply
 pub room_to_give : (s : State) (token : ℕ) (block : List ℕ) (request : Request) (fs : Frames) → IsSound s → AnswersRead s.frames token block request fs
     → length s.replies.items < s.replies.capacity
 room_to_give s token block request fs sound answers =
-    let w = map waiting_request s.waiting.items in
+    let w = map waiting_request (waiting_of s) in
     let h = held_requests s.frames in
     let d = read_requests s.frames in
     let p = replied_requests s.frames.saw_failed s.released s.replies.items in

@@ -19,7 +19,7 @@ use Rattle.r6_frames.specs.Owed.{owed}
 use Rattle.r6_frames.specs.Sound as held
 use Rattle.r6_core.specs.declared.call.Call.{Call}
 use Rattle.r6_core.specs.declared.state.State.{State}
-use Rattle.r6_core.specs.Shards.{state_of, layout_in, rest_of, requests_of, framed_requests, call_of, counts_of, waiting_request, replied_requests, table}
+use Rattle.r6_core.specs.Shards.{state_of, layout_in, rest_of, requests_of, framed_requests, call_of, counts_of, waiting_request, replied_requests, table, waiting_of}
 use Rattle.r6_core.specs.Inside.{AreReadOn, IsReadOn, IsSound, count_unheld, most_calls, count_untold, none_counted}
 use Rattle.r6_core.proofs.CountedRows.{counted_kept, same_or_fewer}
 use Rattle.r6_core.proofs.Kept.{own_rows_kept, requests_kept, sizes_kept}
@@ -91,13 +91,13 @@ keys_framed old new held reads =
 pub gone_keys : (s : State) (fs : Frames) (calls : Buffer Call) → Goes s fs calls → keys_of (requests_of (gone_on s fs calls)) ≡ keys_of (requests_of s)
 gone_keys s fs calls goes =
     keys_requests (gone_on s fs calls)
-    ∙ ap (λ ks. keys_of (map waiting_request s.waiting.items) ++ (ks ++ numbers s.replies.items)) (keys_framed s.frames fs goes.requests goes.reads)
+    ∙ ap (λ ks. keys_of (map waiting_request (waiting_of s)) ++ (ks ++ numbers s.replies.items)) (keys_framed s.frames fs goes.requests goes.reads)
     ∙ sym (keys_requests s)
 
 -- and so are the requests, if none was read directly whose command is abandoned
 pub gone_requests : (s : State) (fs : Frames) (calls : Buffer Call) → Goes s fs calls → KeepsReads s.frames fs → requests_of (gone_on s fs calls) ≡ requests_of s
 gone_requests s fs calls goes reads =
-    λ i. map waiting_request s.waiting.items ++ ((goes.requests i ++ reads i) ++ replied_requests (goes.seen i) s.released s.replies.items)
+    λ i. map waiting_request (waiting_of s) ++ ((goes.requests i ++ reads i) ++ replied_requests (goes.seen i) s.released s.replies.items)
 
 -- what the shard has beside its frames, with these calls
 abbrev pub rest_with : State → Buffer Call → Rest
@@ -122,12 +122,13 @@ gone_sound s fs calls sound goes =
         numbered = subst (AllByRecursion (λ id. id < s.accepted)) (sym same) sound.requests.numbered;
         counted = as_many (requests_of (gone_on s fs calls)) (requests_of s) same ∙ sound.requests.counted;
         few = sound.requests.few;
-        waiting = requests_kept s.frames fs s.waiting.items goes.geometry goes.shard sound.requests.waiting;
+        waiting = requests_kept s.frames fs (waiting_of s) goes.geometry goes.shard sound.requests.waiting;
         sized = sizes_kept s.frames.geometry fs.geometry s.replies.items goes.geometry sound.requests.sized;
         marked = sound.requests.marked;
       };
       room = record {
         waiting = sound.room.waiting;
+        causes = sound.room.causes;
         replies = sound.room.replies;
         calls = goes.room ∙ sound.room.calls;
         few_calls = goes.few;
@@ -135,7 +136,7 @@ gone_sound s fs calls sound goes =
       tokens =
           let reads = as_many (read_requests fs) (read_requests s.frames) goes.reads in
           let most : 2 * fs.geometry.slots * count_unheld (gone_on s fs calls) ≡ 2 * s.frames.geometry.slots * count_unheld s =
-          λ i. 2 * (goes.geometry i).slots * (length s.waiting.items + reads i) in
+          λ i. 2 * (goes.geometry i).slots * (length (waiting_of s) + reads i) in
           omega (arith, most, goes.tokens, sound.tokens);
       accepted = sound.accepted;
       counted = counted_kept s.counts s.frames fs sound.counted (same_or_fewer s.frames fs sound.frames goes.sound goes.rows) goes.given;

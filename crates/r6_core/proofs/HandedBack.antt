@@ -5,7 +5,6 @@ use Rattle.std.specs.Prelude.{nat_eq}
 use Rattle.std.specs.List.{AllByRecursion}
 use Rattle.std.proofs.lemmas.Bool.{eqb-true}
 use Rattle.std.proofs.lemmas.List.{length-map, map-append}
-use Rattle.circular_buffer.specs.Buffer.{Buffer}
 use Rattle.r6_world.specs.Tables.{put}
 use Rattle.r6_world.specs.ShardStates as shards
 use Rattle.r6_world.specs.ShardStates.{Reading, Waiting}
@@ -23,7 +22,7 @@ use Rattle.r6_frames.specs.Owed.{owed, owed_in}
 use Rattle.r6_frames.specs.Sound as held
 use Rattle.r6_core.specs.declared.state.State.{State}
 use Rattle.r6_core.specs.Order.{WereRead}
-use Rattle.r6_core.specs.Shards.{requests_of, replied_requests, rest_of, state_of, table, waiting_request}
+use Rattle.r6_core.specs.Shards.{requests_of, replied_requests, rest_of, state_of, table, waiting_request, waiting_of, requests_in}
 use Rattle.r6_core.specs.Inside as core
 use Rattle.r6_core.specs.Inside.{AreReadOn, IsReadOn, IsSound, ReadAgain, WereStopped, count_rows, count_unheld, is_turn}
 use Rattle.r6_core.proofs.CountedRows.{counted_still}
@@ -32,6 +31,8 @@ use Rattle.r6_core.proofs.Passed.{Passed, all-append, passed}
 use Rattle.r6_core.proofs.ReadOn.{read_there}
 use Rattle.r6_core.proofs.SlotsKept.{calls_same}
 use Rattle.r6_frames.specs.Slots.{states_of}
+use Rattle.r6_waiters.specs.Line.{capacity_of, Line}
+use Rattle.r6_core.proofs.Lined.{SameRoom}
 
 -- ---- none is left
 
@@ -69,8 +70,8 @@ pub record IsHandingBack (s now : State) : Type 0 where
   pub state : state_of now ≡ state_of s
   pub again : List Request
   pub from : ℕ
-  pub waiting : now.waiting.items ≡ s.waiting.items ++ again
-  pub capacity : now.waiting.capacity ≡ s.waiting.capacity
+  pub waiting : waiting_of now ≡ waiting_of s ++ again
+  pub capacity : SameRoom s.waiting now.waiting
   pub were : WereStopped s.frames 0 again
   -- those that are left come behind
   pub later : (other : List Request) → WereStopped s.frames from other → WereStopped s.frames 0 (again ++ other)
@@ -88,8 +89,8 @@ handing_none s sound = record {
   state = refl;
   again = [];
   from = 0;
-  waiting = sym (append-nil s.waiting.items);
-  capacity = refl;
+  waiting = sym (append-nil (waiting_of s));
+  capacity = (refl, refl);
   were = tt;
   later = λ other were. were;
   left = λ number r is. omega arith;
@@ -109,9 +110,9 @@ put_same f k v is = fun_ext (λ q. by_test q (nat_eq q k) refl)
     by_test q true e = ap (λ (b : Bool). cond b v (f q)) e ∙ sym is ∙ ap f (sym (eqb-true q k e))
     by_test q false e = ap (λ (b : Bool). cond b v (f q)) e
 
-module _ (s : State) (request : Request) (fs : Frames) (waiting : Buffer Request) (sound : IsSound s) (frames : held.IsSound fs) (back : HandsBack s.frames request fs)
+module _ (s : State) (request : Request) (fs : Frames) (waiting : Line Request) (sound : IsSound s) (frames : held.IsSound fs) (back : HandsBack s.frames request fs)
     (holds : KeepsHolds s.frames fs) (slots : KeepsSlots s.frames fs) (commands : fs.commands ≡ s.frames.commands)
-    (items : waiting.items ≡ s.waiting.items ++ request ∷ []) (capacity : waiting.capacity ≡ s.waiting.capacity) where
+    (items : requests_in waiting ≡ waiting_of s ++ request ∷ []) (capacity : SameRoom s.waiting waiting) where
   abbrev pub now : State
   now = record s { waiting = waiting; frames = fs }
 
@@ -121,7 +122,7 @@ module _ (s : State) (request : Request) (fs : Frames) (waiting : Buffer Request
   -- the request goes from the direct reads to those that wait
   requests_back : Passed (requests_of s) (requests_of now) request.id (waiting_request request).1 (waiting_request request).1
   requests_back =
-      let w = map waiting_request s.waiting.items in
+      let w = map waiting_request (waiting_of s) in
       let h = held_requests s.frames in
       let p = replied_requests s.frames.saw_failed s.released s.replies.items in
       let b = back.requests.before in
@@ -132,7 +133,7 @@ module _ (s : State) (request : Request) (fs : Frames) (waiting : Buffer Request
       ∙ (λ i. w ++ ((h ++ (b ++ entry_is i ∷ c)) ++ p))
       ∙ (simp append_assoc))
       ((λ i. map waiting_request (items i) ++ ((requests_from 0 (holds i) ++ back.requests.without i) ++ replied_requests (slots.1 i) s.released s.replies.items))
-      ∙ ap (λ es. es ++ ((h ++ (b ++ c)) ++ p)) (map-append waiting_request s.waiting.items (request ∷ []))
+      ∙ ap (λ es. es ++ ((h ++ (b ++ c)) ++ p)) (map-append waiting_request (waiting_of s) (request ∷ []))
       ∙ (simp append_assoc))
       (simp append_assoc)
       sound.requests.distinct
@@ -155,7 +156,7 @@ module _ (s : State) (request : Request) (fs : Frames) (waiting : Buffer Request
       let one = requests_back in
       let geometry = back.same.0 in
       let shard = back.same.1 in
-      let longer = ap length items ∙ length-append s.waiting.items (request ∷ []) in
+      let longer = ap length items ∙ length-append (waiting_of s) (request ∷ []) in
       let owes : owed fs ≡ owed s.frames = ap (λ held. owed_in held) holds in
       let next : fs.commands.next ≡ s.frames.commands.next = ap (λ c. c.next) commands in
       let many : count_unheld now ≡ count_unheld s = let fewer = fewer_reads in omega (arith, longer, fewer) in
@@ -168,13 +169,14 @@ module _ (s : State) (request : Request) (fs : Frames) (waiting : Buffer Request
           counted = one.count ∙ sound.requests.counted;
           few = sound.requests.few;
           waiting = subst (AllByRecursion (IsRequestOf fs)) (sym items)
-              (requests_kept s.frames fs (s.waiting.items ++ request ∷ []) geometry shard
-              (all-append (IsRequestOf s.frames) s.waiting.items (request ∷ []) sound.requests.waiting (back.own, tt)));
+              (requests_kept s.frames fs (waiting_of s ++ request ∷ []) geometry shard
+              (all-append (IsRequestOf s.frames) (waiting_of s) (request ∷ []) sound.requests.waiting (back.own, tt)));
           sized = sizes_kept s.frames.geometry fs.geometry s.replies.items geometry sound.requests.sized;
           marked = sound.requests.marked;
         };
         room = record {
-          waiting = capacity ∙ sound.room.waiting;
+          waiting = capacity.0 ∙ sound.room.waiting;
+          causes = capacity.1 ∙ sound.room.causes;
           replies = sound.room.replies;
           calls = sound.room.calls;
           few_calls = let same = calls_same s.frames fs (ap states_of slots.0) geometry in omega (arith, same, sound.room.few_calls);
@@ -188,16 +190,16 @@ module _ (s : State) (request : Request) (fs : Frames) (waiting : Buffer Request
       }
   -- there is room for it
 
-pub back_fits : (s : State) (request : Request) (fs : Frames) → IsSound s → HandsBack s.frames request fs → length s.waiting.items < s.waiting.capacity
+pub back_fits : (s : State) (request : Request) (fs : Frames) → IsSound s → HandsBack s.frames request fs → length (waiting_of s) < capacity_of s.waiting
 back_fits s request fs sound back =
-    let w = map waiting_request s.waiting.items in
+    let w = map waiting_request (waiting_of s) in
     let h = held_requests s.frames in
     let d = read_requests s.frames in
     let p = replied_requests s.frames.saw_failed s.released s.replies.items in
     let all = length-append w ((h ++ d) ++ p) in
     let framed = length-append (h ++ d) p in
     let parts = length-append h d in
-    let many = length-map s.waiting.items waiting_request in
+    let many = length-map (waiting_of s) waiting_request in
     let reads = ap length back.requests.with ∙ length-append back.requests.before (read_entry back.read Waiting ∷ back.requests.behind) in
     omega (arith, all, framed, parts, many, reads, sound.requests.counted, sound.requests.few, sound.room.waiting)
 
@@ -206,9 +208,9 @@ back_fits s request fs sound back =
 stopped_same : (old new : Frames) (r : DirectRead) → KeepsSlots old new → is_stopped new.slots r ≡ true → is_stopped old.slots r ≡ true
 stopped_same old new r slots is = ap (λ (ss : List Slot). is_stopped ss r) (sym slots.0) ∙ is
 
-pub handing_on : (s mid : State) (request : Request) (fs : Frames) (waiting : Buffer Request) → IsHandingBack s mid → held.IsSound fs → HandsBack mid.frames request fs
+pub handing_on : (s mid : State) (request : Request) (fs : Frames) (waiting : Line Request) → IsHandingBack s mid → held.IsSound fs → HandsBack mid.frames request fs
     → KeepsHolds mid.frames fs → KeepsSlots mid.frames fs → fs.commands ≡ mid.frames.commands → FewerReaders mid.frames fs
-    → waiting.items ≡ mid.waiting.items ++ request ∷ [] → waiting.capacity ≡ mid.waiting.capacity
+    → requests_in waiting ≡ waiting_of mid ++ request ∷ [] → SameRoom mid.waiting waiting
     → IsHandingBack s (record mid { waiting = waiting; frames = fs })
 handing_on s mid request fs waiting is frames back holds slots commands readers items capacity =
     let r = back.read in
@@ -222,8 +224,8 @@ handing_on s mid request fs waiting is frames back holds slots commands readers 
       state = back_state mid request fs waiting is.sound frames back holds slots commands items capacity ∙ is.state;
       again = is.again ++ request ∷ [];
       from = r.token;
-      waiting = items ∙ ap (λ rs. rs ++ request ∷ []) is.waiting ∙ append_assoc s.waiting.items is.again (request ∷ []);
-      capacity = capacity ∙ is.capacity;
+      waiting = items ∙ ap (λ rs. rs ++ request ∷ []) is.waiting ∙ append_assoc (waiting_of s) is.again (request ∷ []);
+      capacity = (capacity.0 ∙ is.capacity.0, capacity.1 ∙ is.capacity.1);
       were = is.later (request ∷ []) (one [] tt);
       later = λ other were. subst (WereStopped s.frames 0) (sym (append_assoc is.again (request ∷ []) other)) (is.later (request ∷ other) (one other were));
       left = λ k q stopped. back.lowest.1 k q (readers k q stopped.0, stopped_same mid.frames fs q slots stopped.1);

@@ -26,8 +26,8 @@ use Rattle.r6_frames.proofs.Held.{put_own}
 use Rattle.r6_frames.proofs.Resting.{frame-held, free_is, goes_on}
 use Rattle.r6_core.specs.declared.state.State.{State}
 use Rattle.r6_world.specs.ShardStates.{limit}
-use Rattle.r6_core.specs.Shards.{layout_in, requests_of, rest_of, state_of, table, waiting_request, replied_requests}
-use Rattle.r6_core.specs.Inside.{AreBounded, AreOwnRows, CanHold, CannotStart, IsCore, IsRestedFrame, IsSettled, IsSound, count_rows, count_unheld, is_turn, one_if}
+use Rattle.r6_core.specs.Shards.{layout_in, requests_of, rest_of, state_of, table, waiting_request, replied_requests, waiting_of}
+use Rattle.r6_core.specs.Inside.{AreBounded, AreOwnRows, CanHold, IsCore, IsRestedFrame, IsSettled, IsSound, count_rows, count_unheld, is_turn, one_if, Waits}
 use Rattle.r6_core.proofs.Accepting.{few_unheld, owed_in-le, room_for_all}
 use Rattle.r6_core.proofs.CountedRows.{row_weight, rows_counted_but_one, rows_counted_still}
 use Rattle.r6_core.proofs.Going.{no_rest, reading_kept}
@@ -36,7 +36,8 @@ use Rattle.r6_core.proofs.Scrubs.{Weighs, scrub_weight, scrubs_weigh, turn_weigh
 use Rattle.r6_core.proofs.SlotsKept.{drives_keep, calls_same}
 use Rattle.r6_core.proofs.Starting.{no_row, not_held, scans}
 use Rattle.r6_core.proofs.Throughs.{keeps_or_gives, through_in, through_of}
-use Rattle.r6_core.proofs.Waking.{frees_kept, none_more}
+use Rattle.r6_core.proofs.Waking.{all_wait_still, frees_kept, holders_begun}
+use Rattle.r6_waiters.specs.Line.{entries_of}
 
 -- ---- the limits
 
@@ -148,7 +149,7 @@ module _ (s : State) (task : Task) (frame row check_row repair_row : ℕ) (mid n
   reads_same = is.drives.3 ∙ is.begins.shard.3
 
   requests_same : requests_of turned ≡ requests_of s
-  requests_same = λ i. map waiting_request s.waiting.items
+  requests_same = λ i. map waiting_request (waiting_of s)
       ++ (((is.requests ∙ is.begins.requests) i ++ reads_same i) ++ replied_requests ((is.live.1 ∙ sym is.can.0.1) i) s.released s.replies.items)
 
   -- the frame was free, and its row is held
@@ -175,15 +176,12 @@ module _ (s : State) (task : Task) (frame row check_row repair_row : ℕ) (mid n
             absurd ((free_is rest s.frames frame is.core.settled.sound.frames is.can.0 is.can.1).2 out.0 out.1 before out.4)
       ]
 
-  turned_waits : AllByRecursion (CannotStart new) s.waiting.items
+  turned_waits : AllByRecursion (Waits new) (entries_of s.waiting)
   turned_waits =
-      none_more s.frames new s.waiting.items
+      all_wait_still s.frames new
       (record { geometry = geometry_same; live = λ live. is.can.0; slots = turned_slots; tokens = omega (arith, turned_tokens) })
-      (frees_kept s.frames new is.directs)
-      (λ row unheld f h there.
-      let apart : f ≢ frame = λ e. let both : Some h ≡ None = sym there ∙ ap (hold_at s.frames.held) e ∙ no_row s.frames frame is.can.1 in absurd (cc) in
-      unheld f h (ap row_in (frames_same f apart) ∙ there))
-      (λ f free. (free.0, sym (frames_same f (not_frame f free)) ∙ free.1)) is.core.waits
+      (frees_kept s.frames new is.directs) (holders_begun s.frames new frame is.can.1 frames_same)
+      (λ f free. (free.0, sym (frames_same f (not_frame f free)) ∙ free.1)) (entries_of s.waiting) (is.core.waits is.can.0)
 
   -- the row is held for the task, and the others for what they were
   turned_rows : (test : Job → Bool) (weight : Task → ℕ) → Weighs test weight → count_rows test new.held ≡ count_rows test s.frames.held + weight task
@@ -221,12 +219,13 @@ module _ (s : State) (task : Task) (frame row check_row repair_row : ℕ) (mid n
             numbered = subst (λ es. AllByRecursion (λ id. id < s.accepted) (keys_of es)) (sym same) sound.requests.numbered;
             counted = ap length same ∙ sound.requests.counted;
             few = sound.requests.few;
-            waiting = requests_kept s.frames new s.waiting.items geometry_same shard_same sound.requests.waiting;
+            waiting = requests_kept s.frames new (waiting_of s) geometry_same shard_same sound.requests.waiting;
             sized = sizes_kept s.frames.geometry new.geometry s.replies.items geometry_same sound.requests.sized;
             marked = sound.requests.marked;
           };
           room = record {
             waiting = sound.room.waiting;
+            causes = sound.room.causes;
             replies = sound.room.replies;
             calls = sound.room.calls;
             few_calls = let out = calls_same s.frames new turned_slots geometry_same in omega (arith, out, sound.room.few_calls);
@@ -235,7 +234,7 @@ module _ (s : State) (task : Task) (frame row check_row repair_row : ℕ) (mid n
               let owes = owed_in-le mid.geometry.slots mid.held (λ f h there. (is.begun_sound.frames.rows f h there).wide) in
               let room = room_for_all mid.geometry.slots (count_unheld s) (length mid.held) (owed mid) is.begun_sound.shape.slots_allowed.1 owes is.begun_sound.frames.count (few_unheld s sound) in
               let slots : 2 * new.geometry.slots * count_unheld turned ≡ 2 * mid.geometry.slots * count_unheld s =
-              λ i. 2 * (is.drives.0 i).slots * (length s.waiting.items + length (reads_same i)) in
+              λ i. 2 * (is.drives.0 i).slots * (length (waiting_of s) + length (reads_same i)) in
               let next = ap (λ (x : Shard). x.tokens) (is.begins.shard.2 no_rest) in
               omega (arith, room, slots, next, is.all_owed, is.given);
           accepted = sound.accepted;
@@ -253,7 +252,7 @@ module _ (s : State) (task : Task) (frame row check_row repair_row : ℕ) (mid n
       }
 
   pub turned_core : IsCore turned
-  turned_core = record { settled = turned_settled; waits = turned_waits }
+  turned_core = record { settled = turned_settled; waits = λ live. turned_waits }
 
   turned_mid : shard_with (rest_of turned) mid ≡ after (layout_in s) (state_of s) (Start frame row task)
   turned_mid =

@@ -17,8 +17,11 @@ pub mod HandedBack
 pub mod HeldRebuilds
 pub mod HeldRequests
 pub mod HeldTurns
+pub mod Home
 pub mod Kept
 pub mod Known
+pub mod LetGo
+pub mod Lined
 pub mod Looking
 pub mod Losing
 pub mod MayBegin

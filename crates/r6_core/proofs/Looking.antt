@@ -12,7 +12,7 @@ use Rattle.r6_frames.specs.declared.op.Request.{Request}
 use Rattle.r6_frames.specs.declared.frames.Frames.{Frames}
 use Rattle.r6_frames.specs.Slots.{states_of}
 use Rattle.r6_core.specs.declared.state.State.{State}
-use Rattle.r6_core.specs.Shards.{Step, layout_in, state_of, call_of, core_of}
+use Rattle.r6_core.specs.Shards.{Step, layout_in, state_of, call_of, core_of, waiting_of, requests_in}
 use Rattle.r6_core.specs.Order.{SameReplies, Agrees, Finishes, IsRising, ReleasesAll, InTurn, HaveTurns, HaveTurnsAfter}
 use Rattle.r6_core.specs.Inside.{ReadAgain, SameFrames, NoCalls, IsCore, IsSettled, ReleasesFinished, Seen}
 use Rattle.r6_core.proofs.AtRest.{at_rest}
@@ -172,14 +172,14 @@ looked_releases s mid settled released new seen same done order kept = (
 )
 
 pub looked_turns : (s mid settled released new : State) (seen : Snapshot) (took : TookOver s mid seen) → HasSettled s mid settled seen → HasReleased mid settled released new
-    → (Agrees (core_of s) seen → took.again.0 ≡ []) → released.waiting ≡ settled.waiting → HaveTurns (core_of released) (state_of released) released.waiting.items (core_of new)
+    → (Agrees (core_of s) seen → took.again.0 ≡ []) → released.waiting ≡ settled.waiting → HaveTurns (core_of released) (state_of released) (waiting_of released) (core_of new)
     → HaveTurnsAfter (core_of s) seen (core_of new)
 looked_turns s mid settled released new seen took done has none waiting turns = λ unfailed.
     let shape = done.same.0 ∙ took.same.0 in
     let shard = done.same.1 ∙ took.same.1 in
-    let own = turns_in s.frames.geometry released.frames.geometry s.frames.shard released.frames.shard (state_of released) (state_of new) released.waiting.items new.waiting.items
+    let own = turns_in s.frames.geometry released.frames.geometry s.frames.shard released.frames.shard (state_of released) (state_of new) (waiting_of released) (waiting_of new)
     (ap (λ (fs : Frames). fs.geometry) has.frames ∙ shape) (ap (λ (fs : Frames). fs.shard) has.frames ∙ shard) turns in
-    let from = subst (λ x. HaveTurns (core_of s) x released.waiting.items (core_of new)) (has.is ∙ ap (λ g. after (layout_of g) (state_of settled) Release) shape) own in (
+    let from = subst (λ x. HaveTurns (core_of s) x (waiting_of released) (core_of new)) (has.is ∙ ap (λ g. after (layout_of g) (state_of settled) Release) shape) own in (
       state_of mid,
       took.takes,
       state_of settled,
@@ -187,7 +187,7 @@ looked_turns s mid settled released new seen took done has none waiting turns = 
       took.again.0,
       took.again.1,
       (λ agrees. (done.stays agrees, none agrees)),
-      subst (λ rs. HaveTurns (core_of s) (after (layout_in s) (state_of settled) Release) rs (core_of new)) (ap (λ b. b.items) (waiting ∙ done.waiting) ∙ took.again.2) from,
+      subst (λ rs. HaveTurns (core_of s) (after (layout_in s) (state_of settled) Release) rs (core_of new)) (ap requests_in (waiting ∙ done.waiting) ∙ took.again.2) from,
     )
 
 pub stopped_turns : (s mid : State) (seen : Snapshot) (took : TookOver s mid seen) → mid.frames.saw_failed ≡ true → (Agrees (core_of s) seen → state_of mid ≡ state_of s)
@@ -200,7 +200,7 @@ stopped_turns s mid seen took failed stays none = λ unfailed. (
   took.again.0,
   took.again.1,
   (λ agrees. (stays agrees, none agrees)),
-  subst (λ x. HaveTurns (core_of s) x (s.waiting.items ++ took.again.0) (core_of mid)) (released_nothing mid failed)
-      (subst (λ rs. InTurn (layout_in s) s.frames.shard (state_of mid) rs (state_of mid) mid.waiting.items) took.again.2
-      (all_stopped (layout_in s) s.frames.shard (state_of mid) mid.waiting.items (λ live. let not = live.1 in absurd (cc)))),
+  subst (λ x. HaveTurns (core_of s) x (waiting_of s ++ took.again.0) (core_of mid)) (released_nothing mid failed)
+      (subst (λ rs. InTurn (layout_in s) s.frames.shard (state_of mid) rs (state_of mid) (waiting_of mid)) took.again.2
+      (all_stopped (layout_in s) s.frames.shard (state_of mid) (waiting_of mid) (λ live. let not = live.1 in absurd (cc)))),
 )

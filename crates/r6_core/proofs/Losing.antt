@@ -34,7 +34,7 @@ use Rattle.r6_frames.proofs.Resting.{command-there}
 use Rattle.r6_core.specs.declared.call.Call.{Call}
 use Rattle.r6_core.specs.declared.call.Call.TheVariants as call
 use Rattle.r6_core.specs.declared.state.State.{State}
-use Rattle.r6_core.specs.Shards.{call_of, state_of, rest_of, layout_in}
+use Rattle.r6_core.specs.Shards.{call_of, state_of, rest_of, layout_in, requests_in}
 use Rattle.r6_frames.specs.Reads.{KeepsReaders}
 use Rattle.r6_core.specs.Order.{Finishes}
 use Rattle.r6_core.proofs.HandedBack.{were_read}
@@ -210,7 +210,7 @@ pub lost_again : (s : State) (fs : Frames) (calls : Buffer Call) (back new : Sta
 lost_again s fs calls back new core readers handed waiting = (
   handed.again,
   were_read s fs 0 handed.again core.sound core.reading (λ number r has. sym (readers number) ∙ has) handed.were,
-  ap (λ b. b.items) waiting ∙ handed.waiting,
+  ap requests_in waiting ∙ handed.waiting,
 )
 
 pub lost_order : (s : State) (fs : Frames) (calls : Buffer Call) (back new : State) → HandsBack (gone_on s fs calls) back → Seen Finishes back new → Seen Finishes s new

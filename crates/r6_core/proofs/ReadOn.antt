@@ -27,7 +27,7 @@ use Rattle.r6_frames.specs.Calls.{ReadsOn, entry_on}
 use Rattle.r6_frames.specs.Sound as held
 use Rattle.r6_frames.proofs.Lists.{Entries, table, own, apart}
 use Rattle.r6_core.specs.declared.state.State.{State}
-use Rattle.r6_core.specs.Shards.{finished_request, replied_requests, requests_of, waiting_request}
+use Rattle.r6_core.specs.Shards.{finished_request, replied_requests, requests_of, waiting_request, waiting_of, requests_in}
 use Rattle.r6_core.specs.Inside.{AreReadOn, IsReadOn, IsSyncedRead}
 use Rattle.r6_core.proofs.HeldRequests.{all_held}
 use Rattle.r6_core.proofs.Replied.{all_replied}
@@ -160,11 +160,11 @@ read_there s number r on distinct is =
     let goes = on_at fs.slots fs.directs number r on is in
     let at = read_at fs.slots fs.directs number r is in
     let entry = read_entry r (Reading r.token) in
-    let before = map waiting_request s.waiting.items ++ (held_requests fs ++ at.before) in
+    let before = map waiting_request (waiting_of s) ++ (held_requests fs ++ at.before) in
     let behind = at.behind ++ replied_requests fs.saw_failed s.released s.replies.items in
     let parts : requests_of s ≡ before ++ entry ∷ behind =
-    (λ i. map waiting_request s.waiting.items ++ ((held_requests fs ++ at.with i) ++ replied_requests fs.saw_failed s.released s.replies.items))
-    ∙ (λ i. map waiting_request s.waiting.items ++ ((held_requests fs ++ (at.before ++ read_entry r (stage_of (goes i) r.token) ∷ at.behind)) ++ replied_requests fs.saw_failed s.released s.replies.items))
+    (λ i. map waiting_request (waiting_of s) ++ ((held_requests fs ++ at.with i) ++ replied_requests fs.saw_failed s.released s.replies.items))
+    ∙ (λ i. map waiting_request (waiting_of s) ++ ((held_requests fs ++ (at.before ++ read_entry r (stage_of (goes i) r.token) ∷ at.behind)) ++ replied_requests fs.saw_failed s.released s.replies.items))
     ∙ (simp append_assoc) in
     ap (λ es. table es r.served.id) parts ∙ own before entry.0 entry.1 behind (apart before entry.0 entry.1 behind (subst (λ es. IsDistinct nat_eq (keys_of es)) parts distinct))
 
@@ -205,12 +205,12 @@ requests_on s new waiting replies released holds reads seen =
     let fs = new.frames in
     let on = entry_on fs in
     let Stays : ℕ × shards.Request → Type 0 = λ e. on e ≡ e in
-    let w = map waiting_request s.waiting.items in
+    let w = map waiting_request (waiting_of s) in
     let h = held_requests s.frames in
     let d = read_requests s.frames in
     let p = replied_requests s.frames.saw_failed s.released s.replies.items in
-    (λ i. map waiting_request (waiting i).items ++ ((holds i ++ reads i) ++ replied_requests (seen i) (released i) (replies i).items))
-    ∙ (λ i. sym (map_same on w (waiting_on fs s.waiting.items)) i
+    (λ i. map waiting_request (requests_in (waiting i)) ++ ((holds i ++ reads i) ++ replied_requests (seen i) (released i) (replies i).items))
+    ∙ (λ i. sym (map_same on w (waiting_on fs (waiting_of s))) i
     ++ ((sym (map_same on h (all_held Stays (λ frame r. refl) 0 s.frames.held)) i ++ map on d)
     ++ sym (map_same on p (all_replied Stays s.frames.saw_failed (λ r. refl) (ended_on fs s.frames.saw_failed) s.released s.replies.items)) i))
     ∙ sym (map_parts on w ((h ++ d) ++ p) ∙ ap (λ es. map on w ++ es) (map_parts on (h ++ d) p ∙ ap (λ es. es ++ map on p) (map_parts on h d)))

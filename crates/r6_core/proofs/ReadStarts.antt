@@ -1,9 +1,8 @@
 -- One of the requests that wait is read directly.
-use Rattle.std.proofs.Common.{◌≡◌, ◌≢◌, Bool, ℕ, ◌+◌, ◌*◌, ◌<◌, ◌≤◌, true, List, [], ◌∷◌, ◌++◌, length, map, refl, sym, ap, subst, ◌∙◌, Option, Some, inl, inr, arith, append_assoc, length-append}
+use Rattle.std.proofs.Common.{◌≡◌, Bool, ℕ, ◌+◌, ◌*◌, ◌<◌, ◌≤◌, true, List, [], ◌∷◌, ◌++◌, length, map, refl, sym, ap, subst, ◌∙◌, Option, Some, inl, arith, append_assoc, length-append}
 use Rattle.std.specs.List.{IsDistinct, AllByRecursion}
 use Rattle.std.specs.Map.{keys_of}
 use Rattle.std.specs.Prelude.{nat_eq}
-use Rattle.std.proofs.lemmas.Bool.{cases_eq}
 use Rattle.std.proofs.lemmas.List.{map-append}
 use Rattle.r6_kernels.specs.Blocks.{IsBlock}
 use Rattle.r6_layout.specs.Shape.{blocks}
@@ -24,26 +23,25 @@ use Rattle.r6_frames.specs.declared.frames.Frames.{Frames}
 use Rattle.r6_frames.specs.declared.frames.Job.{Job}
 use Rattle.r6_frames.specs.Slots.{states_of}
 use Rattle.r6_frames.specs.Directs.{read_requests}
-use Rattle.r6_frames.specs.Reads.{FreesDirect, IsFreeDirect, IsReadable, ReadsDirectly, StandsIn, TakesDirect, reading}
+use Rattle.r6_frames.specs.Reads.{IsReadable, ReadsDirectly, StandsIn, TakesDirect, reading}
 use Rattle.r6_frames.specs.Views.{buffer_of, hold_at, held_requests, is_scrub, op_of, requests_from, shard_with, AreLive}
 use Rattle.r6_frames.specs.Calls.{IsPlaceOf, IsRequestOf, KeepsHolds, KeepsSlots}
 use Rattle.r6_frames.specs.Owed.{owed, owed_in}
 use Rattle.r6_frames.specs.Sound as held
 use Rattle.r6_frames.proofs.Lists.{Entries}
 use Rattle.r6_core.specs.declared.state.State.{State}
-use Rattle.r6_world.specs.ShardStates.{limit}
-use Rattle.r6_core.specs.Shards.{layout_in, replied_requests, requests_of, rest_of, state_of, waiting_request}
+use Rattle.r6_core.specs.Shards.{layout_in, replied_requests, requests_of, rest_of, state_of, waiting_request, waiting_of}
 use Rattle.r6_core.specs.Order.{IsRead, Starts}
-use Rattle.r6_core.specs.Inside.{AreReadOn, CanRead, CannotStart, HasFreedOne, IsLike, IsOpOf, IsReadOn, IsSettled, IsSound, IsSyncedRead, NoMoreCanStart, count_rows, count_unheld, is_turn, most_tokens, served_of}
+use Rattle.r6_core.specs.Inside.{AreReadOn, CanRead, IsLike, IsOpOf, IsReadOn, IsSettled, IsSound, IsSyncedRead, count_rows, count_unheld, is_turn, most_tokens, served_of}
+use Rattle.r6_waiters.specs.Line.{Line}
 use Rattle.r6_core.proofs.Accepting.{few_unheld, owed_in-le, room_for_all}
 use Rattle.r6_core.proofs.Answering.{rested_kept}
 use Rattle.r6_core.proofs.CountedRows.{counted_still}
 use Rattle.r6_core.proofs.Kept.{own_rows_kept, requests_kept, sizes_kept}
 use Rattle.r6_core.proofs.Passed.{Passed, passed, all-append, all-middle}
 use Rattle.r6_core.proofs.SlotsKept.{calls_same}
-use Rattle.r6_core.proofs.Starting.{longer, with_frames}
+use Rattle.r6_core.proofs.Starting.{IsLeft, longer, with_frames}
 use Rattle.r6_core.proofs.Throughs.{through_one}
-use Rattle.r6_core.proofs.Waking.{free_same, still_cannot, frees_kept, held_same, synced_before}
 
 read_op : (fs : Frames) (o : Op) → IsSyncedRead fs o → op_of o ≡ world.Op.Read (block_of (op_of o))
 read_op fs (op.Read block buffer) synced = refl
@@ -55,8 +53,9 @@ as_read : (l : Layout) (n : ℕ) (old new : Shard) (id : ℕ) (o : Op) (direct g
 as_read l n old new id (op.Read block buffer) direct generation is allowed becomes = (direct, generation, allowed, becomes)
 as_read l n old new id (op.Write block buffer) direct generation is allowed becomes = absurd (cc)
 
-pub record IsReadStart (s : State) (before : List Entered) (request : Entered) (behind : List Entered) (number : ℕ) (new : Frames) : Type 0 where
-  pub items : s.waiting.items ≡ before ++ request ∷ behind
+pub record IsReadStart (s : State) (before : List Entered) (request : Entered) (behind : List Entered) (line : Line Entered) (number : ℕ) (new : Frames) : Type 0 where
+  pub left : IsLeft s (before ++ behind) line
+  pub items : waiting_of s ≡ before ++ request ∷ behind
   pub can : CanRead s.frames request number
   pub sound : held.IsSound new
   pub live : AreLive new
@@ -66,7 +65,7 @@ pub record IsReadStart (s : State) (before : List Entered) (request : Entered) (
   pub taken : TakesDirect s.frames number new
   pub next : new.commands.next ≡ s.frames.commands.next + 1
 
-module _ (s : State) (before : List Entered) (request : Entered) (behind : List Entered) (number : ℕ) (new : Frames) (is : IsReadStart s before request behind number new) where
+module _ (s : State) (before : List Entered) (request : Entered) (behind : List Entered) (line : Line Entered) (number : ℕ) (new : Frames) (is : IsReadStart s before request behind line number new) where
   abbrev rest : List Entered
   rest = before ++ behind
 
@@ -74,7 +73,7 @@ module _ (s : State) (before : List Entered) (request : Entered) (behind : List 
   block = block_of (op_of request.op)
 
   abbrev read : State
-  read = with_frames s rest new
+  read = with_frames s line new
 
   is_read_op : op_of request.op ≡ world.Op.Read block
   is_read_op = read_op s.frames request.op is.can.1
@@ -92,7 +91,7 @@ module _ (s : State) (before : List Entered) (request : Entered) (behind : List 
       passed first (last ++ ((h ++ (to.before ++ to.behind)) ++ tail)) ((first ++ last) ++ (h ++ to.before)) (to.behind ++ tail) request.id _ _ _ _
       ((λ i. map waiting_request (is.items i) ++ ((h ++ to.without i) ++ tail))
       ∙ ap (λ (es : Entries Request). es ++ ((h ++ (to.before ++ to.behind)) ++ tail)) (map-append waiting_request before (request ∷ behind)) ∙ (simp append_assoc))
-      ((λ i. map waiting_request rest ++ ((requests_from 0 (is.holds i) ++ to.with i) ++ replied_requests (is.slots.1 i) s.released s.replies.items))
+      ((λ i. map waiting_request (is.left.requests i) ++ ((requests_from 0 (is.holds i) ++ to.with i) ++ replied_requests (is.slots.1 i) s.released s.replies.items))
       ∙ ap (λ (es : Entries Request). es ++ ((h ++ (to.before ++ entry ∷ to.behind)) ++ tail)) (map-append waiting_request before behind)
       ∙ (simp append_assoc))
       (simp append_assoc)
@@ -129,7 +128,7 @@ module _ (s : State) (before : List Entered) (request : Entered) (behind : List 
       let same : owed new ≡ owed s.frames = ap (λ held. owed_in held) is.holds in
       let more = more_reads in
       let fewer = ap length is.items ∙ longer before request behind in
-      let many : count_unheld read ≡ count_unheld s = omega (arith, more, fewer) in
+      let many : count_unheld read ≡ count_unheld s = omega (arith, more, fewer, ap length is.left.requests) in
       let most : 2 * new.geometry.slots * count_unheld read ≡ 2 * s.frames.geometry.slots * count_unheld s = λ i. 2 * (is.reads.same.0 i).slots * many i in
       let given = is.can.2.0 in
       let next = is.next in
@@ -167,12 +166,13 @@ module _ (s : State) (before : List Entered) (request : Entered) (behind : List 
             numbered = requests.keeps (λ id. id < s.accepted) sound.requests.numbered;
             counted = requests.count ∙ sound.requests.counted;
             few = sound.requests.few;
-            waiting = requests_kept s.frames new rest geometry shard (own_waiting sound);
+            waiting = subst (AllByRecursion (IsRequestOf new)) (sym is.left.requests) (requests_kept s.frames new rest geometry shard (own_waiting sound));
             sized = sizes_kept s.frames.geometry new.geometry s.replies.items geometry sound.requests.sized;
             marked = sound.requests.marked;
           };
           room = record {
-            waiting = sound.room.waiting;
+            waiting = is.left.capacity ∙ sound.room.waiting;
+            causes = is.left.causes ∙ sound.room.causes;
             replies = sound.room.replies;
             calls = sound.room.calls;
             few_calls = let same = calls_same s.frames new (ap states_of is.slots.0) geometry in omega (arith, same, sound.room.few_calls);
@@ -189,61 +189,8 @@ module _ (s : State) (before : List Entered) (request : Entered) (behind : List 
         rested = λ live f. rested_kept s.frames new f (ap (λ held. hold_at held f) is.holds) (core.rested is.can.0 f);
       }
 
-  like : IsLike s.frames new
-  like = record { geometry = is.reads.same.0; live = λ live. is.can.0; slots = ap states_of is.slots.0; tokens = let next = is.next in omega arith }
-
-  -- what could not start can't start now
-  pub read_no_more : NoMoreCanStart s read
-  read_no_more other =
-      still_cannot s.frames new other.op like (λ k free. (is.taken k free).1) (λ row unheld. held_same s.frames new row is.holds unheld)
-      (λ frame free. free_same s.frames new frame is.holds free)
-
-  -- if but for one buffer all was as it was when none could start, none can
-  pub read_last : HasFreedOne s → AllByRecursion (CannotStart new) rest
-  read_last freed = elim freed.2 [
-    | inl one ↦ absurd (none_free number (frees_kept freed.0 s.frames one.2 number is.can.2.1))
-    | inr one ↦ each one.0 one.1 one.2 rest own.1
-  ]
-    where
-      own : CannotStart freed.0 request × AllByRecursion (CannotStart freed.0) rest
-      own = all-middle (CannotStart freed.0) before request behind (subst (λ rs. AllByRecursion (CannotStart freed.0) rs) is.items freed.3)
-
-      lend : freed.0.commands.next < limit
-      lend = let given = is.can.2.0 in let tokens = freed.1.tokens in omega arith
-
-      -- no direct buffer was free before
-      none_free : (k : ℕ) → IsFreeDirect freed.0 k → ⊥
-      none_free k free = own.0 (freed.1.live is.can.0) (record {
-        buffer = λ synced. (k, free);
-        frame = λ not. absurd (not (lend, synced_before freed.0 s.frames request.op freed.1 is.can.1));
-      })
-
-      -- none is free now
-      none_left : (k : ℕ) → FreesDirect freed.0 k s.frames → (m : ℕ) → IsFreeDirect new m → ⊥
-      none_left k frees m free =
-          let there = is.taken m free in
-          elim (cases_eq m k) [
-            | inl e ↦
-                let apart : number ≢ k = λ same. there.0 (e ∙ sym same) in
-                none_free number (frees number apart is.can.2.1)
-            | inr ne ↦ none_free m (frees m ne there.1)
-          ]
-
-      tokens_now : freed.0.commands.next ≤ new.commands.next
-      tokens_now = let first = freed.1.tokens in let second = like.tokens in omega arith
-
-      was_like : IsLike freed.0 new
-      was_like = record { geometry = like.geometry ∙ freed.1.geometry; live = λ live. freed.1.live is.can.0; slots = like.slots ∙ freed.1.slots; tokens = tokens_now }
-
-      each : KeepsHolds freed.0 s.frames → (k : ℕ) → FreesDirect freed.0 k s.frames → (rs : List Entered) → AllByRecursion (CannotStart freed.0) rs → AllByRecursion (CannotStart new) rs
-      each holds k frees [] all = tt
-      each holds k frees (r ∷ rs) all = (
-        still_cannot freed.0 new r.op was_like (λ m free. absurd (none_left k frees m free))
-            (λ row unheld. held_same freed.0 s.frames row holds (held_same s.frames new row is.holds unheld))
-            (λ frame free. free_same freed.0 s.frames frame holds (free_same s.frames new frame is.holds free))
-            all.0,
-        each holds k frees rs all.1,
-      )
+  pub read_like : IsLike s.frames new
+  read_like = record { geometry = is.reads.same.0; live = λ live. is.can.0; slots = ap states_of is.slots.0; tokens = let next = is.next in omega arith }
 
 -- ---- what the frames are asked
 

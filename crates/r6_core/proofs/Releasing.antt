@@ -19,7 +19,7 @@ use Rattle.r6_frames.specs.declared.frames.FrameUse.TheVariants as uses
 use Rattle.r6_frames.specs.Views.{held_entry, held_requests, kind_in, requests_by, requests_from}
 use Rattle.r6_frames.proofs.Lists.{Entries, table}
 use Rattle.r6_core.specs.declared.state.State.{State}
-use Rattle.r6_core.specs.Shards.{state_of, layout_in, requests_of, waiting_request, finished_request, released_request, replied_requests, framed_requests}
+use Rattle.r6_core.specs.Shards.{state_of, layout_in, requests_of, waiting_request, finished_request, released_request, replied_requests, framed_requests, waiting_of}
 use Rattle.r6_core.specs.Inside.{IsSettled, ReleasesFinished, Seen}
 use Rattle.r6_core.proofs.Replied.{as_many, keys_requests, released_all}
 
@@ -87,14 +87,14 @@ failed_stay (suc count) (r ∷ rs) = ap (λ es. released_request r ∷ es) (fail
 
 -- the entries of a state, as a look leaves them
 all_go : (s : State) (replied : Entries shards.Request) → map entry_released (replied_requests s.frames.saw_failed s.released s.replies.items) ≡ replied
-    → map entry_released (requests_of s) ≡ map waiting_request s.waiting.items ++ (framed_requests s.frames ++ replied)
+    → map entry_released (requests_of s) ≡ map waiting_request (waiting_of s) ++ (framed_requests s.frames ++ replied)
 all_go s replied is =
-    let w = map waiting_request s.waiting.items in
+    let w = map waiting_request (waiting_of s) in
     let h = framed_requests s.frames in
     let p = replied_requests s.frames.saw_failed s.released s.replies.items in
     map-append entry_released w (h ++ p)
     ∙ ap (λ es. map entry_released w ++ es) (map-append entry_released h p)
-    ∙ (λ i. waiting_stay s.waiting.items i ++ (framed_stay s.frames i ++ is i))
+    ∙ (λ i. waiting_stay (waiting_of s) i ++ (framed_stay s.frames i ++ is i))
 
 look-up : (s : State) (es : Entries shards.Request) → map entry_released (requests_of s) ≡ es → table es ≡ (λ q. released (table (requests_of s) q))
 look-up s es is = fun_ext (λ q. ap (λ xs. table xs q) (sym is) ∙ table-released (requests_of s) q)
@@ -133,7 +133,7 @@ released_settled s core =
           sized = sound.requests.sized;
           marked = omega arith;
         };
-        room = record { waiting = sound.room.waiting; replies = sound.room.replies; calls = sound.room.calls; few_calls = sound.room.few_calls };
+        room = record { waiting = sound.room.waiting; causes = sound.room.causes; replies = sound.room.replies; calls = sound.room.calls; few_calls = sound.room.few_calls };
         tokens = sound.tokens;
         accepted = sound.accepted;
         counted = sound.counted;

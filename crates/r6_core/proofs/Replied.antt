@@ -8,7 +8,7 @@ use Rattle.r6_world.specs.ShardStates as shards
 use Rattle.r6_frames.specs.declared.op.Request.{Request}
 use Rattle.r6_frames.proofs.Lists.{Entries}
 use Rattle.r6_core.specs.declared.state.State.{State}
-use Rattle.r6_core.specs.Shards.{requests_of, waiting_request, finished_request, released_request, replied_requests, framed_requests}
+use Rattle.r6_core.specs.Shards.{requests_of, waiting_request, finished_request, released_request, replied_requests, framed_requests, waiting_of}
 
 abbrev pub numbers : List Request → List ℕ
 numbers rs = map (λ r. r.id) rs
@@ -21,9 +21,9 @@ keys_replied seen (suc count) [] = refl
 keys_replied seen (suc count) (r ∷ rs) = ap (λ ks. r.id ∷ ks) (keys_replied seen count rs)
 
 -- the numbers of all requests
-pub keys_requests : (s : State) → keys_of (requests_of s) ≡ keys_of (map waiting_request s.waiting.items) ++ (keys_of (framed_requests s.frames) ++ numbers s.replies.items)
+pub keys_requests : (s : State) → keys_of (requests_of s) ≡ keys_of (map waiting_request (waiting_of s)) ++ (keys_of (framed_requests s.frames) ++ numbers s.replies.items)
 keys_requests s =
-    let w = map waiting_request s.waiting.items in
+    let w = map waiting_request (waiting_of s) in
     let h = framed_requests s.frames in
     let p = replied_requests s.frames.saw_failed s.released s.replies.items in
     map-append (λ e. e.0) w (h ++ p)

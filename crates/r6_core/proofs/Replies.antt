@@ -18,7 +18,7 @@ use Rattle.r6_frames.specs.declared.op.Op.{Op as Entered}
 use Rattle.r6_frames.specs.declared.op.Op.TheVariants as op
 use Rattle.r6_frames.specs.Views.{op_of, held_requests}
 use Rattle.r6_frames.specs.Calls.{HasOneBlock}
-use Rattle.r6_core.specs.Shards.{Step, reply_of, answer_of, state_of, requests_of, waiting_request, finished_request, released_request, replied_requests, core_of, framed_requests}
+use Rattle.r6_core.specs.Shards.{Step, reply_of, answer_of, state_of, requests_of, waiting_request, finished_request, released_request, replied_requests, core_of, framed_requests, waiting_of}
 use Rattle.r6_core.specs.Order.{HasNoReply, BringsBack, TakesFirst, reply_to}
 use Rattle.r6_core.specs.Inside.{IsSettled, reply_for}
 use Rattle.r6_frames.proofs.Lists.{Entries, table, gone, own, apart, all_parts, distinct_without, looked_up}
@@ -71,9 +71,9 @@ none_released : (s : State) → HasNoReply (core_of s) → (id : ℕ) (op : Op) 
 none_released s empty id op reply is =
     let P = λ (r : shards.Request). IsUnreleased r.stage in
     let finished = drop s.released s.replies.items in
-    let es = λ (released : List Request). map waiting_request s.waiting.items ++ (framed_requests s.frames ++ (map released_request released ++ map (finished_request s.frames.saw_failed) finished)) in
+    let es = λ (released : List Request). map waiting_request (waiting_of s) ++ (framed_requests s.frames ++ (map released_request released ++ map (finished_request s.frames.saw_failed) finished)) in
     let all : AllUnreleased (es []) =
-    all-append (λ e. P e.1) _ _ (waiting_unreleased s.waiting.items)
+    all-append (λ e. P e.1) _ _ (waiting_unreleased (waiting_of s))
     (all-append (λ e. P e.1) (framed_requests s.frames) _ (framed_unreleased s.frames) (ended_unreleased s.frames.saw_failed finished empty.1)) in
     looked_up P id (es []) _ all (ap (λ rs. table (es rs) id) (sym empty.0) ∙ is)
 
@@ -146,14 +146,14 @@ module _ (s : State) (is_released : Bool) (r : Request) (rest : Buffer Request) 
 
   taken : IsTaken s is_released r (requests_of without_first)
   taken =
-      let before = map waiting_request s.waiting.items ++ framed_requests s.frames in
+      let before = map waiting_request (waiting_of s) ++ framed_requests s.frames in
       let behind = replied_requests s.frames.saw_failed (s.released - 1) rest.items in
       let x = answered is_released r in
       let es : requests_of s ≡ before ++ (r.id, x) ∷ behind =
-      ap (λ rs. map waiting_request s.waiting.items ++ (framed_requests s.frames ++ replied_requests s.frames.saw_failed s.released rs)) is
-      ∙ ap (λ rs. map waiting_request s.waiting.items ++ (framed_requests s.frames ++ rs)) (first_replied s.frames.saw_failed is_released s.released r rest.items marked failed)
-      ∙ sym (append_assoc (map waiting_request s.waiting.items) (framed_requests s.frames) ((r.id, x) ∷ behind)) in
-      let fewer : requests_of without_first ≡ before ++ behind = sym (append_assoc (map waiting_request s.waiting.items) (framed_requests s.frames) behind) in
+      ap (λ rs. map waiting_request (waiting_of s) ++ (framed_requests s.frames ++ replied_requests s.frames.saw_failed s.released rs)) is
+      ∙ ap (λ rs. map waiting_request (waiting_of s) ++ (framed_requests s.frames ++ rs)) (first_replied s.frames.saw_failed is_released s.released r rest.items marked failed)
+      ∙ sym (append_assoc (map waiting_request (waiting_of s)) (framed_requests s.frames) ((r.id, x) ∷ behind)) in
+      let fewer : requests_of without_first ≡ before ++ behind = sym (append_assoc (map waiting_request (waiting_of s)) (framed_requests s.frames) behind) in
       let h = subst (λ xs. IsDistinct nat_eq (keys_of xs)) es core.sound.requests.distinct in
       record {
         was = ap (λ xs. table xs r.id) es ∙ own before r.id x behind (apart before r.id x behind h);
@@ -201,6 +201,7 @@ module _ (s : State) (is_released : Bool) (r : Request) (rest : Buffer Request) 
           };
           room = record {
             waiting = sound.room.waiting;
+            causes = sound.room.causes;
             replies = capacity ∙ sound.room.replies;
             calls = sound.room.calls;
             few_calls = sound.room.few_calls;

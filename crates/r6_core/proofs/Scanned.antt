@@ -1,22 +1,33 @@
 -- What waits has its turns: one after the other starts, and what was passed over can't start behind it.
-use Rattle.std.proofs.Common.{◌≡◌, ℕ, zero, suc, ◌<◌, ◌≤◌, List, [], ◌∷◌, ◌++◌, length, take, drop, refl, sym, ap, subst, ◌∙◌, Some, inl, inr, arith, append_assoc, append-nil}
-use Rattle.std.specs.Prelude.{slice_get}
-use Rattle.std.specs.List.{AllByRecursion}
+use Rattle.std.proofs.Common.{◌≡◌, ◌≢◌, ℕ, ◌+◌, ◌*◌, ◌<◌, ◌≤◌, Bool, true, false, List, [], ◌∷◌, ◌++◌, length, map, refl, sym, ap, subst, ◌∙◌, Some, None, IfSome, inl, inr, arith, append_assoc, append-nil}
+use Rattle.std.specs.Prelude.{nat_eq, ◌==◌, if◌then◌else◌}
+use Rattle.std.specs.List.{AllByRecursion, IsDistinct}
+use Rattle.std.specs.Map.{keys_of}
+use Rattle.std.proofs.lemmas.Bool.{ne_eqb}
 use Rattle.r6_layout.specs.Shape.{Shape}
 use Rattle.r6_world.specs.Layouts.{Layout}
 use Rattle.r6_world.specs.Geometries.{layout_of}
+use Rattle.r6_world.specs.ShardStates as shards
 use Rattle.r6_world.specs.ShardStates.{Shard, IsLive}
-use Rattle.r6_core.specs.declared.scan.Room.{Room}
 use Rattle.r6_world.specs.Steps.{Through, Scans}
 use Rattle.r6_frames.specs.declared.op.Request.{Request}
 use Rattle.r6_frames.specs.declared.frames.Frames.{Frames}
+use Rattle.r6_frames.specs.Calls.{IsRequestOf}
+use Rattle.r6_frames.specs.Directs.{read_requests}
+use Rattle.r6_frames.specs.Owed.{owed}
+use Rattle.r6_frames.specs.Views.{AreLive, shard_with}
+use Rattle.r6_waiters.specs.Line.{Entries, Line, all_moved, capacity_of, causes_of, entries_of, gathered, oldest_moved, oldest_of, with_entries, without_oldest}
+use Rattle.r6_core.specs.declared.scan.Room.{Room}
+use Rattle.r6_core.specs.declared.scan.Room.TheVariants as room
 use Rattle.r6_core.specs.declared.state.State.{State}
-use Rattle.r6_core.specs.Shards.{state_of, layout_in, core_of}
-use Rattle.r6_core.specs.Order.{Starts, InTurn, HaveTurns, KeepsReplies}
-use Rattle.r6_core.specs.Inside.{SameFrames, CannotStart, IsSettled, IsFirstToStart, StartsAt, NoMoreCanStart, NoneCanStart, SameCalls, Seen}
-use Rattle.r6_frames.specs.Views.{AreLive}
+use Rattle.r6_core.specs.Shards.{framed_requests, layout_in, replied_requests, requests_in, rest_of, state_of, table, waiting_of, waiting_request}
+use Rattle.r6_core.specs.Order.{Starts, InTurn}
+use Rattle.r6_core.specs.Inside.{CanStart, IsCore, IsFirstToStart, IsLike, IsSettled, LeavesLine, OnlyStarts, StartsWith, TakesRoom, WaitingHaveTurns, Waits, WaitsFor, anything, most_tokens, row_of_request}
 use Rattle.r6_core.proofs.AtRest.{must_wait}
+use Rattle.r6_core.proofs.Lined.{all_for, all_then, all_values, none_of, split_moved, split_oldest, split_without, values, values_all_moved, values_both, values_gathered, values_moved, values_split}
+use Rattle.r6_core.proofs.Passed.{all-append, all-middle}
 use Rattle.r6_core.proofs.Throughs.{through_both, through_in, through_none}
+use Rattle.r6_core.proofs.Waking.{CannotStart, all_cannot, all_wait_still, cannot_begin, frees_kept, full_begun, full_same, holders_begun, holders_same}
 
 -- ---- turns
 
@@ -52,172 +63,378 @@ pub turns_in : (g g' : Shape) (n n' : ℕ) (old new : Shard) (requests waiting :
 turns_in g g' n n' old new requests waiting same_shape same_shard turns =
     subst (λ m. InTurn (layout_of g) m old requests new waiting) same_shard (subst (λ x. InTurn (layout_of x) n' old requests new waiting) same_shape turns)
 
--- ---- one after the other starts
+-- ---- who waits for something else waits still
 
--- those that waited have had their turns but for some, which are the last that wait; those before them can't start
-pub record IsScanned (old new : State) (from : ℕ) : Type 0 where
-  pub settled : IsSettled new
-  pub leads : Through (layout_in old) old.frames.shard Scans (state_of old) (state_of new)
-  pub same : SameFrames old new
-  pub calls : SameCalls old new
-  pub replies : Seen KeepsReplies old new
-  pub had_turn : List Request
-  pub tested : List Request
-  pub untested : List Request
-  pub split : old.waiting.items ≡ had_turn ++ untested
-  pub items : new.waiting.items ≡ tested ++ untested
-  pub count : length tested ≡ from
-  pub cannot : AllByRecursion (CannotStart new.frames) tested
-  pub turns : InTurn (layout_in old) old.frames.shard (state_of old) had_turn (state_of new) tested
+-- the state with another line of the same requests
+abbrev pub with_line : State → Line Request → State
+with_line s line = record s { waiting = line }
 
-pub unscanned : (s : State) → IsSettled s → IsScanned s s 0
-unscanned s settled =
+pub record IsSameLine (s : State) (line : Line Request) : Type 0 where
+  pub requests : requests_in line ≡ waiting_of s
+  pub capacity : capacity_of line ≡ capacity_of s.waiting
+  pub causes : causes_of line ≡ causes_of s.waiting
+
+-- the others with a reply, and those of frames
+abbrev the_others : State → List (ℕ × shards.Request)
+the_others s = framed_requests s.frames ++ replied_requests s.frames.saw_failed s.released s.replies.items
+
+pub same_state : (s : State) (line : Line Request) → requests_in line ≡ waiting_of s → state_of (with_line s line) ≡ state_of s
+same_state s line same =
+    ap (λ (rs : List Request). shard_with (record (rest_of s) { request = table (map waiting_request rs ++ the_others s) }) s.frames) same
+
+pub same_settled : (s : State) (line : Line Request) → IsSameLine s line → IsSettled s → IsSettled (with_line s line)
+same_settled s line is settled =
+    let sound = settled.sound in
+    let back : waiting_of s ≡ requests_in line = sym is.requests in
     record {
-      settled = settled;
-      leads = through_none (layout_in s) s.frames.shard Scans (state_of s) (state_of s) refl;
-      same = (refl, refl);
-      calls = (refl, refl);
-      replies = ((refl, refl), refl);
-      had_turn = [];
-      tested = [];
-      untested = s.waiting.items;
-      split = refl;
-      items = refl;
-      count = refl;
-      cannot = tt;
-      turns = (refl, refl);
+      sound = record {
+        frames = sound.frames;
+        requests = record {
+          distinct = subst (λ (rs : List Request). IsDistinct nat_eq (keys_of (map waiting_request rs ++ the_others s))) back sound.requests.distinct;
+          numbered = subst (λ (rs : List Request). AllByRecursion (λ id. id < s.accepted) (keys_of (map waiting_request rs ++ the_others s))) back sound.requests.numbered;
+          counted = subst (λ (rs : List Request). length (map waiting_request rs ++ the_others s) ≡ s.unanswered) back sound.requests.counted;
+          few = sound.requests.few;
+          waiting = subst (AllByRecursion (IsRequestOf s.frames)) back sound.requests.waiting;
+          sized = sound.requests.sized;
+          marked = sound.requests.marked;
+        };
+        room = record {
+          waiting = is.capacity ∙ sound.room.waiting;
+          causes = is.causes ∙ sound.room.causes;
+          replies = sound.room.replies;
+          calls = sound.room.calls;
+          few_calls = sound.room.few_calls;
+        };
+        tokens = subst (λ (rs : List Request). s.frames.commands.next + owed s.frames + 2 * s.frames.geometry.slots * (length rs + length (read_requests s.frames)) ≤ most_tokens) back sound.tokens;
+        accepted = sound.accepted;
+        counted = sound.counted;
+        next_rows = sound.next_rows;
+      };
+      reading = settled.reading;
+      rested = λ live frame. settled.rested live frame;
     }
 
-take_first : {X : Type 0} (xs ys : List X) → take (length xs) (xs ++ ys) ≡ xs
-take_first [] ys = refl
-take_first (x ∷ xs) ys = ap (λ rest. x ∷ rest) (take_first xs ys)
+pub moved_oldest : (s : State) (from to : ℕ) → IsSameLine s (with_entries s.waiting (oldest_moved from to (entries_of s.waiting)))
+moved_oldest s from to = record { requests = values_moved from to (entries_of s.waiting); capacity = refl; causes = refl }
 
--- those before the index can't start
-pub tested_cannot : (old s : State) (from : ℕ) → IsScanned old s from → AllByRecursion (CannotStart s.frames) (take from s.waiting.items)
-tested_cannot old s from before =
-    let first : take from s.waiting.items ≡ before.tested = ap (λ n. take n s.waiting.items) (sym before.count) ∙ ap (take (length before.tested)) before.items ∙ take_first before.tested before.untested in
-    subst (AllByRecursion (CannotStart s.frames)) (sym first) before.cannot
+pub moved_all : (s : State) (from to : ℕ) → IsSameLine s (with_entries s.waiting (all_moved from to (entries_of s.waiting)))
+moved_all s from to = record { requests = values_all_moved from to (entries_of s.waiting); capacity = refl; causes = refl }
 
--- where the next one stands
-parted : (xs ys zs : List Request) (r : Request) (ws : List Request) → xs ++ ys ≡ zs ++ r ∷ ws → length xs ≤ length zs
-    → (ms : List Request) × (zs ≡ xs ++ ms) × (ys ≡ ms ++ r ∷ ws)
-parted [] ys zs r ws is le = (zs, refl, is)
-parted (x ∷ xs) ys [] r ws is le = absurd (omega arith)
-parted (x ∷ xs) ys (z ∷ zs) r ws is le =
-    let first : x ≡ z = cc in
-    let rest : xs ++ ys ≡ zs ++ r ∷ ws = cc in
-    let more = parted xs ys zs r ws rest (omega arith) in
-    (more.0, (λ i. (sym first) i ∷ more.1 i), more.2)
-
-pub all_still : (s new : State) (rs : List Request) → NoMoreCanStart s new → AllByRecursion (CannotStart s.frames) rs → AllByRecursion (CannotStart new.frames) rs
-all_still s new [] still cannot = tt
-all_still s new (r ∷ rs) still cannot = (still r cannot.0, all_still s new rs still cannot.1)
-
-all_first : {X : Type 0} (Fact : X → Type 0) (xs ys : List X) → AllByRecursion Fact (xs ++ ys) → AllByRecursion Fact xs
-all_first Fact [] ys all = tt
-all_first Fact (x ∷ xs) ys all = (all.0, all_first Fact xs ys all.1)
+pub all_gathered : (s : State) (cause : ℕ) → IsSameLine s (with_entries s.waiting (gathered cause (entries_of s.waiting)))
+all_gathered s cause = record { requests = values_gathered cause (entries_of s.waiting); capacity = refl; causes = refl }
 
 pub all_last : {X : Type 0} (Fact : X → Type 0) (xs ys : List X) → AllByRecursion Fact (xs ++ ys) → AllByRecursion Fact ys
 all_last Fact [] ys all = all
 all_last Fact (x ∷ xs) ys all = all_last Fact xs ys all.1
 
--- the next one that can start: those before it wait, and it starts
-pub record IsNext (s : State) (from index : ℕ) (new : State) : Type 0 where
-  pub before : List Request
-  pub request : Request
-  pub behind : List Request
-  pub items : s.waiting.items ≡ before ++ request ∷ behind
-  pub at : length before ≡ index
-  pub past : from ≤ index
-  pub cannot : AllByRecursion (CannotStart s.frames) before
-  pub left : new.waiting.items ≡ before ++ behind
-  pub starts : Starts (layout_in s) s.frames.shard (state_of s) request (state_of new)
+-- ---- what starting does
 
-same_split : (xs : List Request) (x : Request) (ys zs : List Request) (z : Request) (ws : List Request) → xs ++ x ∷ ys ≡ zs ++ z ∷ ws → length xs ≡ length zs
-    → (x ≡ z) × (xs ≡ zs) × (ys ≡ ws)
-same_split [] x ys [] z ws is long = ((let e : x ≡ z = cc in e), refl, (let e : ys ≡ ws = cc in e))
-same_split [] x ys (w ∷ zs) z ws is long = absurd (omega arith)
-same_split (w ∷ xs) x ys [] z ws is long = absurd (omega arith)
-same_split (w ∷ xs) x ys (v ∷ zs) z ws is long =
-    let first : w ≡ v = cc in
-    let rest : xs ++ x ∷ ys ≡ zs ++ z ∷ ws = cc in
-    let more = same_split xs x ys zs z ws rest (omega arith) in
-    (more.0, (λ i. first i ∷ more.1 i), more.2)
+-- from one state on these have had their turns, and those that wait still are the first that wait
+pub record HaveHad (old : State) (had : List Request) (new : State) (waiting : List Request) : Type 0 where
+  pub settled : IsSettled new
+  pub leads : Through (layout_in old) old.frames.shard Scans (state_of old) (state_of new)
+  pub only : OnlyStarts old new
+  pub turns : InTurn (layout_in old) old.frames.shard (state_of old) had (state_of new) waiting
 
-pub is_next : (s : State) (from index : ℕ) (with : Room) (new : State) → IsFirstToStart s from index with → StartsAt s index new → IsNext s from index new
-is_next s from index with new first starts =
-    let same = same_split starts.0 starts.1 starts.2 first.before first.request first.behind (sym starts.3 ∙ first.items) (starts.4 ∙ sym first.at) in
+pub none_had : (s : State) → IsSettled s → HaveHad s [] s []
+none_had s settled =
     record {
-      before = first.before;
-      request = first.request;
-      behind = first.behind;
-      items = first.items;
-      at = first.at;
-      past = first.past;
-      cannot = first.cannot;
-      left = starts.5 ∙ (λ i. same.1 i ++ same.2 i);
-      starts = subst (λ r. Starts (layout_in s) s.frames.shard (state_of s) r (state_of new)) same.0 starts.6;
+      settled = settled;
+      leads = through_none (layout_in s) s.frames.shard Scans (state_of s) (state_of s) refl;
+      only = ((refl, refl), (refl, refl), ((refl, refl), refl));
+      turns = (refl, refl);
     }
 
-module _ (old s new : State) (from index : ℕ) (before : IsScanned old s from) (next : IsNext s from index new) (settled : IsSettled new)
-    (leads : Through (layout_in s) s.frames.shard Scans (state_of s) (state_of new)) (still : NoMoreCanStart s new) (same : SameFrames s new) (calls : SameCalls s new) (replies : Seen KeepsReplies s new) where
-  pub scanned_on : IsScanned old new index
-  scanned_on =
-      let l = layout_in old in
-      let n = old.frames.shard in
-      let part = parted before.tested before.untested next.before next.request next.behind (sym before.items ∙ next.items) (omega (arith, before.count, next.at, next.past)) in
-      let passed = part.0 in
-      let waits = subst (AllByRecursion (CannotStart s.frames)) part.1 next.cannot in
-      let waited = all_wait s passed before.settled (all_last (CannotStart s.frames) before.tested passed waits) in
-      let turn = turn_of (layout_in s) s.frames.shard (state_of s) next.request (state_of new) next.starts in
-      let both = turns_both (layout_in s) s.frames.shard (state_of s) passed (state_of s) passed (next.request ∷ []) (state_of new) [] waited turn in
-      let here = turns_in old.frames.geometry s.frames.geometry n s.frames.shard (state_of s) (state_of new) (passed ++ next.request ∷ []) (passed ++ []) before.same.0 before.same.1 both in
-      let all = turns_both l n (state_of old) before.had_turn (state_of s) before.tested (passed ++ next.request ∷ []) (state_of new) (passed ++ []) before.turns here in
-      let left : before.tested ++ (passed ++ []) ≡ next.before = ap (λ rs. before.tested ++ rs) (append-nil passed) ∙ sym part.1 in
-      record {
-        settled = settled;
-        leads = through_both l n Scans (state_of old) (state_of s) (state_of new) before.leads
-            (through_in old.frames.geometry s.frames.geometry n s.frames.shard Scans (state_of s) (state_of new) before.same.0 before.same.1 leads);
-        same = (same.0 ∙ before.same.0, same.1 ∙ before.same.1);
-        calls = (calls.0 ∙ before.calls.0, calls.1 ∙ before.calls.1);
-        replies = ((replies.0.0 ∙ before.replies.0.0, replies.0.1 ∙ before.replies.0.1), replies.1 ∙ before.replies.1);
-        had_turn = before.had_turn ++ (passed ++ next.request ∷ []);
-        tested = next.before;
-        untested = next.behind;
-        split = before.split ∙ ap (λ rs. before.had_turn ++ rs) part.2 ∙ (simp append_assoc);
-        items = next.left;
-        count = next.at;
-        cannot = all_still s new next.before still next.cannot;
-        turns = subst (λ rs. InTurn l n (state_of old) (before.had_turn ++ (passed ++ next.request ∷ [])) (state_of new) rs) left all;
-      }
+-- the line may be another
+pub had_line : (old : State) (had : List Request) (new : State) (waiting : List Request) (line : Line Request) → HaveHad old had new waiting → IsSameLine new line
+    → HaveHad old had (with_line new line) waiting
+had_line old had new waiting line is same =
+    let back = sym (same_state new line same.requests) in
+    let only = is.only in
+    record {
+      settled = same_settled new line same is.settled;
+      leads = subst (λ (x : Shard). Through (layout_in old) old.frames.shard Scans (state_of old) x) back is.leads;
+      only = only;
+      turns = subst (λ (x : Shard). InTurn (layout_in old) old.frames.shard (state_of old) had x waiting) back is.turns;
+    }
 
--- ---- the end
+-- others wait behind them
+pub had_waited : (old : State) (had : List Request) (new : State) (waiting : List Request) (more : List Request) → HaveHad old had new waiting
+    → AllByRecursion (CannotStart new.frames) more → HaveHad old (had ++ more) new (waiting ++ more)
+had_waited old had new waiting more is cannot =
+    let same = is.only.0 in
+    let last = turns_in old.frames.geometry new.frames.geometry old.frames.shard new.frames.shard (state_of new) (state_of new) more more same.0 same.1 (all_wait new more is.settled cannot) in
+    record {
+      settled = is.settled;
+      leads = is.leads;
+      only = is.only;
+      turns = turns_both (layout_in old) old.frames.shard (state_of old) had (state_of new) waiting more (state_of new) more is.turns last;
+    }
 
--- none of the others can start
-pub scanned_all : (old new : State) (from : ℕ) → IsScanned old new from → NoneCanStart new → HaveTurns (core_of old) (state_of old) old.waiting.items (core_of new)
-scanned_all old new from done none =
+-- the next starts
+pub had_started : (old : State) (had : List Request) (s new : State) (waiting : List Request) (request : Request) → HaveHad old had s waiting
+    → IsSettled new → Through (layout_in s) s.frames.shard Scans (state_of s) (state_of new) → OnlyStarts s new
+    → Starts (layout_in s) s.frames.shard (state_of s) request (state_of new)
+    → HaveHad old (had ++ request ∷ []) new waiting
+had_started old had s new waiting request is settled leads only starts =
     let l = layout_in old in
     let n = old.frames.shard in
-    let waits = all_last (CannotStart new.frames) done.tested done.untested (subst (AllByRecursion (CannotStart new.frames)) done.items none) in
-    let last = turns_in old.frames.geometry new.frames.geometry n new.frames.shard (state_of new) (state_of new) done.untested done.untested done.same.0 done.same.1 (all_wait new done.untested done.settled waits) in
-    let all = turns_both l n (state_of old) done.had_turn (state_of new) done.tested done.untested (state_of new) done.untested done.turns last in
-    subst (λ rs. InTurn l n (state_of old) rs (state_of new) new.waiting.items) (sym done.split)
-    (subst (λ rs. InTurn l n (state_of old) (done.had_turn ++ done.untested) (state_of new) rs) (sym done.items) all)
+    let same = is.only.0 in
+    let turn = turn_of (layout_in s) s.frames.shard (state_of s) request (state_of new) starts in
+    let here = turns_in old.frames.geometry s.frames.geometry n s.frames.shard (state_of s) (state_of new) (request ∷ []) [] same.0 same.1 turn in
+    let turns = turns_both l n (state_of old) had (state_of s) waiting (request ∷ []) (state_of new) [] is.turns here in
+    record {
+      settled = settled;
+      leads = through_both l n Scans (state_of old) (state_of s) (state_of new) is.leads
+          (through_in old.frames.geometry s.frames.geometry n s.frames.shard Scans (state_of s) (state_of new) same.0 same.1 leads);
+      only = (
+        (only.0.0 ∙ same.0, only.0.1 ∙ same.1),
+        (only.1.0 ∙ is.only.1.0, only.1.1 ∙ is.only.1.1),
+        ((only.2.0.0 ∙ is.only.2.0.0, only.2.0.1 ∙ is.only.2.0.1), only.2.1 ∙ is.only.2.1),
+      );
+      turns = subst (λ rs. InTurn l n (state_of old) (had ++ request ∷ []) (state_of new) rs) (append-nil waiting) turns;
+    }
 
--- in a shard that has stopped none can
+-- all have had their turns
+pub all_had : (old new : State) (had waiting : List Request) → HaveHad old had new waiting → waiting_of old ≡ had → waiting_of new ≡ waiting → WaitingHaveTurns old new
+all_had old new had waiting is before after =
+    subst (λ rs. InTurn (layout_in old) old.frames.shard (state_of old) rs (state_of new) (waiting_of new)) (sym before)
+    (subst (λ rs. InTurn (layout_in old) old.frames.shard (state_of old) had (state_of new) rs) (sym after) is.turns)
+
+-- none starts
+pub none_starts_now : (s : State) (line : Line Request) → IsSettled s → IsSameLine s line → AllByRecursion (Waits s.frames) (entries_of line)
+    → HaveHad s (waiting_of s) (with_line s line) (waiting_of s)
+none_starts_now s line settled same waits =
+    let cannot = subst (AllByRecursion (CannotStart s.frames)) same.requests (all_cannot s.frames (entries_of line) (λ live. waits)) in
+    had_line s (waiting_of s) s (waiting_of s) line (had_waited s [] s [] (waiting_of s) (none_had s settled) cannot) same
+
+-- what waited for a thing waits for it still
+pub room_taken : (with : Room) (old : Frames) (request : Request) (new : Frames) → IsLike old new → CanStart old request with → TakesRoom with old request new
+    → (es : Entries Request) → AllByRecursion (Waits old) es → AllByRecursion (Waits new) es
+room_taken (room.Direct number) old request new like can takes es waits =
+    all_wait_still old new like (λ k free. (takes.1 k free).1) (holders_same old new takes.0) (full_same old new takes.0) es waits
+room_taken (room.Frame frame) old request new like can takes es waits =
+    all_wait_still old new like (frees_kept old new takes.1) (holders_begun old new frame can.1.1 takes.0)
+    (full_begun old new frame (row_of_request new request) takes.0 takes.2) es waits
+
+-- ---- the oldest of a cause starts
+
+module _ (s : State) (cause : ℕ) (with : Room) (new : State) (first : IsFirstToStart s cause with) (left : LeavesLine s cause new)
+    (starts : IfSome (oldest_of cause (entries_of s.waiting)) (λ request. StartsWith with s request new)) where
+  pub started_with : StartsWith with s first.request new
+  started_with =
+      subst (λ o. IfSome o (λ request. StartsWith with s request new))
+      (ap (oldest_of cause) first.entries ∙ split_oldest cause first.before first.request first.behind first.oldest) starts
+
+  pub started_left : entries_of new.waiting ≡ first.before ++ first.behind
+  started_left =
+      ap entries_of left ∙ ap (without_oldest cause) first.entries ∙ split_without cause first.before first.request first.behind first.oldest
+
+  pub left_requests : waiting_of new ≡ values first.before ++ values first.behind
+  left_requests = ap values started_left ∙ values_both first.before first.behind
+
+  pub all_requests : waiting_of s ≡ values first.before ++ first.request ∷ values first.behind
+  all_requests = ap values first.entries ∙ values_split first.before cause first.request first.behind
+
+  -- it is the oldest that can start, and then none can
+  pub one_started : (old : State) → HaveHad old [] s [] → IsSettled new → Through (layout_in s) s.frames.shard Scans (state_of s) (state_of new) → OnlyStarts s new
+      → AllByRecursion (λ entry. CannotStart s.frames entry.1) first.before
+      → (line : Line Request) → IsSameLine new line → AllByRecursion (Waits new.frames) (entries_of line)
+      → HaveHad old (waiting_of s) (with_line new line) (waiting_of new)
+  one_started old base settled leads only cannot line same waits =
+      let older = values first.before in
+      let newer = values first.behind in
+      let before = had_waited old [] s [] older base (all_values (CannotStart s.frames) first.before cannot) in
+      let start = had_started old older s new older first.request before settled leads only started_with.0 in
+      let none = subst (AllByRecursion (CannotStart new.frames)) (same.requests ∙ left_requests) (all_cannot new.frames (entries_of line) (λ live. waits)) in
+      let behind_it = had_waited old (older ++ first.request ∷ []) new older newer start (all_last (CannotStart new.frames) older newer none) in
+      had_line old (waiting_of s) new (waiting_of new) line
+      (subst (λ rs. HaveHad old rs new (waiting_of new)) (append_assoc older (first.request ∷ []) newer ∙ sym all_requests)
+      (subst (λ rs. HaveHad old ((older ++ first.request ∷ []) ++ newer) new rs) (sym left_requests) behind_it)) same
+
+-- ---- one after the other is looked at
+
+-- those that have had their turn and wait still wait for what they are said to; for what the others wait isn't known
+pub record IsScanned (old new : State) : Type 0 where
+  pub live : AreLive new.frames
+  pub had : List Request
+  pub tested : Entries Request
+  pub untested : Entries Request
+  pub split : waiting_of old ≡ had ++ values untested
+  pub entries : entries_of new.waiting ≡ tested ++ untested
+  pub waits : AllByRecursion (Waits new.frames) tested
+  pub unknown : AllByRecursion (λ entry. entry.0 ≡ anything) untested
+  pub turns : HaveHad old had new (values tested)
+
+pub none_scanned : (s : State) → IsSettled s → AreLive s.frames → IsScanned s (with_line s (with_entries s.waiting (gathered anything (entries_of s.waiting))))
+none_scanned s settled live =
+    record {
+      live = live;
+      had = [];
+      tested = [];
+      untested = gathered anything (entries_of s.waiting);
+      split = sym (values_gathered anything (entries_of s.waiting));
+      entries = refl;
+      waits = tt;
+      unknown = all_for anything (entries_of s.waiting);
+      turns = had_line s [] s [] (with_entries s.waiting (gathered anything (entries_of s.waiting))) (none_had s settled) (all_gathered s anything);
+    }
+
+-- what waits for something known
+pub known : (fs : Frames) (es : Entries Request) → AllByRecursion (Waits fs) es → AllByRecursion (λ entry. entry.0 ≢ anything) es
+known fs es waits = all_then (Waits fs) (λ entry. entry.0 ≢ anything) es (λ e w is. elim w [
+  | inl buffer ↦ absurd (let a = buffer.0 in omega (arith, a, is))
+  | inr held ↦ elim held.1 [ inl holder ↦ (let below = holder.0 in omega (arith, below, is)) | inr none ↦ (let a = none.0 in omega (arith, a, is)) ]
+]) waits
+
+-- how many wait for one of these causes
+abbrev pub one_for : Bool → ℕ
+one_for true = 1
+one_for false = 0
+
+abbrev pub count_for : (ℕ → Bool) → List (ℕ × Request) → ℕ
+count_for test [] = 0
+count_for test (entry ∷ entries) = one_for (test entry.0) + count_for test entries
+
+pub count_both : (test : ℕ → Bool) (before behind : Entries Request) → count_for test (before ++ behind) ≡ count_for test before + count_for test behind
+count_both test [] behind = omega arith
+count_both test (entry ∷ before) behind = let rest = count_both test before behind in omega (arith, rest)
+
+-- who waited for one of them does no more
+pub fewer_left : (test : ℕ → Bool) (cause to : ℕ) (r : Request) (before behind : Entries Request) → test cause ≡ true → test to ≡ false
+    → count_for test (before ++ (to, r) ∷ behind) < count_for test (before ++ (cause, r) ∷ behind)
+fewer_left test cause to r before behind one other =
+    let now = count_both test before ((to, r) ∷ behind) in
+    let was = count_both test before ((cause, r) ∷ behind) in
+    let none = ap one_for other in
+    let some = ap one_for one in
+    omega (arith, now, was, none, some)
+
+pub fewer_started : (test : ℕ → Bool) (cause : ℕ) (r : Request) (before behind : Entries Request) → test cause ≡ true
+    → count_for test (before ++ behind) < count_for test (before ++ (cause, r) ∷ behind)
+fewer_started test cause r before behind one =
+    let now = count_both test before behind in
+    let was = count_both test before ((cause, r) ∷ behind) in
+    let some = ap one_for one in
+    omega (arith, now, was, some)
+
+-- the first of those that are left
+pub record IsNext (r : Request) (untested : Entries Request) : Type 0 where
+  pub rest : Entries Request
+  pub is : untested ≡ (anything, r) ∷ rest
+  pub unknown : AllByRecursion (λ entry. entry.0 ≡ anything) rest
+
+pub next_of : (tested untested : Entries Request) (r : Request) → AllByRecursion (λ entry. entry.0 ≢ anything) tested
+    → AllByRecursion (λ entry. entry.0 ≡ anything) untested → oldest_of anything (tested ++ untested) ≡ Some r → IsNext r untested
+next_of tested [] r not all is =
+    absurd (let none : None ≡ Some r = sym (none_there tested not) ∙ ap (oldest_of anything) (sym (append-nil tested)) ∙ is in cc none)
+  where
+    none_there : (es : Entries Request) → AllByRecursion (λ entry. entry.0 ≢ anything) es → oldest_of anything es ≡ None
+    none_there [] all = refl
+    none_there ((c, y) ∷ es) all = ap (λ (b : Bool). if b then Some y else oldest_of anything es) (ne_eqb c anything all.0) ∙ none_there es all.1
+next_of tested ((c, y) ∷ rest) r not all is =
+    let there = split_oldest anything tested y rest not in
+    let found : Some y ≡ Some r = sym there ∙ ap (λ (n : ℕ). oldest_of anything (tested ++ (n, y) ∷ rest)) (sym all.0) ∙ is in
+    let same : y ≡ r = cc in
+    record { rest = rest; is = λ i. (all.0 i, same i) ∷ rest; unknown = all.1 }
+
+module _ (old s : State) (is : IsScanned old s) (r : Request) (oldest : oldest_of anything (entries_of s.waiting) ≡ Some r) where
+  pub known_now : AllByRecursion (λ entry. entry.0 ≢ anything) is.tested
+  known_now = known s.frames is.tested is.waits
+
+  pub next : IsNext r is.untested
+  next = next_of is.tested is.untested r known_now is.unknown (ap (oldest_of anything) (sym is.entries) ∙ oldest)
+
+  pub next_entries : entries_of s.waiting ≡ is.tested ++ (anything, r) ∷ next.rest
+  next_entries = is.entries ∙ ap (λ (es : Entries Request). is.tested ++ es) next.is
+
+  next_split : waiting_of old ≡ (is.had ++ r ∷ []) ++ values next.rest
+  next_split = is.split ∙ ap (λ (es : Entries Request). is.had ++ values es) next.is ∙ sym (append_assoc is.had (r ∷ []) (values next.rest))
+
+  -- it starts with this
+  pub next_first : (with : Room) → CanStart s.frames r with → IsFirstToStart s anything with
+  next_first with can = record { before = is.tested; request = r; behind = next.rest; entries = next_entries; oldest = known_now; can = can }
+
+  pub next_started : (with : Room) (can : CanStart s.frames r with) (new : State) → IsSettled new → Through (layout_in s) s.frames.shard Scans (state_of s) (state_of new)
+      → AreLive new.frames → LeavesLine s anything new → IfSome (oldest_of anything (entries_of s.waiting)) (λ request. StartsWith with s request new) → OnlyStarts s new
+      → IsScanned old new
+  unfolding next_first
+  next_started with can new settled leads live left starts only =
+      let first = next_first with can in
+      let started = started_with s anything with new first left starts in
+      record {
+        live = live;
+        had = is.had ++ r ∷ [];
+        tested = is.tested;
+        untested = next.rest;
+        split = next_split;
+        entries = started_left s anything with new first left starts;
+        waits = room_taken with s.frames r new.frames started.1 can started.2 is.tested is.waits;
+        unknown = next.unknown;
+        turns = had_started old is.had s new (values is.tested) r is.turns settled leads only started.0;
+      }
+
+  pub next_started_fewer : (with : Room) (can : CanStart s.frames r with) (new : State) → LeavesLine s anything new
+      → IfSome (oldest_of anything (entries_of s.waiting)) (λ request. StartsWith with s request new)
+      → count_for (λ cause. cause == anything) (entries_of new.waiting) < count_for (λ cause. cause == anything) (entries_of s.waiting)
+  unfolding next_first
+  next_started_fewer with can new left starts =
+      let first = next_first with can in
+      subst (λ es. count_for (λ cause. cause == anything) es < count_for (λ cause. cause == anything) (entries_of s.waiting)) (sym (started_left s anything with new first left starts))
+      (subst (λ es. count_for (λ cause. cause == anything) (is.tested ++ next.rest) < count_for (λ cause. cause == anything) es) (sym next_entries)
+      (fewer_started (λ cause. cause == anything) anything r is.tested next.rest refl))
+
+  -- it waits for this
+  module _ (cause : ℕ) (waits : WaitsFor s.frames cause r.op) where
+    abbrev pub moved : Line Request
+    moved = with_entries s.waiting (oldest_moved anything cause (entries_of s.waiting))
+
+    moved_entries : entries_of moved ≡ is.tested ++ (cause, r) ∷ next.rest
+    moved_entries = ap (oldest_moved anything cause) next_entries ∙ split_moved anything cause is.tested r next.rest known_now
+
+    pub next_waits : IsScanned old (with_line s moved)
+    next_waits =
+        let cannot : AllByRecursion (CannotStart s.frames) (r ∷ []) = ((λ alive could. cannot_begin s.frames cause r.op waits alive could), tt) in
+        let turns = had_line old (is.had ++ r ∷ []) s (values is.tested ++ r ∷ []) moved (had_waited old is.had s (values is.tested) (r ∷ []) is.turns cannot) (moved_oldest s anything cause) in
+        record {
+          live = is.live;
+          had = is.had ++ r ∷ [];
+          tested = is.tested ++ (cause, r) ∷ [];
+          untested = next.rest;
+          split = next_split;
+          entries = moved_entries ∙ sym (append_assoc is.tested ((cause, r) ∷ []) next.rest);
+          waits = all-append (Waits s.frames) is.tested ((cause, r) ∷ []) is.waits (waits, tt);
+          unknown = next.unknown;
+          turns = subst (λ rs. HaveHad old (is.had ++ r ∷ []) (with_line s moved) rs) (sym (values_both is.tested ((cause, r) ∷ []))) turns;
+        }
+
+    pub next_waits_fewer : count_for (λ c. c == anything) (entries_of moved) < count_for (λ c. c == anything) (entries_of s.waiting)
+    next_waits_fewer =
+        let known_cause = known s.frames ((cause, r) ∷ []) (waits, tt) in
+        subst (λ es. count_for (λ c. c == anything) es < count_for (λ c. c == anything) (entries_of s.waiting)) (sym moved_entries)
+        (subst (λ es. count_for (λ c. c == anything) (is.tested ++ (cause, r) ∷ next.rest) < count_for (λ c. c == anything) es) (sym next_entries)
+        (fewer_left (λ c. c == anything) anything cause r is.tested next.rest refl (ne_eqb cause anything known_cause.0)))
+
+-- none is left
+module _ (old new : State) (is : IsScanned old new) (none : oldest_of anything (entries_of new.waiting) ≡ None) where
+  nobody : is.untested ≡ []
+  nobody = elim is.untested as (λ es. entries_of new.waiting ≡ is.tested ++ es → AllByRecursion (λ entry. entry.0 ≡ anything) es → es ≡ []) [
+    | [] ↦ λ e all. refl
+    | entry ∷ es ↦ λ e all.
+        absurd ((all-middle (λ entry. entry.0 ≢ anything) is.tested entry es (subst (AllByRecursion (λ entry. entry.0 ≢ anything)) e (none_of anything (entries_of new.waiting) none))).0 all.0)
+  ] is.entries is.unknown
+
+  all_tested : entries_of new.waiting ≡ is.tested
+  all_tested = is.entries ∙ ap (λ (es : Entries Request). is.tested ++ es) nobody ∙ append-nil is.tested
+
+  pub scanned_core : IsCore new
+  scanned_core = record { settled = is.turns.settled; waits = λ live. subst (AllByRecursion (Waits new.frames)) (sym all_tested) is.waits }
+
+  pub scanned_turns : WaitingHaveTurns old new
+  scanned_turns =
+      all_had old new is.had (values is.tested) is.turns (is.split ∙ ap (λ (es : Entries Request). is.had ++ values es) nobody ∙ append-nil is.had) (ap values all_tested)
+
+-- in a shard that has stopped none can start
 pub none_starts : (fs : Frames) (rs : List Request) → (AreLive fs → ⊥) → AllByRecursion (CannotStart fs) rs
 none_starts fs [] stopped = tt
-none_starts fs (r ∷ rs) stopped = ((λ live could. stopped live), none_starts fs rs stopped)
-
--- ---- where a request stands
-
--- what stands before an index, there, and behind it
-pub stands_at : {X : Type 0} (xs : List X) (i : ℕ) (x : X) → Some x ≡ slice_get xs i
-    → (xs ≡ take i xs ++ x ∷ drop (suc i) xs) × (length (take i xs) ≡ i) × (take (suc i) xs ≡ take i xs ++ x ∷ []) × (i < length xs)
-stands_at [] i x is = absurd (cc)
-stands_at (y ∷ xs) zero x is =
-    let same : y ≡ x = cc in
-    (ap (λ z. z ∷ xs) same, refl, ap (λ z. z ∷ []) same, omega arith)
-stands_at (y ∷ xs) (suc i) x is =
-    let rest = stands_at xs i x is in
-    (ap (λ zs. y ∷ zs) rest.0, omega (arith, rest.1), ap (λ zs. y ∷ zs) rest.2, omega (arith, rest.3))
+none_starts fs (r ∷ rs) stopped = ((λ live could. absurd (stopped live)), none_starts fs rs stopped)

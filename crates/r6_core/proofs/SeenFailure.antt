@@ -32,7 +32,7 @@ use Rattle.r6_frames.specs.Owed.{owed}
 use Rattle.r6_frames.specs.Sound as held
 use Rattle.r6_frames.proofs.Lists.{Entries, table}
 use Rattle.r6_core.specs.declared.state.State.{State}
-use Rattle.r6_core.specs.Shards.{state_of, rest_of, layout_in, requests_of, waiting_request, finished_request, released_request, replied_requests, call_of, counts_of}
+use Rattle.r6_core.specs.Shards.{state_of, rest_of, layout_in, requests_of, waiting_request, finished_request, released_request, replied_requests, call_of, counts_of, waiting_of}
 use Rattle.r6_world.specs.ShardStates.{limit}
 use Rattle.r6_core.specs.Refusals.{most_unanswered}
 use Rattle.r6_core.specs.Order.{IsRising, FailsAll}
@@ -123,17 +123,17 @@ replied_failed (suc count) (r ∷ rs) = ap (λ es. released_request r ∷ es) (r
 -- where none is read directly
 all_fail : (s : State) → read_requests s.frames ≡ [] → map failed (requests_of s) ≡ map answered (unreplied s) ++ failed_behind s.released s.replies.items
 all_fail s none =
-    let w = map waiting_request s.waiting.items in
+    let w = map waiting_request (waiting_of s) in
     let h = held_requests s.frames in
     let p = replied_requests s.frames.saw_failed s.released s.replies.items in
-    let w' = map numbered_op s.waiting.items in
+    let w' = map numbered_op (waiting_of s) in
     let h' = map held_op h in
     let p' = failed_behind s.released s.replies.items in
     (λ i. map failed (w ++ ((h ++ none i) ++ p)))
     ∙ ap (λ es. map failed (w ++ (es ++ p))) (append-nil h)
     ∙ map-append failed w (h ++ p)
     ∙ ap (λ es. map failed w ++ es) (map-append failed h p)
-    ∙ (λ i. waiting_fail s.waiting.items i ++ (held_fail 0 s.frames.held i ++ replied_fail s.frames.saw_failed s.released s.replies.items i))
+    ∙ (λ i. waiting_fail (waiting_of s) i ++ (held_fail 0 s.frames.held i ++ replied_fail s.frames.saw_failed s.released s.replies.items i))
     ∙ sym (append_assoc (map answered w') (map answered h') p')
     ∙ ap (λ es. es ++ p') (sym (map-append answered w' h'))
 
@@ -147,7 +147,7 @@ module _ (s : State) (fs : Frames) (sound : IsSound s) (sees : SeesFailure s.fra
   keys_seen : keys_of (requests_of (record s { frames = fs })) ≡ keys_of (requests_of s)
   keys_seen =
       keys_requests (record s { frames = fs })
-      ∙ ap (λ ks. keys_of (map waiting_request s.waiting.items) ++ (ks ++ numbers s.replies.items)) (keys_framed s.frames fs requests keys_read)
+      ∙ ap (λ ks. keys_of (map waiting_request (waiting_of s)) ++ (ks ++ numbers s.replies.items)) (keys_framed s.frames fs requests keys_read)
       ∙ sym (keys_requests s)
 
   slots_seen : states_of fs.slots ≡ states_of s.frames.slots
@@ -162,12 +162,13 @@ module _ (s : State) (fs : Frames) (sound : IsSound s) (sees : SeesFailure s.fra
           numbered = subst (λ ks. AllByRecursion (λ id. id < s.accepted) ks) (sym keys_seen) sound.requests.numbered;
           counted = as_many (requests_of (record s { frames = fs })) (requests_of s) keys_seen ∙ sound.requests.counted;
           few = sound.requests.few;
-          waiting = requests_kept s.frames fs s.waiting.items sees.0 sees.1 sound.requests.waiting;
+          waiting = requests_kept s.frames fs (waiting_of s) sees.0 sees.1 sound.requests.waiting;
           sized = sizes_kept s.frames.geometry fs.geometry s.replies.items sees.0 sound.requests.sized;
           marked = sound.requests.marked;
         };
         room = record {
           waiting = sound.room.waiting;
+          causes = sound.room.causes;
           replies = sound.room.replies;
           calls = sound.room.calls;
           few_calls = let same = calls_same s.frames fs slots_seen sees.0 in omega (arith, same, sound.room.few_calls);
@@ -175,7 +176,7 @@ module _ (s : State) (fs : Frames) (sound : IsSound s) (sees : SeesFailure s.fra
         tokens =
             let reads = as_many (read_requests fs) (read_requests s.frames) keys_read in
             let slots : 2 * fs.geometry.slots * count_unheld (record s { frames = fs }) ≡ 2 * s.frames.geometry.slots * count_unheld s =
-            λ i. 2 * (sees.0 i).slots * (length s.waiting.items + reads i) in
+            λ i. 2 * (sees.0 i).slots * (length (waiting_of s) + reads i) in
             let next = ap (λ (t : Commands). t.next) commands in
             omega (arith, slots, next, owes, sound.tokens);
         accepted = sound.accepted;
@@ -344,7 +345,8 @@ module _ (s : State) (mid : State) (sorted : Buffer Request) (sound : IsSound s)
           };
           room = record {
             waiting = gathers.room.0 ∙ sound.room.waiting;
-            replies = capacity ∙ gathers.room.1 ∙ sound.room.replies;
+            causes = gathers.room.1 ∙ sound.room.causes;
+            replies = capacity ∙ gathers.room.2 ∙ sound.room.replies;
             calls = ap (λ b. b.capacity) gathers.rest.3.0 ∙ sound.room.calls;
             few_calls =
                 let same = calls_same s.frames mid.frames slots geometry in
@@ -398,7 +400,7 @@ reads_fail fs (e ∷ es) = λ i. (e.0, record { op = e.1.op; stage = failed_on_s
 module _ (s : State) (fs : Frames) (back : State) (sees : SeesFailure s.frames fs) (requests : held_requests fs ≡ held_requests s.frames) (handed : HandsBack (record s { frames = fs }) back) where
   fails_same : map failed (requests_of (record s { frames = fs })) ≡ map failed (requests_of s)
   fails_same =
-      let w = map waiting_request s.waiting.items in
+      let w = map waiting_request (waiting_of s) in
       let h = held_requests s.frames in
       let d = read_requests s.frames in
       let p = λ (b : Bool). replied_requests b s.released s.replies.items in

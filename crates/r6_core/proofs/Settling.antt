@@ -22,7 +22,7 @@ use Rattle.r6_frames.specs.Calls.{KeepsOthers, KeepsReads, KeepsRows, Drives}
 use Rattle.r6_frames.specs.Owed.{owed, IsDriven, IsOver, IsLowestOver}
 use Rattle.r6_frames.specs.Sound as held
 use Rattle.r6_core.specs.declared.state.State.{State}
-use Rattle.r6_core.specs.Shards.{core_of, state_of, layout_in, requests_of, table, waiting_request, replied_requests}
+use Rattle.r6_core.specs.Shards.{core_of, state_of, layout_in, requests_of, table, waiting_request, replied_requests, waiting_of}
 use Rattle.r6_core.specs.Order.{IsRising, Finishes}
 use Rattle.r6_core.specs.Inside.{AreReadOn, SameFrames, IsSound, IsSettled, IsRestedFrame, FinishesHeld, Seen, count_rows, numbered_op, one_if}
 use Rattle.r6_frames.proofs.Held.{held_goes, held_within, use_held}
@@ -42,7 +42,7 @@ record IsAmong (s : State) (frame : ℕ) (r : ℕ × world.Op) : Type 0 where
 
 among : (s : State) (frame : ℕ) (h : HeldRow) (r : ℕ × world.Op) → hold_at s.frames.held frame ≡ Some h → requests_by h.job (kind_in h) ≡ r ∷ [] → IsAmong s frame r
 among s frame h r is only =
-    let w = map waiting_request s.waiting.items in
+    let w = map waiting_request (waiting_of s) in
     let rest = read_requests s.frames ++ replied_requests s.frames.saw_failed s.released s.replies.items in
     let entry : request_at frame (use_at s.frames.held frame) ≡ held_entry frame r ∷ [] =
     ap (request_at frame) (use_held s.frames.held frame h is) ∙ ap (map (held_entry frame)) only in

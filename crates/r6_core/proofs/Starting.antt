@@ -7,7 +7,6 @@ use Rattle.std.specs.Map.{keys_of}
 use Rattle.std.proofs.Math.Nat.{mul-suc}
 use Rattle.std.proofs.lemmas.Bool.{cases_eq, eqb-true}
 use Rattle.std.proofs.lemmas.List.{map-append, length-map}
-use Rattle.r6_layout.specs.Shape.{Shape}
 use Rattle.r6_layout.specs.Layout.{row_of}
 use Rattle.r6_layout.proofs.Places.{row_of-lt}
 use Rattle.r6_world.specs.Tables.{put}
@@ -17,7 +16,7 @@ use Rattle.r6_world.specs.Layouts.{Layout}
 use Rattle.r6_world.specs.Geometries.{layout_of}
 use Rattle.r6_world.specs.Tasks.{Hold, Task}
 use Rattle.r6_frames.specs.declared.frames.Job.{Job}
-use Rattle.r6_world.specs.ShardStates.{Shard, Request, Stage, Waiting, Held, NotHeld, IsDirect, limit, begun}
+use Rattle.r6_world.specs.ShardStates.{Shard, Request, Stage, Waiting, Held, NotHeld, IsDirect, begun}
 use Rattle.r6_world.specs.Changes.{Change, Start, Ask, Prepare, Send, after, MayStart, staged}
 use Rattle.r6_world.specs.Steps.{Through, Scans, IsRequest}
 use Rattle.r6_frames.specs.declared.op.Op.{Op}
@@ -27,17 +26,20 @@ use Rattle.r6_frames.specs.declared.frames.Frames.{Frames}
 use Rattle.r6_frames.specs.declared.frames.HeldRow.{HeldRow}
 use Rattle.r6_core.specs.declared.state.State.{State}
 use Rattle.r6_frames.specs.Views.{op_of, task_for, held_for, hold_at, hold_of, is_scrub, kind_in, use_at, row_in, frame_of, held_requests, Rest, shard_with, AreLive}
-use Rattle.r6_frames.specs.Calls.{begun_for, Begins, Drives, PutsOut, IsFreeFrame, IsHeldFrame, NotHeldBy, IsRequestOf, KeepsDirects, KeepsOthers, KeepsReads, KeepsRows}
+use Rattle.r6_frames.specs.Calls.{begun_for, Begins, Drives, PutsOut, IsFreeFrame, IsHeldFrame, IsHolder, NotHeldBy, IsRequestOf, KeepsDirects, KeepsOthers, KeepsReads, KeepsRows}
 use Rattle.r6_frames.specs.Owed.{owed, IsDriven, IsOver}
 use Rattle.r6_frames.specs.Slots.{states_of}
 use Rattle.r6_frames.specs.Sound as held
-use Rattle.r6_core.specs.Shards.{state_of, rest_of, layout_in, requests_of, waiting_request, replied_requests, table}
+use Rattle.r6_core.specs.Shards.{state_of, rest_of, layout_in, requests_of, waiting_request, replied_requests, requests_in, table, waiting_of}
 use Rattle.r6_frames.specs.Directs.{read_requests}
 use Rattle.r6_core.specs.declared.scan.Room.{Room}
 use Rattle.r6_core.specs.Order.{start_of, IsHeldFor, Starts}
-use Rattle.r6_core.specs.Inside.{CanHold, IsReadDirectly, IsSyncedRead, CanStart, CannotStart, HasFreedOne, IsLike, count_unheld, row_of_request, IsFirstToStart, IsSound, IsSettled, IsRestedFrame, NoMoreCanStart, most_calls, count_rows, count_untold, bound, most_tokens, is_turn, one_if}
+use Rattle.r6_core.specs.Inside.{CanHold, CanStart, IsFirstToStart, IsLike, IsReadDirectly, IsRestedFrame, IsSettled, IsSound, TakesRoom, bound, count_rows, count_unheld, count_untold, is_turn, most_calls, most_tokens, one_if, row_of_request}
+use Rattle.r6_core.specs.declared.scan.Room.TheVariants as room
+use Rattle.r6_waiters.specs.Line.{Line, capacity_of, causes_of, entries_of, oldest_of, with_entries, without_oldest}
+use Rattle.r6_core.proofs.Lined.{split_of, split_oldest, split_without, values, values_both, values_split}
 use Rattle.r6_core.proofs.ReadOn.{synced_read}
-use Rattle.r6_core.proofs.Waking.{free_same, still_cannot, synced_after, frees_kept, held_same, row_stays, one_more}
+use Rattle.r6_core.proofs.Waking.{holder_for, row_stays}
 use Rattle.r6_frames.proofs.Lists.{Entries}
 use Rattle.r6_frames.proofs.Held.{put_own}
 use Rattle.r6_core.proofs.CountedRows.{counted_still, row_weight, rows_counted_but_one, rows_counted_still}
@@ -116,7 +118,7 @@ module _ (old : Frames) (frame : ℕ) (request : Entered) (mid : Frames) (begins
   begun_tokens = ap (λ (s : Shard). s.tokens) begun_shard
 
   -- the tokens suffice for what may come
-  pub begun_numbers : (s : State) (rest : List Entered) → IsSound s → length s.waiting.items ≡ length rest + 1 → old ≡ s.frames → owed mid ≡ owed old + 2 * old.geometry.slots
+  pub begun_numbers : (s : State) (rest : List Entered) → IsSound s → length (waiting_of s) ≡ length rest + 1 → old ≡ s.frames → owed mid ≡ owed old + 2 * old.geometry.slots
       → mid.commands.next + owed mid < 2 ^ 63
   begun_numbers s rest sound items same owes =
       let slots = s.frames.geometry.slots in
@@ -131,8 +133,15 @@ module _ (old : Frames) (frame : ℕ) (request : Entered) (mid : Frames) (begins
 
 -- ---- the start of a request that waits
 
-pub record IsStart (s : State) (before : List Entered) (request : Entered) (behind : List Entered) (frame : ℕ) (mid new : Frames) : Type 0 where
-  pub items : s.waiting.items ≡ before ++ request ∷ behind
+-- the line is left with these
+pub record IsLeft (s : State) (rest : List Entered) (line : Line Entered) : Type 0 where
+  pub requests : requests_in line ≡ rest
+  pub capacity : capacity_of line ≡ capacity_of s.waiting
+  pub causes : causes_of line ≡ causes_of s.waiting
+
+pub record IsStart (s : State) (before : List Entered) (request : Entered) (behind : List Entered) (line : Line Entered) (frame : ℕ) (mid new : Frames) : Type 0 where
+  pub left : IsLeft s (before ++ behind) line
+  pub items : waiting_of s ≡ before ++ request ∷ behind
   pub plain : IsReadDirectly s.frames request.op → ⊥
   pub can : CanHold s.frames (row_of_request s.frames request) frame
   pub begins : Begins s.frames frame request mid
@@ -151,13 +160,13 @@ pub record IsStart (s : State) (before : List Entered) (request : Entered) (behi
   pub goes_out : IsOver new frame → ⊥
   pub directs : KeepsDirects s.frames new
 
-abbrev pub with_frames : State → List Entered → Frames → State
-with_frames s rest new = record s { waiting = record { items = rest; capacity = s.waiting.capacity }; frames = new }
+abbrev pub with_frames : State → Line Entered → Frames → State
+with_frames s line new = record s { waiting = line; frames = new }
 
 pub longer : (before : List Entered) (request : Entered) (behind : List Entered) → length (before ++ request ∷ behind) ≡ length (before ++ behind) + 1
 longer before request behind = omega (arith, length-append before (request ∷ behind), length-append before behind)
 
-module _ (s : State) (before : List Entered) (request : Entered) (behind : List Entered) (frame : ℕ) (mid new : Frames) (is : IsStart s before request behind frame mid new) where
+module _ (s : State) (before : List Entered) (request : Entered) (behind : List Entered) (line : Line Entered) (frame : ℕ) (mid new : Frames) (is : IsStart s before request behind line frame mid new) where
   abbrev rest : List Entered
   rest = before ++ behind
 
@@ -178,7 +187,7 @@ module _ (s : State) (before : List Entered) (request : Entered) (behind : List 
 
   -- the request goes from those that wait to those that rows are held for
   requests_started : IsDistinct nat_eq (keys_of (requests_of s))
-      → Passed (requests_of s) (requests_of (with_frames s rest new)) request.id (record { op = op_of request.op; stage = Waiting }) (record { op = op_of request.op; stage = Held frame })
+      → Passed (requests_of s) (requests_of (with_frames s line new)) request.id (record { op = op_of request.op; stage = Waiting }) (record { op = op_of request.op; stage = Held frame })
   requests_started distinct =
       let to = is.begins.requests in
       let tail : Entries Request = replied_requests s.frames.saw_failed s.released s.replies.items in
@@ -186,8 +195,8 @@ module _ (s : State) (before : List Entered) (request : Entered) (behind : List 
       let last : Entries Request = map waiting_request behind in
       let waiting : Entries Request = map waiting_request rest in
       let reads : Entries Request = read_requests s.frames in
-      let tail_same : requests_of (with_frames s rest new) ≡ waiting ++ ((held_requests new ++ reads) ++ tail) =
-      λ i. waiting ++ ((held_requests new ++ reads_same i) ++ replied_requests (unfailed_same i) s.released s.replies.items) in
+      let tail_same : requests_of (with_frames s line new) ≡ waiting ++ ((held_requests new ++ reads) ++ tail) =
+      λ i. map waiting_request (is.left.requests i) ++ ((held_requests new ++ reads_same i) ++ replied_requests (unfailed_same i) s.released s.replies.items) in
       passed first (last ++ (((to.before ++ to.behind) ++ reads) ++ tail)) ((first ++ last) ++ to.before) ((to.behind ++ reads) ++ tail) request.id _ _ _ _
       ((λ i. map waiting_request (is.items i) ++ ((to.without i ++ reads) ++ tail))
       ∙ ap (λ (es : Entries Request). es ++ (((to.before ++ to.behind) ++ reads) ++ tail)) (map-append waiting_request before (request ∷ behind)) ∙ (simp append_assoc))
@@ -197,27 +206,27 @@ module _ (s : State) (before : List Entered) (request : Entered) (behind : List 
       distinct
 
   started_mid : (more : IsDistinct nat_eq (keys_of (requests_of s)))
-      → shard_with (rest_of (with_frames s rest new)) mid
+      → shard_with (rest_of (with_frames s line new)) mid
       ≡ after (layout_in s) (state_of s) (Start frame (row_of s.frames.geometry (block_of (op_of request.op))) (task_for request.id request.op))
   started_mid distinct =
       let l = layout_in s in
       let row = row_of s.frames.geometry (block_of (op_of request.op)) in
       let requests = requests_started distinct in
       let first : Option Hold = Some (begun_for s.frames request) in
-      is.begins.shard.2 (rest_of (with_frames s rest new))
+      is.begins.shard.2 (rest_of (with_frames s line new))
       ∙ ap (λ (request : ℕ → Option Request). record (shard_with (record (rest_of s) { request = request }) s.frames) { frame = put (frame_of s.frames) frame first })
       (requests.now ∙ stage_put (table (requests_of s)) request.id (op_of request.op) Waiting (Held frame) requests.was)
       ∙ sym (start_after l (state_of s) frame row request.id request.op)
 
-  held_for_it : IsSound s → IsHeldFor (layout_in s) s.frames.shard (state_of s) request (state_of (with_frames s rest new))
+  held_for_it : IsSound s → IsHeldFor (layout_in s) s.frames.shard (state_of s) request (state_of (with_frames s line new))
   held_for_it sound =
       let n = s.frames.shard in
       let row = row_of s.frames.geometry (block_of (op_of request.op)) in
       let distinct = sound.requests.distinct in
       let own = (all-middle (IsRequestOf s.frames) before request behind (subst (λ rs. AllByRecursion (IsRequestOf s.frames) rs) is.items sound.requests.waiting)).0 in
-      let begun_at = shard_with (rest_of (with_frames s rest new)) mid in
-      let later : Through (layout_of mid.geometry) mid.shard PutsOut begun_at (state_of (with_frames s rest new)) = is.drives.2 (rest_of (with_frames s rest new)) in
-      let here = through_in s.frames.geometry mid.geometry n mid.shard PutsOut begun_at (state_of (with_frames s rest new)) is.begins.shard.0 is.begins.shard.1 later in (
+      let begun_at = shard_with (rest_of (with_frames s line new)) mid in
+      let later : Through (layout_of mid.geometry) mid.shard PutsOut begun_at (state_of (with_frames s line new)) = is.drives.2 (rest_of (with_frames s line new)) in
+      let here = through_in s.frames.geometry mid.geometry n mid.shard PutsOut begun_at (state_of (with_frames s line new)) is.begins.shard.0 is.begins.shard.1 later in (
         frame,
         (
           free_is (rest_of s) s.frames frame sound.frames is.can.0 is.can.1,
@@ -228,31 +237,31 @@ module _ (s : State) (before : List Entered) (request : Entered) (behind : List 
               (λ direct. is.plain (direct.0, synced_read (rest_of s) s.frames request.op direct.1)),
           may_begin s.frames.geometry (states_of s.frames.slots) row request.id request.op sound.frames.shape own.sized,
         ),
-        subst (λ (from : Shard). Through (layout_in s) n PutsOut from (state_of (with_frames s rest new))) (started_mid distinct) here,
+        subst (λ (from : Shard). Through (layout_in s) n PutsOut from (state_of (with_frames s line new))) (started_mid distinct) here,
       )
 
-  pub started : IsSettled s → Starts (layout_in s) s.frames.shard (state_of s) request (state_of (with_frames s rest new))
+  pub started : IsSettled s → Starts (layout_in s) s.frames.shard (state_of s) request (state_of (with_frames s line new))
   started core = inr (held_for_it core.sound)
 
-  pub started_leads : IsSound s → Through (layout_in s) s.frames.shard Scans (state_of s) (state_of (with_frames s rest new))
+  pub started_leads : IsSound s → Through (layout_in s) s.frames.shard Scans (state_of s) (state_of (with_frames s line new))
   started_leads sound =
       let l = layout_in s in
       let starts = held_for_it sound in
       let start = start_of l request starts.0 in
-      let driven = through_of l s.frames.shard PutsOut Scans scans (after l (state_of s) start) (state_of (with_frames s rest new)) starts.2 in
+      let driven = through_of l s.frames.shard PutsOut Scans scans (after l (state_of s) start) (state_of (with_frames s line new)) starts.2 in
       (start ∷ driven.0, (is_request request.id request.op, starts.1, driven.1))
 
   -- no more commands may come than before
-  started_bound : bound (with_frames s rest new) ≤ bound s
+  started_bound : bound (with_frames s line new) ≤ bound s
   started_bound =
       let slots = s.frames.geometry.slots in
       let others = length rest + length (read_requests s.frames) in
       let more : count_unheld s ≡ suc others = omega (arith, ap length is.items, longer before request behind) in
       let fewer : 2 * slots * count_unheld s ≡ 2 * slots * others + 2 * slots = ap (λ n. 2 * slots * n) more ∙ mul-suc (2 * slots) others in
-      let same : 2 * new.geometry.slots * count_unheld (with_frames s rest new) ≡ 2 * slots * others =
-      λ i. 2 * (geometry_same i).slots * (length rest + length (reads_same i)) in
+      let same : 2 * new.geometry.slots * count_unheld (with_frames s line new) ≡ 2 * slots * others =
+      λ i. 2 * (geometry_same i).slots * (length (is.left.requests i) + length (reads_same i)) in
       summed s.frames.commands.next mid.commands.next new.commands.next (owed s.frames) (owed mid) (owed new) (2 * slots)
-      (2 * new.geometry.slots * count_unheld (with_frames s rest new)) (2 * slots * others) (2 * slots * count_unheld s)
+      (2 * new.geometry.slots * count_unheld (with_frames s line new)) (2 * slots * others) (2 * slots * count_unheld s)
       (begun_tokens s.frames frame request mid is.begins) is.begun_owed is.all_owed same fewer
     where
       summed : (n0 n1 n2 o0 o1 o2 each few few' all : ℕ) → n1 ≡ n0 → o1 ≡ o0 + each → n2 + o2 ≤ n1 + o1 → few ≡ few' → all ≡ few' + each → n2 + o2 + few ≤ n0 + o0 + all
@@ -286,7 +295,7 @@ module _ (s : State) (before : List Entered) (request : Entered) (behind : List 
   started_tokens : s.frames.commands.next ≤ new.commands.next
   started_tokens = let begun = begun_tokens s.frames frame request mid is.begins in let more = drives_give mid new is.drives in omega (arith, begun, more)
 
-  pub started_core : IsSettled s → IsSettled (with_frames s rest new)
+  pub started_core : IsSettled s → IsSettled (with_frames s line new)
   started_core core =
       let sound = core.sound in
       let requests = requests_started sound.requests.distinct in
@@ -298,12 +307,13 @@ module _ (s : State) (before : List Entered) (request : Entered) (behind : List 
             numbered = requests.keeps (λ id. id < s.accepted) sound.requests.numbered;
             counted = requests.count ∙ sound.requests.counted;
             few = sound.requests.few;
-            waiting = requests_kept s.frames new rest geometry_same shard_same (all-middle (IsRequestOf s.frames) before request behind (subst (λ rs. AllByRecursion (IsRequestOf s.frames) rs) is.items sound.requests.waiting)).1;
+            waiting = subst (AllByRecursion (IsRequestOf new)) (sym is.left.requests) (requests_kept s.frames new rest geometry_same shard_same (all-middle (IsRequestOf s.frames) before request behind (subst (λ rs. AllByRecursion (IsRequestOf s.frames) rs) is.items sound.requests.waiting)).1);
             sized = sizes_kept s.frames.geometry new.geometry s.replies.items geometry_same sound.requests.sized;
             marked = sound.requests.marked;
           };
           room = record {
-            waiting = sound.room.waiting;
+            waiting = is.left.capacity ∙ sound.room.waiting;
+            causes = is.left.causes ∙ sound.room.causes;
             replies = sound.room.replies;
             calls = sound.room.calls;
             few_calls = few_still sound;
@@ -316,7 +326,7 @@ module _ (s : State) (before : List Entered) (request : Entered) (behind : List 
         };
         reading = reading_kept s.frames new reads_same core.reading;
         rested = λ live f. elim (cases_eq f frame) [
-          | inl e ↦ subst (IsRestedFrame (with_frames s rest new)) (sym e) (is.driven, is.goes_out)
+          | inl e ↦ subst (IsRestedFrame (with_frames s line new)) (sym e) (is.driven, is.goes_out)
           | inr ne ↦
               let same = ap row_in (frames_same f ne) in
               let rested = core.rested is.can.0 f in
@@ -324,74 +334,63 @@ module _ (s : State) (before : List Entered) (request : Entered) (behind : List 
         ];
       }
 
-  like : IsLike s.frames new
-  like = record { geometry = geometry_same; live = λ live. is.can.0; slots = slots_same; tokens = started_tokens }
-
-  not_held_before : (row : ℕ) → NotHeldBy new row → NotHeldBy s.frames row
-  not_held_before at free_row g h held_row is_row =
-      let other_frame : g ≢ frame = λ e. let both : Some h ≡ None = sym held_row ∙ ap (hold_at s.frames.held) e ∙ no_row s.frames frame is.can.1 in absurd (cc) in
-      free_row g h (ap row_in (frames_same g other_frame) ∙ held_row) is_row
-
-  free_before : (f : ℕ) → IsFreeFrame new f → IsFreeFrame s.frames f
-  free_before f free =
-      let apart : f ≢ frame = λ e. let both : Some is.held_still.0 ≡ None = sym is.held_still.1 ∙ ap (hold_at new.held) (sym e) ∙ no_row new f free in absurd (cc) in
-      (free.0, sym (frames_same f apart) ∙ free.1)
-
-  -- what could not start can't start now
-  pub started_no_more : NoMoreCanStart s (with_frames s rest new)
-  started_no_more other = still_cannot s.frames new other.op like (frees_kept s.frames new is.directs) not_held_before free_before
+  pub started_like : IsLike s.frames new
+  started_like = record { geometry = geometry_same; live = λ live. is.can.0; slots = slots_same; tokens = started_tokens }
 
   -- the row is held in the frame
-  pub started_row : (h : HeldRow) × (hold_at new.held frame ≡ Some h) × (h.row ≡ row_of s.frames.geometry (block_of (op_of request.op)))
-  started_row =
+  pub started_takes : TakesRoom (room.Frame frame) s.frames request new
+  started_takes =
       let begun = frame-held mid frame (begun_for s.frames request) (begun_frame s.frames frame request mid is.begins) in
       let there = row_stays mid new frame begun.0 is.rows begun.1 in
-      (there.0, there.1, there.2 ∙ ap (λ (h : Hold). h.row) begun.2)
-
-  -- if but for one frame, or one buffer, all was as it was when none could start, none can
-  pub started_last : s.frames.commands.next < limit → HasFreedOne s → AllByRecursion (CannotStart new) rest
-  started_last below freed =
-      let all = all-middle (CannotStart freed.0) before request behind (subst (λ rs. AllByRecursion (CannotStart freed.0) rs) is.items freed.3) in
-      let was = freed.1 in
-      let out : IsSyncedRead freed.0 request.op → ⊥ = λ synced. is.plain (below, synced_after freed.0 s.frames request.op was synced) in
-      elim freed.2 [
-        | inl one ↦
-            let tokens = was.tokens in
-            let both : IsLike freed.0 new =
-            record { geometry = geometry_same ∙ was.geometry; live = λ live. was.live is.can.0; slots = slots_same ∙ was.slots; tokens = let more = started_tokens in omega arith } in
-            one_more freed.0 one.0 s.frames frame new request was.geometry geometry_same was.live one.1 is.can frames_same started_row all.0 out both
-            (λ number free. frees_kept freed.0 s.frames one.2 number (frees_kept s.frames new is.directs number free)) rest all.1
-        | inr one ↦
-            absurd (all.0 (was.live is.can.0) (record {
-              buffer = λ synced. absurd (out synced);
-              frame = λ not. (
-                subst (λ (g : Shape). NotHeldBy freed.0 (row_of g (block_of (op_of request.op)))) was.geometry (held_same freed.0 s.frames _ one.0 is.can.2),
-                frame,
-                free_same freed.0 s.frames frame one.0 is.can.1,
-              );
-            }))
-      ]
+      let holder : IsHolder new (row_of_request s.frames request) frame = (is.can.1.0, there.0, there.1, there.2 ∙ ap (λ (h : Hold). h.row) begun.2) in
+      (frames_same, is.directs, holder_for s.frames new request.op frame started_like holder)
 
 -- ---- which request starts
 
--- the one at the index was taken out
-module _ (s : State) (from index : ℕ) (with : Room) (first : IsFirstToStart s from index with) where
-  pub first_there : index < length s.waiting.items
-  first_there = omega (arith, first.at, ap length first.items, longer first.before first.request first.behind, length-append first.before first.behind)
+-- the oldest that waits for the cause was taken out
+module _ (s : State) (cause : ℕ) (with : Room) (first : IsFirstToStart s cause with) (request : Entered) (is : Some request ≡ oldest_of cause (entries_of s.waiting)) where
+  first_is : request ≡ first.request
+  first_is =
+      let both : Some request ≡ Some first.request = is ∙ ap (oldest_of cause) first.entries ∙ split_oldest cause first.before first.request first.behind first.oldest in
+      cc
 
-  pub first_items : (request : Entered) → request ≡ first.request → s.waiting.items ≡ first.before ++ request ∷ first.behind
-  first_items request is = first.items ∙ ap (λ r. first.before ++ r ∷ first.behind) (sym is)
+  pub first_items : waiting_of s ≡ values first.before ++ request ∷ values first.behind
+  first_items =
+      ap values first.entries ∙ values_split first.before cause first.request first.behind ∙ ap (λ r. values first.before ++ r ∷ values first.behind) (sym first_is)
 
-  pub first_can : (request : Entered) → request ≡ first.request → CanStart s.frames request with
-  first_can request is = subst (λ r. CanStart s.frames r with) (sym is) first.can
+  pub first_can : CanStart s.frames request with
+  first_can = subst (λ r. CanStart s.frames r with) (sym first_is) first.can
 
-  pub first_own : (request : Entered) → request ≡ first.request → IsSettled s → IsRequestOf s.frames request
-  first_own request is settled =
-      (all-middle (IsRequestOf s.frames) first.before request first.behind (subst (λ rs. AllByRecursion (IsRequestOf s.frames) rs) (first_items request is) settled.sound.requests.waiting)).0
+  pub first_own : IsSettled s → IsRequestOf s.frames request
+  first_own settled =
+      (all-middle (IsRequestOf s.frames) (values first.before) request (values first.behind) (subst (λ rs. AllByRecursion (IsRequestOf s.frames) rs) first_items settled.sound.requests.waiting)).0
+
+  -- the others are left
+  pub first_left : (line : Line Entered) → line ≡ with_entries s.waiting (without_oldest cause (entries_of s.waiting)) → IsLeft s (values first.before ++ values first.behind) line
+  first_left line left =
+      record {
+        requests = ap requests_in left ∙ ap (λ es. values (without_oldest cause es)) first.entries
+            ∙ ap values (split_without cause first.before first.request first.behind first.oldest) ∙ values_both first.before first.behind;
+        capacity = ap capacity_of left;
+        causes = ap causes_of left;
+      }
+
+-- the oldest that waits for a cause is one of the shard's
+pub oldest_own : (s : State) (cause : ℕ) (request : Entered) → IsSettled s → oldest_of cause (entries_of s.waiting) ≡ Some request → IsRequestOf s.frames request
+oldest_own s cause request settled is =
+    let split = split_of cause (entries_of s.waiting) request is in
+    (all-middle (IsRequestOf s.frames) (values split.before) request (values split.behind)
+    (subst (AllByRecursion (IsRequestOf s.frames)) (ap values split.entries ∙ values_split split.before cause request split.behind) settled.sound.requests.waiting)).0
+
+-- there is one
+pub first_there : (s : State) (cause : ℕ) (with : Room) → IsFirstToStart s cause with → oldest_of cause (entries_of s.waiting) ≡ None → ⊥
+first_there s cause with first none =
+    let both : None ≡ Some first.request = sym none ∙ ap (oldest_of cause) first.entries ∙ split_oldest cause first.before first.request first.behind first.oldest in
+    cc both
 
 -- as many may wait as there is room for
-pub waiting_fits : (s : State) → IsSound s → length s.waiting.items ≤ s.waiting.capacity
+pub waiting_fits : (s : State) → IsSound s → length (waiting_of s) ≤ (capacity_of s.waiting)
 waiting_fits s sound =
-    let all = length-append (map waiting_request s.waiting.items) (others s) in
-    let many = length-map s.waiting.items waiting_request in
+    let all = length-append (map waiting_request (waiting_of s)) (others s) in
+    let many = length-map (waiting_of s) waiting_request in
     omega (arith, all, many, sound.requests.counted, sound.requests.few, sound.room.waiting)

@@ -113,7 +113,7 @@ module _ (s : State) (check_row repair_row : ℕ) (core : IsCore s) (few : s.cou
               sized = requests.sized;
               marked = requests.marked;
             };
-            room = record { waiting = sound.room.waiting; replies = sound.room.replies; calls = sound.room.calls; few_calls = sound.room.few_calls };
+            room = record { waiting = sound.room.waiting; causes = sound.room.causes; replies = sound.room.replies; calls = sound.room.calls; few_calls = sound.room.few_calls };
             tokens = sound.tokens;
             accepted = sound.accepted;
             counted = record { found = sound.counted.found; skipped = omega (arith, rows, sound.frames.frames.count, few) };

@@ -1,5 +1,5 @@
--- Which requests can't start after a change of the frames.
-use Rattle.std.proofs.Common.{◌≡◌, ◌≢◌, ℕ, List, [], ◌∷◌, refl, sym, ap, subst, ◌∙◌, Option, Some, None, inl, inr, arith}
+-- What requests wait for after a change of the frames.
+use Rattle.std.proofs.Common.{◌≡◌, ◌≢◌, ◌⊎◌, ℕ, List, [], ◌∷◌, refl, sym, ap, subst, ◌∙◌, Option, Some, None, inl, inr, arith}
 use Rattle.std.specs.Prelude.{option_map}
 use Rattle.std.specs.List.{AllByRecursion}
 use Rattle.std.proofs.lemmas.Bool.{cases_eq}
@@ -11,7 +11,7 @@ use Rattle.r6_frames.specs.declared.frames.Frames.{Frames}
 use Rattle.r6_frames.specs.declared.frames.Job.{Job}
 use Rattle.r6_frames.specs.declared.frames.HeldRow.{HeldRow}
 use Rattle.r6_frames.specs.Views.{op_of, held_for, use_at, row_in, hold_at, AreLive}
-use Rattle.r6_frames.specs.Calls.{IsFreeFrame, NotHeldBy, KeepsDirects, KeepsHolds, KeepsOthers, KeepsRows}
+use Rattle.r6_frames.specs.Calls.{IsFreeFrame, IsHolder, NotHeldBy, KeepsDirects, KeepsHolds, KeepsOthers, KeepsRows}
 use Rattle.r6_frames.specs.declared.op.Op.{Op}
 use Rattle.r6_frames.specs.declared.op.Op.TheVariants as op
 use Rattle.r6_frames.specs.declared.directs.Direct.{Direct}
@@ -19,7 +19,12 @@ use Rattle.r6_frames.specs.Directs.{direct_at, is_free_direct}
 use Rattle.r6_frames.specs.Reads.{IsFreeDirect}
 use Rattle.r6_stripe.specs.Plans.{is_in_sync}
 use Rattle.r6_world.specs.ShardStates.{standing_of}
-use Rattle.r6_core.specs.Inside.{CanHold, CannotBegin, CannotStart, IsLike, IsReadDirectly, IsSyncedRead, row_for, row_of_request}
+use Rattle.r6_core.specs.declared.scan.Room.TheVariants as room
+use Rattle.r6_core.specs.declared.state.State.{State}
+use Rattle.r6_core.specs.Shards.{waiting_of}
+use Rattle.r6_waiters.specs.Line.{Entries, all_moved, entries_of}
+use Rattle.r6_core.specs.Inside.{AllWait, HasBuffer, HasLetGo, HasNoFreeBuffer, HasNoFreeFrame, IsLike, IsReadDirectly, IsSyncedRead, TakesRoom, Waits, WaitsFor, free_buffer, free_frame, row_for, row_of_request}
+use Rattle.r6_core.proofs.Lined.{all_after_moves, all_then, all_then_too, values}
 
 -- ---- a row that is held is held in its frame still
 
@@ -31,7 +36,7 @@ pub row_stays : (old new : Frames) (frame : ℕ) (h : HeldRow) → KeepsRows old
     → (i : HeldRow) × (hold_at new.held frame ≡ Some i) × (i.row ≡ h.row)
 row_stays old new frame h rows is = same_row (hold_at new.held frame) h (rows frame ∙ ap (option_map held_for) is)
 
--- ---- none can start where each row is held still, and no frame became free
+-- ---- what is in sync is so still
 
 -- a read whose position is in sync was one before
 pub synced_before : (old new : Frames) (o : Op) → IsLike old new → IsSyncedRead new o → IsSyncedRead old o
@@ -55,100 +60,321 @@ pub frees_kept : (old new : Frames) → KeepsDirects old new → FreesNone old n
 frees_kept old new directs number free =
     (free.0, sym (ap (λ (ds : List Direct). is_free_direct (direct_at ds number)) directs) ∙ free.1)
 
--- the row of a request in frames of the same shape
-pub row_before : (old new : Frames) (o : Op) → IsLike old new → NotHeldBy new (row_for new o) → NotHeldBy new (row_for old o)
-row_before old new o like unheld = subst (λ (g : Shape). NotHeldBy new (row_of g (block_of (op_of o)))) like.geometry unheld
+-- ---- what waits for a thing can't begin
 
-pub still_cannot : (old new : Frames) (o : Op) → IsLike old new → FreesNone old new
-    → ((row : ℕ) → NotHeldBy new row → NotHeldBy old row) → ((frame : ℕ) → IsFreeFrame new frame → IsFreeFrame old frame)
-    → CannotBegin old o → CannotBegin new o
-still_cannot old new o like frees rows free cannot alive could = cannot (like.live alive) (record {
-  buffer = λ synced. let there = could.buffer (synced_after old new o like synced) in (there.0, frees there.0 there.1);
-  frame = λ held.
-      let there = could.frame (λ directly. held (directly_before old new o like directly)) in
-      (rows _ (row_before old new o like there.0), there.1, free there.1 there.2);
-})
+-- what it would need: a free direct buffer where it is a read of a position in sync, and where it isn't read directly
+-- its row and a free frame
+pub record CouldBegin (fs : Frames) (o : Op) : Type 0 where
+  pub buffer : IsSyncedRead fs o → (number : ℕ) × IsFreeDirect fs number
+  pub frame : (IsReadDirectly fs o → ⊥) → NotHeldBy fs (row_for fs o) × (frame : ℕ) × IsFreeFrame fs frame
 
-pub none_more : (old new : Frames) (rs : List Entered) → IsLike old new → FreesNone old new
-    → ((row : ℕ) → NotHeldBy new row → NotHeldBy old row) → ((frame : ℕ) → IsFreeFrame new frame → IsFreeFrame old frame)
-    → AllByRecursion (CannotStart old) rs → AllByRecursion (CannotStart new) rs
-none_more old new [] like frees rows free all = tt
-none_more old new (r ∷ rs) like frees rows free all =
-    (still_cannot old new r.op like frees rows free all.0, none_more old new rs like frees rows free all.1)
+abbrev pub CannotBegin : Frames → Op → Type 0
+CannotBegin fs o = AreLive fs → CouldBegin fs o → ⊥
 
--- where all rows are held as they were
-pub held_same : (old new : Frames) (row : ℕ) → KeepsHolds old new → NotHeldBy new row → NotHeldBy old row
-held_same old new row holds unheld frame h is at = unheld frame h (ap (λ held. hold_at held frame) holds ∙ is) at
+abbrev pub CannotStart : Frames → Entered → Type 0
+CannotStart fs request = CannotBegin fs request.op
 
-pub free_same : (old new : Frames) (frame : ℕ) → KeepsHolds old new → IsFreeFrame new frame → IsFreeFrame old frame
-free_same old new frame holds free = (free.0, ap (λ held. use_at held frame) (sym holds) ∙ free.1)
+abbrev pub NoneCanStart : State → Type 0
+NoneCanStart s = AllByRecursion (CannotStart s.frames) (waiting_of s)
 
--- ---- one starts after one frame has changed
+pub cannot_begin : (fs : Frames) (cause : ℕ) (o : Op) → WaitsFor fs cause o → CannotBegin fs o
+cannot_begin fs cause o waits alive could = elim waits [
+  | inl buffer ↦ let there = could.buffer buffer.1 in buffer.2 there.0 there.1
+  | inr frame ↦
+      let there = could.frame frame.0 in
+      elim frame.1 [
+        | inl holder ↦ there.0 cause holder.1 holder.2 holder.3
+        | inr none ↦ none.1 there.1 there.2
+      ]
+]
+
+pub all_cannot : (fs : Frames) (es : Entries Entered) → (AreLive fs → AllByRecursion (Waits fs) es) → AllByRecursion (CannotStart fs) (values es)
+all_cannot fs [] all = tt
+all_cannot fs (e ∷ es) all = ((λ alive could. cannot_begin fs e.0 e.1.op (all alive).0 alive could), all_cannot fs es (λ alive. (all alive).1))
+
+pub none_can : (s : State) → AllWait s → NoneCanStart s
+none_can s all = all_cannot s.frames (entries_of s.waiting) all
+
+-- ---- it waits for it still where each row is held in its frame still, and no frame and no direct buffer became free
+
+abbrev pub KeepsHolders : Frames → Frames → Type 0
+KeepsHolders old new = (row frame : ℕ) → IsHolder old row frame → IsHolder new row frame
+
+abbrev pub KeepsFull : Frames → Frames → Type 0
+KeepsFull old new = (frame : ℕ) → IsFreeFrame new frame → IsFreeFrame old frame
+
+pub holders_by_rows : (old new : Frames) → KeepsRows old new → KeepsHolders old new
+holders_by_rows old new rows row frame holder =
+    let there = row_stays old new frame holder.1 rows holder.2 in
+    (holder.0, there.0, there.1, there.2 ∙ holder.3)
+
+pub holders_same : (old new : Frames) → KeepsHolds old new → KeepsHolders old new
+holders_same old new holds row frame holder = (holder.0, holder.1, ap (λ held. hold_at held frame) holds ∙ holder.2, holder.3)
+
+pub full_same : (old new : Frames) → KeepsHolds old new → KeepsFull old new
+full_same old new holds frame free = (free.0, ap (λ held. use_at held frame) (sym holds) ∙ free.1)
+
+-- a frame that has what it had
+pub holder_else : (old new : Frames) (changed row frame : ℕ) → KeepsOthers old changed new → frame ≢ changed → IsHolder old row frame → IsHolder new row frame
+holder_else old new changed row frame others apart holder = (holder.0, holder.1, ap row_in (others frame apart) ∙ holder.2, holder.3)
+
+pub free_else : (old new : Frames) (changed frame : ℕ) → KeepsOthers old changed new → frame ≢ changed → IsFreeFrame new frame → IsFreeFrame old frame
+free_else old new changed frame others apart free = (free.0, sym (others frame apart) ∙ free.1)
 
 -- a free frame holds no row
-frees : (fs : Frames) (frame : ℕ) (h : HeldRow) → IsFreeFrame fs frame → hold_at fs.held frame ≡ Some h → ⊥
-frees fs frame h free is = let both : None ≡ Some h = sym (ap row_in free.1) ∙ is in absurd (cc)
+pub frees : (fs : Frames) (row frame : ℕ) → IsFreeFrame fs frame → IsHolder fs row frame → ⊥
+frees fs row frame free holder = let both : None ≡ Some holder.1 = sym (ap row_in free.1) ∙ holder.2 in absurd (cc)
 
-module _ (before : Frames) (changed : ℕ) (mid : Frames) (frame : ℕ) (new : Frames) (started : Entered) (shape : mid.geometry ≡ before.geometry) (shape' : new.geometry ≡ mid.geometry)
-    (live : AreLive mid → AreLive before) (others : KeepsOthers before changed mid) (can : CanHold mid (row_of_request mid started) frame)
-    (kept : (other : ℕ) → other ≢ frame → use_at new.held other ≡ use_at mid.held other)
-    (held : (h : HeldRow) × (hold_at new.held frame ≡ Some h) × (h.row ≡ row_of mid.geometry (block_of (op_of started.op))))
-    (could_not : CannotStart before started) (own : IsSyncedRead before started.op → ⊥) (like : IsLike before new) (none_freed : FreesNone before new) where
-  -- of two frames that are free one was free before
-  one_free : (other : ℕ) → other ≢ frame → IsFreeFrame mid other → (f : ℕ) × IsFreeFrame before f
-  one_free other ne free = elim (cases_eq other changed) [
-    | inl e ↦ (frame, (can.1.0, sym (others frame (λ same. ne (e ∙ sym same))) ∙ can.1.1))
-    | inr apart ↦ (other, (free.0, sym (others other apart) ∙ free.1))
+-- a row comes into a free frame
+pub holders_begun : (old new : Frames) (frame : ℕ) → IsFreeFrame old frame → KeepsOthers old frame new → KeepsHolders old new
+holders_begun old new frame free others row at holder = elim (cases_eq at frame) [
+  | inl e ↦ absurd (frees old row frame free (subst (IsHolder old row) e holder))
+  | inr ne ↦ holder_else old new frame row at others ne holder
+]
+
+pub full_begun : (old new : Frames) (frame row : ℕ) → KeepsOthers old frame new → IsHolder new row frame → KeepsFull old new
+full_begun old new frame row others holder at free = elim (cases_eq at frame) [
+  | inl e ↦ absurd (frees new row frame (subst (IsFreeFrame new) e free) holder)
+  | inr ne ↦ free_else old new frame at others ne free
+]
+
+row_like : (old new : Frames) (o : Op) → IsLike old new → row_for new o ≡ row_for old o
+row_like old new o like = ap (λ (g : Shape). row_of g (block_of (op_of o))) like.geometry
+
+-- the row of a request
+pub holder_for : (old new : Frames) (o : Op) (frame : ℕ) → IsLike old new → IsHolder new (row_for old o) frame → IsHolder new (row_for new o) frame
+holder_for old new o frame like holder = subst (λ (row : ℕ). IsHolder new row frame) (sym (row_like old new o like)) holder
+
+module _ (old new : Frames) (like : IsLike old new) where
+  -- what isn't read directly isn't now
+  pub not_directly : (o : Op) → (IsReadDirectly old o → ⊥) → IsReadDirectly new o → ⊥
+  not_directly o not directly = not (directly_before old new o like directly)
+
+  module _ (none : FreesNone old new) (holders : KeepsHolders old new) (full : KeepsFull old new) where
+    pub still_waits : (cause : ℕ) (o : Op) → WaitsFor old cause o → WaitsFor new cause o
+    still_waits cause o waits = elim waits [
+      | inl buffer ↦ inl (buffer.0, synced_after old new o like buffer.1, (λ number free. buffer.2 number (none number free)))
+      | inr frame ↦ inr (
+        not_directly o frame.0,
+        elim frame.1 [
+          | inl holder ↦ inl (holder_for old new o cause like (holders (row_for old o) cause holder))
+          | inr no_frame ↦ inr (no_frame.0, (λ at free. no_frame.1 at (full at free)))
+        ],
+      )
+    ]
+
+    pub all_wait_still : (es : Entries Entered) → AllByRecursion (Waits old) es → AllByRecursion (Waits new) es
+    all_wait_still es all = all_then (Waits old) (Waits new) es (λ e waits. still_waits e.0 e.1.op waits) all
+
+-- ---- a frame has let its row go
+
+abbrev pub WaitsOrWaited : Frames → Frames → ℕ × Entered → Type 0
+WaitsOrWaited before fs e = Waits fs e ⊎ Waits before e
+
+module _ (frame : ℕ) (s : State) (go : HasLetGo frame s) where
+  -- who waits neither for its row nor for a frame waits still
+  pub else_waits : (cause : ℕ) (r : Entered) → cause ≢ frame → cause ≢ free_frame → WaitsOrWaited go.before s.frames (cause, r) → Waits s.frames (cause, r)
+  else_waits cause r not_own not_free waits = elim waits [
+    | inl now ↦ now
+    | inr was ↦ elim was [
+      | inl buffer ↦ inl (
+        buffer.0,
+        synced_after go.before s.frames r.op go.like buffer.1,
+        (λ number free. buffer.2 number (frees_kept go.before s.frames go.directs number free)),
+      )
+      | inr waited ↦ inr (
+        not_directly go.before s.frames go.like r.op waited.0,
+        elim waited.1 [
+          | inl holder ↦ inl (holder_for go.before s.frames r.op cause go.like (holder_else go.before s.frames frame (row_for go.before r.op) cause go.others not_own holder))
+          | inr none ↦ absurd (not_free none.0)
+        ],
+      )
+    ]
   ]
 
-  row_in_mid : (r : Entered) → row_of before.geometry (block_of (op_of r.op)) ≡ row_of mid.geometry (block_of (op_of r.op))
-  row_in_mid r = ap (λ (g : Shape). row_of g (block_of (op_of r.op))) (sym shape)
+  -- who waits for its row waited for it before
+  pub own_waited : (r : Entered) → WaitsOrWaited go.before s.frames (frame, r)
+      → (IsReadDirectly go.before r.op → ⊥) × IsHolder go.before (row_for go.before r.op) frame
+  own_waited r waits = elim waits [
+    | inl now ↦ elim now [
+      | inl buffer ↦ absurd (let there = go.there in let e = buffer.0 in omega arith)
+      | inr held ↦ elim held.1 [
+        | inl holder ↦ absurd (let both : None ≡ Some holder.1 = sym go.empty ∙ holder.2 in cc)
+        | inr none ↦ absurd (let there = go.there in let e = none.0 in omega arith)
+      ]
+    ]
+    | inr was ↦ elim was [
+      | inl buffer ↦ absurd (let there = go.there in let e = buffer.0 in omega arith)
+      | inr held ↦ elim held.1 [
+        | inl holder ↦ (held.0, holder)
+        | inr none ↦ absurd (let there = go.there in let e = none.0 in omega arith)
+      ]
+    ]
+  ]
 
-  -- then the row of the one that started was held in the frame that has changed
-  none_before : (r : Entered) → NotHeldBy new (row_of_request new r) → (other : ℕ) → IsFreeFrame new other
-      → NotHeldBy before (row_of_request before r) × (f : ℕ) × IsFreeFrame before f
-  none_before r unheld other free =
-      let apart : other ≢ frame = λ e. frees new frame held.0 (subst (IsFreeFrame new) e free) held.1 in
-      let free_in_mid : IsFreeFrame mid other = (free.0, sym (kept other apart) ∙ free.1) in
-      let was_free = one_free other apart free_in_mid in
-      let lives = live can.0 in (
-        λ k h is at.
-            let row : h.row ≡ row_of mid.geometry (block_of (op_of r.op)) = at ∙ row_in_mid r in
-            elim (cases_eq k changed) [
-              | inr ne ↦
-                  let in_mid : hold_at mid.held k ≡ Some h = ap row_in (others k ne) ∙ is in
-                  let not_frame : k ≢ frame = λ e. frees mid frame h can.1 (ap (hold_at mid.held) (sym e) ∙ in_mid) in
-                  unheld k h (ap row_in (kept k not_frame) ∙ in_mid) (row ∙ ap (λ (g : Shape). row_of g (block_of (op_of r.op))) (sym shape'))
-              | inl e ↦
-                  could_not lives (record {
-                    buffer = λ synced. absurd (own synced);
-                    frame = λ not. (
-                      λ j i there same.
-                          elim (cases_eq j changed) [
-                            | inr ne ↦ can.2 j i (ap row_in (others j ne) ∙ there) (same ∙ row_in_mid started)
-                            | inl e' ↦
-                                let both : Some i ≡ Some h = sym there ∙ ap (hold_at before.held) (e' ∙ sym e) ∙ is in
-                                let one : i ≡ h = cc in
-                                let rows : row_of mid.geometry (block_of (op_of started.op)) ≡ row_of mid.geometry (block_of (op_of r.op)) = sym (same ∙ row_in_mid started) ∙ ap (λ (x : HeldRow). x.row) one ∙ row in
-                                unheld frame held.0 held.1 (held.2 ∙ rows ∙ ap (λ (g : Shape). row_of g (block_of (op_of r.op))) (sym shape'))
-                          ],
-                      was_free.0,
-                      was_free.1,
-                    );
-                  })
-            ],
-        was_free.0,
-        was_free.1,
-      )
+  -- while a frame is free, who waits for one has waited since before
+  pub free_waited : (r : Entered) (free : ℕ) → IsFreeFrame s.frames free → WaitsOrWaited go.before s.frames (free_frame, r)
+      → (IsReadDirectly go.before r.op → ⊥) × HasNoFreeFrame go.before
+  free_waited r free is waits = elim waits [
+    | inl now ↦ elim now [
+      | inl buffer ↦ absurd (let e = buffer.0 in omega arith)
+      | inr held ↦ elim held.1 [
+        | inl holder ↦ absurd (let below = holder.0 in omega arith)
+        | inr none ↦ absurd (none.1 free is)
+      ]
+    ]
+    | inr was ↦ elim was [
+      | inl buffer ↦ absurd (let e = buffer.0 in omega arith)
+      | inr held ↦ elim held.1 [
+        | inl holder ↦ absurd (let below = holder.0 in omega arith)
+        | inr none ↦ (held.0, none.1)
+      ]
+    ]
+  ]
 
-  other_waits : (r : Entered) → CannotStart before r → CannotStart new r
-  other_waits r cannot alive could = cannot (live can.0) (record {
-    buffer = λ synced. let there = could.buffer (synced_after before new r.op like synced) in (there.0, none_freed there.0 there.1);
-    frame = λ not.
-        let there = could.frame (λ directly. not (directly_before before new r.op like directly)) in
-        none_before r there.0 there.1 there.2;
-  })
+  -- none of them is read directly
+  pub not_read : (cause : ℕ) (r : Entered) (free : ℕ) → (cause ≡ frame) ⊎ (cause ≡ free_frame) → IsFreeFrame s.frames free
+      → WaitsOrWaited go.before s.frames (cause, r) → IsReadDirectly s.frames r.op → ⊥
+  not_read cause r free one is waits = not_directly go.before s.frames go.like r.op (elim one [
+    | inl e ↦ (own_waited r (subst (λ (n : ℕ). WaitsOrWaited go.before s.frames (n, r)) e waits)).0
+    | inr e ↦ (free_waited r free is (subst (λ (n : ℕ). WaitsOrWaited go.before s.frames (n, r)) e waits)).0
+  ])
 
-  pub one_more : (rs : List Entered) → AllByRecursion (CannotStart before) rs → AllByRecursion (CannotStart new) rs
-  one_more [] all = tt
-  one_more (r ∷ rs) all = (other_waits r all.0, one_more rs all.1)
+  -- those that wait for a frame, none of which is free
+  for_a_frame : (r : Entered) → HasNoFreeFrame s.frames → WaitsOrWaited go.before s.frames (free_frame, r) → Waits s.frames (free_frame, r)
+  for_a_frame r none waits = elim waits [
+    | inl now ↦ now
+    | inr was ↦ elim was [
+      | inl buffer ↦ absurd (let e = buffer.0 in omega arith)
+      | inr held ↦ inr (not_directly go.before s.frames go.like r.op held.0, inr (refl, none))
+    ]
+  ]
+
+  -- no frame is free: who waited for the row waits for a frame
+  pub wait_for_a_frame : HasNoFreeFrame s.frames → AllByRecursion (Waits s.frames) (all_moved frame free_frame (entries_of s.waiting))
+  wait_for_a_frame none =
+      all_after_moves (WaitsOrWaited go.before s.frames) (Waits s.frames) frame free_frame (entries_of s.waiting)
+      (λ r waits. inr (not_directly go.before s.frames go.like r.op (own_waited r waits).0, inr (refl, none)))
+      (λ cause r not_own waits. elim (cases_eq cause free_frame) [
+        | inl e ↦ subst (λ (n : ℕ). Waits s.frames (n, r)) (sym e) (for_a_frame r none (subst (λ (n : ℕ). WaitsOrWaited go.before s.frames (n, r)) e waits))
+        | inr ne ↦ else_waits cause r not_own ne waits
+      ])
+      go.waits
+
+  -- none waited for the row, and none waits for a frame
+  pub none_waits_for_it : AllByRecursion (λ entry. (entry.0 ≢ frame) × (entry.0 ≢ free_frame)) (entries_of s.waiting) → AllByRecursion (Waits s.frames) (entries_of s.waiting)
+  none_waits_for_it none =
+      all_then_too (WaitsOrWaited go.before s.frames) (λ entry. (entry.0 ≢ frame) × (entry.0 ≢ free_frame)) (Waits s.frames) (entries_of s.waiting)
+      (λ e waits not. else_waits e.0 e.1 not.0 not.1 waits) go.waits none
+
+  -- one of them starts in a free frame
+  module _ (started : Entered) (free : ℕ) (new : Frames) (is_free : IsFreeFrame s.frames free) (like : IsLike s.frames new) (takes : TakesRoom (room.Frame free) s.frames started new) where
+    both_like : IsLike go.before new
+    both_like = record {
+      geometry = like.geometry ∙ go.like.geometry;
+      live = λ live. go.like.live (like.live live);
+      slots = like.slots ∙ go.like.slots;
+      tokens = let first = go.like.tokens in let second = like.tokens in omega arith;
+    }
+
+    waits_on : (e : ℕ × Entered) → Waits s.frames e → Waits new e
+    waits_on e waits =
+        still_waits s.frames new like (frees_kept s.frames new takes.1) (holders_begun s.frames new free is_free takes.0)
+        (full_begun s.frames new free (row_of_request new started) takes.0 takes.2) e.0 e.1.op waits
+
+    -- if no frame was free before, none is
+    none_is_free : HasNoFreeFrame go.before → HasNoFreeFrame new
+    none_is_free none at free_now =
+        let then = full_begun s.frames new free (row_of_request new started) takes.0 takes.2 at free_now in
+        let apart : at ≢ free = λ e. frees new (row_of_request new started) free (subst (IsFreeFrame new) e free_now) takes.2 in
+        elim (cases_eq at frame) [
+          | inl e ↦ none free (free_else go.before s.frames frame free go.others (λ same. apart (e ∙ sym same)) is_free)
+          | inr ne ↦ none at (free_else go.before s.frames frame at go.others ne then)
+        ]
+
+    -- who waits for a frame, if one that does has started or none is free in its place
+    else_on : (cause : ℕ) (r : Entered) → cause ≢ frame → WaitsOrWaited go.before s.frames (cause, r) → Waits new (cause, r)
+    else_on cause r not_own waits = elim (cases_eq cause free_frame) [
+      | inl e ↦
+          let was = free_waited r free is_free (subst (λ (n : ℕ). WaitsOrWaited go.before s.frames (n, r)) e waits) in
+          inr (not_directly go.before new both_like r.op was.0, inr (e, none_is_free was.1))
+      | inr ne ↦ waits_on (cause, r) (else_waits cause r not_own ne waits)
+    ]
+
+    -- it waited for the row: the others wait for the frame that holds it
+    pub behind_own : (es : Entries Entered) → WaitsOrWaited go.before s.frames (frame, started) → AllByRecursion (WaitsOrWaited go.before s.frames) es
+        → AllByRecursion (Waits new) (all_moved frame free es)
+    behind_own es own all =
+        all_after_moves (WaitsOrWaited go.before s.frames) (Waits new) frame free es
+        (λ r waits.
+        let one = own_waited started own in
+        let other = own_waited r waits in
+        let row : row_for go.before started.op ≡ row_for go.before r.op =
+        sym one.1.3 ∙ ap (λ (h : HeldRow). h.row) (let both : Some one.1.1 ≡ Some other.1.1 = sym one.1.2 ∙ other.1.2 in let same : one.1.1 ≡ other.1.1 = cc in same) ∙ other.1.3 in
+        let rows : row_for new started.op ≡ row_for new r.op = row_like go.before new started.op both_like ∙ row ∙ sym (row_like go.before new r.op both_like) in
+        inr (not_directly go.before new both_like r.op other.0, inl (subst (λ (n : ℕ). IsHolder new n free) rows takes.2)))
+        else_on all
+
+    -- it waited for a frame: who waited for the row waits for one
+    pub behind_other : (es : Entries Entered) → WaitsOrWaited go.before s.frames (free_frame, started) → AllByRecursion (WaitsOrWaited go.before s.frames) es
+        → AllByRecursion (Waits new) (all_moved frame free_frame es)
+    behind_other es own all =
+        let none = none_is_free (free_waited started free is_free own).1 in
+        all_after_moves (WaitsOrWaited go.before s.frames) (Waits new) frame free_frame es
+        (λ r waits. inr (not_directly go.before new both_like r.op (own_waited r waits).0, inr (refl, none)))
+        else_on all
+
+-- ---- a direct buffer came home
+
+module _ (s : State) (home : HasBuffer s) where
+  -- none waits for one
+  pub no_frame_freed : (e : ℕ × Entered) → Waits home.before e → e.0 ≢ free_buffer → Waits s.frames e
+  no_frame_freed e waits ne = elim waits [
+    | inl buffer ↦ absurd (ne buffer.0)
+    | inr held ↦ inr (
+      not_directly home.before s.frames home.like e.1.op held.0,
+      elim held.1 [
+        | inl holder ↦ inl (holder_for home.before s.frames e.1.op e.0 home.like (holders_same home.before s.frames home.holds (row_for home.before e.1.op) e.0 holder))
+        | inr none ↦ inr (none.0, (λ at free. none.1 at (full_same home.before s.frames home.holds at free)))
+      ],
+    )
+  ]
+
+  pub none_waits_for_one : AllByRecursion (λ entry. entry.0 ≢ free_buffer) (entries_of s.waiting) → AllByRecursion (Waits s.frames) (entries_of s.waiting)
+  none_waits_for_one none =
+      all_then_too (Waits home.before) (λ entry. entry.0 ≢ free_buffer) (Waits s.frames) (entries_of s.waiting) (λ e waits ne. no_frame_freed e waits ne) home.waits none
+
+  -- none is free
+  pub wait_for_one : HasNoFreeBuffer s.frames → AllByRecursion (Waits s.frames) (entries_of s.waiting)
+  wait_for_one none =
+      all_wait_still home.before s.frames home.like (λ number free. absurd (none number free)) (holders_same home.before s.frames home.holds)
+      (full_same home.before s.frames home.holds) (entries_of s.waiting) home.waits
+
+  -- one starts with it
+  module _ (started : Entered) (number : ℕ) (new : Frames) (is_free : IsFreeDirect s.frames number) (like : IsLike s.frames new) (takes : TakesRoom (room.Direct number) s.frames started new) where
+    none_left : HasNoFreeBuffer home.before → HasNoFreeBuffer new
+    none_left none m free =
+        let there = takes.1 m free in
+        elim (cases_eq m home.number) [
+          | inl e ↦
+              let apart : number ≢ home.number = λ same. there.0 (e ∙ sym same) in
+              none number (home.frees number apart is_free)
+          | inr ne ↦ none m (home.frees m ne there.1)
+        ]
+
+    pub behind_reader : (es : Entries Entered) → Waits home.before (free_buffer, started) → AllByRecursion (Waits home.before) es → AllByRecursion (Waits new) es
+    behind_reader es own all =
+        let none : HasNoFreeBuffer home.before = elim own [
+          | inl buffer ↦ buffer.2
+          | inr held ↦ elim held.1 [ inl holder ↦ absurd (let below = holder.0 in omega arith) | inr no_frame ↦ absurd (let e = no_frame.0 in omega arith) ]
+        ] in
+        let left = none_left none in
+        all_wait_still home.before new
+        (record {
+          geometry = like.geometry ∙ home.like.geometry;
+          live = λ live. home.like.live (like.live live);
+          slots = like.slots ∙ home.like.slots;
+          tokens = let first = home.like.tokens in let second = like.tokens in omega arith;
+        })
+        (λ m free. absurd (left m free))
+        (holders_same home.before new (takes.0 ∙ home.holds)) (full_same home.before new (takes.0 ∙ home.holds)) es all

@@ -1,5 +1,5 @@
 -- What is true of a state between calls, and what internal calls do. No public clause needs it.
-use Rattle.std.specs.Prelude.{◌≡◌, ◌≢◌, ℕ, ◌+◌, ◌*◌, ◌<◌, ◌≤◌, nat_eq, not, ◌⊎◌, Bool, true, false, List, [], ◌∷◌, ◌++◌, length, map, if◌then◌else◌, option_map, IsPermutation, Option, Some, None, Result}
+use Rattle.std.specs.Prelude.{◌≡◌, ◌≢◌, ℕ, ◌+◌, ◌*◌, ◌<◌, ◌≤◌, nat_eq, not, ◌⊎◌, Bool, true, false, List, [], ◌∷◌, ◌++◌, length, map, if◌then◌else◌, option_map, IsPermutation, Option, Some, None, Result, Ok, Err}
 use Rattle.std.specs.List.{AllByRecursion, IsDistinct}
 use Rattle.std.specs.Map.{keys_of}
 use Rattle.r6_stripe.specs.Plans.{is_in_sync}
@@ -19,6 +19,7 @@ use Rattle.r6_frames.specs.declared.op.Request.{Request}
 use Rattle.r6_core.specs.declared.call.Call.{Call}
 use Rattle.r6_core.specs.declared.call.Call.TheVariants as call
 use Rattle.circular_buffer.specs.Buffer.{buffer}
+use Rattle.r6_waiters.specs.Line.{Entries, capacity_of, causes_of, entries_of, with_entries, without_oldest}
 use Rattle.r6_frames.specs.declared.rebuilt.Target.{Target}
 use Rattle.r6_core.specs.declared.reply.Reply.{Reply}
 use Rattle.r6_core.specs.declared.reply.Reply.TheVariants as reply
@@ -44,16 +45,17 @@ use Rattle.r6_frames.specs.declared.op.Op.TheVariants as op
 use Rattle.r6_frames.specs.declared.frames.Served.{Served}
 use Rattle.r6_frames.specs.declared.directs.DirectRead.{DirectRead}
 use Rattle.r6_frames.specs.Directs.{direct_at, read_request, read_requests}
-use Rattle.r6_frames.specs.Reads.{FreesDirect, IsFreeDirect}
+use Rattle.r6_frames.specs.Reads.{FreesDirect, IsFreeDirect, TakesDirect}
 use Rattle.r6_frames.specs.Views.{op_of, buffer_of, is_request, is_scrub, held_for, row_in, kind_in, requests_by, held_requests, hold_at, AreLive}
-use Rattle.r6_frames.specs.Calls.{AreAllInSync, Between, BringsIn, HasOneBlock, Marks, IsAwaited, IsFreeFrame, IsRequestOf, KeepsDirects, KeepsHolds, KeepsOthers, NotHeldBy}
+use Rattle.r6_frames.specs.Calls.{AreAllInSync, Between, BringsIn, HasOneBlock, Marks, IsAwaited, IsFreeFrame, IsHolder, IsRequestOf, KeepsDirects, KeepsHolds, KeepsOthers, NotHeldBy}
 use Rattle.r6_frames.specs.Owed.{owed, IsDriven, IsOver}
 use Rattle.r6_frames.specs.Calls as frames
 use Rattle.r6_frames.specs.Sound as held
-use Rattle.r6_core.specs.Shards.{CoreView, SameShard, buffer_in, core_of, layout_in, requests_of, state_of, turn_row}
+use Rattle.r6_core.specs.Shards.{CoreView, SameShard, buffer_in, core_of, layout_in, requests_of, state_of, turn_row, waiting_of}
 use Rattle.r6_world.specs.ShardStates.{limit}
 use Rattle.r6_core.specs.Refusals.{most_unanswered, HasCompletionFault}
 use Rattle.r6_core.specs.Order.{Starts, HaveTurns, KeepsReplies, ReadAgainBy, WereRead, reply_to}
+use Rattle.r6_waiters.specs.Line.{capacity_of}
 
 -- ---- a state, as callers see it
 
@@ -70,7 +72,7 @@ Leads Kind old new = Through (layout_in old) old.frames.shard Kind (state_of old
 
 -- those that waited have their turns
 abbrev pub WaitingHaveTurns : State → State → Type 0
-WaitingHaveTurns old new = HaveTurns (core_of old) (state_of old) old.waiting.items (core_of new)
+WaitingHaveTurns old new = HaveTurns (core_of old) (state_of old) (waiting_of old) (core_of new)
 
 -- ---- counts
 
@@ -111,9 +113,23 @@ pub record AreRequests (s : State) : Type 0 where
   pub numbered : AllByRecursion (λ id. id < s.accepted) (keys_of (requests_of s))
   pub counted : length (requests_of s) ≡ s.unanswered
   pub few : s.unanswered ≤ most_unanswered
-  pub waiting : AllByRecursion (IsRequestOf s.frames) s.waiting.items
+  pub waiting : AllByRecursion (IsRequestOf s.frames) (waiting_of s)
   pub sized : AllByRecursion (HasOneBlock s.frames.geometry) s.replies.items
   pub marked : s.released ≤ length s.replies.items
+
+-- What requests wait for, by number: for the row that a frame holds the frame's, then these, in this order
+abbrev pub free_frame : ℕ
+free_frame = 64
+
+abbrev pub free_buffer : ℕ
+free_buffer = 65
+
+-- it isn't known yet
+abbrev pub anything : ℕ
+anything = 66
+
+abbrev pub causes : ℕ
+causes = 67
 
 -- whether a call was taken whose answer isn't told
 abbrev pub count_untold : Option Call → ℕ
@@ -140,14 +156,15 @@ abbrev pub most_calls : Frames → ℕ
 most_calls fs = count_slots is_missing fs + count_slots is_settled fs
 
 pub record HasRoom (s : State) : Type 0 where
-  pub waiting : s.waiting.capacity ≡ most_unanswered
+  pub waiting : capacity_of s.waiting ≡ most_unanswered
+  pub causes : causes_of s.waiting ≡ causes
   pub replies : s.replies.capacity ≡ most_unanswered
   pub calls : s.calls.capacity ≡ 64
   pub few_calls : length s.calls.items + count_untold s.untold ≤ most_calls s.frames
 
 -- as many requests wait, or may wait again
 abbrev pub count_unheld : State → ℕ
-count_unheld s = length s.waiting.items + length (read_requests s.frames)
+count_unheld s = length (waiting_of s) + length (read_requests s.frames)
 
 -- what was put out, with what may still come: each request that waits, or may wait again, puts out at most two
 -- commands a position
@@ -198,10 +215,6 @@ pub record IsSettled (s : State) : Type 0 where
 -- the row can be held in the frame
 abbrev pub CanHold : Frames → (row frame : ℕ) → Type 0
 CanHold fs row frame = AreLive fs × IsFreeFrame fs frame × NotHeldBy fs row
-
--- it can't be: nothing goes on, it is held, or no frame is free
-abbrev pub CannotHold : Frames → (row : ℕ) → Type 0
-CannotHold fs row = AreLive fs → NotHeldBy fs row → (frame : ℕ) → IsFreeFrame fs frame → ⊥
 
 -- a slot isn't in sync for the row
 abbrev pub HasSlotOut : Frames → (row : ℕ) → Type 0
@@ -270,15 +283,6 @@ abbrev pub CanBegin : Frames → Op → Room → Type 0
 CanBegin fs o (room.Direct number) = CanBeRead fs o number
 CanBegin fs o (room.Frame frame) = (IsReadDirectly fs o → ⊥) × CanHold fs (row_for fs o) frame
 
--- what it would need: a free direct buffer where it is a read of a position in sync, and where it isn't read directly
--- its row and a free frame
-pub record CouldBegin (fs : Frames) (o : Op) : Type 0 where
-  pub buffer : IsSyncedRead fs o → (number : ℕ) × IsFreeDirect fs number
-  pub frame : (IsReadDirectly fs o → ⊥) → NotHeldBy fs (row_for fs o) × (frame : ℕ) × IsFreeFrame fs frame
-
-abbrev pub CannotBegin : Frames → Op → Type 0
-CannotBegin fs o = AreLive fs → CouldBegin fs o → ⊥
-
 -- so is a request that waits
 abbrev pub CanRead : Frames → Request → (number : ℕ) → Type 0
 CanRead fs request = CanBeRead fs request.op
@@ -289,16 +293,37 @@ row_of_request fs request = row_for fs request.op
 abbrev pub CanStart : Frames → Request → Room → Type 0
 CanStart fs request = CanBegin fs request.op
 
-abbrev pub CannotStart : Frames → Request → Type 0
-CannotStart fs request = CannotBegin fs request.op
+-- ---- what requests wait for
 
-abbrev pub NoneCanStart : State → Type 0
-NoneCanStart s = AllByRecursion (CannotStart s.frames) s.waiting.items
+abbrev pub HasNoFreeFrame : Frames → Type 0
+HasNoFreeFrame fs = (frame : ℕ) → IsFreeFrame fs frame → ⊥
 
--- between public calls: each hold rests, and no request that waits could start
+abbrev pub HasNoFreeBuffer : Frames → Type 0
+HasNoFreeBuffer fs = (number : ℕ) → IsFreeDirect fs number → ⊥
+
+-- the row that is asked for is held in the frame of this number; or no frame is free
+abbrev pub WaitsForFrame : Frames → (cause : ℕ) → Op → Type 0
+WaitsForFrame fs cause o = IsHolder fs (row_for fs o) cause ⊎ ((cause ≡ free_frame) × HasNoFreeFrame fs)
+
+-- what is asked waits for this: a read of a position in sync for a direct buffer, and what isn't read directly for its
+-- row or a frame
+abbrev pub WaitsFor : Frames → (cause : ℕ) → Op → Type 0
+WaitsFor fs cause o =
+    ((cause ≡ free_buffer) × IsSyncedRead fs o × HasNoFreeBuffer fs)
+    ⊎ ((IsReadDirectly fs o → ⊥) × WaitsForFrame fs cause o)
+
+-- so does a request that waits
+abbrev pub Waits : Frames → ℕ × Request → Type 0
+Waits fs entry = WaitsFor fs entry.0 entry.1.op
+
+-- while holds go on each request waits for what it is said to
+abbrev pub AllWait : State → Type 0
+AllWait s = AreLive s.frames → AllByRecursion (Waits s.frames) (entries_of s.waiting)
+
+-- between public calls: each hold rests, and each request that waits has to, so that none could start
 pub record IsCore (s : State) : Type 0 where
   pub settled : IsSettled s
-  pub waits : NoneCanStart s
+  pub waits : AllWait s
 
 -- ---- what may start after a change of the frames
 
@@ -309,41 +334,55 @@ pub record IsLike (before fs : Frames) : Type 0 where
   pub slots : states_of fs.slots ≡ states_of before.slots
   pub tokens : before.commands.next ≤ fs.commands.next
 
--- but for one frame, or for one direct buffer, all is as it was
-abbrev pub IsButOne : (before fs : Frames) → Type 0
-IsButOne before fs =
-    ((frame : ℕ) × KeepsOthers before frame fs × KeepsDirects before fs)
-    ⊎ (KeepsHolds before fs × (number : ℕ) × FreesDirect before number fs)
+-- the frame has let its row go, and else all is as it was when each request waited for what it is said to; what some
+-- wait for was found since
+pub record HasLetGo (frame : ℕ) (s : State) : Type 0 where
+  pub there : frame < shards.frames
+  pub before : Frames
+  pub like : IsLike before s.frames
+  pub others : KeepsOthers before frame s.frames
+  pub directs : KeepsDirects before s.frames
+  pub empty : hold_at s.frames.held frame ≡ None
+  pub waits : AllByRecursion (λ entry. Waits s.frames entry ⊎ Waits before entry) (entries_of s.waiting)
 
--- but for that, all is as it was when none could start
-abbrev pub HasFreedOne : State → Type 0
-HasFreedOne s =
-    (before : Frames) × IsLike before s.frames × IsButOne before s.frames
-    × AllByRecursion (CannotStart before) s.waiting.items
+-- so it is but for one direct buffer, which is free
+pub record HasBuffer (s : State) : Type 0 where
+  pub before : Frames
+  pub like : IsLike before s.frames
+  pub holds : KeepsHolds before s.frames
+  pub number : ℕ
+  pub frees : FreesDirect before number s.frames
+  pub waits : AllByRecursion (Waits before) (entries_of s.waiting)
 
 abbrev pub HasFreed : Freed → State → Type 0
-HasFreed freed.Nothing s = NoneCanStart s
-HasFreed freed.One s = HasFreedOne s
+HasFreed freed.Nothing s = AllWait s
+HasFreed (freed.Row frame) s = HasLetGo frame s
+HasFreed freed.Buffer s = HasBuffer s
 HasFreed freed.Any s = Unit {0}
 
--- a hold has ended, or hasn't: one frame let its row go, or with a row that is rebuilt a slot is in sync for it
-abbrev pub HasEnded : Freed → State → State → Type 0
-HasEnded freed.Nothing old new = new ≡ old
-HasEnded freed.One old new =
-    KeepsDirects old.frames new.frames × (states_of new.frames.slots ≡ states_of old.frames.slots)
+-- a hold has ended, or hasn't: its frame let its row go, or with a row that is rebuilt a slot is in sync for it
+abbrev pub HasEnded : Freed → (frame : ℕ) → State → State → Type 0
+HasEnded freed.Nothing frame old new = new ≡ old
+HasEnded (freed.Row let_go) frame old new =
+    (let_go ≡ frame) × (frame < shards.frames) × (hold_at new.frames.held frame ≡ None)
+    × KeepsDirects old.frames new.frames × (states_of new.frames.slots ≡ states_of old.frames.slots)
     × (new.frames.commands.next ≡ old.frames.commands.next)
-HasEnded freed.Any old new = Unit {0}
+HasEnded freed.Buffer frame old new = ⊥
+HasEnded freed.Any frame old new = Unit {0}
 
--- the oldest request that can start, from an index on, is the one at this index, with this
-pub record IsFirstToStart (s : State) (from index : ℕ) (with : Room) : Type 0 where
-  pub before : List Request
+-- the oldest request that waits for the cause can start, with this
+pub record IsFirstToStart (s : State) (cause : ℕ) (with : Room) : Type 0 where
+  pub before : Entries Request
   pub request : Request
-  pub behind : List Request
-  pub items : s.waiting.items ≡ before ++ request ∷ behind
-  pub at : length before ≡ index
-  pub past : from ≤ index
-  pub cannot : AllByRecursion (CannotStart s.frames) before
+  pub behind : Entries Request
+  pub entries : entries_of s.waiting ≡ before ++ (cause, request) ∷ behind
+  pub oldest : AllByRecursion (λ entry. entry.0 ≢ cause) before
   pub can : CanStart s.frames request with
+
+-- what is asked can begin with this, or else waits for that
+abbrev pub IsRoomFor : Frames → Op → Result Room ℕ → Type 0
+IsRoomFor fs o (Ok with) = CanBegin fs o with
+IsRoomFor fs o (Err cause) = (cause < causes) × (AreLive fs → WaitsFor fs cause o)
 
 -- ---- what internal calls do
 
@@ -364,7 +403,7 @@ KeepsWaiting old new = SameFrames old new × (new.waiting ≡ old.waiting) × (n
 
 -- behind what waited, these wait too
 abbrev pub WaitBehind : State → List Request → State → Type 0
-WaitBehind old more new = new.waiting.items ≡ old.waiting.items ++ more
+WaitBehind old more new = waiting_of new ≡ waiting_of old ++ more
 
 -- direct reads whose commands are gone or abandoned wait again
 abbrev pub ReadAgain : State → State → Type 0
@@ -417,17 +456,21 @@ IsFresh s =
     (s.accepted ≡ 0) × (requests_of s ≡ []) × frames.IsAtStart s.frames × NoCalls s × (s.frames.saw_failed ≡ false)
     × ScrubsAtStart s
 
--- the request at the index starts, and the others keep their order
-abbrev pub StartsAt : State → (index : ℕ) → State → Type 0
-StartsAt old index new =
-    (before : List Request) × (request : Request) × (behind : List Request)
-    × (old.waiting.items ≡ before ++ request ∷ behind) × (length before ≡ index)
-    × (new.waiting.items ≡ before ++ behind)
-    × Starts (layout_in old) old.frames.shard (state_of old) request (state_of new)
+-- the room is the request's, and no other was taken
+abbrev pub TakesRoom : Room → Frames → Request → Frames → Type 0
+TakesRoom (room.Direct number) old request new = KeepsHolds old new × TakesDirect old number new
+TakesRoom (room.Frame frame) old request new =
+    KeepsOthers old frame new × KeepsDirects old new × IsHolder new (row_of_request new request) frame
 
--- what could not start can't start now
-abbrev pub NoMoreCanStart : State → State → Type 0
-NoMoreCanStart old new = (request : Request) → CannotStart old.frames request → CannotStart new.frames request
+-- the request starts with the room
+abbrev pub StartsWith : Room → State → Request → State → Type 0
+StartsWith with old request new =
+    Starts (layout_in old) old.frames.shard (state_of old) request (state_of new)
+    × IsLike old.frames new.frames × TakesRoom with old.frames request new.frames
+
+-- the oldest request that waited for the cause waits no more
+abbrev pub LeavesLine : State → (cause : ℕ) → State → Type 0
+LeavesLine old cause new = new.waiting ≡ with_entries old.waiting (without_oldest cause (entries_of old.waiting))
 
 -- the request, as the frames have it
 abbrev pub served_of : Request → Served
@@ -486,21 +529,22 @@ abbrev pub held_op : ℕ × shards.Request → ℕ × world.Op
 held_op entry = (entry.0, entry.1.op)
 
 abbrev pub unreplied : State → List (ℕ × world.Op)
-unreplied s = map numbered_op s.waiting.items ++ map held_op (held_requests s.frames)
+unreplied s = map numbered_op (waiting_of s) ++ map held_op (held_requests s.frames)
 
 -- all requests with no reply go behind those that have one: none waits, and no row is held
 pub record Gathers (old new : State) : Type 0 where
   pub frames : held.IsSound new.frames
   pub stopped : AreLive new.frames → ⊥
   pub none_held : (frame : ℕ) → hold_at new.frames.held frame ≡ None
-  pub none_waiting : new.waiting.items ≡ []
+  pub none_waiting : waiting_of new ≡ []
   pub more : List Request
   pub replies : new.replies.items ≡ old.replies.items ++ more
   pub all : IsPermutation (unreplied old) (map numbered_op more)
   pub sized : AllByRecursion (HasOneBlock old.frames.geometry) more
   pub tokens : owed new.frames ≤ owed old.frames
   pub shard : Between (λ l n s s'. s' ≡ record s { frame = λ frame. None }) old.frames new.frames
-  pub room : (new.waiting.capacity ≡ old.waiting.capacity) × (new.replies.capacity ≡ old.replies.capacity)
+  pub room : (capacity_of new.waiting ≡ capacity_of old.waiting) × (causes_of new.waiting ≡ causes_of old.waiting)
+      × (new.replies.capacity ≡ old.replies.capacity)
   pub rest : (new.accepted ≡ old.accepted) × (new.unanswered ≡ old.unanswered) × (new.released ≡ old.released)
       × SameCalls old new
   pub scrubs : SameScrubs old new

@@ -28,6 +28,7 @@ use Rattle.r6_frames.specs.Slots as slots
 use Rattle.r6_frames.specs.Views.{op_of, held_requests, Rest, shard_with}
 use Rattle.r6_frames.specs.Directs.{read_requests}
 use Rattle.r6_frames.specs.declared.frames.Frames.{Frames}
+use Rattle.r6_waiters.specs.Line.{Line, entries_of}
 
 -- ---- requests
 
@@ -59,10 +60,17 @@ replied_requests saw_failed released replies =
 abbrev pub framed_requests : Frames → List (ℕ × shards.Request)
 framed_requests fs = held_requests fs ++ read_requests fs
 
+-- those that wait, from the oldest to the newest, without what each waits for
+abbrev pub requests_in : Line Request → List Request
+requests_in line = map (λ entry. entry.1) (entries_of line)
+
+abbrev pub waiting_of : State → List Request
+waiting_of s = requests_in s.waiting
+
 -- the requests, each with its number: those that wait, are held or read directly, and have a reply
 abbrev pub requests_of : State → List (ℕ × shards.Request)
 requests_of s =
-    map waiting_request s.waiting.items
+    map waiting_request (waiting_of s)
     ++ (framed_requests s.frames ++ replied_requests s.frames.saw_failed s.released s.replies.items)
 
 -- the request of a number in a list
@@ -126,7 +134,7 @@ core_with window s =
     record {
       shape = s.frames.geometry;
       shard = s.frames.shard;
-      waiting = s.waiting.items;
+      waiting = waiting_of s;
       finished = drop s.released s.replies.items;
       released = take s.released s.replies.items;
       unanswered = s.unanswered;

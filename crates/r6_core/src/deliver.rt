@@ -12,11 +12,11 @@ ghost use Rattle.r6_frames.specs.Owed.{IsDriven};
 ghost use Rattle.r6_core.specs.Shards.{Step, core_of, completion_of, receipt_of, counts_of};
 ghost use Rattle.r6_core.specs.Refusals.{IsFirstFault, HasNone, deliver_faults};
 ghost use Rattle.r6_core.specs.Order.{MayFinish, Finishes, FinishesBy, HaveTurnsBehind};
-ghost use Rattle.r6_core.specs.Inside.{IsSound, IsSettled, IsCore, IsMarked, IsPlainEnd, IsRestedFrame, one_rebuilt, HasFault, HasFreed, HasFreedOne, HasEnded, HandsBack, AreReadOn, FinishesHeld, requests_ended, rows_counted, KeepsShard, KeepsWaiting, ReadAgain, ReadAgainFor, Leads, Seen, TakesThrough};
+ghost use Rattle.r6_core.specs.Inside.{IsSound, IsSettled, IsCore, IsMarked, IsPlainEnd, IsRestedFrame, one_rebuilt, HasFault, HasFreed, HasBuffer, HasEnded, HandsBack, AreReadOn, FinishesHeld, requests_ended, rows_counted, KeepsShard, KeepsWaiting, ReadAgain, ReadAgainFor, Leads, Seen, TakesThrough};
 
 use crate::call::Call;
 use crate::refusal::{DeviceFault, Receipt, Refusal, Refused};
-use crate::scan::Freed;
+use crate::scan::{ANYTHING, Freed};
 use crate::state::State;
 use r6_frames::{Ended, Target};
 use r6_kernels::Buffer;
@@ -92,7 +92,7 @@ impl State {
                 Err(DeviceFault { kind: _, buffer }) => buffer,
             };
             self.frames.come_home(token, buffer);
-            return (Receipt::Late, Freed::One);
+            return (Receipt::Late, Freed::Any);
         }
         match completion {
             Ok(buffer) => (Receipt::Taken, self.answer(token, buffer)),
@@ -118,7 +118,7 @@ impl State {
     {
         if self.frames.is_read(token) {
             self.give(token, buffer);
-            return Freed::One;
+            return Freed::Buffer;
         }
         let frame = self.frames.answer(token, buffer);
         self.frames.drive(frame);
@@ -133,7 +133,7 @@ impl State {
         requires read { IsOfRead self.old.frames token }
         requires size { length buffer ≡ self.old.frames.geometry.block }
         ensures settled { IsSettled self.new }
-        ensures freed { HasFreedOne self.new }
+        ensures freed { HasBuffer self.new }
         ensures takes { TakesThrough self.old token (Good buffer) Taken self.new }
         ensures keeps { KeepsWaiting self.old self.new }
         ensures order { Seen MayFinish self.old self.new }
@@ -176,7 +176,7 @@ impl State {
         ensures { HandsBack self.old self.new }
     {
         while let Some(request) = self.frames.hand_back() {
-            let Ok(()) = self.waiting.try_push_back(request) else {
+            let Ok(()) = self.waiting.push(ANYTHING, request) else {
                 unreachable!()
             };
         }
@@ -218,7 +218,7 @@ impl State {
         ensures reads { KeepsReads self.old.frames self.new.frames }
         ensures released { self.new.released ≡ self.old.released }
         ensures ends { FinishesHeld self.old frame self.new }
-        ensures freed { HasEnded result self.old self.new }
+        ensures freed { HasEnded result frame self.old self.new }
     {
         match self.frames.finish(frame) {
             Some(Ended::Rebuilt(target, row)) => {
@@ -227,7 +227,7 @@ impl State {
             }
             Some(ended) => {
                 self.close(ended);
-                Freed::One
+                Freed::Row(frame)
             }
             None => Freed::Nothing,
         }

@@ -118,7 +118,7 @@ impl State {
         requires stopped { AreLive self.old.frames → ⊥ }
         ensures gathers { Gathers self.old self.new }
     {
-        while let Some(request) = self.waiting.pop_front() {
+        while let Some(request) = self.waiting.pop_any() {
             let Ok(()) = self.replies.try_push_back(request) else {
                 unreachable!()
             };

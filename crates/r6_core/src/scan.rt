@@ -1,29 +1,41 @@
 //! Waiting requests start.
 
-ghost use Rattle.std.specs.Prelude.{◌≡◌, ◌<◌, ◌≤◌, ◌+◌, ◌++◌, ◌∷◌, ℕ, List, length, take, IsTrue, ◌↔◌, MatchOption};
-ghost use Rattle.std.specs.List.{AllByRecursion};
-ghost use Rattle.circular_buffer.specs.Buffer.{buffer};
+ghost use Rattle.std.specs.Prelude.{◌≡◌, ◌<◌, ◌+◌, ℕ, true, IsTrue, ◌↔◌, MatchOption, IfSome, Some, None, is_some};
+ghost use Rattle.r6_waiters.specs.Line.{entries_of, oldest_of};
 ghost use Rattle.r6_world.specs.ShardStates.{limit};
 ghost use Rattle.r6_world.specs.Steps.{Scans};
 ghost use Rattle.r6_frames.specs.Views.{AreLive};
-ghost use Rattle.r6_frames.specs.Calls.{IsRequestOf, IsPlaceOf, KeepsHolds, KeepsSlots};
+ghost use Rattle.r6_frames.specs.Calls.{IsHolder, IsRequestOf, IsPlaceOf, KeepsHolds, KeepsSlots, NotHeldBy};
 ghost use Rattle.r6_frames.specs.Reads.{ReadsDirectly, TakesDirect};
 ghost use Rattle.r6_frames.specs.Sound as held;
-ghost use Rattle.r6_core.specs.Inside.{IsSettled, IsCore, IsOpOf, IsSyncedRead, CanBegin, CannotBegin, CanRead, served_of, NoneCanStart, CannotStart, CannotHold, CanHold, HasFreed, HasFreedOne, IsFirstToStart, StartsAt, NoMoreCanStart, Leads, OnlyStarts, WaitingHaveTurns};
+ghost use Rattle.r6_core.specs.Inside.{IsSettled, IsCore, IsOpOf, IsRoomFor, IsSyncedRead, CanRead, served_of, anything, causes, row_of_request, HasBuffer, HasFreed, HasLetGo, IsFirstToStart, LeavesLine, Leads, OnlyStarts, StartsWith, WaitingHaveTurns};
 
 use crate::state::{LIMIT, State};
-use circular_buffer::HeapCircularBuffer;
-use r6_frames::{Op, Request, Served};
+use r6_frames::{FRAMES, Op, Request, Served};
 use r6_layout::Place;
+
+// What a request waits for is a number: for a row that is held that of its frame, and else one of these.
+
+/// For a free frame.
+pub(crate) const FREE_FRAME: usize = FRAMES;
+
+/// For a free direct buffer.
+pub(crate) const FREE_BUFFER: usize = FRAMES + 1;
+
+/// For what isn't known yet.
+pub(crate) const ANYTHING: usize = FRAMES + 2;
+
+pub(crate) const CAUSES: usize = FRAMES + 3;
 
 /// What a change of the frames leaves to be started.
 #[derive(Clone, Copy)]
 pub(crate) enum Freed {
     /// No row was let go, and no frame and no direct buffer became free.
     Nothing,
-    /// One frame at most let its row go or became free, or one direct buffer did, so that one request at most can
-    /// start.
-    One,
+    /// This frame let its row go, and is free itself unless buffers are away.
+    Row(usize),
+    /// One direct buffer became free.
+    Buffer,
     /// Any of them may have, and any slot may be in sync for more rows.
     Any,
 }
@@ -48,85 +60,143 @@ impl State {
         ensures turns { WaitingHaveTurns self.old self.new }
         ensures only { OnlyStarts self.old self.new }
     {
+        if !self.frames.is_live() {
+            return;
+        }
         match freed {
             Freed::Nothing => {}
-            Freed::One if self.frames.tokens() < LIMIT => self.start_one(),
-            Freed::One | Freed::Any => self.start_all(),
+            Freed::Row(frame) => self.start_behind(frame),
+            Freed::Buffer if self.frames.tokens() < LIMIT => self.start_read(),
+            Freed::Buffer | Freed::Any => self.start_all(),
         }
     }
 
-    // Starts the oldest waiting request that can start: no other can start behind it.
-    fn start_one(&mut self)
+    // The frame has let its row go. Of those that waited for the row or for a frame the oldest starts whose row isn't
+    // held; no other can start behind it.
+    fn start_behind(&mut self, frame: usize)
         requires settled { IsSettled self.old }
-        requires few { self.old.frames.commands.next < limit }
-        requires freed { HasFreedOne self.old }
+        requires live { AreLive self.old.frames }
+        requires let_go { HasLetGo frame self.old }
         ensures core { IsCore self.new }
         ensures leads { Leads Scans self.old self.new }
         ensures turns { WaitingHaveTurns self.old self.new }
         ensures only { OnlyStarts self.old self.new }
     {
-        if let Some((index, room)) = self.first_to_start(0) {
-            self.start(index, room);
-        }
-    }
-
-    // Starts each waiting request that can start, from the oldest to the newest.
-    fn start_all(&mut self)
-        requires { IsSettled self.old }
-        ensures core { IsCore self.new }
-        ensures leads { Leads Scans self.old self.new }
-        ensures turns { WaitingHaveTurns self.old self.new }
-        ensures only { OnlyStarts self.old self.new }
-    {
-        let mut from = 0;
-        while let Some((index, room)) = self.first_to_start(from) {
-            self.start(index, room);
-            from = index;
-        }
-    }
-
-    // Of the waiting requests from an index on the oldest that can start: its index, and what it starts with. Those
-    // before it can't.
-    fn first_to_start(&self, from: usize) -> Option<(usize, Room)>
-        requires settled { IsSettled self.now }
-        requires before { AllByRecursion (CannotStart self.now.frames) (take from self.now.waiting.items) }
-        ensures { MatchOption result (NoneCanStart self.now) (λ first. IsFirstToStart self.now from first.0 first.1) }
-    {
-        if !self.frames.is_live() {
-            return None;
-        }
-        for index in from..self.waiting.len() {
-            let Some(request) = self.waiting.get(index) else {
-                unreachable!()
-            };
-            let place = self.place(request);
-            if let Some(room) = self.room_for(&request.op, &place) {
-                return Some((index, room));
+        let Some(free) = self.frames.free_frame() else {
+            self.waiting.move_all(frame, FREE_FRAME);
+            return;
+        };
+        while let Some(cause) = self.waiting.older(frame, FREE_FRAME) {
+            match self.holder_for(cause) {
+                Some(holder) => {
+                    self.waiting.move_oldest(cause, holder);
+                }
+                None => {
+                    self.start(cause, Room::Frame(free));
+                    let next = if cause == frame { free } else { FREE_FRAME };
+                    self.waiting.move_all(frame, next);
+                    return;
+                }
             }
         }
-        None
     }
 
-    /// What a request of the shard, whose block stands at this place, can start with. A read of a position that is in
-    /// sync waits for a direct buffer, and holds no row; all else has a free frame, if its row isn't held. From the
-    /// limit of the tokens on such a read has a frame too.
-    pub(crate) fn room_for(&self, op: &Op, place: &Place) -> Option<Room>
+    // The frame that holds the row of the oldest request that waits for the cause.
+    fn holder_for(&self, cause: usize) -> Option<usize>
+        requires settled { IsSettled self.now }
+        requires cause { cause < causes }
+        requires some { is_some (oldest_of cause (entries_of self.now.waiting)) ≡ true }
+        ensures { IfSome (oldest_of cause (entries_of self.now.waiting)) (λ request.
+            MatchOption result
+            (NotHeldBy self.now.frames (row_of_request self.now.frames request))
+            (IsHolder self.now.frames (row_of_request self.now.frames request))) }
+    {
+        let Some(request) = self.waiting.oldest(cause) else {
+            unreachable!()
+        };
+        self.frames.holder(self.place(request).row)
+    }
+
+    // A direct buffer became free: the oldest that waits for one is read.
+    fn start_read(&mut self)
+        requires settled { IsSettled self.old }
+        requires live { AreLive self.old.frames }
+        requires few { self.old.frames.commands.next < limit }
+        requires freed { HasBuffer self.old }
+        ensures core { IsCore self.new }
+        ensures leads { Leads Scans self.old self.new }
+        ensures turns { WaitingHaveTurns self.old self.new }
+        ensures only { OnlyStarts self.old self.new }
+    {
+        if self.waiting.oldest(FREE_BUFFER).is_none() {
+            return;
+        }
+        let Some(number) = self.frames.free_direct() else {
+            return;
+        };
+        self.start(FREE_BUFFER, Room::Direct(number));
+    }
+
+    // Starts each waiting request that can start, from the oldest to the newest, and finds what each other waits for.
+    fn start_all(&mut self)
+        requires settled { IsSettled self.old }
+        requires live { AreLive self.old.frames }
+        ensures core { IsCore self.new }
+        ensures leads { Leads Scans self.old self.new }
+        ensures turns { WaitingHaveTurns self.old self.new }
+        ensures only { OnlyStarts self.old self.new }
+    {
+        self.waiting.gather(ANYTHING);
+        while let Some(room) = self.room_for_oldest() {
+            match room {
+                Ok(room) => self.start(ANYTHING, room),
+                Err(cause) => {
+                    self.waiting.move_oldest(ANYTHING, cause);
+                }
+            }
+        }
+    }
+
+    // What the oldest request that waits for anything can start with, or else what it waits for.
+    fn room_for_oldest(&self) -> Option<Result<Room, usize>>
+        requires { IsSettled self.now }
+        ensures { MatchOption result
+            (oldest_of anything (entries_of self.now.waiting) ≡ None)
+            (λ room. (request : Request) × (oldest_of anything (entries_of self.now.waiting) ≡ Some request)
+            × IsRoomFor self.now.frames request.op room) }
+    {
+        let request = self.waiting.oldest(ANYTHING)?;
+        let place = self.place(request);
+        Some(self.room_for(&request.op, &place))
+    }
+
+    /// What a request of the shard, whose block stands at this place, can start with, or else what it waits for. A read
+    /// of a position that is in sync waits for a direct buffer, and holds no row; all else has a free frame, if its row
+    /// isn't held. From the limit of the tokens on such a read has a frame too.
+    pub(crate) fn room_for(&self, op: &Op, place: &Place) -> Result<Room, usize>
         requires sound { held.IsSound self.now.frames }
         requires request { IsOpOf self.now.frames op.now }
         requires place { IsPlaceOf self.now.frames.geometry op.now place.now }
-        ensures { MatchOption result (CannotBegin self.now.frames op.now) (CanBegin self.now.frames op.now) }
+        ensures { IsRoomFor self.now.frames op.now result }
     {
         if !self.frames.is_live() {
-            return None;
+            return Err(ANYTHING);
         }
         if self.is_synced_read(op, place) {
-            let number = self.frames.free_direct()?;
+            let Some(number) = self.frames.free_direct() else {
+                return Err(FREE_BUFFER);
+            };
             if self.frames.tokens() < LIMIT {
-                return Some(Room::Direct(number));
+                return Ok(Room::Direct(number));
             }
         }
-        let frame = self.frame_for(place.row)?;
-        Some(Room::Frame(frame))
+        if let Some(holder) = self.frames.holder(place.row) {
+            return Err(holder);
+        }
+        match self.frames.free_frame() {
+            Some(frame) => Ok(Room::Frame(frame)),
+            None => Err(FREE_FRAME),
+        }
     }
 
     // Whether it is a read of a position that is in sync for its row.
@@ -152,31 +222,22 @@ impl State {
         }
     }
 
-    /// A free frame, if the row can be held: holds go on, and it isn't held.
-    pub(crate) fn frame_for(&self, row: u64) -> Option<usize>
-        ensures { MatchOption result (CannotHold self.now.frames row) (CanHold self.now.frames row) }
-    {
-        if !self.frames.is_live() {
-            return None;
-        }
-        if self.frames.is_held(row) {
-            return None;
-        }
-        self.frames.free_frame()
-    }
-
-    // The request at the index starts.
-    fn start(&mut self, index: usize, room: Room)
+    // The oldest request that waits for the cause starts.
+    fn start(&mut self, cause: usize, room: Room)
         requires settled { IsSettled self.old }
-        requires first { (from : ℕ) × IsFirstToStart self.old from index room }
+        requires cause { cause < causes }
+        requires first { IsFirstToStart self.old cause room }
         ensures settled { IsSettled self.new }
         ensures leads { Leads Scans self.old self.new }
-        ensures starts { StartsAt self.old index self.new }
-        ensures no_more { NoMoreCanStart self.old self.new }
-        ensures last { self.old.frames.commands.next < limit → HasFreedOne self.old → NoneCanStart self.new }
+        ensures live { AreLive self.new.frames }
+        ensures left { LeavesLine self.old cause self.new }
+        ensures starts { IfSome (oldest_of cause (entries_of self.old.waiting)) (λ request.
+            StartsWith room self.old request self.new) }
         ensures only { OnlyStarts self.old self.new }
     {
-        let request = take_at(&mut self.waiting, index);
+        let Some(request) = self.waiting.pop_oldest(cause) else {
+            unreachable!()
+        };
         let place = self.place(&request);
         match room {
             Room::Direct(number) => self.read(number, request, place),
@@ -210,25 +271,4 @@ impl State {
             Op::Write(..) => unreachable!(),
         }
     }
-}
-
-// Takes the request at the index out. The others keep their order.
-fn take_at(queue: &mut HeapCircularBuffer<Request>, index: usize) -> Request
-    requires index { index < length queue.old.items }
-    requires room { length queue.old.items ≤ queue.old.capacity }
-    ensures { (before : List Request) (request : Request) (behind : List Request)
-        → queue.old.items ≡ before ++ request ∷ behind → length before ≡ index
-        → (result ≡ request) × (queue.new ≡ buffer (before ++ behind) queue.old.capacity) }
-{
-    let Some(first) = queue.pop_front() else {
-        unreachable!()
-    };
-    if index == 0 {
-        return first;
-    }
-    let request = take_at(queue, index - 1);
-    let Ok(()) = queue.try_push_front(first) else {
-        unreachable!()
-    };
-    request
 }

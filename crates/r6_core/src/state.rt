@@ -9,7 +9,7 @@ ghost use Rattle.r6_frames.specs.Views.{op_of, buffer_of};
 ghost use Rattle.r6_frames.specs.Calls as frames;
 ghost use Rattle.r6_frames.specs.Calls.{IsPlaceOf};
 ghost use Rattle.r6_frames.specs.Slots.{slot_before, AreUsed};
-ghost use Rattle.r6_core.specs.Shards.{Step, core_of, state_of, layout_in, reply_of, buffer_back};
+ghost use Rattle.r6_core.specs.Shards.{Step, core_of, state_of, layout_in, reply_of, buffer_back, waiting_of};
 ghost use Rattle.r6_core.specs.Refusals.{HasSubmitFault, IsFirstFault, HasNone, submit_faults};
 ghost use Rattle.r6_core.specs.Order.{NoReplies, SameReplies, BringsBack, TakesFirst, HasNoReply, HaveTurns};
 ghost use Rattle.r6_core.specs.Effects.{KeepsRequests, HandsCommand};
@@ -19,10 +19,11 @@ use crate::call::Call;
 use crate::counts::Counts;
 use crate::refusal::{Refusal, Refused};
 use crate::reply::{OpId, Reply};
-use crate::scan::Room;
+use crate::scan::{CAUSES, Room};
 use circular_buffer::HeapCircularBuffer;
 use r6_frames::{Command, Device, Frames, MOST_SLOTS, Op, Request};
 use r6_layout::{Geometry, Place};
+use r6_waiters::Waiters;
 use std::alloc::{AllocError, Global};
 
 /// As many accepted requests whose replies were not taken.
@@ -39,8 +40,8 @@ pub(crate) struct State {
     pub accepted: u64,
     /// How many of them have replies that were not taken.
     pub unanswered: usize,
-    /// From the oldest to the newest.
-    pub waiting: HeapCircularBuffer<Request>,
+    /// From the oldest to the newest, each with what it waits for.
+    pub waiting: Waiters<Request>,
     /// Those that are finished, in the order in which they finished. Once a look has seen that the array failed, those
     /// behind the released ones are answered so, from the oldest to the newest.
     pub replies: HeapCircularBuffer<Request>,
@@ -79,7 +80,7 @@ impl State {
         Ok(State {
             accepted: 0,
             unanswered: 0,
-            waiting: HeapCircularBuffer::with_capacity(alloc, UNANSWERED)?,
+            waiting: Waiters::with_capacity(alloc, UNANSWERED, CAUSES)?,
             replies: HeapCircularBuffer::with_capacity(alloc, UNANSWERED)?,
             released: 0,
             calls: HeapCircularBuffer::with_capacity(alloc, 2 * MOST_SLOTS)?,
@@ -134,7 +135,7 @@ impl State {
         ensures unanswered { IfOk result (λ _. self.new.unanswered ≡ self.old.unanswered + 1) }
         ensures turns { IfOk result (λ id. HaveTurns (core_of self.old)
             (after (layout_in self.old) (state_of self.old) (Accept (op_of op)))
-            (self.old.waiting.items ++ (record { id = id.0; op = op }) ∷ []) (core_of self.new)) }
+            (waiting_of self.old ++ (record { id = id.0; op = op }) ∷ []) (core_of self.new)) }
     {
         let place = match self.admit(&op) {
             Ok(place) => place,
@@ -157,7 +158,7 @@ impl State {
             (after (layout_in self.old) (state_of self.old) (Accept (op_of op))) (state_of self.new) }
         ensures turns { HaveTurns (core_of self.old)
             (after (layout_in self.old) (state_of self.old) (Accept (op_of op)))
-            (self.old.waiting.items ++ (record { id = result; op = op }) ∷ []) (core_of self.new) }
+            (waiting_of self.old ++ (record { id = result; op = op }) ∷ []) (core_of self.new) }
         ensures same { SameFrames self.old self.new }
         ensures calls { SameCalls self.old self.new }
         ensures order { Seen SameReplies self.old self.new }
@@ -168,13 +169,13 @@ impl State {
         self.accepted += 1;
         self.unanswered += 1;
         match self.room_for(&request.op, &place) {
-            Some(Room::Direct(number)) => self.read(number, request, place),
-            Some(Room::Frame(frame)) => {
+            Ok(Room::Direct(number)) => self.read(number, request, place),
+            Ok(Room::Frame(frame)) => {
                 self.frames.begin(frame, request, place);
                 self.frames.drive(frame);
             }
-            None => {
-                let Ok(()) = self.waiting.try_push_back(request) else {
+            Err(cause) => {
+                let Ok(()) = self.waiting.push(cause, request) else {
                     unreachable!()
                 };
             }

@@ -15,6 +15,7 @@ use Rattle.r6_core.proofs.MarkedRows.{marked_ends, marked_frames, marked_leads, 
 use Rattle.r6_core.proofs.Settling.{behind_finished}
 use Rattle.r6_core.proofs.Throughs.{through_none}
 use Rattle.r6_core.proofs.state.State.finish.Goals as goal
+use Rattle.r6_frames.proofs.Held.{held_within}
 
 -- ---- a row is rebuilt
 
@@ -128,6 +129,9 @@ returns-in-Some c =
       );
       reads = ap (λ (x : State). read_requests x.frames) same ∙ ends.shard.3;
       freed = (
+        refl,
+        (let below = held_within s.frames.held c.args.frame held.0 held.1 in let count = c.requires.sound.frames.frames.count in omega arith),
+        ap (λ (x : State). hold_at x.frames.held c.args.frame) same ∙ freed s.frames fs c.args.frame e ends,
         ap (λ (x : State). x.frames.directs) same ∙ left.directs,
         ap (λ (x : State). states_of x.frames.slots) same ∙ (ends_still s.frames fs c.args.frame e ends).0,
         ap (λ (x : State). x.frames.commands.next) same ∙ left.owed.1,

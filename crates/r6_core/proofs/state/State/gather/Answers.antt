@@ -1,12 +1,12 @@
 use Rattle.std.proofs.Common.{inl, inr, ◌+◌, ◌∷◌, ◌≤◌, drop, length, sym, ap, subst, ◌∙◌, arith}
-use Rattle.circular_buffer.specs.Buffer.{Buffer}
-use Rattle.r6_frames.specs.declared.op.Request.{Request}
 use Rattle.r6_core.specs.declared.state.State.{State}
 use Rattle.r6_frames.specs.declared.frames.Frames.{Frames}
-use Rattle.r6_core.proofs.Replies.{some_popped}
 use Rattle.r6_core.proofs.Gathering.{IsGathering, gathering_none, gathering_waiting, gathering_held, gathering_scrub, gathering_skips, gathered, replies_room, some_waits, some_held}
 use Rattle.r6_core.proofs.state.State.gather.Goals as goal
 use Rattle.r6_core.proofs.state.State.gather.Goals.{in-Some-give_up+in-Ok-try_push_back, in_default-give_up}
+use Rattle.r6_core.specs.Shards.{waiting_of, requests_in}
+use Rattle.r6_waiters.specs.Line.{capacity_of, causes_of, entries_of}
+use Rattle.r6_core.proofs.Lined.{values, values_first}
 
 pub loop-request-init : goal.loop-request-init
 loop-request-init c = gathering_none c.args.self.now c.requires.sound c.requires.stopped
@@ -15,18 +15,18 @@ pub loop-request-preserved : goal.loop-request-preserved
 loop-request-preserved c =
     let mid = c.loop-request.self in
     let r = c.in-Some.request in
-    let popped = c.pop_front.ensures.items in
-    let first = some_popped mid.waiting.items r (sym c.pop_front.ensures.value ∙ c.in-Some.is) ∙ ap (λ (b : Buffer Request). r ∷ b.items) (sym popped) in
+    let popped = c.pop_any.ensures.rest in
+    let first = values_first (entries_of mid.waiting) r (sym c.pop_any.ensures.value ∙ c.in-Some.is) ∙ ap (λ line. r ∷ requests_in line) (sym popped) in
     let pushed = c.in-Ok.ensures.ok in
-    gathering_waiting c.args.self.now mid 0 r c.loop-request.invariant c.try_push_back.new.self (ap (λ b. b.items) pushed) c.pop_front.new.self first
-    (ap (λ b. b.capacity) popped) (ap (λ b. b.capacity) pushed)
+    gathering_waiting c.args.self.now mid 0 r c.loop-request.invariant c.try_push_back.new.self (ap (λ b. b.items) pushed) c.pop_any.new.self first
+    (ap capacity_of popped, ap causes_of popped) (ap (λ b. b.capacity) pushed)
 
 pub unreachable-requires : goal.unreachable-requires
 unreachable-requires c =
     let mid = c.loop-request.self in
     let r = c.in-Some.request in
-    let first = some_popped mid.waiting.items r (sym c.pop_front.ensures.value ∙ c.in-Some.is) in
-    let room = replies_room c.args.self.now mid 0 c.requires.sound c.loop-request.invariant (some_waits mid r (drop 1 mid.waiting.items) first) in
+    let first = values_first (entries_of mid.waiting) r (sym c.pop_any.ensures.value ∙ c.in-Some.is) in
+    let room = replies_room c.args.self.now mid 0 c.requires.sound c.loop-request.invariant (some_waits mid r (values (drop 1 (entries_of mid.waiting))) first) in
     let no = c.in_default-try_push_back.ensures.variant.1 room in
     absurd (cc)
 
@@ -57,7 +57,7 @@ loop-frame-preserved c =
           gathering_held s mid count w.in-Some-give_up.request inv.gathering replies (ap (λ b. b.items) pushed) fs left.sound left.stopped gives left.others left.none left.owed.0 (ap (λ b. b.capacity) pushed) in
           record {
             gathering = subst (λ (x : State). IsGathering s x (count + 1)) (sym w.self-is) is;
-            none_waiting = ap (λ (x : State). x.waiting.items) w.self-is ∙ inv.none_waiting;
+            none_waiting = ap (λ (x : State). waiting_of x) w.self-is ∙ inv.none_waiting;
           }
       | in_default-give_up w ↦
           let gives = w.in_default-give_up.ensures.gives in
@@ -68,7 +68,7 @@ loop-frame-preserved c =
           ] in
           record {
             gathering = subst (λ (x : State). IsGathering s x (count + 1)) (sym w.self-is) is;
-            none_waiting = ap (λ (x : State). x.waiting.items) w.self-is ∙ inv.none_waiting;
+            none_waiting = ap (λ (x : State). waiting_of x) w.self-is ∙ inv.none_waiting;
           }
     ]
 

@@ -3,19 +3,19 @@ use Rattle.std.specs.Prelude.{nat_eq}
 use Rattle.std.proofs.lemmas.Bool.{eqb-true}
 use Rattle.std.proofs.lemmas.List.{nil_from_length}
 use Rattle.r6_world.specs.Registers.{Snapshot}
-use Rattle.r6_core.specs.Shards.{layout_in, state_of, core_of}
+use Rattle.r6_core.specs.Shards.{layout_in, state_of, core_of, waiting_of}
 use Rattle.r6_core.specs.Order.{Agrees}
 use Rattle.std.specs.List.{AllByRecursion}
-use Rattle.circular_buffer.specs.Buffer.{Buffer}
 use Rattle.r6_frames.specs.declared.op.Request.{Request}
 use Rattle.r6_frames.specs.declared.frames.Frames.{Frames}
 use Rattle.r6_frames.specs.Views.{AreLive}
-use Rattle.r6_core.specs.Inside.{CannotStart, HasFreed, IsSettled, NoCalls, ReadAgain}
-use Rattle.r6_core.proofs.Scanned.{none_starts}
+use Rattle.r6_core.specs.Inside.{HasFreed, IsSettled, NoCalls, ReadAgain, Waits}
 use Rattle.r6_core.specs.declared.state.State.{State}
 use Rattle.r6_core.proofs.Looking.{TookOver, HasSettled, HasReleased, settled_some, settled_none, failed_by-takes_over, failed_by-goes_on, looked, looked_failed, looked_stopped, looked_releases, looked_turns, stopped_turns}
 use Rattle.r6_core.proofs.state.State.look.Goals as goal
 use Rattle.r6_core.proofs.state.State.look.Goals.{then-went_out, else-went_out}
+use Rattle.r6_waiters.specs.Line.{Line, entries_of}
+use Rattle.r6_core.proofs.Lined.{all_of_none}
 
 told_of : (s : State) → nat_eq (length s.calls.items) 0 ≡ true → is_some s.untold ≡ false → NoCalls s
 told_of s empty none = (nil_from_length s.calls.items (eqb-true (length s.calls.items) 0 empty), none_of s.untold none)
@@ -36,7 +36,7 @@ none_again : (s mid : State) (seen : Snapshot) (went_out : Bool) (again : ReadAg
     → Agrees (core_of s) seen → again.0 ≡ []
 none_again s mid seen true again some none agrees = absurd (some refl agrees)
 none_again s mid seen false again some none agrees =
-    none_more s.waiting.items again.0 (sym (ap (λ (x : State). x.waiting.items) (none refl).0) ∙ again.2)
+    none_more (waiting_of s) again.0 (sym (ap (λ (x : State). waiting_of x) (none refl).0) ∙ again.2)
 
 -- and leaves the shard
 stays : (s mid : State) (seen : Snapshot) (went_out : Bool) → (went_out ≡ true → Agrees (core_of s) seen → ⊥) → (went_out ≡ false → (mid ≡ s) × Agrees (core_of s) seen)
@@ -162,7 +162,7 @@ returns-then-failed-clause-core c =
     let fails = c.see_failure.ensures in
     record {
       settled = fails.core;
-      waits = subst (λ rs. AllByRecursion (CannotStart c.see_failure.new.self.frames) rs) (sym fails.order.2) tt;
+      waits = λ live. all_of_none (Waits c.see_failure.new.self.frames) (entries_of c.see_failure.new.self.waiting) fails.order.2;
     }
 
 pub returns-then-saw_failed-clause-core : goal.returns-then-saw_failed-clause-core
@@ -171,7 +171,7 @@ returns-then-saw_failed-clause-core c =
     let stopped : AreLive mid.frames → ⊥ = λ live. no_both _ (sym c.saw_failed.ensures ∙ c.if-saw_failed.true) live.1 in
     record {
       settled = record { sound = c.adopt-went_out.ensures.sound; reading = c.adopt-went_out.ensures.reading; rested = λ live. absurd (stopped live) };
-      waits = none_starts mid.frames mid.waiting.items stopped;
+      waits = λ live. absurd (stopped live);
     }
 
 -- a look that found no slot other leaves what waits where it was
@@ -188,8 +188,8 @@ start_waiting-requires-clause-freed c =
           let frames = release.same.0 ∙ ap (λ (x : State). x.frames) same in
           let waiting = release.waiting ∙ ap (λ (x : State). x.waiting) same in
           subst (λ f. HasFreed f new) (sym w.freed-is)
-          (subst (λ (fs : Frames). AllByRecursion (CannotStart fs) new.waiting.items) (sym frames)
-          (subst (λ (b : Buffer Request). AllByRecursion (CannotStart s.frames) b.items) (sym waiting) c.requires.waits))
+          (subst (λ (fs : Frames). AreLive fs → AllByRecursion (Waits fs) (entries_of new.waiting)) (sym frames)
+          (subst (λ (line : Line Request). AreLive s.frames → AllByRecursion (Waits s.frames) (entries_of line)) (sym waiting) c.requires.waits))
     ]
 
 pub returns-clause-told : goal.returns-clause-told

@@ -1,9 +1,12 @@
-use Rattle.std.proofs.Common.{ap, sym, subst, arith}
+use Rattle.std.proofs.Common.{◌∙◌, ap, sym, subst, arith}
 use Rattle.r6_frames.specs.declared.frames.Frames.{Frames}
-use Rattle.r6_core.specs.Inside.{HandsBack}
-use Rattle.std.proofs.lemmas.Bool.{false≢true}
+use Rattle.r6_core.specs.Inside.{HandsBack, anything}
+use Rattle.std.proofs.lemmas.List.{length-map}
 use Rattle.r6_core.proofs.HandedBack.{back_fits, fewer_reads, handed_back, handing_none, handing_on}
 use Rattle.r6_core.proofs.state.State.read_again.Goals as goal
+use Rattle.r6_waiters.specs.Line.{capacity_of, causes_of, entries_of}
+use Rattle.r6_core.specs.Shards.{requests_in}
+use Rattle.r6_core.proofs.Accepting.{pushed_requests}
 
 pub loop-request-init : goal.loop-request-init
 loop-request-init c = handing_none c.args.self.now c.requires
@@ -11,23 +14,26 @@ loop-request-init c = handing_none c.args.self.now c.requires
 pub unreachable-requires : goal.unreachable-requires
 unreachable-requires c =
     let mid = c.loop-request.self in
-    false≢true (c.in_default-try_push_back.ensures.variant.1 (back_fits mid c.in-Some.request c.hand_back.new.self c.loop-request.invariant.sound c.in-Some.ensures.back))
+    let fits = back_fits mid c.in-Some.request c.hand_back.new.self c.loop-request.invariant.sound c.in-Some.ensures.back in
+    let full = c.in_default-push.ensures.full.0 in
+    let long = length-map (entries_of mid.waiting) (λ entry. entry.1) in
+    absurd (omega (arith, fits, full, long))
 
 pub loop-request-preserved : goal.loop-request-preserved
 loop-request-preserved c =
     let mid = c.loop-request.self in
     let back = c.in-Some.ensures in
-    let pushed = c.in-Ok.ensures.ok in
-    handing_on c.args.self.now mid c.in-Some.request c.hand_back.new.self c.try_push_back.new.self c.loop-request.invariant back.sound back.back back.holds back.same back.commands.0 back.readers
-    (ap (λ b. b.items) pushed) (ap (λ b. b.capacity) pushed)
+    let pushed = c.in-Ok.ensures.last in
+    handing_on c.args.self.now mid c.in-Some.request c.hand_back.new.self c.push.new.self c.loop-request.invariant back.sound back.back back.holds back.same back.commands.0 back.readers
+    (ap requests_in pushed ∙ pushed_requests mid anything c.in-Some.request) (ap capacity_of pushed, ap causes_of pushed)
 
 pub loop-request-smaller : goal.loop-request-smaller
 loop-request-smaller c =
     let mid = c.loop-request.self in
     let back = c.in-Some.ensures in
-    let pushed = c.in-Ok.ensures.ok in
-    let one = fewer_reads mid c.in-Some.request c.hand_back.new.self c.try_push_back.new.self c.loop-request.invariant.sound back.sound back.back back.holds back.same back.commands.0
-    (ap (λ b. b.items) pushed) (ap (λ b. b.capacity) pushed) in
+    let pushed = c.in-Ok.ensures.last in
+    let one = fewer_reads mid c.in-Some.request c.hand_back.new.self c.push.new.self c.loop-request.invariant.sound back.sound back.back back.holds back.same back.commands.0
+    (ap requests_in pushed ∙ pushed_requests mid anything c.in-Some.request) (ap capacity_of pushed, ap causes_of pushed) in
     omega arith
 
 pub returns : goal.returns

@@ -1,29 +1,62 @@
-use Rattle.std.proofs.Common.{ap, length, arith}
-use Rattle.r6_core.proofs.Scanned.{unscanned, tested_cannot, is_next, scanned_on, scanned_all}
-use Rattle.r6_core.proofs.Starting.{longer}
+use Rattle.std.proofs.Common.{◌<◌, ◌==◌, sym, subst}
+use Rattle.r6_waiters.specs.Line.{Line, entries_of}
+use Rattle.r6_frames.specs.declared.op.Request.{Request}
+use Rattle.r6_core.specs.Inside.{IsRoomFor, anything}
+use Rattle.r6_core.proofs.Scanned.{IsScanned, count_for, next_first, next_started, next_started_fewer, next_waits, next_waits_fewer, none_scanned, scanned_core, scanned_turns, with_line}
 use Rattle.r6_core.proofs.state.State.start_all.Goals as goal
 
-pub loop-index-init : goal.loop-index-init
-loop-index-init c = unscanned c.args.self.now c.requires
+pub loop-room-init : goal.loop-room-init
+loop-room-init c =
+    let s = c.args.self.now in
+    subst (λ (line : Line Request). IsScanned s (with_line s line)) (sym c.gather.ensures) (none_scanned s c.requires.settled c.requires.live)
 
-pub first_to_start-requires-clause-before : goal.first_to_start-requires-clause-before
-first_to_start-requires-clause-before c = tested_cannot c.args.self.now c.loop-index.self c.loop-index.from c.loop-index.invariant
+pub start-requires-clause-first : goal.start-requires-clause-first
+start-requires-clause-first c =
+    let s = c.loop-room.self in
+    let there = c.in-Some.ensures in
+    next_first c.args.self.now s c.loop-room.invariant there.0 there.1 c.in-Ok.room (subst (IsRoomFor s.frames there.0.op) c.in-Ok.is there.2)
 
-pub loop-index-preserved : goal.loop-index-preserved
-loop-index-preserved c =
-    let s = c.loop-index.self in
-    let new = c.start.new.self in
+pub loop-room-smaller-in-Ok : goal.loop-room-smaller-in-Ok
+loop-room-smaller-in-Ok c =
+    let s = c.loop-room.self in
+    let there = c.in-Some.ensures in
     let start = c.start.ensures in
-    let next = is_next s c.loop-index.from c.in-Some.index c.in-Some.room new c.in-Some.ensures start.starts in
-    scanned_on c.args.self.now s new c.loop-index.from c.in-Some.index c.loop-index.invariant next start.settled start.leads start.no_more start.only.0 start.only.1 start.only.2
+    next_started_fewer c.args.self.now s c.loop-room.invariant there.0 there.1 c.in-Ok.room (subst (IsRoomFor s.frames there.0.op) c.in-Ok.is there.2)
+    c.start.new.self start.left start.starts
 
-pub loop-index-smaller : goal.loop-index-smaller
-loop-index-smaller c =
-    let starts = c.start.ensures.starts in
-    omega (arith, ap length starts.3, ap length starts.5, longer starts.0 starts.1 starts.2)
+pub loop-room-preserved-in-Ok : goal.loop-room-preserved-in-Ok
+loop-room-preserved-in-Ok c =
+    let s = c.loop-room.self in
+    let there = c.in-Some.ensures in
+    let start = c.start.ensures in
+    next_started c.args.self.now s c.loop-room.invariant there.0 there.1 c.in-Ok.room (subst (IsRoomFor s.frames there.0.op) c.in-Ok.is there.2)
+    c.start.new.self start.settled start.leads start.live start.left start.starts start.only
+
+pub move_oldest-requires-clause-to : goal.move_oldest-requires-clause-to
+move_oldest-requires-clause-to c =
+    let s = c.loop-room.self in
+    let there = c.in-Some.ensures in
+    let waits = subst (IsRoomFor s.frames there.0.op) c.in-Err.is there.2 in
+    subst (λ n. c.in-Err.cause < n) (sym c.loop-room.invariant.turns.settled.sound.room.causes) waits.0
+
+pub loop-room-smaller : goal.loop-room-smaller
+loop-room-smaller c =
+    let s = c.loop-room.self in
+    let there = c.in-Some.ensures in
+    let waits = subst (IsRoomFor s.frames there.0.op) c.in-Err.is there.2 in
+    subst (λ (line : Line Request). count_for (λ cause. cause == anything) (entries_of line) < count_for (λ cause. cause == anything) (entries_of s.waiting)) (sym c.move_oldest.ensures.moved)
+    (next_waits_fewer c.args.self.now s c.loop-room.invariant there.0 there.1 c.in-Err.cause (waits.1 c.loop-room.invariant.live))
+
+pub loop-room-preserved : goal.loop-room-preserved
+loop-room-preserved c =
+    let s = c.loop-room.self in
+    let there = c.in-Some.ensures in
+    let waits = subst (IsRoomFor s.frames there.0.op) c.in-Err.is there.2 in
+    subst (λ (line : Line Request). IsScanned c.args.self.now (with_line s line)) (sym c.move_oldest.ensures.moved)
+    (next_waits c.args.self.now s c.loop-room.invariant there.0 there.1 c.in-Err.cause (waits.1 c.loop-room.invariant.live))
 
 pub returns-clause-core : goal.returns-clause-core
-returns-clause-core c = record { settled = c.loop-index.invariant.settled; waits = c.in_default.ensures }
+returns-clause-core c = scanned_core c.args.self.now c.loop-room.self c.loop-room.invariant c.in_default.ensures
 
 pub returns-clause-turns : goal.returns-clause-turns
-returns-clause-turns c = scanned_all c.args.self.now c.loop-index.self c.loop-index.from c.loop-index.invariant c.in_default.ensures
+returns-clause-turns c = scanned_turns c.args.self.now c.loop-room.self c.loop-room.invariant c.in_default.ensures

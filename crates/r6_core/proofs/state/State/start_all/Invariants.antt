@@ -1,9 +1,11 @@
-use Rattle.std.proofs.Common.{length}
-use Rattle.r6_core.proofs.Scanned.{IsScanned}
+use Rattle.std.proofs.Common.{◌==◌}
+use Rattle.r6_waiters.specs.Line.{entries_of}
+use Rattle.r6_core.specs.Inside.{anything}
+use Rattle.r6_core.proofs.Scanned.{IsScanned, count_for}
 use Rattle.r6_core.proofs.state.State.start_all.Given as goal
 
-abbrev pub invariant-loop-index : goal.invariant-loop-index
-invariant-loop-index l = IsScanned l.fn.self l.self l.from
+abbrev pub invariant-loop-room : goal.invariant-loop-room
+invariant-loop-room l = IsScanned l.fn.self l.self
 
-abbrev pub decreases-loop-index : goal.decreases-loop-index
-decreases-loop-index l = length l.self.waiting.items
+abbrev pub decreases-loop-room : goal.decreases-loop-room
+decreases-loop-room l = count_for (λ cause. cause == anything) (entries_of l.self.waiting)

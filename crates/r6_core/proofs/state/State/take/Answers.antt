@@ -1,7 +1,7 @@
 use Rattle.r6_frames.specs.Calls.{KeepsOthers}
 use Rattle.r6_core.proofs.Answering.{awaited}
 use Rattle.std.proofs.Common.{ℕ, refl}
-use Rattle.r6_core.proofs.Completing.{late_core, late_freed, late_takes, finishes_none, if_ok_all, none_again}
+use Rattle.r6_core.proofs.Completing.{late_core, late_takes, finishes_none, if_ok_all, none_again}
 use Rattle.r6_core.proofs.state.State.take.Goals as goal
 
 pub is_abandoned-requires : goal.is_abandoned-requires
@@ -29,11 +29,6 @@ answer-requires-clause-awaited c = awaited c.args.self.now.frames c.args.token c
 
 pub lose-requires-clause-awaited : goal.lose-requires-clause-awaited
 lose-requires-clause-awaited c = awaited c.args.self.now.frames c.args.token c.requires.right.0
-
-pub returns-then-is_abandoned-clause-freed : goal.returns-then-is_abandoned-clause-freed
-returns-then-is_abandoned-clause-freed c =
-    let home = c.come_home.ensures in
-    late_freed c.args.self.now c.args.token c.come_home.new.self c.requires.core.settled home.sound home.comes home.owed home.requests home.holds home.frees c.requires.core.waits
 
 pub returns-then-is_abandoned-clause-again : goal.returns-then-is_abandoned-clause-again
 returns-then-is_abandoned-clause-again c = none_again c.args.completion c.args.self.now (record c.args.self.now { frames = c.come_home.new.self }) refl

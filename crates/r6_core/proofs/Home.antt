@@ -1,0 +1,115 @@
+-- A direct buffer has come home: the oldest that waits for one is read.
+use Rattle.std.proofs.Common.{◌≡◌, ◌≢◌, inl, inr, ℕ, ◌<◌, true, false, ◌++◌, refl, sym, subst, Option, Some, None, IfSome, Bor, arith}
+use Rattle.std.specs.Prelude.{is_some, option_copied}
+use Rattle.std.specs.List.{AllByRecursion}
+use Rattle.r6_world.specs.ShardStates.{limit}
+use Rattle.r6_world.specs.Steps.{Through, Scans}
+use Rattle.r6_frames.specs.declared.op.Request.{Request}
+use Rattle.r6_frames.specs.Reads.{IsFreeDirect}
+use Rattle.r6_frames.specs.Views.{AreLive}
+use Rattle.r6_waiters.specs.Line.{entries_of, oldest_of}
+use Rattle.r6_core.specs.declared.scan.Room.TheVariants as room
+use Rattle.r6_core.specs.declared.state.State.{State}
+use Rattle.r6_core.specs.Shards.{layout_in, state_of, waiting_of}
+use Rattle.r6_core.specs.Inside.{HasBuffer, HasNoFreeBuffer, IsCore, IsFirstToStart, IsSettled, IsSyncedRead, LeavesLine, OnlyStarts, StartsWith, WaitingHaveTurns, Waits, free_buffer}
+use Rattle.r6_core.proofs.Lined.{IsSplit, all_first, all_then_too, none_of, split_of}
+use Rattle.r6_core.proofs.Passed.{all-middle}
+use Rattle.r6_core.proofs.Scanned.{HaveHad, all_had, all_wait, none_had, one_started, started_left, started_with}
+use Rattle.r6_core.proofs.Waking.{CannotStart, all_cannot, behind_reader, cannot_begin, no_frame_freed, none_waits_for_one, synced_after, wait_for_one}
+
+pub copied_some : (o : Option (Bor Request)) → is_some (option_copied o) ≡ is_some o
+copied_some None = refl
+copied_some (Some request) = refl
+
+none_by : {X : Type 0} (o : Option X) → is_some o ≡ false → o ≡ None
+none_by None is = refl
+none_by (Some x) is = absurd (cc is)
+
+some_by : {X : Type 0} (o : Option X) → is_some o ≡ true → (x : X) × (o ≡ Some x)
+some_by None is = absurd (cc is)
+some_by (Some x) is = (x, refl)
+
+module _ (s : State) (settled : IsSettled s) (live : AreLive s.frames) (home : HasBuffer s) where
+  still_core : AllByRecursion (Waits s.frames) (entries_of s.waiting) → IsCore s
+  still_core waits = record { settled = settled; waits = λ _. waits }
+
+  still_turns : AllByRecursion (Waits s.frames) (entries_of s.waiting) → WaitingHaveTurns s s
+  still_turns waits = all_wait s (waiting_of s) settled (all_cannot s.frames (entries_of s.waiting) (λ _. waits))
+
+  -- none waits for a buffer
+  module _ (none : is_some (oldest_of free_buffer (entries_of s.waiting)) ≡ false) where
+    none_waits : AllByRecursion (Waits s.frames) (entries_of s.waiting)
+    none_waits = none_waits_for_one s home (none_of free_buffer (entries_of s.waiting) (none_by (oldest_of free_buffer (entries_of s.waiting)) none))
+
+    pub none_core : IsCore s
+    none_core = still_core none_waits
+
+    pub none_turns : WaitingHaveTurns s s
+    none_turns = still_turns none_waits
+
+  -- none is free
+  pub full_core : HasNoFreeBuffer s.frames → IsCore s
+  full_core none = still_core (wait_for_one s home none)
+
+  pub full_turns : HasNoFreeBuffer s.frames → WaitingHaveTurns s s
+  full_turns none = still_turns (wait_for_one s home none)
+
+  -- one waits, and this one is free
+  module _ (few : s.frames.commands.next < limit) (some : is_some (oldest_of free_buffer (entries_of s.waiting)) ≡ true) (number : ℕ) (free : IsFreeDirect s.frames number) where
+    abbrev reader : Request
+    reader = (some_by (oldest_of free_buffer (entries_of s.waiting)) some).0
+
+    abbrev split : IsSplit free_buffer (entries_of s.waiting) reader
+    split = split_of free_buffer (entries_of s.waiting) reader (some_by (oldest_of free_buffer (entries_of s.waiting)) some).1
+
+    parts : Waits home.before (free_buffer, reader) × AllByRecursion (Waits home.before) (split.before ++ split.behind)
+    parts = all-middle (Waits home.before) split.before (free_buffer, reader) split.behind (subst (AllByRecursion (Waits home.before)) split.entries home.waits)
+
+    synced : IsSyncedRead s.frames reader.op
+    synced = elim parts.0 [
+      | inl buffer ↦ synced_after home.before s.frames reader.op home.like buffer.1
+      | inr held ↦ elim held.1 [ inl holder ↦ absurd (let below = holder.0 in omega arith) | inr no_frame ↦ absurd (let e = no_frame.0 in omega arith) ]
+    ]
+
+    pub reader_first : IsFirstToStart s free_buffer (room.Direct number)
+    reader_first =
+        record {
+          before = split.before;
+          request = reader;
+          behind = split.behind;
+          entries = split.entries;
+          oldest = split.oldest;
+          can = (live, synced, (few, free));
+        }
+
+    module _ (new : State) (new_settled : IsSettled new) (leads : Through (layout_in s) s.frames.shard Scans (state_of s) (state_of new)) (left : LeavesLine s free_buffer new)
+        (starts : IfSome (oldest_of free_buffer (entries_of s.waiting)) (λ request. StartsWith (room.Direct number) s request new)) (only : OnlyStarts s new) where
+      cannot : AllByRecursion (λ entry. CannotStart s.frames entry.1) split.before
+      cannot =
+          all_then_too (Waits home.before) (λ entry. entry.0 ≢ free_buffer) (λ entry. CannotStart s.frames entry.1) split.before
+          (λ e waits not alive could. cannot_begin s.frames e.0 e.1.op (no_frame_freed s home e waits not) alive could)
+          (all_first (Waits home.before) split.before split.behind parts.1) split.oldest
+
+      has_left : entries_of new.waiting ≡ split.before ++ split.behind
+      unfolding reader_first
+      has_left = started_left s free_buffer (room.Direct number) new reader_first left starts
+
+      started : StartsWith (room.Direct number) s reader new
+      unfolding reader_first
+      started = started_with s free_buffer (room.Direct number) new reader_first left starts
+
+      others_wait : AllByRecursion (Waits new.frames) (entries_of new.waiting)
+      others_wait = subst (AllByRecursion (Waits new.frames)) (sym has_left)
+          (behind_reader s home reader number new.frames free started.1 started.2 (split.before ++ split.behind) parts.0 parts.1)
+
+      pub read_core : IsCore new
+      read_core = record { settled = new_settled; waits = λ _. others_wait }
+
+      read_had : HaveHad s (waiting_of s) new (waiting_of new)
+      unfolding reader_first
+      read_had =
+          one_started s free_buffer (room.Direct number) new reader_first left starts s (none_had s settled) new_settled leads only cannot
+          new.waiting (record { requests = refl; capacity = refl; causes = refl }) others_wait
+
+      pub read_turns : WaitingHaveTurns s new
+      read_turns = all_had s new (waiting_of s) (waiting_of new) read_had refl refl
