@@ -23,6 +23,7 @@ uint8_t r6_core_rebuild(bool eight, uint64_t rounds);
 uint8_t r6_core_rebuild_alone(uint64_t rows);
 uint8_t r6_core_rebuild_agrees(bool eight, uint64_t rounds);
 uint8_t r6_core_deliver(bool one_row, bool writes, uint64_t requests, uint64_t rounds);
+uint8_t r6_core_deliver_beside(uint64_t writes, uint64_t rounds);
 uint8_t r6_table_rounds(uint32_t capacity, uint32_t entries, uint64_t rounds);
 uint8_t r6_core_make(size_t slots, uint64_t chunk, size_t block, uint64_t rows);
 
@@ -98,7 +99,7 @@ static double seconds(void)
 
 /* what is measured */
 struct work {
-    enum { SERVE, ALONE, REBUILD, REBUILD_ALONE, DELIVER, TABLE } kind;
+    enum { SERVE, ALONE, REBUILD, REBUILD_ALONE, DELIVER, BESIDE, TABLE } kind;
     enum rows rows;
     bool writes;
     uint32_t slots; /* or a table's room */
@@ -123,6 +124,9 @@ static void do_rounds(const struct work *work, uint64_t rounds)
         break;
     case DELIVER:
         check(r6_core_deliver(work->rows == ONE_ROW, work->writes, work->count, rounds));
+        break;
+    case BESIDE:
+        check(r6_core_deliver_beside(work->count, rounds));
         break;
     case TABLE:
         check(r6_table_rounds(work->slots, work->count, rounds));
@@ -233,6 +237,16 @@ static void print_completions(void)
     }
 }
 
+static void print_reads_beside(void)
+{
+    static const uint32_t writes[] = {0, 1, 64, 255};
+    printf("\n%-8s %12s\n", "writes", "read beside");
+    for (int i = 0; i < 4; i++) {
+        struct work work = {BESIDE, ONE_ROW, true, 6, writes[i], 10000};
+        printf("%-8u %9.0f ns\n", writes[i], seconds_a_round(&work) * 1e9);
+    }
+}
+
 static void print_tables(void)
 {
     static const uint32_t room_and_entries[][2] = {
@@ -282,6 +296,7 @@ int main(void)
     print_requests();
     print_rebuilds();
     print_completions();
+    print_reads_beside();
     print_tables();
     print_memory();
     return 0;

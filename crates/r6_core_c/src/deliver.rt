@@ -47,6 +47,30 @@ pub(crate) fn deliver(
     Ok(())
 }
 
+/// Keeps so many writes of one row in a core, whose commands aren't answered: one holds the row, and the others wait.
+/// Beside them a block of another row is read `rounds` times.
+pub(crate) fn deliver_beside(alloc: Global, writes: u64, rounds: u64) -> Result<(), Failed> {
+    let geometry = Geometry::new(SLOTS, 1, SHORTEST, ROWS, 1)?;
+    let snapshot = whole(&geometry);
+    let mut core = core_of(alloc, &geometry, 1, &snapshot)?;
+    for _ in 0..writes {
+        submit(&mut core, 0, Buffer::new(alloc, SHORTEST)?, true)?;
+    }
+    let mut unanswered = VecDeque::new(alloc);
+    take_commands(&mut core, &mut unanswered)?;
+    let mut commands = VecDeque::new(alloc);
+    let mut buffer = Buffer::new(alloc, SHORTEST)?;
+    for _ in 0..rounds {
+        submit(&mut core, 1, buffer, false)?;
+        take_commands(&mut core, &mut commands)?;
+        answer_one(&mut core, &mut commands)?;
+        core.look(&snapshot)?;
+        let (_, reply) = core.take_reply().ok_or(Failed)?;
+        buffer = buffer_of(reply)?;
+    }
+    Ok(())
+}
+
 fn submit(core: &mut Core, row: u64, buffer: Buffer, writes: bool) -> Result<(), Failed> {
     match core.submit(request(SLOTS, row, buffer, writes)) {
         Ok(_) => Ok(()),

@@ -152,6 +152,18 @@ pub extern "C" fn r6_core_deliver(
     }
 }
 
+/// Keeps `writes` writes of one row in a core, of which one holds the row and the others wait, and reads a block of
+/// another row `rounds` times.
+#[unsafe(no_mangle)]
+pub extern "C" fn r6_core_deliver_beside(alloc: Global, writes: u64, rounds: u64) -> u8
+    ensures { result ≤ 1 }
+{
+    match deliver::deliver_beside(alloc, writes, rounds) {
+        Ok(()) => 0,
+        Err(Failed) => 1,
+    }
+}
+
 /// Removes the oldest entry of a table and pushes another, `rounds` times. The table has `entries` entries and room
 /// for `capacity`.
 #[unsafe(no_mangle)]
