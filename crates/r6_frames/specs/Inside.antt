@@ -28,7 +28,7 @@ view_of rows =
       spare = length rows.spare.items;
       commands = commands_in rows.commands;
       handed = rows.handed;
-      directs = rows.directs.items;
+      directs = rows.directs;
     }
 
 -- there is room for the buffers of all frames, each frame's are for a row of the array, and each buffer may have a

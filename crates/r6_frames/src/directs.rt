@@ -19,8 +19,6 @@ use crate::op::{Op, Request};
 use crate::rows::Rows;
 use r6_kernels::Buffer;
 use r6_layout::Place;
-use std::alloc::{AllocError, Global};
-use std::mem;
 
 /// As many reads can be under way at one time that hold no row.
 pub const DIRECTS: usize = 64;
@@ -59,27 +57,13 @@ pub struct Direct {
     pub buffer: Option<Buffer>,
 }
 
-impl Direct {
-    // Whether a read can have it.
-    fn is_free(&self) -> bool
-        ensures { result ≡ is_free_direct self.now }
-    {
-        self.read.is_none() && self.buffer.is_some()
-    }
-}
-
 impl Rows {
     pub(crate) fn free_direct(&self) -> Option<usize>
         requires { IsSound (view_of self.now) }
         ensures { MatchOption result ((number : ℕ) → IsFreeDirect (view_of self.now) number → ⊥)
             (IsFreeDirect (view_of self.now)) }
     {
-        for (number, direct) in self.directs.iter().enumerate() {
-            if direct.is_free() {
-                return Some(number);
-            }
-        }
-        None
+        self.directs.lowest_free()
     }
 
     pub(crate) fn read(&mut self, number: usize, served: Served, buffer: Buffer, place: Place)
@@ -115,7 +99,7 @@ impl Rows {
             token,
             buffer,
         };
-        let lent = lend(&mut self.directs, number, read);
+        let lent = self.directs.lend(number, read);
         self.commands.push(Outstanding {
             frame: FRAMES + number,
             slot,
@@ -160,10 +144,10 @@ impl Rows {
             unreachable!()
         };
         let number = command.frame - FRAMES;
-        let Some(read) = take_read(&mut self.directs, number) else {
+        let Some(read) = self.directs.take_read(number) else {
             unreachable!()
         };
-        bring_back(&mut self.directs, number, read.buffer);
+        self.directs.bring_back(number, read.buffer);
         let Served { id, block } = read.served;
         Request {
             id,
@@ -189,7 +173,7 @@ impl Rows {
             × (self.new.handed ≡ self.old.handed) }
     {
         let number = self.first_stopped()?;
-        let Some(read) = take_read(&mut self.directs, number) else {
+        let Some(read) = self.directs.take_read(number) else {
             unreachable!()
         };
         Some(read.request())
@@ -217,62 +201,15 @@ impl Rows {
     // The token of the direct buffer's read, if that has stopped.
     fn stopped_token(&self, number: usize) -> Option<u64>
         requires sound { IsSound (view_of self.now) }
-        requires number { number < length self.now.directs.items }
+        requires number { number < length self.now.directs }
         ensures { MatchOption result ((r : DirectRead) → IsStoppedAt (view_of self.now) number r → ⊥)
             (λ token. (r : DirectRead) × IsStoppedAt (view_of self.now) number r × (r.token ≡ token)) }
     {
-        let read = self.directs[number].read.as_ref()?;
+        let read = self.directs.read(number)?;
         if read.token < self.slots[read.slot].since {
             Some(read.token)
         } else {
             None
         }
     }
-}
-
-// Direct buffers of the length that no read has.
-pub(crate) fn free_directs(alloc: Global, block: usize) -> Result<Vec<Direct>, AllocError>
-    ensures { IfOk result (λ directs. directs.items ≡ replicate direct_buffers (unused block)) }
-{
-    let mut directs = Vec::with_capacity(alloc, DIRECTS)?;
-    for _ in 0..DIRECTS {
-        let buffer = Buffer::new(alloc, block)?;
-        directs.push_reserved(Direct {
-            read: None,
-            buffer: Some(buffer),
-        });
-    }
-    Ok(directs)
-}
-
-// The direct buffer of the number is home.
-pub(crate) fn bring_back(directs: &mut Vec<Direct>, number: usize, buffer: Buffer)
-    requires { number < length directs.old.items }
-    ensures { directs.new.items
-        ≡ slice_set directs.old.items number (returned (direct_at directs.old.items number) buffer) }
-{
-    directs[number].buffer = Some(buffer);
-}
-
-// The direct buffer of the number is lent for the read.
-fn lend(directs: &mut Vec<Direct>, number: usize, read: DirectRead) -> Option<Buffer>
-    requires { number < length directs.old.items }
-    ensures buffer { result ≡ (direct_at directs.old.items number).buffer }
-    ensures lent { directs.new.items ≡ slice_set directs.old.items number (lent_for read) }
-{
-    let lent = Direct {
-        read: Some(read),
-        buffer: None,
-    };
-    mem::replace(&mut directs[number], lent).buffer
-}
-
-// The direct buffer of the number has no read any more.
-fn take_read(directs: &mut Vec<Direct>, number: usize) -> Option<DirectRead>
-    requires { number < length directs.old.items }
-    ensures read { result ≡ (direct_at directs.old.items number).read }
-    ensures left { directs.new.items
-        ≡ slice_set directs.old.items number (left_by (direct_at directs.old.items number)) }
-{
-    directs[number].read.take()
 }

@@ -18,9 +18,10 @@ ghost use Rattle.r6_frames.specs.Sound.{IsSound, IsToldLive, MayHold};
 ghost use Rattle.r6_frames.specs.Uses.{begun_row, none_held, IsForRow};
 
 use crate::command::Outstanding;
-use crate::directs::{DIRECTS, Direct, free_directs};
+use crate::directs::DIRECTS;
 use crate::frames::{FRAMES, FrameUse, HeldRow, Job, Scrub, Served};
 use crate::op::{Op, Request};
+use crate::pool::Pool;
 use crate::rebuilt::Target;
 use crate::slots::{Device, MOST_SLOTS, Slot};
 use crate::turns::{left_of, right_of};
@@ -46,7 +47,7 @@ pub(crate) struct Rows {
     /// How many commands were taken: they are taken in the order of their tokens.
     pub(crate) handed: u64,
     /// The direct buffers.
-    pub(crate) directs: Vec<Direct>,
+    pub(crate) directs: Pool,
 }
 
 impl Rows {
@@ -68,7 +69,7 @@ impl Rows {
         let slots = geometry.slots();
         let spare = spare_frames(alloc, slots, geometry.block())?;
         let held = free_frames(alloc)?;
-        let directs = free_directs(alloc, geometry.block())?;
+        let directs = Pool::new(alloc, geometry.block())?;
         let commands = Table::with_capacity(alloc, FRAMES * slots + DIRECTS)?;
         let mut rows = Rows {
             geometry,

@@ -16,19 +16,19 @@ use Rattle.r6_frames.proofs.rows.Rows.answer_read.Goals as goal
 there : (c : Joined-command) → outstanding (view_of c.args.self.now) c.args.token ≡ Some c.in-Some.command
 there c = sym c.remove.ensures.entry ∙ c.in-Some.is
 
-has : (c : Joined-command) → (direct_at c.args.self.now.directs.items (c.in-Some.command.frame - 64)).read ≡ Some c.in-Some-take_read.read
+has : (c : Joined-command) → (direct_at c.args.self.now.directs (c.in-Some.command.frame - 64)).read ≡ Some c.in-Some-take_read.read
 has c = sym c.take_read.ensures.read ∙ c.in-Some-take_read.is
 
 -- the frames that are left
 left : (c : Joined-command) → read_in (view_of c.args.self.now) c.args.token (c.in-Some.command.frame - 64) c.in-Some-take_read.read
-    ≡ record (view_of c.args.self.now) { commands = commands_in c.remove.new.self; directs = c.bring_back.new.directs.items }
+    ≡ record (view_of c.args.self.now) { commands = commands_in c.remove.new.self; directs = c.bring_back.new.self }
 left c =
     let fs = view_of c.args.self.now in
     let number = c.in-Some.command.frame - 64 in
     let r = c.in-Some-take_read.read in
     let none = left_by (direct_at fs.directs number) in
     let within = within_answered fs c.args.token c.in-Some.command r c.requires.sound c.requires.awaited c.requires.wanted c.requires.read (there c) (has c) in
-    let directs : c.bring_back.new.directs.items ≡ set fs.directs number (record { read = None; buffer = Some r.buffer }) =
+    let directs : c.bring_back.new.self ≡ set fs.directs number (record { read = None; buffer = Some r.buffer }) =
     c.bring_back.ensures ∙ ap (λ (ds : List Direct). set ds number (returned (direct_at ds number) r.buffer)) c.take_read.ensures.left
     ∙ ap (λ (d : Direct). set (set fs.directs number none) number (returned d r.buffer)) (direct_own fs.directs number none within)
     ∙ set-set fs.directs number none (returned none r.buffer) in
@@ -56,4 +56,4 @@ returns-clause-frees c =
     let fs = view_of c.args.self.now in
     let number = c.in-Some.command.frame - 64 in
     let directs = ap (λ (x : FramesState). x.directs) (sym (left c)) in
-    (number, frees_direct fs (record fs { commands = commands_in c.remove.new.self; directs = c.bring_back.new.directs.items }) number _ directs)
+    (number, frees_direct fs (record fs { commands = commands_in c.remove.new.self; directs = c.bring_back.new.self }) number _ directs)

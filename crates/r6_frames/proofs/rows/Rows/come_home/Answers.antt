@@ -106,14 +106,14 @@ returns-else-is_live-clause-comes c = (stopped c).comes
 
 -- the command was that of a direct read
 direct : (c : goal.Joined-command) → CameHome (view_of c.args.self.now) c.args.token
-    (record (view_of c.args.self.now) { commands = commands_in c.remove.new.self; directs = c.bring_back.new.directs.items })
+    (record (view_of c.args.self.now) { commands = commands_in c.remove.new.self; directs = c.bring_back.new.self })
 direct c =
     let fs = view_of c.args.self.now in
     let frame = c.if-command-ge-FRAMES.true in
     let home =
     direct_home fs c.args.token c.in-Some.command (c.in-Some.command.frame - 64) c.args.buffer c.requires.sound c.requires.awaited c.requires.abandoned (sym c.remove.ensures.entry ∙ c.in-Some.is)
     (omega arith) c.requires.size in
-    subst (λ (t : Numbered Outstanding). CameHome fs c.args.token (record fs { commands = commands_in t; directs = c.bring_back.new.directs.items })) (sym c.remove.ensures.rest)
+    subst (λ (t : Numbered Outstanding). CameHome fs c.args.token (record fs { commands = commands_in t; directs = c.bring_back.new.self })) (sym c.remove.ensures.rest)
     (subst (λ (ds : List Direct). CameHome fs c.args.token (record fs { commands = record { next = fs.commands.next; entries = map.remove fs.commands.entries c.args.token }; directs = ds })) (sym c.bring_back.ensures) home)
 
 pub returns-then-command-ge-FRAMES-clause-sound : goal.returns-then-command-ge-FRAMES-clause-sound
@@ -128,13 +128,13 @@ returns-then-command-ge-FRAMES-clause-frees c =
     inr (
       refl,
       c.in-Some.command.frame - 64,
-      frees_direct fs (record fs { commands = commands_in c.remove.new.self; directs = c.bring_back.new.directs.items }) (c.in-Some.command.frame - 64) _ c.bring_back.ensures,
+      frees_direct fs (record fs { commands = commands_in c.remove.new.self; directs = c.bring_back.new.self }) (c.in-Some.command.frame - 64) _ c.bring_back.ensures,
     )
 
 pub returns-then-command-ge-FRAMES-clause-readers : goal.returns-then-command-ge-FRAMES-clause-readers
 returns-then-command-ge-FRAMES-clause-readers c =
     let fs = view_of c.args.self.now in
-    readers_kept fs (record fs { commands = commands_in c.remove.new.self; directs = c.bring_back.new.directs.items }) (c.in-Some.command.frame - 64) c.args.buffer c.bring_back.ensures
+    readers_kept fs (record fs { commands = commands_in c.remove.new.self; directs = c.bring_back.new.self }) (c.in-Some.command.frame - 64) c.args.buffer c.bring_back.ensures
 
 pub returns-then-is_live-clause-frees : goal.returns-then-is_live-clause-frees
 returns-then-is_live-clause-frees c = inl ((came c).others.0, (came c).others.1, refl)

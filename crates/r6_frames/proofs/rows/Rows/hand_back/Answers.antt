@@ -35,11 +35,11 @@ pub returns-clause-back : goal.returns-clause-back
 returns-clause-back c =
     let fs = view_of c.args.self.now in
     let first = taken c in
-    subst (λ (request : Request). HandsBack fs request (record fs { directs = c.take_read.new.directs.items })) (sym c.request.ensures)
+    subst (λ (request : Request). HandsBack fs request (record fs { directs = c.take_read.new.self })) (sym c.request.ensures)
     (subst (λ (ds : List Direct). HandsBack fs (read_request c.in-Some.read) (record fs { directs = ds })) (sym c.take_read.ensures.left)
     (hands_back fs c.in_ok-number.number c.in-Some.read c.requires.sound first (read_within fs.directs c.in_ok-number.number c.in-Some.read first.0.0)))
 
 pub returns-clause-readers : goal.returns-clause-readers
 returns-clause-readers c =
     let fs = view_of c.args.self.now in
-    fewer_readers fs (record fs { directs = c.take_read.new.directs.items }) c.in_ok-number.number _ refl c.take_read.ensures.left
+    fewer_readers fs (record fs { directs = c.take_read.new.self }) c.in_ok-number.number _ refl c.take_read.ensures.left

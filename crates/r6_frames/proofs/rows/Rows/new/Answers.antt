@@ -13,7 +13,7 @@ use Rattle.r6_frames.proofs.rows.Rows.new.Goals as goal
 tables : (c : goal.After-goes_on) → c.in_ok-commands.commands ≡ (64 * c.args.geometry.slots + 64, (0, map.empty))
 tables c = c.in_ok-commands.ensures ∙ ap (λ (n : ℕ). (64 * n + 64, (0, map.empty))) c.slots-slots.ensures.value
 
-all_direct : (c : goal.After-goes_on) → c.in_ok-directs.directs.items ≡ replicate 64 (unused c.args.geometry.block)
+all_direct : (c : goal.After-goes_on) → c.in_ok-directs.directs ≡ replicate 64 (unused c.args.geometry.block)
 all_direct c = c.in_ok-directs.ensures ∙ ap (λ (size : ℕ). replicate 64 (unused size)) c.block-2.ensures.value
 
 spares : (c : goal.After-goes_on) → c.in_ok-spare.spare.items ≡ replicate 64 (record { count = c.args.geometry.slots; size = c.args.geometry.block })
@@ -32,7 +32,7 @@ made c =
       spare = length c.in_ok-spare.spare.items;
       commands = commands_in c.in_ok-commands.commands;
       handed = 0;
-      directs = c.in_ok-directs.directs.items;
+      directs = c.in_ok-directs.directs;
     }
 
 pub returns-clause-sound : goal.returns-clause-sound

@@ -38,18 +38,18 @@ slot_is : (c : After-push) → c.args.place.slot ≡ layout.slot_at c.args.self.
 slot_is c = c.requires.place.slot ∙ (λ i. layout.slot_at c.args.self.now.geometry (c.requires.place.row i) (c.requires.place.index i))
 
 abbrev block_in : After-push → List ℕ
-block_in c = (free_parts (direct_at c.args.self.now.directs.items c.args.number) c.requires.free.1).1
+block_in c = (free_parts (direct_at c.args.self.now.directs c.args.number) c.requires.free.1).1
 
-home : (c : After-push) → (direct_at c.args.self.now.directs.items c.args.number).buffer ≡ Some (block_in c)
-home c = (free_parts (direct_at c.args.self.now.directs.items c.args.number) c.requires.free.1).2
+home : (c : After-push) → (direct_at c.args.self.now.directs c.args.number).buffer ≡ Some (block_in c)
+home c = (free_parts (direct_at c.args.self.now.directs c.args.number) c.requires.free.1).2
 
-none : (c : After-push) → (direct_at c.args.self.now.directs.items c.args.number).read ≡ None
-none c = (free_parts (direct_at c.args.self.now.directs.items c.args.number) c.requires.free.1).0
+none : (c : After-push) → (direct_at c.args.self.now.directs c.args.number).read ≡ None
+none c = (free_parts (direct_at c.args.self.now.directs c.args.number) c.requires.free.1).0
 
 -- the frames that are left
 left : (c : After-push)
     → read_out (view_of c.args.self.now) c.args.number c.in-Some.generation c.args.served c.args.buffer (block_in c) c.requires.sound c.requires.live c.requires.free.0 (home c) (none c) c.requires.request
-    ≡ record (view_of c.args.self.now) { commands = commands_in c.push.new.self; directs = c.lend-lent.new.directs.items }
+    ≡ record (view_of c.args.self.now) { commands = commands_in c.push.new.self; directs = c.lend-lent.new.self }
 left c =
     let fs = view_of c.args.self.now in
     let buffer = c.lend-lent.ensures.buffer ∙ home c in
@@ -91,4 +91,4 @@ returns-clause-taken c =
     let fs = view_of c.args.self.now in
     let count = c.requires.sound.directs.count in
     let below = c.requires.free.0 in
-    takes_direct fs (record fs { commands = commands_in c.push.new.self; directs = c.lend-lent.new.directs.items }) c.args.number _ (omega arith) c.lend-lent.ensures.lent
+    takes_direct fs (record fs { commands = commands_in c.push.new.self; directs = c.lend-lent.new.self }) c.args.number _ (omega arith) c.lend-lent.ensures.lent
