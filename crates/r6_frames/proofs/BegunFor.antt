@@ -1,8 +1,10 @@
 -- What a row may be held for, and what its hold is in the world: a request's, or a scrub's.
 use Rattle.std.proofs.Common.{◌≡◌, ℕ, ◌+◌, ◌<◌, false, List, [], ◌∷◌, map, length, refl, sym, ap, subst, ◌∙◌, Some, inl, inr, arith}
+use Rattle.std.proofs.lemmas.List.Elements.{All-cons, All-nil}
 use Rattle.r6_kernels.specs.Blocks.{IsBlock}
 use Rattle.r6_layout.specs.Shape.{Shape, IsShape, blocks, data_slots}
 use Rattle.r6_layout.specs.Layout as layout
+use Rattle.r6_stripe.specs.Batches.{IsEntryFor}
 use Rattle.r6_stripe.specs.Holds.{Cell, cell_at, with_target, MayBegin}
 use Rattle.r6_stripe.specs.Holds.Standing.{InSync}
 use Rattle.r6_stripe.specs.Sound.{IsTask}
@@ -62,7 +64,10 @@ may_begin fs row index (op.Write block buffer) below sized =
 
 fits_row : (shape : Shape) (index : ℕ) (o : Op) → index < data_slots shape → IsBlock shape.block (buffer_of o) → IsTask shape.slots shape.block (Some (row_task index o))
 fits_row shape index (op.Read block buffer) below sized = omega arith
-fits_row shape index (op.Write block buffer) below sized = (omega arith, sized.length_is)
+fits_row shape index (op.Write block buffer) below sized = (
+  λ none. cc,
+  All-cons (IsEntryFor shape.slots shape.block) (index, buffer) [] (omega arith, sized.length_is) (All-nil (IsEntryFor shape.slots shape.block)),
+)
 
 no_target : (index : ℕ) (o : Op) (cells : List Cell) → with_target (kind_of_task (row_task index o)) cells ≡ cells
 no_target index (op.Read block buffer) cells = refl

@@ -60,7 +60,7 @@ job_for id (op.Write block buffer) = job.Write (record { id = id; block = block 
 
 abbrev pub row_task : ℕ → Op → RowTask
 row_task index (op.Read block buffer) = asks.Read index
-row_task index (op.Write block buffer) = asks.Write index buffer
+row_task index (op.Write block buffer) = asks.Write (record { room = 1; blocks = (index, buffer) ∷ [] })
 
 -- ---- held rows
 

@@ -26,7 +26,7 @@ use crate::rebuilt::Target;
 use crate::slots::{Device, MOST_SLOTS, Slot};
 use crate::turns::{left_of, right_of};
 use r6_layout::{Geometry, Place};
-use r6_stripe::{Frame, Hold, Task};
+use r6_stripe::{Batch, Frame, Hold, Task};
 use r6_tables::Table;
 use std::alloc::{AllocError, Global};
 
@@ -48,6 +48,7 @@ pub(crate) struct Rows {
     pub(crate) handed: u64,
     /// The direct buffers.
     pub(crate) directs: Pool,
+    pub(crate) alloc: Global,
 }
 
 impl Rows {
@@ -82,6 +83,7 @@ impl Rows {
             commands,
             handed: 0,
             directs,
+            alloc,
         };
         rows.live = rows.goes_on();
         Ok(rows)
@@ -187,7 +189,7 @@ impl Rows {
         ensures owed { owed (view_of self.new) ≡ owed (view_of self.old) + 2 * self.old.geometry.slots }
         ensures owes { OwesCommands (view_of self.new) frame }
     {
-        let (job, task) = parts(request, place.index);
+        let (job, task) = parts(request, place.index, self.alloc);
         let first = left_of(place.slot, place.index, self.geometry.slots());
         self.hold(frame, place.row, first, job, task);
     }
@@ -365,7 +367,8 @@ fn with_devices(devices: [Device; MOST_SLOTS]) -> [Slot; MOST_SLOTS]
 }
 
 // What the row is held for, and what the hold is asked to do at the index.
-fn parts(request: Request, index: usize) -> (Job, Task)
+fn parts(request: Request, index: usize, alloc: Global) -> (Job, Task)
+    requires { index < 32 }
     ensures job { result.0 ≡ job_for request.id request.op }
     ensures task { result.1 ≡ row_task index request.op }
 {
@@ -374,6 +377,10 @@ fn parts(request: Request, index: usize) -> (Job, Task)
     let served = Served { id, block };
     match op {
         Op::Read(_, buffer) => (Job::Read(served, buffer), Task::Read(index)),
-        Op::Write(_, buffer) => (Job::Write(served), Task::Write(index, buffer)),
+        Op::Write(_, buffer) => {
+            let mut batch = Batch::new(alloc);
+            batch.put(index, buffer);
+            (Job::Write(served), Task::Write(batch))
+        }
     }
 }

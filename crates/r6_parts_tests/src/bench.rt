@@ -1,10 +1,11 @@
 //! A hold over the blocks of a row in memory, which does one step at a time.
 
-ghost use Rattle.std.specs.Prelude.{◌≡◌, ◌≤◌, ◌<◌, length, true};
+ghost use Rattle.std.specs.Prelude.{◌≡◌, ◌≤◌, ◌<◌, length, true, IfOk};
+ghost use Rattle.r6_stripe.specs.Batches.{AreNewFor};
 
 use crate::blocks::{filled, is_filled};
 use r6_kernels::Buffer;
-use r6_stripe::{Frame, Hold, Outcome, RowCommand, Task};
+use r6_stripe::{Batch, Frame, Hold, Outcome, RowCommand, Task};
 use std::alloc::{AllocError, Global};
 use std::process::Abort;
 use std::test::Fail;
@@ -91,6 +92,24 @@ pub(crate) fn has_bytes(blocks: &Vec<Buffer>, bytes: &[u8], lost: &[usize]) -> b
     true
 }
 
+/// New blocks for a row of so many positions: by index the byte of each block throughout.
+fn batch_of(alloc: Global, new: &[(usize, u8)], count: usize) -> Result<Batch, Fail>
+    ensures { IfOk result (λ batch. AreNewFor count 16 batch.blocks) }
+{
+    let mut batch = Batch::with_room(alloc, 31)?;
+    for (index, byte) in new {
+        let block = filled(alloc, BLOCK, *byte)?;
+        if *index >= 30 || *index + 2 >= count || batch.has(*index) || batch.len() >= 32 {
+            return Err(Fail::from("no batch"));
+        }
+        batch.put(*index, block);
+    }
+    if batch.is_empty() {
+        return Err(Fail::from("no block"));
+    }
+    Ok(batch)
+}
+
 /// The hold of a row, of whose positions these are in sync.
 fn hold_of(alloc: Global, ask: Ask, in_sync: &[bool]) -> Result<Hold, Fail> {
     let count = in_sync.len();
@@ -105,7 +124,7 @@ fn hold_of(alloc: Global, ask: Ask, in_sync: &[bool]) -> Result<Hold, Fail> {
     let frame = Frame::new(alloc, count, BLOCK)?;
     let task = match ask {
         Ask::Read(index) => Task::Read(index),
-        Ask::Write(index, byte) => Task::Write(index, filled(alloc, BLOCK, byte)?),
+        Ask::Write(index, byte) => Task::Write(batch_of(alloc, &[(index, byte)], count)?),
         Ask::Rebuild(target) => Task::Rebuild(target),
         Ask::Check => Task::Check,
         Ask::Repair => Task::Repair,
@@ -174,6 +193,26 @@ impl Bench {
     ) -> Result<Bench, Fail> {
         Ok(Bench {
             hold: hold_of(alloc, ask, in_sync)?,
+            devices: row_of(alloc, bytes)?,
+            out: Vec::new(alloc),
+        })
+    }
+
+    /// The same, where these blocks are written as one.
+    pub(crate) fn writing(
+        alloc: Global,
+        new: &[(usize, u8)],
+        bytes: &[u8],
+        in_sync: &[bool],
+    ) -> Result<Bench, Fail> {
+        let count = in_sync.len();
+        if count < 4 || count > 32 {
+            return Err(Fail::from("no row"));
+        }
+        let frame = Frame::new(alloc, count, BLOCK)?;
+        let task = Task::Write(batch_of(alloc, new, count)?);
+        Ok(Bench {
+            hold: Hold::begin(frame, task, in_sync),
             devices: row_of(alloc, bytes)?,
             out: Vec::new(alloc),
         })

@@ -16,7 +16,7 @@ fn write_over_zeros(alloc: Global) -> Result<Bench, Fail> {
 }
 
 /// The task of a hold that is over; its frame is given back.
-fn end(mut hold: Hold) -> Option<Task> {
+pub(crate) fn end(mut hold: Hold) -> Option<Task> {
     let task = hold.take_task();
     if !hold.is_home() {
         return None;
@@ -25,11 +25,15 @@ fn end(mut hold: Hold) -> Option<Task> {
     task
 }
 
-fn is_write_of(task: &Task, index: usize, byte: u8) -> bool {
-    match task {
-        Task::Write(at, block) => *at == index && block.len() == 16 && is_filled(block, byte),
-        Task::Read(_) | Task::Rebuild(_) | Task::Check | Task::Repair => false,
-    }
+/// Whether a write hands this block back and no other.
+fn is_write_of(task: Task, index: usize, byte: u8) -> bool {
+    let Task::Write(mut batch) = task else {
+        return false;
+    };
+    let Some((at, block)) = batch.take() else {
+        return false;
+    };
+    at == index && block.len() == 16 && is_filled(&block, byte) && batch.is_empty()
 }
 
 // One read, of the other data block, and three writes, put out together. Then the caller's buffer and the frame come
@@ -50,7 +54,7 @@ fn write_over_zeros_reads_one_block(rt: HostRuntime) -> Result<(), Fail> {
     )?;
     assert!(rt; has_bytes(&bench.devices, &WRITTEN, &[]));
     let task = end(bench.hold).ok_or("no task")?;
-    assert!(rt; is_write_of(&task, 0, 0x5a));
+    assert!(rt; is_write_of(task, 0, 0x5a));
     Ok(())
 }
 

@@ -1,10 +1,10 @@
 -- The places of a row by its masks: what each place is, what changes with one, and which pass a test.
 use Rattle.std.proofs.Common.{◌≡◌, ◌≢◌, inl, inr, Bool, true, false, ℕ, zero, suc, ◌<◌, ◌≤◌, List, [], ◌∷◌, length, get_or, set, map, replicate, Option, Some, None, MatchOption, count_ones, refl, sym, ◌∙◌, ap, subst, arith}
-use Rattle.std.specs.Prelude.{◌||◌, ◌&&◌, not, ◌==◌, nat_lt, count_by, if◌then◌else◌}
+use Rattle.std.specs.Prelude.{nat_le, ◌||◌, ◌&&◌, not, ◌==◌, nat_lt, count_by, if◌then◌else◌}
 use Rattle.std.specs.List.{list_any, list_all}
 use Rattle.std.specs.Int.{bit_at}
 use lib.Lanes.{mask_l}
-use Rattle.std.proofs.lemmas.Bool.{cases_eq, cases_lt, eq-eqb, ne_eqb, lt-ltb, ltb-true, eqb-true, eqb-false, false≢true}
+use Rattle.std.proofs.lemmas.Bool.{cases_eq, cases_lt, eq-eqb, ne_eqb, lt-ltb, ltb-true, eqb-true, eqb-false, false≢true, le-ltb, lt-leb, le-leb}
 use Rattle.std.proofs.lemmas.List.{ext_get_or, get_or_past, get_or-set_same, get_or-set_other, get_or-map, length-set, length-map, length-replicate, get_or-replicate}
 use Rattle.std.proofs.lemmas.List.FromFn.{get_or-map-range_with_len, length-map-range_with_len}
 use Rattle.std.proofs.lemmas.Nat.Bits.{bit_at-lt, same_from_bits}
@@ -322,6 +322,32 @@ in_sync_if true t = refl
 in_sync_if false true = refl
 in_sync_if false false = refl
 
+pub readable_if : (s t k r a : Bool) → (is_in_sync (standing_of (state_if s t)) && is_unread (reading_of (read_if k r a) [])) ≡ ((s && not k) && not a)
+readable_if true t true true a = refl
+readable_if true t true false a = refl
+readable_if true t false r true = refl
+readable_if true t false r false = refl
+readable_if false true k r a = refl
+readable_if false false k r a = refl
+
+pub unwritten_if : (c s f : Bool) → is_unwritten (writing_of (write_if c s f) []) ≡ not c
+unwritten_if true true true = refl
+unwritten_if true true false = refl
+unwritten_if true false f = refl
+unwritten_if false s f = refl
+
+pub not_twice : (b : Bool) → not (not b) ≡ b
+not_twice true = refl
+not_twice false = refl
+
+-- those that aren't below a position are from it on
+pub not_below : (i n : ℕ) → not (nat_lt i n) ≡ nat_le n i
+not_below i n =
+    elim (cases_lt i n) [
+      | inl below ↦ ap not (lt-ltb i n below) ∙ sym (lt-leb n i below)
+      | inr past ↦ ap not (le-ltb i n past) ∙ sym (le-leb n i past)
+    ]
+
 pub present_if : (s t : Bool) → not (is_out (standing_of (state_if s t))) ≡ (s || t)
 present_if true t = refl
 present_if false true = refl
@@ -395,14 +421,18 @@ none_is m count none =
 
 -- ---- what the cells of a row are asked, by a mask
 
+-- what is asked of a cell is asked of its place, and past the row of none
+pub at_any : (test : Cell → Bool) → IsBlind test → (places : List Place) (blocks : List (List ℕ)) (i : ℕ) → test (cell_of (get_or places i no_place) []) ≡ test (cell_at (cells_of places blocks) i)
+at_any test blind places blocks i =
+    elim (cases_lt i (length places)) [
+      | inl below ↦ sym (at_place test blind places blocks i (get_or places i no_place) below (any_default places i no_place (get_or places i no_place) below))
+      | inr past ↦ ap (λ (place : Place). test (cell_of place [])) (get_or_past places i no_place past) ∙ ap test (sym (cell_past places blocks i past))
+    ]
+
 -- a mask of places is one of cells
 pub cell_masked : (test : Cell → Bool) → IsBlind test → (places : List Place) (blocks : List (List ℕ)) (mask : Mask) → IsMaskOf (λ place. test (cell_of place [])) places mask → (i : ℕ) →
     has mask i ≡ test (cell_at (cells_of places blocks) i)
-cell_masked test blind places blocks mask is i =
-    elim (cases_lt i (length places)) [
-      | inl below ↦ is i ∙ sym (at_place test blind places blocks i (get_or places i no_place) below (any_default places i no_place (get_or places i no_place) below))
-      | inr past ↦ is i ∙ ap (λ (place : Place). test (cell_of place [])) (get_or_past places i no_place past) ∙ ap test (sym (cell_past places blocks i past))
-    ]
+cell_masked test blind places blocks mask is i = is i ∙ at_any test blind places blocks i
 
 pub any_masked : (test : Cell → Bool) → IsBlind test → test no_cell ≡ false → (places : List Place) (blocks : List (List ℕ)) (mask : Mask) (empty : Bool) → IsMaskOf (λ place. test (cell_of place [])) places mask →
     (empty ≡ true → HasNone mask) → (empty ≡ false → (i : ℕ) × (has mask i ≡ true)) → list_any test (cells_of places blocks) ≡ not empty

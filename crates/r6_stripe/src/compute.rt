@@ -1,14 +1,17 @@
 //! The new blocks of a write.
 
-ghost use Rattle.std.specs.Prelude.{◌≡◌, ◌<◌, ◌≤◌, ◌+◌, ◌-◌, true, false, None, length, All, IsTrue};
+ghost use Rattle.std.specs.Prelude.{◌≡◌, ◌<◌, ◌≤◌, ◌+◌, ◌-◌, ℕ, true, false, None, length, All, IsTrue};
 ghost use Rattle.r6_recover.specs.Rows.{block_at};
+ghost use Rattle.r6_stripe.specs.Batches.{AreNewFor};
 ghost use Rattle.r6_stripe.specs.Checks.{IsClassed};
-ghost use Rattle.r6_stripe.specs.Places.{with_ready, ready_at, renewed, modified, parities_changed, away_of};
+ghost use Rattle.r6_stripe.specs.Holds.{IsIndexOf};
+ghost use Rattle.r6_stripe.specs.Places.{with_ready, ready_at, renewed, modified, modified_one, parities_changed, away_of};
 ghost use Rattle.r6_stripe.specs.Plans as plans;
 ghost use Rattle.r6_stripe.specs.Preparing.{HasReadEnough, KeepsClass, KeepsTaskAndClass, OwesNew};
 ghost use Rattle.r6_stripe.specs.Sound.{IsSound};
 ghost use Rattle.r6_stripe.specs.Views.{hold_of, plan_of, planned_of};
 
+use crate::batch::Batch;
 use crate::command::Task;
 use crate::plan::Plan;
 use crate::positions::Positions;
@@ -70,26 +73,50 @@ impl HoldState {
         let Some(task) = &self.task else {
             return;
         };
-        let Task::Write(index, block) = task else {
+        let Task::Write(batch) = task else {
             return;
         };
-        let index = *index;
         if let Plan::Reconstruct = self.plan {
-            rewrite_row(&mut self.blocks, index, block);
-            make_ready(&mut self.places, index, true, true);
+            rewrite_row(&mut self.blocks, batch);
+            make_ready(&mut self.places, batch, true, true);
             return;
         }
         let m = self.places.len() - 2;
         let p = self.places.get(m).is_known();
         let q = self.places.get(m + 1).is_known();
-        modify(&mut self.blocks, index, block, p, q, &mut self.sum);
-        make_ready(&mut self.places, index, p, q);
+        modify(&mut self.blocks, batch, p, q, &mut self.sum);
+        make_ready(&mut self.places, batch, p, q);
+    }
+}
+
+/// Writes the data blocks, and what they change to P and Q, each if it is `known`.
+fn modify(
+    blocks: &mut Vec<Buffer>,
+    batch: &Batch,
+    p_known: bool,
+    q_known: bool,
+    change: &mut Buffer,
+)
+    requires few { length blocks.old.items ≤ 32 }
+    requires fits { AreNewFor (length blocks.old.items) (length change.old) batch.now.blocks }
+    requires data_length { (index : ℕ) → IsIndexOf index batch.now.blocks
+        → length (block_at blocks.old.items index) ≡ length change.old }
+    requires p_length { IsTrue p_known
+        → length (block_at blocks.old.items (length blocks.old.items - 2)) ≡ length change.old }
+    requires q_length { IsTrue q_known
+        → length (block_at blocks.old.items (length blocks.old.items - 2 + 1)) ≡ length change.old }
+    ensures modified { blocks.new.items ≡ modified blocks.old.items batch.now.blocks p_known q_known }
+    ensures change_length { length change.new ≡ length change.old }
+{
+    for before in 0..batch.len() {
+        let (index, block) = batch.entry(before);
+        modify_one(blocks, *index, block, p_known, q_known, change);
     }
 }
 
 /// Writes a data block, and what it changes to P and Q, each if it is `known`. Without any the old block is of no
 /// account.
-fn modify(
+fn modify_one(
     blocks: &mut Vec<Buffer>,
     index: usize,
     new_block: &Buffer,
@@ -105,7 +132,7 @@ fn modify(
         → length (block_at blocks.old.items (length blocks.old.items - 2)) ≡ length change.old }
     requires q_length { IsTrue q_known
         → length (block_at blocks.old.items (length blocks.old.items - 2 + 1)) ≡ length change.old }
-    ensures modified { blocks.new.items ≡ modified blocks.old.items index new_block.now p_known q_known }
+    ensures modified { blocks.new.items ≡ modified_one blocks.old.items index new_block.now p_known q_known }
     ensures change_length { length change.new ≡ length change.old }
 {
     if p_known && q_known {
@@ -167,14 +194,18 @@ fn change_both(blocks: &mut [Buffer], index: usize, new_block: &Buffer)
     delta(&mut p[0], &mut q[0], old_block, new_block, index as u32);
 }
 
-/// The new blocks of the index, and of P and Q, each if it was computed, are there.
-fn make_ready(places: &mut Positions, index: usize, p_computed: bool, q_computed: bool)
-    requires { index + 2 < length places.old }
-    ensures { let positions = renewed (length places.old) index p_computed q_computed in
+/// The new blocks of the data, and of P and Q, each if it was computed, are there.
+fn make_ready(places: &mut Positions, batch: &Batch, p_computed: bool, q_computed: bool)
+    requires count { 2 ≤ length places.old }
+    requires below { All (λ entry. entry.0 + 2 < length places.old) batch.now.blocks }
+    ensures { let positions = renewed (length places.old) batch.now.blocks p_computed q_computed in
         places.new ≡ ready_at places.old positions }
 {
     let m = places.len() - 2;
-    mark(places, index);
+    for before in 0..batch.len() {
+        let (index, _) = batch.entry(before);
+        mark(places, *index);
+    }
     if p_computed {
         mark(places, m);
     }

@@ -41,8 +41,8 @@ impl Hold {
     /// Begins a hold of a row, of whose positions these are in sync; the others are out. All buffers of the frame are
     /// home.
     ///
-    /// A read reads its block. A write reads the data that it doesn't change, or its own block and the parities in
-    /// sync, whichever are fewer, or nothing if no parity is in sync. Where this is impossible the hold recovers: it
+    /// A read reads its block. A write reads the data that it doesn't change, or its own blocks and the parities in
+    /// sync, whichever are fewer, or nothing if no parity is in sync or all data are written. Where this is impossible the hold recovers: it
     /// reads as many positions in sync as there are data, and restores what it lacks from them.
     pub fn begin(frame: Frame, task: Task, in_sync: &[bool]) -> Hold
         requires positions { length in_sync.now ≡ frame.count }
@@ -113,8 +113,8 @@ impl Hold {
         self.state.block(position)
     }
 
-    /// Ends the hold, and hands its task back, with the caller's buffer as it was handed in. From then on nothing more
-    /// is put out, and only buffers come home.
+    /// Ends the hold, and hands its task back, with the caller's buffers as they were handed in. From then on nothing
+    /// more is put out, and only buffers come home.
     pub fn take_task(&mut self) -> Option<Task>
         ensures task { kind_of result ≡ self.old.planned.hold.kind }
         ensures closed { self.new ≡ closed self.old }

@@ -1,20 +1,24 @@
 //! What a hold reads, which command comes next, and when it is over.
 
-ghost use Rattle.std.specs.Prelude.{◌≡◌, ◌≢◌, ◌⊎◌, ◌+◌, ◌<◌, ◌≤◌, ◌||◌, ◌&&◌, ℕ, length, not, option_map, false, IsTrue, List, [], ◌∷◌, true, Some, IfSome, if◌then◌else◌};
+ghost use Rattle.std.specs.Prelude.{nat_lt, ◌≡◌, ◌≢◌, ◌⊎◌, ◌+◌, ◌<◌, ◌≤◌, ◌||◌, ◌&&◌, ℕ, length, not, option_map, false, IsTrue, List, [], ◌∷◌, true, Some, IfSome, if◌then◌else◌};
 ghost use Rattle.r6_recover.specs.declared.class.RowClass.{RowClass};
 ghost use Rattle.r6_stripe.specs.Checks.{IsClassed, IsEnd, KnowsWhatDiffers};
 ghost use Rattle.r6_stripe.specs.Holds as holds;
 ghost use Rattle.r6_stripe.specs.Holds.{MayEnd, cell_at};
 ghost use Rattle.r6_stripe.specs.Holds.Kind.{Read, Write};
 ghost use Rattle.r6_stripe.specs.Places.{is_readable};
-ghost use Rattle.r6_stripe.specs.OneBlock.{plan_of_one};
+ghost use Rattle.r6_stripe.specs.Batches.{AreNewFor};
+ghost use Rattle.r6_stripe.specs.Masks.{has};
 ghost use Rattle.r6_stripe.specs.Plans as plans;
+ghost use Rattle.r6_stripe.specs.Plans.{fewest_reads};
 ghost use Rattle.r6_stripe.specs.Preparing.{IsPrepared};
 ghost use Rattle.r6_stripe.specs.Sound.{IsSound, IsTask, IsWritePlan, Suits};
 ghost use Rattle.r6_stripe.specs.Steps.{can_drop, has_outcome, is_idle, IsUnwritten};
 ghost use Rattle.r6_stripe.specs.Views.{hold_of, plan_of, planned_of};
 
+use crate::batch::Batch;
 use crate::command::{Outcome, Task};
+use crate::mask::Mask;
 use crate::state::HoldState;
 
 /// Which positions a hold reads before it can end or write.
@@ -24,7 +28,7 @@ pub(crate) enum Plan {
     One,
     /// The data that aren't written.
     Reconstruct,
-    /// The block that is written, and the parities in sync.
+    /// The data that are written, and the parities in sync.
     Modify,
     /// None, where no parity is in sync.
     Overwrite,
@@ -49,10 +53,30 @@ impl HoldState {
     fn puts_data(&self, position: usize) -> bool
         ensures { result ≡ plans.puts_data (hold_of self.now).kind position }
     {
-        match self.task {
-            Some(Task::Write(index, _)) => index == position,
+        match &self.task {
+            Some(Task::Write(batch)) => batch.has(position),
             _ => false,
         }
+    }
+
+    /// The data blocks that are written.
+    fn written(&self) -> Mask
+        ensures { (i : ℕ) → has result i ≡ plans.puts_data (hold_of self.now).kind i }
+    {
+        match &self.task {
+            Some(Task::Write(batch)) => batch.indices(),
+            _ => Mask::none(),
+        }
+    }
+
+    /// These, and P and Q.
+    fn changed(&self) -> Mask
+        requires { 2 ≤ length self.now.places }
+        ensures { let hold = hold_of self.now in
+            (i : ℕ) → has result i ≡ (plans.puts_data hold.kind i
+            || (nat_lt i (length self.now.places) && plans.is_parity hold i)) }
+    {
+        self.written().or(self.places.parities())
     }
 
     /// Whether this is the position of P or Q, or none.
@@ -85,9 +109,9 @@ impl HoldState {
         requires unwritten { IsUnwritten (cell_at (hold_of self.now).cells position) }
         ensures { result ≡ plans.puts (hold_of self.now) (hold_of self.now).kind position }
     {
-        match self.task {
-            Some(Task::Write(index, _)) => index == position || self.is_parity(position),
-            Some(Task::Rebuild(target)) => target == position,
+        match &self.task {
+            Some(Task::Write(batch)) => batch.has(position) || self.is_parity(position),
+            Some(Task::Rebuild(target)) => *target == position,
             Some(Task::Repair) => self.is_parity(position) && self.differs(position),
             _ => false,
         }
@@ -108,7 +132,7 @@ impl HoldState {
         match self.task {
             Some(Task::Rebuild(target)) => self.is_lost(target),
             Some(Task::Check | Task::Repair) => self.cut_short,
-            Some(Task::Read(_) | Task::Write(_, _)) => false,
+            Some(Task::Read(_) | Task::Write(_)) => false,
             None => true,
         }
     }
@@ -224,8 +248,8 @@ impl HoldState {
         requires not_all { plan_of self.now.plan ≢ plans.Plan.All }
         ensures { result ≡ plans.is_enough (plan_of self.now.plan) (hold_of self.now) }
     {
-        if let (Plan::Modify, Some(Task::Write(index, _))) = (self.plan, &self.task) {
-            return self.can_modify(*index);
+        if let Plan::Modify = self.plan {
+            return self.can_modify();
         }
         for position in 0..self.places.len() {
             if !self.is_done_with(position) {
@@ -235,15 +259,14 @@ impl HoldState {
         true
     }
 
-    /// The same of a modify of the index, which reads three positions.
-    fn can_modify(&self, index: usize) -> bool
-        requires below { index + 2 < length self.now.places }
-        requires plan { self.now.plan ≡ Plan.Modify }
-        requires writes { (block : List ℕ) × ((hold_of self.now).kind ≡ Write ((index, block) ∷ [])) }
-        ensures { result ≡ plans.is_enough (plan_of self.now.plan) (hold_of self.now) }
+    /// The same of a modify.
+    fn can_modify(&self) -> bool
+        requires count { 2 ≤ length self.now.places }
+        ensures { result ≡ plans.is_enough plans.Plan.Modify (hold_of self.now) }
     {
-        let m = self.places.len() - 2;
-        self.is_done_with(index) && self.is_done_with(m) && self.is_done_with(m + 1)
+        let unknown = self.changed().and(self.places.unknown());
+        let dropped = self.places.parities().and(self.places.absent());
+        unknown.but(dropped).is_empty()
     }
 
     /// Whether the plan reads the position, and its read may be put out.
@@ -263,8 +286,8 @@ impl HoldState {
         ensures { let hold = hold_of self.now in
             result ≡ plans.first_from (plans.is_next_read (plan_of self.now.plan) hold) 0 (length hold.cells) }
     {
-        if let (Plan::Modify, Some(Task::Write(index, _))) = (self.plan, &self.task) {
-            return self.first_of_modify(*index);
+        if let Plan::Modify = self.plan {
+            return self.first_of_modify();
         }
         if !self.lacks() {
             return None;
@@ -277,24 +300,13 @@ impl HoldState {
         None
     }
 
-    /// The same of a modify of the index, which reads three positions.
-    fn first_of_modify(&self, index: usize) -> Option<usize>
-        requires below { index + 2 < length self.now.places }
-        requires plan { self.now.plan ≡ Plan.Modify }
-        requires writes { (block : List ℕ) × ((hold_of self.now).kind ≡ Write ((index, block) ∷ [])) }
+    /// The same of a modify.
+    fn first_of_modify(&self) -> Option<usize>
+        requires count { 2 ≤ length self.now.places }
         ensures { let hold = hold_of self.now in
-            result ≡ plans.first_from (plans.is_next_read (plan_of self.now.plan) hold) 0 (length hold.cells) }
+            result ≡ plans.first_from (plans.is_next_read plans.Plan.Modify hold) 0 (length hold.cells) }
     {
-        let m = self.places.len() - 2;
-        if self.is_next_read(index) {
-            Some(index)
-        } else if self.is_next_read(m) {
-            Some(m)
-        } else if self.is_next_read(m + 1) {
-            Some(m + 1)
-        } else {
-            None
-        }
+        self.changed().and(self.places.readable()).lowest()
     }
 
     /// The position whose read is put out next.
@@ -348,8 +360,8 @@ impl HoldState {
         ensures { let hold = hold_of self.now in
             result ≡ plans.each_below (λ position. not (plans.lacks_new hold position)) (length hold.cells) }
     {
-        if let Some(Task::Write(index, _)) = &self.task {
-            return self.has_new_blocks(*index);
+        if let Some(Task::Write(_)) = &self.task {
+            return self.has_new_blocks();
         }
         for position in 0..self.places.len() {
             if self.lacks_new(position) {
@@ -359,15 +371,14 @@ impl HoldState {
         true
     }
 
-    /// The same of a write of the index, which changes three positions.
-    fn has_new_blocks(&self, index: usize) -> bool
-        requires below { index + 2 < length self.now.places }
-        requires writes { (block : List ℕ) × ((hold_of self.now).kind ≡ Write ((index, block) ∷ [])) }
+    /// The same of a write.
+    fn has_new_blocks(&self) -> bool
+        requires count { 2 ≤ length self.now.places }
+        requires writes { (batch : List (ℕ × List ℕ)) × ((hold_of self.now).kind ≡ Write batch) }
         ensures { let hold = hold_of self.now in
             result ≡ plans.each_below (λ position. not (plans.lacks_new hold position)) (length hold.cells) }
     {
-        let m = self.places.len() - 2;
-        !self.lacks_new(index) && !self.lacks_new(m) && !self.lacks_new(m + 1)
+        self.changed().and(self.places.writable()).is_empty()
     }
 
     /// The position whose write is put out next.
@@ -532,7 +543,7 @@ impl HoldState {
         };
         match task {
             Task::Read(index) => self.plan_of_read(*index),
-            Task::Write(index, _) => self.plan_of_write(*index),
+            Task::Write(batch) => self.plan_of_write(batch),
             Task::Rebuild(_) => Plan::Recover,
             Task::Check | Task::Repair => Plan::All,
         }
@@ -551,18 +562,18 @@ impl HoldState {
     }
 
     /// The plan of a write with the fewest reads; of two with as many reconstruct, then modify.
-    fn plan_of_write(&self, index: usize) -> Plan
+    fn plan_of_write(&self, batch: &Batch) -> Plan
         requires count { 4 ≤ length self.now.places }
-        requires below { index + 2 < length self.now.places }
-        requires kind { (block : List ℕ) × ((hold_of self.now).kind ≡ Write ((index, block) ∷ [])) }
+        requires fits { AreNewFor (length self.now.places) self.now.len batch.now.blocks }
+        requires kind { (hold_of self.now).kind ≡ Write batch.now.blocks }
         ensures plan { plan_of result ≡ plans.first_plan (hold_of self.now) (hold_of self.now).kind }
         ensures writes { IsWritePlan result }
         ensures overwrites { result ≡ Plan.Overwrite → plans.parities_in_sync (hold_of self.now) ≡ 0 }
     {
         let data = self.places.len() - 2;
-        let parities = self.parities_in_sync();
-        let is_in_sync = self.places.get(index).is_in_sync();
-        plan_of_fewest_reads(self.can_reconstruct(), is_in_sync, data, parities)
+        let others = self.can_reconstruct();
+        let own = batch.indices().and(self.places.lost()).is_empty();
+        plan_of_fewest_reads(others, own, data, batch.len(), self.parities_in_sync())
     }
 
     /// How the hold ends, once it is over.
@@ -618,29 +629,38 @@ impl HoldState {
     }
 }
 
-/// The plan of a write of one block with the fewest reads, by whether all other data and the block itself are in sync,
-/// and by how many data there are and how many parities in sync.
+/// The plan of a write with the fewest reads, by whether all other data are in sync and the data that are written, and
+/// by how many data there are, how many are written, and how many parities are in sync.
 fn plan_of_fewest_reads(
-    can_reconstruct: bool,
-    is_in_sync: bool,
+    others: bool,
+    own: bool,
     data_count: usize,
+    written: usize,
     parities: usize,
 ) -> Plan
-    requires count { 2 ≤ data_count }
+    requires some { 0 < written }
+    requires written { written ≤ 32 }
     requires parities { parities ≤ 2 }
-    ensures plan { plan_of result ≡ plan_of_one can_reconstruct is_in_sync data_count parities }
+    ensures plan { plan_of result ≡ fewest_reads others own data_count written parities }
     ensures writes { IsWritePlan result }
     ensures overwrites { result ≡ Plan.Overwrite → parities ≡ 0 }
 {
-    if is_in_sync && parities == 0 {
-        return Plan::Overwrite;
+    if !own {
+        return if others {
+            Plan::Reconstruct
+        } else {
+            Plan::Recover
+        };
     }
-    // by modify; where that is impossible, by recovery
-    let reads = if is_in_sync { 1 + parities } else { data_count };
-    if can_reconstruct && data_count - 1 <= reads {
+    // by modify, or by overwriting
+    let reads = if parities == 0 { 0 } else { written + parities };
+    if others && data_count <= written + reads {
         return Plan::Reconstruct;
     }
-    if is_in_sync && reads <= data_count {
+    if parities == 0 {
+        return Plan::Overwrite;
+    }
+    if reads <= data_count {
         Plan::Modify
     } else {
         Plan::Recover

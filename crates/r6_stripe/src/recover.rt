@@ -3,10 +3,11 @@
 //! At most two positions aren't known then. Those whose reads were abandoned may be away; the two buffers apart stand
 //! in for them, for as long as they are needed.
 
-ghost use Rattle.std.specs.Prelude.{◌≡◌, ◌<◌, ◌≤◌, ◌+◌, ◌-◌, ℕ, Some, None, length, slice_set, All, IfSome};
+ghost use Rattle.std.specs.Prelude.{◌≡◌, ◌<◌, ◌≤◌, ◌+◌, ◌-◌, ℕ, Some, None, length, All, IfSome};
 ghost use Rattle.r6_recover.specs.Known.{IsMissing};
 ghost use Rattle.r6_recover.specs.Restores.{AreLongButMissing, MayMiss};
-ghost use Rattle.r6_recover.specs.Rows.{data_of, row_of};
+ghost use Rattle.r6_recover.specs.Rows.{block_length, data_of, row_of, written};
+ghost use Rattle.r6_stripe.specs.Batches.{AreNewFor};
 ghost use Rattle.r6_stripe.specs.Places.{away_of, known_of, put_at, ready_at, renewed_at_home, taken_at, kept_of, ready_if_home};
 ghost use Rattle.r6_stripe.specs.Plans as plans;
 ghost use Rattle.r6_stripe.specs.Recovery.{IsAmongMissing, IsBlockOfFull};
@@ -15,6 +16,7 @@ ghost use Rattle.r6_stripe.specs.Sound.{IsSound};
 ghost use Rattle.r6_stripe.specs.Views.{hold_of, plan_of, planned_of};
 ghost use Rattle.r6_stripe.specs.declared.command.Task.TheVariants as task;
 
+use crate::batch::Batch;
 use crate::command::Task;
 use crate::compute::mark;
 use crate::place::{Place, ReadState};
@@ -89,21 +91,20 @@ impl HoldState {
         let Some(task) = &self.task else {
             return;
         };
-        let Task::Write(index, block) = task else {
+        let Task::Write(batch) = task else {
             return;
         };
-        let index = *index;
         let lower = missing.lower();
         let upper = missing.upper();
-        let kept_lower = kept(&self.places, index, lower);
-        let kept_upper = kept(&self.places, index, upper);
+        let kept_lower = kept(&self.places, batch, lower);
+        let kept_upper = kept(&self.places, batch, upper);
         restore_missing_into(&self.blocks, missing, &mut self.sum, &mut self.weighted);
         exchange(&mut self.blocks, lower, &mut self.sum);
         exchange(&mut self.blocks, upper, &mut self.weighted);
-        rewrite_row(&mut self.blocks, index, block);
+        rewrite_row(&mut self.blocks, batch);
         exchange(&mut self.blocks, kept_lower, &mut self.sum);
         exchange(&mut self.blocks, kept_upper, &mut self.weighted);
-        make_home_ready(&mut self.places, index);
+        make_home_ready(&mut self.places, batch);
     }
 }
 
@@ -132,14 +133,14 @@ pub(crate) fn restore_one(
     }
 }
 
-/// The position, unless the write of the index gives it a new block.
-fn kept(places: &Positions, index: usize, position: Option<usize>) -> Option<usize>
+/// The position, unless the write gives it a new block.
+fn kept(places: &Positions, batch: &Batch, position: Option<usize>) -> Option<usize>
     requires within { IfSome position (λ i. i < length places.now) }
     requires count { 2 ≤ length places.now }
-    ensures { result ≡ kept_of places.now index position }
+    ensures { result ≡ kept_of places.now batch.now.blocks position }
 {
     let position = position?;
-    let is_put = position == index || places.len() - 2 <= position;
+    let is_put = batch.has(position) || places.len() - 2 <= position;
     if is_put && !places.get(position).away {
         None
     } else {
@@ -158,25 +159,45 @@ pub(crate) fn exchange(blocks: &mut Vec<Buffer>, position: Option<usize>, apart:
     }
 }
 
-/// Writes a data block, and P and Q anew.
-pub(crate) fn rewrite_row(blocks: &mut Vec<Buffer>, index: usize, block: &Buffer)
-    requires below { index + 2 < length blocks.old.items }
-    requires long { All (λ b. length b ≡ length block.now) blocks.old.items }
-    ensures row { blocks.new.items ≡ row_of (length block.now) (data_of (slice_set blocks.old.items index block.now)) }
-    ensures long { All (λ b. length b ≡ length block.now) blocks.new.items }
+/// Writes the data blocks, and P and Q anew.
+pub(crate) fn rewrite_row(blocks: &mut Vec<Buffer>, batch: &Batch)
+    requires count { 2 ≤ length blocks.old.items }
+    requires fits { AreNewFor (length blocks.old.items) (block_length blocks.old.items) batch.now.blocks }
+    requires long { All (λ b. length b ≡ block_length blocks.old.items) blocks.old.items }
+    ensures row { let len = block_length blocks.old.items in
+        blocks.new.items ≡ row_of len (data_of (written batch.now.blocks blocks.old.items)) }
+    ensures long { All (λ b. length b ≡ block_length blocks.old.items) blocks.new.items }
     ensures count { length blocks.new.items ≡ length blocks.old.items }
 {
-    blocks[index].copy_from(block);
+    write_data(blocks, batch);
     rewrite_parity(blocks.as_mut_slice());
 }
 
-/// The new blocks of the index, of P and of Q are there, each if its buffer is at home.
-fn make_home_ready(places: &mut Positions, index: usize)
-    requires { index + 2 < length places.old }
-    ensures { places.new ≡ ready_at places.old (renewed_at_home places.old index) }
+/// Writes the data blocks.
+fn write_data(blocks: &mut Vec<Buffer>, batch: &Batch)
+    requires fits { AreNewFor (length blocks.old.items) (block_length blocks.old.items) batch.now.blocks }
+    requires long { All (λ b. length b ≡ block_length blocks.old.items) blocks.old.items }
+    ensures data { blocks.new.items ≡ written batch.now.blocks blocks.old.items }
+    ensures count { length blocks.new.items ≡ length blocks.old.items }
+    ensures long { All (λ b. length b ≡ block_length blocks.old.items) blocks.new.items }
+{
+    for before in 0..batch.len() {
+        let (index, block) = batch.entry(before);
+        blocks[*index].copy_from(block);
+    }
+}
+
+/// The new blocks of the data, of P and of Q are there, each if its buffer is at home.
+fn make_home_ready(places: &mut Positions, batch: &Batch)
+    requires count { 2 ≤ length places.old }
+    requires below { All (λ entry. entry.0 + 2 < length places.old) batch.now.blocks }
+    ensures { places.new ≡ ready_at places.old (renewed_at_home places.old batch.now.blocks) }
 {
     let m = places.len() - 2;
-    mark_home(places, index);
+    for before in 0..batch.len() {
+        let (index, _) = batch.entry(before);
+        mark_home(places, *index);
+    }
     mark_home(places, m);
     mark_home(places, m + 1);
 }

@@ -10,7 +10,7 @@ returns-in-Some-Read-Read-clause-outcome c = λ may.
     let hold = c.args.held.hold.planned.hold in
     let i = c.in-Some-Read-Read.index in
     let closed = c.in-Some-Read-Read.ensures.closed in
-    let reads : hold.kind ≡ Kind.Read i = sym c.in-Some-Read-Read.ensures.task ∙ ap kind_of_task c.in-Some-Read-Read.buffer-1-is in
+    let reads : hold.kind ≡ Kind.Read i = sym c.in-Some-Read-Read.ensures.task ∙ ap kind_of_task c.in-Some-Read-Read.batch-1-is in
     let block = known_block (cell_at hold.cells i).reading in
     let known : (cell_at hold.cells i).reading ≡ Reading.Known block = subst (λ (kind : Kind). Owes hold kind (outcome_of hold kind)) reads may.owes_nothing in
     ap Outcome.Data (c.with_block.ensures.block block (ap (λ (h : Held). (cell_at h.planned.hold.cells i).reading) closed ∙ known))

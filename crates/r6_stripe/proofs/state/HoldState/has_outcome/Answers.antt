@@ -10,7 +10,7 @@ use Rattle.r6_stripe.proofs.state.HoldState.has_outcome.Goals as goal
 busy : (t : Option Task) → is_some t ≡ true → is_idle (kind_of t) ≡ false
 busy None some = absurd (cc)
 busy (Some (task.Read index)) some = refl
-busy (Some (task.Write index block)) some = refl
+busy (Some (task.Write batch)) some = refl
 busy (Some (task.Rebuild target)) some = refl
 busy (Some task.Check) some = refl
 busy (Some task.Repair) some = refl
