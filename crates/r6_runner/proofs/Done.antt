@@ -18,7 +18,7 @@ use Rattle.r6_shard.specs.declared.parts.Parts.{Parts}
 use Rattle.r6_shard.specs.declared.shard.Shard.{Shard}
 use Rattle.r6_shard.specs.declared.ledger.Asked.{Asked}
 use Rattle.r6_shard.specs.Shards as shards
-use Rattle.r6_shard.specs.Shards.{ComesFrom, CourseOf, Submits}
+use Rattle.r6_shard.specs.Shards.{ComesFrom}
 use Rattle.r6_shard.specs.Beginnings.{start_of}
 use Rattle.r6_shard.specs.Handing.{parts_tell}
 use Rattle.r6_shard.proofs.FromStarts.{handed_law}

@@ -49,6 +49,18 @@ fn a_check_and_a_repair_count_rows(rt: HostRuntime) -> Result<(), Fail> {
     assert_eq!(rt; passed[0].after.consistent, 4);
     assert_eq!(rt; passed[1].after.consistent, 8);
     assert_eq!(rt; passed[1].after.skipped, 0);
+    assert_eq!(rt; (passed[0].left_out, passed[1].left_out), (0, 0));
+    Ok(())
+}
+
+#[test]
+fn a_check_of_a_failed_array_leaves_its_rows_out(rt: HostRuntime) -> Result<(), Fail> {
+    let asks = [Ask::Check];
+    let ended = take(&rt, rt.alloc(), &[0, 1, 2], &[], &Rest::new(), &asks)?;
+    let passed = &ended.runner.passed;
+    assert_eq!(rt; passed.len(), 1);
+    assert_eq!(rt; passed[0].left_out, 4);
+    assert!(rt; passed[0].before == passed[0].after);
     Ok(())
 }
 

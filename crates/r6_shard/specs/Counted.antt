@@ -23,7 +23,8 @@ pub record HasPassedRows (stopped : Bool) (counted rows : ℕ) (core : CoreView)
 -- a call passes none, however many were passed before; or so many more
 abbrev pub PassesNone : CoreView → CoreView → Type 0
 PassesNone old new =
-    (stopped : Bool) (counted rows : ℕ) → HasPassedRows stopped counted rows old → HasPassedRows stopped counted rows new
+    (stopped : Bool) (counted rows : ℕ) → HasPassedRows stopped counted rows old
+    → HasPassedRows stopped counted rows new
 
 abbrev pub PassesMore : (more : ℕ) → CoreView → CoreView → Type 0
 PassesMore more old new =
