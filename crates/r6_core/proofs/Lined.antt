@@ -1,5 +1,5 @@
 -- Requests in a line, each with what it waits for.
-use Rattle.std.proofs.Common.{◌≡◌, ◌≢◌, ◌⊎◌, inl, inr, ℕ, Bool, true, false, List, [], ◌∷◌, ◌++◌, drop, map, refl, sym, ap, subst, ◌∙◌, Some, None}
+use Rattle.std.proofs.Common.{◌≡◌, ◌≢◌, ◌⊎◌, inl, inr, ℕ, Bool, true, false, List, [], ◌∷◌, ◌++◌, drop, length, map, refl, sym, ap, subst, ◌∙◌, Some, None, arith}
 use Rattle.std.specs.Prelude.{◌==◌, ◌||◌, if◌then◌else◌, option_map}
 use Rattle.std.specs.List.{AllByRecursion}
 use Rattle.std.proofs.lemmas.Bool.{eq-eqb, ne_eqb, cases_eq}
@@ -211,3 +211,7 @@ module _ {X : Type 0} where
   pub all_of_none : (Fact : ℕ × X → Type 0) (es : Entries X) → values es ≡ [] → AllByRecursion Fact es
   all_of_none Fact [] none = tt
   all_of_none Fact ((c, y) ∷ es) none = absurd (cc none)
+
+  pub all_of_empty : (Fact : ℕ × X → Type 0) (es : Entries X) → length es ≡ 0 → AllByRecursion Fact es
+  all_of_empty Fact [] none = tt
+  all_of_empty Fact ((c, y) ∷ es) none = absurd (omega (arith, none))

@@ -146,6 +146,9 @@ impl State {
         ensures turns { WaitingHaveTurns self.old self.new }
         ensures only { OnlyStarts self.old self.new }
     {
+        if self.waiting.is_empty() {
+            return;
+        }
         self.waiting.gather(ANYTHING);
         while let Some(room) = self.room_for_oldest() {
             match room {
