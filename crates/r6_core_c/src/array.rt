@@ -13,7 +13,7 @@ use std::alloc::{AllocError, AllocFailed, Global};
 use std::collections::VecDeque;
 
 /// Requests are served in blocks of so many bytes.
-pub(crate) const BLOCK: usize = 4096;
+pub(crate) use r6_alone::BLOCK;
 
 /// Which rows the requests of a round go to. Each asks for the first block of data of its row.
 #[derive(Drop)]
@@ -87,6 +87,12 @@ impl<T: Drop> From<AllocFailed<T>> for Failed {
 
 impl From<GeometryError> for Failed {
     fn from(_error: GeometryError) -> Failed {
+        Failed
+    }
+}
+
+impl From<r6_alone::Failed> for Failed {
+    fn from(_error: r6_alone::Failed) -> Failed {
         Failed
     }
 }

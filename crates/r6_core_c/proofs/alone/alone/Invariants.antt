@@ -1,6 +1,6 @@
 use Rattle.std.proofs.Common.{◌≡◌, length}
 use Rattle.std.specs.List.{All}
-use Rattle.r6_core_c.specs.Alone.{IsSized}
+use Rattle.r6_alone.specs.Rows.{IsSized}
 use Rattle.r6_core_c.proofs.alone.alone.Given as goal
 
 abbrev pub invariant-loop-number : goal.invariant-loop-number

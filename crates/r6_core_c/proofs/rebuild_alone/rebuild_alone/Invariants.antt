@@ -1,4 +1,4 @@
-use Rattle.r6_core_c.specs.Alone.{IsSized}
+use Rattle.r6_alone.specs.Rows.{IsSized}
 use Rattle.r6_core_c.proofs.rebuild_alone.rebuild_alone.Given as goal
 
 abbrev pub invariant-loop-number : goal.invariant-loop-number

@@ -1,6 +1,6 @@
 use Rattle.std.proofs.Common.{◌≡◌, length}
 use Rattle.std.specs.List.{All}
-use Rattle.r6_core_c.proofs.alone.Row.new.Given as goal
+use Rattle.r6_alone.proofs.row.Row.new.Given as goal
 
 abbrev pub invariant-loop : goal.invariant-loop
 invariant-loop l =

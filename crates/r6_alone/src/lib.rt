@@ -1,0 +1,9 @@
+//! What requests and rebuilds copy and compute, without a core: what the benchmarks compare an array with.
+#![tactic(auto)]
+
+mod place;
+mod rebuild;
+mod row;
+
+pub use place::{Failed, Place};
+pub use row::{BLOCK, Row};

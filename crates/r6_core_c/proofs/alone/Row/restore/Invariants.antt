@@ -1,5 +1,0 @@
-use Rattle.r6_core_c.specs.Alone.{IsSized}
-use Rattle.r6_core_c.proofs.alone.Row.restore.Given as goal
-
-abbrev pub invariant-loop-position : goal.invariant-loop-position
-invariant-loop-position l = IsSized l.self
