@@ -99,7 +99,7 @@ fn batch_of(alloc: Global, new: &[(usize, u8)], count: usize) -> Result<Batch, F
     let mut batch = Batch::with_room(alloc, 31)?;
     for (index, byte) in new {
         let block = filled(alloc, BLOCK, *byte)?;
-        if *index >= 30 || *index + 2 >= count || batch.has(*index) || batch.len() >= 32 {
+        if *index >= 30 || *index + 2 >= count || batch.has(*index) || batch.is_full() {
             return Err(Fail::from("no batch"));
         }
         batch.put(*index, block);
