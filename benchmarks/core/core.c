@@ -14,7 +14,7 @@
 /* a round of a rebuild is short beside what is made before the first, and gets more tries */
 enum { ARENA = 64 << 20, LINE = 64, TRIES = 40, REBUILD_TRIES = 400 };
 
-enum rows { APART, ONE_ROW, DEGRADED };
+enum rows { APART, ONE_ROW, DEGRADED, WHOLE };
 
 uint8_t r6_core_serve(size_t slots, uint8_t rows, bool writes, size_t width, uint64_t rounds);
 uint8_t r6_core_alone(size_t slots, uint8_t rows, bool writes, size_t width, uint64_t rounds);
@@ -189,7 +189,7 @@ static const struct {
 
 enum { ARRAYS = sizeof arrays / sizeof arrays[0] };
 
-static const char *const words[] = {"apart", "one row", "degraded"};
+static const char *const words[] = {"apart", "one row", "degraded", "whole"};
 
 static void print_requests(void)
 {
@@ -204,6 +204,28 @@ static void print_requests(void)
             printf("%-8s %6u %10s %6u %10.0f %10.0f %10.0f\n", writes ? "writes" : "reads", work.slots, words[work.rows],
                    width, served, alone, served - alone);
         }
+    }
+}
+
+/* writes of one row, each of the next of its blocks of data: as many as the core takes, or a few less, so that the row is
+ * written as a whole by most holds */
+static const struct {
+    uint32_t slots;
+    uint32_t width;
+} whole_rows[] = {{4, 256}, {6, 256}, {8, 252}, {18, 256}, {32, 240}};
+
+enum { WHOLE_ROWS = sizeof whole_rows / sizeof whole_rows[0] };
+
+static void print_whole_rows(void)
+{
+    printf("\n%-8s %10s %10s %10s\n", "slots", "core ns", "alone ns", "ratio");
+    for (int i = 0; i < WHOLE_ROWS; i++) {
+        uint32_t width = whole_rows[i].width;
+        struct work work = {SERVE, WHOLE, true, whole_rows[i].slots, width, 16};
+        double served = seconds_a_round(&work) / width * 1e9;
+        work.kind = ALONE;
+        double alone = seconds_a_round(&work) / width * 1e9;
+        printf("%-8u %10.0f %10.0f %10.2f\n", work.slots, served, alone, alone / served);
     }
 }
 
@@ -281,6 +303,13 @@ static void compare_blocks(void)
             exit(1);
         }
     }
+    for (int i = 0; i < WHOLE_ROWS; i++) {
+        empty_arena();
+        if (r6_core_agrees(whole_rows[i].slots, WHOLE, whole_rows[i].width, 2) != 0) {
+            fprintf(stderr, "the core's writes of a row leave other blocks than those alone\n");
+            exit(1);
+        }
+    }
     for (int eight = 0; eight <= 1; eight++) {
         empty_arena();
         if (r6_core_rebuild_agrees(eight, eight ? ROWS / 8 : ROWS) != 0) {
@@ -294,6 +323,7 @@ int main(void)
 {
     compare_blocks();
     print_requests();
+    print_whole_rows();
     print_rebuilds();
     print_completions();
     print_reads_beside();

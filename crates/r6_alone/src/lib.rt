@@ -4,6 +4,7 @@
 mod place;
 mod rebuild;
 mod row;
+mod whole;
 
 pub use place::{Failed, Place};
 pub use row::{BLOCK, Row};

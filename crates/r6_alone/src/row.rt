@@ -193,7 +193,12 @@ impl Row {
         }
     }
 
-    fn put_parities<D: BlockDevice>(&self, devices: &mut [D], place: &Place) -> Result<(), Failed>
+    // Writes P and Q.
+    pub(crate) fn put_parities<D: BlockDevice>(
+        &self,
+        devices: &mut [D],
+        place: &Place,
+    ) -> Result<(), Failed>
         requires { IsSized self.now }
     {
         let count = self.data.len();

@@ -9,6 +9,7 @@ use r6_dev::MemoryDevice;
 use r6_kernels::Buffer;
 use r6_layout::Geometry;
 use std::alloc::Global;
+use std::collections::VecDeque;
 
 /// Does the rounds of requests, and answers the devices as they are then.
 pub(crate) fn alone(alloc: Global, work: &Work) -> Result<Vec<MemoryDevice>, Failed> {
@@ -17,6 +18,10 @@ pub(crate) fn alone(alloc: Global, work: &Work) -> Result<Vec<MemoryDevice>, Fai
     let mut buffers = buffers_of(alloc, BLOCK, work.width)?;
     let places = places_of(alloc, &geometry, work)?;
     let mut room = Row::new(alloc, geometry.data_slots())?;
+    if work.writes && matches!(work.rows, Rows::Whole) {
+        write_rows(&mut room, &mut devices, &Place::of(&geometry, 0), &mut buffers, work)?;
+        return Ok(devices);
+    }
     for _ in 0..work.rounds {
         for (number, place) in places.iter().enumerate() {
             let buffer = buffers.get_mut(number).ok_or(Failed)?;
@@ -24,6 +29,25 @@ pub(crate) fn alone(alloc: Global, work: &Work) -> Result<Vec<MemoryDevice>, Fai
         }
     }
     Ok(devices)
+}
+
+// Writes the row as often as there are blocks for it. Fewer than the row has at the end are left.
+fn write_rows(
+    room: &mut Row,
+    devices: &mut Vec<MemoryDevice>,
+    place: &Place,
+    buffers: &mut VecDeque<Buffer>,
+    work: &Work,
+) -> Result<(), Failed>
+    requires { IsSized room.old }
+{
+    let count = room.data.len();
+    for _ in 0..work.rounds {
+        for blocks in buffers.make_contiguous().chunks_exact(count) {
+            room.write_whole(devices, place, blocks)?;
+        }
+    }
+    Ok(())
 }
 
 // Where the blocks stand of the row of each request of a round.

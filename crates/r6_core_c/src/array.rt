@@ -15,7 +15,7 @@ use std::collections::VecDeque;
 /// Requests are served in blocks of so many bytes.
 pub(crate) use r6_alone::BLOCK;
 
-/// Which rows the requests of a round go to. Each asks for the first block of data of its row.
+/// Which rows the requests of a round go to. Each asks for the first block of data of its row, but for whole rows.
 #[derive(Drop)]
 pub(crate) enum Rows {
     /// Each to a row of its own.
@@ -24,6 +24,8 @@ pub(crate) enum Rows {
     One,
     /// Each to a row of its own, whose first block of data stands in slot 0, which is lost.
     Degraded,
+    /// All to one row, whose blocks of data they ask for in turn.
+    Whole,
 }
 
 /// What is measured: the rounds of requests, and the array that they go to, with chunks of one block and one shard.
@@ -63,9 +65,24 @@ impl Work {
     pub(crate) fn row(&self, number: u64) -> u64 {
         match self.rows {
             Rows::Apart => number,
-            Rows::One => 0,
+            Rows::One | Rows::Whole => 0,
             Rows::Degraded => number.wrapping_mul(self.slots as u64).wrapping_add(1),
         }
+    }
+
+    /// The index of the block of data, in its row, that request `number` of a round is for.
+    pub(crate) fn index(&self, number: u64) -> u64 {
+        match self.rows {
+            Rows::Whole => number % self.blocks_of_row(),
+            _ => 0,
+        }
+    }
+
+    /// As many blocks of data a row has: at least one.
+    pub(crate) fn blocks_of_row(&self) -> u64
+        ensures { 1 ≤ result }
+    {
+        (self.slots.saturating_sub(2) as u64).max(1)
     }
 }
 
@@ -183,10 +200,10 @@ pub(crate) fn buffers_of(
     Ok(buffers)
 }
 
-/// The request for the first block of data of a row, in an array of so many slots. With chunks of one block, the row
-/// has those from `row * (slots - 2)` on.
-pub(crate) fn request(slots: usize, row: u64, buffer: Buffer, writes: bool) -> Op {
-    let block = row.wrapping_mul(slots.wrapping_sub(2) as u64);
+/// The request for a block of data of a row, in an array of so many slots. With chunks of one block, the row has those
+/// from `row * (slots - 2)` on.
+pub(crate) fn request(slots: usize, row: u64, index: u64, buffer: Buffer, writes: bool) -> Op {
+    let block = row.wrapping_mul(slots.wrapping_sub(2) as u64).wrapping_add(index);
     if writes {
         Op::Write(block, buffer)
     } else {

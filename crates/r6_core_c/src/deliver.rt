@@ -72,7 +72,7 @@ pub(crate) fn deliver_beside(alloc: Global, writes: u64, rounds: u64) -> Result<
 }
 
 fn submit(core: &mut Core, row: u64, buffer: Buffer, writes: bool) -> Result<(), Failed> {
-    match core.submit(request(SLOTS, row, buffer, writes)) {
+    match core.submit(request(SLOTS, row, 0, buffer, writes)) {
         Ok(_) => Ok(()),
         Err(_) => Err(Failed),
     }

@@ -21,7 +21,8 @@ use r6_layout::Geometry;
 use std::alloc::Global;
 
 /// Has `rounds` rounds of `width` requests, 1 to 256, served by the core of an array of `slots` slots, from submit to
-/// reply: for `rows` 0 each to a row of its own, for 1 all to one row, for 2 each to a block whose slot is lost.
+/// reply: for `rows` 0 each to a row of its own, for 1 all to one block, for 2 each to a block whose slot is lost, for 3
+/// to all blocks of one row in turn.
 #[unsafe(no_mangle)]
 pub extern "C" fn r6_core_serve(
     alloc: Global,
@@ -123,7 +124,8 @@ fn work(slots: usize, rows: u8, writes: bool, width: usize, rounds: u64) -> Work
     let rows = match rows {
         0 => Rows::Apart,
         1 => Rows::One,
-        _ => Rows::Degraded,
+        2 => Rows::Degraded,
+        _ => Rows::Whole,
     };
     Work {
         slots,

@@ -32,8 +32,8 @@ fn submit_all(core: &mut Core, buffers: &mut VecDeque<Buffer>, work: &Work) {
         let Some(buffer) = buffers.pop_front() else {
             return;
         };
-        let row = work.row(number as u64);
-        let _ = core.submit(request(work.slots, row, buffer, work.writes));
+        let (row, index) = (work.row(number as u64), work.index(number as u64));
+        let _ = core.submit(request(work.slots, row, index, buffer, work.writes));
     }
 }
 
