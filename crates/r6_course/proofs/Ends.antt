@@ -40,7 +40,7 @@ sees : (event : Event) → SeesNoFailure event ⊎ ((seen : Snapshot) × (event 
 sees (Look seen) = elim (cases_Bool seen.failed) [ inl failed ↦ inr (seen, refl, failed) | inr fine ↦ inl fine ]
 sees event = inl (record {})
 
-look-sees : (l : Layout) (n : ℕ) (old : Shard) (seen : Snapshot) (new : Shard) → Step l n old (Look seen) new
+pub look-sees : (l : Layout) (n : ℕ) (old : Shard) (seen : Snapshot) (new : Shard) → Step l n old (Look seen) new
     → seen.failed ≡ true → new.saw_failed ≡ true
 look-sees l n old seen new step failed = ap (λ (y : Shard). y.saw_failed) (subst (λ b. Looks l n b step.2 new) failed step.5)
 

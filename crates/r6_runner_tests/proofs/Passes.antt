@@ -14,4 +14,5 @@ first_pass geometry v e = record {
   shards = ap (λ (y : View). y.start.shards) e;
   began = ap (λ (y : View). y.start.snapshot) e;
   seen = ap (λ (y : View). y.seen) e;
+  mine = ap (λ (y : View). y.mine) e;
 }

@@ -26,6 +26,7 @@ first_split geometry snapshot v w first is = record {
   shards = ap (λ (u : View). u.start.shards) is ∙ first.shards;
   began = ap (λ (u : View). u.start.snapshot) is ∙ first.began;
   seen = ap (λ (u : View). u.seen) is ∙ first.seen;
+  mine = ap (λ (u : View). u.mine) is;
 }
 
 -- fewer threads than shards are there yet

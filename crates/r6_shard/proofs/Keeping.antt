@@ -176,7 +176,7 @@ named-plainly old mid new token c (Err fault) receipt named takes delivers harml
       | inr own ↦ absurd (harmless own.1)
     ]
 
-set-named : (named : List Bool) (slot other : ℕ) → slot < length named → slice_index_or named other false ≡ true
+pub set-named : (named : List Bool) (slot other : ℕ) → slot < length named → slice_index_or named other false ≡ true
     → slice_index_or (slice_set named slot true) other false ≡ true
 set-named named slot other below e = elim (cases_eq other slot) [
   | inl same ↦ ap (λ y. slice_index_or (slice_set named slot true) y false) same ∙ get_or-set_same named slot true false below

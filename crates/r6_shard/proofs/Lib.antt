@@ -4,6 +4,7 @@ pub mod Courses
 pub mod Places
 pub mod Handed
 pub mod Keeping
+pub mod Own
 pub mod Counting
 pub mod Lasting
 pub mod Going

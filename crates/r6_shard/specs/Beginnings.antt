@@ -9,12 +9,13 @@ use Rattle.r6_world.specs.Registers.{Snapshot}
 use Rattle.r6_world.specs.Worlds.{Devices}
 use Rattle.r6_course.specs.Courses.{Start, Tells}
 
--- a pass that has seen nothing yet, at a register of this array that began so
+-- a pass that has seen nothing yet and made no call, at a register of this array that began so
 pub record IsFirstPass (geometry : Shape) (snapshot : Snapshot) (v : View) : Type 0 where
   pub slots : v.start.slots ≡ geometry.slots
   pub shards : v.start.shards ≡ geometry.shards
   pub began : v.start.snapshot ≡ snapshot
   pub seen : v.seen ≡ []
+  pub mine : v.mine ≡ []
 
 -- how a shard of an array of md begins
 abbrev pub start_of : Shape → (number : ℕ) → Snapshot → Devices → Array → Start

@@ -1,10 +1,12 @@
 pub mod Parts
 pub mod Performing
 pub mod Kept
+pub mod Own
 pub mod Histories
 pub mod Courses
 pub mod Beginnings
 pub mod Shards
+pub mod Splitting
 pub mod Handing
 pub mod Counted
 pub mod Refusing

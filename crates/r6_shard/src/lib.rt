@@ -11,6 +11,7 @@ mod readiness;
 mod rounds;
 mod run;
 mod shard;
+mod splitting;
 
 pub use handing::{PartRefusal, RefusedPart};
 pub use laws::{handed_law, ledger_law};

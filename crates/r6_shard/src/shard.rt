@@ -8,6 +8,7 @@ ghost use Rattle.r6_health.specs.Views.{Answered, made_by};
 ghost use Rattle.r6_world.specs.Worlds.{as_made};
 ghost use Rattle.r6_core.specs.Shards.{world_shard, call_of};
 ghost use Rattle.r6_shard.specs.Kept.{IsKept, named_by};
+ghost use Rattle.r6_shard.specs.Own.{AreOwn, SeesFailure};
 ghost use Rattle.r6_shard.specs.Refusing.{Lasts};
 
 use crate::ledger::{Asked, Entry};
@@ -51,6 +52,8 @@ pub struct Shard<P> {
     /// The attaches that the core saw when it looked last; at first 0.
     pub looked: u32,
     pub ghost kept: { IsKept core number named (length asked.items) },
+    pub ghost own: { AreOwn number named (view_of pass).mine },
+    pub ghost failure: { SeesFailure core (view_of pass) entries.items },
     pub ghost counted: { core.unanswered + length entries.items ≡ length asked.items },
     pub ghost within: { length asked.items ≤ room },
     pub ghost asked_room: { room ≤ vec_capacity asked },

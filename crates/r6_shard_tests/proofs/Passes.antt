@@ -14,6 +14,7 @@ first_pass geometry v e = record {
   shards = ap (λ (y : View). y.start.shards) e;
   began = ap (λ (y : View). y.start.snapshot) e;
   seen = ap (λ (y : View). y.seen) e;
+  mine = ap (λ (y : View). y.mine) e;
 }
 
 pub split_pass : (geometry : Shape) (v w : View) → v ≡ first_of (start_losing geometry.slots geometry.shards 0) → w ≡ newcomer v

@@ -10,6 +10,8 @@ use Rattle.r6_shard.proofs.Counting.{passes-none}
 use Rattle.r6_shard.proofs.Keeping.{kept-plainly}
 use Rattle.r6_shard.proofs.Lasting.{lasts_by}
 use Rattle.r6_shard.proofs.Going.{has-collected}
+use Rattle.r6_shard.specs.Own.{SeesFailure}
+use Rattle.r6_shard.proofs.Own.{failure-on, failure-replied}
 use Rattle.r6_shard.proofs.shard.Shard.collect.Goals as goal
 
 pub invariant_of-self-clause-kept : goal.invariant_of-self-clause-kept
@@ -22,6 +24,19 @@ invariant_of-self-2-clause-kept g c =
     let old = c.args.self.now in
     kept-plainly old.core (Take_reply c.in-Some.id.0 (reply_of c.in-Some.reply)) c.take_reply.new.self old.number old.named
     (length old.asked.items) (record {}) c.in-Some.ensures.reply.step old.kept
+
+pub invariant_of-self-clause-failure : goal.invariant_of-self-clause-failure
+invariant_of-self-clause-failure g c =
+    let old = c.args.self.now in
+    failure-on old.core No_reply c.take_reply.new.self (view_of old.pass) old.entries.items (record {}) c.in_default.ensures.reply.step old.failure
+
+pub invariant_of-self-2-clause-failure : goal.invariant_of-self-2-clause-failure
+invariant_of-self-2-clause-failure g c =
+    let old = c.args.self.now in
+    let asked = c.index-asked.result.now in
+    let entry : Entry = record { event = asked.event; id = c.in-Some.id; block = asked.block; reply = c.in-Some.reply } in
+    subst (SeesFailure c.take_reply.new.self (view_of old.pass)) (sym c.push_reserved.ensures.items)
+    (failure-replied old.core c.take_reply.new.self (view_of old.pass) old.entries.items entry c.in-Some.ensures.reply.step old.failure)
 
 pub returns-clause-course : goal.returns-clause-course
 returns-clause-course g c = λ s ops x.

@@ -1,10 +1,20 @@
 use Rattle.std.proofs.Common.{[], sym, subst}
+use Rattle.std.proofs.lemmas.List.Elements.{All-nil}
 use Rattle.r6_health.specs.Passes.{view_of}
 use Rattle.r6_shard.specs.Beginnings.{start_of}
 use Rattle.r6_shard.specs.Courses.{HasCourse}
 use Rattle.r6_shard.proofs.Beginnings.{begun}
 use Rattle.r6_shard.proofs.Counting.{none-passed}
+use Rattle.r6_shard.proofs.Own.{failure-at-first}
 use Rattle.r6_shard.proofs.shard.Shard.new.Goals as goal
+
+pub invariant_of-result-clause-own : goal.invariant_of-result-clause-own
+invariant_of-result-clause-own g c = rw c.requires.pass.mine (All-nil _)
+
+pub invariant_of-result-clause-failure : goal.invariant_of-result-clause-failure
+invariant_of-result-clause-failure g c =
+    failure-at-first c.args.place.geometry c.args.snapshot.now c.args.place.number c.in-Ok.core (view_of c.args.pass) c.in_ok-entries.entries.items
+    c.in-Ok.ensures.made c.in_ok-entries.ensures.items
 
 pub returns-clause-begins : goal.returns-clause-begins
 returns-clause-begins g c = λ device array lawful hold.

@@ -10,12 +10,37 @@ use Rattle.r6_shard.proofs.Keeping.{kept-plainly, kept-performing}
 use Rattle.r6_shard.proofs.Courses.{not-refused}
 use Rattle.r6_shard.proofs.Lasting.{lasts_by, lasts_twice}
 use Rattle.r6_shard.proofs.Going.{has-performed, at_err}
+use Rattle.r6_shard.specs.Own.{AreOwn}
+use Rattle.r6_shard.proofs.Own.{own-named, failure-on}
 use Rattle.r6_shard.proofs.shard.Shard.perform_next.Goals as goal
 
 pub invariant_of-self-clause-kept : goal.invariant_of-self-clause-kept
 invariant_of-self-clause-kept g c =
     let old = c.args.self.now in
     kept-plainly old.core No_command c.take_command.new.self old.number old.named (length old.asked.items) (record {}) c.in_default.ensures.step old.kept
+
+pub invariant_of-self-clause-failure : goal.invariant_of-self-clause-failure
+invariant_of-self-clause-failure g c =
+    let old = c.args.self.now in
+    failure-on old.core No_command c.take_command.new.self (view_of old.pass) old.entries.items (record {}) c.in_default.ensures.step old.failure
+
+pub invariant_of-self-2-clause-own : goal.invariant_of-self-2-clause-own
+invariant_of-self-2-clause-own g c =
+    let old = c.args.self.now in
+    let command = c.in-Some.command in
+    let below : command.slot < length old.named = let some = c.in-Some.ensures.there.slot in let few = old.kept.1 in let many = old.kept.6 in omega arith in
+    subst (λ y. AreOwn old.number y (view_of old.pass).mine) (sym c.name.ensures)
+    (own-named old.number old.named c.is_err-failed.result c.in-Ok.receipt command.slot (view_of old.pass).mine below old.own)
+
+pub invariant_of-self-2-clause-failure : goal.invariant_of-self-2-clause-failure
+invariant_of-self-2-clause-failure g c =
+    let old = c.args.self.now in
+    let v = view_of old.pass in
+    let command = c.in-Some.command in
+    let t = c.in-Some.ensures.step in
+    failure-on c.take_command.new.self (Deliver command.token (completion_of c.perform-completion.result) (receipt_of c.in-Ok.receipt)) c.deliver.new.self v
+    old.entries.items (record {}) c.in-Ok.ensures.received.step
+    (failure-on old.core (Take_command command.token (world_command t.0 t.1 command)) c.take_command.new.self v old.entries.items (record {}) t.2 old.failure)
 
 pub returns-in_default-clause-none : goal.returns-in_default-clause-none
 returns-in_default-clause-none g c = λ e.

@@ -11,6 +11,8 @@ use Rattle.r6_shard.proofs.Keeping.{kept-plainly}
 use Rattle.r6_shard.specs.Refusing.{Lasts}
 use Rattle.r6_shard.proofs.Lasting.{lasts_by, lasts_same}
 use Rattle.r6_shard.proofs.Going.{has-gone, either_way, both_ok, both_err}
+use Rattle.r6_shard.specs.Own.{SeesFailure}
+use Rattle.r6_shard.proofs.Own.{failure-looked, failure-same}
 use Rattle.r6_shard.proofs.shard.Shard.see.Goals as goal
 
 pub invariant_of-self-clause-kept : goal.invariant_of-self-clause-kept
@@ -32,6 +34,17 @@ invariant_of-self-clause-counted g c =
     (new.unanswered + length old.entries.items ≡ length old.asked.items) c.look.ensures.looked c.look.ensures.refused
     (λ _ looked. ap (λ y. y + length old.entries.items) looked.unanswered ∙ old.counted)
     (λ refusal refused. ap (λ (y : CoreView). y.unanswered + length old.entries.items) refused.same ∙ old.counted)
+
+pub invariant_of-self-clause-failure : goal.invariant_of-self-clause-failure
+invariant_of-self-clause-failure g c =
+    let old = c.args.self.now in
+    let new = c.look.new.self in
+    let snapshot = c.args.snapshot.now in
+    let v = view_of old.pass in
+    either_way c.look.result (λ _. LooksAt old.core snapshot new) (λ refusal. RefusesLook old.core refusal new)
+    (SeesFailure new v old.entries.items) c.look.ensures.looked c.look.ensures.refused
+    (λ _ looked. failure-looked old.core snapshot new v old.entries.items c.requires looked.step old.failure)
+    (λ refusal refused. failure-same old.core new v old.entries.items refused.same old.failure)
 
 pub returns-clause-course : goal.returns-clause-course
 returns-clause-course g c = λ s ops x.

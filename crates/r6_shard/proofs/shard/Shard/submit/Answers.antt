@@ -12,6 +12,7 @@ use Rattle.r6_shard.proofs.Steps.{one-more}
 use Rattle.r6_shard.proofs.Keeping.{kept-submitting}
 use Rattle.r6_shard.proofs.Going.{has-submitted}
 use Rattle.r6_shard.proofs.Lasting.{lasts_by, lasts_same}
+use Rattle.r6_shard.proofs.Own.{failure-on, failure-same}
 use Rattle.r6_shard.proofs.shard.Shard.submit.Goals as goal
 
 pub invariant_of-self-clause-kept : goal.invariant_of-self-clause-kept
@@ -27,11 +28,19 @@ invariant_of-self-in-Err-1 g c =
     let same = c.in-Err.ensures.refused.same in
     record {
       kept = subst (λ y. IsKept y old.number old.named (length old.asked.items)) (sym same) old.kept;
+      own = old.own;
+      failure = failure-same old.core c.submit.new.self (view_of old.pass) old.entries.items same old.failure;
       counted = ap (λ (y : CoreView). y.unanswered + length old.entries.items) same ∙ old.counted;
       within = old.within;
       asked_room = old.asked_room;
       entries_room = old.entries_room;
     }
+
+pub invariant_of-self-clause-failure : goal.invariant_of-self-clause-failure
+invariant_of-self-clause-failure g c =
+    let old = c.args.self.now in
+    failure-on old.core (Submit (op_of c.args.op) c.in-Ok.id.0) c.submit.new.self (view_of old.pass) old.entries.items (record {})
+    c.in-Ok.ensures.accepted.step old.failure
 
 pub returns-in-Ok-clause-accepted : goal.returns-in-Ok-clause-accepted
 returns-in-Ok-clause-accepted g c =

@@ -13,6 +13,8 @@ use Rattle.r6_shard.proofs.Keeping.{kept-plainly, turned}
 use Rattle.r6_shard.specs.Refusing.{Lasts}
 use Rattle.r6_shard.proofs.Lasting.{lasts_turned, lasts_same}
 use Rattle.r6_shard.proofs.Going.{has-gone, either_way}
+use Rattle.r6_shard.specs.Own.{SeesFailure}
+use Rattle.r6_shard.proofs.Own.{failure-on, failure-same, plain-sees}
 use Rattle.r6_shard.proofs.shard.Shard.turn.Goals as goal
 
 pub invariant_of-self-clause-kept : goal.invariant_of-self-clause-kept
@@ -36,6 +38,19 @@ invariant_of-self-clause-counted g c =
     (new.unanswered + length old.entries.items ≡ length old.asked.items) c.turn.ensures.turned c.turn.ensures.refused
     (λ turn t. ap (λ y. y + length old.entries.items) t.unanswered ∙ old.counted)
     (λ refusal refused. ap (λ (y : CoreView). y.unanswered + length old.entries.items) refused.same ∙ old.counted)
+
+pub invariant_of-self-clause-failure : goal.invariant_of-self-clause-failure
+invariant_of-self-clause-failure g c =
+    let old = c.args.self.now in
+    let new = c.turn.new.self in
+    let task = c.args.task in
+    let v = view_of old.pass in
+    either_way c.turn.result (λ turn. Turns old.core task turn new) (λ refusal. RefusesTurn old.core task refusal new)
+    (SeesFailure new v old.entries.items) c.turn.ensures.turned c.turn.ensures.refused
+    (λ turn t.
+    let p = turned old.core task turn new t.taken in
+    failure-on old.core p.0 new v old.entries.items (plain-sees p.0 p.2) p.5 old.failure)
+    (λ refusal refused. failure-same old.core new v old.entries.items refused.same old.failure)
 
 pub returns-clause-course : goal.returns-clause-course
 returns-clause-course g c = λ s ops x.

@@ -1,0 +1,13 @@
+use Rattle.std.proofs.Common.{sym, subst}
+use Rattle.r6_shard.specs.Own.{AreOwn, SeesFailure}
+use Rattle.r6_shard.proofs.shard.Shard.split_pass.Goals as goal
+
+pub invariant_of-self-clause-own : goal.invariant_of-self-clause-own
+invariant_of-self-clause-own g c =
+    let old = c.args.self.now in
+    subst (λ v. AreOwn old.number old.named v.mine) (sym c.split.ensures.same) old.own
+
+pub invariant_of-self-clause-failure : goal.invariant_of-self-clause-failure
+invariant_of-self-clause-failure g c =
+    let old = c.args.self.now in
+    subst (λ v. SeesFailure old.core v old.entries.items) (sym c.split.ensures.same) old.failure

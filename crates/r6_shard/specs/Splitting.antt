@@ -1,0 +1,15 @@
+-- Passes that are split from a shard's.
+use Rattle.std.specs.Prelude.{◌≡◌}
+use Rattle.r6_health.specs.Passes.{view_of}
+use Rattle.r6_shard.specs.declared.shard.Shard.{Shard}
+
+-- the shard is as it was, and its pass knows as much
+pub record KeepsAll {P : Type 0} (old new : Shard P) : Type 0 where
+  pub core : new.core ≡ old.core
+  pub parts : new.parts ≡ old.parts
+  pub view : view_of new.pass ≡ view_of old.pass
+  pub asked : new.asked.items ≡ old.asked.items
+  pub entries : new.entries.items ≡ old.entries.items
+  pub room : new.room ≡ old.room
+  pub named : new.named ≡ old.named
+  pub looked : new.looked ≡ old.looked
