@@ -389,7 +389,7 @@ shard-on told a b c x y =
     }
 
 pub self-on : {D : Type 0} (a b c : Runner D) → KeepsSelf a b → KeepsSelf b c → KeepsSelf a c
-self-on a b c x y = record { pass = y.pass ∙ x.pass; room = y.room ∙ x.room }
+self-on a b c x y = record { pass = y.pass ∙ x.pass; place = y.place ∙ x.place; room = y.room ∙ x.room }
 
 -- a check or repair goes on with the shard
 pub gone-passing : {D : Type 0} (told : D → Telling) (shape : Shape) (events : List Event) (geometry : Shape) (number : ℕ) (snapshot : Snapshot)

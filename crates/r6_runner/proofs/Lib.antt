@@ -1,3 +1,4 @@
 pub mod Tasks
 pub mod Done
+pub mod Keeping
 pub mod Counting

@@ -1,3 +1,4 @@
 pub mod Tasks
 pub mod Runners
+pub mod Splitting
 pub mod Counted

@@ -91,6 +91,7 @@ taken_by runner =
 
 pub record KeepsSelf {D : Type 0} (old new : Runner D) : Type 0 where
   pub pass : new.shard.pass ≡ old.shard.pass
+  pub place : new.shard.core.shard ≡ old.shard.core.shard
   pub room : new.room ≡ old.room
 
 -- one task more is due, and nothing else changes

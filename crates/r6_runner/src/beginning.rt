@@ -21,6 +21,7 @@ impl<D: BlockDevice + Drop> Runner<D> {
         requires { taken_by self.old < self.old.room }
         ensures served { IsServed D.told event op self.old self.new }
         ensures counted { StaysCounted self.old self.new }
+        ensures place { self.new.shard.core.shard ≡ self.old.shard.core.shard }
     {
         if let Err(refused) = self.shard.submit(event, op) {
             self.refused.push_reserved((event, refused.refusal));

@@ -9,6 +9,7 @@ mod passing;
 mod rest;
 mod run;
 mod runner;
+mod splitting;
 mod taking;
 
 pub use due::{Due, Duty};

@@ -39,6 +39,7 @@ impl<D: BlockDevice + Drop> Runner<D> {
             [] runner) }
         ensures counted { IfOk result (λ runner. HasCounted (rows_of_shard place.geometry place.number) runner) }
         ensures pass { IfOk result (λ runner. runner.shard.pass ≡ pass) }
+        ensures place { IfOk result (λ runner. runner.shard.core.shard ≡ place.number) }
         ensures room { IfOk result (λ runner. (runner.room ≡ room) × (taken_by runner ≡ 0)) }
     {
         let rows = place.geometry.shard_rows(place.number);

@@ -33,6 +33,7 @@ impl<D: BlockDevice + Drop> Runner<D> {
         ensures counted { KeepsCounted self.old self.new }
         ensures count { taken_by self.new ≡ taken_by self.old }
         ensures room { self.new.room ≡ self.old.room }
+        ensures place { self.new.shard.core.shard ≡ self.old.shard.core.shard }
         ensures over { result ≡ true → IsOver self.new }
     {
         if !self.due.is_empty() || self.passing.is_some() {
@@ -49,6 +50,7 @@ impl<D: BlockDevice + Drop> Runner<D> {
         ensures counted { CountsAll self.old self.new }
         ensures count { taken_by self.new ≡ taken_by self.old }
         ensures room { self.new.room ≡ self.old.room }
+        ensures place { self.new.shard.core.shard ≡ self.old.shard.core.shard }
     {
         self.shard.round_when_here(rt, register);
     }
@@ -60,6 +62,7 @@ impl<D: BlockDevice + Drop> Runner<D> {
         ensures counted { KeepsCounted self.old self.new }
         ensures count { taken_by self.new ≡ taken_by self.old }
         ensures room { self.new.room ≡ self.old.room }
+        ensures place { self.new.shard.core.shard ≡ self.old.shard.core.shard }
     {
         let _ = self.shard.turn(Task::Rebuild);
     }
@@ -73,6 +76,7 @@ impl<D: BlockDevice + Drop> Runner<D> {
         ensures counted { KeepsCounted self.old self.new }
         ensures count { taken_by self.new ≡ taken_by self.old }
         ensures room { self.new.room ≡ self.old.room }
+        ensures place { self.new.shard.core.shard ≡ self.old.shard.core.shard }
     {
         self.round(rt, register);
         self.begin_all(rt);
@@ -88,6 +92,7 @@ impl<D: BlockDevice + Drop> Runner<D> {
         ensures counted { KeepsCounted self.old self.new }
         ensures count { taken_by self.new ≡ taken_by self.old }
         ensures room { self.new.room ≡ self.old.room }
+        ensures place { self.new.shard.core.shard ≡ self.old.shard.core.shard }
         ensures over { result ≡ true → IsOver self.new }
     {
         self.advance(rt, register);
@@ -181,6 +186,7 @@ impl<L: Events, D: BlockDevice + Drop> Taking<L, D> {
             self.new.consumer.numbers.items self.old.runner self.new.runner }
         ensures counted { KeepsCounted self.old.runner self.new.runner }
         ensures shard { self.new.consumer.shard ≡ self.old.consumer.shard }
+        ensures place { self.new.runner.shard.core.shard ≡ self.old.runner.shard.core.shard }
         ensures over { result ≡ true → IsOver self.new.runner × (self.new.consumer.finished ≡ true) }
     {
         let asked = rest.asked();
@@ -208,6 +214,7 @@ impl<L: Events, D: BlockDevice + Drop> Taking<L, D> {
         ensures counted { (rows : _) → HasCounted rows self.old.runner
             → AreCounted rows self.new.runner.shard.core self.new.runner.passed.items }
         ensures shard { self.new.consumer.shard ≡ self.old.consumer.shard }
+        ensures place { self.new.runner.shard.core.shard ≡ self.old.runner.shard.core.shard }
         ensures finished { self.new.consumer.finished ≡ true }
         ensures over { IsOver self.new.runner }
     {

@@ -1,4 +1,4 @@
-use Rattle.std.proofs.Common.{rules}
+use Rattle.std.proofs.Common.{rules, ◌∙◌}
 use Rattle.r6_runner.proofs.Counting.{counted-at-end}
 use Rattle.r6_runner.proofs.run.Taking.run.Goals as goal
 
@@ -19,5 +19,6 @@ loop-preserved g c =
         course = search rules;
         counted = λ rows x. now.counted rows (before.counted rows x);
         shard = search rules;
+        place = now.place ∙ before.place;
       },
     )

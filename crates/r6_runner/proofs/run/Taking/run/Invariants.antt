@@ -12,4 +12,5 @@ invariant-loop g l =
           l.self.consumer.numbers.items l.fn.self.runner l.self.runner;
       counted : KeepsCounted l.fn.self.runner l.self.runner;
       shard : l.self.consumer.shard ≡ l.fn.self.consumer.shard;
+      place : l.self.runner.shard.core.shard ≡ l.fn.self.runner.shard.core.shard;
     }

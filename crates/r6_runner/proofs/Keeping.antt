@@ -1,0 +1,35 @@
+-- What was done stays so where a pass is split from that of the shard.
+use Rattle.std.proofs.Common.{◌≡◌, ℕ, List, length, sym, ap, subst, ◌∙◌, Option}
+use Rattle.r6_dev.specs.History.{Telling}
+use Rattle.r6_health.specs.declared.history.View.{View}
+use Rattle.r6_health.specs.Passes.{view_of}
+use Rattle.r6_world.specs.PlainArray as world
+use Rattle.r6_core.specs.Shards.{CoreView, world_shard}
+use Rattle.r6_core.specs.declared.turn.Task.TheVariants as task
+use Rattle.r6_core.specs.Effects.{HasTaskFault}
+use Rattle.r6_core.specs.Refusals.{IsFirstFault, turn_faults}
+use Rattle.r6_shard.specs.declared.ledger.Asked.{Asked}
+use Rattle.r6_shard.specs.declared.ledger.Entry.{Entry}
+use Rattle.r6_shard.specs.declared.shard.Shard.{Shard}
+use Rattle.r6_shard.specs.Courses.{HasCourse}
+use Rattle.r6_shard.specs.Kept.{NoneIsOut, NoneIsToTell}
+use Rattle.r6_shard.specs.Shards.{GoesOn, Rests}
+use Rattle.r6_shard.specs.Splitting.{KeepsAll}
+
+pub shard-keeps : {P : Type 0} (tells : P → ℕ → ℕ → Option Telling) (old new : Shard P) → KeepsAll old new → GoesOn tells old new
+shard-keeps tells old new k s ops x =
+    subst (λ (y : CoreView). HasCourse s y (view_of new.pass) new.looked (tells new.parts) new.asked.items new.entries.items ops) (sym k.core)
+    (subst (λ (y : View). HasCourse s old.core y new.looked (tells new.parts) new.asked.items new.entries.items ops) (sym k.view)
+    (subst (λ (y : ℕ). HasCourse s old.core (view_of old.pass) y (tells new.parts) new.asked.items new.entries.items ops) (sym k.looked)
+    (subst (λ y. HasCourse s old.core (view_of old.pass) old.looked (tells y) new.asked.items new.entries.items ops) (sym k.parts)
+    (subst (λ (y : List Asked). HasCourse s old.core (view_of old.pass) old.looked (tells old.parts) y new.entries.items ops) (sym k.asked)
+    (subst (λ (y : List Entry). HasCourse s old.core (view_of old.pass) old.looked (tells old.parts) old.asked.items y ops) (sym k.entries) x)))))
+
+pub rests-still : {P : Type 0} (old new : Shard P) → KeepsAll old new → Rests old → Rests new
+rests-still old new k x = record {
+  answered = ap length k.entries ∙ x.answered ∙ sym (ap length k.asked);
+  none_out = subst (λ (y : CoreView). NoneIsOut (world_shard y)) (sym k.core) x.none_out;
+  none_to_tell = subst (λ (y : CoreView). NoneIsToTell (world_shard y)) (sym k.core) x.none_to_tell;
+  refusal = x.refusal;
+  none_to_rebuild = subst (λ (y : CoreView). IsFirstFault (HasTaskFault y task.Rebuild) turn_faults x.refusal) (sym k.core) x.none_to_rebuild;
+}
