@@ -15,7 +15,7 @@ use Rattle.r6_health.proofs.Tells.{grows_none, grows-trans, looks-after, extends
 use Rattle.r6_feed.specs.declared.answer.Outcome.{Outcome}
 use Rattle.r6_feed.specs.declared.answer.Outcome.TheVariants as outcome
 use Rattle.r6_feed.specs.declared.answer.EventAnswer.{EventAnswer}
-use Rattle.r6_feed.specs.Feeds.{IsLater, IsTold, WereTold, Begins, Sees, Hears, TellsOn}
+use Rattle.r6_feed.specs.Feeds.{IsLater, IsTold, WereTold, Begins, Sees, Joins, Hears, TellsOn}
 
 -- ---- a call that is tried until others no longer come between
 
@@ -92,6 +92,9 @@ later_told first _ _ Begins = record { same_start = refl; seen = starts_with_its
 later_told first _ _ (Sees answers known last told grows) =
     later_on first known last (later_told first answers known told)
     (record { same_start = grows.same_start; seen = grows.seen })
+later_told first _ _ (Joins answers known other told) =
+    let before = later_told first answers known told in
+    record { same_start = before.same_start; seen = before.seen }
 later_told first _ _ (Hears answers answer known last told was) =
     later_on first known last (later_told first answers known told) (later_called known last answer.outcome was)
 

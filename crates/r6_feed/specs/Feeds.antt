@@ -102,11 +102,13 @@ IsTold before (Failed slot answer) after = views.Answered before (call.Fail slot
 IsTold before (Attached slot answer) after = views.Attached before slot answer after
 
 -- from what the pass knew first, these answers came one behind the other, each call on what was known behind the one
--- before it or more, to what it knows in the end
+-- before it or more, to what it knows in the end; other passes may have been taken back
 pub data WereTold (first : View) : List EventAnswer → View → Type 0 where
   Begins : WereTold first [] first
   Sees : (answers : List EventAnswer) (known more : View) → WereTold first answers known → views.Grows known more
       → WereTold first answers more
+  Joins : (answers : List EventAnswer) (known other : View) → WereTold first answers known
+      → WereTold first answers (views.joined known other)
   Hears : (answers : List EventAnswer) (answer : EventAnswer) (known more : View) → WereTold first answers known
       → IsTold known answer.outcome more → WereTold first (answers ++ answer ∷ []) more
 

@@ -9,5 +9,10 @@ use Rattle.r6_runner.specs.Runners.{GoesOnSame, IsOver}
 pub record KeepsAll {D : Type 0} (told : D → Telling) (old new : Runner D) : Type 0 where
   pub shard : shards.KeepsAll old.shard new.shard
   pub course : GoesOnSame told old new
+  pub due : new.due.items ≡ old.due.items
+  pub refused : new.refused.items ≡ old.refused.items
+  pub passing : new.passing ≡ old.passing
   pub passed : new.passed.items ≡ old.passed.items
+  pub handed : new.handed.items ≡ old.handed.items
+  pub waits : new.waits ≡ old.waits
   pub over : IsOver old → IsOver new

@@ -15,6 +15,11 @@ returns-clause-kept g c =
       course = λ shape events number numbers geometry snapshot before x.
           has-gone told shape events geometry number snapshot before numbers old.shard new old.refused.items old.passing old.passed.items
           old.handed.items old.due.items (shard-keeps (parts_tell told) old.shard new kept) kept.asked x;
+      due = refl;
+      refused = refl;
+      passing = refl;
       passed = refl;
+      handed = refl;
+      waits = refl;
       over = λ x. record { none_due = x.none_due; no_pass = x.no_pass; rests = rests-still old.shard new kept x.rests };
     }
