@@ -17,6 +17,7 @@ use Rattle.r6_health.specs.declared.history.View.{View}
 use Rattle.r6_health.specs.Views.{Looks}
 use Rattle.r6_feed.specs.declared.answer.EventAnswer.{EventAnswer}
 use Rattle.r6_feed.specs.Feeds.{Sees}
+use Rattle.r6_serve.specs.Passes.{TakesBack}
 use Rattle.r6_serve.specs.Serves.{AreNumbered, Begins, HasAnswered, HasRun, HasServed, HaveServed}
 use Rattle.r6_serve.proofs.Rows.{count-each-row}
 
@@ -31,7 +32,7 @@ mapped_at f (x ∷ xs) zero y at = (x, refl, some_same (f x) y at)
 mapped_at f (x ∷ xs) (suc k) y at = mapped_at f xs k y at
 
 -- the partner of what stands at a place
-partner_at : {A B : Type 0} (R : A → B → Type 0) (xs : List A) (ys : List B) (k : ℕ) (y : B) → AllZip R xs ys
+pub partner_at : {A B : Type 0} (R : A → B → Type 0) (xs : List A) (ys : List B) (k : ℕ) (y : B) → AllZip R xs ys
     → slice_get ys k ≡ Some y → (x : A) × (slice_get xs k ≡ Some x) × R x y
 partner_at R [] [] k y all at = absurd (none-some y at)
 partner_at R [] (z ∷ ys) k y all at = absurd all
@@ -42,7 +43,7 @@ partner_at R (x ∷ xs) (z ∷ ys) (suc k) y all at = partner_at R xs ys k y all
 here_at : {A : Type 0} (xs : List A) (k : ℕ) (d : A) → k < length xs → slice_get xs k ≡ Some (slice_index_or xs k d)
 here_at xs k d below = slice_get-get_or xs k d below
 
-number_at : {T : Type 0} (number : T → ℕ) (threads : List T) (k : ℕ) (t : T) → slice_get threads k ≡ Some t
+pub number_at : {T : Type 0} (number : T → ℕ) (threads : List T) (k : ℕ) (t : T) → slice_get threads k ≡ Some t
     → AreNumbered number threads → number t ≡ k
 number_at number threads k t at numbered =
     ap number (sym (get_or_from_slice_get threads k t t at)) ∙ numbered k t (slice_get_within threads k t at)
@@ -91,7 +92,7 @@ each_served told shape events start number numbers finished runner parts olds ne
       over = subst IsOver new.2 old.2.over;
     }
 
-zip-length : {A B : Type 0} (R : A → B → Type 0) (xs : List A) (ys : List B) → AllZip R xs ys → length xs ≡ length ys
+pub zip-length : {A B : Type 0} (R : A → B → Type 0) (xs : List A) (ys : List B) → AllZip R xs ys → length xs ≡ length ys
 zip-length R [] [] all = refl
 zip-length R [] (y ∷ ys) all = absurd all
 zip-length R (x ∷ xs) [] all = absurd all
@@ -152,12 +153,12 @@ less R S follows [] (y ∷ ys) all = all
 less R S follows (x ∷ xs) [] all = all
 less R S follows (x ∷ xs) (y ∷ ys) all = (follows x y all.0, less R S follows xs ys all.1)
 
--- what was answered stands once the register is read again
-pub read_again : (shape : Shape) (events : List Event) (first : View) (answers : List EventAnswer) (last now : View)
-    → HasAnswered shape events first answers last → Looks last now → HasAnswered shape events first answers now
-read_again shape events first answers last now answered looks = record {
+-- what was answered stands once other passes are taken back and the register is read again
+pub read_again : (shape : Shape) (events : List Event) (first : View) (answers : List EventAnswer) (last heard now : View)
+    → HasAnswered shape events first answers last → TakesBack last heard → Looks heard now → HasAnswered shape events first answers now
+read_again shape events first answers last heard now answered back looks = record {
   asked = answered.asked;
-  own = looks.grows.mine ∙ answered.own;
+  own = looks.grows.mine ∙ back.mine ∙ answered.own;
   settled = answered.settled;
-  told = Sees answers last now answered.told looks.grows;
+  told = Sees answers heard now (back.told first answers answered.told) looks.grows;
 }

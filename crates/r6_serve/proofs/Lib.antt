@@ -1,3 +1,5 @@
 mod EachShard
+mod Kept
 mod Numbers
+mod Passes
 mod Rows

@@ -19,6 +19,7 @@ pub record HasRun {D : Type 0} (told : D → Telling) (shape : Shape) (events : 
     (shard : ℕ) (numbers : List ℕ) (old : Runner D)
     (shard' : ℕ) (numbers' : List ℕ) (finished : Bool) (new : Runner D) : Type 0 where
   pub same : shard' ≡ shard
+  pub place : new.shard.core.shard ≡ old.shard.core.shard
   pub course : GoesOn told shape events shard numbers numbers' old new
   pub counted : (rows : ℕ) → HasCounted rows old → AreCounted rows new.shard.core new.passed.items
   pub all_taken : finished ≡ true
@@ -28,6 +29,7 @@ pub record HasRun {D : Type 0} (told : D → Telling) (shape : Shape) (events : 
 pub record Begins {D : Type 0} (told : D → Telling) (shape : Shape) (events : List Event) (start : Snapshot)
     (parts : Parts D) (shard : ℕ) (numbers : List ℕ) (runner : Runner D) : Type 0 where
   pub none_taken : numbers ≡ []
+  pub place : runner.shard.core.shard ≡ shard
   pub done : HasDone told shape events shape shard start (parts_tell told parts) [] runner
   pub counted : HasCounted (rows_of_shard shape shard) runner
 

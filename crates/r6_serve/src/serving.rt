@@ -1,12 +1,13 @@
 //! An array is served.
 
-ghost use Rattle.std.specs.Prelude.{◌≡◌, ◌*◌, ◌≤◌, ◌<◌, ◌^◌, IfOk, count_ones, length};
+ghost use Rattle.std.specs.Prelude.{◌≡◌, ◌*◌, ◌≤◌, ◌<◌, ◌^◌, All, IfOk, count_ones, length};
 ghost use Rattle.r6_layout.specs.Shape.{IsShape};
 ghost use Rattle.r6_health.specs.Passes.{view_of};
 ghost use Rattle.r6_health.specs.Histories.{start_losing, held};
 ghost use Rattle.r6_health.specs.Registers.{starting};
 ghost use Rattle.r6_health.specs.Views.{first_of, newcomer};
 ghost use Rattle.r6_feed.specs.Events.{events_of, AreWhole};
+ghost use Rattle.r6_serve.specs.Passes.{CallAsTheyMay, IsShown};
 ghost use Rattle.r6_serve.specs.Serves.{HasAnswered, HaveServed};
 
 use crate::making::{Opening, lists_of, rests_of, takings_of};
@@ -81,6 +82,8 @@ where
         (view_of served.pass)) }
     ensures snapshot { IfOk result (λ served.
         served.snapshot ≡ held (view_of served.pass).start (view_of served.pass).seen) }
+    ensures calls { IfOk result (λ served. CallAsTheyMay served.runners.items) }
+    ensures failure { IfOk result (λ served. All (IsShown served.snapshot) served.runners.items) }
 {
     let Config {
         geometry,
@@ -115,7 +118,14 @@ where
         },
     };
     let ((mut pass, answers), ended) = run_all(rt, alloc, &station, takings, feed, events)?;
-    settle(settlement, &mut book, ended, &mut runners);
+    settle(
+        settlement,
+        &mut book,
+        &register,
+        &mut pass,
+        ended,
+        &mut runners,
+    );
     let snapshot = register.read(rt, &mut pass);
     Ok(Served {
         runners,
@@ -157,6 +167,8 @@ where
         (view_of served.pass)) }
     ensures snapshot { IfOk result (λ served.
         served.snapshot ≡ held (view_of served.pass).start (view_of served.pass).seen) }
+    ensures calls { IfOk result (λ served. CallAsTheyMay served.runners.items) }
+    ensures failure { IfOk result (λ served. All (IsShown served.snapshot) served.runners.items) }
 {
     let blank = Blank::new(3 * config.geometry.shards() as u64);
     serve_as::<Brand, D, R>(rt, alloc, blank, config, parts, events)

@@ -13,6 +13,7 @@ returns-clause-begins g c =
     let done = c.in_ok-runner.ensures.begins shape events in
     record {
       none_taken = search rules;
+      place = search rules;
       done = subst (λ r. HasDone told shape events shape c.new-2.result.consumer.shard c.args.start.now (parts_tell told c.args.parts) [] r)
           (sym c.new-2.ensures.0)
           (subst (λ s. HasDone told shape events s c.new-2.result.consumer.shard c.args.start.now (parts_tell told c.args.parts) []

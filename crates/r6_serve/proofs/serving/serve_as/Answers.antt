@@ -1,12 +1,15 @@
-use Rattle.std.proofs.Common.{arith, ◌≡◌, ◌∙◌, ap, subst, true}
+use Rattle.std.proofs.Common.{arith, ◌≡◌, ◌∙◌, ap, map, refl, subst, true}
 use Rattle.std.specs.List.{AllZip}
 use Rattle.std.proofs.lemmas.Slice.Zip.{AllZip-long}
 use Rattle.r6_health.specs.Histories.{start_losing}
-use Rattle.r6_health.specs.Passes.{view_of}
+use Rattle.r6_health.specs.Passes.{IsPassOf, view_of}
 use Rattle.r6_health.specs.Registers.{starting}
 use Rattle.r6_health.specs.Views.{first_of, newcomer}
 use Rattle.r6_serve.specs.Serves.{Begins, HasAnswered, HasRun}
+use Rattle.r6_runner.specs.Splitting.{KeepsAll}
 use Rattle.r6_serve.proofs.EachShard.{each_of, have_served, less, numbered_still, read_again}
+use Rattle.r6_serve.proofs.Kept.{have_still}
+use Rattle.r6_serve.proofs.Passes.{call_as_they_may, is_shown}
 use Rattle.r6_serve.proofs.serving.serve_as.Goals as goal
 
 pub run_all-requires-clause-ready : goal.run_all-requires-clause-ready
@@ -34,6 +37,11 @@ settle-requires-clause-finished g c =
     each_of _ (λ t. t.consumer.finished ≡ true) (λ old new ran. ran.1.all_taken) c.in_ok-takings.takings.items
     c.in_ok-pass.ended.items c.in_ok-pass.ensures.run
 
+pub settle-requires-clause-passes : goal.settle-requires-clause-passes
+settle-requires-clause-passes g c =
+    each_of _ (λ t. IsPassOf c.in-Ok.register t.runner.shard.pass) (λ old new ran. ran.0) c.in_ok-takings.takings.items
+    c.in_ok-pass.ended.items c.in_ok-pass.ensures.run
+
 pub returns-clause-served : goal.returns-clause-served
 returns-clause-served g c =
     let told = g.D.BlockDevice.told in
@@ -41,14 +49,35 @@ returns-clause-served g c =
     let events = g.L.Events.events in
     let olds = c.in_ok-takings.takings.items in
     let news = c.in_ok-pass.ended.items in
-    have_served told shape events (starting c.args.config.lost) (λ t. t.consumer.shard) (λ t. t.consumer.numbers.items)
-    (λ t. t.consumer.finished) (λ t. t.runner) c.args.parts.items olds news c.settle.new.runners.items
+    have_still told shape events (starting c.args.config.lost) c.args.parts.items (λ t. t.runner) news c.settle.new.runners.items c.settle.ensures.runners
+    (have_served told shape events (starting c.args.config.lost) (λ t. t.consumer.shard) (λ t. t.consumer.numbers.items)
+    (λ t. t.consumer.finished) (λ t. t.runner) c.args.parts.items olds news (map (λ t. t.runner) news)
     c.requires.limits c.requires.parts
     (subst (λ start. AllZip (λ p t. Begins told shape events start p t.consumer.shard t.consumer.numbers.items t.runner)
     c.args.parts.items olds) c.start-start.ensures c.in_ok-takings.ensures.begins)
     (less _ (λ old new. HasRun told shape events old.consumer.shard old.consumer.numbers.items old.runner new.consumer.shard
     new.consumer.numbers.items new.consumer.finished new.runner) (λ old new ran. ran.1) olds news c.in_ok-pass.ensures.run)
-    c.in_ok-takings.ensures.numbered c.settle.ensures.taken c.settle.ensures.runners
+    c.in_ok-takings.ensures.numbered c.settle.ensures.taken refl)
+
+pub returns-clause-calls : goal.returns-clause-calls
+returns-clause-calls g c =
+    let told = g.D.BlockDevice.told in
+    let shape = g.L.Events.shape in
+    let events = g.L.Events.events in
+    let olds = c.in_ok-takings.takings.items in
+    let news = c.in_ok-pass.ended.items in
+    call_as_they_may told shape events (starting c.args.config.lost) (λ t. t.consumer.shard) (λ t. t.consumer.numbers.items)
+    (λ t. t.consumer.finished) (λ t. t.runner) c.args.parts.items olds news c.settle.new.runners.items
+    (subst (λ start. AllZip (λ p t. Begins told shape events start p t.consumer.shard t.consumer.numbers.items t.runner)
+    c.args.parts.items olds) c.start-start.ensures c.in_ok-takings.ensures.begins)
+    (less _ (λ old new. HasRun told shape events old.consumer.shard old.consumer.numbers.items old.runner new.consumer.shard
+    new.consumer.numbers.items new.consumer.finished new.runner) (λ old new ran. ran.1) olds news c.in_ok-pass.ensures.run)
+    c.in_ok-takings.ensures.numbered c.settle.ensures.runners
+
+pub returns-clause-failure : goal.returns-clause-failure
+returns-clause-failure g c =
+    is_shown c.in-Ok.register (view_of c.settle.new.pass) (view_of c.read-snapshot.new.pass) c.read-snapshot.result c.settle.new.runners.items
+    c.settle.ensures.heard c.read-snapshot.ensures.looks c.read-snapshot.ensures.pass.same_start c.read-snapshot.ensures.snapshot
 
 pub returns-clause-answered : goal.returns-clause-answered
 returns-clause-answered g c =
@@ -60,5 +89,5 @@ returns-clause-answered g c =
     ap view_of c.in_ok-feed.ensures.begins.1 ∙ c.split-caller.ensures.newcomer ∙ ap newcomer c.in-Ok.ensures.first
     ∙ ap (λ s. first_of (start_losing s.slots s.shards lost)) c.requires.shape in
     subst (λ v. HasAnswered shape events v answers (view_of c.read-snapshot.new.pass)) first
-    (read_again shape events (view_of c.in_ok-feed.feed.pass) answers (view_of c.in_ok-pass.pass)
-    (view_of c.read-snapshot.new.pass) c.in_ok-pass.ensures.answered c.read-snapshot.ensures.looks)
+    (read_again shape events (view_of c.in_ok-feed.feed.pass) answers (view_of c.in_ok-pass.pass) (view_of c.settle.new.pass)
+    (view_of c.read-snapshot.new.pass) c.in_ok-pass.ensures.answered c.settle.ensures.back c.read-snapshot.ensures.looks)

@@ -1,0 +1,37 @@
+-- What the passes of an array's shards did and saw at the register.
+use Rattle.std.specs.Prelude.{◌≡◌, ℕ, List, All, true, slice_get, Some}
+use Rattle.std.specs.List.{Contains}
+use Rattle.r6_health.specs.declared.history.View.{View}
+use Rattle.r6_health.specs.declared.register.Register.{Register}
+use Rattle.r6_health.specs.Passes.{IsPassOf, view_of}
+use Rattle.r6_world.specs.PlainArray.{ArrayFailed}
+use Rattle.r6_world.specs.Registers.{Snapshot}
+use Rattle.r6_core.specs.Shards.{world_shard, reply_of}
+use Rattle.r6_shard.specs.Own.{AreOwn}
+use Rattle.r6_feed.specs.declared.answer.EventAnswer.{EventAnswer}
+use Rattle.r6_feed.specs.Feeds.{WereTold}
+use Rattle.r6_runner.specs.declared.runner.Runner.{Runner}
+
+-- a shard declared lost none but slots that its ledger names, and reported the rows of no shard but itself as rebuilt:
+-- it made no other calls
+abbrev pub CallAsTheyMay : {D : Type 0} → List (Runner D) → Type 0
+CallAsTheyMay {D = D} runners =
+    (shard : ℕ) (runner : Runner D) → slice_get runners shard ≡ Some runner
+    → AreOwn shard runner.shard.named (view_of runner.shard.pass).mine
+
+-- what a shard saw or answered of the array's failure shows in this snapshot
+pub record IsShown {D : Type 0} (snapshot : Snapshot) (runner : Runner D) : Type 0 where
+  pub seen : (world_shard runner.shard.core).saw_failed ≡ true → snapshot.failed ≡ true
+  pub answered : All (λ entry. reply_of entry.reply ≡ ArrayFailed → snapshot.failed ≡ true) runner.shard.entries.items
+
+-- ---- passes that are taken back
+
+-- the pass made no call, and what it was told stays told
+pub record TakesBack (v w : View) : Type 0 where
+  pub mine : w.mine ≡ v.mine
+  pub told : (first : View) (answers : List EventAnswer) → WereTold first answers v → WereTold first answers w
+
+-- what the shard's pass has seen will be in each history that this one reads
+abbrev pub IsHeard : {D : Type 0} → Register → (by : View) → Runner D → Type 0
+IsHeard register by runner =
+    IsPassOf register runner.shard.pass × Contains by.heard (view_of runner.shard.pass).seen
