@@ -1,5 +1,5 @@
 -- What the shards did stays so where passes are split from theirs.
-use Rattle.std.proofs.Common.{◌≡◌, ◌∙◌, ℕ, ◌+◌, List, [], ◌∷◌, length, map, sum_by, All, refl, ap, sym, subst, slice_get, option_map, Some}
+use Rattle.std.proofs.Common.{◌≡◌, ◌∙◌, ℕ, ◌+◌, List, [], ◌∷◌, map, sum_by, All, refl, ap, sym, subst, option_map}
 use Rattle.std.specs.List.{AllZip}
 use Rattle.std.proofs.lemmas.List.{length-map}
 use Rattle.std.proofs.lemmas.List.Elements.{All-nil, All-cons, All-head, All-tail}
@@ -15,7 +15,7 @@ use Rattle.r6_shard.specs.Handing.{parts_tell}
 use Rattle.r6_runner.specs.declared.runner.Runner.{Runner}
 use Rattle.r6_runner.specs.Counted.{AreCounted, rows_of_shard}
 use Rattle.r6_runner.specs.Splitting.{KeepsAll}
-use Rattle.r6_serve.specs.Counted.{CountEachRow, MayGoOn, rows_for}
+use Rattle.r6_serve.specs.Counted.{MayGoOn, rows_for}
 use Rattle.r6_serve.specs.Serves.{HasServed, HaveServed}
 use Rattle.r6_serve.proofs.EachShard.{partner_at, zip-length}
 

@@ -1,5 +1,5 @@
 -- What the passes of an array's shards did and saw at the register.
-use Rattle.std.proofs.Common.{◌≡◌, ◌∙◌, ℕ, ◌<◌, List, [], ◌∷◌, ◌++◌, length, All, Bool, Some, true, refl, sym, ap, subst, arith, slice_get, slice_index_or}
+use Rattle.std.proofs.Common.{◌≡◌, ◌∙◌, ℕ, List, [], ◌∷◌, ◌++◌, All, Bool, true, refl, sym, ap, subst, arith, slice_index_or}
 use Rattle.std.specs.List.{AllZip, Contains}
 use Rattle.std.proofs.lemmas.List.Elements.{All-push, Contains-append_left, Contains-append_right}
 use Rattle.r6_dev.specs.History.{Telling}
@@ -16,7 +16,6 @@ use Rattle.r6_lists.specs.Events.{Event}
 use Rattle.r6_shard.specs.declared.parts.Parts.{Parts}
 use Rattle.r6_shard.specs.Own.{AreOwn, HasFailed}
 use Rattle.r6_shard.proofs.Own.{failed-later}
-use Rattle.r6_feed.specs.declared.answer.EventAnswer.{EventAnswer}
 use Rattle.r6_feed.specs.Feeds.{Joins}
 use Rattle.r6_runner.specs.declared.runner.Runner.{Runner}
 use Rattle.r6_runner.specs.Splitting.{KeepsAll}

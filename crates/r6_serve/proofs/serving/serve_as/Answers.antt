@@ -6,7 +6,6 @@ use Rattle.r6_health.specs.Passes.{IsPassOf, view_of}
 use Rattle.r6_health.specs.Registers.{starting}
 use Rattle.r6_health.specs.Views.{first_of, newcomer}
 use Rattle.r6_serve.specs.Serves.{Begins, HasAnswered, HasRun}
-use Rattle.r6_runner.specs.Splitting.{KeepsAll}
 use Rattle.r6_serve.proofs.EachShard.{each_of, have_served, less, numbered_still, read_again}
 use Rattle.r6_serve.proofs.Kept.{have_still}
 use Rattle.r6_serve.proofs.Passes.{call_as_they_may, is_shown}

@@ -1,4 +1,4 @@
-use Rattle.std.proofs.Common.{arith, rules, ◌∙◌, ◌++◌, ◌∷◌, [], All, length, map, ap, sym, subst, slice_get, option_map}
+use Rattle.std.proofs.Common.{arith, rules, ◌∙◌, ◌++◌, ◌∷◌, [], length, map, ap, sym, subst, slice_get, option_map}
 use Rattle.std.specs.List.{AllZip}
 use Rattle.std.proofs.lemmas.Iterator.Adapters.{YieldsList-from_vec}
 use Rattle.std.proofs.lemmas.Iterator.Consumers.{YieldsList-turn, YieldsList-end}
@@ -9,7 +9,6 @@ use Rattle.std.proofs.lemmas.Slice.Zip.{AllZip-long, all_zipped_more}
 use Rattle.r6_health.specs.Passes.{IsPassOf, view_of}
 use Rattle.r6_health.specs.Views.{newcomer}
 use Rattle.r6_runner.specs.Splitting.{KeepsAll}
-use Rattle.r6_serve.specs.Passes.{IsHeard}
 use Rattle.r6_serve.proofs.Numbers.{unchanged}
 use Rattle.r6_serve.proofs.Passes.{none_back, one_back, heard_more}
 use Rattle.r6_serve.proofs.settling.settle.Goals as goal
