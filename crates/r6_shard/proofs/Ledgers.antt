@@ -45,7 +45,7 @@ ledger tells s ops shard x =
 -- ---- the requests
 
 -- what stands refused stays so, and what was right is right
-served-on : (old new : CoreView) (askings : List Asking) (asked : List Asked) (ops : List world.Op) (refused : List (ℕ × Refusal))
+pub served-on : (old new : CoreView) (askings : List Asking) (asked : List Asked) (ops : List world.Op) (refused : List (ℕ × Refusal))
     → Lasts old new → AreServed old askings asked ops refused → AreServed new askings asked ops refused
 served-on old new [] asked ops refused lasts x = x
 served-on old new (asking ∷ askings) asked ops refused lasts x = elim x [
@@ -69,7 +69,7 @@ served-on old new (asking ∷ askings) asked ops refused lasts x = elim x [
   )
 ]
 
-one-accepted : (core : CoreView) (askings : List Asking) (asking : Asking) (asked : List Asked) (a : Asked) (ops : List world.Op)
+pub one-accepted : (core : CoreView) (askings : List Asking) (asking : Asking) (asked : List Asked) (a : Asked) (ops : List world.Op)
     (refused : List (ℕ × Refusal)) → a.event ≡ asking.event → HasNone (HasSubmitFault core asking.op) own_faults
     → HasNone (HasSubmitFault core asking.op) ending_faults → AreServed core askings asked ops refused
     → AreServed core (askings ++ asking ∷ []) (asked ++ a ∷ []) (ops ++ op_of asking.op ∷ []) refused
@@ -96,7 +96,7 @@ one-accepted core (first ∷ askings) asking asked a ops refused same right serv
   )
 ]
 
-one-refused : (core : CoreView) (askings : List Asking) (asking : Asking) (asked : List Asked) (ops : List world.Op)
+pub one-refused : (core : CoreView) (askings : List Asking) (asking : Asking) (asked : List Asked) (ops : List world.Op)
     (refused : List (ℕ × Refusal)) (refusal : Refusal) → IsRefusedFor core asking.op refusal → AreServed core askings asked ops refused
     → AreServed core (askings ++ asking ∷ []) asked ops (refused ++ (asking.event, refusal) ∷ [])
 one-refused core [] asking asked ops refused refusal reason x =

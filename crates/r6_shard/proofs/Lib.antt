@@ -11,3 +11,4 @@ pub mod Going
 pub mod Beginnings
 pub mod Ledgers
 pub mod FromStarts
+pub mod Behind

@@ -12,3 +12,4 @@ pub mod Counted
 pub mod Refusing
 pub mod Runs
 pub mod Laws
+pub mod Behind

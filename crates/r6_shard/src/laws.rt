@@ -1,5 +1,6 @@
 //! What follows for a shard whose calls a thread makes one by one.
 
+ghost use Rattle.r6_shard.specs.Behind.{BehindLaw};
 ghost use Rattle.r6_shard.specs.Laws.{HandedLaw, LedgerLaw};
 
 use crate::performs::Performs;
@@ -14,4 +15,10 @@ pub fn handed_law<D: BlockDevice + Drop>()
 /// Such a shard has a ledger from each of these starts.
 pub fn ledger_law<P: Performs + Drop>()
     ensures { LedgerLaw P.tells }
+{}
+
+/// A request that was handed in once all before it were answered, and each one behind it, stands in the order of such
+/// a ledger behind all that were handed in before it.
+pub fn behind_law<P: Performs + Drop>()
+    ensures { BehindLaw P.tells }
 {}
