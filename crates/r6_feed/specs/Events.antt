@@ -2,7 +2,6 @@
 use Rattle.std.specs.Prelude.{◌≡◌, ℕ, List, length, map, All, slice_get, Bool, None, is_some, unwrap_or, option_map}
 use Rattle.r6_layout.specs.Shape.{Shape}
 use Rattle.r6_dev.specs.History.{Telling}
-use Rattle.r6_frames.specs.Views.{op_of}
 use Rattle.r6_frames.specs.declared.op.Op.{Op}
 use Rattle.r6_frames.specs.declared.op.Op.TheVariants as op
 use Rattle.r6_lists.specs.Events as lists
@@ -18,7 +17,7 @@ abbrev pub part_for : {D : Type 0} → (D → Telling) → List D → (shard : �
 part_for told parts shard = unwrap_or (option_map told (slice_get parts shard)) None
 
 abbrev pub event_of : {D : Type 0} → (D → Telling) → Event D → lists.Event
-event_of told (Request op) = lists.Request (op_of op)
+event_of told (Request op) = lists.Request op
 event_of told Wait = lists.Wait
 event_of told (Fail slot) = lists.Fail slot
 event_of told (Attach slot parts) = lists.Attach slot (part_for told parts.items)

@@ -3,6 +3,7 @@ use Rattle.std.specs.Prelude.{◌≡◌, ℕ, ◌-◌, ◌<◌, nat_lt, List, []
 use Rattle.std.specs.List.{range_with_len}
 use Rattle.r6_layout.specs.Shape.{Shape, blocks}
 use Rattle.r6_world.specs.PlainArray.{block_of}
+use Rattle.r6_frames.specs.Views.{op_of}
 use Rattle.r6_health.specs.Views as views
 use Rattle.r6_health.specs.Histories.{StartsWith}
 use Rattle.r6_health.specs.declared.history.Made.{Made}
@@ -48,7 +49,7 @@ pub data Asking : Type 0 where
 
 -- a request for no block of the array, and the calls at the register
 abbrev pub asking_of : Shape → Event → Option Asking
-asking_of shape (Request op) = if nat_lt (block_of op) (blocks shape) then None else Some NoBlock
+asking_of shape (Request op) = if nat_lt (block_of (op_of op)) (blocks shape) then None else Some NoBlock
 asking_of shape (Attach slot part) = Some (Attaches slot)
 asking_of shape (Fail slot) = Some (Fails slot)
 asking_of shape Check = None

@@ -32,7 +32,7 @@ fn work_of<D>(op: Op) -> Work<D>
 impl<L: Events> Feed<L> {
     // A request for no block of the array is answered.
     fn answer_out_of_range(&mut self, op: &Op)
-        requires next { slice_get L.events self.old.number ≡ Some (Request (op_of op.now)) }
+        requires next { slice_get L.events self.old.number ≡ Some (Request op.now) }
         requires outside { blocks L.shape ≤ block_of (op_of op.now) }
         ensures number { self.new.number ≡ self.old.number + 1 }
         ensures pass { self.new.pass ≡ self.old.pass }
@@ -54,7 +54,7 @@ impl<L: Events> Feed<L> {
         shard: usize,
         op: Op,
     )
-        requires next { slice_get L.events self.old.number ≡ Some (Request (op_of op)) }
+        requires next { slice_get L.events self.old.number ≡ Some (Request op) }
         requires within { block_of (op_of op) < blocks L.shape }
         requires shard { (shard < L.shape.shards)
             × (shard_of L.shape (row_of L.shape (block_of (op_of op))) ≡ shard) }
@@ -74,7 +74,7 @@ impl<L: Events> Feed<L> {
         shards: &Shards<L, D>,
         op: Op,
     )
-        requires next { slice_get L.events self.old.number ≡ Some (Request (op_of op)) }
+        requires next { slice_get L.events self.old.number ≡ Some (Request op) }
         ensures number { self.new.number ≡ self.old.number + 1 }
         ensures pass { self.new.pass ≡ self.old.pass }
         ensures told { TellsOn (view_of self.old.pass) self.old.answers.items

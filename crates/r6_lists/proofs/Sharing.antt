@@ -6,7 +6,9 @@ use Rattle.std.proofs.lemmas.Bool.Decides.{nat_tests}
 use Rattle.r6_layout.specs.Shape.{Shape, IsShape, blocks}
 use Rattle.r6_layout.specs.Layout.{shard_of, row_of}
 use Rattle.r6_layout.proofs.Places.{IsPlace-lt, IsPlace-row, IsPlace-shard}
-use Rattle.r6_world.specs.PlainArray.{Op, block_of}
+use Rattle.r6_world.specs.PlainArray.{block_of}
+use Rattle.r6_frames.specs.declared.op.Op.{Op}
+use Rattle.r6_frames.specs.Views.{op_of}
 use Rattle.r6_lists.specs.Events.{Event, Request, Attach, Fail, Check, Repair, Wait, Duty, Serves, Takes_up, Checks, Repairs, is_block_of, duty_of, waits_before, Task, task, task_at, tasks_of, is_request, requests_of}
 use Rattle.r6_lists.specs.Laws.{SharesOut}
 use Rattle.r6_lists.proofs.Elements.{IsIn, contains, is_in, in_range, in_mapped, mapped_from, in_passing, passing_from}
@@ -53,7 +55,7 @@ pub record IsBlockOf (shape : Shape) (shard block : ℕ) : Type 0 where
   pub in_array : block < blocks shape
   pub in_shard : shard_of shape (row_of shape block) ≡ shard
 
-block_of_shard : (shape : Shape) (shard block : ℕ) → is_block_of shape shard block ≡ true → IsBlockOf shape shard block
+pub block_of_shard : (shape : Shape) (shard block : ℕ) → is_block_of shape shard block ≡ true → IsBlockOf shape shard block
 block_of_shard shape shard block passed =
     let tests = both (nat_lt block (blocks shape)) (shard_of shape (row_of shape block) == shard) passed in
     record { in_array = grind (arith, nat_tests, tests.0); in_shard = grind (arith, nat_tests, tests.1) }
@@ -67,13 +69,13 @@ block_passes shape shard block is =
 -- the requests of a shard are for its blocks
 request_of : (shape : Shape) (shard : ℕ) (event : Event) (duty : Duty) → duty_of shape shard event ≡ Some duty
     → is_request duty ≡ true
-    → (op : Op) × (event ≡ Request op) × (duty ≡ Serves op) × IsBlockOf shape shard (block_of op)
-request_of shape shard (Request op) duty is asked = by_test (is_block_of shape shard (block_of op)) refl is
+    → (op : Op) × (event ≡ Request op) × (duty ≡ Serves op) × IsBlockOf shape shard (block_of (op_of op))
+request_of shape shard (Request op) duty is asked = by_test (is_block_of shape shard (block_of (op_of op))) refl is
   where
-    by_test : (b : Bool) → is_block_of shape shard (block_of op) ≡ b
+    by_test : (b : Bool) → is_block_of shape shard (block_of (op_of op)) ≡ b
         → (if b then Some (Serves op) else None) ≡ Some duty
-        → (op' : Op) × (Request op ≡ Request op') × (duty ≡ Serves op') × IsBlockOf shape shard (block_of op')
-    by_test true same e = (op, refl, sym (some_same (Serves op) duty e), block_of_shard shape shard (block_of op) same)
+        → (op' : Op) × (Request op ≡ Request op') × (duty ≡ Serves op') × IsBlockOf shape shard (block_of (op_of op'))
+    by_test true same e = (op, refl, sym (some_same (Serves op) duty e), block_of_shard shape shard (block_of (op_of op)) same)
     by_test false same e = cc
 request_of shape shard (Attach slot part) duty is asked =
     absurd (no_request duty (ap (λ d. unwrap_or (option_map is_request d) true) is) asked)
@@ -100,7 +102,7 @@ pub record IsAsked (shape : Shape) (shard : ℕ) (events : List Event) (t : Task
   pub op : Op
   pub is_event : slice_get events t.number ≡ Some (Request op)
   pub is_task : t ≡ task t.number (waits_before events t.number) (Serves op)
-  pub is_block : IsBlockOf shape shard (block_of op)
+  pub is_block : IsBlockOf shape shard (block_of (op_of op))
 
 pub is_asked : (shape : Shape) (shard : ℕ) (events : List Event) (t : Task) → Contains (requests_of shape shard events) t
     → IsAsked shape shard events t
@@ -131,11 +133,11 @@ one_shard shape events shard other t u stands stands' numbers =
     let asked' = is_asked shape other events u stands' in
     let same : asked.op ≡ asked'.op = request_injective asked.op asked'.op
     (some_same (Request asked.op) (Request asked'.op) (sym asked.is_event ∙ ap (slice_get events) numbers ∙ asked'.is_event)) in
-    sym asked.is_block.in_shard ∙ ap (λ op. shard_of shape (row_of shape (block_of op))) same ∙ asked'.is_block.in_shard
+    sym asked.is_block.in_shard ∙ ap (λ op. shard_of shape (row_of shape (block_of (op_of op)))) same ∙ asked'.is_block.in_shard
 
-duty_here : (shape : Shape) (shard : ℕ) (op : Op) → IsBlockOf shape shard (block_of op)
+duty_here : (shape : Shape) (shard : ℕ) (op : Op) → IsBlockOf shape shard (block_of (op_of op))
     → duty_of shape shard (Request op) ≡ Some (Serves op)
-duty_here shape shard op is = by_test (is_block_of shape shard (block_of op)) (block_passes shape shard (block_of op) is)
+duty_here shape shard op is = by_test (is_block_of shape shard (block_of (op_of op))) (block_passes shape shard (block_of (op_of op)) is)
   where
     by_test : (b : Bool) → b ≡ true → (if b then Some (Serves op) else None) ≡ Some (Serves op)
     by_test true e = refl
@@ -144,10 +146,10 @@ duty_here shape shard op is = by_test (is_block_of shape shard (block_of op)) (b
 pub shares_out : (shape : Shape) → IsShape shape → (events : List Event) → SharesOut shape events
 shares_out shape lawful events = record {
   request = λ number shard row index slot op at place.
-      let in-row : row ≡ row_of shape (block_of op) = IsPlace-row shape (block_of op) shard row index slot place in
-      let in-shard : shard ≡ shard_of shape row = IsPlace-shard shape (block_of op) shard row index slot lawful place in
-      let here : IsBlockOf shape shard (block_of op) = record {
-        in_array = IsPlace-lt shape (block_of op) shard row index slot lawful place;
+      let in-row : row ≡ row_of shape (block_of (op_of op)) = IsPlace-row shape (block_of (op_of op)) shard row index slot place in
+      let in-shard : shard ≡ shard_of shape row = IsPlace-shard shape (block_of (op_of op)) shard row index slot lawful place in
+      let here : IsBlockOf shape shard (block_of (op_of op)) = record {
+        in_array = IsPlace-lt shape (block_of (op_of op)) shard row index slot lawful place;
         in_shard = sym (in-shard ∙ ap (shard_of shape) in-row);
       } in
       contains _ _

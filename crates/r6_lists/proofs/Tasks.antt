@@ -7,6 +7,7 @@ use Rattle.std.proofs.lemmas.List.Kept.{IsStrictlyIncreasing-filter}
 use Rattle.std.proofs.lemmas.Option.{slice_get_past}
 use Rattle.r6_layout.specs.Shape.{Shape}
 use Rattle.r6_world.specs.PlainArray.{block_of}
+use Rattle.r6_frames.specs.Views.{op_of}
 use Rattle.r6_lists.specs.Events.{Event, Request, Attach, Fail, Check, Repair, Wait, Duty, Serves, is_block_of, duty_of, waits_before, Task, task, task_at, has_task, tasks_of, numbers_of, is_request, requests_of, asks, asks_at}
 use Rattle.r6_lists.specs.Lists.{AreTaken, IsBehind}
 use Rattle.r6_lists.proofs.Elements.{IsIn, all_pushed}
@@ -110,7 +111,7 @@ requests_at q number waits (Some duty) tasks asked same = kept_request q number 
 duty_asked : (shape : Shape) (shard : ℕ) (event : Option Event) (duty : Duty)
     → option_and_then (duty_of shape shard) event ≡ Some duty → unwrap_or (option_map asks event) false ≡ is_request duty
 duty_asked shape shard None duty is = cc
-duty_asked shape shard (Some (Request op)) duty is = of_shard (is_block_of shape shard (block_of op)) is
+duty_asked shape shard (Some (Request op)) duty is = of_shard (is_block_of shape shard (block_of (op_of op))) is
   where
     of_shard : (b : Bool) → (if b then Some (Serves op) else None) ≡ Some duty → true ≡ is_request duty
     of_shard true e = ap (λ d. unwrap_or (option_map is_request d) true) e

@@ -4,11 +4,13 @@ use Rattle.std.specs.List.{range_with_len}
 use Rattle.r6_layout.specs.Shape.{Shape, blocks}
 use Rattle.r6_layout.specs.Layout.{shard_of, row_of}
 use Rattle.r6_dev.specs.History.{Telling}
-use Rattle.r6_world.specs.PlainArray.{Op, block_of}
+use Rattle.r6_world.specs.PlainArray.{block_of}
+use Rattle.r6_frames.specs.declared.op.Op.{Op}
+use Rattle.r6_frames.specs.Views.{op_of}
 
 -- an event's number is how many stand before it
 pub data Event : Type 0 where
-  -- a block is read or written
+  -- a block is read or written, with the caller's buffer
   Request : Op → Event
   -- a slot gets a new device, of which each shard has a part that tells this
   Attach : (slot : ℕ) → (part : ℕ → Telling) → Event
@@ -34,7 +36,7 @@ is_block_of shape shard block = nat_lt block (blocks shape) && (shard_of shape (
 -- a request goes to the shard of its block, a new device's parts, a check and a repair go to every shard
 abbrev pub duty_of : Shape → (shard : ℕ) → Event → Option Duty
 duty_of shape shard (Request op) =
-    if is_block_of shape shard (block_of op) then Some (Serves op) else None
+    if is_block_of shape shard (block_of (op_of op)) then Some (Serves op) else None
 duty_of shape shard (Attach slot part) = Some (Takes_up slot (part shard))
 duty_of shape shard (Fail slot) = None
 duty_of shape shard Check = Some Checks

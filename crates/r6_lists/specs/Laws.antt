@@ -3,7 +3,9 @@ use Rattle.std.specs.Prelude.{◌≡◌, ℕ, ◌<◌, List, Contains, Some, sli
 use Rattle.r6_layout.specs.Shape.{Shape, IsShape, blocks}
 use Rattle.r6_layout.specs.Layout.{IsPlace}
 use Rattle.r6_dev.specs.History.{Telling}
-use Rattle.r6_world.specs.PlainArray.{Op, block_of}
+use Rattle.r6_world.specs.PlainArray.{block_of}
+use Rattle.r6_frames.specs.declared.op.Op.{Op}
+use Rattle.r6_frames.specs.Views.{op_of}
 use Rattle.r6_lists.specs.Events.{Event, Request, Attach, Check, Repair, Duty, Serves, Takes_up, Checks, Repairs, Task, task, waits_before, tasks_of, requests_of}
 
 -- what a shard is handed of the event with this number, behind the waits that stand before it
@@ -14,13 +16,13 @@ IsHanded shape shard events number duty =
 pub record SharesOut (shape : Shape) (events : List Event) : Type 0 where
   -- a request is one of the shard in which its block has its place, and of no other
   pub request : (number shard row index slot : ℕ) (op : Op) → slice_get events number ≡ Some (Request op)
-      → IsPlace shape (block_of op) shard row index slot
+      → IsPlace shape (block_of (op_of op)) shard row index slot
       → Contains (requests_of shape shard events) (task number (waits_before events number) (Serves op))
   pub one_shard : (shard other : ℕ) (t u : Task) → Contains (requests_of shape shard events) t
       → Contains (requests_of shape other events) u → t.number ≡ u.number → shard ≡ other
   -- each request of a shard is one of the events, for a block of the array
   pub asked : (shard : ℕ) (t : Task) → Contains (requests_of shape shard events) t
-      → (op : Op) × (slice_get events t.number ≡ Some (Request op)) × (block_of op < blocks shape)
+      → (op : Op) × (slice_get events t.number ≡ Some (Request op)) × (block_of (op_of op) < blocks shape)
       × (t ≡ task t.number (waits_before events t.number) (Serves op))
   -- the parts of a new device, a check and a repair go to every shard
   pub parts : (number shard slot : ℕ) (part : ℕ → Telling) → slice_get events number ≡ Some (Attach slot part)

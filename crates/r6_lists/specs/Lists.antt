@@ -3,7 +3,7 @@ use Rattle.std.specs.Prelude.{◌≡◌, ℕ, ◌<◌, List, All, Bool, true, fa
 use Rattle.std.specs.List.Sorted.{IsStrictlyIncreasing}
 use Rattle.r6_layout.specs.Shape.{Shape}
 use Rattle.r6_dev.specs.History.{Telling}
-use Rattle.r6_world.specs.PlainArray as plain
+use Rattle.r6_frames.specs.declared.op.Op.TheVariants as op
 use Rattle.r6_lists.specs.declared.work.Work.{Work}
 use Rattle.r6_lists.specs.declared.work.Work.TheVariants.{Read, Write, Attach, Check, Repair}
 use Rattle.r6_lists.specs.declared.stage.Stage.{Stage}
@@ -12,8 +12,8 @@ use Rattle.r6_lists.specs.Events.{Event, has_task, Duty, Serves, Takes_up, Check
 
 -- the duty that a piece of work is, by what parts of devices tell
 abbrev pub duty_in : {D : Type 0} → (D → Telling) → Work D → Duty
-duty_in told (Read block buffer) = Serves (plain.Read block)
-duty_in told (Write block buffer) = Serves (plain.Write block buffer)
+duty_in told (Read block buffer) = Serves (op.Read block buffer)
+duty_in told (Write block buffer) = Serves (op.Write block buffer)
 duty_in told (Attach slot generation part) = Takes_up slot (told part)
 duty_in told Check = Checks
 duty_in told Repair = Repairs

@@ -4,7 +4,7 @@ ghost use Rattle.std.specs.Prelude.{◌≡◌, ℕ, ◌+◌, ◌*◌, ◌<◌, �
 ghost use Rattle.r6_kernels.specs.Blocks.{zeros};
 ghost use Rattle.r6_layout.specs.Shape.{shape_of};
 ghost use Rattle.r6_dev.specs.Memory.{told_by};
-ghost use Rattle.r6_world.specs.PlainArray as plain;
+ghost use Rattle.r6_frames.specs.declared.op.Op.TheVariants as op;
 ghost use Rattle.r6_lists.specs.Events.{Request, Attach, Check, tasks_of, numbers_of, all_tasks};
 
 use crate::{Consumer, Events, Item, List, Producer, Settlement, Work};
@@ -144,8 +144,8 @@ fn play<L: Events + Send + Sync, R: Threads + Wait + Sync>(
 ) -> Result<Vec<Vec<u64>>, AllocError>
     requires blank { (blank.name ≡ L.name) × (blank.parts ≡ L.parts) × (L.parts ≡ 6) }
     requires shape { L.shape ≡ shape_of 4 1 16 4 2 }
-    requires events { L.events ≡ Request (plain.Write 0 (zeros 16)) ∷ Request (plain.Read 4) ∷ Check
-        ∷ Request (plain.Read 7)
+    requires events { L.events ≡ Request (op.Write 0 (zeros 16)) ∷ Request (op.Read 4 (zeros 16)) ∷ Check
+        ∷ Request (op.Read 7 (zeros 16))
         ∷ Attach 1 (λ shard. told_by (record { first = 2 * shard; block = 16; blocks = replicate 2 (zeros 16) }))
         ∷ [] }
 {

@@ -2,7 +2,7 @@ use Rattle.std.proofs.Common.{◌*◌, [], ◌∷◌, replicate}
 use Rattle.r6_kernels.specs.Blocks.{zeros}
 use Rattle.r6_layout.specs.Shape.{shape_of}
 use Rattle.r6_dev.specs.Memory.{told_by}
-use Rattle.r6_world.specs.PlainArray as plain
+use Rattle.r6_frames.specs.declared.op.Op.TheVariants as op
 use Rattle.r6_lists.specs.Events.{Request, Attach, Check}
 use Rattle.r6_lists.proofs.tests.each_shard_takes_its_own.Given as goal
 
@@ -13,6 +13,6 @@ abbrev pub ghosts-play-L-Events : goal.ghosts-play-L-Events
 ghosts-play-L-Events g a =
     record {
       shape = shape_of 4 1 16 4 2;
-      events = Request (plain.Write 0 (zeros 16)) ∷ Request (plain.Read 4) ∷ Check ∷ Request (plain.Read 7)
+      events = Request (op.Write 0 (zeros 16)) ∷ Request (op.Read 4 (zeros 16)) ∷ Check ∷ Request (op.Read 7 (zeros 16))
           ∷ Attach 1 (λ shard. told_by (record { first = 2 * shard; block = 16; blocks = replicate 2 (zeros 16) })) ∷ [];
     }

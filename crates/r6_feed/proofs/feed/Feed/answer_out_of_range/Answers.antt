@@ -1,6 +1,5 @@
 use Rattle.std.proofs.Common.{◌≡◌, ◌∙◌, map, false, refl, sym, ap}
 use Rattle.std.proofs.lemmas.List.{append-nil}
-use Rattle.r6_frames.specs.Views.{op_of}
 use Rattle.r6_lists.specs.Events.{Request}
 use Rattle.r6_lists.proofs.Elements.{all_pushed}
 use Rattle.r6_feed.specs.declared.answer.Outcome.TheVariants.{OutOfRange}
@@ -14,26 +13,26 @@ use Rattle.r6_feed.proofs.feed.Feed.answer_out_of_range.Goals as goal
 
 pub push_reserved-requires : goal.push_reserved-requires
 push_reserved-requires g c =
-    has_room g.L.Events.shape g.L.Events.events c.args.self.now.number (Request (op_of c.args.op.now)) c.args.self.now.answers.items _ _
+    has_room g.L.Events.shape g.L.Events.events c.args.self.now.number (Request c.args.op.now) c.args.self.now.answers.items _ _
     c.args.self.now.asked c.requires.next c.args.self.now.room c.args.self.now.answers.ok.0
 
 pub invariant_of-self-clause-left : goal.invariant_of-self-clause-left
 invariant_of-self-clause-left g c =
     skipped (λ p. p.lists) (λ p. p.left) g.L.Events.shape g.L.Events.events c.args.self.now.number c.args.self.now.producers.items
-    (Request (op_of c.args.op.now)) c.args.self.now.left c.requires.next (λ shard. of_no_shard g.L.Events.shape shard (op_of c.args.op.now) c.requires.outside)
+    (Request c.args.op.now) c.args.self.now.left c.requires.next (λ shard. of_no_shard g.L.Events.shape shard c.args.op.now c.requires.outside)
 
 pub invariant_of-self-clause-within : goal.invariant_of-self-clause-within
-invariant_of-self-clause-within g c = next_within g.L.Events.events c.args.self.now.number (Request (op_of c.args.op.now)) c.requires.next
+invariant_of-self-clause-within g c = next_within g.L.Events.events c.args.self.now.number (Request c.args.op.now) c.requires.next
 
 pub invariant_of-self-clause-waited : goal.invariant_of-self-clause-waited
 invariant_of-self-clause-waited g c =
-    c.args.self.now.waited ∙ sym (no_wait g.L.Events.events c.args.self.now.number (Request (op_of c.args.op.now)) c.requires.next refl)
+    c.args.self.now.waited ∙ sym (no_wait g.L.Events.events c.args.self.now.number (Request c.args.op.now) c.requires.next refl)
 
 pub invariant_of-self-clause-asked : goal.invariant_of-self-clause-asked
 invariant_of-self-clause-asked g c =
     ap (map asked_in) c.push_reserved.ensures.items
-    ∙ answered_more g.L.Events.shape g.L.Events.events c.args.self.now.number (Request (op_of c.args.op.now)) (NoBlock)
-    c.args.self.now.answers.items (record { event = c.args.self.now.number; outcome = OutOfRange }) c.args.self.now.asked c.requires.next (answered_here g.L.Events.shape (op_of c.args.op.now) c.requires.outside) refl
+    ∙ answered_more g.L.Events.shape g.L.Events.events c.args.self.now.number (Request c.args.op.now) (NoBlock)
+    c.args.self.now.answers.items (record { event = c.args.self.now.number; outcome = OutOfRange }) c.args.self.now.asked c.requires.next (answered_here g.L.Events.shape c.args.op.now c.requires.outside) refl
 
 pub invariant_of-self-clause-own : goal.invariant_of-self-clause-own
 invariant_of-self-clause-own g c =
