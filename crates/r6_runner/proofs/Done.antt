@@ -12,6 +12,7 @@ use Rattle.r6_frames.specs.declared.op.Op.{Op}
 use Rattle.r6_frames.specs.Views.{op_of}
 use Rattle.r6_core.specs.declared.turn.Task.{Task as Pass}
 use Rattle.r6_core.specs.declared.refusal.Refusal.{Refusal}
+use Rattle.r6_core.specs.Shards.{CoreView}
 use Rattle.r6_lists.specs.Events.{Event, Duty, Takes_up, task, task_at}
 use Rattle.r6_shard.specs.declared.parts.Part.{Part}
 use Rattle.r6_shard.specs.declared.parts.Parts.{Parts}
@@ -21,14 +22,19 @@ use Rattle.r6_shard.specs.Shards as shards
 use Rattle.r6_shard.specs.Shards.{ComesFrom}
 use Rattle.r6_shard.specs.Beginnings.{start_of}
 use Rattle.r6_shard.specs.Handing.{parts_tell}
+use Rattle.r6_shard.specs.declared.run.Asking.{Asking}
+use Rattle.r6_shard.specs.Refusing.{Lasts}
+use Rattle.r6_shard.specs.Runs.{AreServed}
 use Rattle.r6_shard.proofs.FromStarts.{handed_law}
+use Rattle.r6_shard.proofs.Lasting.{lasts_on, lasts_still, was-right, was-serving}
+use Rattle.r6_shard.proofs.Ledgers.{one-accepted, one-refused, served-on as served-kept}
 use Rattle.r6_runner.specs.declared.due.Due.{Due}
 use Rattle.r6_runner.specs.declared.pass.Passing.{Passing}
 use Rattle.r6_runner.specs.declared.pass.Passed.{Passed}
 use Rattle.r6_runner.specs.declared.runner.Handed.{Handed}
 use Rattle.r6_runner.specs.declared.runner.Runner.{Runner}
 use Rattle.r6_runner.specs.Tasks.{NewPart, request_in, pass_in, part_in, requests_in, passes_in, parts_in, due_requests, due_passes, request_of, pass_of, under_way, passed_of, slot_of, handed_of}
-use Rattle.r6_runner.specs.Runners.{AreServed, taken_up, AllTell, IsDone, IsPartTaken, IsOutcome, HasDone, IsPut, IsHandedIn, ShardGoesOn, KeepsSelf}
+use Rattle.r6_runner.specs.Runners.{taken_up, AllTell, IsDone, IsPartTaken, IsOutcome, HasDone, GoesOn, IsPut, IsHandedIn, ShardGoesOn, KeepsSelf}
 use Rattle.r6_runner.proofs.Tasks.{of_tasks-more, taken_up-more, tell-less, none-silent, put_if}
 
 -- ---- the same, of equal things
@@ -63,6 +69,8 @@ is-put told shape events geometry number snapshot before numbers shard refused p
     ∙ append-nil (parts_in shape number events numbers) in
     let A = map passed_of passed in
     record {
+      shape_is = x.shape_is;
+      place = x.place;
       begun = x.begun;
       ops = x.ops;
       requests = of_tasks-more request_in shape number events numbers n waits duty at
@@ -103,10 +111,15 @@ part-on told geometry number snapshot at ops false part old new p h slot telling
     subst (λ y. ComesFrom (parts_tell told) geometry number snapshot y ops new) (sym there)
     (subst (λ y. ComesFrom (parts_tell told) geometry number snapshot at ops y) (sym same) comes)
 
-asked-on : {D : Type 0} (told : D → Telling) (taken : Bool) (part : Part D) (old new : Shard (Parts D)) → IsPartTaken taken told part old new
+pub asked-on : {D : Type 0} (told : D → Telling) (taken : Bool) (part : Part D) (old new : Shard (Parts D)) → IsPartTaken taken told part old new
     → new.asked.items ≡ old.asked.items
 asked-on told true part old new taken = taken.1.ledger.asked
 asked-on told false part old new same = ap (λ (y : Shard _). y.asked.items) same
+
+core-on : {D : Type 0} (told : D → Telling) (taken : Bool) (part : Part D) (old new : Shard (Parts D)) → IsPartTaken taken told part old new
+    → new.core ≡ old.core
+core-on told true part old new taken = taken.1.core
+core-on told false part old new same = ap (λ (y : Shard _). y.core) same
 
 pub is-handed : {D : Type 0} (told : D → Telling) (shape : Shape) (events : List Event) (geometry : Shape) (number : ℕ) (snapshot : Snapshot)
     (before : ℕ → ℕ → Option Telling) (numbers : List ℕ) (shard shard' : Shard (Parts D)) (refused : List (ℕ × Refusal))
@@ -124,14 +137,18 @@ is-handed told shape events geometry number snapshot before numbers shard shard'
     let ps : List NewPart = parts_in shape number events numbers in
     let more : parts_in shape number events (numbers ++ n ∷ []) ≡ ps ++ p ∷ [] =
     of_tasks-more part_in shape number events numbers n waits duty at in
+    let core : shard'.core ≡ shard.core = core-on told taken part shard shard' into in
     let long : length ps ≡ length handed =
     sym (length-map ps slot_of) ∙ ap length x.parts ∙ length-map handed handed_of in
     record {
+      shape_is = ap (λ (y : CoreView). y.shape) core ∙ x.shape_is;
+      place = ap (λ (y : CoreView). y.shard) core ∙ x.place;
       begun = x.begun;
       ops = x.ops;
       requests = of_tasks-more request_in shape number events numbers n waits duty at
           ∙ append-nil (requests_in shape number events numbers) ∙ x.requests;
-      served = subst (λ y. AreServed x.begun y x.ops refused) (sym (asked-on told taken part shard shard' into)) x.served;
+      served = subst (λ y. AreServed shard'.core x.begun y x.ops refused) (sym (asked-on told taken part shard shard' into))
+          (subst (λ y. AreServed y x.begun shard.asked.items x.ops refused) (sym core) x.served);
       passes = of_tasks-more pass_in shape number events numbers n waits duty at
           ∙ append-nil (passes_in shape number events numbers) ∙ x.passes;
       parts = ap (λ y. map slot_of y) more
@@ -148,75 +165,51 @@ is-handed told shape events geometry number snapshot before numbers shard shard'
 
 -- ---- what was due begins
 
-pub one-accepted : (requests : List (ℕ × world.Op)) (request : ℕ × world.Op) (asked : List Asked) (a : Asked) (ops : List world.Op)
-    (refused : List (ℕ × Refusal)) → a.event ≡ request.0 → AreServed requests asked ops refused
-    → AreServed (requests ++ request ∷ []) (asked ++ a ∷ []) (ops ++ request.1 ∷ []) refused
-one-accepted [] request asked a ops refused same x =
-    inl (a, [], [], ap (λ y. y ++ a ∷ []) x.0, same, ap (λ y. y ++ request.1 ∷ []) x.1, (refl, refl, x.2))
-one-accepted (first ∷ requests) request asked a ops refused same x = elim x [
-  | inl p ↦ inl (
-    p.0,
-    p.1 ++ a ∷ [],
-    p.2 ++ request.1 ∷ [],
-    ap (λ y. y ++ a ∷ []) p.3,
-    p.4,
-    ap (λ y. y ++ request.1 ∷ []) p.5,
-    one-accepted requests request p.1 a p.2 refused same p.6,
-  )
-  | inr p ↦ inr (p.0, p.1, p.2, one-accepted requests request asked a ops p.1 same p.3)
-]
-
-pub one-refused : (requests : List (ℕ × world.Op)) (request : ℕ × world.Op) (asked : List Asked) (ops : List world.Op)
-    (refused : List (ℕ × Refusal)) (refusal : Refusal) → AreServed requests asked ops refused
-    → AreServed (requests ++ request ∷ []) asked ops (refused ++ (request.0, refusal) ∷ [])
-one-refused [] request asked ops refused refusal x =
-    inr (refusal, [], ap (λ y. y ++ (request.0, refusal) ∷ []) x.2, (x.0, x.1, refl))
-one-refused (first ∷ requests) request asked ops refused refusal x = elim x [
-  | inl p ↦ inl (p.0, p.1, p.2, p.3, p.4, p.5, one-refused requests request p.1 p.2 refused refusal p.6)
-  | inr p ↦ inr (
-    p.0,
-    p.1 ++ (request.0, refusal) ∷ [],
-    ap (λ y. y ++ (request.0, refusal) ∷ []) p.2,
-    one-refused requests request asked ops p.1 refusal p.3,
-  )
-]
-
 -- a request begins
 pub has-begun : {D : Type 0} (told : D → Telling) (shape : Shape) (events : List Event) (geometry : Shape) (number : ℕ) (snapshot : Snapshot)
     (before : ℕ → ℕ → Option Telling) (numbers : List ℕ) (shard shard' : Shard (Parts D)) (refused refused' : List (ℕ × Refusal))
     (passing : Option Passing) (passed : List Passed) (handed : List Handed) (d : Due) (due : List Due)
     (event : ℕ) (op : Op)
-    → request_of d.event d.duty ≡ Some (event, op_of op) → pass_of d.event d.duty ≡ None
+    → request_of d.event d.duty ≡ Some (record { event = event; op = op }) → pass_of d.event d.duty ≡ None
     → IsOutcome told event op shard shard' refused refused'
     → IsDone told shape events geometry number snapshot before numbers shard refused passing passed handed (d ∷ due)
     → IsDone told shape events geometry number snapshot before numbers shard' refused' passing passed handed due
 has-begun told shape events geometry number snapshot before numbers shard shard' refused refused' passing passed handed d due event op request pass outcome x =
-    let all : requests_in shape number events numbers ≡ (x.begun ++ (event, op_of op) ∷ []) ++ due_requests due =
-    x.requests ∙ ap (λ o. x.begun ++ cons_option o (due_requests due)) request ∙ sym (append_assoc x.begun ((event, op_of op) ∷ []) (due_requests due)) in
+    let asking : Asking = record { event = event; op = op } in
+    let begun = x.begun ++ asking ∷ [] in
+    let all : requests_in shape number events numbers ≡ begun ++ due_requests due =
+    x.requests ∙ ap (λ o. x.begun ++ cons_option o (due_requests due)) request ∙ sym (append_assoc x.begun (asking ∷ []) (due_requests due)) in
     let passes : passes_in shape number events numbers ≡ map passed_of passed ++ (under_way passing ++ due_passes due) =
     x.passes ∙ ap (λ o. map passed_of passed ++ (under_way passing ++ cons_option o (due_passes due))) pass in
     elim outcome [
       | inl p ↦
           let a : Asked = record { event = event; block = world.block_of (op_of op); answered = length shard.entries.items } in
+          let still = lasts_still shard.core in
           record {
-            begun = x.begun ++ (event, op_of op) ∷ [];
+            shape_is = p.3.same.0 ∙ x.shape_is;
+            place = p.3.same.1 ∙ x.place;
+            begun = begun;
             ops = x.ops ++ op_of op ∷ [];
             requests = all;
-            served = subst (λ y. AreServed (x.begun ++ (event, op_of op) ∷ []) y (x.ops ++ op_of op ∷ []) refused') (sym p.1.asked)
-                (subst (AreServed (x.begun ++ (event, op_of op) ∷ []) (shard.asked.items ++ a ∷ []) (x.ops ++ op_of op ∷ [])) (sym p.2)
-                (one-accepted x.begun (event, op_of op) shard.asked.items a x.ops refused refl x.served));
+            served = subst (λ y. AreServed shard'.core begun y (x.ops ++ op_of op ∷ []) refused') (sym p.1.asked)
+                (subst (AreServed shard'.core begun (shard.asked.items ++ a ∷ []) (x.ops ++ op_of op ∷ [])) (sym p.4)
+                (served-kept shard.core shard'.core begun (shard.asked.items ++ a ∷ []) (x.ops ++ op_of op ∷ []) refused p.3
+                (one-accepted shard.core x.begun asking shard.asked.items a x.ops refused refl (was-right shard.core shard.core op still p.2)
+                (was-serving shard.core shard.core op still p.2) x.served)));
             passes = passes;
             parts = x.parts;
             comes = λ tell device array lawful hold.
                 p.1.course (start_of geometry number snapshot device array) x.ops (x.comes tell device array lawful hold);
           }
       | inr p ↦ record {
-        begun = x.begun ++ (event, op_of op) ∷ [];
+        shape_is = ap (λ (y : Shard _). y.core.shape) p.1 ∙ x.shape_is;
+        place = ap (λ (y : Shard _). y.core.shard) p.1 ∙ x.place;
+        begun = begun;
         ops = x.ops;
         requests = all;
-        served = subst (λ y. AreServed (x.begun ++ (event, op_of op) ∷ []) y x.ops refused') (ap (λ (y : Shard _). y.asked.items) (sym p.1))
-            (subst (AreServed (x.begun ++ (event, op_of op) ∷ []) shard.asked.items x.ops) (sym p.2)
-            (one-refused x.begun (event, op_of op) shard.asked.items x.ops refused p.0 x.served));
+        served = subst (λ (y : Shard _). AreServed y.core begun y.asked.items x.ops refused') (sym p.1)
+            (subst (AreServed shard.core begun shard.asked.items x.ops) (sym p.3)
+            (one-refused shard.core x.begun asking shard.asked.items x.ops refused p.0 p.2 x.served));
         passes = passes;
         parts = x.parts;
         comes = λ tell. subst (ComesFrom (parts_tell told) geometry number snapshot (taken_up before (parts_in shape number events numbers) handed) x.ops)
@@ -233,6 +226,8 @@ pub has-passing : {D : Type 0} (told : D → Telling) (shape : Shape) (events : 
     → IsDone told shape events geometry number snapshot before numbers shard refused (Some p) passed handed due
 has-passing told shape events geometry number snapshot before numbers shard refused passed handed d due p request pass x =
     record {
+      shape_is = x.shape_is;
+      place = x.place;
       begun = x.begun;
       ops = x.ops;
       requests = x.requests ∙ ap (λ o. x.begun ++ cons_option o (due_requests due)) request;
@@ -254,6 +249,8 @@ pub has-passed : {D : Type 0} (told : D → Telling) (shape : Shape) (events : L
 has-passed told shape events geometry number snapshot before numbers shard refused passing passed handed due p event task x =
     let pair = passed_of in
     record {
+      shape_is = x.shape_is;
+      place = x.place;
       begun = x.begun;
       ops = x.ops;
       requests = x.requests;
@@ -276,6 +273,8 @@ pub same-passing : {D : Type 0} (told : D → Telling) (shape : Shape) (events :
     → IsDone told shape events geometry number snapshot before numbers shard refused (Some passing') passed handed due
 same-passing told shape events geometry number snapshot before numbers shard refused passing passing' passed handed due event task x =
     record {
+      shape_is = x.shape_is;
+      place = x.place;
       begun = x.begun;
       ops = x.ops;
       requests = x.requests;
@@ -291,15 +290,18 @@ same-passing told shape events geometry number snapshot before numbers shard ref
 pub has-gone : {D : Type 0} (told : D → Telling) (shape : Shape) (events : List Event) (geometry : Shape) (number : ℕ) (snapshot : Snapshot)
     (before : ℕ → ℕ → Option Telling) (numbers : List ℕ) (shard shard' : Shard (Parts D)) (refused : List (ℕ × Refusal))
     (passing : Option Passing) (passed : List Passed) (handed : List Handed) (due : List Due)
-    → shards.GoesOn (parts_tell told) shard shard' → shard'.asked.items ≡ shard.asked.items
+    → shards.GoesOn (parts_tell told) shard shard' → Lasts shard.core shard'.core → shard'.asked.items ≡ shard.asked.items
     → IsDone told shape events geometry number snapshot before numbers shard refused passing passed handed due
     → IsDone told shape events geometry number snapshot before numbers shard' refused passing passed handed due
-has-gone told shape events geometry number snapshot before numbers shard shard' refused passing passed handed due goes asked x =
+has-gone told shape events geometry number snapshot before numbers shard shard' refused passing passed handed due goes lasts asked x =
     record {
+      shape_is = lasts.same.0 ∙ x.shape_is;
+      place = lasts.same.1 ∙ x.place;
       begun = x.begun;
       ops = x.ops;
       requests = x.requests;
-      served = subst (λ y. AreServed x.begun y x.ops refused) (sym asked) x.served;
+      served = subst (λ y. AreServed shard'.core x.begun y x.ops refused) (sym asked)
+          (served-kept shard.core shard'.core x.begun shard.asked.items x.ops refused lasts x.served);
       passes = x.passes;
       parts = x.parts;
       comes = λ tell device array lawful hold.
@@ -310,10 +312,13 @@ has-gone told shape events geometry number snapshot before numbers shard shard' 
 
 pub is-first : {D : Type 0} (told : D → Telling) (shape : Shape) (events : List Event) (geometry : Shape) (number : ℕ) (snapshot : Snapshot)
     (parts : Parts D) (shard : Shard (Parts D)) → shard.parts ≡ parts → shard.asked.items ≡ []
+    → shard.core.shape ≡ geometry → shard.core.shard ≡ number
     → shards.Begins (parts_tell told) geometry number snapshot shard
     → IsDone told shape events geometry number snapshot (parts_tell told parts) [] shard [] None [] [] []
-is-first told shape events geometry number snapshot parts shard same none begins =
+is-first told shape events geometry number snapshot parts shard same none shape_is place begins =
     record {
+      shape_is = shape_is;
+      place = place;
       begun = [];
       ops = [];
       requests = refl;
@@ -356,7 +361,7 @@ handed-on told shape events geometry number snapshot before numbers old new n wa
 
 pub served-on : {D : Type 0} (told : D → Telling) (shape : Shape) (events : List Event) (geometry : Shape) (number : ℕ) (snapshot : Snapshot)
     (before : ℕ → ℕ → Option Telling) (numbers : List ℕ) (old new : Runner D) (d : Due) (due : List Due) (event : ℕ) (op : Op)
-    → request_of d.event d.duty ≡ Some (event, op_of op) → pass_of d.event d.duty ≡ None
+    → request_of d.event d.duty ≡ Some (record { event = event; op = op }) → pass_of d.event d.duty ≡ None
     → new.due.items ≡ due → new.passing ≡ old.passing → new.passed.items ≡ old.passed.items → new.handed.items ≡ old.handed.items
     → IsOutcome told event op old.shard new.shard old.refused.items new.refused.items
     → old.due.items ≡ d ∷ due
@@ -376,7 +381,9 @@ pub shard-on : {D : Type 0} (told : D → Telling) (a b c : Runner D) → ShardG
 shard-on told a b c x y =
     record {
       course = λ s ops h. y.course s ops (x.course s ops h);
+      lasts = lasts_on a.shard.core b.shard.core c.shard.core x.lasts y.lasts;
       asked = y.asked ∙ x.asked;
+      waits = y.waits ∙ x.waits;
       refused = y.refused ∙ x.refused;
       kept = record {
         due = y.kept.due ∙ x.kept.due;
@@ -405,4 +412,13 @@ gone-passing told shape events geometry number snapshot before numbers old mid p
     old.passed.items mid.passed.items old.handed.items mid.handed.items old.due.items mid.due.items refl
     h.refused (sym is) h.kept.passed h.kept.handed h.kept.due
     (has-gone told shape events geometry number snapshot before numbers old.shard mid.shard old.refused.items old.passing old.passed.items
-    old.handed.items old.due.items h.course h.asked x))
+    old.handed.items old.due.items h.course h.lasts h.asked x))
+
+-- of one shard, one taking behind another
+pub goes-then : {D : Type 0} (told : D → Telling) (shape : Shape) (events : List Event) (number number' : ℕ) (a b c : List ℕ) (r s t : Runner D)
+    → number' ≡ number → GoesOn told shape events number a b r s → GoesOn told shape events number' b c s t
+    → GoesOn told shape events number a c r t
+goes-then told shape events number number' a b c r s t same x y = λ geometry snapshot before h.
+    subst (λ (n : ℕ). HasDone told shape events geometry n snapshot before c t) same
+    (y geometry snapshot before (subst (λ (n : ℕ). HasDone told shape events geometry n snapshot before b s) (sym same)
+    (x geometry snapshot before h)))

@@ -2,3 +2,4 @@ pub mod Tasks
 pub mod Done
 pub mod Keeping
 pub mod Counting
+pub mod Awaiting

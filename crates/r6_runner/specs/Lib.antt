@@ -2,3 +2,4 @@ pub mod Tasks
 pub mod Runners
 pub mod Splitting
 pub mod Counted
+pub mod Waits

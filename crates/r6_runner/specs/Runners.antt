@@ -6,8 +6,9 @@ use Rattle.r6_world.specs.PlainArray as world
 use Rattle.r6_world.specs.Registers.{Snapshot}
 use Rattle.r6_world.specs.Tables.{put_in}
 use Rattle.r6_core.specs.declared.refusal.Refusal.{Refusal}
+use Rattle.r6_core.specs.Refusals.{HasSubmitFault, submit_faults, HasNone}
 use Rattle.r6_lists.specs.Events.{Event}
-use Rattle.r6_shard.specs.declared.ledger.Asked.{Asked}
+use Rattle.r6_shard.specs.declared.run.Asking.{Asking}
 use Rattle.r6_frames.specs.declared.op.Op.{Op}
 use Rattle.r6_core.specs.declared.turn.Task.{Task as Pass}
 use Rattle.r6_shard.specs.declared.parts.Part.{Part}
@@ -16,22 +17,14 @@ use Rattle.r6_shard.specs.declared.shard.Shard.{Shard}
 use Rattle.r6_shard.specs.Shards as shards
 use Rattle.r6_shard.specs.Shards.{ComesFrom, Submits, Rests}
 use Rattle.r6_shard.specs.Handing.{HandsIn, parts_tell}
+use Rattle.r6_shard.specs.Refusing.{Lasts, IsRefusedFor}
+use Rattle.r6_shard.specs.Runs.{AreServed}
 use Rattle.r6_runner.specs.declared.due.Due.{Due}
 use Rattle.r6_runner.specs.declared.pass.Passing.{Passing}
 use Rattle.r6_runner.specs.declared.pass.Passed.{Passed}
 use Rattle.r6_runner.specs.declared.runner.Handed.{Handed}
 use Rattle.r6_runner.specs.declared.runner.Runner.{Runner}
 use Rattle.r6_runner.specs.Tasks.{NewPart, count_of, requests_in, passes_in, parts_in, due_requests, due_passes, under_way, passed_of, slot_of, handed_of}
-
--- each request was accepted, in their order, with its event and what it asks, or its event stands among the refused
-abbrev pub AreServed : List (ℕ × world.Op) → List Asked → List world.Op → List (ℕ × Refusal) → Type 0
-AreServed [] asked ops refused = (asked ≡ []) × (ops ≡ []) × (refused ≡ [])
-AreServed (request ∷ requests) asked ops refused =
-    ((first : Asked) × (others : List Asked) × (other_ops : List world.Op)
-    × (asked ≡ first ∷ others) × (first.event ≡ request.0) × (ops ≡ request.1 ∷ other_ops)
-    × AreServed requests others other_ops refused)
-    ⊎ ((refusal : Refusal) × (others : List (ℕ × Refusal)) × (refused ≡ (request.0, refusal) ∷ others)
-    × AreServed requests asked ops others)
 
 -- what the parts tell of which devices the shard was given, once these were handed in: of two for one slot and
 -- generation the later counts
@@ -51,10 +44,12 @@ pub record IsDone {D : Type 0} (told : D → Telling) (shape : Shape) (events : 
     (number : ℕ) (snapshot : Snapshot) (before : ℕ → ℕ → Option Telling) (numbers : List ℕ) (shard : Shard (Parts D))
     (refused : List (ℕ × Refusal)) (passing : Option Passing) (passed : List Passed) (handed : List Handed)
     (due : List Due) : Type 0 where
-  pub begun : List (ℕ × world.Op)
+  pub shape_is : shard.core.shape ≡ geometry
+  pub place : shard.core.shard ≡ number
+  pub begun : List Asking
   pub ops : List world.Op
   pub requests : requests_in shape number events numbers ≡ begun ++ due_requests due
-  pub served : AreServed begun shard.asked.items ops refused
+  pub served : AreServed shard.core begun shard.asked.items ops refused
   pub passes : passes_in shape number events numbers
       ≡ map passed_of passed ++ (under_way passing ++ due_passes due)
   pub parts : map slot_of (parts_in shape number events numbers) ≡ map handed_of handed
@@ -103,6 +98,7 @@ pub record IsPut {D : Type 0} (due : Due) (old new : Runner D) : Type 0 where
   pub passed : new.passed.items ≡ old.passed.items
   pub handed : new.handed.items ≡ old.handed.items
   pub room : new.room ≡ old.room
+  pub waits : new.waits ≡ old.waits
   pub rows : new.rows ≡ old.rows
 
 abbrev pub IsPartTaken : {D : Type 0} → (taken : Bool) → (D → Telling) → Part D → (old new : Shard (Parts D)) → Type 0
@@ -121,6 +117,7 @@ pub record IsHandedIn {D : Type 0} (told : D → Telling) (event : ℕ) (part : 
   pub passing : new.passing ≡ old.passing
   pub passed : new.passed.items ≡ old.passed.items
   pub room : new.room ≡ old.room
+  pub waits : new.waits ≡ old.waits
   pub rows : new.rows ≡ old.rows
 
 -- what is neither the shard's nor of its requests stays as it is
@@ -132,12 +129,14 @@ pub record KeepsTasks {D : Type 0} (old new : Runner D) : Type 0 where
   pub room : new.room ≡ old.room
   pub rows : new.rows ≡ old.rows
 
--- a request was handed in: it was accepted, or it stands among the refused
+-- a request was handed in: it was accepted, with nothing wrong, or it stands among the refused, with the reason
 abbrev pub IsOutcome : {D : Type 0} → (D → Telling) → (event : ℕ) → Op → (shard shard' : Shard (Parts D))
     → (refused refused' : List (ℕ × Refusal)) → Type 0
 IsOutcome told event op shard shard' refused refused' =
-    ((id : ℕ) × Submits (parts_tell told) event op shard id shard' × (refused' ≡ refused))
-    ⊎ ((refusal : Refusal) × (shard' ≡ shard) × (refused' ≡ refused ++ (event, refusal) ∷ []))
+    ((id : ℕ) × Submits (parts_tell told) event op shard id shard'
+    × HasNone (HasSubmitFault shard.core op) submit_faults × Lasts shard.core shard'.core × (refused' ≡ refused))
+    ⊎ ((refusal : Refusal) × (shard' ≡ shard) × IsRefusedFor shard.core op refusal
+    × (refused' ≡ refused ++ (event, refusal) ∷ []))
 
 pub record IsServed {D : Type 0} (told : D → Telling) (event : ℕ) (op : Op) (old new : Runner D) : Type 0 where
   pub kept : KeepsTasks old new
@@ -155,12 +154,15 @@ pub record IsPassing {D : Type 0} (event : ℕ) (task : Pass) (old new : Runner 
   pub passed : new.passed.items ≡ old.passed.items
   pub handed : new.handed.items ≡ old.handed.items
   pub room : new.room ≡ old.room
+  pub waits : new.waits ≡ old.waits
   pub rows : new.rows ≡ old.rows
 
 -- the shard went on by itself
 pub record ShardGoesOn {D : Type 0} (told : D → Telling) (old new : Runner D) : Type 0 where
   pub course : shards.GoesOn (parts_tell told) old.shard new.shard
+  pub lasts : Lasts old.shard.core new.shard.core
   pub asked : new.shard.asked.items ≡ old.shard.asked.items
+  pub waits : new.waits ≡ old.waits
   pub refused : new.refused.items ≡ old.refused.items
   pub kept : KeepsTasks old new
 

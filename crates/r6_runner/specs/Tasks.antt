@@ -2,15 +2,14 @@
 use Rattle.std.specs.Prelude.{ℕ, ◌+◌, List, [], ◌∷◌, length, filter_map, Option, Some, None, option_and_then, option_to_list}
 use Rattle.r6_dev.specs.History.{Telling}
 use Rattle.r6_layout.specs.Shape.{Shape}
-use Rattle.r6_world.specs.PlainArray.{Op}
-use Rattle.r6_frames.specs.Views.{op_of}
 use Rattle.r6_core.specs.declared.turn.Task.{Task as Pass}
 use Rattle.r6_core.specs.declared.turn.Task.TheVariants as pass
 use Rattle.r6_core.specs.declared.refusal.Refusal.{Refusal}
 use Rattle.r6_lists.specs.Events.{Event, Duty, Serves, Takes_up, Checks, Repairs, task_at}
 use Rattle.r6_shard.specs.declared.ledger.Asked.{Asked}
+use Rattle.r6_shard.specs.declared.run.Asking.{Asking}
 use Rattle.r6_runner.specs.declared.due.Due.{Due}
-use Rattle.r6_runner.specs.declared.due.Duty.{Duty as Asking}
+use Rattle.r6_runner.specs.declared.due.Duty.{Duty as DueDuty}
 use Rattle.r6_runner.specs.declared.due.Duty.TheVariants as due
 use Rattle.r6_runner.specs.declared.pass.Passing.{Passing}
 use Rattle.r6_runner.specs.declared.pass.Passed.{Passed}
@@ -25,8 +24,8 @@ of_tasks pick shape shard events numbers =
     filter_map (λ number. option_and_then (λ t. pick number t.duty) (task_at shape shard events number)) numbers
 
 -- a request, with the number of its event
-abbrev pub request_in : ℕ → Duty → Option (ℕ × Op)
-request_in number (Serves op) = Some (number, op)
+abbrev pub request_in : ℕ → Duty → Option Asking
+request_in number (Serves op) = Some (record { event = number; op = op })
 request_in number duty = None
 
 -- a check or repair of every row
@@ -45,7 +44,7 @@ abbrev pub part_in : ℕ → Duty → Option NewPart
 part_in number (Takes_up slot telling) = Some (record { event = number; slot = slot; telling = telling })
 part_in number duty = None
 
-abbrev pub requests_in : Shape → (shard : ℕ) → List Event → (numbers : List ℕ) → List (ℕ × Op)
+abbrev pub requests_in : Shape → (shard : ℕ) → List Event → (numbers : List ℕ) → List Asking
 requests_in = of_tasks request_in
 
 abbrev pub passes_in : Shape → (shard : ℕ) → List Event → (numbers : List ℕ) → List (ℕ × Pass)
@@ -56,16 +55,16 @@ parts_in = of_tasks part_in
 
 -- ---- what of it is still to be begun, is under way, or is over
 
-abbrev pub request_of : ℕ → Asking → Option (ℕ × Op)
-request_of event (due.Serve op) = Some (event, op_of op)
+abbrev pub request_of : ℕ → DueDuty → Option Asking
+request_of event (due.Serve op) = Some (record { event = event; op = op })
 request_of event duty = None
 
-abbrev pub pass_of : ℕ → Asking → Option (ℕ × Pass)
+abbrev pub pass_of : ℕ → DueDuty → Option (ℕ × Pass)
 pass_of event due.Check = Some (event, pass.Check)
 pass_of event due.Repair = Some (event, pass.Repair)
 pass_of event duty = None
 
-abbrev pub due_requests : List Due → List (ℕ × Op)
+abbrev pub due_requests : List Due → List Asking
 due_requests all = filter_map (λ d. request_of d.event d.duty) all
 
 abbrev pub due_passes : List Due → List (ℕ × Pass)

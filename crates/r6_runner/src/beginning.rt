@@ -1,9 +1,12 @@
 //! What is due is begun.
 
-ghost use Rattle.std.specs.Prelude.{◌≡◌, ◌<◌, true, None};
+ghost use Rattle.std.specs.Prelude.{◌≡◌, ◌<◌, true, Some, None, slice_get};
+ghost use Rattle.r6_core.specs.Refusals.{most_unanswered};
+ghost use Rattle.r6_lists.specs.Events.{waits_before};
 ghost use Rattle.r6_shard.specs.Counted.{rows_of};
 ghost use Rattle.r6_runner.specs.Counted.{StaysCounted};
 ghost use Rattle.r6_runner.specs.Runners.{GoesOnSame, IsServed, IsPassing, KeepsSelf, taken_by};
+ghost use Rattle.r6_runner.specs.Waits.{HasAwaited, KeepsAwaited, MayFollow};
 
 use crate::due::{Due, Duty};
 use crate::pass::Passing;
@@ -16,15 +19,20 @@ use std::sync::Wait;
 const MOST_OPEN: usize = 256;
 
 impl<D: BlockDevice + Drop> Runner<D> {
-    // A request is handed in.
-    fn hand_over(&mut self, event: u64, op: Op)
-        requires { taken_by self.old < self.old.room }
+    // A request is handed in, behind so many waits.
+    fn hand_over(&mut self, event: u64, waits: u64, op: Op)
+        requires room { taken_by self.old < self.old.room }
+        requires few { self.old.shard.core.unanswered < most_unanswered }
+        requires follows { MayFollow waits self.old }
         ensures served { IsServed D.told event op self.old self.new }
         ensures counted { StaysCounted self.old self.new }
         ensures place { self.new.shard.core.shard ≡ self.old.shard.core.shard }
+        ensures awaited { (events : _) → waits ≡ waits_before events event
+            → HasAwaited events self.old → HasAwaited events self.new }
     {
-        if let Err(refused) = self.shard.submit(event, op) {
-            self.refused.push_reserved((event, refused.refusal));
+        match self.shard.submit(event, op) {
+            Ok(_) => self.waits = waits,
+            Err(refused) => self.refused.push_reserved((event, refused.refusal)),
         }
     }
 
@@ -35,6 +43,7 @@ impl<D: BlockDevice + Drop> Runner<D> {
         requires task { rows_of task ≡ 1 }
         ensures begun { IsPassing event task self.old self.new }
         ensures counted { StaysCounted self.old self.new }
+        ensures awaited { KeepsAwaited self.old self.new }
     {
         self.passing = Some(Passing {
             event,
@@ -48,7 +57,10 @@ impl<D: BlockDevice + Drop> Runner<D> {
     // Whether what is due next may begin: a request once all that came before a wait before it are answered, a check
     // or repair once all are; and nothing while every row is passed over.
     fn may_begin(&self) -> bool
-        ensures { result ≡ true → self.now.passing ≡ None }
+        ensures none { result ≡ true → self.now.passing ≡ None }
+        ensures few { result ≡ true → self.now.shard.core.unanswered < most_unanswered }
+        ensures follows { result ≡ true → (due : _) → slice_get self.now.due.items 0 ≡ Some due
+            → MayFollow due.waits self.now }
     {
         let Some(due) = self.due.front() else {
             return false;
@@ -67,6 +79,7 @@ impl<D: BlockDevice + Drop> Runner<D> {
     fn begin_next(&mut self) -> bool
         ensures course { GoesOnSame D.told self.old self.new }
         ensures counted { StaysCounted self.old self.new }
+        ensures awaited { KeepsAwaited self.old self.new }
         ensures same { KeepsSelf self.old self.new }
         ensures count { taken_by self.new ≡ taken_by self.old }
     {
@@ -77,9 +90,8 @@ impl<D: BlockDevice + Drop> Runner<D> {
             return false;
         };
         let Due { event, waits, duty } = due;
-        self.waits = waits;
         match duty {
-            Duty::Serve(op) => self.hand_over(event, op),
+            Duty::Serve(op) => self.hand_over(event, waits, op),
             Duty::Check => self.begin_pass(event, Task::Check),
             Duty::Repair => self.begin_pass(event, Task::Repair),
         }
@@ -90,6 +102,7 @@ impl<D: BlockDevice + Drop> Runner<D> {
     pub(crate) fn begin_all<R: Wait>(&mut self, rt: &R)
         ensures course { GoesOnSame D.told self.old self.new }
         ensures counted { StaysCounted self.old self.new }
+        ensures awaited { KeepsAwaited self.old self.new }
         ensures same { KeepsSelf self.old self.new }
         ensures count { taken_by self.new ≡ taken_by self.old }
     {

@@ -7,6 +7,7 @@ ghost use Rattle.r6_shard.specs.Beginnings.{IsFirstPass};
 ghost use Rattle.r6_shard.specs.Handing.{parts_tell};
 ghost use Rattle.r6_runner.specs.Counted.{HasCounted, rows_of_shard};
 ghost use Rattle.r6_runner.specs.Runners.{HasDone, taken_by};
+ghost use Rattle.r6_runner.specs.Waits.{HasAwaited};
 
 use crate::runner::Runner;
 use r6_dev::BlockDevice;
@@ -38,6 +39,7 @@ impl<D: BlockDevice + Drop> Runner<D> {
             → HasDone D.told shape events place.geometry place.number snapshot.now (parts_tell D.told parts)
             [] runner) }
         ensures counted { IfOk result (λ runner. HasCounted (rows_of_shard place.geometry place.number) runner) }
+        ensures awaited { IfOk result (λ runner. (events : _) → HasAwaited events runner) }
         ensures pass { IfOk result (λ runner. runner.shard.pass ≡ pass) }
         ensures place { IfOk result (λ runner. runner.shard.core.shard ≡ place.number) }
         ensures room { IfOk result (λ runner. (runner.room ≡ room) × (taken_by runner ≡ 0)) }

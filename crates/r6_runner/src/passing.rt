@@ -6,6 +6,7 @@ ghost use Rattle.r6_shard.specs.Counted.{PassesMore, rows_of};
 ghost use Rattle.r6_shard.specs.Refusing.{IsEnding, Lasts};
 ghost use Rattle.r6_runner.specs.Counted.{CountsOn, HasTurned};
 ghost use Rattle.r6_runner.specs.Runners.{GoesOnSame, KeepsSelf, ShardGoesOn, taken_by};
+ghost use Rattle.r6_runner.specs.Waits.{KeepsAwaited};
 
 use crate::pass::Passing;
 use crate::runner::Runner;
@@ -55,6 +56,7 @@ impl<D: BlockDevice + Drop> Runner<D> {
     pub(crate) fn go_on(&mut self)
         ensures course { GoesOnSame D.told self.old self.new }
         ensures counted { CountsOn self.old self.new }
+        ensures awaited { KeepsAwaited self.old self.new }
         ensures same { KeepsSelf self.old self.new }
         ensures count { taken_by self.new ≡ taken_by self.old }
     {

@@ -5,6 +5,7 @@ ghost use Rattle.r6_health.specs.Passes.{IsPassOf};
 ghost use Rattle.r6_lists.specs.Events.{tasks_of};
 ghost use Rattle.r6_runner.specs.Counted.{AreCounted, CountsAll, HasCounted, KeepsCounted};
 ghost use Rattle.r6_runner.specs.Runners.{GoesOn, GoesOnSame, IsOver, KeepsSelf, taken_by};
+ghost use Rattle.r6_runner.specs.Waits.{HasAwaited, KeepsAwaited};
 
 use crate::rest::Rest;
 use crate::runner::Runner;
@@ -31,6 +32,7 @@ impl<D: BlockDevice + Drop> Runner<D> {
         ensures pass { IsPassOf register.now self.new.shard.pass }
         ensures course { GoesOnSame D.told self.old self.new }
         ensures counted { KeepsCounted self.old self.new }
+        ensures awaited { KeepsAwaited self.old self.new }
         ensures count { taken_by self.new ≡ taken_by self.old }
         ensures room { self.new.room ≡ self.old.room }
         ensures place { self.new.shard.core.shard ≡ self.old.shard.core.shard }
@@ -48,6 +50,7 @@ impl<D: BlockDevice + Drop> Runner<D> {
         ensures pass { IsPassOf register.now self.new.shard.pass }
         ensures course { GoesOnSame D.told self.old self.new }
         ensures counted { CountsAll self.old self.new }
+        ensures awaited { KeepsAwaited self.old self.new }
         ensures count { taken_by self.new ≡ taken_by self.old }
         ensures room { self.new.room ≡ self.old.room }
         ensures place { self.new.shard.core.shard ≡ self.old.shard.core.shard }
@@ -60,6 +63,7 @@ impl<D: BlockDevice + Drop> Runner<D> {
         ensures pass { self.new.shard.pass ≡ self.old.shard.pass }
         ensures course { GoesOnSame D.told self.old self.new }
         ensures counted { KeepsCounted self.old self.new }
+        ensures awaited { KeepsAwaited self.old self.new }
         ensures count { taken_by self.new ≡ taken_by self.old }
         ensures room { self.new.room ≡ self.old.room }
         ensures place { self.new.shard.core.shard ≡ self.old.shard.core.shard }
@@ -74,6 +78,7 @@ impl<D: BlockDevice + Drop> Runner<D> {
         ensures pass { IsPassOf register.now self.new.shard.pass }
         ensures course { GoesOnSame D.told self.old self.new }
         ensures counted { KeepsCounted self.old self.new }
+        ensures awaited { KeepsAwaited self.old self.new }
         ensures count { taken_by self.new ≡ taken_by self.old }
         ensures room { self.new.room ≡ self.old.room }
         ensures place { self.new.shard.core.shard ≡ self.old.shard.core.shard }
@@ -90,6 +95,7 @@ impl<D: BlockDevice + Drop> Runner<D> {
         ensures pass { IsPassOf register.now self.new.shard.pass }
         ensures course { GoesOnSame D.told self.old self.new }
         ensures counted { KeepsCounted self.old self.new }
+        ensures awaited { KeepsAwaited self.old self.new }
         ensures count { taken_by self.new ≡ taken_by self.old }
         ensures room { self.new.room ≡ self.old.room }
         ensures place { self.new.shard.core.shard ≡ self.old.shard.core.shard }
@@ -116,6 +122,7 @@ impl<L: Events, D: BlockDevice + Drop> Taking<L, D> {
         ensures course { GoesOn D.told L.shape L.events self.old.consumer.shard self.old.consumer.numbers.items
             self.new.consumer.numbers.items self.old.runner self.new.runner }
         ensures counted { KeepsCounted self.old.runner self.new.runner }
+        ensures awaited { HasAwaited L.events self.old.runner → HasAwaited L.events self.new.runner }
         ensures same { KeepsSelf self.old.runner self.new.runner }
         ensures shard { self.new.consumer.shard ≡ self.old.consumer.shard }
         ensures open { self.new.consumer.finished ≡ false }
@@ -133,6 +140,7 @@ impl<L: Events, D: BlockDevice + Drop> Taking<L, D> {
         ensures course { GoesOn D.told L.shape L.events self.old.consumer.shard self.old.consumer.numbers.items
             self.new.consumer.numbers.items self.old.runner self.new.runner }
         ensures counted { KeepsCounted self.old.runner self.new.runner }
+        ensures awaited { HasAwaited L.events self.old.runner → HasAwaited L.events self.new.runner }
         ensures same { KeepsSelf self.old.runner self.new.runner }
         ensures shard { self.new.consumer.shard ≡ self.old.consumer.shard }
     {
@@ -148,6 +156,7 @@ impl<L: Events, D: BlockDevice + Drop> Taking<L, D> {
         ensures course { GoesOn D.told L.shape L.events self.old.consumer.shard self.old.consumer.numbers.items
             self.new.consumer.numbers.items self.old.runner self.new.runner }
         ensures counted { KeepsCounted self.old.runner self.new.runner }
+        ensures awaited { HasAwaited L.events self.old.runner → HasAwaited L.events self.new.runner }
         ensures same { KeepsSelf self.old.runner self.new.runner }
         ensures shard { self.new.consumer.shard ≡ self.old.consumer.shard }
     {
@@ -185,6 +194,7 @@ impl<L: Events, D: BlockDevice + Drop> Taking<L, D> {
         ensures course { GoesOn D.told L.shape L.events self.old.consumer.shard self.old.consumer.numbers.items
             self.new.consumer.numbers.items self.old.runner self.new.runner }
         ensures counted { KeepsCounted self.old.runner self.new.runner }
+        ensures awaited { HasAwaited L.events self.old.runner → HasAwaited L.events self.new.runner }
         ensures shard { self.new.consumer.shard ≡ self.old.consumer.shard }
         ensures place { self.new.runner.shard.core.shard ≡ self.old.runner.shard.core.shard }
         ensures over { result ≡ true → IsOver self.new.runner × (self.new.consumer.finished ≡ true) }
@@ -213,6 +223,7 @@ impl<L: Events, D: BlockDevice + Drop> Taking<L, D> {
             self.new.consumer.numbers.items self.old.runner self.new.runner }
         ensures counted { (rows : _) → HasCounted rows self.old.runner
             → AreCounted rows self.new.runner.shard.core self.new.runner.passed.items }
+        ensures awaited { HasAwaited L.events self.old.runner → HasAwaited L.events self.new.runner }
         ensures shard { self.new.consumer.shard ≡ self.old.consumer.shard }
         ensures place { self.new.runner.shard.core.shard ≡ self.old.runner.shard.core.shard }
         ensures finished { self.new.consumer.finished ≡ true }

@@ -39,7 +39,7 @@ pub struct Runner<D> {
     pub handed: Vec<Handed>,
     /// Parts that aren't the shard's, or no longer.
     pub others: Vec<Part<D>>,
-    /// How many waits stand before what was begun last.
+    /// How many waits stand before the request that was accepted last.
     pub waits: u64,
     /// How many rows a check or repair passes over.
     pub rows: u64,

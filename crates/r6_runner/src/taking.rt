@@ -3,6 +3,7 @@
 ghost use Rattle.std.specs.Prelude.{◌≡◌, ◌+◌, ◌<◌, ◌++◌, ◌∷◌, []};
 ghost use Rattle.r6_runner.specs.Counted.{KeepsCounted};
 ghost use Rattle.r6_runner.specs.Runners.{GoesOn, IsPut, IsHandedIn, KeepsSelf, taken_by};
+ghost use Rattle.r6_runner.specs.Waits.{HasAwaited};
 
 use crate::due::{Due, Duty};
 use crate::runner::{Handed, Runner};
@@ -52,6 +53,7 @@ impl<D: BlockDevice + Drop> Runner<D> {
         ensures course { (numbers : _) → GoesOn D.told L.shape L.events item.shard numbers
             (numbers ++ item.number ∷ []) self.old self.new }
         ensures counted { KeepsCounted self.old self.new }
+        ensures awaited { HasAwaited L.events self.old → HasAwaited L.events self.new }
         ensures same { KeepsSelf self.old self.new }
         ensures count { taken_by self.new ≡ taken_by self.old + 1 }
     {

@@ -1,6 +1,7 @@
 use Rattle.std.proofs.Common.{sym, subst}
 use Rattle.r6_runner.specs.Counted.{HasCounted}
 use Rattle.r6_runner.specs.Runners.{HasDone, IsOver}
+use Rattle.r6_runner.specs.Waits.{HasAwaited}
 use Rattle.r6_runner.specs.declared.runner.Runner.{Runner}
 use Rattle.r6_runner.proofs.run.Taking.go_on.Goals as goal
 
@@ -33,3 +34,11 @@ returns-then-not-go_round-clause-counted g c = λ rows x. c.go_round.ensures.cou
 pub returns-clause-counted : goal.returns-clause-counted
 returns-clause-counted g c = λ rows x.
     subst (HasCounted rows) (sym c.is_finished.ensures.runner) (c.go_round.ensures.counted rows (c.take_in.ensures.counted rows x))
+
+pub returns-then-not-go_round-clause-awaited : goal.returns-then-not-go_round-clause-awaited
+returns-then-not-go_round-clause-awaited g c = λ x. c.go_round.ensures.awaited g.L.Events.events (c.take_in.ensures.awaited x)
+
+pub returns-clause-awaited : goal.returns-clause-awaited
+returns-clause-awaited g c = λ x.
+    let events = g.L.Events.events in
+    subst (HasAwaited events) (sym c.is_finished.ensures.runner) (c.go_round.ensures.awaited events (c.take_in.ensures.awaited x))

@@ -1,5 +1,6 @@
 use Rattle.std.proofs.Common.{rules, ◌∙◌}
 use Rattle.r6_runner.proofs.Counting.{counted-at-end}
+use Rattle.r6_runner.proofs.Done.{goes-then}
 use Rattle.r6_runner.proofs.run.Taking.run.Goals as goal
 
 pub returns-then-go_on-clause-counted : goal.returns-then-go_on-clause-counted
@@ -16,9 +17,25 @@ loop-preserved g c =
       tt,
       record {
         pass = search rules;
-        course = search rules;
+        course = goes-then g.D.BlockDevice.told g.L.Events.shape g.L.Events.events c.args.self.now.consumer.shard c.loop.self.consumer.shard
+            c.args.self.now.consumer.numbers.items c.loop.self.consumer.numbers.items c.go_on.new.self.consumer.numbers.items
+            c.args.self.now.runner c.loop.self.runner c.go_on.new.self.runner before.shard before.course now.course;
         counted = λ rows x. now.counted rows (before.counted rows x);
+        awaited = λ x. now.awaited (before.awaited x);
         shard = search rules;
         place = now.place ∙ before.place;
       },
     )
+
+pub returns-then-go_on-clause-awaited : goal.returns-then-go_on-clause-awaited
+returns-then-go_on-clause-awaited g c = λ x. c.go_on.ensures.awaited (c.loop.invariant.2.awaited x)
+
+pub returns-then-go_on-clause-course : goal.returns-then-go_on-clause-course
+returns-then-go_on-clause-course g c =
+    let before = c.loop.invariant.2 in
+    goes-then g.D.BlockDevice.told g.L.Events.shape g.L.Events.events c.args.self.now.consumer.shard c.loop.self.consumer.shard
+    c.args.self.now.consumer.numbers.items c.loop.self.consumer.numbers.items c.go_on.new.self.consumer.numbers.items
+    c.args.self.now.runner c.loop.self.runner c.go_on.new.self.runner before.shard before.course c.go_on.ensures.course
+
+pub returns-then-go_on-clause-over : goal.returns-then-go_on-clause-over
+returns-then-go_on-clause-over g c = (c.go_on.ensures.over c.if-go_on.true).0

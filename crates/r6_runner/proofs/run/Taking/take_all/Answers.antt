@@ -1,5 +1,8 @@
 use Rattle.std.proofs.Common.{rules, sym, subst}
 use Rattle.r6_runner.specs.Counted.{HasCounted}
+use Rattle.r6_runner.specs.Runners.{HasDone}
+use Rattle.r6_runner.specs.Waits.{HasAwaited}
+use Rattle.r6_runner.proofs.Done.{goes-then}
 use Rattle.r6_runner.proofs.run.Taking.take_all.Goals as goal
 use Rattle.r6_runner.proofs.run.Taking.take_all.Goals.{in-None, in-Some+then-not-take_one}
 
@@ -11,6 +14,35 @@ returns-clause-counted g c = λ rows x.
       | in-Some+then-not-take_one w ↦ subst (λ s. HasCounted rows s.runner) (sym w.self-is) (w.take_one.ensures.counted rows before)
     ]
 
+pub returns-clause-course : goal.returns-clause-course
+returns-clause-course g c = λ geometry snapshot before x.
+    let told = g.D.BlockDevice.told in
+    let shape = g.L.Events.shape in
+    let events = g.L.Events.events in
+    let old = c.args.self.now in
+    let mid = c.loop.self in
+    let at = c.loop.invariant.2 in
+    let number = old.consumer.shard in
+    elim c.match-next.branch [
+      | in-None w ↦
+          subst (λ s. HasDone told shape events geometry number snapshot before s.consumer.numbers.items s.runner) (sym w.self-is)
+          (at.course geometry snapshot before x)
+      | in-Some+then-not-take_one w ↦
+          subst (λ s. HasDone told shape events geometry number snapshot before s.consumer.numbers.items s.runner) (sym w.self-is)
+          (goes-then told shape events number mid.consumer.shard old.consumer.numbers.items mid.consumer.numbers.items
+          w.take_one.new.self.consumer.numbers.items old.runner mid.runner w.take_one.new.self.runner at.shard at.course
+          w.take_one.ensures.course geometry snapshot before x)
+    ]
+
+pub returns-clause-awaited : goal.returns-clause-awaited
+returns-clause-awaited g c = λ x.
+    let events = g.L.Events.events in
+    let before = c.loop.invariant.2.awaited x in
+    elim c.match-next.branch [
+      | in-None w ↦ subst (λ s. HasAwaited events s.runner) (sym w.self-is) before
+      | in-Some+then-not-take_one w ↦ subst (λ s. HasAwaited events s.runner) (sym w.self-is) (w.take_one.ensures.awaited before)
+    ]
+
 pub loop-preserved : goal.loop-preserved
 loop-preserved g c =
     let before = c.loop.invariant.2 in
@@ -20,6 +52,7 @@ loop-preserved g c =
       record {
         course = search rules;
         counted = λ rows x. now.counted rows (before.counted rows x);
+        awaited = λ x. now.awaited (before.awaited x);
         same = search rules;
         shard = search rules;
         open_yet = search rules;

@@ -1,7 +1,8 @@
-use Rattle.std.proofs.Common.{◌≡◌, ℕ, ◌+◌, ◌≤◌, ◌∷◌, [], length, ap, ◌∙◌, arith}
+use Rattle.std.proofs.Common.{◌≡◌, ℕ, ◌+◌, ◌≤◌, ◌∷◌, [], length, ap, sym, subst, ◌++◌, ◌∙◌, arith}
 use Rattle.std.proofs.lemmas.List.{length-append}
 use Rattle.r6_lists.specs.Events.{tasks_of}
 use Rattle.r6_lists.proofs.Tasks.{all_taken}
+use Rattle.r6_runner.specs.Runners.{HasDone}
 use Rattle.r6_runner.proofs.run.Taking.take_one.Goals as goal
 
 pub take_up-requires : goal.take_up-requires
@@ -15,3 +16,17 @@ take_up-requires g c =
     let same : length (tasks_of g.L.Events.shape new.shard g.L.Events.events) ≡ length (tasks_of g.L.Events.shape old.consumer.shard g.L.Events.events) =
     ap (λ (s : ℕ). length (tasks_of g.L.Events.shape s g.L.Events.events)) c.take.ensures.consumer.0 in
     omega (arith, most, more, same, old.counted, old.room)
+
+pub returns-clause-course : goal.returns-clause-course
+returns-clause-course g c = λ geometry snapshot before x.
+    let told = g.D.BlockDevice.told in
+    let shape = g.L.Events.shape in
+    let events = g.L.Events.events in
+    let old = c.args.self.now in
+    let item = c.in-Some.item in
+    let numbers = old.consumer.numbers.items in
+    let new = c.take_up.new.self in
+    let done = c.take_up.ensures.course numbers geometry snapshot before
+    (subst (λ (n : ℕ). HasDone told shape events geometry n snapshot before numbers old.runner) (sym c.in-Some.ensures.of_shard) x) in
+    subst (λ ns. HasDone told shape events geometry old.consumer.shard snapshot before ns new) (sym c.in-Some.ensures.kept)
+    (subst (λ (n : ℕ). HasDone told shape events geometry n snapshot before (numbers ++ item.number ∷ []) new) c.in-Some.ensures.of_shard done)

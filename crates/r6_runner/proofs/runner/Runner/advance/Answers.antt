@@ -1,5 +1,9 @@
 use Rattle.r6_runner.proofs.runner.Runner.advance.Goals as goal
 
+pub returns-clause-awaited : goal.returns-clause-awaited
+returns-clause-awaited g c = λ events x.
+    c.rebuild.ensures.awaited events (c.go_on.ensures.awaited events (c.begin_all.ensures.awaited events (c.round.ensures.awaited events x)))
+
 pub returns-clause-counted : goal.returns-clause-counted
 returns-clause-counted g c = λ rows x.
     c.rebuild.ensures.counted rows (c.go_on.ensures.counted rows (c.begin_all.ensures.counted rows (c.round.ensures.counted rows x)))

@@ -1,5 +1,6 @@
 use Rattle.std.proofs.Common.{sym, subst, ◌∙◌}
 use Rattle.r6_runner.specs.Counted.{HasCountedAll}
+use Rattle.r6_runner.specs.Waits.{HasAwaited}
 use Rattle.r6_runner.proofs.Done.{self-on}
 use Rattle.r6_runner.proofs.runner.Runner.begin_all.Goals as goal
 use Rattle.r6_runner.proofs.runner.Runner.begin_all.Goals.{in-None, in-Some+then-not-begin_next}
@@ -10,6 +11,14 @@ returns-clause-counted g c = λ rows x.
     elim c.match-next.branch [
       | in-None w ↦ subst (HasCountedAll rows) (sym w.self-is) before
       | in-Some+then-not-begin_next w ↦ subst (HasCountedAll rows) (sym w.self-is) (w.begin_next.ensures.counted rows before)
+    ]
+
+pub returns-clause-awaited : goal.returns-clause-awaited
+returns-clause-awaited g c = λ events x.
+    let before = c.loop.invariant.2.awaited events x in
+    elim c.match-next.branch [
+      | in-None w ↦ subst (HasAwaited events) (sym w.self-is) before
+      | in-Some+then-not-begin_next w ↦ subst (HasAwaited events) (sym w.self-is) (w.begin_next.ensures.awaited events before)
     ]
 
 pub loop-preserved : goal.loop-preserved
@@ -23,6 +32,7 @@ loop-preserved g c =
             now.course shape events number numbers geometry snapshot earlier
             (before.course shape events number numbers geometry snapshot earlier x);
         counted = λ rows x. now.counted rows (before.counted rows x);
+        awaited = λ events x. now.awaited events (before.awaited events x);
         same = self-on c.args.self.now c.loop.self c.begin_next.new.self before.same now.same;
         count = now.count ∙ before.count;
       },

@@ -1,5 +1,6 @@
 use Rattle.std.proofs.Common.{ap, ◌∙◌}
 use Rattle.r6_core.specs.Shards.{counts_of}
+use Rattle.r6_runner.proofs.Awaiting.{alike}
 use Rattle.r6_runner.proofs.Counting.{over-counted, turned-counted}
 use Rattle.r6_runner.proofs.Done.{gone-passing}
 use Rattle.r6_runner.proofs.runner.Runner.go_on.Goals as goal
@@ -24,3 +25,10 @@ returns-else-is_over-clause-counted g c =
     let kept = c.turn-turned.ensures.course.kept in
     turned-counted old.rows new.rows old.shard.core new.shard.core old.passing old.passed.items new.passed.items c.in-Some.passing
     c.turn-turned.result c.in-Some.is kept.rows kept.passed c.turn-turned.ensures.counted
+
+pub returns-else-is_over-clause-awaited : goal.returns-else-is_over-clause-awaited
+returns-else-is_over-clause-awaited g c = λ events x.
+    let old = c.args.self.now in
+    let new = c.turn-turned.new.self in
+    let h = c.turn-turned.ensures.course in
+    alike events old.waits new.waits old.shard.asked.items new.shard.asked.items old.due.items new.due.items h.waits h.asked h.kept.due x

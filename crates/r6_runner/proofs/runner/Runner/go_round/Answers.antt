@@ -7,3 +7,6 @@ returns-clause-course g c = λ shape events number numbers geometry snapshot bef
 
 pub returns-clause-counted : goal.returns-clause-counted
 returns-clause-counted g c = λ rows x. c.rests.ensures.counted rows (c.advance.ensures.counted rows x)
+
+pub returns-clause-awaited : goal.returns-clause-awaited
+returns-clause-awaited g c = λ events x. c.rests.ensures.awaited events (c.advance.ensures.awaited events x)

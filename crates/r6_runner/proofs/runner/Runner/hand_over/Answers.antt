@@ -1,7 +1,42 @@
+use Rattle.std.proofs.Common.{inr, refl, length, ap}
+use Rattle.r6_world.specs.PlainArray.{block_of}
+use Rattle.r6_frames.specs.Views.{op_of}
+use Rattle.r6_shard.specs.declared.ledger.Asked.{Asked}
+use Rattle.r6_shard.specs.declared.shard.Shard.{Shard}
+use Rattle.r6_shard.proofs.Lasting.{refused-so}
+use Rattle.r6_runner.proofs.Awaiting.{accepted, alike}
 use Rattle.r6_runner.proofs.Counting.{stays-counted}
 use Rattle.r6_runner.proofs.runner.Runner.hand_over.Goals as goal
 
-pub returns-in_default-clause-counted : goal.returns-in_default-clause-counted
-returns-in_default-clause-counted g c =
+pub returns-in-Ok-clause-counted : goal.returns-in-Ok-clause-counted
+returns-in-Ok-clause-counted g c =
     let old = c.args.self.now in
     stays-counted old.rows old.shard.core c.submit.new.self.core old.passing old.passed.items c.submit.ensures.passed c.submit.ensures.lasts
+
+pub returns-in-Ok-clause-awaited : goal.returns-in-Ok-clause-awaited
+returns-in-Ok-clause-awaited g c = λ events known x.
+    let old = c.args.self.now in
+    let asked = old.shard.asked.items in
+    let replies = length old.shard.entries.items in
+    let a : Asked = record { event = c.args.event; block = block_of (op_of c.args.op); answered = replies } in
+    alike events c.args.waits c.args.waits _ c.submit.new.self.asked.items old.due.items old.due.items refl c.in-Ok.ensures.accepted.asked refl
+    (accepted events old.waits c.args.waits replies asked a old.due.items known refl c.requires.follows x)
+
+pub returns-in-Err-clause-awaited : goal.returns-in-Err-clause-awaited
+returns-in-Err-clause-awaited g c = λ events known x.
+    let old = c.args.self.now in
+    alike events old.waits old.waits old.shard.asked.items c.submit.new.self.asked.items old.due.items old.due.items refl
+    (ap (λ (y : Shard _). y.asked.items) c.in-Err.ensures.same) refl x
+
+pub returns-in-Err-clause-served : goal.returns-in-Err-clause-served
+returns-in-Err-clause-served g c =
+    let refusal = c.in-Err.refused.refusal in
+    record {
+      kept = record { due = refl; passing = refl; passed = refl; handed = refl; room = refl; rows = refl };
+      outcome = inr (
+        refusal,
+        c.in-Err.ensures.same,
+        refused-so c.args.self.now.shard.core c.args.op refusal c.requires.few c.in-Err.ensures.refused.fault,
+        c.push_reserved.ensures.items,
+      );
+    }

@@ -1,5 +1,6 @@
 use Rattle.std.proofs.Common.{[], None, refl}
 use Rattle.r6_shard.specs.Handing.{parts_tell}
+use Rattle.r6_runner.proofs.Awaiting.{none}
 use Rattle.r6_runner.proofs.Done.{is-first, is-like}
 use Rattle.r6_runner.proofs.runner.Runner.new.Goals as goal
 
@@ -12,4 +13,8 @@ returns-clause-begins g c = λ shape events.
     [] c.in_ok-passed.passed.items [] c.in_ok-handed.handed.items [] c.in_ok-due.due.items refl c.in_ok-refused.ensures.items refl
     c.in_ok-passed.ensures.items c.in_ok-handed.ensures.items c.in_ok-due.ensures.items
     (is-first told shape events p.geometry p.number c.args.snapshot.now c.args.parts shard c.in_ok-shard.ensures.parts c.in_ok-shard.ensures.empty
-    c.in_ok-shard.ensures.begins)
+    c.in_ok-shard.ensures.shape c.in_ok-shard.ensures.place c.in_ok-shard.ensures.begins)
+
+pub returns-clause-awaited : goal.returns-clause-awaited
+returns-clause-awaited g c = λ events.
+    none events 0 c.in_ok-shard.shard.asked.items c.in_ok-due.due.items c.in_ok-shard.ensures.empty c.in_ok-due.ensures.items

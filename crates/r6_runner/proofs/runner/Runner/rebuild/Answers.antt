@@ -1,3 +1,5 @@
+use Rattle.std.proofs.Common.{refl}
+use Rattle.r6_runner.proofs.Awaiting.{alike}
 use Rattle.r6_runner.proofs.Done.{has-gone}
 use Rattle.r6_core.specs.declared.turn.Task.TheVariants as task
 use Rattle.r6_core.specs.Effects.{RefusesTurn}
@@ -11,7 +13,7 @@ pub returns-clause-course : goal.returns-clause-course
 returns-clause-course g c = λ shape events number numbers geometry snapshot before x.
     let old = c.args.self.now in
     has-gone g.D.BlockDevice.told shape events geometry number snapshot before numbers old.shard c.turn.new.self old.refused.items old.passing
-    old.passed.items old.handed.items old.due.items c.turn.ensures.course c.turn.ensures.ledger.asked x
+    old.passed.items old.handed.items old.due.items c.turn.ensures.course c.turn.ensures.lasts c.turn.ensures.ledger.asked x
 
 pub returns-clause-counted : goal.returns-clause-counted
 returns-clause-counted g c =
@@ -23,3 +25,8 @@ returns-clause-counted g c =
     (HasPassedRows stopped counted rows new) c.turn.ensures.passed c.turn.ensures.refused
     (λ _ more. none-more old new more stopped counted rows x) (λ refusal refused. passes-same old new refused.same stopped counted rows x))
     c.turn.ensures.lasts
+
+pub returns-clause-awaited : goal.returns-clause-awaited
+returns-clause-awaited g c = λ events x.
+    let old = c.args.self.now in
+    alike events old.waits old.waits old.shard.asked.items c.turn.new.self.asked.items old.due.items old.due.items refl c.turn.ensures.ledger.asked refl x

@@ -1,3 +1,5 @@
+use Rattle.std.proofs.Common.{refl}
+use Rattle.r6_runner.proofs.Awaiting.{alike}
 use Rattle.r6_runner.proofs.Done.{has-gone}
 use Rattle.r6_runner.proofs.Counting.{keeps-counted}
 use Rattle.r6_runner.proofs.runner.Runner.rests.Goals as goal
@@ -6,9 +8,14 @@ pub returns-clause-course : goal.returns-clause-course
 returns-clause-course g c = λ shape events number numbers geometry snapshot before x.
     let old = c.args.self.now in
     has-gone g.D.BlockDevice.told shape events geometry number snapshot before numbers old.shard c.rests.new.self old.refused.items old.passing
-    old.passed.items old.handed.items old.due.items c.rests.ensures.course c.rests.ensures.ledger.asked x
+    old.passed.items old.handed.items old.due.items c.rests.ensures.course c.rests.ensures.lasts c.rests.ensures.ledger.asked x
 
 pub returns-clause-counted : goal.returns-clause-counted
 returns-clause-counted g c =
     let old = c.args.self.now in
     keeps-counted old.rows old.shard.core c.rests.new.self.core old.passing old.passed.items c.rests.ensures.passed c.rests.ensures.lasts
+
+pub returns-clause-awaited : goal.returns-clause-awaited
+returns-clause-awaited g c = λ events x.
+    let old = c.args.self.now in
+    alike events old.waits old.waits old.shard.asked.items c.rests.new.self.asked.items old.due.items old.due.items refl c.rests.ensures.ledger.asked refl x

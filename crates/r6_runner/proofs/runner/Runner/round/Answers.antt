@@ -1,3 +1,5 @@
+use Rattle.std.proofs.Common.{refl}
+use Rattle.r6_runner.proofs.Awaiting.{alike}
 use Rattle.r6_runner.proofs.Done.{has-gone}
 use Rattle.r6_runner.proofs.Counting.{counts-all}
 use Rattle.r6_runner.proofs.runner.Runner.round.Goals as goal
@@ -6,10 +8,16 @@ pub returns-clause-course : goal.returns-clause-course
 returns-clause-course g c = λ shape events number numbers geometry snapshot before x.
     let old = c.args.self.now in
     has-gone g.D.BlockDevice.told shape events geometry number snapshot before numbers old.shard c.round_when_here.new.self old.refused.items old.passing
-    old.passed.items old.handed.items old.due.items c.round_when_here.ensures.course c.round_when_here.ensures.asked x
+    old.passed.items old.handed.items old.due.items c.round_when_here.ensures.course c.round_when_here.ensures.lasts
+    c.round_when_here.ensures.asked x
 
 pub returns-clause-counted : goal.returns-clause-counted
 returns-clause-counted g c =
     let old = c.args.self.now in
     counts-all old.rows old.shard.core c.round_when_here.new.self.core old.passing old.passed.items c.round_when_here.ensures.passed
     c.round_when_here.ensures.lasts
+
+pub returns-clause-awaited : goal.returns-clause-awaited
+returns-clause-awaited g c = λ events x.
+    let old = c.args.self.now in
+    alike events old.waits old.waits old.shard.asked.items c.round_when_here.new.self.asked.items old.due.items old.due.items refl c.round_when_here.ensures.asked refl x

@@ -1,5 +1,6 @@
 use Rattle.std.proofs.Common.{refl}
 use Rattle.r6_shard.specs.Handing.{parts_tell}
+use Rattle.r6_shard.proofs.Lasting.{lasts_same}
 use Rattle.r6_runner.proofs.Done.{has-gone}
 use Rattle.r6_runner.proofs.Keeping.{shard-keeps, rests-still}
 use Rattle.r6_runner.proofs.runner.Runner.split_pass.Goals as goal
@@ -14,7 +15,7 @@ returns-clause-kept g c =
       shard = kept;
       course = λ shape events number numbers geometry snapshot before x.
           has-gone told shape events geometry number snapshot before numbers old.shard new old.refused.items old.passing old.passed.items
-          old.handed.items old.due.items (shard-keeps (parts_tell told) old.shard new kept) kept.asked x;
+          old.handed.items old.due.items (shard-keeps (parts_tell told) old.shard new kept) (lasts_same old.shard.core new.core kept.core) kept.asked x;
       due = refl;
       refused = refl;
       passing = refl;

@@ -1,8 +1,9 @@
 use Rattle.std.proofs.Common.{◌∙◌, Some, refl, ap}
 use Rattle.r6_lists.specs.Events.{Serves, Checks, Repairs, task}
 use Rattle.r6_lists.specs.Lists.{duty_in}
-use Rattle.r6_world.specs.PlainArray as plain
+use Rattle.r6_frames.specs.declared.op.Op.TheVariants as op
 use Rattle.r6_shard.specs.declared.parts.Part.{Part}
+use Rattle.r6_runner.proofs.Awaiting.{put-awaited, handed-awaited}
 use Rattle.r6_runner.proofs.Done.{put-on, handed-on}
 use Rattle.r6_runner.proofs.runner.Runner.take_up.Goals as goal
 
@@ -10,7 +11,7 @@ pub returns-in-Read-clause-course : goal.returns-in-Read-clause-course
 returns-in-Read-clause-course g c = λ numbers geometry snapshot before x.
     let i = c.args.item in
     put-on g.D.BlockDevice.told g.L.Events.shape g.L.Events.events geometry i.shard snapshot before numbers c.args.self.now c.put.new.self _
-    i.number i.waits (Serves (plain.Read c.in-Read.block))
+    i.number i.waits (Serves (op.Read c.in-Read.block c.in-Read.buffer))
     (i.of_event ∙ ap (λ w. Some (task i.number i.waits (duty_in g.D.BlockDevice.told w))) c.in-Read.is)
     refl refl refl c.put.ensures x
 
@@ -18,7 +19,7 @@ pub returns-in-Write-clause-course : goal.returns-in-Write-clause-course
 returns-in-Write-clause-course g c = λ numbers geometry snapshot before x.
     let i = c.args.item in
     put-on g.D.BlockDevice.told g.L.Events.shape g.L.Events.events geometry i.shard snapshot before numbers c.args.self.now c.put-in-Write.new.self _
-    i.number i.waits (Serves (plain.Write c.in-Write.block c.in-Write.buffer))
+    i.number i.waits (Serves (op.Write c.in-Write.block c.in-Write.buffer))
     (i.of_event ∙ ap (λ w. Some (task i.number i.waits (duty_in g.D.BlockDevice.told w))) c.in-Write.is)
     refl refl refl c.put-in-Write.ensures x
 
@@ -46,3 +47,28 @@ returns-in-Repair-clause-course g c = λ numbers geometry snapshot before x.
     i.number i.waits Repairs
     (i.of_event ∙ ap (λ w. Some (task i.number i.waits (duty_in g.D.BlockDevice.told w))) c.in-Repair.is)
     refl refl refl c.put-in-Repair.ensures x
+
+pub returns-in-Read-clause-awaited : goal.returns-in-Read-clause-awaited
+returns-in-Read-clause-awaited g c =
+    let i = c.args.item in
+    put-awaited g.L.Events.shape i.shard g.L.Events.events c.args.self.now c.put.new.self _ i.number i.waits _ i.of_event refl refl c.put.ensures
+
+pub returns-in-Write-clause-awaited : goal.returns-in-Write-clause-awaited
+returns-in-Write-clause-awaited g c =
+    let i = c.args.item in
+    put-awaited g.L.Events.shape i.shard g.L.Events.events c.args.self.now c.put-in-Write.new.self _ i.number i.waits _ i.of_event refl refl c.put-in-Write.ensures
+
+pub returns-in-Check-clause-awaited : goal.returns-in-Check-clause-awaited
+returns-in-Check-clause-awaited g c =
+    let i = c.args.item in
+    put-awaited g.L.Events.shape i.shard g.L.Events.events c.args.self.now c.put-in-Check.new.self _ i.number i.waits _ i.of_event refl refl c.put-in-Check.ensures
+
+pub returns-in-Repair-clause-awaited : goal.returns-in-Repair-clause-awaited
+returns-in-Repair-clause-awaited g c =
+    let i = c.args.item in
+    put-awaited g.L.Events.shape i.shard g.L.Events.events c.args.self.now c.put-in-Repair.new.self _ i.number i.waits _ i.of_event refl refl c.put-in-Repair.ensures
+
+pub returns-in-Attach-clause-awaited : goal.returns-in-Attach-clause-awaited
+returns-in-Attach-clause-awaited g c =
+    let part : Part _ = record { slot = c.in-Attach.slot; generation = c.in-Attach.generation; device = c.in-Attach.device } in
+    handed-awaited g.D.BlockDevice.told g.L.Events.events c.args.self.now c.hand_in.new.self c.args.item.number part c.hand_in.ensures
