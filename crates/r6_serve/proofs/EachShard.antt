@@ -1,6 +1,6 @@
 -- What the threads of an array's shards did, shard by shard (this project's own).
 use Rattle.std.proofs.Common.{◌≡◌, ◌∙◌, ℕ, List, [], ◌∷◌, ◌++◌, ◌<◌, length, map, All, Bool, Some, None, zero, suc, ap, sym, subst, slice_get, slice_index_or, refl}
-use Rattle.std.specs.List.{AllZip}
+use Rattle.std.specs.List.{AllByRecursion, AllZip}
 use Rattle.std.proofs.lemmas.List.{append-nil, length-map}
 use Rattle.std.proofs.lemmas.Option.{none-some, get_or_from_slice_get, slice_get_within, slice_get-get_or}
 use Rattle.r6_dev.specs.History.{Telling}
@@ -10,15 +10,19 @@ use Rattle.r6_lists.specs.Events.{Event, tasks_of, numbers_of}
 use Rattle.r6_shard.specs.declared.parts.Parts.{Parts}
 use Rattle.r6_shard.specs.Handing.{parts_tell}
 use Rattle.r6_runner.specs.declared.runner.Runner.{Runner}
-use Rattle.r6_runner.specs.Tasks.{passes_in, passed_of, under_way, due_passes}
+use Rattle.r6_runner.specs.Tasks.{passes_in, passed_of, under_way, due_passes, requests_in, due_requests}
 use Rattle.r6_runner.specs.Counted.{AreCounted, rows_of_shard}
 use Rattle.r6_runner.specs.Runners.{HasDone, IsOver}
+use Rattle.r6_runner.specs.Waits.{AreBehindWaits, HasAwaited}
 use Rattle.r6_health.specs.declared.history.View.{View}
 use Rattle.r6_health.specs.Views.{Looks}
 use Rattle.r6_feed.specs.declared.answer.EventAnswer.{EventAnswer}
 use Rattle.r6_feed.specs.Feeds.{Sees}
 use Rattle.r6_serve.specs.Passes.{TakesBack}
 use Rattle.r6_serve.specs.Serves.{AreNumbered, Begins, HasAnswered, HasRun, HasServed, HaveServed}
+use Rattle.r6_serve.specs.Refusals.{HadReasons, WereRight}
+use Rattle.r6_serve.proofs.InOrder.{are-behind}
+use Rattle.r6_serve.proofs.Reasons.{IsOf, each-of, reasons}
 use Rattle.r6_serve.proofs.Rows.{count-each-row}
 
 some_same : {A : Type 0} (x y : A) → Some x ≡ Some y → x ≡ y
@@ -63,6 +67,27 @@ numbered_still R number same olds news all before k d below =
     let partner = partner_at R olds news k (slice_index_or news k d) all at in
     same partner.0 (slice_index_or news k d) partner.2 ∙ number_at number olds k partner.0 partner.1 before
 
+-- what it refused had a reason, what it accepted had none, and was handed in behind the waits
+record IsRight {D : Type 0} (shape : Shape) (events : List Event) (r : Runner D) : Type 0 where
+  refused : HadReasons shape.block events r.shard.core r.refused.items
+  right : WereRight shape.block events r.shard.asked.items
+  behind : AreBehindWaits events r.shard.asked.items
+
+is_right : {D : Type 0} (told : D → Telling) (shape : Shape) (events : List Event) (start : Snapshot) (own : Parts D) (shard : ℕ) (r : Runner D)
+    → HasDone told shape events shape shard start (parts_tell told own) (numbers_of (tasks_of shape shard events)) r → IsOver r
+    → HasAwaited events r → IsRight shape events r
+is_right told shape events start own shard r done over awaited =
+    let numbers = numbers_of (tasks_of shape shard events) in
+    let begun : done.begun ≡ requests_in shape shard events numbers =
+    sym (done.requests ∙ ap (λ due. done.begun ++ due_requests due) over.none_due ∙ append-nil done.begun) in
+    let why = reasons shape shard events r.shard.core done.begun r.shard.asked.items done.ops r.refused.items done.shape_is done.place
+    (subst (AllByRecursion (IsOf shape shard events)) (sym begun) (each-of shape shard events numbers)) done.served in
+    record {
+      refused = why.0;
+      right = why.1;
+      behind = are-behind shape shard events r.shard.core done.begun r.shard.asked.items done.ops r.refused.items begun done.served awaited.behind;
+    }
+
 -- each shard's thread began with its parts, ran, and took all of the shard's tasks
 each_served : {D T : Type 0} (told : D → Telling) (shape : Shape) (events : List Event) (start : Snapshot)
     (number : T → ℕ) (numbers : T → List ℕ) (finished : T → Bool) (runner : T → Runner D)
@@ -86,8 +111,13 @@ each_served told shape events start number numbers finished runner parts olds ne
     let all = subst (λ ns. HasDone told shape events shape shard start (parts_tell told own) ns (runner new.0)) (taken shard new.0 new.1) here in
     let counted = subst (λ n. AreCounted (rows_of_shard shape n) (runner new.0).shard.core (runner new.0).passed.items) there
     (old.2.counted (rows_of_shard shape (number old.0)) first.2.counted) in
+    let right = subst (IsRight shape events) new.2
+    (is_right told shape events start own shard (runner new.0) all old.2.over (old.2.awaited first.2.awaited)) in
     record {
       done = subst (HasDone told shape events shape shard start (parts_tell told own) (numbers_of (tasks_of shape shard events))) new.2 all;
+      refused = right.refused;
+      right = right.right;
+      behind = right.behind;
       counted = subst (λ (r : Runner _). AreCounted (rows_of_shard shape shard) r.shard.core r.passed.items) new.2 counted;
       over = subst IsOver new.2 old.2.over;
     }

@@ -15,7 +15,9 @@ use Rattle.r6_shard.specs.Handing.{parts_tell}
 use Rattle.r6_runner.specs.declared.runner.Runner.{Runner}
 use Rattle.r6_runner.specs.Counted.{AreCounted, rows_of_shard}
 use Rattle.r6_runner.specs.Splitting.{KeepsAll}
+use Rattle.r6_runner.specs.Waits.{AreBehindWaits}
 use Rattle.r6_serve.specs.Counted.{MayGoOn, rows_for}
+use Rattle.r6_serve.specs.Refusals.{HadReasons, WereRight}
 use Rattle.r6_serve.specs.Serves.{HasServed, HaveServed}
 use Rattle.r6_serve.proofs.EachShard.{partner_at, zip-length}
 
@@ -24,6 +26,10 @@ has_still : {D : Type 0} (told : D → Telling) (shape : Shape) (events : List E
     → HasServed told shape events start parts shard new
 has_still told shape events start parts shard old new kept x = record {
   done = kept.course shape events shard (numbers_of (tasks_of shape shard events)) shape start (parts_tell told parts) x.done;
+  refused = subst (λ (y : CoreView). HadReasons shape.block events y new.refused.items) (sym kept.shard.core)
+      (subst (HadReasons shape.block events old.shard.core) (sym kept.refused) x.refused);
+  right = subst (WereRight shape.block events) (sym kept.shard.asked) x.right;
+  behind = subst (AreBehindWaits events) (sym kept.shard.asked) x.behind;
   counted = subst (λ (y : CoreView). AreCounted (rows_of_shard shape shard) y new.passed.items) (sym kept.shard.core)
       (subst (AreCounted (rows_of_shard shape shard) old.shard.core) (sym kept.passed) x.counted);
   over = kept.over x.over;

@@ -3,3 +3,5 @@ mod Kept
 mod Numbers
 mod Passes
 mod Rows
+mod Reasons
+mod InOrder

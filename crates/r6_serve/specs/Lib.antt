@@ -1,3 +1,4 @@
 pub mod Counted
+pub mod Refusals
 pub mod Serves
 pub mod Passes

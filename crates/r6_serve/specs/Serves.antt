@@ -12,7 +12,9 @@ use Rattle.r6_feed.specs.Feeds.{asked_before, asked_in, calls_of, is_unsettled, 
 use Rattle.r6_runner.specs.declared.runner.Runner.{Runner}
 use Rattle.r6_runner.specs.Counted.{AreCounted, HasCounted, rows_of_shard}
 use Rattle.r6_runner.specs.Runners.{GoesOn, HasDone, IsOver}
+use Rattle.r6_runner.specs.Waits.{AreBehindWaits, HasAwaited}
 use Rattle.r6_serve.specs.Counted.{CountEachRow}
+use Rattle.r6_serve.specs.Refusals.{HadReasons, WereRight}
 
 -- the thread of a shard took what its list had until that was finished, and did it
 pub record HasRun {D : Type 0} (told : D → Telling) (shape : Shape) (events : List Event)
@@ -22,6 +24,7 @@ pub record HasRun {D : Type 0} (told : D → Telling) (shape : Shape) (events : 
   pub place : new.shard.core.shard ≡ old.shard.core.shard
   pub course : GoesOn told shape events shard numbers numbers' old new
   pub counted : (rows : ℕ) → HasCounted rows old → AreCounted rows new.shard.core new.passed.items
+  pub awaited : HasAwaited events old → HasAwaited events new
   pub all_taken : finished ≡ true
   pub over : IsOver new
 
@@ -32,16 +35,21 @@ pub record Begins {D : Type 0} (told : D → Telling) (shape : Shape) (events : 
   pub place : runner.shard.core.shard ≡ shard
   pub done : HasDone told shape events shape shard start (parts_tell told parts) [] runner
   pub counted : HasCounted (rows_of_shard shape shard) runner
+  pub awaited : HasAwaited events runner
 
 -- the numbers of the shards, from 0 on
 abbrev pub AreNumbered : {T : Type 0} → (T → ℕ) → List T → Type 0
 AreNumbered {T} number threads = (k : ℕ) (d : T) → k < length threads → number (slice_index_or threads k d) ≡ k
 
--- a shard was handed all of its part of these events, in their order, and nothing of it is left to do
+-- a shard was handed all of its part of these events, in their order, and nothing of it is left to do; it refused
+-- requests for these reasons alone, and those that it accepted were handed in behind the waits
 pub record HasServed {D : Type 0} (told : D → Telling) (shape : Shape) (events : List Event) (start : Snapshot)
     (parts : Parts D) (shard : ℕ) (runner : Runner D) : Type 0 where
   pub done : HasDone told shape events shape shard start (parts_tell told parts)
       (numbers_of (tasks_of shape shard events)) runner
+  pub refused : HadReasons shape.block events runner.shard.core runner.refused.items
+  pub right : WereRight shape.block events runner.shard.asked.items
+  pub behind : AreBehindWaits events runner.shard.asked.items
   pub counted : AreCounted (rows_of_shard shape shard) runner.shard.core runner.passed.items
   pub over : IsOver runner
 

@@ -3,6 +3,7 @@ use Rattle.r6_shard.specs.Parts.{part_in}
 use Rattle.r6_shard.specs.Handing.{parts_tell}
 use Rattle.r6_runner.specs.Counted.{HasCounted, rows_of_shard}
 use Rattle.r6_runner.specs.Runners.{HasDone}
+use Rattle.r6_runner.specs.Waits.{HasAwaited}
 use Rattle.r6_serve.proofs.making.taking_of.Goals as goal
 
 pub returns-clause-begins : goal.returns-clause-begins
@@ -26,4 +27,5 @@ returns-clause-begins g c =
           (subst (λ s. HasCounted (rows_of_shard s c.new-2.result.consumer.shard) c.in_ok-runner.runner) c.requires.shape
           (subst (λ n. HasCounted (rows_of_shard c.args.place.geometry n) c.in_ok-runner.runner) (search rules)
           c.in_ok-runner.ensures.counted));
+      awaited = subst (HasAwaited events) (sym c.new-2.ensures.0) (c.in_ok-runner.ensures.awaited events);
     }
