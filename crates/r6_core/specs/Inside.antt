@@ -1,5 +1,5 @@
 -- What is true of a state between calls, and what internal calls do. No public clause needs it.
-use Rattle.std.specs.Prelude.{◌≡◌, ◌≢◌, ℕ, ◌+◌, ◌*◌, ◌<◌, ◌≤◌, nat_eq, not, ◌⊎◌, Bool, true, false, List, [], ◌∷◌, ◌++◌, length, map, if◌then◌else◌, option_map, IsPermutation, Option, Some, None, Result, Ok, Err}
+use Rattle.std.specs.Prelude.{◌≡◌, ◌≢◌, ℕ, ◌+◌, ◌*◌, ◌<◌, ◌≤◌, nat_eq, not, ◌⊎◌, Bool, true, false, List, [], ◌∷◌, ◌++◌, length, map, take, drop, if◌then◌else◌, option_map, IsPermutation, Option, Some, None, Result, Ok, Err}
 use Rattle.std.specs.List.{AllByRecursion, IsDistinct}
 use Rattle.std.specs.Map.{keys_of}
 use Rattle.r6_stripe.specs.Plans.{is_in_sync}
@@ -54,7 +54,7 @@ use Rattle.r6_frames.specs.Sound as held
 use Rattle.r6_core.specs.Shards.{CoreView, SameShard, buffer_in, core_of, layout_in, requests_of, state_of, turn_row, waiting_of}
 use Rattle.r6_world.specs.ShardStates.{limit}
 use Rattle.r6_core.specs.Refusals.{most_unanswered, HasCompletionFault}
-use Rattle.r6_core.specs.Order.{Starts, HaveTurns, KeepsReplies, ReadAgainBy, WereRead, reply_to}
+use Rattle.r6_core.specs.Order.{AreOfOneRow, IsRising, Starts, HaveTurns, KeepsReplies, ReadAgainBy, WereRead, reply_to}
 use Rattle.r6_waiters.specs.Line.{capacity_of}
 
 -- ---- a state, as callers see it
@@ -293,6 +293,14 @@ row_of_request fs request = row_for fs request.op
 abbrev pub CanStart : Frames → Request → Room → Type 0
 CanStart fs request = CanBegin fs request.op
 
+-- a write that waits has the number of its block as key, and a read none
+abbrev pub block_written : Op → Option ℕ
+block_written (op.Read block buffer) = None
+block_written (op.Write block buffer) = Some block
+
+abbrev pub key_of : Request → Option ℕ
+key_of request = block_written request.op
+
 -- ---- what requests wait for
 
 abbrev pub HasNoFreeFrame : Frames → Type 0
@@ -514,6 +522,20 @@ FinishesHeld old frame new =
     (h : HeldRow) → hold_at old.frames.held frame ≡ Some h → IsOver old.frames frame
     → (more : List Request) × (map numbered_op more ≡ requests_by h.job (kind_in h))
     × (new.replies.items ≡ old.replies.items ++ more) × (hold_at new.frames.held frame ≡ None)
+
+-- more requests are finished, all of one row, behind those that were
+abbrev pub FinishMore : State → State → Type 0
+FinishMore old new =
+    (more : List Request) × AreOfOneRow (layout_in old) more × (new.replies.items ≡ old.replies.items ++ more)
+
+-- the replies from the index on stand by number, and nothing else changes
+pub record StandByNumber (old : State) (from : ℕ) (new : State) : Type 0 where
+  pub sound : IsSound new
+  pub state : state_of new ≡ state_of old
+  pub before : take from new.replies.items ≡ take from old.replies.items
+  pub same : IsPermutation (drop from old.replies.items) (drop from new.replies.items)
+  pub rising : IsRising (drop from new.replies.items)
+  pub rest : new ≡ record old { replies = new.replies }
 
 -- the reply to a request: its answer, if it is released, and else that the array has failed
 abbrev pub reply_for : (is_released : Bool) → Op → Reply

@@ -16,6 +16,7 @@ mod shard_core;
 mod state;
 mod tell;
 mod turn;
+mod written;
 
 pub use call::Call;
 pub use counts::Counts;

@@ -20,6 +20,7 @@ use crate::counts::Counts;
 use crate::refusal::{Refusal, Refused};
 use crate::reply::{OpId, Reply};
 use crate::scan::{CAUSES, Room};
+use crate::written::Written;
 use circular_buffer::HeapCircularBuffer;
 use r6_frames::{Command, Device, Frames, MOST_SLOTS, Op, Request};
 use r6_layout::{Geometry, Place};
@@ -41,7 +42,7 @@ pub(crate) struct State {
     /// How many of them have replies that were not taken.
     pub unanswered: usize,
     /// From the oldest to the newest, each with what it waits for.
-    pub waiting: Waiters<Request>,
+    pub waiting: Waiters<Request, Written>,
     /// Those that are finished, in the order in which they finished. Once a look has seen that the array failed, those
     /// behind the released ones are answered so, from the oldest to the newest.
     pub replies: HeapCircularBuffer<Request>,

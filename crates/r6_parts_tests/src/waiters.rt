@@ -1,7 +1,23 @@
 //! Lines of numbers that wait.
 
-use r6_waiters::Waiters;
+ghost use Rattle.std.specs.Prelude.{◌/◌, Some};
+
+use r6_waiters::{KeyOf, Waiters};
 use std::test::Fail;
+
+/// The tens of a number are its key.
+#[derive(Drop)]
+struct Tens;
+
+impl KeyOf<u32> for Tens {
+    ghost key_of = { λ value. Some (value / 10) };
+
+    fn key(value: &u32) -> Option<u64> {
+        Some((*value / 10) as u64)
+    }
+}
+
+type Line = Waiters<u32, Tens>;
 
 /// What is done to a line.
 #[derive(Clone, Copy)]
@@ -11,6 +27,8 @@ enum Step {
     Oldest(usize),
     Pop(usize),
     PopAny,
+    /// The oldest with the key.
+    Take(u64),
     /// The oldest of the first cause waits for the second.
     MoveOldest(usize, usize),
     /// All of the first cause wait for the second.
@@ -19,7 +37,7 @@ enum Step {
 }
 
 /// The entry that came, was shown or went out; `Some(0)` for entries that were moved.
-fn answer(line: &mut Waiters<u32>, step: Step) -> Option<u32> {
+fn answer(line: &mut Line, step: Step) -> Option<u32> {
     match step {
         Step::Push(cause, value) if cause < line.causes() => {
             line.push(cause, value).ok()?;
@@ -28,6 +46,7 @@ fn answer(line: &mut Waiters<u32>, step: Step) -> Option<u32> {
         Step::Oldest(cause) if cause < line.causes() => line.oldest(cause).copied(),
         Step::Pop(cause) if cause < line.causes() => line.pop_oldest(cause),
         Step::PopAny => line.pop_any(),
+        Step::Take(key) => line.take(key, [1, 9]),
         Step::MoveOldest(from, to) if from < line.causes() && to < line.causes() => {
             if line.move_oldest(from, to) {
                 Some(0)
@@ -49,7 +68,7 @@ fn answer(line: &mut Waiters<u32>, step: Step) -> Option<u32> {
 
 #[test]
 fn an_entry_that_moves_keeps_its_age(rt: HostRuntime) -> Result<(), Fail> {
-    let mut line = Waiters::with_capacity(rt.alloc(), 4, 3)?;
+    let mut line = Line::with_capacity(rt.alloc(), 4, 3)?;
     let steps = [
         (Step::Push(0, 10), Some(10)),
         (Step::Push(1, 11), Some(11)),
@@ -80,7 +99,7 @@ fn an_entry_that_moves_keeps_its_age(rt: HostRuntime) -> Result<(), Fail> {
 
 #[test]
 fn all_go_out_by_age_whatever_they_wait_for(rt: HostRuntime) -> Result<(), Fail> {
-    let mut line = Waiters::with_capacity(rt.alloc(), 4, 3)?;
+    let mut line = Line::with_capacity(rt.alloc(), 4, 3)?;
     let steps = [
         (Step::PopAny, None),
         (Step::Push(2, 5), Some(5)),
@@ -102,9 +121,49 @@ fn all_go_out_by_age_whatever_they_wait_for(rt: HostRuntime) -> Result<(), Fail>
     Ok(())
 }
 
+#[test]
+fn the_oldest_with_a_key_goes_out_whatever_it_waits_for(rt: HostRuntime) -> Result<(), Fail> {
+    let mut line = Line::with_capacity(rt.alloc(), 4, 3)?;
+    let steps = [
+        (Step::Push(0, 21), Some(21)),
+        (Step::Push(1, 661), Some(661)),
+        (Step::Push(2, 22), Some(22)),
+        (Step::Push(1, 23), Some(23)),
+        (Step::Take(3), None),
+        (Step::Take(2), Some(21)),
+        (Step::MoveAll(1, 0), Some(0)),
+        (Step::Take(66), Some(661)),
+        (Step::Take(66), None),
+        (Step::Push(1, 24), Some(24)),
+        (Step::Pop(2), Some(22)),
+        (Step::Take(2), Some(23)),
+        (Step::Take(2), Some(24)),
+        (Step::Take(2), None),
+    ];
+    for (step, answered) in steps {
+        assert_eq!(rt; answer(&mut line, step), answered);
+    }
+    assert!(rt; line.is_empty());
+    Ok(())
+}
+
+#[test]
+fn keys_stay_through_sweeps(rt: HostRuntime) -> Result<(), Fail> {
+    let mut line = Line::with_capacity(rt.alloc(), 4, 2)?;
+    assert_eq!(rt; answer(&mut line, Step::Push(1, 991)), Some(991));
+    assert_eq!(rt; answer(&mut line, Step::Push(1, 992)), Some(992));
+    for round in 0..30_u32 {
+        assert_eq!(rt; answer(&mut line, Step::Push(0, round)), Some(round));
+        assert_eq!(rt; answer(&mut line, Step::Take((round / 10) as u64)), Some(round));
+    }
+    assert_eq!(rt; answer(&mut line, Step::Take(99)), Some(991));
+    assert_eq!(rt; answer(&mut line, Step::Take(99)), Some(992));
+    Ok(())
+}
+
 /// Whether entries that come for cause 0 go out in their order, two behind the last, while others stay. In a line with
 /// room for four that is a sweep in every five rounds.
-fn is_passed_through(line: &mut Waiters<u32>) -> bool {
+fn is_passed_through(line: &mut Line) -> bool {
     for round in 10..40_u32 {
         let out = match round {
             10 => 1,
@@ -122,7 +181,7 @@ fn is_passed_through(line: &mut Waiters<u32>) -> bool {
 
 #[test]
 fn ages_stay_through_sweeps(rt: HostRuntime) -> Result<(), Fail> {
-    let mut line = Waiters::with_capacity(rt.alloc(), 4, 2)?;
+    let mut line = Line::with_capacity(rt.alloc(), 4, 2)?;
     for (step, answered) in [
         (Step::Push(0, 1), Some(1)),
         (Step::Push(1, 2), Some(2)),
@@ -145,7 +204,7 @@ fn ages_stay_through_sweeps(rt: HostRuntime) -> Result<(), Fail> {
 }
 
 /// Whether that many entries come, for cause 0 and 1 by turns.
-fn have_come(line: &mut Waiters<u32>, first: u32, end: u32) -> bool {
+fn have_come(line: &mut Line, first: u32, end: u32) -> bool {
     for value in first..end {
         if answer(line, Step::Push((value % 2) as usize, value)) != Some(value) {
             return false;
@@ -155,7 +214,7 @@ fn have_come(line: &mut Waiters<u32>, first: u32, end: u32) -> bool {
 }
 
 /// Whether those entries go out of cause 1.
-fn have_gone(line: &mut Waiters<u32>, first: u32, end: u32) -> bool {
+fn have_gone(line: &mut Line, first: u32, end: u32) -> bool {
     for value in first..end {
         if answer(line, Step::Pop(1)) != Some(value) {
             return false;
@@ -166,7 +225,7 @@ fn have_gone(line: &mut Waiters<u32>, first: u32, end: u32) -> bool {
 
 #[test]
 fn more_wait_than_a_word_has_bits(rt: HostRuntime) -> Result<(), Fail> {
-    let mut line = Waiters::with_capacity(rt.alloc(), 100, 2)?;
+    let mut line = Line::with_capacity(rt.alloc(), 100, 2)?;
     assert!(rt; have_come(&mut line, 0, 100));
     assert_eq!(rt; answer(&mut line, Step::Push(0, 100)), None);
     assert_eq!(rt; answer(&mut line, Step::MoveAll(0, 1)), Some(0));

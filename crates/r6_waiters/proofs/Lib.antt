@@ -1,3 +1,4 @@
+pub mod ByKey
 pub mod First
 pub mod Gathered
 pub mod Lines

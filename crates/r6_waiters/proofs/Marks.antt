@@ -94,18 +94,18 @@ marked-put sets words cause p b within bits c i =
     ]
 
 -- after a push
-pub marked-pushed : {X : Type 0} (sets sets' : List (List ℕ)) (places : Places X) (cause p : ℕ) (v : X) (f : ℕ → ℕ) → IsMarked sets places f → p ≡ length places → cause < length sets → length sets' ≡ length sets
+pub marked-pushed : {X : Type 0} (sets sets' : List (List ℕ)) (places : Places X) (cause m p : ℕ) (v : X) (f : ℕ → ℕ) → IsMarked sets places f → p ≡ length places → cause < length sets → length sets' ≡ length sets
     → ((c i : ℕ) → is_marked sets' c i ≡ (if (c == cause) && (i == p) then true else is_marked sets c i))
-    → IsMarked sets' (places ++ (cause, Some v) ∷ []) (λ i. if i == p then cause else f i)
-marked-pushed sets sets' places cause p v f marked is within long put =
+    → IsMarked sets' (places ++ (m, Some v) ∷ []) (λ i. if i == p then cause else f i)
+marked-pushed sets sets' places cause m p v f marked is within long put =
     record {
       marks = λ c i. elim (cases_eq i p) [
         | inl here ↦
             let none : is_marked sets c i ≡ false = marked.marks c i ∙ ap (λ (b : Bool). b && (f i == c)) (past-none places i (omega arith)) in
-            let at : is_there (places ++ (cause, Some v) ∷ []) i ≡ true = ap (λ place. is_some place.1) (get_or_push places (cause, Some v) (0, None) i (sym (here ∙ is))) in
+            let at : is_there (places ++ (m, Some v) ∷ []) i ≡ true = ap (λ place. is_some place.1) (get_or_push places (m, Some v) (0, None) i (sym (here ∙ is))) in
             put c i ∙ rw (eq-eqb i p here, none, at) (swapped c cause)
         | inr other ↦
-            let at : is_there (places ++ (cause, Some v) ∷ []) i ≡ is_there places i = there-before i other in
+            let at : is_there (places ++ (m, Some v) ∷ []) i ≡ is_there places i = there-before i other in
             put c i ∙ rw (ne_eqb i p other, at) (unpaired (c == cause) (is_marked sets c i) ∙ marked.marks c i)
       ];
       within = λ i there. elim (cases_eq i p) [
@@ -121,12 +121,12 @@ marked-pushed sets sets' places cause p v f marked is within long put =
     unpaired true y = refl
     unpaired false y = refl
 
-    there-before : (i : ℕ) → (i ≡ p → ⊥) → is_there (places ++ (cause, Some v) ∷ []) i ≡ is_there places i
+    there-before : (i : ℕ) → (i ≡ p → ⊥) → is_there (places ++ (m, Some v) ∷ []) i ≡ is_there places i
     there-before i other =
         elim (cases_lt i (length places)) [
-          | inl inside ↦ ap (λ place. is_some place.1) (get_or_append_left places ((cause, Some v) ∷ []) (0, None) i inside)
+          | inl inside ↦ ap (λ place. is_some place.1) (get_or_append_left places ((m, Some v) ∷ []) (0, None) i inside)
           | inr past ↦
-              past-none (places ++ (cause, Some v) ∷ []) i (omega (arith, length_push places (cause, Some v), is)) ∙ sym (past-none places i past)
+              past-none (places ++ (m, Some v) ∷ []) i (omega (arith, length_push places (m, Some v), is)) ∙ sym (past-none places i past)
         ]
 
 -- after an entry was taken out

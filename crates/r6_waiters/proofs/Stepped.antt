@@ -7,7 +7,7 @@ use Rattle.r6_waiters.specs.Line.{Entries, without_oldest, oldest_moved, all_mov
 use Rattle.r6_waiters.specs.Positions.{has, HasNone, IsLowest}
 use Rattle.r6_waiters.specs.Sets.{Places, is_marked, cause_at, waiting, IsMarked, AreAsWide}
 use Rattle.r6_waiters.proofs.Lines.{IsOldest, HasNoneOf, waiting-taken, waiting-moved, waiting-all_moved, waiting-pushed, waiting-same}
-use Rattle.r6_waiters.proofs.Marks.{oldest-lowest, none-marked, marked-put, marked-taken, marked-moved, marked-all_moved, marked-pushed, marked-settled, waiting-settled, wide-set, wide-again, marked_same, marked_other, there-within}
+use Rattle.r6_waiters.proofs.Marks.{oldest-lowest, none-marked, marked-put, marked-taken, marked-moved, marked-all_moved, marked-pushed, marked-settled, waiting-settled, wide-set, wide-again, marked_same, marked_other, there-within, mark-within, mark-there}
 
 -- the sets are as wide as they were, and say that these entries wait
 pub record Stepped {X : Type 0} (sets after : List (List ℕ)) (places : Places X) (entries : Entries X) : Type 0 where
@@ -41,6 +41,20 @@ stepped-taken sets places cause p k words old marked within oldest is bits long 
     settled sets (set sets cause words) (set places p (k, None)) (cause_at sets) (without_oldest cause (waiting (cause_at sets) places)) (wide-set sets words old cause within is long)
     (marked-taken sets (set sets cause words) places cause p k (cause_at sets) marked oldest.there oldest.waits (length-set sets cause words) put)
     (waiting-taken (cause_at sets) places cause p k oldest)
+
+-- so was whichever entry stood at the position
+pub stepped-out : {X : Type 0} (sets : List (List ℕ)) (places : Places X) (cause p k : ℕ) (words old : List ℕ) (entries : Entries X) → IsMarked sets places (cause_at sets) → is_marked sets cause p ≡ true
+    → old ≡ get_or sets cause old → ((i : ℕ) → has words i ≡ (if i == p then false else has old i)) → length words ≡ length old
+    → waiting (cause_at sets) (set places p (k, None)) ≡ entries
+    → Stepped sets (set sets cause words) (set places p (k, None)) entries
+stepped-out sets places cause p k words old entries marked mark is bits long rest =
+    let within = mark-within sets cause p mark in
+    let found = mark-there sets places (cause_at sets) marked cause p mark in
+    let read = get_or_read sets cause old within is [] in
+    let put = marked-put sets words cause p false within (λ i. bits i ∙ ap (λ (l : List ℕ). if i == p then false else has l i) read) in
+    settled sets (set sets cause words) (set places p (k, None)) (cause_at sets) entries (wide-set sets words old cause within is long)
+    (marked-taken sets (set sets cause words) places cause p k (cause_at sets) marked found.0 found.1 (length-set sets cause words) put)
+    rest
 
 -- the oldest entry of a cause was moved to another
 pub stepped-moved : {X : Type 0} (sets : List (List ℕ)) (places : Places X) (from to p : ℕ) (words old words' old' : List ℕ) → IsMarked sets places (cause_at sets) → from < length sets → to < length sets
@@ -117,7 +131,7 @@ stepped-pushed {X} sets places cause p v words old marked within last is bits lo
     let read = get_or_read sets cause old within is [] in
     let put = marked-put sets words cause p true within (λ i. bits i ∙ ap (λ (l : List ℕ). if i == p then true else has l i) read) in
     settled sets (set sets cause words) (places ++ (cause, Some v) ∷ []) g (waiting f places ++ (cause, v) ∷ []) (wide-set sets words old cause within is long)
-    (marked-pushed sets (set sets cause words) places cause p v f marked last within (length-set sets cause words) put)
+    (marked-pushed sets (set sets cause words) places cause cause p v f marked last within (length-set sets cause words) put)
     (waiting-pushed g places cause v
     ∙ ap (λ (es : Entries X). es ++ (g (length places), v) ∷ []) (waiting-same g f places (λ i there. earlier i (there-within places i there)))
     ∙ ap (λ (c : ℕ). waiting f places ++ (c, v) ∷ []) (ap (λ (b : Bool). if b then cause else f (length places)) (eq-eqb (length places) p (sym last))))

@@ -1,13 +1,13 @@
 -- What a write of a word does to a set of positions.
-use Rattle.std.proofs.Common.{◌≡◌, inl, inr, ℕ, ◌+◌, ◌-◌, ◌*◌, ◌/◌, ◌%◌, ◌^◌, ◌<◌, ◌≤◌, Bool, true, false, max, bit_and, bit_or, w64, List, length, get_or, set, refl, sym, ap, ◌∙◌, arith}
-use Rattle.std.specs.Prelude.{◌==◌, ◌||◌, sum, if◌then◌else◌}
+use Rattle.std.proofs.Common.{min, ◌≡◌, inl, inr, ℕ, ◌+◌, ◌-◌, ◌*◌, ◌/◌, ◌%◌, ◌^◌, ◌<◌, ◌≤◌, Bool, true, false, max, bit_and, bit_or, w64, List, length, get_or, set, refl, sym, ap, ◌∙◌, arith}
+use Rattle.std.specs.Prelude.{◌==◌, ◌&&◌, ◌||◌, nat_le, sum, if◌then◌else◌}
 use Rattle.std.specs.Int.{bit_at, trailing_zeros}
-use Rattle.std.proofs.lemmas.Bool.{cases_eq, cases_lt, eq-eqb, ne_eqb}
+use Rattle.std.proofs.lemmas.Bool.{le-leb, lt-leb, leb-true, and_parts, cases_eq, cases_lt, eq-eqb, ne_eqb}
 use Rattle.std.proofs.lemmas.List.{get_or-set_same, get_or-set_other, get_or_past}
 use Rattle.std.proofs.lemmas.List.Sums.{sum_by-set}
 use Rattle.std.proofs.lemmas.Nat.{and_le_l}
-use Rattle.std.proofs.lemmas.Nat.Bits.{bit_at_or, bit_at-lt, bit_at-zero, bit_at_set_same, bit_at_set_other, bit_at_clear_same, bit_at_clear_other, bit_at-trailing_zeros}
-use Rattle.r6_waiters.specs.Positions.{has, HasNone, IsLowest}
+use Rattle.std.proofs.lemmas.Nat.Bits.{bit_at_and, bit_at_mask_below, bit_at_mask_inside, ones_shl, bit_at_or, bit_at-lt, bit_at-zero, bit_at_set_same, bit_at_set_other, bit_at_clear_same, bit_at_clear_other, bit_at-trailing_zeros}
+use Rattle.r6_waiters.specs.Positions.{has, HasNone, IsLowest, HasNoneFrom, IsLowestFrom}
 
 abbrev pub is_set : ℕ → ℕ → Bool
 is_set word i = bit_at word i == 1
@@ -148,4 +148,75 @@ has-taken words more taken n long other_as_long as_long each i =
           let none : is_set 0 (i % 64) ≡ false = ap (λ (m : ℕ). m == 1) (bit_at-zero (i % 64)) in
           let of = λ (l : List ℕ) (past : length l ≤ i / 64). ap (λ (m : ℕ). is_set m (i % 64)) (get_or_past l (i / 64) 0 past) ∙ none in
           of taken (omega arith) ∙ sym (ap (λ (b : Bool). b || has more i) (of words past) ∙ of more (omega arith))
+    ]
+
+-- ---- the positions from one on
+
+min_none : (b : ℕ) → (min b 0 == 1) ≡ false
+min_none b = grind arith
+
+min_same : (b : ℕ) → b < 2 → (min b 1 == 1) ≡ (b == 1)
+min_same b small = grind arith
+
+-- the bits of its word
+pub part-from : (word index from i : ℕ) → index ≡ from / 64 → i < 64
+    → is_set (bit_and word (18446744073709551615 * 2 ^ (from % 64) % 18446744073709551616)) i ≡ (nat_le from (64 * index + i) && is_set word i)
+part-from word index from i here within =
+    let k = from % 64 in
+    let small : k ≤ 64 = omega arith in
+    ap (λ (n : ℕ). is_set (bit_and word n) i) (ones_shl 64 k small)
+    ∙ ap (λ (n : ℕ). n == 1) (bit_at_and word (2 ^ 64 - 2 ^ k) i)
+    ∙ elim (cases_lt i k) [
+      | inl below ↦
+          ap (λ (n : ℕ). min (bit_at word i) n == 1) (bit_at_mask_below k 64 i below)
+          ∙ min_none (bit_at word i)
+          ∙ sym (ap (λ (b : Bool). b && is_set word i) (lt-leb from (64 * index + i) (omega (arith, here))))
+      | inr past ↦
+          ap (λ (n : ℕ). min (bit_at word i) n == 1) (bit_at_mask_inside k 64 i past within)
+          ∙ min_same (bit_at word i) (bit_at-lt word i)
+          ∙ sym (ap (λ (b : Bool). b && is_set word i) (le-leb from (64 * index + i) (omega (arith, here))))
+    ]
+
+pub part-all : (word index from i : ℕ) → (index ≡ from / 64 → ⊥) → from / 64 ≤ index → is_set word i ≡ (nat_le from (64 * index + i) && is_set word i)
+part-all word index from i other past = sym (ap (λ (b : Bool). b && is_set word i) (le-leb from (64 * index + i) (omega arith)))
+
+at_part : (words : List ℕ) (index from word part q : ℕ) → word ≡ get_or words index 0 → ((i : ℕ) → i < 64 → is_set part i ≡ (nat_le from (64 * index + i) && is_set word i)) → from ≤ q → q / 64 ≡ index
+    → has words q ≡ is_set part (q % 64)
+at_part words index from word part q is bits past here =
+    ap (λ (n : ℕ). is_set (get_or words n 0) (q % 64)) here
+    ∙ ap (λ (n : ℕ). is_set n (q % 64)) (sym is)
+    ∙ sym (bits (q % 64) (omega arith) ∙ ap (λ (b : Bool). b && is_set word (q % 64)) (le-leb from (64 * index + q % 64) (omega arith)))
+
+pub none_from-more : (words : List ℕ) (index from word part : ℕ) → word ≡ get_or words index 0 → ((i : ℕ) → i < 64 → is_set part i ≡ (nat_le from (64 * index + i) && is_set word i)) → part ≡ 0
+    → ((q : ℕ) → from ≤ q → q / 64 < index → has words q ≡ false) → (q : ℕ) → from ≤ q → q / 64 < index + 1 → has words q ≡ false
+none_from-more words index from word part is bits none before q past below =
+    elim (cases_eq (q / 64) index) [
+      | inl here ↦ at_part words index from word part q is bits past here ∙ ap (λ (n : ℕ). is_set n (q % 64)) none ∙ ap (λ (n : ℕ). n == 1) (bit_at-zero (q % 64))
+      | inr other ↦ before q past (omega arith)
+    ]
+
+pub lowest_from-found : (words : List ℕ) (index from word part : ℕ) → word ≡ get_or words index 0 → ((i : ℕ) → i < 64 → is_set part i ≡ (nat_le from (64 * index + i) && is_set word i)) → (part ≡ 0 → ⊥) → part < 2 ^ 64
+    → ((q : ℕ) → from ≤ q → q / 64 < index → has words q ≡ false) → IsLowestFrom words from (64 * index + trailing_zeros w64 part)
+lowest_from-found words index from word part is bits some small before =
+    let found = bit_at-trailing_zeros w64 part (omega arith) small in
+    let zeros = trailing_zeros w64 part in
+    let bound : zeros < 64 = found.0 in
+    let there : is_set part zeros ≡ true = ap (λ (n : ℕ). n == 1) found.1 in
+    let past : from ≤ 64 * index + zeros = leb-true from (64 * index + zeros) (and_parts (nat_le from (64 * index + zeros)) (is_set word zeros) (sym (bits zeros bound) ∙ there)).0 in
+    let at_word : (64 * index + zeros) / 64 ≡ index = omega (arith, bound) in
+    let at_bit : (64 * index + zeros) % 64 ≡ zeros = omega (arith, bound) in (
+      past,
+      at_part words index from word part (64 * index + zeros) is bits past at_word ∙ ap (λ (n : ℕ). is_set part n) at_bit ∙ there,
+      λ lower above below.
+          elim (cases_eq (lower / 64) index) [
+            | inl same ↦ at_part words index from word part lower is bits above same ∙ ap (λ (n : ℕ). n == 1) (found.2 (lower % 64) (omega (arith, bound)))
+            | inr other ↦ before lower above (omega (arith, bound))
+          ],
+    )
+
+pub none_from-end : (words : List ℕ) (index from : ℕ) → length words ≤ index → ((q : ℕ) → from ≤ q → q / 64 < index → has words q ≡ false) → HasNoneFrom words from
+none_from-end words index from all before q past =
+    elim (cases_lt (q / 64) (length words)) [
+      | inl within ↦ before q past (omega arith)
+      | inr over ↦ ap (λ (n : ℕ). is_set n (q % 64)) (get_or_past words (q / 64) 0 over) ∙ ap (λ (n : ℕ). n == 1) (bit_at-zero (q % 64))
     ]

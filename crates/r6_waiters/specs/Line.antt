@@ -1,5 +1,5 @@
 -- A line of entries that wait, as its callers see it (this project's own).
-use Rattle.std.specs.Prelude.{ℕ, ◌<◌, ◌==◌, ◌||◌, List, [], ◌∷◌, Option, Some, None, if◌then◌else◌}
+use Rattle.std.specs.Prelude.{ℕ, ◌<◌, ◌==◌, ◌||◌, Bool, false, List, [], ◌∷◌, Option, Some, None, if◌then◌else◌}
 
 -- the entries, the oldest first, each with the cause that it waits for
 abbrev pub Entries : Type 0 → Type 0
@@ -37,6 +37,23 @@ older_of first second (entry ∷ entries) =
 abbrev pub without_oldest : {X : Type 0} → ℕ → Entries X → Entries X
 without_oldest cause [] = []
 without_oldest cause (entry ∷ entries) = if entry.0 == cause then entries else entry ∷ without_oldest cause entries
+
+-- a value that may have a key has this one
+abbrev pub is_key : ℕ → Option ℕ → Bool
+is_key key None = false
+is_key key (Some other) = other == key
+
+-- the value of the oldest entry with the key, whatever it waits for
+abbrev pub oldest_keyed : {X : Type 0} → (key_of : X → Option ℕ) → (key : ℕ) → Entries X → Option X
+oldest_keyed key_of key [] = None
+oldest_keyed key_of key (entry ∷ entries) =
+    if is_key key (key_of entry.1) then Some entry.1 else oldest_keyed key_of key entries
+
+-- the entries but the oldest one with the key
+abbrev pub without_oldest_keyed : {X : Type 0} → (key_of : X → Option ℕ) → (key : ℕ) → Entries X → Entries X
+without_oldest_keyed key_of key [] = []
+without_oldest_keyed key_of key (entry ∷ entries) =
+    if is_key key (key_of entry.1) then entries else entry ∷ without_oldest_keyed key_of key entries
 
 -- the oldest entry that waited for one cause waits for another, in its place
 abbrev pub oldest_moved : {X : Type 0} → ℕ → ℕ → Entries X → Entries X

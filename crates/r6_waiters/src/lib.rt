@@ -1,7 +1,9 @@
 //! Entries that wait, in lines that take all their memory when they are made.
 #![tactic(auto)]
 
+mod keyed;
 mod positions;
 mod waiters;
 
+pub use keyed::KeyOf;
 pub use waiters::Waiters;

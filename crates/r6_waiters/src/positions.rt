@@ -1,7 +1,8 @@
 //! Sets of positions.
 
-ghost use Rattle.std.specs.Prelude.{◌≡◌, ◌+◌, ◌*◌, ◌/◌, ◌<◌, ◌≤◌, ◌^◌, ◌==◌, ◌||◌, ℕ, true, false, length, replicate, sum, IfOk, MatchOption, if◌then◌else◌};
-ghost use Rattle.r6_waiters.specs.Positions.{has, HasNone, IsLowest};
+ghost use Rattle.std.specs.Prelude.{◌≡◌, ◌+◌, ◌*◌, ◌/◌, ◌<◌, ◌≤◌, ◌^◌, ◌==◌, ◌&&◌, ◌||◌, ℕ, true, false, length, replicate, sum, IfOk, MatchOption, nat_le, if◌then◌else◌};
+ghost use Rattle.std.specs.Int.{bit_at};
+ghost use Rattle.r6_waiters.specs.Positions.{has, HasNone, IsLowest, HasNoneFrom, IsLowestFrom};
 
 use std::alloc::{AllocError, Global};
 use std::marker::Model;
@@ -49,6 +50,29 @@ impl Positions {
         None
     }
 
+    /// The lowest position of the set from this one on.
+    pub(crate) fn lowest_from(&self, from: usize) -> Option<usize>
+        ensures { MatchOption result (HasNoneFrom self.now from) (IsLowestFrom self.now from) }
+    {
+        for index in from / 64..self.words.len() {
+            let part = part_from(self.words[index], index, from);
+            if part != 0 {
+                return Some(64 * index + part.trailing_zeros() as usize);
+            }
+        }
+        None
+    }
+
+    /// Whether the position is in the set.
+    pub(crate) fn contains(&self, position: usize) -> bool
+        ensures { result ≡ has self.now position }
+    {
+        match self.words.get(position / 64) {
+            Some(word) => word >> (position % 64) & 1 == 1,
+            None => false,
+        }
+    }
+
     /// Puts the position in.
     pub(crate) fn insert(&mut self, position: usize)
         requires { position < 64 * length self.old }
@@ -68,6 +92,16 @@ impl Positions {
         self.words[position / 64] &= !(1 << (position % 64));
     }
 
+    /// Takes all positions out.
+    pub(crate) fn clear(&mut self)
+        ensures none { HasNone self.new }
+        ensures room { length self.new ≡ length self.old }
+    {
+        for index in 0..self.words.len() {
+            self.words[index] = 0;
+        }
+    }
+
     /// Puts the positions of the other set in, which is empty then.
     pub(crate) fn take_all(&mut self, other: &mut Positions)
         requires { length other.old ≡ length self.old }
@@ -79,5 +113,18 @@ impl Positions {
         for index in 0..self.words.len() {
             self.words[index] |= mem::replace(&mut other.words[index], 0);
         }
+    }
+}
+
+// The bits of the set's word of this index that stand for positions from this one on.
+fn part_from(word: u64, index: usize, from: usize) -> u64
+    requires { from / 64 ≤ index }
+    ensures { (i : ℕ) → i < 64
+        → (bit_at result i == 1) ≡ (nat_le from (64 * index + i) && (bit_at word i == 1)) }
+{
+    if index == from / 64 {
+        word & (u64::MAX << (from % 64))
+    } else {
+        word
     }
 }

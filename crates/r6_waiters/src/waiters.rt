@@ -1,32 +1,37 @@
 //! A line of entries that wait, each for one cause.
 
-ghost use Rattle.std.specs.Prelude.{◌≡◌, ◌+◌, ◌*◌, ◌<◌, ◌≤◌, ◌^◌, ◌/◌, ◌==◌, ◌&&◌, ◌++◌, ◌∷◌, [], ℕ, true, false, nat_lt, length, replicate, slice_set, if◌then◌else◌, IsTrue, IfOk, IfErr, OnOk, IfSome, option_copied, option_map, None, is_some, drop, vec_capacity, ◌↔◌};
+ghost use Rattle.std.specs.Prelude.{◌≡◌, ◌+◌, ◌*◌, ◌<◌, ◌≤◌, ◌^◌, ◌/◌, ◌==◌, ◌&&◌, ◌++◌, ◌∷◌, [], ℕ, true, false, nat_lt, length, replicate, slice_set, if◌then◌else◌, IsTrue, IfOk, IfErr, OnOk, IfSome, MatchOption, option_copied, option_map, None, is_some, drop, vec_capacity, ◌↔◌};
 ghost use Rattle.std.specs.List.{filter};
 ghost use Rattle.r6_waiters.specs.Positions.{has, HasNone};
 ghost use Rattle.r6_waiters.specs.Sets.{place_at, is_marked, cause_at, waiting, IsMarked, HaveRoom, AreAsWide, IsFirstBelow};
+ghost use Rattle.r6_waiters.specs.Keys.{AreClassed};
 
+use crate::keyed::{CLASSES, KeyOf, append, find, mark_keys, set_for, take};
 use crate::positions::Positions;
 use std::alloc::{AllocError, Global};
-use std::marker::Model;
+use std::marker::{Model, PhantomData};
 use std::mem;
 
-/// Entries that wait, each for one cause, always in the order of their age.
+/// Entries that wait, each for one cause, always in the order of their age. `K` says which of them have a key.
 ///
 /// All its room is made by [`Waiters::with_capacity`]; no later call takes memory. Causes are numbers below `causes`.
 #[derive(Drop)]
-pub struct Waiters<V> {
+pub struct Waiters<V, K: KeyOf<V>> {
     // by age; an entry that was taken out keeps its position until the next sweep. The cause beside a value is right
     // only in the midst of a sweep: which entries wait for a cause is what its set says.
     places: Vec<(usize, Option<V>)>,
     // by cause
     sets: Vec<Positions>,
+    // by key, modulo 64; those with no key are in a set of their own
+    keyed: Vec<Positions>,
     // an empty set, for what is moved from one set to another
     spare: Positions,
     len: usize,
     capacity: usize,
+    key: PhantomData<K>,
 }
 
-impl<V> Model for Waiters<V> {
+impl<V, K: KeyOf<V>> Model for Waiters<V, K> {
     ghost use Rattle.std.specs.Coded.{coded_ℕ, coded_list, coded×};
     ghost use Rattle.r6_waiters.specs.Line.{Line};
 
@@ -38,11 +43,11 @@ impl<V> Model for Waiters<V> {
 
     ghost view = { view_of };
 
-    ghost invariant = { IsLine };
+    ghost invariant = { λ line. IsLine K.key_of line };
 }
 
-impl<V: Drop> Waiters<V> {
-    ghost use Rattle.r6_waiters.specs.Line.{capacity_of, causes_of, entries_of, with_entries, oldest_of, older_of, without_oldest, oldest_moved, all_moved, gathered, first_of, AreBelow};
+impl<V: Drop, K: KeyOf<V>> Waiters<V, K> {
+    ghost use Rattle.r6_waiters.specs.Line.{capacity_of, causes_of, entries_of, with_entries, oldest_of, older_of, without_oldest, oldest_keyed, without_oldest_keyed, oldest_moved, all_moved, gathered, first_of, AreBelow};
 
     /// An empty line with room for `capacity` entries, which wait for causes below `causes`.
     ///
@@ -55,9 +60,11 @@ impl<V: Drop> Waiters<V> {
         Ok(Waiters {
             places: Vec::with_capacity(alloc, capacity + capacity)?,
             sets: empty_sets(alloc, capacity + capacity, causes)?,
+            keyed: empty_sets(alloc, capacity + capacity, CLASSES)?,
             spare: Positions::with_room(alloc, capacity + capacity)?,
             len: 0,
             capacity,
+            key: PhantomData,
         })
     }
 
@@ -127,13 +134,14 @@ impl<V: Drop> Waiters<V> {
         if self.len >= self.capacity {
             return Err(value);
         }
-        make_room(
+        make_room::<V, K>(
             &mut self.places,
             &mut self.sets,
+            &mut self.keyed,
             self.capacity + self.capacity,
         );
         self.sets[cause].insert(self.places.len());
-        self.places.push_reserved((cause, Some(value)));
+        append::<V, K>(&mut self.places, &mut self.keyed, cause, value);
         self.len += 1;
         Ok(())
     }
@@ -147,7 +155,21 @@ impl<V: Drop> Waiters<V> {
         let position = self.sets[cause].lowest()?;
         self.sets[cause].remove(position);
         self.len -= 1;
-        take(&mut self.places, position)
+        take::<V, K>(&mut self.places, &mut self.keyed, position)
+    }
+
+    /// Takes the oldest entry with the key out, whatever it waits for. It is looked for first among the entries that
+    /// wait for the causes `near`: where it does, this takes no time for each cause.
+    pub fn take(&mut self, key: u64, near: [usize; 2]) -> Option<V>
+        ensures value { result ≡ oldest_keyed K.key_of key (entries_of self.old) }
+        ensures rest { self.new ≡ with_entries self.old (without_oldest_keyed K.key_of key (entries_of self.old)) }
+    {
+        let set = &self.keyed[set_for(Some(key))];
+        let found = find::<V, K>(&self.places, set, key)?;
+        let cause = cause_of(&self.sets, near, found)?;
+        self.sets[cause].remove(found);
+        self.len -= 1;
+        take::<V, K>(&mut self.places, &mut self.keyed, found)
     }
 
     /// The cause that the oldest entry of all waits for. This takes time for each cause.
@@ -224,15 +246,34 @@ fn value<V>(places: &[(usize, Option<V>)], position: usize) -> Option<&V>
     places[position].1.as_ref()
 }
 
-// Takes the value at the position out.
-fn take<V>(places: &mut Vec<(usize, Option<V>)>, position: usize) -> Option<V>
-    requires { position < length places.old.items }
-    ensures value { result ≡ (place_at places.old.items position).1 }
-    ensures places { places.new.items
-        ≡ slice_set places.old.items position ((place_at places.old.items position).0, None) }
-    ensures capacity { vec_capacity places.new ≡ vec_capacity places.old }
+// The first cause that has the position in its set. These are tried before all.
+fn cause_of(sets: &[Positions], near: [usize; 2], position: usize) -> Option<usize>
+    ensures { MatchOption result
+        ((cause : ℕ) → is_marked sets.now cause position ≡ false)
+        (λ cause. (cause < length sets.now) × (is_marked sets.now cause position ≡ true)) }
 {
-    places[position].1.take()
+    if holds(sets, near[0], position) {
+        return Some(near[0]);
+    }
+    if holds(sets, near[1], position) {
+        return Some(near[1]);
+    }
+    for cause in 0..sets.len() {
+        if holds(sets, cause, position) {
+            return Some(cause);
+        }
+    }
+    None
+}
+
+// Whether the position is in the cause's set.
+fn holds(sets: &[Positions], cause: usize, position: usize) -> bool
+    ensures { result ≡ is_marked sets.now cause position }
+{
+    match sets.get(cause) {
+        Some(set) => set.contains(position),
+        None => false,
+    }
 }
 
 // The lowest position in any set, and its cause.
@@ -267,19 +308,29 @@ fn first_with(
 }
 
 // Sees to it that there are fewer places than the limit.
-fn make_room<V: Drop>(places: &mut Vec<(usize, Option<V>)>, sets: &mut Vec<Positions>, limit: usize)
+fn make_room<V: Drop, K: KeyOf<V>>(
+    places: &mut Vec<(usize, Option<V>)>,
+    sets: &mut Vec<Positions>,
+    keyed: &mut Vec<Positions>,
+    limit: usize,
+)
     requires marked { IsMarked sets.old.items places.old.items (cause_at sets.old.items) }
+    requires classed { AreClassed K.key_of keyed.old.items places.old.items }
     requires wide { HaveRoom sets.old.items (length places.old.items) }
+    requires as_wide { HaveRoom keyed.old.items (length places.old.items) }
     requires few { length (waiting (cause_at sets.old.items) places.old.items) < limit }
     ensures marked { IsMarked sets.new.items places.new.items (cause_at sets.new.items) }
+    ensures classed { AreClassed K.key_of keyed.new.items places.new.items }
     ensures same { waiting (cause_at sets.new.items) places.new.items
         ≡ waiting (cause_at sets.old.items) places.old.items }
     ensures room { length places.new.items < limit }
     ensures capacity { vec_capacity places.new ≡ vec_capacity places.old }
     ensures sets { AreAsWide sets.old.items sets.new.items }
+    ensures keyed { AreAsWide keyed.old.items keyed.new.items }
 {
     if places.len() >= limit {
         sweep(places, sets);
+        mark_keys::<V, K>(places, keyed);
     }
 }
 

@@ -47,8 +47,10 @@ invariant_of-self g c =
       room = c.self.invariant.room;
       wide = omega (arith, c.self.invariant.wide, spare_long);
       equal = λ cause below. after.wide.1 cause ∙ c.self.invariant.equal cause (subst (λ n. cause < n) after.wide.0 below) ∙ sym spare_long;
+      as_wide = λ class below. c.self.invariant.as_wide class below ∙ sym spare_long;
       spare = c.take_all.ensures.none;
       marked = after.marked;
+      classed = c.self.invariant.classed;
       counted = c.self.invariant.counted ∙ sym (ap length after.waits ∙ length-all_moved c.args.from c.args.to (waiting (cause_at sets) c.self.inside.places.items));
     }
 

@@ -48,8 +48,10 @@ invariant_of-self g c =
       room = c.self.invariant.room;
       wide = c.self.invariant.wide;
       equal = λ cause below. after.wide.1 cause ∙ c.self.invariant.equal cause (subst (λ n. cause < n) after.wide.0 below);
+      as_wide = c.self.invariant.as_wide;
       spare = c.self.invariant.spare;
       marked = after.marked;
+      classed = c.self.invariant.classed;
       counted = c.self.invariant.counted ∙ sym (ap length after.waits ∙ length-moved c.args.from c.args.to (waiting (cause_at c.self.inside.sets.items) c.self.inside.places.items));
     }
 

@@ -1,4 +1,4 @@
-use Rattle.std.proofs.Common.{◌≡◌, ◌<◌, ◌∙◌, ℕ, Some, None, MatchOption, length, ap, subst, sym}
+use Rattle.std.proofs.Common.{◌<◌, ◌∙◌, MatchOption, length, ap, subst, sym}
 use Rattle.r6_waiters.specs.Line.{causes_of, entries_of, older_of}
 use Rattle.r6_waiters.specs.Positions.{HasNone, IsLowest}
 use Rattle.r6_waiters.specs.Sets.{cause_at}

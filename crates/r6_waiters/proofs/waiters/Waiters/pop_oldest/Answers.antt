@@ -1,9 +1,11 @@
-use Rattle.std.proofs.Common.{◌≡◌, ◌<◌, ◌∙◌, None, length, set, sym, ap, subst, arith}
+use Rattle.std.proofs.Common.{◌≡◌, ◌<◌, ◌∙◌, None, [], length, set, sym, ap, subst, arith, rules}
+use Rattle.std.specs.Prelude.{slice_index_or}
+use Rattle.r6_waiters.specs.Keys.{AreClassed}
 use Rattle.r6_waiters.specs.Line.{causes_of, entries_of, with_entries, oldest_of, without_oldest}
 use Rattle.r6_waiters.specs.Sets.{place_at, cause_at, waiting}
 use Rattle.r6_waiters.proofs.Lines.{IsOldest, oldest-found, oldest-none, without-none, length-taken, waiting-taken}
-use Rattle.r6_waiters.proofs.Marks.{there-within}
 use Rattle.r6_waiters.proofs.Stepped.{Stepped, oldest-in, none-in, stepped-taken}
+use Rattle.r6_waiters.proofs.Swept.{lent_whole}
 use Rattle.r6_waiters.proofs.waiters.Waiters.pop_oldest.Goals as goal
 
 -- none waits for the cause
@@ -32,23 +34,23 @@ overflow_sub-self g c =
     let fewer = length-taken (cause_at sets) places c.args.cause position 0 oldest in
     omega (arith, fewer, c.self.invariant.counted)
 
-pub take-requires : goal.take-requires
-take-requires g c =
+pub take-requires-clause-there : goal.take-requires-clause-there
+take-requires-clause-there g c =
     let sets = c.self.inside.sets.items in
     let places = c.self.inside.places.items in
     let position = c.in_ok-position.position in
     let within : c.args.cause < length sets = subst (λ v. c.args.cause < causes_of v) (sym c.self.view_is) c.requires in
     let oldest = oldest-in sets places c.args.cause position c.index.result.now c.self.invariant.marked within c.index.ensures c.in_ok-position.ensures in
-    there-within places position oldest.there
+    oldest.there
 
 -- the oldest entry of the cause stands at the position
-oldest_at : (g : _) (c : goal.After-take g) → IsOldest (cause_at c.self.inside.sets.items) c.self.inside.places.items c.args.cause c.in_ok-position.position
+oldest_at : (g : _) (c : goal.After-self-3-1 g) → IsOldest (cause_at c.self.inside.sets.items) c.self.inside.places.items c.args.cause c.in_ok-position.position
 oldest_at g c =
     let sets = c.self.inside.sets.items in
     let within : c.args.cause < length sets = subst (λ v. c.args.cause < causes_of v) (sym c.self.view_is) c.requires in
     oldest-in sets c.self.inside.places.items c.args.cause c.in_ok-position.position c.index.result.now c.self.invariant.marked within c.index.ensures c.in_ok-position.ensures
 
-stepped : (g : _) (c : goal.After-take g)
+stepped : (g : _) (c : goal.After-self-3-1 g)
     → Stepped c.self.inside.sets.items (set c.self.inside.sets.items c.args.cause c.remove.new.self) c.take.new.places.items (without_oldest c.args.cause (waiting (cause_at c.self.inside.sets.items) c.self.inside.places.items))
 stepped g c =
     let sets = c.self.inside.sets.items in
@@ -65,13 +67,17 @@ invariant_of-self g c =
     let places = c.self.inside.places.items in
     let after = stepped g c in
     let fewer = length-taken (cause_at sets) places c.args.cause c.in_ok-position.position (place_at places c.in_ok-position.position).0 (oldest_at g c) in
+    let lent : length c.take.new.keyed ≡ length c.self.inside.keyed.items = c.take.ensures.sets.0 ∙ ap length c.deref_mut.ensures.value in
+    let whole = lent_whole _ c.take.new.keyed c.self.inside.keyed.items lent (search rules) in
     record {
       countable = c.self.invariant.countable;
       room = c.take.ensures.capacity ∙ c.self.invariant.room;
       wide = c.self.invariant.wide;
       equal = λ cause below. after.wide.1 cause ∙ c.self.invariant.equal cause (subst (λ n. cause < n) after.wide.0 below);
+      as_wide = λ class below. ap (λ l. length (slice_index_or l class [])) whole ∙ c.take.ensures.sets.1 class ∙ ap (λ l. length (slice_index_or l class [])) c.deref_mut.ensures.value ∙ c.self.invariant.as_wide class below;
       spare = c.self.invariant.spare;
       marked = after.marked;
+      classed = subst (λ l. AreClassed g.K.KeyOf.key_of l c.take.new.places.items) (sym whole) c.take.ensures.classed;
       counted =
           let taken = ap length (waiting-taken (cause_at sets) places c.args.cause c.in_ok-position.position (place_at places c.in_ok-position.position).0 (oldest_at g c)) in
           let now = ap length after.waits in

@@ -1,13 +1,16 @@
 use Rattle.std.proofs.Common.{◌≡◌, ◌<◌, ◌+◌, ◌∙◌, ◌++◌, ◌∷◌, [], length, set, sym, ap, subst, rules}
 use Rattle.std.proofs.lemmas.List.{length_push}
+use Rattle.std.specs.Prelude.{slice_index_or}
+use Rattle.r6_waiters.specs.Keys.{AreClassed}
 use Rattle.r6_waiters.specs.Line.{causes_of, entries_of, with_entries}
 use Rattle.r6_waiters.specs.Sets.{cause_at, waiting}
 use Rattle.r6_waiters.proofs.Marks.{wide-again}
 use Rattle.r6_waiters.proofs.Stepped.{Stepped, stepped-pushed}
+use Rattle.r6_waiters.proofs.Swept.{lent_whole}
 use Rattle.r6_waiters.proofs.waiters.Waiters.push.Goals as goal
 
-stepped : (g : _) (c : goal.After-self-2-1 g)
-    → Stepped c.make_room.new.sets.items (set c.make_room.new.sets.items c.args.cause c.insert.new.self) c.push_reserved.new.self.items (waiting (cause_at c.make_room.new.sets.items) c.make_room.new.places.items ++ (c.args.cause, c.args.value) ∷ [])
+stepped : (g : _) (c : goal.After-self-3-1 g)
+    → Stepped c.make_room.new.sets.items (set c.make_room.new.sets.items c.args.cause c.insert.new.self) c.append.new.places.items (waiting (cause_at c.make_room.new.sets.items) c.make_room.new.places.items ++ (c.args.cause, c.args.value) ∷ [])
 stepped g c =
     let sets = c.make_room.new.sets.items in
     let places = c.make_room.new.places.items in
@@ -16,11 +19,11 @@ stepped g c =
     let within : cause < length sets = subst (λ n. cause < n) (sym c.make_room.ensures.sets.0) before in
     let last : c.len.result ≡ length places = search rules in
     let after = stepped-pushed sets places cause c.len.result c.args.value c.insert.new.self c.index_mut.result.now c.make_room.ensures.marked within last c.index_mut.ensures.value c.insert.ensures.has c.insert.ensures.room in
-    subst (λ ps. Stepped sets (set sets cause c.insert.new.self) ps (waiting (cause_at sets) places ++ (cause, c.args.value) ∷ [])) (sym c.push_reserved.ensures.items) after
+    subst (λ ps. Stepped sets (set sets cause c.insert.new.self) ps (waiting (cause_at sets) places ++ (cause, c.args.value) ∷ [])) (sym c.append.ensures.items) after
 
 -- the entries are those that waited, and the new one
-waits : (g : _) (c : goal.After-self-2-1 g)
-    → waiting (cause_at (set c.make_room.new.sets.items c.args.cause c.insert.new.self)) c.push_reserved.new.self.items ≡ waiting (cause_at c.self.inside.sets.items) c.self.inside.places.items ++ (c.args.cause, c.args.value) ∷ []
+waits : (g : _) (c : goal.After-self-3-1 g)
+    → waiting (cause_at (set c.make_room.new.sets.items c.args.cause c.insert.new.self)) c.append.new.places.items ≡ waiting (cause_at c.self.inside.sets.items) c.self.inside.places.items ++ (c.args.cause, c.args.value) ∷ []
 waits g c = (stepped g c).waits ∙ ap (λ es. es ++ (c.args.cause, c.args.value) ∷ []) c.make_room.ensures.same
 
 pub invariant_of-self : goal.invariant_of-self
@@ -28,19 +31,26 @@ invariant_of-self g c =
     let after = stepped g c in
     let wide = wide-again c.self.inside.sets.items c.make_room.new.sets.items _ c.make_room.ensures.sets after.wide in
     let entries = waiting (cause_at c.self.inside.sets.items) c.self.inside.places.items in
+    let lent : length c.append.new.keyed ≡ length c.make_room.new.keyed.items = c.append.ensures.sets.0 ∙ ap length c.deref_mut.ensures.value in
+    let whole = lent_whole _ c.append.new.keyed c.make_room.new.keyed.items lent (search rules) in
     record {
       countable = c.self.invariant.countable;
-      room = c.push_reserved.ensures.capacity ∙ c.make_room.ensures.capacity ∙ c.self.invariant.room;
+      room = c.append.ensures.capacity ∙ c.make_room.ensures.capacity ∙ c.self.invariant.room;
       wide = c.self.invariant.wide;
       equal = λ cause below. wide.1 cause ∙ c.self.invariant.equal cause (subst (λ n. cause < n) wide.0 below);
+      as_wide = λ class below. ap (λ l. length (slice_index_or l class [])) whole ∙ c.append.ensures.sets.1 class
+          ∙ ap (λ l. length (slice_index_or l class [])) c.deref_mut.ensures.value
+          ∙ c.make_room.ensures.keyed.1 class
+          ∙ c.self.invariant.as_wide class below;
       spare = c.self.invariant.spare;
       marked = after.marked;
+      classed = subst (λ l. AreClassed g.K.KeyOf.key_of l c.append.new.places.items) (sym whole) c.append.ensures.classed;
       counted = ap (λ n. n + 1) c.self.invariant.counted ∙ sym (ap length (waits g c) ∙ length_push entries (c.args.cause, c.args.value));
     }
 
 pub returns-clause-last : goal.returns-clause-last
 returns-clause-last g c =
     let wide = wide-again c.self.inside.sets.items c.make_room.new.sets.items _ c.make_room.ensures.sets (stepped g c).wide in
-    ap (λ n. (c.self.inside.capacity, (n, waiting (cause_at (set c.make_room.new.sets.items c.args.cause c.insert.new.self)) c.push_reserved.new.self.items))) wide.0
+    ap (λ n. (c.self.inside.capacity, (n, waiting (cause_at (set c.make_room.new.sets.items c.args.cause c.insert.new.self)) c.append.new.places.items))) wide.0
     ∙ ap (λ es. (c.self.inside.capacity, (length c.self.inside.sets.items, es))) (waits g c)
     ∙ ap (λ v. with_entries v (entries_of v ++ (c.args.cause, c.args.value) ∷ [])) c.self.view_is
