@@ -83,7 +83,7 @@ module _ (s : State) (token : ℕ) (fs : Frames) (core : IsSettled s) (sound : h
 
 -- nothing is finished
 pub finishes_none : (completion : Result (List ℕ) DeviceFault) (s : State) (fs : Frames) → Seen (FinishesBy completion) s (record s { frames = fs })
-finishes_none (Ok buffer) s fs = ([], omega arith, sym (append-nil (drop s.released s.replies.items)), refl)
+finishes_none (Ok buffer) s fs = ([], tt, (0, tt), sym (append-nil (drop s.released s.replies.items)), refl)
 finishes_none (Err fault) s fs = ([], tt, sym (append-nil (drop s.released s.replies.items)), refl)
 
 pub if_ok_all : (completion : Result (List ℕ) DeviceFault) (P : Type 0) → P → IfOk completion (λ _. P)
@@ -117,7 +117,7 @@ delivered s mid new token completion receipt took same leads still rest =
     )
 
 pub finishes_on : (completion : Result (List ℕ) DeviceFault) (s mid new : State) → Seen (FinishesBy completion) s mid → Seen SameReplies mid new → Seen (FinishesBy completion) s new
-finishes_on (Ok buffer) s mid new order same = (order.0, order.1, same.0 ∙ order.2, same.1 ∙ order.3)
+finishes_on (Ok buffer) s mid new order same = (order.0, order.1, order.2, same.0 ∙ order.3, same.1 ∙ order.4)
 finishes_on (Err fault) s mid new order same = (order.0, order.1, same.0 ∙ order.2, same.1 ∙ order.3)
 
 -- what a frame holds depends on its use alone

@@ -85,6 +85,29 @@ gathering_none s sound stopped =
       scrubs = (refl, refl, refl);
     }
 
+-- the same requests in another line
+pub gathering_line : (s mid : State) (count : ℕ) (line : Line Request) → IsGathering s mid count → requests_in line ≡ waiting_of mid → SameRoom mid.waiting line → IsGathering s (record mid { waiting = line }) count
+gathering_line s mid count line is same room =
+    record {
+      frames = is.frames;
+      stopped = is.stopped;
+      none_held = is.none_held;
+      more = is.more;
+      replies = is.replies;
+      all = subst (λ (rs : List Request). IsPermutation (unreplied s) ((map numbered_op rs ++ map held_op (held_requests mid.frames)) ++ map numbered_op is.more)) (sym same) is.all;
+      waiting_sized = subst (AllByRecursion (HasOneBlock s.frames.geometry)) (sym same) is.waiting_sized;
+      sized = is.sized;
+      tokens = is.tokens;
+      shard = is.shard;
+      waiting_room = (room.0 ∙ is.waiting_room.0, room.1 ∙ is.waiting_room.1);
+      replies_room = is.replies_room;
+      accepted = is.accepted;
+      unanswered = is.unanswered;
+      released = is.released;
+      calls = is.calls;
+      scrubs = is.scrubs;
+    }
+
 frame_only : (x y : Shard) (frame : ℕ → Option Hold) → x ≡ record y { frame = frame } → x ≡ record y { frame = x.frame }
 frame_only x y frame same = same ∙ ap (λ f. record y { frame = f }) (sym (ap (λ (z : Shard). z.frame) same))
 

@@ -28,7 +28,7 @@ use Rattle.r6_core.proofs.CountedRows.{counted_still}
 use Rattle.r6_core.proofs.Kept.{own_rows_kept, requests_kept, sizes_kept}
 use Rattle.r6_core.proofs.Passed.{Passed, passed, all-append, all-middle}
 use Rattle.r6_core.proofs.Replied.{length_replied, more_replied}
-use Rattle.r6_core.proofs.Settling.{behind_finished}
+use Rattle.r6_core.proofs.Settling.{behind_finished, one_row_few}
 use Rattle.r6_core.proofs.SlotsKept.{calls_same}
 use Rattle.r6_core.proofs.Throughs.{through_none}
 
@@ -138,7 +138,7 @@ module _ (s : State) (token : ℕ) (block : List ℕ) (request : Request) (fs : 
       }
 
   pub given_order : Seen MayFinish s given
-  given_order = let both = behind_finished s given (request ∷ []) core.sound refl items in (request ∷ [], omega arith, both.0, both.1)
+  given_order = let both = behind_finished s given (request ∷ []) core.sound refl items in (request ∷ [], (tt, tt), one_row_few (layout_in s) (request ∷ []) (omega arith), both.0, both.1)
 
   pub given_freed : IsCore s → (number : ℕ) → FreesDirect s.frames number fs → HasBuffer given
   given_freed whole number frees = record {

@@ -42,6 +42,7 @@ pub mod Scrubs
 pub mod SeenFailure
 pub mod Settling
 pub mod SlotsKept
+pub mod Sorted
 pub mod Starting
 pub mod Taking
 pub mod Throughs

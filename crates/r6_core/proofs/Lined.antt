@@ -82,6 +82,27 @@ module _ {X : Type 0} where
   values_none [] is = refl
   values_none ((c, y) ∷ es) is = absurd (cc is)
 
+  -- ---- where all wait for one cause
+
+  pub first_of_all : (cause : ℕ) (es : Entries X) (x : X) → AllByRecursion (IsFor cause) es → oldest_of cause es ≡ Some x → values es ≡ x ∷ values (without_oldest cause es)
+  first_of_all cause [] x all is = absurd (cc is)
+  first_of_all cause ((c, y) ∷ es) x all is =
+      let here = eq-eqb c cause all.0 in
+      let found : Some y ≡ Some x = sym (ap (λ (b : Bool). if b then Some y else oldest_of cause es) here) ∙ is in
+      let same : y ≡ x = cc in
+      ap (λ z. z ∷ values es) same ∙ sym (ap (λ (b : Bool). x ∷ values (if b then es else (c, y) ∷ without_oldest cause es)) here)
+
+  pub rest_of_all : (cause : ℕ) (es : Entries X) → AllByRecursion (IsFor cause) es → AllByRecursion (IsFor cause) (without_oldest cause es)
+  rest_of_all cause [] all = tt
+  rest_of_all cause ((c, y) ∷ es) all =
+      subst (λ (b : Bool). AllByRecursion (IsFor cause) (if b then es else (c, y) ∷ without_oldest cause es)) (sym (eq-eqb c cause all.0)) all.1
+
+  pub none_of_all : (cause : ℕ) (es : Entries X) → AllByRecursion (IsFor cause) es → oldest_of cause es ≡ None → values es ≡ []
+  none_of_all cause [] all is = refl
+  none_of_all cause ((c, y) ∷ es) all is =
+      let none : Some y ≡ None = sym (ap (λ (b : Bool). if b then Some y else oldest_of cause es) (eq-eqb c cause all.0)) ∙ is in
+      absurd (cc none)
+
   -- ---- where the oldest of a cause stands
 
   pub record IsSplit (cause : ℕ) (es : Entries X) (x : X) : Type 0 where

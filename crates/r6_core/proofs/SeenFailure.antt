@@ -194,20 +194,20 @@ above r (x ∷ rs) up apart =
     let ne : r.id ≢ x.id = λ e. let same = eq-eqb r.id x.id e in let no = apart.0 in absurd (cc) in
     (omega (arith, le, ne), above r rs (λ j lt. up (suc j) (omega arith)) apart.1)
 
-rising : (rs : List Request) → IsNonDecreasingBy (λ r. r.id) rs → IsDistinct nat_eq (numbers rs) → IsRising rs
+pub rising : (rs : List Request) → IsNonDecreasingBy (λ r. r.id) rs → IsDistinct nat_eq (numbers rs) → IsRising rs
 rising [] up distinct = tt
 rising (r ∷ rs) up distinct = (
   above r rs (λ j lt. up zero (suc j) r (omega arith) (omega arith)) (IsDistinct-head nat_eq r.id (numbers rs) distinct),
   rising rs (IsNonDecreasingBy-drop (λ r. r.id) 1 (r ∷ rs) up) (IsDistinct-tail nat_eq r.id (numbers rs) distinct),
 )
 
-distinct_behind : (xs ys : Entries shards.Request) → IsDistinct nat_eq (keys_of (xs ++ ys)) → IsDistinct nat_eq (keys_of ys)
+pub distinct_behind : (xs ys : Entries shards.Request) → IsDistinct nat_eq (keys_of (xs ++ ys)) → IsDistinct nat_eq (keys_of ys)
 distinct_behind [] ys h = h
 distinct_behind (x ∷ xs) ys h = distinct_behind xs ys (IsDistinct-tail nat_eq x.0 (keys_of (xs ++ ys)) h)
 
 -- ---- the shard behind it
 
-all_permuted : {X : Type 0} (P : X → Type 0) (xs ys : List X) → IsPermutation xs ys → AllByRecursion P xs → AllByRecursion P ys
+pub all_permuted : {X : Type 0} (P : X → Type 0) (xs ys : List X) → IsPermutation xs ys → AllByRecursion P xs → AllByRecursion P ys
 all_permuted P xs ys same all = recursion_from_All P ys (All-permutation P xs ys same (All-from_recursion P xs all))
 
 module _ (s : State) (mid : State) (sorted : Buffer Request) (sound : IsSound s) (seen : s.frames.saw_failed ≡ true) (none : read_requests s.frames ≡ []) (gathers : Gathers s mid)

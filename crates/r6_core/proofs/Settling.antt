@@ -1,145 +1,36 @@
--- Holds that are over end one by one, from the one with the oldest request on.
-use Rattle.std.proofs.Common.{◌≡◌, ◌≢◌, ℕ, Bool, true, false, ◌+◌, ◌<◌, ◌≤◌, List, [], ◌∷◌, ◌++◌, map, take, drop, length, refl, sym, ap, subst, ◌∙◌, Some, None, inl, inr, arith, append_assoc, append-nil}
-use Rattle.std.specs.Prelude.{nat_eq, option_map}
-use Rattle.std.specs.List.{IsDistinct, AllByRecursion}
-use Rattle.std.specs.Map.{keys_of}
+-- Holds that are over end one by one, and then their requests stand by number.
+use Rattle.std.proofs.Common.{◌≡◌, ℕ, Bool, true, ◌+◌, ◌<◌, ◌≤◌, List, [], ◌∷◌, ◌++◌, map, take, drop, length, refl, sym, ap, subst, ◌∙◌, None, inl, inr, arith, append_assoc, append-nil, length-append}
+use Rattle.std.specs.Prelude.{option_map, IsPermutation}
 use Rattle.std.proofs.lemmas.Bool.{cases_eq}
-use Rattle.std.proofs.lemmas.List.{drop-append-le, take-append-le}
-use Rattle.r6_stripe.specs.Holds.{Kind}
+use Rattle.std.proofs.lemmas.List.{drop-append-le, take-append-le, take-append-drop, take_all, drop_all}
 use Rattle.r6_world.specs.PlainArray as world
-use Rattle.r6_world.specs.ShardStates as shards
-use Rattle.r6_world.specs.ShardStates.{Held}
+use Rattle.r6_world.specs.Layouts.{Layout}
 use Rattle.r6_world.specs.Steps.{GoesOn, Through}
 use Rattle.r6_frames.specs.declared.op.Request.{Request}
 use Rattle.r6_frames.specs.declared.frames.HeldRow.{HeldRow}
 use Rattle.r6_frames.specs.declared.frames.Job.{Job}
-use Rattle.r6_frames.specs.declared.frames.Job.TheVariants as job
-use Rattle.r6_frames.specs.declared.frames.FrameUse.TheVariants.{Free}
 use Rattle.r6_frames.specs.declared.frames.Frames.{Frames}
-use Rattle.r6_frames.specs.Views.{row_in, hold_at, held_entry, held_for, held_requests, is_request, kind_in, new_data_of, rank_of, request_at, requests_by, use_at, AreLive}
-use Rattle.r6_frames.specs.Directs.{read_requests}
+use Rattle.r6_frames.specs.Views.{op_of, row_in, hold_at, held_for, held_requests, kind_in, requests_by, AreLive}
 use Rattle.r6_frames.specs.Calls.{KeepsOthers, KeepsReads, KeepsRows, Drives}
-use Rattle.r6_frames.specs.Owed.{owed, IsDriven, IsOver, IsLowestOver}
+use Rattle.r6_frames.specs.Owed.{owed, IsDriven, IsOver}
 use Rattle.r6_frames.specs.Sound as held
+use Rattle.r6_core.specs.declared.scan.Freed.{Freed}
+use Rattle.r6_core.specs.declared.scan.Freed.TheVariants as freed
 use Rattle.r6_core.specs.declared.state.State.{State}
-use Rattle.r6_core.specs.Shards.{core_of, state_of, layout_in, requests_of, table, waiting_request, replied_requests, waiting_of}
-use Rattle.r6_core.specs.Order.{IsRising, Finishes}
-use Rattle.r6_core.specs.Inside.{AreReadOn, SameFrames, IsSound, IsSettled, IsRestedFrame, FinishesHeld, Seen, count_rows, numbered_op, one_if}
-use Rattle.r6_frames.proofs.Held.{held_goes, held_within, use_held}
-use Rattle.r6_frames.proofs.Lists.{Entries, all_parts, own, apart}
+use Rattle.r6_core.specs.Shards.{core_of, state_of, layout_in}
+use Rattle.r6_core.specs.Order.{AreOfOneRow, Finishes, MayFinish}
+use Rattle.r6_core.specs.Inside.{AllWait, AreReadOn, HasBuffer, HasFreed, HasLetGo, KeepsWaiting, SameFrames, IsSound, IsSettled, IsRested, IsRestedFrame, FinishesHeld, Seen, StandByNumber, count_rows, numbered_op, one_if}
 use Rattle.r6_core.proofs.CountedRows.{row_weight, rows_counted_but_one}
-use Rattle.r6_core.proofs.Passed.{all-append}
+use Rattle.r6_core.proofs.SeenFailure.{all_permuted}
 use Rattle.r6_core.proofs.Throughs.{through_both, through_in, through_of}
 use Rattle.r6_core.proofs.Going.{Goes, goes_still, drives_give, drives_still, between_states, gone_sound, puts_out_on, reading_kept}
 
--- ---- the numbers of the requests of held rows
+-- ---- requests that are finished
 
--- where the request of a held row stands
-record IsAmong (s : State) (frame : ℕ) (r : ℕ × world.Op) : Type 0 where
-  pub before : Entries shards.Request
-  pub behind : Entries shards.Request
-  pub parts : requests_of s ≡ before ++ held_entry frame r ∷ behind
-
-among : (s : State) (frame : ℕ) (h : HeldRow) (r : ℕ × world.Op) → hold_at s.frames.held frame ≡ Some h → requests_by h.job (kind_in h) ≡ r ∷ [] → IsAmong s frame r
-among s frame h r is only =
-    let w = map waiting_request (waiting_of s) in
-    let rest = read_requests s.frames ++ replied_requests s.frames.saw_failed s.released s.replies.items in
-    let entry : request_at frame (use_at s.frames.held frame) ≡ held_entry frame r ∷ [] =
-    ap (request_at frame) (use_held s.frames.held frame h is) ∙ ap (map (held_entry frame)) only in
-    let place = held_goes 0 s.frames.held frame frame Free (held_entry frame r) (held_within s.frames.held frame h is) refl (omega arith) entry in
-    record {
-      before = w ++ place.before;
-      behind = place.behind ++ rest;
-      parts = ap (λ es. w ++ es) (append_assoc (held_requests s.frames) (read_requests s.frames) _) ∙ ap (λ es. w ++ (es ++ rest)) place.with ∙ (simp append_assoc);
-    }
-
-held_there : (s : State) (frame : ℕ) (r : ℕ × world.Op) → IsSound s → IsAmong s frame r → table (requests_of s) r.0 ≡ Some (held_entry frame r).1
-held_there s frame r sound is =
-    let distinct = subst (λ es. IsDistinct nat_eq (keys_of es)) is.parts sound.requests.distinct in
-    ap (λ es. table es r.0) is.parts
-    ∙ own is.before r.0 (held_entry frame r).1 is.behind (apart is.before r.0 (held_entry frame r).1 is.behind distinct)
-
-held_number : (s : State) (frame : ℕ) (r : ℕ × world.Op) → IsSound s → IsAmong s frame r → r.0 < s.accepted
-held_number s frame r sound is =
-    (all_parts (λ id. id < s.accepted) is.before r.0 (held_entry frame r).1 is.behind
-    (subst (λ es. AllByRecursion (λ id. id < s.accepted) (keys_of es)) is.parts sound.requests.numbered)).0
-
--- two held rows have two requests
-held_ids : (s : State) (frame other : ℕ) (r q : ℕ × world.Op) → IsSound s → IsAmong s frame r → IsAmong s other q → frame ≢ other → r.0 ≢ q.0
-held_ids s frame other r q sound here there ne same =
-    let both : Some (held_entry frame r).1 ≡ Some (held_entry other q).1 =
-    sym (held_there s frame r sound here) ∙ ap (table (requests_of s)) same ∙ held_there s other q sound there in
-    let one : (held_entry frame r).1 ≡ (held_entry other q).1 = cc in
-    let stage : Held frame ≡ Held other = ap (λ (r : shards.Request). r.stage) one in
-    let frames : frame ≡ other = cc in
-    ne frames
-
--- the request of a job, whose number is its rank
-has_request : (j : Job) (kind : Kind) → is_request j ≡ true → (r : ℕ × world.Op) × (requests_by j kind ≡ r ∷ []) × (rank_of j ≡ r.0)
-has_request (job.Read served buffer) kind request = ((served.id, world.Op.Read served.block), refl, refl)
-has_request (job.Write served) kind request = ((served.id, world.Op.Write served.block (new_data_of kind)), refl, refl)
-has_request (job.Scrub scrub) kind request = absurd (cc)
-has_request (job.Rebuild target) kind request = absurd (cc)
-
-last_rank : (j : Job) → is_request j ≡ false → rank_of j ≡ 18446744073709551615
-last_rank (job.Read served buffer) is = absurd (cc)
-last_rank (job.Write served) is = absurd (cc)
-last_rank (job.Scrub scrub) is = refl
-last_rank (job.Rebuild target) is = refl
-
--- the rank of a request in one frame is that of no row in another
-rank_apart : (s : State) (frame other : ℕ) (h i : HeldRow) → IsSound s → hold_at s.frames.held frame ≡ Some h → hold_at s.frames.held other ≡ Some i
-    → frame ≢ other → is_request h.job ≡ true → rank_of h.job ≢ rank_of i.job
-rank_apart s frame other h i sound here there ne request same =
-    let own = has_request h.job (kind_in h) request in
-    let at = among s frame h own.0 here own.1 in
-    elim (is_request i.job) as (λ b. is_request i.job ≡ b → ⊥) [
-      | false ↦ λ is.
-          let lt = held_number s frame own.0 sound at in
-          omega (arith, lt, own.2, same, last_rank i.job is, sound.accepted)
-      | true ↦ λ none.
-          let its = has_request i.job (kind_in i) none in
-          held_ids s frame other own.0 its.0 sound at (among s other i its.0 there its.1) ne (sym own.2 ∙ same ∙ its.2)
-    ] refl
-
--- ---- lists that rise
-
--- all these have lower numbers
-abbrev pub AreLower : List Request → ℕ → Type 0
-AreLower rs id = AllByRecursion (λ r. r.id < id) rs
-
-rising_behind : (rs : List Request) (last : Request) → IsRising rs → AreLower rs last.id → IsRising (rs ++ last ∷ [])
-rising_behind [] last rising lower = (tt, tt)
-rising_behind (r ∷ rs) last rising lower =
-    (all-append (λ other. r.id < other.id) rs (last ∷ []) rising.0 (lower.0, tt), rising_behind rs last rising.1 lower.1)
-
--- what has ended stands behind what had
-lower_mapped : (rs : List Request) (rank : ℕ) → AllByRecursion (λ r. r.0 < rank) (map numbered_op rs) → AreLower rs rank
-lower_mapped [] rank all = tt
-lower_mapped (r ∷ rs) rank all = (all.0, lower_mapped rs rank all.1)
-
-lower_by : (j : Job) (kind : Kind) (rank : ℕ) → (is_request j ≡ true → rank_of j < rank) → AllByRecursion (λ r. r.0 < rank) (requests_by j kind)
-lower_by (job.Read served buffer) kind rank lower = (lower refl, tt)
-lower_by (job.Write served) kind rank lower = (lower refl, tt)
-lower_by (job.Scrub scrub) kind rank lower = tt
-lower_by (job.Rebuild target) kind rank lower = tt
-
-rank_is : (j : Job) (kind : Kind) (r : ℕ × world.Op) → requests_by j kind ≡ r ∷ [] → rank_of j ≡ r.0
-rank_is (job.Read served buffer) kind r is = let same : (served.id, world.Op.Read served.block) ≡ r = cc in ap (λ x. x.0) same
-rank_is (job.Write served) kind r is = let same : (served.id, world.Op.Write served.block (new_data_of kind)) ≡ r = cc in ap (λ x. x.0) same
-rank_is (job.Scrub scrub) kind r is = absurd (cc)
-rank_is (job.Rebuild target) kind r is = absurd (cc)
-
-few_by : (j : Job) (kind : Kind) → length (requests_by j kind) ≤ 1
-few_by (job.Read served buffer) kind = omega arith
-few_by (job.Write served) kind = omega arith
-few_by (job.Scrub scrub) kind = omega arith
-few_by (job.Rebuild target) kind = omega arith
-
-rising_more : (rs more : List Request) (j : Job) (kind : Kind) → map numbered_op more ≡ requests_by j kind → IsRising rs → AreLower rs (rank_of j) → IsRising (rs ++ more)
-rising_more rs [] j kind is rising lower = subst IsRising (sym (append-nil rs)) rising
-rising_more rs (r ∷ []) j kind is rising lower = rising_behind rs r rising (subst (AreLower rs) (rank_is j kind (numbered_op r) (sym is)) lower)
-rising_more rs (r ∷ q ∷ more) j kind is rising lower = absurd (let long = ap length is in omega (arith, long, few_by j kind))
+pub one_row_few : (l : Layout) (rs : List Request) → length rs ≤ 1 → AreOfOneRow l rs
+one_row_few l [] few = (0, tt)
+one_row_few l (r ∷ []) few = (l.row_of (world.block_of (op_of r.op)), (refl, tt))
+one_row_few l (r ∷ q ∷ rs) few = absurd (omega arith)
 
 -- more requests are finished, behind those that were, and none is released
 pub behind_finished : (old new : State) (more : List Request) → IsSound old → new.released ≡ old.released → new.replies.items ≡ old.replies.items ++ more
@@ -151,7 +42,7 @@ behind_finished old new more sound released items = (
 
 -- ---- the loop
 
--- since the old state requests were finished, and their numbers are lower than the ranks of the rows whose holds are over
+-- since the old state requests were finished
 pub record IsSettling (old now : State) : Type 0 where
   pub sound : IsSound now
   pub reading : AreReadOn now.frames
@@ -163,9 +54,7 @@ pub record IsSettling (old now : State) : Type 0 where
   pub waiting : now.waiting ≡ old.waiting
   pub released : now.released ≡ old.released
   pub more : List Request
-  pub rising : IsRising more
   pub items : now.replies.items ≡ old.replies.items ++ more
-  pub lower : (frame : ℕ) (h : HeldRow) → IsOver now.frames frame → hold_at now.frames.held frame ≡ Some h → AreLower more (rank_of h.job)
 
 -- all commands that come next were put out
 pub driven_goes : (s : State) (fs : Frames) → IsSound s → AreLive s.frames → held.IsSound fs → AreLive fs → Drives s.frames fs → held_requests fs ≡ held_requests s.frames
@@ -192,37 +81,19 @@ settling s fs goes drives sound reading live driven =
       waiting = refl;
       released = refl;
       more = [];
-      rising = tt;
       items = sym (append-nil s.replies.items);
-      lower = λ frame h over is. tt;
     }
 
--- the hold with the lowest number of those that are over ends
-module _ (old now new : State) (frame : ℕ) (before : IsSettling old now) (lowest : IsLowestOver now.frames frame)
+-- a hold that is over ends
+module _ (old now new : State) (frame : ℕ) (before : IsSettling old now) (over : IsOver now.frames frame)
     (sound : IsSound new) (live : AreLive new.frames) (leads : Through (layout_in now) now.frames.shard GoesOn (state_of now) (state_of new))
     (rests : IsRestedFrame new frame) (others : KeepsOthers now.frames frame new.frames) (same : SameFrames now new)
     (released : new.released ≡ now.released) (ends : FinishesHeld now frame new) (unanswered : new.unanswered ≡ now.unanswered) (waiting : new.waiting ≡ now.waiting) (reads : KeepsReads now.frames new.frames) where
   abbrev h : HeldRow
-  h = lowest.0.0
+  h = over.0
 
   pub ended : (more : List Request) × (map numbered_op more ≡ requests_by h.job (kind_in h)) × (new.replies.items ≡ now.replies.items ++ more) × (hold_at new.frames.held frame ≡ None)
-  ended = ends h lowest.0.1 lowest.0
-
-  -- a hold that is over still was over before, in another frame
-  still_over : (other : ℕ) (i : HeldRow) → IsOver new.frames other → hold_at new.frames.held other ≡ Some i
-      → (other ≢ frame) × IsOver now.frames other × (hold_at now.frames.held other ≡ Some i)
-  still_over other i over is =
-      elim (cases_eq other frame) [
-        | inl e ↦ let none = ap (hold_at new.frames.held) e ∙ ended.3 in absurd (let no : None ≡ Some i = sym none ∙ is in cc)
-        | inr ne ↦
-            let kept = ap row_in (others other ne) in
-            (ne, (over.0, sym kept ∙ over.1, over.2), sym kept ∙ is)
-      ]
-
-  lower_than : (rank : ℕ) → (is_request h.job ≡ true → rank_of h.job < rank) → AreLower before.more rank → AreLower (before.more ++ ended.0) rank
-  lower_than rank lower all =
-      let own : AreLower ended.0 rank = lower_mapped ended.0 rank (subst (AllByRecursion (λ r. r.0 < rank)) (sym ended.1) (lower_by h.job (kind_in h) rank lower)) in
-      all-append (λ r. r.id < rank) before.more ended.0 all own
+  ended = ends h over.1 over
 
   driven_on : (other : ℕ) → IsDriven new.frames other
   driven_on other =
@@ -246,15 +117,7 @@ module _ (old now new : State) (frame : ℕ) (before : IsSettling old now) (lowe
         waiting = waiting ∙ before.waiting;
         released = released ∙ before.released;
         more = before.more ++ ended.0;
-        rising = rising_more before.more ended.0 h.job (kind_in h) ended.1 before.rising (before.lower frame h lowest.0 lowest.0.1);
         items = ended.2 ∙ ap (λ rs. rs ++ ended.0) before.items ∙ append_assoc old.replies.items before.more ended.0;
-        lower = λ other i over is.
-            let was = still_over other i over is in
-            let le = lowest.1 other h i was.1 lowest.0.1 was.2 in
-            let higher : is_request h.job ≡ true → rank_of h.job < rank_of i.job = λ request.
-            let apart = rank_apart now frame other h i before.sound lowest.0.1 was.2 (λ e. was.0 (sym e)) request in
-            omega (arith, le, apart) in
-            lower_than (rank_of i.job) higher (before.lower other i was.1 was.2);
       }
 
   -- a row less is held
@@ -262,13 +125,61 @@ module _ (old now new : State) (frame : ℕ) (before : IsSettling old now) (lowe
   fewer_left =
       let any : Job → Bool = λ job. true in
       let rows = rows_counted_but_one any frame now.frames new.frames before.sound.frames sound.frames others in
-      let one : row_weight any now.frames.held frame ≡ 1 = ap (λ o. one_if any (option_map held_for o)) lowest.0.1 in
+      let one : row_weight any now.frames.held frame ≡ 1 = ap (λ o. one_if any (option_map held_for o)) over.1 in
       let none : row_weight any new.frames.held frame ≡ 0 = ap (λ o. one_if any (option_map held_for o)) ended.3 in
       omega (arith, rows, one, none)
-
-pub settled_order : (old now : State) → IsSound old → IsSettling old now → Seen Finishes old now
-settled_order old now sound is = let both = behind_finished old now is.more sound is.released is.items in (is.more, is.rising, both.0, both.1)
 
 -- when none is over, all have rested
 pub settled : (old now : State) → IsSettling old now → ((frame : ℕ) → IsOver now.frames frame → ⊥) → IsSettled now
 settled old now is none = record { sound = is.sound; reading = is.reading; rested = λ live frame. (is.driven frame, none frame) }
+
+-- ---- what was finished stands by number then
+
+-- those that were finished before stay in front
+pub sorted_items : {X : Type 0} (old more was now : List X) → was ≡ old ++ more → take (length old) now ≡ take (length old) was → now ≡ old ++ drop (length old) now
+sorted_items old more was now is before =
+    sym (take-append-drop (length old) now)
+    ∙ ap (λ rs. rs ++ drop (length old) now) (before ∙ ap (take (length old)) is ∙ take-append-le (length old) old more (omega arith) ∙ take_all (length old) old (omega arith))
+
+-- the same are finished
+pub sorted_more : (old more was now : List Request) → was ≡ old ++ more → IsPermutation (drop (length old) was) (drop (length old) now) → IsPermutation more (drop (length old) now)
+sorted_more old more was now is same =
+    subst (λ rs. IsPermutation rs (drop (length old) now)) (ap (drop (length old)) is ∙ drop-append-le (length old) old more (omega arith) ∙ ap (λ rs. rs ++ more) (drop_all (length old) old (omega arith))) same
+
+pub settled_sorted : (s new : State) (from : ℕ) → IsSettled s → StandByNumber s from new → IsSettled new
+settled_sorted s new from settled by =
+    record {
+      sound = by.sound;
+      reading = subst (λ (x : State). AreReadOn x.frames) (sym by.rest) settled.reading;
+      rested = subst (λ (x : State). AreLive x.frames → IsRested x) (sym by.rest) (λ live frame. settled.rested live frame);
+    }
+
+pub sorted_order : (old s new : State) (more : List Request) → IsSound old → s.released ≡ old.released → s.replies.items ≡ old.replies.items ++ more → StandByNumber s (length old.replies.items) new → Seen Finishes old new
+sorted_order old s new more sound released items by =
+    let last = drop (length old.replies.items) new.replies.items in
+    let both = behind_finished old new last sound (ap (λ (x : State). x.released) by.rest ∙ released) (sorted_items old.replies.items more s.replies.items new.replies.items items by.before) in
+    (last, by.rising, both.0, both.1)
+
+pub sorted_row_order : (old s new : State) (more : List Request) → IsSound old → s.released ≡ old.released → s.replies.items ≡ old.replies.items ++ more → AreOfOneRow (layout_in old) more
+    → StandByNumber s (length old.replies.items) new → Seen MayFinish old new
+sorted_row_order old s new more sound released items row by =
+    let last = drop (length old.replies.items) new.replies.items in
+    let both = behind_finished old new last sound (ap (λ (x : State). x.released) by.rest ∙ released) (sorted_items old.replies.items more s.replies.items new.replies.items items by.before) in
+    let all = all_permuted (λ (r : Request). (layout_in old).row_of (world.block_of (op_of r.op)) ≡ row.0) more last (sorted_more old.replies.items more s.replies.items new.replies.items items by.same) row.1 in
+    (last, by.rising, (row.0, all), both.0, both.1)
+
+pub sorted_keeps : (old s new : State) (from : ℕ) → KeepsWaiting old s → StandByNumber s from new → KeepsWaiting old new
+sorted_keeps old s new from keeps by = subst (λ (x : State). KeepsWaiting old x) (sym by.rest) keeps
+
+-- there is nothing but what was finished since behind the mark
+pub settled_within : (old now : State) (more : List Request) → now.replies.items ≡ old.replies.items ++ more → length old.replies.items ≤ length now.replies.items
+settled_within old now more is = let long = ap length is ∙ length-append old.replies.items more in omega (arith, long)
+
+pub freed_sorted : (freed : Freed) (s new : State) (from : ℕ) → HasFreed freed s → StandByNumber s from new → HasFreed freed new
+freed_sorted freed.Nothing s new from waits by = subst (λ (x : State). AllWait x) (sym by.rest) waits
+freed_sorted (freed.Row frame) s new from left by =
+    subst (HasLetGo frame) (sym by.rest)
+    (record { there = left.there; before = left.before; like = left.like; others = left.others; directs = left.directs; empty = left.empty; waits = left.waits })
+freed_sorted freed.Buffer s new from left by =
+    subst HasBuffer (sym by.rest) (record { before = left.before; like = left.like; holds = left.holds; number = left.number; frees = left.frees; waits = left.waits })
+freed_sorted freed.Any s new from left by = tt

@@ -1,5 +1,5 @@
 -- In which order requests start, are finished, and are answered.
-use Rattle.std.specs.Prelude.{◌≡◌, ◌≢◌, ℕ, ◌<◌, ◌≤◌, ◌⊎◌, true, false, List, [], ◌∷◌, ◌++◌, length, Option, Some, None, Result, Ok, Err, IfOk}
+use Rattle.std.specs.Prelude.{◌≡◌, ◌≢◌, ℕ, ◌<◌, ◌≤◌, ◌⊎◌, true, false, List, [], ◌∷◌, ◌++◌, Option, Some, None, Result, Ok, Err, IfOk}
 use Rattle.std.specs.List.{AllByRecursion}
 use Rattle.r6_world.specs.PlainArray as world
 use Rattle.r6_world.specs.Layouts.{Layout}
@@ -46,22 +46,28 @@ KeepsReplies old new = SameReplies old new × (new.unanswered ≡ old.unanswered
 
 -- ---- in which order requests are finished and released
 
--- at most one more request is finished, behind those that were
-abbrev pub MayFinish : CoreView → CoreView → Type 0
-MayFinish old new =
-    (more : List Request) × (length more ≤ 1) × (new.finished ≡ old.finished ++ more) × (new.released ≡ old.released)
-
 -- from the oldest to the newest
 abbrev pub IsRising : List Request → Type 0
 IsRising [] = Unit {0}
 IsRising (request ∷ newer) = AllByRecursion (λ other. request.id < other.id) newer × IsRising newer
+
+-- these are for blocks of one row
+abbrev pub AreOfOneRow : Layout → List Request → Type 0
+AreOfOneRow l requests =
+    (row : ℕ) × AllByRecursion (λ request. l.row_of (world.block_of (op_of request.op)) ≡ row) requests
+
+-- more requests are finished, all of one row, behind those that were, from the oldest of them to the newest
+abbrev pub MayFinish : CoreView → CoreView → Type 0
+MayFinish old new =
+    (more : List Request) × IsRising more × AreOfOneRow (core_layout old) more × (new.finished ≡ old.finished ++ more)
+    × (new.released ≡ old.released)
 
 -- more requests are finished, behind those that were, from the oldest of them to the newest
 abbrev pub Finishes : CoreView → CoreView → Type 0
 Finishes old new =
     (more : List Request) × IsRising more × (new.finished ≡ old.finished ++ more) × (new.released ≡ old.released)
 
--- a good completion finishes one request at most; with an error all may end whose device is lost
+-- a good completion finishes requests of one row alone; with an error all may end whose device is lost
 abbrev pub FinishesBy : Result (List ℕ) DeviceFault → CoreView → CoreView → Type 0
 FinishesBy (Ok buffer) old new = MayFinish old new
 FinishesBy (Err fault) old new = Finishes old new

@@ -12,7 +12,7 @@ ghost use Rattle.r6_frames.specs.Owed.{IsDriven};
 ghost use Rattle.r6_core.specs.Shards.{Step, core_of, completion_of, receipt_of, counts_of};
 ghost use Rattle.r6_core.specs.Refusals.{IsFirstFault, HasNone, deliver_faults};
 ghost use Rattle.r6_core.specs.Order.{MayFinish, Finishes, FinishesBy, HaveTurnsBehind};
-ghost use Rattle.r6_core.specs.Inside.{IsSound, IsSettled, IsCore, IsMarked, IsPlainEnd, IsRestedFrame, one_rebuilt, HasFault, HasFreed, HasBuffer, HasEnded, HandsBack, AreReadOn, FinishesHeld, requests_ended, rows_counted, KeepsShard, KeepsWaiting, ReadAgain, ReadAgainFor, Leads, Seen, TakesThrough};
+ghost use Rattle.r6_core.specs.Inside.{IsSound, IsSettled, IsCore, IsMarked, IsPlainEnd, IsRestedFrame, one_rebuilt, HasFault, HasFreed, HasBuffer, HasEnded, HandsBack, AreReadOn, FinishesHeld, FinishMore, requests_ended, rows_counted, KeepsShard, KeepsWaiting, ReadAgain, ReadAgainFor, Leads, Seen, TakesThrough};
 
 use crate::call::Call;
 use crate::refusal::{DeviceFault, Receipt, Refusal, Refused};
@@ -122,7 +122,10 @@ impl State {
         }
         let frame = self.frames.answer(token, buffer);
         self.frames.drive(frame);
-        self.finish(frame)
+        let before = self.replies.len();
+        let freed = self.finish(frame);
+        self.sort_finished(before);
+        freed
     }
 
     // The command of a direct read is answered: its request has its reply, the block.
@@ -182,7 +185,7 @@ impl State {
         }
     }
 
-    /// Holds go on after a loss. Those that are over end, from the one with the oldest request on.
+    /// Holds go on after a loss, and those that are over end. Their requests are finished by number.
     pub(crate) fn settle(&mut self)
         requires sound { IsSound self.old }
         requires reading { AreReadOn self.old.frames }
@@ -194,13 +197,15 @@ impl State {
         if !self.frames.is_live() {
             return;
         }
+        let first = self.replies.len();
         self.frames.drive_all();
         while let Some(frame) = self.frames.first_over() {
             let _ = self.finish(frame);
         }
+        self.sort_finished(first);
     }
 
-    // The frame's hold ends, if it is over, and its request is finished.
+    // The frame's hold ends, if it is over, and its requests are finished.
     fn finish(&mut self, frame: usize) -> Freed
         requires sound { IsSound self.old }
         requires live { AreLive self.old.frames }
@@ -211,10 +216,10 @@ impl State {
         ensures leads { Leads GoesOn self.old self.new }
         ensures rests { IsRestedFrame self.new frame }
 
-        // one request at most is finished, and nothing else changes
+        // requests of its row alone are finished, and nothing else changes
         ensures others { KeepsOthers self.old.frames frame self.new.frames }
         ensures keeps { KeepsWaiting self.old self.new }
-        ensures order { Seen MayFinish self.old self.new }
+        ensures more { FinishMore self.old self.new }
         ensures reads { KeepsReads self.old.frames self.new.frames }
         ensures released { self.new.released ≡ self.old.released }
         ensures ends { FinishesHeld self.old frame self.new }

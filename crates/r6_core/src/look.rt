@@ -10,10 +10,10 @@ ghost use Rattle.r6_frames.specs.Slots as slots;
 ghost use Rattle.r6_frames.specs.Slots.{states_of};
 ghost use Rattle.r6_core.specs.Shards.{Step, core_of, state_of, layout_in};
 ghost use Rattle.r6_core.specs.Order.{Agrees, SameReplies, FailsAll, LooksOn, HaveTurnsAfter};
-ghost use Rattle.r6_core.specs.Inside.{IsSound, IsSettled, IsCore, AreReadOn, ReadAgain, KeepsShard, Leads, SameFrames, SameCalls, NoCalls, Seen, ReleasesFinished, Gathers};
+ghost use Rattle.r6_core.specs.Inside.{IsSound, IsSettled, StandByNumber, IsCore, AreReadOn, ReadAgain, KeepsShard, Leads, SameFrames, SameCalls, NoCalls, Seen, ReleasesFinished, Gathers};
 
 use crate::refusal::Refusal;
-use crate::scan::Freed;
+use crate::scan::{ANYTHING, Freed};
 use crate::state::State;
 use circular_buffer::HeapCircularBuffer;
 use r6_frames::{Device, FRAMES, Rebuilt, Request};
@@ -118,7 +118,8 @@ impl State {
         requires stopped { AreLive self.old.frames → ⊥ }
         ensures gathers { Gathers self.old self.new }
     {
-        while let Some(request) = self.waiting.pop_any() {
+        self.waiting.gather(ANYTHING);
+        while let Some(request) = self.waiting.pop_oldest(ANYTHING) {
             let Ok(()) = self.replies.try_push_back(request) else {
                 unreachable!()
             };
@@ -130,6 +131,19 @@ impl State {
                 };
             }
         }
+    }
+
+    /// The replies from the index on stand by number.
+    pub(crate) fn sort_finished(&mut self, from: usize)
+        requires sound { IsSound self.old }
+        requires released { self.old.released ≤ from }
+        requires within { from ≤ length self.old.replies.items }
+        ensures { StandByNumber self.old from self.new }
+    {
+        if self.replies.len() - from <= 1 {
+            return;
+        }
+        sort_behind(&mut self.replies, from);
     }
 
     // Releases all finished requests.

@@ -1,40 +1,96 @@
-use Rattle.std.proofs.Common.{ap}
+use Rattle.std.proofs.Common.{◌≡◌, ℕ, length, sym, ap, subst, ◌∙◌, arith, length-append, rules}
+use Rattle.r6_layout.specs.Shape.{Shape}
+use Rattle.r6_world.specs.Changes.{after}
+use Rattle.r6_world.specs.Geometries.{layout_of}
+use Rattle.r6_world.specs.ShardStates.{Shard}
+use Rattle.r6_world.specs.Steps.{Through, GoesOn}
+use Rattle.r6_core.specs.declared.state.State.{State}
+use Rattle.r6_core.specs.Order.{AreOfOneRow}
+use Rattle.r6_core.specs.Inside.{StandByNumber}
+use Rattle.r6_core.specs.Shards.{layout_in, state_of}
+use Rattle.r6_core.proofs.Settling.{freed_sorted, settled_sorted, sorted_row_order}
 use Rattle.r6_frames.specs.Views.{use_at}
 use Rattle.r6_core.proofs.Answering.{driven_on, answered_takes, answered_core, answered_freed}
 use Rattle.r6_core.proofs.state.State.answer.Goals as goal
 
-pub finish-requires-clause-sound : goal.finish-requires-clause-sound
-finish-requires-clause-sound c =
+pub finish-freed-requires-clause-sound : goal.finish-freed-requires-clause-sound
+finish-freed-requires-clause-sound c =
     let answer = c.answer-frame.ensures in
     let drive = c.drive.ensures in
     driven_on c.args.self.now c.args.token c.args.buffer c.answer-frame.new.self c.drive.new.self c.requires.core.settled answer.sound answer.live answer.answers answer.requests answer.rows answer.owed
     drive.sound drive.live drive.drives drive.requests drive.rows drive.owed
 
+-- ---- what was finished stands by number
+
+pub sort_finished-requires-clause-released : goal.sort_finished-requires-clause-released
+sort_finished-requires-clause-released c =
+    let s = c.args.self.now in
+    let marked = c.requires.core.settled.sound.requests.marked in
+    let long : c.len-before.result ≡ length s.replies.items = search rules in
+    omega (arith, c.finish-freed.ensures.released, marked, long)
+
+pub sort_finished-requires-clause-within : goal.sort_finished-requires-clause-within
+sort_finished-requires-clause-within c =
+    let s = c.args.self.now in
+    let more = c.finish-freed.ensures.more in
+    let long : c.len-before.result ≡ length s.replies.items = search rules in
+    let all = ap length more.2 ∙ length-append s.replies.items more.0 in
+    omega (arith, all, long)
+
 pub returns-clause-settled : goal.returns-clause-settled
 returns-clause-settled c =
     let answer = c.answer-frame.ensures in
     let drive = c.drive.ensures in
-    let finish = c.finish.ensures in
-    answered_core c.args.self.now c.args.token c.args.buffer c.answer-frame.new.self c.drive.new.self c.requires.core.settled answer.sound answer.live answer.answers answer.requests answer.rows answer.owed
+    let finish = c.finish-freed.ensures in
+    settled_sorted c.finish-freed.new.self c.sort_finished.new.self c.len-before.result
+    (answered_core c.args.self.now c.args.token c.args.buffer c.answer-frame.new.self c.drive.new.self c.requires.core.settled answer.sound answer.live answer.answers answer.requests answer.rows answer.owed
     drive.sound drive.live drive.drives drive.requests drive.rows drive.owed
-    c.finish.new.self c.answer-frame.result answer.others drive.others finish.others finish.reads finish.sound finish.rests
+    c.finish-freed.new.self c.answer-frame.result answer.others drive.others finish.others finish.reads finish.sound finish.rests)
+    c.sort_finished.ensures
 
 pub returns-clause-takes : goal.returns-clause-takes
 returns-clause-takes c =
     let answer = c.answer-frame.ensures in
     let drive = c.drive.ensures in
-    answered_takes c.args.self.now c.args.token c.args.buffer c.answer-frame.new.self c.drive.new.self c.requires.core.settled answer.sound answer.live answer.answers answer.requests answer.rows answer.owed
+    let s = c.args.self.now in
+    let takes = answered_takes c.args.self.now c.args.token c.args.buffer c.answer-frame.new.self c.drive.new.self c.requires.core.settled answer.sound answer.live answer.answers answer.requests answer.rows answer.owed
     drive.sound drive.live drive.drives drive.requests drive.rows drive.owed
-    c.finish.new.self c.finish.ensures.leads
+    c.finish-freed.new.self c.finish-freed.ensures.leads in (
+      takes.0,
+      takes.1,
+      takes.2,
+      subst (λ (x : Shard). Through (layout_in s) s.frames.shard GoesOn (after (layout_in s) (state_of s) takes.0) x) (sym c.sort_finished.ensures.state) takes.3,
+    )
 
 pub returns-clause-freed : goal.returns-clause-freed
 returns-clause-freed c =
     let answer = c.answer-frame.ensures in
     let drive = c.drive.ensures in
-    let finish = c.finish.ensures in
-    answered_freed c.args.self.now c.args.token c.args.buffer c.answer-frame.new.self c.drive.new.self c.requires.core.settled answer.sound answer.live answer.answers answer.requests answer.rows answer.owed
+    let finish = c.finish-freed.ensures in
+    freed_sorted c.finish-freed.result c.finish-freed.new.self c.sort_finished.new.self c.len-before.result
+    (answered_freed c.args.self.now c.args.token c.args.buffer c.answer-frame.new.self c.drive.new.self c.requires.core.settled answer.sound answer.live answer.answers answer.requests answer.rows answer.owed
     drive.sound drive.live drive.drives drive.requests drive.rows drive.owed
-    c.finish.new.self c.answer-frame.result c.finish.result answer.others drive.others finish.others answer.directs drive.directs c.requires.core.waits drive.held finish.keeps.1 finish.keeps.0 finish.freed
+    c.finish-freed.new.self c.answer-frame.result c.finish-freed.result answer.others drive.others finish.others answer.directs drive.directs c.requires.core.waits drive.held finish.keeps.1 finish.keeps.0 finish.freed)
+    c.sort_finished.ensures
+
+pub returns-clause-order : goal.returns-clause-order
+returns-clause-order c =
+    let s = c.args.self.now in
+    let more = c.finish-freed.ensures.more in
+    let long : c.len-before.result ≡ length s.replies.items = search rules in
+    let by = subst (λ (from : ℕ). StandByNumber c.finish-freed.new.self from c.sort_finished.new.self) long c.sort_finished.ensures in
+    let row = subst (λ (shape : Shape). AreOfOneRow (layout_of shape) more.0) (c.drive.ensures.drives.0 ∙ c.answer-frame.ensures.answers.0) more.1 in
+    sorted_row_order s c.finish-freed.new.self c.sort_finished.new.self more.0 c.requires.core.settled.sound c.finish-freed.ensures.released more.2 row by
+
+-- the frame that was answered is the one that may change
+pub returns-clause-others : goal.returns-clause-others
+returns-clause-others c = (
+  c.answer-frame.result,
+  λ other ne. ap (λ (x : State). use_at x.frames.held other) c.sort_finished.ensures.rest
+      ∙ c.finish-freed.ensures.others other ne
+      ∙ c.drive.ensures.others other ne
+      ∙ c.answer-frame.ensures.others other ne,
+)
 
 -- ---- a direct read is answered
 

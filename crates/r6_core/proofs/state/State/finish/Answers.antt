@@ -12,7 +12,7 @@ use Rattle.r6_frames.specs.Directs.{read_requests}
 use Rattle.r6_frames.specs.Slots.{states_of}
 use Rattle.r6_core.proofs.Delivering.{ends_still, few_ended, freed, none_rested, ended_requests, one_ends, ended_sound, room_to_end}
 use Rattle.r6_core.proofs.MarkedRows.{marked_ends, marked_frames, marked_leads, marked_others, marked_reads, marked_rests, marked_sound, report_fits}
-use Rattle.r6_core.proofs.Settling.{behind_finished}
+use Rattle.r6_core.proofs.Settling.{one_row_few}
 use Rattle.r6_core.proofs.Throughs.{through_none}
 use Rattle.r6_core.proofs.state.State.finish.Goals as goal
 use Rattle.r6_frames.proofs.Held.{held_within}
@@ -70,13 +70,10 @@ returns-in-Some-Rebuilt-clause-reads c =
     marked_reads c.args.self.now c.args.frame c.in-Some-Rebuilt.target c.in-Some-Rebuilt.row c.finish.new.self c.requires.held.0 c.requires.sound c.requires.live (subst (λ (e : Ended). Ends c.args.self.now.frames c.args.frame e c.finish.new.self) c.in-Some-Rebuilt.field-0-is done.ends) c.requires.held.1
     done.sound done.others done.owed.0 done.owed.1 (subst (MayMark c.finish.new.self) c.in-Some-Rebuilt.field-0-is done.marks) c.mark_rebuilt.new.self mark.sound mark.holds mark.commands mark.same mark.marked
 
-pub returns-in-Some-Rebuilt-clause-order : goal.returns-in-Some-Rebuilt-clause-order
-returns-in-Some-Rebuilt-clause-order c =
-    let same = c.mark_rebuilt.ensures.same in
+pub returns-in-Some-Rebuilt-clause-more : goal.returns-in-Some-Rebuilt-clause-more
+returns-in-Some-Rebuilt-clause-more c =
     let s = c.args.self.now in
-    let both = behind_finished s c.mark_rebuilt.new.self [] c.requires.sound (ap (λ (x : State). x.released) same)
-    (ap (λ (x : State). x.replies.items) same ∙ sym (append-nil s.replies.items)) in
-    ([], omega arith, both.0, both.1)
+    ([], (0, tt), ap (λ (x : State). x.replies.items) c.mark_rebuilt.ensures.same ∙ sym (append-nil s.replies.items))
 
 pub returns-in-Some-Rebuilt-clause-ends : goal.returns-in-Some-Rebuilt-clause-ends
 returns-in-Some-Rebuilt-clause-ends c =
@@ -105,7 +102,6 @@ returns-in-Some c =
     let held = c.requires.held in
     let more = requests_ended e in
     let replies = buffer (s.replies.items ++ more) s.replies.capacity in
-    let both = behind_finished s c.close.new.self more c.requires.sound (ap (λ (x : State). x.released) same) (ap (λ (x : State). x.replies.items) same) in
     record {
       sound = subst IsSound (sym same)
           (ended_sound s c.args.frame e fs replies c.close.new.self.counts held.0 c.requires.sound c.requires.live ends held.1 refl c.close.ensures.counted left.sound left.others left.owed.0 left.owed.1 refl);
@@ -119,7 +115,7 @@ returns-in-Some c =
         ap (λ (x : State). x.waiting) same,
         ap (λ (x : State). x.unanswered) same,
       );
-      order = (more, few_ended e, both.0, both.1);
+      more = (more, one_row_few (layout_in s) more (few_ended e), ap (λ (x : State). x.replies.items) same);
       released = ap (λ (x : State). x.released) same;
       ends = λ h is over. (
         more,
@@ -142,3 +138,6 @@ pub returns-in-None-clause-leads : goal.returns-in-None-clause-leads
 returns-in-None-clause-leads c =
     through_none (layout_in c.args.self.now) c.args.self.now.frames.shard GoesOn (state_of c.args.self.now) (state_of (record c.args.self.now { frames = c.finish.new.self }))
     (ap (λ (fs : Frames). state_of (record c.args.self.now { frames = fs })) c.in-None.ensures.ends.1)
+
+pub returns-in-None-clause-more : goal.returns-in-None-clause-more
+returns-in-None-clause-more c = ([], (0, tt), sym (append-nil c.args.self.now.replies.items))

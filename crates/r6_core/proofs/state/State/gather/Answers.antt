@@ -1,32 +1,68 @@
-use Rattle.std.proofs.Common.{inl, inr, ◌+◌, ◌∷◌, ◌≤◌, drop, length, sym, ap, subst, ◌∙◌, arith}
+use Rattle.std.proofs.Common.{◌≡◌, None, refl, inl, inr, ◌+◌, ◌∷◌, ◌≤◌, length, sym, ap, subst, ◌∙◌, arith}
 use Rattle.r6_core.specs.declared.state.State.{State}
 use Rattle.r6_frames.specs.declared.frames.Frames.{Frames}
-use Rattle.r6_core.proofs.Gathering.{IsGathering, gathering_none, gathering_waiting, gathering_held, gathering_scrub, gathering_skips, gathered, replies_room, some_waits, some_held}
+use Rattle.r6_core.proofs.Gathering.{IsGathering, gathering_line, gathering_none, gathering_waiting, gathering_held, gathering_scrub, gathering_skips, gathered, replies_room, some_waits, some_held}
 use Rattle.r6_core.proofs.state.State.gather.Goals as goal
 use Rattle.r6_core.proofs.state.State.gather.Goals.{in-Some-give_up+in-Ok-try_push_back, in_default-give_up}
 use Rattle.r6_core.specs.Shards.{waiting_of, requests_in}
-use Rattle.r6_waiters.specs.Line.{capacity_of, causes_of, entries_of}
-use Rattle.r6_core.proofs.Lined.{values, values_first}
+use Rattle.std.specs.List.{AllByRecursion}
+use Rattle.r6_waiters.specs.Line.{Line, capacity_of, causes_of, entries_of, oldest_of, with_entries, without_oldest, gathered as gathered_for}
+use Rattle.r6_frames.specs.declared.op.Request.{Request}
+use Rattle.r6_waiters.proofs.Lines.{without-none}
+use Rattle.r6_core.specs.Inside.{anything}
+use Rattle.r6_core.proofs.Lined.{IsFor, all_for, first_of_all, none_of_all, rest_of_all, values, values_gathered}
 
 pub loop-request-init : goal.loop-request-init
-loop-request-init c = gathering_none c.args.self.now c.requires.sound c.requires.stopped
+loop-request-init c =
+    let s = c.args.self.now in
+    let all = entries_of s.waiting in
+    let is : IsGathering s (record s { waiting = with_entries s.waiting (gathered_for anything all) }) 0 =
+    gathering_line s s 0 (with_entries s.waiting (gathered_for anything all)) (gathering_none s c.requires.sound c.requires.stopped) (values_gathered anything all) (refl, refl) in
+    subst (λ (line : Line Request). (IsGathering s (record s { waiting = line }) 0) × AllByRecursion (IsFor anything) (entries_of line)) (sym c.gather.ensures) (is, all_for anything all)
 
 pub loop-request-preserved : goal.loop-request-preserved
 loop-request-preserved c =
     let mid = c.loop-request.self in
     let r = c.in-Some.request in
-    let popped = c.pop_any.ensures.rest in
-    let first = values_first (entries_of mid.waiting) r (sym c.pop_any.ensures.value ∙ c.in-Some.is) ∙ ap (λ line. r ∷ requests_in line) (sym popped) in
-    let pushed = c.in-Ok.ensures.ok in
-    gathering_waiting c.args.self.now mid 0 r c.loop-request.invariant c.try_push_back.new.self (ap (λ b. b.items) pushed) c.pop_any.new.self first
-    (ap capacity_of popped, ap causes_of popped) (ap (λ b. b.capacity) pushed)
+    let popped = c.pop_oldest.ensures.rest in
+    let inv = c.loop-request.invariant in
+    let es = entries_of mid.waiting in
+    let first = first_of_all anything es r inv.1 (sym c.pop_oldest.ensures.value ∙ c.in-Some.is) ∙ ap (λ line. r ∷ requests_in line) (sym popped) in
+    let pushed = c.in-Ok.ensures.ok in (
+      gathering_waiting c.args.self.now mid 0 r inv.0 c.try_push_back.new.self (ap (λ b. b.items) pushed) c.pop_oldest.new.self first
+          (ap capacity_of popped, ap causes_of popped) (ap (λ b. b.capacity) pushed),
+      subst (λ (line : Line Request). AllByRecursion (IsFor anything) (entries_of line)) (sym popped) (rest_of_all anything es inv.1),
+    )
+
+pub loop-request-smaller : goal.loop-request-smaller
+loop-request-smaller c =
+    let es = entries_of c.loop-request.self.waiting in
+    let first = first_of_all anything es c.in-Some.request c.loop-request.invariant.1 (sym c.pop_oldest.ensures.value ∙ c.in-Some.is)
+    ∙ ap (λ line. c.in-Some.request ∷ requests_in line) (sym c.pop_oldest.ensures.rest) in
+    let long = ap length first in
+    omega (arith, long)
+
+-- none waits any more
+pub loop-frame-init : goal.loop-frame-init
+loop-frame-init c =
+    let s = c.args.self.now in
+    let mid = c.loop-request.self in
+    let inv = c.loop-request.invariant in
+    let es = entries_of mid.waiting in
+    let none : oldest_of anything es ≡ None = sym c.pop_oldest.ensures.value ∙ c.in_default.is in
+    let line : c.pop_oldest.new.self ≡ mid.waiting = c.pop_oldest.ensures.rest ∙ ap (λ left. with_entries mid.waiting left) (without-none anything es none) in
+    record {
+      gathering = subst (λ (left : Line Request). IsGathering s (record mid { waiting = left }) 0) (sym line) inv.0;
+      none_waiting = ap (λ left. requests_in left) line ∙ none_of_all anything es inv.1 none;
+    }
 
 pub unreachable-requires : goal.unreachable-requires
 unreachable-requires c =
     let mid = c.loop-request.self in
     let r = c.in-Some.request in
-    let first = values_first (entries_of mid.waiting) r (sym c.pop_any.ensures.value ∙ c.in-Some.is) in
-    let room = replies_room c.args.self.now mid 0 c.requires.sound c.loop-request.invariant (some_waits mid r (values (drop 1 (entries_of mid.waiting))) first) in
+    let es = entries_of mid.waiting in
+    let first = first_of_all anything es r c.loop-request.invariant.1 (sym c.pop_oldest.ensures.value ∙ c.in-Some.is) in
+    let room = replies_room c.args.self.now mid 0 c.requires.sound c.loop-request.invariant.0 (some_waits mid r (values (without_oldest anything es)) first) in
     let no = c.in_default-try_push_back.ensures.variant.1 room in
     absurd (cc)
 

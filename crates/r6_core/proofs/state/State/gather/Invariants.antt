@@ -1,10 +1,14 @@
 use Rattle.std.proofs.Common.{◌≡◌, [], length}
+use Rattle.std.specs.List.{AllByRecursion}
+use Rattle.r6_waiters.specs.Line.{entries_of}
+use Rattle.r6_core.specs.Inside.{anything}
+use Rattle.r6_core.proofs.Lined.{IsFor}
 use Rattle.r6_core.proofs.Gathering.{IsGathering}
 use Rattle.r6_core.proofs.state.State.gather.Given as goal
 use Rattle.r6_core.specs.Shards.{waiting_of}
 
 abbrev pub invariant-loop-request : goal.invariant-loop-request
-invariant-loop-request l = IsGathering l.initial.self l.self 0
+invariant-loop-request l = IsGathering l.fn.self l.self 0 × AllByRecursion (IsFor anything) (entries_of l.self.waiting)
 
 abbrev pub decreases-loop-request : goal.decreases-loop-request
 decreases-loop-request l = length (waiting_of l.self)
