@@ -19,7 +19,13 @@ pub(crate) fn alone(alloc: Global, work: &Work) -> Result<Vec<MemoryDevice>, Fai
     let places = places_of(alloc, &geometry, work)?;
     let mut room = Row::new(alloc, geometry.data_slots())?;
     if work.writes && matches!(work.rows, Rows::Whole) {
-        write_rows(&mut room, &mut devices, &Place::of(&geometry, 0), &mut buffers, work)?;
+        write_rows(
+            &mut room,
+            &mut devices,
+            &Place::of(&geometry, 0),
+            &mut buffers,
+            work,
+        )?;
         return Ok(devices);
     }
     for _ in 0..work.rounds {

@@ -203,7 +203,9 @@ pub(crate) fn buffers_of(
 /// The request for a block of data of a row, in an array of so many slots. With chunks of one block, the row has those
 /// from `row * (slots - 2)` on.
 pub(crate) fn request(slots: usize, row: u64, index: u64, buffer: Buffer, writes: bool) -> Op {
-    let block = row.wrapping_mul(slots.wrapping_sub(2) as u64).wrapping_add(index);
+    let block = row
+        .wrapping_mul(slots.wrapping_sub(2) as u64)
+        .wrapping_add(index);
     if writes {
         Op::Write(block, buffer)
     } else {
