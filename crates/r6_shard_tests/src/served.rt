@@ -67,7 +67,8 @@ fn a_failed_device_is_named_and_read_by_parity(rt: HostRuntime) -> Result<(), Fa
     let mut named = [false; 32];
     named[1] = true;
     assert!(rt; ended.shard.named == named);
-    assert!(rt; register.read(&rt, &mut ended.shard.pass).slot(1).is_lost());
+    let mut pass = ended.shard.split_pass(&register);
+    assert!(rt; register.read(&rt, &mut pass).slot(1).is_lost());
     Ok(())
 }
 
@@ -165,6 +166,7 @@ fn two_shards_have_one_register(rt: HostRuntime) -> Result<(), Fail> {
     let mut other = play_in_turn(&rt, rt.alloc(), place, &register, second, &ROWS, &asks)?;
     assert!(rt; answers(&other, &[Answer::Done, Answer::Data(8), Answer::Refused(2)]));
     assert!(rt; other.shard.named == [false; 32]);
-    assert!(rt; register.read(&rt, &mut other.shard.pass).slot(1).is_lost());
+    let mut pass = other.shard.split_pass(&register);
+    assert!(rt; register.read(&rt, &mut pass).slot(1).is_lost());
     Ok(())
 }
