@@ -68,10 +68,10 @@ fn the_later_part_of_an_attach_is_rebuilt_and_read(rt: HostRuntime) -> Result<()
     assert!(rt; is_accepted(&mut shard, 0, op_of(rt.alloc(), Ask::Write(0, 7))?));
     shard.run(&rt, &register);
     assert!(rt; last_answer(&shard) == Some(Answer::Done));
-    let mut pass = shard.split_pass(&register);
-    assert!(rt; register.read(&rt, &mut pass).slot(1).is_lost());
     let none = shard.hand_in(new_part(rt.alloc(), 1, 0)?);
     assert!(rt; matches!(none, Ok(None)));
+    let mut pass = shard.split_pass(&register);
+    assert!(rt; register.read(&rt, &mut pass).slot(1).is_lost());
     assert!(rt; matches!(register.attach(&rt, &mut pass, 1), Ok(1)));
     let earlier = shard.hand_in(new_part(rt.alloc(), 1, 4)?);
     assert!(rt; matches!(earlier, Ok(Some(_))));
