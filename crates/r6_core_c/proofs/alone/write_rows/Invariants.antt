@@ -1,4 +1,3 @@
-use Rattle.std.proofs.Common.{◌≡◌, length}
 use Rattle.r6_alone.specs.Rows.{IsSized}
 use Rattle.r6_core_c.proofs.alone.write_rows.Given as goal
 
