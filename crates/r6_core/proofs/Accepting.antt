@@ -173,6 +173,8 @@ accepted_core s cause o core right sized =
           replies = sound.room.replies;
           calls = sound.room.calls;
           few_calls = sound.room.few_calls;
+          rooms = sound.room.rooms;
+          space = sound.room.space;
         };
         tokens = subst (λ n. s.frames.commands.next + owed s.frames + 2 * s.frames.geometry.slots * (n + length (read_requests s.frames)) ≤ most_tokens) (sym longer ∙ ap length back) (omega (arith, room, tokens));
         accepted = omega (arith, fresh);

@@ -23,6 +23,7 @@ use Rattle.r6_core.specs.declared.state.State.{State}
 use Rattle.r6_core.specs.Shards.{state_of, rest_of, layout_in, requests_of, core_of, waiting_of, requests_in}
 use Rattle.r6_core.specs.Order.{Agrees, SameReplies}
 use Rattle.r6_core.specs.Inside.{HandsBack, IsSettled, KeepsShard, ReadAgain, SameFrames, NoCalls, IsSound, bound, most_tokens, count_untold, SameCalls, Seen}
+use Rattle.r6_core.proofs.Rooms.{rooms_still}
 use Rattle.r6_core.proofs.CountedRows.{counted_kept, same_or_fewer}
 use Rattle.r6_core.proofs.Throughs.{through_both, through_in, through_one}
 use Rattle.r6_core.proofs.Kept.{own_rows_kept, requests_kept, sizes_kept}
@@ -113,6 +114,8 @@ sound_taken s slot device fs sound told takes is next owes requests rows =
         replies = sound.room.replies;
         calls = sound.room.calls;
         few_calls = omega (arith, no_calls, no_untold);
+        rooms = rooms_still s.rooms.items s.frames fs sound.frames is rows sound.room.rooms;
+        space = sound.room.space;
       };
       tokens = subst (λ n. n ≤ most_tokens) (sym bounds) sound.tokens;
       accepted = sound.accepted;

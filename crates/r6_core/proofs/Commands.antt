@@ -19,6 +19,7 @@ use Rattle.r6_frames.specs.Sound as held
 use Rattle.r6_core.specs.Shards.{Step, layout_in, state_of, rest_of, requests_of, waiting_request, replied_requests, core_of, waiting_of}
 use Rattle.r6_core.specs.Effects.{HandsCommand}
 use Rattle.r6_core.specs.Inside.{IsCore, IsLike, IsSettled, most_calls, count_rows, count_unheld}
+use Rattle.r6_core.proofs.Rooms.{rooms_same}
 use Rattle.r6_core.proofs.SlotsKept.{calls_same}
 use Rattle.r6_frames.proofs.Lists.{table}
 use Rattle.r6_core.proofs.CountedRows.{counted_kept}
@@ -74,6 +75,8 @@ taken_core s new core is =
           replies = sound.room.replies;
           calls = sound.room.calls;
           few_calls = omega (arith, sound.room.few_calls, out);
+          rooms = rooms_same s.rooms.items s.frames new is.holds sound.room.rooms;
+          space = sound.room.space;
         };
         tokens =
             let slots : 2 * new.geometry.slots * count_unheld (record s { frames = new }) ≡ 2 * s.frames.geometry.slots * count_unheld s =

@@ -137,8 +137,10 @@ turns_behind completion s mid new token receipt took same others again turns = (
   kept completion others,
   again.0,
   again.1,
-  subst (λ (rs : List Request). HaveTurns (core_of s) (state_of mid) rs (core_of new)) again.2
-      (turns_in s.frames.geometry mid.frames.geometry s.frames.shard mid.frames.shard (state_of mid) (state_of new) (waiting_of mid) (waiting_of new) same.0 same.1 turns),
+  subst (λ (rs : List Request). HaveTurns (core_of s) (state_of mid) rs (core_of new)) again.2 (
+    turns.0,
+    turns_in s.frames.geometry mid.frames.geometry s.frames.shard mid.frames.shard (state_of mid) (state_of new) (waiting_of mid) (waiting_of new) same.0 same.1 turns.1,
+  ),
 )
   where
     kept : (completion : Result (List ℕ) DeviceFault) → IfOk completion (λ _. (frame : ℕ) × KeepsOthers s.frames frame mid.frames)

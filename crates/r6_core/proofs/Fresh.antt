@@ -1,9 +1,10 @@
 -- A state with no request, in which nothing was put out.
 use Rattle.std.proofs.Common.{◌≡◌, ℕ, zero, suc, ◌+◌, ◌*◌, ◌<◌, ◌≤◌, List, [], ◌∷◌, ◌++◌, length, map, refl, sym, ap, subst, ◌∙◌, None, arith}
 use mathlib.Core.Path.{fun_ext}
-use Rattle.std.specs.Prelude.{nat_eq, option_map}
+use Rattle.std.specs.Prelude.{nat_eq, option_map, replicate, vec_capacity}
 use Rattle.std.specs.List.{IsDistinct, AllByRecursion}
 use Rattle.std.specs.Map.{keys_of}
+use Rattle.std.proofs.lemmas.List.{length-replicate}
 use Rattle.circular_buffer.specs.Buffer.{buffer}
 use Rattle.r6_layout.specs.Layout.{first_row}
 use Rattle.r6_layout.specs.Shape.{Shape, IsShape}
@@ -23,11 +24,12 @@ use Rattle.r6_core.specs.declared.state.State.{State}
 use Rattle.r6_frames.specs.Views.{use_at, is_scrub, row_in, hold_of, frame_of, command_of}
 use Rattle.r6_frames.specs.Calls.{HasOneBlock, IsAtStart, IsRequestOf}
 use Rattle.r6_frames.specs.Owed.{owed_in}
+use Rattle.r6_frames.specs.Writes.{Entry}
 use Rattle.r6_frames.specs.Sound as held
 use Rattle.r6_core.specs.declared.counts.Counts.{Counts}
 use Rattle.r6_core.specs.Shards.{call_of, counts_of, devices_state, state_of, requests_of, waiting_request, replied_requests, waiting_of, requests_in}
 use Rattle.r6_core.specs.Refusals.{most_unanswered}
-use Rattle.r6_core.specs.Inside.{AreOwnRows, IsCore, Waits, causes, IsFresh, IsReadOn, count_unheld, count_untold, is_turn, none_counted, rows_found}
+use Rattle.r6_core.specs.Inside.{AreOwnRows, IsCore, Waits, causes, IsFresh, IsReadOn, count_unheld, count_untold, is_turn, is_written, none_counted, rows_found}
 use Rattle.r6_frames.proofs.Lists.{table}
 use Rattle.r6_core.proofs.CountedRows.{no_rows_counted}
 use Rattle.r6_waiters.specs.Line.{capacity_of, causes_of, entries_of}
@@ -55,11 +57,16 @@ fresh_rows s shape shard lawful below same_shape same_shard check repair =
     (subst (λ (r : ℕ). IsRowOf (layout_of shape) shard r) (sym is) (first_row_own shape shard lawful below))) in
     (own s.check_row check, own s.repair_row repair)
 
+all_empty : (many : ℕ) → AllByRecursion (λ writes. writes ≡ []) (replicate {A = List Entry} many [])
+all_empty zero = tt
+all_empty (suc many) = (refl, all_empty many)
+
 pub fresh_core : (s : State) → s.accepted ≡ 0 → s.unanswered ≡ 0 → s.waiting ≡ (most_unanswered, (causes, [])) → s.replies ≡ buffer [] most_unanswered → s.released ≡ 0
     → s.calls ≡ buffer [] 64 → s.untold ≡ None → s.counts ≡ none_counted
     → (shape : Shape) (shard : ℕ) → IsShape shape → shard < shape.shards → s.frames.geometry ≡ shape → s.frames.shard ≡ shard
-    → s.check_row ≡ first_row shape shard → s.repair_row ≡ first_row shape shard → held.IsSound s.frames → IsAtStart s.frames → IsCore s
-fresh_core s accepted unanswered waiting replies released calls untold counts shape shard lawful below same_shape same_shard check repair sound start =
+    → s.check_row ≡ first_row shape shard → s.repair_row ≡ first_row shape shard → held.IsSound s.frames → IsAtStart s.frames
+    → s.rooms.items ≡ replicate shards.frames [] → shards.frames ≤ vec_capacity s.rooms → IsCore s
+fresh_core s accepted unanswered waiting replies released calls untold counts shape shard lawful below same_shape same_shard check repair sound start rooms space =
     let none : requests_of s ≡ [] = λ i. map waiting_request (requests_in (waiting i)) ++ ((start.3 i ++ start.4 i) ++ replied_requests s.frames.saw_failed (released i) (replies i).items) in
     let nobody : waiting_of s ≡ [] = ap requests_in waiting in
     let some : 2 * s.frames.geometry.slots * count_unheld s ≡ 0 = (λ i. 2 * s.frames.geometry.slots * (length (nobody i) + length (start.4 i))) ∙ (omega arith) in
@@ -84,6 +91,14 @@ fresh_core s accepted unanswered waiting replies released calls untold counts sh
             replies = ap (λ b. b.capacity) replies;
             calls = ap (λ b. b.capacity) calls;
             few_calls = let none : length s.calls.items + count_untold s.untold ≡ 0 = λ i. length (calls i).items + count_untold (untold i) in omega (arith, none);
+            rooms = record {
+              many =
+                  let rows = no_rows_counted is_written s.frames.held (λ frame. ap row_in (start.0 frame)) in
+                  let many = ap length rooms ∙ length-replicate {A = List Entry} shards.frames [] in
+                  omega (arith, rows, many);
+              empty = subst (AllByRecursion (λ writes. writes ≡ [])) (sym rooms) (all_empty shards.frames);
+            };
+            space = space;
           };
           tokens = omega (arith, some, nothing_owed s.frames.held start.0, start.1);
           accepted = omega (arith, accepted);

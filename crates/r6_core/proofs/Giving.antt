@@ -23,6 +23,7 @@ use Rattle.r6_core.specs.declared.state.State.{State}
 use Rattle.r6_core.specs.Shards.{finished_request, layout_in, replied_requests, requests_of, rest_of, state_of, waiting_request, waiting_of}
 use Rattle.r6_core.specs.Order.{MayFinish}
 use Rattle.r6_core.specs.Inside.{HasBuffer, IsCore, IsReadOn, IsSettled, IsSound, Seen, TakesThrough, count_rows, count_unheld, is_turn}
+use Rattle.r6_core.proofs.Rooms.{rooms_same}
 use Rattle.r6_core.proofs.Answering.{live_still, rested_kept}
 use Rattle.r6_core.proofs.CountedRows.{counted_still}
 use Rattle.r6_core.proofs.Kept.{own_rows_kept, requests_kept, sizes_kept}
@@ -123,6 +124,8 @@ module _ (s : State) (token : ℕ) (block : List ℕ) (request : Request) (fs : 
             replies = capacity ∙ sound.room.replies;
             calls = sound.room.calls;
             few_calls = let same = calls_same s.frames fs (ap states_of slots.0) geometry in omega (arith, same, sound.room.few_calls);
+            rooms = rooms_same s.rooms.items s.frames fs holds sound.room.rooms;
+            space = sound.room.space;
           };
           tokens = omega (arith, given_tokens, sound.tokens);
           accepted = sound.accepted;

@@ -21,6 +21,7 @@ use Rattle.r6_core.specs.declared.call.Call.{Call}
 use Rattle.r6_core.specs.declared.state.State.{State}
 use Rattle.r6_core.specs.Shards.{state_of, layout_in, rest_of, requests_of, framed_requests, call_of, counts_of, waiting_request, replied_requests, table, waiting_of}
 use Rattle.r6_core.specs.Inside.{AreReadOn, IsReadOn, IsSound, count_unheld, most_calls, count_untold, none_counted}
+use Rattle.r6_core.proofs.Rooms.{rooms_still}
 use Rattle.r6_core.proofs.CountedRows.{counted_kept, same_or_fewer}
 use Rattle.r6_core.proofs.Kept.{own_rows_kept, requests_kept, sizes_kept}
 use Rattle.r6_core.proofs.Replied.{as_many, keys_requests, numbers}
@@ -132,6 +133,8 @@ gone_sound s fs calls sound goes =
         replies = sound.room.replies;
         calls = goes.room ∙ sound.room.calls;
         few_calls = goes.few;
+        rooms = rooms_still s.rooms.items s.frames fs sound.frames goes.sound goes.rows sound.room.rooms;
+        space = sound.room.space;
       };
       tokens =
           let reads = as_many (read_requests fs) (read_requests s.frames) goes.reads in

@@ -25,6 +25,7 @@ use Rattle.r6_core.specs.Order.{WereRead}
 use Rattle.r6_core.specs.Shards.{requests_of, replied_requests, rest_of, state_of, table, waiting_request, waiting_of, requests_in}
 use Rattle.r6_core.specs.Inside as core
 use Rattle.r6_core.specs.Inside.{AreReadOn, IsReadOn, IsSound, ReadAgain, WereStopped, count_rows, count_unheld, is_turn}
+use Rattle.r6_core.proofs.Rooms.{rooms_same}
 use Rattle.r6_core.proofs.CountedRows.{counted_still}
 use Rattle.r6_core.proofs.Kept.{own_rows_kept, requests_kept, sizes_kept}
 use Rattle.r6_core.proofs.Passed.{Passed, all-append, passed}
@@ -180,6 +181,8 @@ module _ (s : State) (request : Request) (fs : Frames) (waiting : Line Request) 
           replies = sound.room.replies;
           calls = sound.room.calls;
           few_calls = let same = calls_same s.frames fs (ap states_of slots.0) geometry in omega (arith, same, sound.room.few_calls);
+          rooms = rooms_same s.rooms.items s.frames fs holds sound.room.rooms;
+          space = sound.room.space;
         };
         tokens = omega (arith, owes, next, most, sound.tokens);
         accepted = sound.accepted;

@@ -1,6 +1,6 @@
 -- A row is held for what a shard does by itself: a check, a repair or a rebuild.
-use Rattle.std.proofs.Common.{◌≡◌, ◌≢◌, ℕ, ◌+◌, ◌*◌, ◌^◌, ◌<◌, ◌≤◌, ◌⊎◌, Bool, true, false, List, [], ◌∷◌, ◌++◌, map, length, refl, sym, ap, subst, ◌∙◌, Option, Some, None, inl, inr, arith}
-use Rattle.std.specs.Prelude.{nat_eq, option_map, if◌then◌else◌}
+use Rattle.std.proofs.Common.{◌≡◌, ◌≢◌, ℕ, ◌+◌, ◌*◌, ◌^◌, ◌<◌, ◌≤◌, ◌⊎◌, Bool, ◌++◌, map, length, refl, sym, ap, subst, ◌∙◌, Option, Some, None, inl, inr, arith}
+use Rattle.std.specs.Prelude.{nat_eq, option_map}
 use Rattle.std.specs.List.{IsDistinct, AllByRecursion}
 use Rattle.std.specs.Map.{keys_of}
 use Rattle.std.proofs.lemmas.Bool.{cases_eq}
@@ -13,7 +13,6 @@ use Rattle.r6_world.specs.ShardStates.{Command, Shard, begun, found}
 use Rattle.r6_world.specs.Changes.{MayStart, Start, Allowed, after, next_check, next_repair}
 use Rattle.r6_world.specs.Steps as steps
 use Rattle.r6_world.specs.Steps.{Through, Scans}
-use Rattle.r6_frames.specs.declared.frames.FrameUse.{FrameUse}
 use Rattle.r6_frames.specs.declared.frames.Frames.{Frames}
 use Rattle.r6_frames.specs.declared.frames.HeldRow.{HeldRow}
 use Rattle.r6_frames.specs.declared.frames.Job.{Job}
@@ -27,31 +26,18 @@ use Rattle.r6_frames.proofs.Resting.{frame-held, free_is, goes_on}
 use Rattle.r6_core.specs.declared.state.State.{State}
 use Rattle.r6_world.specs.ShardStates.{limit}
 use Rattle.r6_core.specs.Shards.{layout_in, requests_of, rest_of, state_of, table, waiting_request, replied_requests, waiting_of}
-use Rattle.r6_core.specs.Inside.{AreBounded, AreOwnRows, CanHold, IsCore, IsRestedFrame, IsSettled, IsSound, count_rows, count_unheld, is_turn, one_if, Waits}
+use Rattle.r6_core.specs.Inside.{AreBounded, AreOwnRows, CanHold, HaveRooms, IsCore, IsRestedFrame, IsSettled, IsSound, count_rows, count_unheld, is_turn, is_written, one_if, Waits}
 use Rattle.r6_core.proofs.Accepting.{few_unheld, owed_in-le, room_for_all}
 use Rattle.r6_core.proofs.CountedRows.{row_weight, rows_counted_but_one, rows_counted_still}
 use Rattle.r6_core.proofs.Going.{no_rest, reading_kept}
 use Rattle.r6_core.proofs.Kept.{own_rows_kept, requests_kept, sizes_kept}
-use Rattle.r6_core.proofs.Scrubs.{Weighs, scrub_weight, scrubs_weigh, turn_weight, turns_weigh}
+use Rattle.r6_core.proofs.Rooms.{few_rows}
+use Rattle.r6_core.proofs.Scrubs.{Weighs, scrub_weight, scrubs_weigh, turn_weight, turns_weigh, write_weight, writes_weigh}
 use Rattle.r6_core.proofs.SlotsKept.{drives_keep, calls_same}
 use Rattle.r6_core.proofs.Starting.{no_row, not_held, scans}
 use Rattle.r6_core.proofs.Throughs.{keeps_or_gives, through_in, through_of}
 use Rattle.r6_core.proofs.Waking.{all_wait_still, frees_kept, holders_begun}
 use Rattle.r6_waiters.specs.Line.{entries_of}
-
--- ---- the limits
-
-at_most_one : (test : Job → Bool) (o : Option (ℕ × Job)) → one_if test o ≤ 1
-at_most_one test None = omega arith
-at_most_one test (Some x) = by_test (test x.1)
-  where
-    by_test : (b : Bool) → (if b then 1 else 0) ≤ 1
-    by_test true = omega arith
-    by_test false = omega arith
-
-pub few_rows : (test : Job → Bool) (held : List FrameUse) → count_rows test held ≤ length held
-few_rows test [] = omega arith
-few_rows test (u ∷ held) = omega (arith, few_rows test held, at_most_one test (option_map held_for (row_in u)))
 
 -- ---- the row may be held
 
@@ -74,6 +60,13 @@ one_turn (WriteFor writes) = omega arith
 one_turn (Rebuild slot generation) = omega arith
 one_turn Check = omega arith
 one_turn Repair = omega arith
+
+not_writes : (task : Task) → steps.IsTurn task → write_weight task ≡ 0
+not_writes (ReadFor id block) turn = refl
+not_writes (WriteFor writes) turn = absurd turn
+not_writes (Rebuild slot generation) turn = refl
+not_writes Check turn = refl
+not_writes Repair turn = refl
 
 pub turn_allowed : (s : State) (task : Task) (frame row : ℕ) → IsSound s → CanHold s.frames row frame → IsRowOf (layout_in s) s.frames.shard row
     → MayStart (layout_in s) (state_of s) row task → MayBegin (found (layout_in s) (states_of s.frames.slots) row) (kind_of (layout_in s) row task)
@@ -191,7 +184,7 @@ module _ (s : State) (task : Task) (frame row check_row repair_row : ℕ) (mid n
       let first = rows_counted_but_one test frame s.frames mid sound is.begun_sound is.begun_others in
       let none : row_weight test s.frames.held frame ≡ 0 = ap (λ o. one_if test (option_map held_for o)) (no_row s.frames frame is.can.1) in
       let own : row_weight test mid.held frame ≡ weight task =
-      ap (λ o. one_if test (option_map held_for o)) there.1 ∙ weighs.job there.0.row there.0.job (kind_in there.0) ∙ ap (λ (hold : Hold). weight hold.task) there.2 in
+      ap (λ o. one_if test (option_map held_for o)) there.1 ∙ weighs there.0.row there.0.job (kind_in there.0) ∙ ap (λ (hold : Hold). weight hold.task) there.2 in
       let rest = rows_counted_still test mid new is.begun_sound is.sound is.rows in
       omega (arith, first, none, own, rest)
 
@@ -206,6 +199,13 @@ module _ (s : State) (task : Task) (frame row check_row repair_row : ℕ) (mid n
           | inr few ↦ omega (arith, few_rows is_scrub new.held, is.sound.frames.count, few)
         ];
       }
+
+  -- none of them is writes
+  turned_rooms : HaveRooms s.rooms.items new
+  turned_rooms =
+      let rooms = is.core.settled.sound.room.rooms in
+      let same = turned_rows is_written write_weight writes_weigh in
+      record { many = omega (arith, rooms.many, same, not_writes task is.turn); empty = rooms.empty }
 
   turned_settled : IsSettled turned
   turned_settled =
@@ -229,6 +229,8 @@ module _ (s : State) (task : Task) (frame row check_row repair_row : ℕ) (mid n
             replies = sound.room.replies;
             calls = sound.room.calls;
             few_calls = let out = calls_same s.frames new turned_slots geometry_same in omega (arith, out, sound.room.few_calls);
+            rooms = turned_rooms;
+            space = sound.room.space;
           };
           tokens =
               let owes = owed_in-le mid.geometry.slots mid.held (λ f h there. (is.begun_sound.frames.rows f h there).wide) in

@@ -1,5 +1,5 @@
 -- A direct buffer has come home: the oldest that waits for one is read.
-use Rattle.std.proofs.Common.{◌≡◌, ◌≢◌, inl, inr, ℕ, ◌<◌, true, false, ◌++◌, refl, sym, subst, Option, Some, None, IfSome, Bor, arith}
+use Rattle.std.proofs.Common.{◌≡◌, ◌≢◌, inl, inr, ℕ, ◌<◌, true, false, [], ◌++◌, refl, sym, subst, Option, Some, None, IfSome, Bor, arith}
 use Rattle.std.specs.Prelude.{is_some, option_copied}
 use Rattle.std.specs.List.{AllByRecursion}
 use Rattle.r6_world.specs.ShardStates.{limit}
@@ -7,14 +7,17 @@ use Rattle.r6_world.specs.Steps.{Through, Scans}
 use Rattle.r6_frames.specs.declared.op.Request.{Request}
 use Rattle.r6_frames.specs.Reads.{IsFreeDirect}
 use Rattle.r6_frames.specs.Views.{AreLive}
-use Rattle.r6_waiters.specs.Line.{entries_of, oldest_of}
+use Rattle.r6_waiters.specs.Line.{Entries, entries_of, oldest_of}
 use Rattle.r6_core.specs.declared.scan.Room.TheVariants as room
 use Rattle.r6_core.specs.declared.state.State.{State}
 use Rattle.r6_core.specs.Shards.{layout_in, state_of, waiting_of}
+use Rattle.r6_core.specs.Batches.{entries_left}
+use Rattle.r6_core.specs.Turns.{wanted_with}
 use Rattle.r6_core.specs.Inside.{HasBuffer, HasNoFreeBuffer, IsCore, IsFirstToStart, IsSettled, IsSyncedRead, LeavesLine, OnlyStarts, StartsWith, WaitingHaveTurns, Waits, free_buffer}
+use Rattle.r6_core.proofs.Joined.{all_left}
 use Rattle.r6_core.proofs.Lined.{IsSplit, all_first, all_then_too, none_of, split_of}
-use Rattle.r6_core.proofs.Passed.{all-middle}
-use Rattle.r6_core.proofs.Scanned.{HaveHad, all_had, all_wait, none_had, one_started, started_left, started_with}
+use Rattle.r6_core.proofs.Passed.{all-append, all-middle}
+use Rattle.r6_core.proofs.Scanned.{HaveHad, all_had, all_last, all_wait, none_had, one_started, started_left, started_with}
 use Rattle.r6_core.proofs.Waking.{CannotStart, all_cannot, behind_reader, cannot_begin, no_frame_freed, none_waits_for_one, synced_after, wait_for_one}
 
 pub copied_some : (o : Option (Bor Request)) → is_some (option_copied o) ≡ is_some o
@@ -34,7 +37,7 @@ module _ (s : State) (settled : IsSettled s) (live : AreLive s.frames) (home : H
   still_core waits = record { settled = settled; waits = λ _. waits }
 
   still_turns : AllByRecursion (Waits s.frames) (entries_of s.waiting) → WaitingHaveTurns s s
-  still_turns waits = all_wait s (waiting_of s) settled (all_cannot s.frames (entries_of s.waiting) (λ _. waits))
+  still_turns waits = all_wait s settled (all_cannot s.frames (entries_of s.waiting) (λ _. waits))
 
   -- none waits for a buffer
   module _ (none : is_some (oldest_of free_buffer (entries_of s.waiting)) ≡ false) where
@@ -83,32 +86,42 @@ module _ (s : State) (settled : IsSettled s) (live : AreLive s.frames) (home : H
         }
 
     module _ (new : State) (new_settled : IsSettled new) (leads : Through (layout_in s) s.frames.shard Scans (state_of s) (state_of new)) (left : LeavesLine s free_buffer new)
-        (starts : IfSome (oldest_of free_buffer (entries_of s.waiting)) (λ request. StartsWith (room.Direct number) s request new)) (only : OnlyStarts s new) where
+        (starts : IfSome (oldest_of free_buffer (entries_of s.waiting)) (λ request. StartsWith (room.Direct number) free_buffer s request new)) (only : OnlyStarts s new) where
       cannot : AllByRecursion (λ entry. CannotStart s.frames entry.1) split.before
       cannot =
           all_then_too (Waits home.before) (λ entry. entry.0 ≢ free_buffer) (λ entry. CannotStart s.frames entry.1) split.before
           (λ e waits not alive could. cannot_begin s.frames e.0 e.1.op (no_frame_freed s home e waits not) alive could)
           (all_first (Waits home.before) split.before split.behind parts.1) split.oldest
 
-      has_left : entries_of new.waiting ≡ split.before ++ split.behind
-      unfolding reader_first
-      has_left = started_left s free_buffer (room.Direct number) new reader_first left starts
+      -- those that are left
+      abbrev last_behind : Entries Request
+      last_behind = entries_left (wanted_with (layout_in s) reader.op) split.behind
 
-      started : StartsWith (room.Direct number) s reader new
+      has_left : entries_of new.waiting ≡ split.before ++ last_behind
+      unfolding reader_first
+      has_left = started_left s free_buffer (room.Direct number) new reader_first left starts settled cannot
+
+      parts_left : AllByRecursion (Waits home.before) (split.before ++ last_behind)
+      parts_left =
+          let fact = Waits home.before in
+          all-append fact split.before last_behind (all_first fact split.before split.behind parts.1)
+          (all_left fact (wanted_with (layout_in s) reader.op) split.behind (all_last fact split.before split.behind parts.1))
+
+      started : StartsWith (room.Direct number) free_buffer s reader new
       unfolding reader_first
       started = started_with s free_buffer (room.Direct number) new reader_first left starts
 
       others_wait : AllByRecursion (Waits new.frames) (entries_of new.waiting)
       others_wait = subst (AllByRecursion (Waits new.frames)) (sym has_left)
-          (behind_reader s home reader number new.frames free started.1 started.2 (split.before ++ split.behind) parts.0 parts.1)
+          (behind_reader s home reader number new.frames free started.1 started.2 (split.before ++ last_behind) parts.0 parts_left)
 
       pub read_core : IsCore new
       read_core = record { settled = new_settled; waits = λ _. others_wait }
 
-      read_had : HaveHad s (waiting_of s) new (waiting_of new)
+      read_had : HaveHad s (waiting_of s) [] new (waiting_of new)
       unfolding reader_first
       read_had =
-          one_started s free_buffer (room.Direct number) new reader_first left starts s (none_had s settled) new_settled leads only cannot
+          one_started s free_buffer (room.Direct number) new reader_first left starts settled cannot s (none_had s settled (waiting_of s)) new_settled leads only
           new.waiting (record { requests = refl; capacity = refl; causes = refl }) others_wait
 
       pub read_turns : WaitingHaveTurns s new

@@ -1,19 +1,22 @@
 -- A frame has let its row go: who waited for the row, or for a frame, is looked at from the oldest on.
-use Rattle.std.proofs.Common.{◌≡◌, ◌≢◌, ◌⊎◌, inl, inr, ℕ, ◌<◌, Bool, true, [], ◌∷◌, ◌++◌, refl, sym, ap, subst, ◌∙◌, Some, None, IfSome, arith}
+use Rattle.std.proofs.Common.{◌≡◌, ◌≢◌, ◌⊎◌, inl, inr, ℕ, ◌<◌, Bool, true, [], ◌∷◌, ◌++◌, refl, sym, ap, subst, ◌∙◌, Some, None, IfSome, arith, append-nil}
 use Rattle.std.specs.Prelude.{◌==◌, ◌||◌, is_some}
 use Rattle.std.specs.List.{AllByRecursion}
 use Rattle.r6_world.specs.Steps.{Through, Scans}
 use Rattle.r6_frames.specs.declared.op.Request.{Request}
 use Rattle.r6_frames.specs.Calls.{IsFreeFrame, IsHolder, NotHeldBy}
 use Rattle.r6_frames.specs.Views.{AreLive, hold_at}
-use Rattle.r6_waiters.specs.Line.{Line, all_moved, entries_of, older_of, oldest_moved, oldest_of, with_entries}
+use Rattle.r6_waiters.specs.Line.{Entries, Line, all_moved, entries_of, older_of, oldest_moved, oldest_of, with_entries}
 use Rattle.r6_core.specs.declared.scan.Room.TheVariants as room
 use Rattle.r6_core.specs.declared.state.State.{State}
 use Rattle.r6_core.specs.Shards.{layout_in, state_of, waiting_of}
+use Rattle.r6_core.specs.Batches.{entries_left}
+use Rattle.r6_core.specs.Turns.{wanted_with}
 use Rattle.r6_core.specs.Inside.{HasLetGo, HasNoFreeFrame, IsCore, IsFirstToStart, IsSettled, LeavesLine, OnlyStarts, StartsWith, WaitingHaveTurns, Waits, free_frame, row_of_request}
+use Rattle.r6_core.proofs.Joined.{all_left}
 use Rattle.r6_core.proofs.Lined.{IsOlderSplit, all_back, all_first, all_then_too, either, neither, older_none, older_split, oldest_neither, split_moved, split_oldest}
-use Rattle.r6_core.proofs.Passed.{all-middle}
-use Rattle.r6_core.proofs.Scanned.{HaveHad, IsSameLine, all_had, count_for, fewer_left, had_line, had_waited, moved_all, moved_oldest, none_had, none_starts_now, one_started, same_settled, started_left, started_with, with_line}
+use Rattle.r6_core.proofs.Passed.{all-append, all-middle}
+use Rattle.r6_core.proofs.Scanned.{HaveHad, IsSameLine, all_had, all_last, count_for, fewer_left, had_line, had_waited, moved_all, moved_oldest, none_had, none_starts_now, one_started, same_settled, started_left, started_with, waiting_wait, with_line}
 use Rattle.r6_core.proofs.Waking.{CannotStart, WaitsOrWaited, all_cannot, behind_other, behind_own, cannot_begin, else_waits, none_waits_for_it, not_read, wait_for_a_frame}
 
 -- the line is sorted: some wait for the frame that has taken their row meanwhile
@@ -36,8 +39,8 @@ module _ (frame : ℕ) (old now : State) (settled : IsSettled old) (live : AreLi
   pub sorting_live : AreLive now.frames
   sorting_live = subst (λ (x : State). AreLive x.frames) (sym is.same) live
 
-  base : HaveHad old [] now []
-  base = subst (λ x. HaveHad old [] x []) (sym is.same) (had_line old [] old [] now.waiting (none_had old settled) is.line)
+  base : HaveHad old [] (waiting_of now) now []
+  base = subst (λ x. HaveHad old [] (waiting_of now) x []) (sym is.same) (had_line old [] (waiting_of now) old [] now.waiting (none_had old settled (waiting_of now)) is.line)
 
   -- ---- none waits for either
 
@@ -48,8 +51,10 @@ module _ (frame : ℕ) (old now : State) (settled : IsSettled old) (live : AreLi
     pub sorted_core : IsCore now
     sorted_core = record { settled = sorting_settled; waits = λ _. all_wait_now }
 
-    pub sorted_had : HaveHad old (waiting_of now) now (waiting_of now)
-    sorted_had = had_waited old [] now [] (waiting_of now) base (all_cannot now.frames (entries_of now.waiting) (λ _. all_wait_now))
+    pub sorted_had : HaveHad old (waiting_of now) [] now (waiting_of now)
+    sorted_had =
+        had_waited old [] [] now [] (waiting_of now) (subst (λ rs. HaveHad old [] rs now []) (sym (append-nil (waiting_of now))) base)
+        (waiting_wait now sorting_settled.sound) (all_cannot now.frames (entries_of now.waiting) (λ _. all_wait_now))
 
     pub sorted_turns : WaitingHaveTurns old now
     sorted_turns = all_had old now (waiting_of now) (waiting_of now) sorted_had (sym is.line.requests) refl
@@ -139,7 +144,7 @@ module _ (frame : ℕ) (old now : State) (settled : IsSettled old) (live : AreLi
           }
 
       module _ (new : State) (new_settled : IsSettled new) (leads : Through (layout_in now) now.frames.shard Scans (state_of now) (state_of new)) (left : LeavesLine now cause new)
-          (starts : IfSome (oldest_of cause (entries_of now.waiting)) (λ request. StartsWith (room.Frame free) now request new)) (only : OnlyStarts now new) where
+          (starts : IfSome (oldest_of cause (entries_of now.waiting)) (λ request. StartsWith (room.Frame free) cause now request new)) (only : OnlyStarts now new) where
         -- those before it can't start
         cannot : AllByRecursion (λ entry. CannotStart now.frames entry.1) split.before
         cannot =
@@ -147,11 +152,21 @@ module _ (frame : ℕ) (old now : State) (settled : IsSettled old) (live : AreLi
             (λ e waits not alive could. cannot_begin now.frames e.0 e.1.op (else_waits frame now is.go e.0 e.1 not.0 not.1 waits) alive could)
             (all_first (WaitsOrWaited is.go.before now.frames) split.before split.behind parts.1) split.oldest
 
-        has_left : entries_of new.waiting ≡ split.before ++ split.behind
-        unfolding sorting_first_to_start
-        has_left = started_left now cause (room.Frame free) new sorting_first_to_start left starts
+        -- those that are left
+        abbrev last_behind : Entries Request
+        last_behind = entries_left (wanted_with (layout_in now) split.x.op) split.behind
 
-        started : StartsWith (room.Frame free) now split.x new
+        has_left : entries_of new.waiting ≡ split.before ++ last_behind
+        unfolding sorting_first_to_start
+        has_left = started_left now cause (room.Frame free) new sorting_first_to_start left starts sorting_settled cannot
+
+        parts_left : AllByRecursion (WaitsOrWaited is.go.before now.frames) (split.before ++ last_behind)
+        parts_left =
+            let fact = WaitsOrWaited is.go.before now.frames in
+            all-append fact split.before last_behind (all_first fact split.before split.behind parts.1)
+            (all_left fact (wanted_with (layout_in now) split.x.op) split.behind (all_last fact split.before split.behind parts.1))
+
+        started : StartsWith (room.Frame free) cause now split.x new
         unfolding sorting_first_to_start
         started = started_with now cause (room.Frame free) new sorting_first_to_start left starts
 
@@ -159,22 +174,22 @@ module _ (frame : ℕ) (old now : State) (settled : IsSettled old) (live : AreLi
         pub others_wait : (next : ℕ) → ((cause ≡ frame) × (next ≡ free)) ⊎ ((cause ≢ frame) × (next ≡ free_frame))
             → AllByRecursion (Waits new.frames) (all_moved frame next (entries_of new.waiting))
         others_wait next which = subst (λ es. AllByRecursion (Waits new.frames) (all_moved frame next es)) (sym has_left) (elim which [
-          | inl own ↦ subst (λ n. AllByRecursion (Waits new.frames) (all_moved frame n (split.before ++ split.behind))) (sym own.1)
-              (behind_own frame now is.go split.x free new.frames is_free started.1 started.2 (split.before ++ split.behind)
-              (subst (λ n. WaitsOrWaited is.go.before now.frames (n, split.x)) own.0 parts.0) parts.1)
-          | inr other ↦ subst (λ n. AllByRecursion (Waits new.frames) (all_moved frame n (split.before ++ split.behind))) (sym other.1)
-              (behind_other frame now is.go split.x free new.frames is_free started.1 started.2 (split.before ++ split.behind)
-              (subst (λ n. WaitsOrWaited is.go.before now.frames (n, split.x)) (elim split.one [ inl e ↦ absurd (other.0 e) | inr e ↦ e ]) parts.0) parts.1)
+          | inl own ↦ subst (λ n. AllByRecursion (Waits new.frames) (all_moved frame n (split.before ++ last_behind))) (sym own.1)
+              (behind_own frame now is.go split.x free new.frames is_free started.1 started.2 (split.before ++ last_behind)
+              (subst (λ n. WaitsOrWaited is.go.before now.frames (n, split.x)) own.0 parts.0) parts_left)
+          | inr other ↦ subst (λ n. AllByRecursion (Waits new.frames) (all_moved frame n (split.before ++ last_behind))) (sym other.1)
+              (behind_other frame now is.go split.x free new.frames is_free started.1 started.2 (split.before ++ last_behind)
+              (subst (λ n. WaitsOrWaited is.go.before now.frames (n, split.x)) (elim split.one [ inl e ↦ absurd (other.0 e) | inr e ↦ e ]) parts.0) parts_left)
         ])
 
         module _ (next : ℕ) (which : ((cause ≡ frame) × (next ≡ free)) ⊎ ((cause ≢ frame) × (next ≡ free_frame))) where
           abbrev pub last : State
           last = with_line new (with_entries new.waiting (all_moved frame next (entries_of new.waiting)))
 
-          pub last_had : HaveHad old (waiting_of now) last (waiting_of new)
+          pub last_had : HaveHad old (waiting_of now) [] last (waiting_of new)
           unfolding sorting_first_to_start
           last_had =
-              one_started now cause (room.Frame free) new sorting_first_to_start left starts old base new_settled leads only cannot
+              one_started now cause (room.Frame free) new sorting_first_to_start left starts sorting_settled cannot old base new_settled leads only
               (with_entries new.waiting (all_moved frame next (entries_of new.waiting))) (moved_all new frame next) (others_wait next which)
 
           pub last_core : IsCore last
@@ -189,7 +204,7 @@ module _ (frame : ℕ) (s : State) (settled : IsSettled s) (go : HasLetGo frame 
   abbrev full : State
   full = with_line s (with_entries s.waiting (all_moved frame free_frame (entries_of s.waiting)))
 
-  pub full_had : HaveHad s (waiting_of s) full (waiting_of s)
+  pub full_had : HaveHad s (waiting_of s) [] full (waiting_of s)
   full_had = none_starts_now s (with_entries s.waiting (all_moved frame free_frame (entries_of s.waiting))) settled (moved_all s frame free_frame) (wait_for_a_frame frame s go none)
 
   pub full_core : IsCore full

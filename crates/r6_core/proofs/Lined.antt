@@ -1,9 +1,11 @@
 -- Requests in a line, each with what it waits for.
-use Rattle.std.proofs.Common.{◌≡◌, ◌≢◌, ◌⊎◌, inl, inr, ℕ, Bool, true, false, List, [], ◌∷◌, ◌++◌, drop, length, map, refl, sym, ap, subst, ◌∙◌, Some, None, arith}
+use Rattle.std.proofs.Common.{◌≡◌, ◌≢◌, ◌⊎◌, inl, inr, ℕ, Bool, true, false, List, [], ◌∷◌, ◌++◌, drop, length, map, refl, sym, ap, subst, ◌∙◌, Some, None, IsPermutation, arith}
 use Rattle.std.specs.Prelude.{◌==◌, ◌||◌, if◌then◌else◌, option_map}
 use Rattle.std.specs.List.{AllByRecursion}
 use Rattle.std.proofs.lemmas.Bool.{eq-eqb, ne_eqb, cases_eq}
 use Rattle.std.proofs.lemmas.List.{map-append}
+use Rattle.std.proofs.lemmas.List.Elements.{All-from_recursion, recursion_from_All}
+use Rattle.std.proofs.lemmas.List.Sorted.{All-permutation}
 use Rattle.r6_waiters.specs.Line.{Entries, Line, capacity_of, causes_of, first_of, oldest_of, older_of, without_oldest, oldest_moved, all_moved, gathered}
 
 -- ---- one of two numbers
@@ -49,6 +51,10 @@ all_back Fact (x ∷ xs) y ys one all = (all.0, all_back Fact xs y ys one all.1)
 pub all_first : {Y : Type 0} (Fact : Y → Type 0) (xs ys : List Y) → AllByRecursion Fact (xs ++ ys) → AllByRecursion Fact xs
 all_first Fact [] ys all = tt
 all_first Fact (x ∷ xs) ys all = (all.0, all_first Fact xs ys all.1)
+
+-- in another order
+pub all_permuted : {X : Type 0} (P : X → Type 0) (xs ys : List X) → IsPermutation xs ys → AllByRecursion P xs → AllByRecursion P ys
+all_permuted P xs ys same all = recursion_from_All P ys (All-permutation P xs ys same (All-from_recursion P xs all))
 
 -- ---- a line
 

@@ -1,6 +1,7 @@
 -- A look at the register is one step of the shard.
 use Rattle.std.proofs.Common.{◌≡◌, ℕ, ◌<◌, true, false, List, [], ◌∷◌, ◌++◌, map, refl, sym, ap, subst, ◌∙◌, append-nil}
 use Rattle.std.specs.Prelude.{option_map}
+use Rattle.std.specs.List.{AllByRecursion}
 use Rattle.r6_layout.specs.Shape.{Shape}
 use Rattle.r6_world.specs.Layouts.{Layout}
 use Rattle.r6_world.specs.Geometries.{layout_of}
@@ -13,11 +14,11 @@ use Rattle.r6_frames.specs.declared.frames.Frames.{Frames}
 use Rattle.r6_frames.specs.Slots.{states_of}
 use Rattle.r6_core.specs.declared.state.State.{State}
 use Rattle.r6_core.specs.Shards.{Step, layout_in, state_of, call_of, core_of, waiting_of, requests_in}
-use Rattle.r6_core.specs.Order.{SameReplies, Agrees, Finishes, IsRising, ReleasesAll, InTurn, HaveTurns, HaveTurnsAfter}
-use Rattle.r6_core.specs.Inside.{ReadAgain, SameFrames, NoCalls, IsCore, IsSettled, ReleasesFinished, Seen}
+use Rattle.r6_core.specs.Order.{SameReplies, Agrees, Finishes, IsRising, ReleasesAll, IsWaiting, HaveTurns, HaveTurnsAfter}
+use Rattle.r6_core.specs.Inside.{ReadAgain, SameFrames, NoCalls, IsCore, IsSettled, IsSound, ReleasesFinished, Seen}
 use Rattle.r6_core.proofs.AtRest.{at_rest}
 use Rattle.r6_core.proofs.Releasing.{released_nothing}
-use Rattle.r6_core.proofs.Scanned.{all_stopped, turns_in}
+use Rattle.r6_core.proofs.Scanned.{all_stopped, turns_in, waiting_wait}
 use Rattle.r6_core.proofs.Throughs.{through_in, through_none}
 
 rest_in : (g g' : Shape) (n n' : ℕ) (s : Shard) → g' ≡ g → n' ≡ n → AtRest (layout_of g') n' s → AtRest (layout_of g) n s
@@ -178,8 +179,8 @@ looked_turns s mid settled released new seen took done has none waiting turns = 
     let shape = done.same.0 ∙ took.same.0 in
     let shard = done.same.1 ∙ took.same.1 in
     let own = turns_in s.frames.geometry released.frames.geometry s.frames.shard released.frames.shard (state_of released) (state_of new) (waiting_of released) (waiting_of new)
-    (ap (λ (fs : Frames). fs.geometry) has.frames ∙ shape) (ap (λ (fs : Frames). fs.shard) has.frames ∙ shard) turns in
-    let from = subst (λ x. HaveTurns (core_of s) x (waiting_of released) (core_of new)) (has.is ∙ ap (λ g. after (layout_of g) (state_of settled) Release) shape) own in (
+    (ap (λ (fs : Frames). fs.geometry) has.frames ∙ shape) (ap (λ (fs : Frames). fs.shard) has.frames ∙ shard) turns.1 in
+    let from = subst (λ x. HaveTurns (core_of s) x (waiting_of released) (core_of new)) (has.is ∙ ap (λ g. after (layout_of g) (state_of settled) Release) shape) (turns.0, own) in (
       state_of mid,
       took.takes,
       state_of settled,
@@ -190,9 +191,9 @@ looked_turns s mid settled released new seen took done has none waiting turns = 
       subst (λ rs. HaveTurns (core_of s) (after (layout_in s) (state_of settled) Release) rs (core_of new)) (ap requests_in (waiting ∙ done.waiting) ∙ took.again.2) from,
     )
 
-pub stopped_turns : (s mid : State) (seen : Snapshot) (took : TookOver s mid seen) → mid.frames.saw_failed ≡ true → (Agrees (core_of s) seen → state_of mid ≡ state_of s)
+pub stopped_turns : (s mid : State) (seen : Snapshot) (took : TookOver s mid seen) → IsSound mid → mid.frames.saw_failed ≡ true → (Agrees (core_of s) seen → state_of mid ≡ state_of s)
     → (Agrees (core_of s) seen → took.again.0 ≡ []) → HaveTurnsAfter (core_of s) seen (core_of mid)
-stopped_turns s mid seen took failed stays none = λ unfailed. (
+stopped_turns s mid seen took sound failed stays none = λ unfailed. (
   state_of mid,
   took.takes,
   state_of mid,
@@ -201,6 +202,9 @@ stopped_turns s mid seen took failed stays none = λ unfailed. (
   took.again.1,
   (λ agrees. (stays agrees, none agrees)),
   subst (λ x. HaveTurns (core_of s) x (waiting_of s ++ took.again.0) (core_of mid)) (released_nothing mid failed)
-      (subst (λ rs. InTurn (layout_in s) s.frames.shard (state_of mid) rs (state_of mid) (waiting_of mid)) took.again.2
-      (all_stopped (layout_in s) s.frames.shard (state_of mid) (waiting_of mid) (λ live. let not = live.1 in absurd (cc)))),
+      (subst (λ rs. HaveTurns (core_of s) (state_of mid) rs (core_of mid)) took.again.2
+      (wait, all_stopped (layout_in s) s.frames.shard (state_of mid) (waiting_of mid) wait (λ live. let not = live.1 in absurd (cc)))),
 )
+  where
+    wait : AllByRecursion (IsWaiting (state_of mid)) (waiting_of mid)
+    wait = waiting_wait mid sound

@@ -67,13 +67,13 @@ module _ (s : State) (frame : ℕ) (target : Target) (row : ℕ) (fs : Frames) (
 
   -- the row's hold has ended, and the row is counted
   abbrev pub mid : State
-  mid = ended_state s fs s.replies (one_rebuilt s.counts)
+  mid = ended_state s fs s.replies (one_rebuilt s.counts) s.rooms
 
   last : s.replies.items ≡ s.replies.items ++ []
   last = sym (append-nil s.replies.items)
 
   mid_sound : IsSound mid
-  mid_sound = ended_sound s frame end fs s.replies (one_rebuilt s.counts) h sound live ends is last refl fs_sound others fewer next refl
+  mid_sound = ended_sound s frame end fs s.replies (one_rebuilt s.counts) s.rooms h sound live ends is last refl fs_sound others fewer next refl refl
 
   building : states_of fs.slots target.slot ≡ Building target.generation (is_rebuilt may.2.rebuilt)
   building = ap slot_state may.2.device
@@ -150,17 +150,17 @@ module _ (s : State) (frame : ℕ) (target : Target) (row : ℕ) (fs : Frames) (
     -- the slots when the hold ends: the row is built
     abbrev marked_left : Shard
     marked_left =
-        let x = left s frame end fs s.replies (one_rebuilt s.counts) h sound live ends is last refl in
+        let x = left s frame end fs s.replies (one_rebuilt s.counts) s.rooms h sound live ends is last refl in
         record x { slot = put x.slot target.slot (with_row (x.slot target.slot) row) }
 
     end_is : after (layout_in s) (state_of s) (Finish frame ends.hold Rebuilt) ≡ marked_left
     end_is =
-        let x = left s frame end fs s.replies (one_rebuilt s.counts) h sound live ends is last refl in
-        finish_is s frame end fs s.replies (one_rebuilt s.counts) h sound live ends is last refl
+        let x = left s frame end fs s.replies (one_rebuilt s.counts) s.rooms h sound live ends is last refl in
+        finish_is s frame end fs s.replies (one_rebuilt s.counts) s.rooms h sound live ends is last refl
         ∙ (λ i. record x { slot = put x.slot target.slot (with_row (x.slot target.slot) (ends.row i)) })
 
-    mid_is : state_of mid ≡ left s frame end fs s.replies (one_rebuilt s.counts) h sound live ends is last refl
-    mid_is = ended_is s frame end fs s.replies (one_rebuilt s.counts) h sound live ends is last refl
+    mid_is : state_of mid ≡ left s frame end fs s.replies (one_rebuilt s.counts) s.rooms h sound live ends is last refl
+    mid_is = ended_is s frame end fs s.replies (one_rebuilt s.counts) s.rooms h sound live ends is last refl
 
     state_is : Goes mid new.frames new.calls → KeepsReads fs new.frames → state_of new ≡ shard_with (rest_with mid new.calls) new.frames
     state_is goes reads = ap state_of same ∙ gone_state mid new.frames new.calls goes reads
@@ -205,7 +205,7 @@ module _ (s : State) (frame : ℕ) (target : Target) (row : ℕ) (fs : Frames) (
         let allowed : Allowed l n marked_left bring = (put (is_rebuilt may.2.rebuilt) row true, built_now, all_built b.0, still_live) in
         let calls : map call_of new.calls.items ≡ (state_of s).calls ++ RebuildOf target.slot target.generation ∷ [] =
         ap (map call_of) b.1 ∙ map-append call_of s.calls.items (call.ReportRebuilt target.slot target.generation ∷ []) in
-        let x = left s frame end fs s.replies (one_rebuilt s.counts) h sound live ends is last refl in
+        let x = left s frame end fs s.replies (one_rebuilt s.counts) s.rooms h sound live ends is last refl in
         let is_now : state_of new ≡ after l marked_left bring =
         state_is (goes_brought b) b.0.3
         ∙ (b.0.2 (rest_with mid new.calls)).1

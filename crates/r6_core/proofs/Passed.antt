@@ -1,8 +1,9 @@
 -- An entry goes from one part of a list to another.
-use Rattle.std.proofs.Common.{◌≡◌, ℕ, List, [], ◌∷◌, ◌++◌, length, sym, ap, subst, ◌∙◌, Some, arith, length-append}
+use Rattle.std.proofs.Common.{◌≡◌, ℕ, List, [], ◌∷◌, ◌++◌, length, sym, ap, subst, ◌∙◌, Some, IsPermutation, arith, append_assoc, length-append}
 use Rattle.std.specs.Prelude.{nat_eq}
 use Rattle.std.specs.List.{IsDistinct, AllByRecursion}
 use Rattle.std.specs.Map.{keys_of}
+use Rattle.std.proofs.lemmas.List.Sorted.{IsPermutation-append_comm, IsPermutation-append_left}
 use Rattle.r6_world.specs.Tables.{put}
 use Rattle.r6_frames.proofs.Lists.{Entries, table, moved, own, apart, all_parts, all_with}
 
@@ -41,3 +42,10 @@ all-append Fact (x ∷ xs) ys a b = (a.0, all-append Fact xs ys a.1 b)
 pub all-middle : {X : Type 0} (Fact : X → Type 0) (xs : List X) (y : X) (ys : List X) → AllByRecursion Fact (xs ++ y ∷ ys) → Fact y × AllByRecursion Fact (xs ++ ys)
 all-middle Fact [] y ys all = all
 all-middle Fact (x ∷ xs) y ys all = let rest = all-middle Fact xs y ys all.1 in (rest.0, (all.0, rest.1))
+
+-- those of the middle come first
+pub to_front : {X : Type 0} (before middle behind : List X) → IsPermutation (before ++ (middle ++ behind)) (middle ++ (before ++ behind))
+to_front before middle behind =
+    subst (λ xs. IsPermutation xs (middle ++ (before ++ behind))) (append_assoc before middle behind)
+    (subst (IsPermutation ((before ++ middle) ++ behind)) (append_assoc middle before behind)
+    (IsPermutation-append_left behind (before ++ middle) (middle ++ before) (IsPermutation-append_comm before middle)))

@@ -34,6 +34,7 @@ use Rattle.r6_core.specs.Shards.{layout_in, replied_requests, requests_of, rest_
 use Rattle.r6_core.specs.Order.{IsRead, Starts}
 use Rattle.r6_core.specs.Inside.{AreReadOn, CanRead, IsLike, IsOpOf, IsReadOn, IsSettled, IsSound, IsSyncedRead, count_rows, count_unheld, is_turn, most_tokens, served_of}
 use Rattle.r6_waiters.specs.Line.{Line}
+use Rattle.r6_core.proofs.Rooms.{rooms_same}
 use Rattle.r6_core.proofs.Accepting.{few_unheld, owed_in-le, room_for_all}
 use Rattle.r6_core.proofs.Answering.{rested_kept}
 use Rattle.r6_core.proofs.CountedRows.{counted_still}
@@ -105,8 +106,8 @@ module _ (s : State) (before : List Entered) (request : Entered) (behind : List 
       ap (λ (request : ℕ → Option Request). shard_with (record (rest_of s) { request = request }) new) (requests_read sound.requests.distinct).now
       ∙ (is.reads.shard (rest_of s) (stands sound)).1
 
-  pub read_started : IsSound s → Starts (layout_in s) s.frames.shard (state_of s) request (state_of read)
-  read_started sound =
+  pub read_started : (others : List Entered) → IsSound s → Starts (layout_in s) s.frames.shard (state_of s) request others (state_of read)
+  read_started others sound =
       inl (as_read (layout_in s) s.frames.shard (state_of s) (state_of read) request.id request.op (64 + number) is.reads.generation is_read_op
       (is.reads.shard (rest_of s) (stands sound)).0 (read_state sound))
 
@@ -176,6 +177,8 @@ module _ (s : State) (before : List Entered) (request : Entered) (behind : List 
             replies = sound.room.replies;
             calls = sound.room.calls;
             few_calls = let same = calls_same s.frames new (ap states_of is.slots.0) geometry in omega (arith, same, sound.room.few_calls);
+            rooms = rooms_same s.rooms.items s.frames new is.holds sound.room.rooms;
+            space = sound.room.space;
           };
           tokens = read_tokens sound;
           accepted = sound.accepted;

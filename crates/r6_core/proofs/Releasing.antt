@@ -133,7 +133,7 @@ released_settled s core =
           sized = sound.requests.sized;
           marked = omega arith;
         };
-        room = record { waiting = sound.room.waiting; causes = sound.room.causes; replies = sound.room.replies; calls = sound.room.calls; few_calls = sound.room.few_calls };
+        room = record { waiting = sound.room.waiting; causes = sound.room.causes; replies = sound.room.replies; calls = sound.room.calls; few_calls = sound.room.few_calls; rooms = sound.room.rooms; space = sound.room.space };
         tokens = sound.tokens;
         accepted = sound.accepted;
         counted = sound.counted;

@@ -205,6 +205,8 @@ module _ (s : State) (is_released : Bool) (r : Request) (rest : Buffer Request) 
             replies = capacity ∙ sound.room.replies;
             calls = sound.room.calls;
             few_calls = sound.room.few_calls;
+            rooms = sound.room.rooms;
+            space = sound.room.space;
           };
           tokens = sound.tokens;
           accepted = sound.accepted;

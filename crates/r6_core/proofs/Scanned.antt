@@ -3,7 +3,7 @@ use Rattle.std.proofs.Common.{◌≡◌, ◌≢◌, ℕ, ◌+◌, ◌*◌, ◌<�
 use Rattle.std.specs.Prelude.{nat_eq, ◌==◌, if◌then◌else◌}
 use Rattle.std.specs.List.{AllByRecursion, IsDistinct}
 use Rattle.std.specs.Map.{keys_of}
-use Rattle.std.proofs.lemmas.Bool.{ne_eqb}
+use Rattle.std.proofs.lemmas.Bool.{cases_Bool, ne_eqb}
 use Rattle.r6_layout.specs.Shape.{Shape}
 use Rattle.r6_world.specs.Layouts.{Layout}
 use Rattle.r6_world.specs.Geometries.{layout_of}
@@ -21,47 +21,57 @@ use Rattle.r6_core.specs.declared.scan.Room.{Room}
 use Rattle.r6_core.specs.declared.scan.Room.TheVariants as room
 use Rattle.r6_core.specs.declared.state.State.{State}
 use Rattle.r6_core.specs.Shards.{framed_requests, layout_in, replied_requests, requests_in, rest_of, state_of, table, waiting_of, waiting_request}
-use Rattle.r6_core.specs.Order.{Starts, InTurn}
-use Rattle.r6_core.specs.Inside.{CanStart, IsCore, IsFirstToStart, IsLike, IsSettled, LeavesLine, OnlyStarts, StartsWith, TakesRoom, WaitingHaveTurns, Waits, WaitsFor, anything, most_tokens, row_of_request}
+use Rattle.r6_core.specs.Batches.{block_written, but, entries_left, is_wanted}
+use Rattle.r6_core.specs.Order.{Starts, InTurn, IsWaiting, MustWait}
+use Rattle.r6_core.specs.Turns.{wanted_with}
+use Rattle.r6_core.specs.Inside.{CanStart, IsCore, IsFirstToStart, IsLike, IsSettled, IsSound, LeavesLine, OnlyStarts, StartsWith, TakesRoom, WaitingHaveTurns, Waits, WaitsFor, anything, most_tokens, row_of_request}
 use Rattle.r6_core.proofs.AtRest.{must_wait}
-use Rattle.r6_core.proofs.Lined.{all_for, all_then, all_values, none_of, split_moved, split_oldest, split_without, values, values_all_moved, values_both, values_gathered, values_moved, values_split}
+use Rattle.r6_core.proofs.Batched.{AreLeft, IsNextLeft, all_are_left, left_then, line_left, next_left, none_left, starts_behind, turns_left}
+use Rattle.r6_core.proofs.InTurns.{HasJoined, InTurnBefore, turn_of, turns_both, turns_joined, turns_of_all, turns_stopped, turns_waited}
+use Rattle.r6_core.proofs.Joined.{all_left, entry_goes, entry_stays}
+use Rattle.r6_core.proofs.Lined.{all_first, all_for, all_then, all_values, none_of, split_moved, split_oldest, split_without, values, values_all_moved, values_both, values_gathered, values_moved, values_split}
 use Rattle.r6_core.proofs.Passed.{all-append, all-middle}
 use Rattle.r6_core.proofs.Throughs.{through_both, through_in, through_none}
+use Rattle.r6_core.proofs.Together.{each_waits}
 use Rattle.r6_core.proofs.Waking.{CannotStart, all_cannot, all_wait_still, cannot_begin, frees_kept, full_begun, full_same, holders_begun, holders_same}
+
+-- the others with a reply, and those of frames
+abbrev the_others : State → List (ℕ × shards.Request)
+the_others s = framed_requests s.frames ++ replied_requests s.frames.saw_failed s.released s.replies.items
 
 -- ---- turns
 
-module _ (l : Layout) (n : ℕ) where
-  -- some have their turns, and others behind them
-  pub turns_both : (old : Shard) (some : List Request) (mid : Shard) (waiting : List Request) (others : List Request) (new : Shard) (waiting' : List Request)
-      → InTurn l n old some mid waiting → InTurn l n mid others new waiting' → InTurn l n old (some ++ others) new (waiting ++ waiting')
-  turns_both old [] mid waiting others new waiting' first second =
-      subst (λ (x : Shard). InTurn l n x others new (waiting ++ waiting')) first.0
-      (subst (λ rs. InTurn l n mid others new (rs ++ waiting')) (sym first.1) second)
-  turns_both old (r ∷ some) mid waiting others new waiting' first second = elim first [
-    | inl started ↦ inl (started.0, started.1, turns_both started.0 some mid waiting others new waiting' started.2 second)
-    | inr waited ↦ inr (waited.0, waited.1 ++ waiting', ap (λ rs. rs ++ waiting') waited.2, turns_both old some mid waited.1 others new waiting' waited.3 second)
-  ]
+-- those that wait in the code do in the shard
+pub waiting_wait : (s : State) → IsSound s → AllByRecursion (IsWaiting (state_of s)) (waiting_of s)
+waiting_wait s sound = each_waits (waiting_of s) (the_others s) sound.requests.distinct
 
-  -- one starts
-  pub turn_of : (old : Shard) (r : Request) (new : Shard) → Starts l n old r new → InTurn l n old (r ∷ []) new []
-  turn_of old r new starts = inl (new, starts, (refl, refl))
+-- and must if they can't start in the frames
+pub all_must : (s : State) (rs : List Request) → IsSettled s → AllByRecursion (CannotStart s.frames) rs → AllByRecursion (MustWait (layout_in s) (state_of s)) rs
+all_must s rs settled cannot = all_then (CannotStart s.frames) (MustWait (layout_in s) (state_of s)) rs (λ r one. must_wait s settled r one) cannot
 
--- none of these starts
-pub all_wait : (s : State) (rs : List Request) → IsSettled s → AllByRecursion (CannotStart s.frames) rs → InTurn (layout_in s) s.frames.shard (state_of s) rs (state_of s) rs
-all_wait s [] settled cannot = (refl, refl)
-all_wait s (r ∷ rs) settled cannot = inr (must_wait s settled r cannot.0, rs, refl, all_wait s rs settled cannot.1)
+-- none starts
+pub all_wait : (s : State) → IsSettled s → AllByRecursion (CannotStart s.frames) (waiting_of s) → WaitingHaveTurns s s
+all_wait s settled cannot =
+    let wait = waiting_wait s settled.sound in (
+      wait,
+      turns_of_all (layout_in s) s.frames.shard (state_of s) (waiting_of s) (state_of s) (waiting_of s)
+          (turns_waited (layout_in s) s.frames.shard [] (state_of s) (waiting_of s) wait (all_must s (waiting_of s) settled cannot)),
+    )
 
 -- in a shard that has stopped none starts
-pub all_stopped : (l : Layout) (n : ℕ) (s : Shard) (rs : List Request) → (IsLive l s → ⊥) → InTurn l n s rs s rs
-all_stopped l n s [] stopped = (refl, refl)
-all_stopped l n s (r ∷ rs) stopped = inr ((λ live could. stopped live), rs, refl, all_stopped l n s rs stopped)
+pub all_stopped : (l : Layout) (n : ℕ) (s : Shard) (rs : List Request) → AllByRecursion (IsWaiting s) rs → (IsLive l s → ⊥) → InTurn l n s rs s rs
+all_stopped l n s rs wait stopped = turns_of_all l n s rs s rs (turns_stopped l n [] s rs wait stopped)
 
 -- over a shape and a shard that are known to be others
 pub turns_in : (g g' : Shape) (n n' : ℕ) (old new : Shard) (requests waiting : List Request) → g' ≡ g → n' ≡ n
     → InTurn (layout_of g') n' old requests new waiting → InTurn (layout_of g) n old requests new waiting
 turns_in g g' n n' old new requests waiting same_shape same_shard turns =
     subst (λ m. InTurn (layout_of g) m old requests new waiting) same_shard (subst (λ x. InTurn (layout_of x) n' old requests new waiting) same_shape turns)
+
+before_in : (g g' : Shape) (n n' : ℕ) (behind : List Request) (old new : Shard) (requests waiting : List Request) → g' ≡ g → n' ≡ n
+    → InTurnBefore (layout_of g') n' behind old requests new waiting → InTurnBefore (layout_of g) n behind old requests new waiting
+before_in g g' n n' behind old new requests waiting same_shape same_shard turns =
+    subst (λ m. InTurnBefore (layout_of g) m behind old requests new waiting) same_shard (subst (λ x. InTurnBefore (layout_of x) n' behind old requests new waiting) same_shape turns)
 
 -- ---- who waits for something else waits still
 
@@ -73,10 +83,6 @@ pub record IsSameLine (s : State) (line : Line Request) : Type 0 where
   pub requests : requests_in line ≡ waiting_of s
   pub capacity : capacity_of line ≡ capacity_of s.waiting
   pub causes : causes_of line ≡ causes_of s.waiting
-
--- the others with a reply, and those of frames
-abbrev the_others : State → List (ℕ × shards.Request)
-the_others s = framed_requests s.frames ++ replied_requests s.frames.saw_failed s.released s.replies.items
 
 pub same_state : (s : State) (line : Line Request) → requests_in line ≡ waiting_of s → state_of (with_line s line) ≡ state_of s
 same_state s line same =
@@ -104,6 +110,8 @@ same_settled s line is settled =
           replies = sound.room.replies;
           calls = sound.room.calls;
           few_calls = sound.room.few_calls;
+          rooms = sound.room.rooms;
+          space = sound.room.space;
         };
         tokens = subst (λ (rs : List Request). s.frames.commands.next + owed s.frames + 2 * s.frames.geometry.slots * (length rs + length (read_requests s.frames)) ≤ most_tokens) back sound.tokens;
         accepted = sound.accepted;
@@ -129,16 +137,19 @@ all_last Fact (x ∷ xs) ys all = all_last Fact xs ys all.1
 
 -- ---- what starting does
 
--- from one state on these have had their turns, and those that wait still are the first that wait
-pub record HaveHad (old : State) (had : List Request) (new : State) (waiting : List Request) : Type 0 where
+-- from one state on these have had their turns, with those behind them still to come, and those that wait still are
+-- the first that wait
+pub record HaveHad (old : State) (had behind : List Request) (new : State) (waiting : List Request) : Type 0 where
+  pub wait : AllByRecursion (IsWaiting (state_of old)) (waiting_of old)
   pub settled : IsSettled new
   pub leads : Through (layout_in old) old.frames.shard Scans (state_of old) (state_of new)
   pub only : OnlyStarts old new
-  pub turns : InTurn (layout_in old) old.frames.shard (state_of old) had (state_of new) waiting
+  pub turns : InTurnBefore (layout_in old) old.frames.shard behind (state_of old) had (state_of new) waiting
 
-pub none_had : (s : State) → IsSettled s → HaveHad s [] s []
-none_had s settled =
+pub none_had : (s : State) → IsSettled s → (behind : List Request) → HaveHad s [] behind s []
+none_had s settled behind =
     record {
+      wait = waiting_wait s settled.sound;
       settled = settled;
       leads = through_none (layout_in s) s.frames.shard Scans (state_of s) (state_of s) refl;
       only = ((refl, refl), (refl, refl), ((refl, refl), refl));
@@ -146,44 +157,73 @@ none_had s settled =
     }
 
 -- the line may be another
-pub had_line : (old : State) (had : List Request) (new : State) (waiting : List Request) (line : Line Request) → HaveHad old had new waiting → IsSameLine new line
-    → HaveHad old had (with_line new line) waiting
-had_line old had new waiting line is same =
+pub had_line : (old : State) (had behind : List Request) (new : State) (waiting : List Request) (line : Line Request) → HaveHad old had behind new waiting → IsSameLine new line
+    → HaveHad old had behind (with_line new line) waiting
+had_line old had behind new waiting line is same =
     let back = sym (same_state new line same.requests) in
     let only = is.only in
     record {
+      wait = is.wait;
       settled = same_settled new line same is.settled;
       leads = subst (λ (x : Shard). Through (layout_in old) old.frames.shard Scans (state_of old) x) back is.leads;
       only = only;
-      turns = subst (λ (x : Shard). InTurn (layout_in old) old.frames.shard (state_of old) had x waiting) back is.turns;
+      turns = subst (λ (x : Shard). InTurnBefore (layout_in old) old.frames.shard behind (state_of old) had x waiting) back is.turns;
     }
 
--- others wait behind them
-pub had_waited : (old : State) (had : List Request) (new : State) (waiting : List Request) (more : List Request) → HaveHad old had new waiting
-    → AllByRecursion (CannotStart new.frames) more → HaveHad old (had ++ more) new (waiting ++ more)
-had_waited old had new waiting more is cannot =
+-- nobody of these starts: those that are left wait behind them
+pub had_left : (old : State) (had behind : List Request) (new : State) (waiting : List Request) (rs left : List Request) → HaveHad old had (rs ++ behind) new waiting
+    → AreLeft (layout_in new) (state_of new) rs left → AllByRecursion (IsWaiting (state_of new)) left → AllByRecursion (CannotStart new.frames) left
+    → HaveHad old (had ++ rs) behind new (waiting ++ left)
+had_left old had behind new waiting rs left is are wait cannot =
     let same = is.only.0 in
-    let last = turns_in old.frames.geometry new.frames.geometry old.frames.shard new.frames.shard (state_of new) (state_of new) more more same.0 same.1 (all_wait new more is.settled cannot) in
+    let l = layout_in new in
+    let n = new.frames.shard in
+    let last = turns_left l n behind (state_of new) rs left are wait (all_must new left is.settled cannot) in
     record {
+      wait = is.wait;
       settled = is.settled;
       leads = is.leads;
       only = is.only;
-      turns = turns_both (layout_in old) old.frames.shard (state_of old) had (state_of new) waiting more (state_of new) more is.turns last;
+      turns = turns_both (layout_in old) old.frames.shard behind (state_of old) had (state_of new) waiting rs (state_of new) left is.turns
+          (before_in old.frames.geometry new.frames.geometry old.frames.shard n behind (state_of new) (state_of new) rs left same.0 same.1 last);
+    }
+
+-- others wait behind them
+pub had_waited : (old : State) (had behind : List Request) (new : State) (waiting : List Request) (more : List Request) → HaveHad old had (more ++ behind) new waiting
+    → AllByRecursion (IsWaiting (state_of new)) more → AllByRecursion (CannotStart new.frames) more → HaveHad old (had ++ more) behind new (waiting ++ more)
+had_waited old had behind new waiting more is wait cannot =
+    had_left old had behind new waiting more more is (all_are_left (layout_in new) (state_of new) more) wait cannot
+
+-- for the others rows are held already
+pub had_joined : (old : State) (had behind : List Request) (new : State) (waiting : List Request) (gone : List Request) → HaveHad old had (gone ++ behind) new waiting
+    → AllByRecursion (HasJoined (layout_in new) (state_of new)) gone → HaveHad old (had ++ gone) behind new waiting
+had_joined old had behind new waiting gone is joined =
+    let same = is.only.0 in
+    let last = turns_joined (layout_in new) new.frames.shard behind (state_of new) gone joined in
+    record {
+      wait = is.wait;
+      settled = is.settled;
+      leads = is.leads;
+      only = is.only;
+      turns = subst (λ rs. InTurnBefore (layout_in old) old.frames.shard behind (state_of old) (had ++ gone) (state_of new) rs) (append-nil waiting)
+          (turns_both (layout_in old) old.frames.shard behind (state_of old) had (state_of new) waiting gone (state_of new) [] is.turns
+          (before_in old.frames.geometry new.frames.geometry old.frames.shard new.frames.shard behind (state_of new) (state_of new) gone [] same.0 same.1 last));
     }
 
 -- the next starts
-pub had_started : (old : State) (had : List Request) (s new : State) (waiting : List Request) (request : Request) → HaveHad old had s waiting
-    → IsSettled new → Through (layout_in s) s.frames.shard Scans (state_of s) (state_of new) → OnlyStarts s new
-    → Starts (layout_in s) s.frames.shard (state_of s) request (state_of new)
-    → HaveHad old (had ++ request ∷ []) new waiting
-had_started old had s new waiting request is settled leads only starts =
+pub had_started : (old : State) (had behind : List Request) (s new : State) (waiting : List Request) (request : Request) → HaveHad old had (request ∷ behind) s waiting
+    → IsSettled new → Through (layout_in s) s.frames.shard Scans (state_of s) (state_of new) → OnlyStarts s new → IsWaiting (state_of s) request
+    → Starts (layout_in s) s.frames.shard (state_of s) request behind (state_of new)
+    → HaveHad old (had ++ request ∷ []) behind new waiting
+had_started old had behind s new waiting request is settled leads only waits starts =
     let l = layout_in old in
     let n = old.frames.shard in
     let same = is.only.0 in
-    let turn = turn_of (layout_in s) s.frames.shard (state_of s) request (state_of new) starts in
-    let here = turns_in old.frames.geometry s.frames.geometry n s.frames.shard (state_of s) (state_of new) (request ∷ []) [] same.0 same.1 turn in
-    let turns = turns_both l n (state_of old) had (state_of s) waiting (request ∷ []) (state_of new) [] is.turns here in
+    let turn = turn_of (layout_in s) s.frames.shard behind (state_of s) request (state_of new) waits starts in
+    let here = before_in old.frames.geometry s.frames.geometry n s.frames.shard behind (state_of s) (state_of new) (request ∷ []) [] same.0 same.1 turn in
+    let turns = turns_both l n behind (state_of old) had (state_of s) waiting (request ∷ []) (state_of new) [] is.turns here in
     record {
+      wait = is.wait;
       settled = settled;
       leads = through_both l n Scans (state_of old) (state_of s) (state_of new) is.leads
           (through_in old.frames.geometry s.frames.geometry n s.frames.shard Scans (state_of s) (state_of new) same.0 same.1 leads);
@@ -192,21 +232,25 @@ had_started old had s new waiting request is settled leads only starts =
         (only.1.0 ∙ is.only.1.0, only.1.1 ∙ is.only.1.1),
         ((only.2.0.0 ∙ is.only.2.0.0, only.2.0.1 ∙ is.only.2.0.1), only.2.1 ∙ is.only.2.1),
       );
-      turns = subst (λ rs. InTurn l n (state_of old) (had ++ request ∷ []) (state_of new) rs) (append-nil waiting) turns;
+      turns = subst (λ rs. InTurnBefore l n behind (state_of old) (had ++ request ∷ []) (state_of new) rs) (append-nil waiting) turns;
     }
 
 -- all have had their turns
-pub all_had : (old new : State) (had waiting : List Request) → HaveHad old had new waiting → waiting_of old ≡ had → waiting_of new ≡ waiting → WaitingHaveTurns old new
-all_had old new had waiting is before after =
-    subst (λ rs. InTurn (layout_in old) old.frames.shard (state_of old) rs (state_of new) (waiting_of new)) (sym before)
-    (subst (λ rs. InTurn (layout_in old) old.frames.shard (state_of old) had (state_of new) rs) (sym after) is.turns)
+pub all_had : (old new : State) (had waiting : List Request) → HaveHad old had [] new waiting → waiting_of old ≡ had → waiting_of new ≡ waiting → WaitingHaveTurns old new
+all_had old new had waiting is before after = (
+  is.wait,
+  subst (λ rs. InTurn (layout_in old) old.frames.shard (state_of old) rs (state_of new) (waiting_of new)) (sym before)
+      (subst (λ rs. InTurn (layout_in old) old.frames.shard (state_of old) had (state_of new) rs) (sym after)
+      (turns_of_all (layout_in old) old.frames.shard (state_of old) had (state_of new) waiting is.turns)),
+)
 
 -- none starts
 pub none_starts_now : (s : State) (line : Line Request) → IsSettled s → IsSameLine s line → AllByRecursion (Waits s.frames) (entries_of line)
-    → HaveHad s (waiting_of s) (with_line s line) (waiting_of s)
+    → HaveHad s (waiting_of s) [] (with_line s line) (waiting_of s)
 none_starts_now s line settled same waits =
     let cannot = subst (AllByRecursion (CannotStart s.frames)) same.requests (all_cannot s.frames (entries_of line) (λ live. waits)) in
-    had_line s (waiting_of s) s (waiting_of s) line (had_waited s [] s [] (waiting_of s) (none_had s settled) cannot) same
+    had_line s (waiting_of s) [] s (waiting_of s) line
+    (had_waited s [] [] s [] (waiting_of s) (none_had s settled (waiting_of s ++ [])) (waiting_wait s settled.sound) cannot) same
 
 -- what waited for a thing waits for it still
 pub room_taken : (with : Room) (old : Frames) (request : Request) (new : Frames) → IsLike old new → CanStart old request with → TakesRoom with old request new
@@ -220,64 +264,110 @@ room_taken (room.Frame frame) old request new like can takes es waits =
 -- ---- the oldest of a cause starts
 
 module _ (s : State) (cause : ℕ) (with : Room) (new : State) (first : IsFirstToStart s cause with) (left : LeavesLine s cause new)
-    (starts : IfSome (oldest_of cause (entries_of s.waiting)) (λ request. StartsWith with s request new)) where
-  pub started_with : StartsWith with s first.request new
-  started_with =
-      subst (λ o. IfSome o (λ request. StartsWith with s request new))
-      (ap (oldest_of cause) first.entries ∙ split_oldest cause first.before first.request first.behind first.oldest) starts
+    (starts : IfSome (oldest_of cause (entries_of s.waiting)) (λ request. StartsWith with cause s request new)) where
+  -- the blocks whose writes start with it
+  abbrev pub with_it : ℕ → Bool
+  with_it = wanted_with (layout_in s) first.request.op
 
-  pub started_left : entries_of new.waiting ≡ first.before ++ first.behind
-  started_left =
-      ap entries_of left ∙ ap (without_oldest cause) first.entries ∙ split_without cause first.before first.request first.behind first.oldest
+  oldest_is : oldest_of cause (entries_of s.waiting) ≡ Some first.request
+  oldest_is = ap (oldest_of cause) first.entries ∙ split_oldest cause first.before first.request first.behind first.oldest
 
-  pub left_requests : waiting_of new ≡ values first.before ++ values first.behind
-  left_requests = ap values started_left ∙ values_both first.before first.behind
+  pub started_with : StartsWith with cause s first.request new
+  started_with = subst (λ o. IfSome o (λ request. StartsWith with cause s request new)) oldest_is starts
+
+  others_are : without_oldest cause (entries_of s.waiting) ≡ first.before ++ first.behind
+  others_are = ap (without_oldest cause) first.entries ∙ split_without cause first.before first.request first.behind first.oldest
+
+  starts_among : Starts (layout_in s) s.frames.shard (state_of s) first.request (values first.before ++ values first.behind) (state_of new)
+  starts_among =
+      subst (λ rs. Starts (layout_in s) s.frames.shard (state_of s) first.request rs (state_of new)) (ap values others_are ∙ values_both first.before first.behind) started_with.0
 
   pub all_requests : waiting_of s ≡ values first.before ++ first.request ∷ values first.behind
   all_requests = ap values first.entries ∙ values_split first.before cause first.request first.behind
 
-  -- it is the oldest that can start, and then none can
-  pub one_started : (old : State) → HaveHad old [] s [] → IsSettled new → Through (layout_in s) s.frames.shard Scans (state_of s) (state_of new) → OnlyStarts s new
-      → AllByRecursion (λ entry. CannotStart s.frames entry.1) first.before
-      → (line : Line Request) → IsSameLine new line → AllByRecursion (Waits new.frames) (entries_of line)
-      → HaveHad old (waiting_of s) (with_line new line) (waiting_of new)
-  one_started old base settled leads only cannot line same waits =
-      let older = values first.before in
-      let newer = values first.behind in
-      let before = had_waited old [] s [] older base (all_values (CannotStart s.frames) first.before cannot) in
-      let start = had_started old older s new older first.request before settled leads only started_with.0 in
-      let none = subst (AllByRecursion (CannotStart new.frames)) (same.requests ∙ left_requests) (all_cannot new.frames (entries_of line) (λ live. waits)) in
-      let behind_it = had_waited old (older ++ first.request ∷ []) new older newer start (all_last (CannotStart new.frames) older newer none) in
-      had_line old (waiting_of s) new (waiting_of new) line
-      (subst (λ rs. HaveHad old rs new (waiting_of new)) (append_assoc older (first.request ∷ []) newer ∙ sym all_requests)
-      (subst (λ rs. HaveHad old ((older ++ first.request ∷ []) ++ newer) new rs) (sym left_requests) behind_it)) same
+  -- it is the oldest that can start
+  module _ (settled : IsSettled s) (cannot : AllByRecursion (λ entry. CannotStart s.frames entry.1) first.before) where
+    must : AllByRecursion (MustWait (layout_in s) (state_of s)) (values first.before)
+    must = all_must s (values first.before) settled (all_values (CannotStart s.frames) first.before cannot)
+
+    pub started_left : entries_of new.waiting ≡ first.before ++ entries_left with_it first.behind
+    started_left =
+        ap entries_of (subst (λ o. IfSome o (λ request. new.waiting
+        ≡ with_entries s.waiting (entries_left (wanted_with (layout_in s) request.op) (without_oldest cause (entries_of s.waiting))))) oldest_is left)
+        ∙ ap (entries_left with_it) others_are
+        ∙ line_left (layout_in s) s.frames.shard (state_of s) first.request (state_of new) first.before first.behind must starts_among
+
+    waits : IsWaiting (state_of s) first.request × AllByRecursion (IsWaiting (state_of s)) (values first.before ++ values first.behind)
+    waits = all-middle (IsWaiting (state_of s)) (values first.before) first.request (values first.behind) (subst (AllByRecursion (IsWaiting (state_of s))) all_requests (waiting_wait s settled.sound))
+
+    pub started_waits : IsWaiting (state_of s) first.request
+    started_waits = waits.0
+
+    -- of those that are to have their turns behind it these waited still
+    module _ (newer : List Request) (are : AreLeft (layout_in s) (state_of s) newer (values first.behind)) where
+      pub started_behind : Starts (layout_in s) s.frames.shard (state_of s) first.request newer (state_of new)
+      started_behind = starts_behind (layout_in s) s.frames.shard (state_of s) first.request (state_of new) first.before first.behind must starts_among newer are
+
+      pub left_behind_it : (new.frames.geometry ≡ s.frames.geometry) → AreLeft (layout_in new) (state_of new) newer (values (entries_left with_it first.behind))
+      left_behind_it same =
+          subst (λ (g : Shape). AreLeft (layout_of g) (state_of new) newer (values (entries_left with_it first.behind))) (sym same)
+          (left_then (layout_in s) s.frames.shard (state_of s) first.request (state_of new) first.before first.behind must starts_among newer are waits.1)
+
+    -- and then none can
+    pub one_started : (old : State) → HaveHad old [] (waiting_of s) s [] → IsSettled new → Through (layout_in s) s.frames.shard Scans (state_of s) (state_of new) → OnlyStarts s new
+        → (line : Line Request) → IsSameLine new line → AllByRecursion (Waits new.frames) (entries_of line)
+        → HaveHad old (waiting_of s) [] (with_line new line) (waiting_of new)
+    one_started old base new_settled leads only line same waits_still =
+        let older = values first.before in
+        let newer = values first.behind in
+        let last = values (entries_left with_it first.behind) in
+        let all_left : waiting_of new ≡ older ++ last = ap values started_left ∙ values_both first.before (entries_left with_it first.behind) in
+        let before = had_waited old [] (first.request ∷ newer) s [] older (subst (λ rs. HaveHad old [] rs s []) all_requests base)
+        (all_first (IsWaiting (state_of s)) older newer waits.1) (all_values (CannotStart s.frames) first.before cannot) in
+        let are = all_are_left (layout_in s) (state_of s) newer in
+        let start = had_started old older newer s new older first.request before new_settled leads only started_waits (started_behind newer are) in
+        let none = subst (AllByRecursion (CannotStart new.frames)) (same.requests ∙ all_left) (all_cannot new.frames (entries_of line) (λ live. waits_still)) in
+        let wait = subst (AllByRecursion (IsWaiting (state_of new))) all_left (waiting_wait new new_settled.sound) in
+        let behind_it = had_left old (older ++ first.request ∷ []) [] new older newer last
+        (subst (λ rs. HaveHad old (older ++ first.request ∷ []) rs new older) (sym (append-nil newer)) start) (left_behind_it newer are only.0.0)
+        (all_last (IsWaiting (state_of new)) older last wait) (all_last (CannotStart new.frames) older last none) in
+        had_line old (waiting_of s) [] new (waiting_of new) line
+        (subst (λ rs. HaveHad old rs [] new (waiting_of new)) (append_assoc older (first.request ∷ []) newer ∙ sym all_requests)
+        (subst (λ rs. HaveHad old ((older ++ first.request ∷ []) ++ newer) [] new rs) (sym all_left) behind_it)) same
 
 -- ---- one after the other is looked at
 
--- those that have had their turn and wait still wait for what they are said to; for what the others wait isn't known
+-- those that have had their turn and wait still wait for what they are said to; for what the others wait isn't known,
+-- and for some of them rows are held already
 pub record IsScanned (old new : State) : Type 0 where
   pub live : AreLive new.frames
   pub had : List Request
+  pub behind : List Request
   pub tested : Entries Request
   pub untested : Entries Request
-  pub split : waiting_of old ≡ had ++ values untested
+  pub split : waiting_of old ≡ had ++ behind
+  pub left : AreLeft (layout_in new) (state_of new) behind (values untested)
   pub entries : entries_of new.waiting ≡ tested ++ untested
   pub waits : AllByRecursion (Waits new.frames) tested
   pub unknown : AllByRecursion (λ entry. entry.0 ≡ anything) untested
-  pub turns : HaveHad old had new (values tested)
+  pub turns : HaveHad old had behind new (values tested)
 
 pub none_scanned : (s : State) → IsSettled s → AreLive s.frames → IsScanned s (with_line s (with_entries s.waiting (gathered anything (entries_of s.waiting))))
 none_scanned s settled live =
+    let line = with_entries s.waiting (gathered anything (entries_of s.waiting)) in
+    let now = with_line s line in
     record {
       live = live;
       had = [];
+      behind = waiting_of s;
       tested = [];
       untested = gathered anything (entries_of s.waiting);
-      split = sym (values_gathered anything (entries_of s.waiting));
+      split = refl;
+      left = subst (AreLeft (layout_in now) (state_of now) (waiting_of s)) (sym (values_gathered anything (entries_of s.waiting))) (all_are_left (layout_in now) (state_of now) (waiting_of s));
       entries = refl;
       waits = tt;
       unknown = all_for anything (entries_of s.waiting);
-      turns = had_line s [] s [] (with_entries s.waiting (gathered anything (entries_of s.waiting))) (none_had s settled) (all_gathered s anything);
+      turns = had_line s [] (waiting_of s) s [] line (none_had s settled (waiting_of s)) (all_gathered s anything);
     }
 
 -- what waits for something known
@@ -310,13 +400,24 @@ fewer_left test cause to r before behind one other =
     let some = ap one_for one in
     omega (arith, now, was, none, some)
 
-pub fewer_started : (test : ℕ → Bool) (cause : ℕ) (r : Request) (before behind : Entries Request) → test cause ≡ true
-    → count_for test (before ++ behind) < count_for test (before ++ (cause, r) ∷ behind)
-fewer_started test cause r before behind one =
-    let now = count_both test before behind in
+pub fewer_started : (test : ℕ → Bool) (cause : ℕ) (r : Request) (before behind left : Entries Request) → test cause ≡ true → count_for test left ≤ count_for test behind
+    → count_for test (before ++ left) < count_for test (before ++ (cause, r) ∷ behind)
+fewer_started test cause r before behind left one fewer =
+    let now = count_both test before left in
     let was = count_both test before ((cause, r) ∷ behind) in
     let some = ap one_for one in
-    omega (arith, now, was, some)
+    omega (arith, now, was, some, fewer)
+
+pub count_left : (test : ℕ → Bool) (wanted : ℕ → Bool) (es : Entries Request) → count_for test (entries_left wanted es) ≤ count_for test es
+count_left test wanted [] = omega arith
+count_left test wanted (entry ∷ es) = elim (cases_Bool (is_wanted wanted (block_written entry.1.op))) [
+  | inl is ↦
+      let fewer = count_left test (but wanted (block_written entry.1.op)) es in
+      let now = ap (count_for test) (entry_goes wanted entry es is) in omega (arith, fewer, now)
+  | inr not ↦
+      let fewer = count_left test wanted es in
+      let now = ap (count_for test) (entry_stays wanted entry es not) in omega (arith, fewer, now)
+]
 
 -- the first of those that are left
 pub record IsNext (r : Request) (untested : Entries Request) : Type 0 where
@@ -348,41 +449,67 @@ module _ (old s : State) (is : IsScanned old s) (r : Request) (oldest : oldest_o
   pub next_entries : entries_of s.waiting ≡ is.tested ++ (anything, r) ∷ next.rest
   next_entries = is.entries ∙ ap (λ (es : Entries Request). is.tested ++ es) next.is
 
-  next_split : waiting_of old ≡ (is.had ++ r ∷ []) ++ values next.rest
-  next_split = is.split ∙ ap (λ (es : Entries Request). is.had ++ values es) next.is ∙ sym (append_assoc is.had (r ∷ []) (values next.rest))
+  after : IsNextLeft (layout_in s) (state_of s) is.behind r (values next.rest)
+  after = next_left (layout_in s) (state_of s) is.behind r (values next.rest) (subst (λ (es : Entries Request). AreLeft (layout_in s) (state_of s) is.behind (values es)) next.is is.left)
+
+  abbrev older : List Request
+  older = is.had ++ after.gone
+
+  -- for those before it rows are held already
+  passed_over : HaveHad old older (r ∷ after.rest) s (values is.tested)
+  passed_over = had_joined old is.had (r ∷ after.rest) s (values is.tested) after.gone (subst (λ rs. HaveHad old is.had rs s (values is.tested)) after.split is.turns) after.joined
+
+  next_split : waiting_of old ≡ (older ++ r ∷ []) ++ after.rest
+  next_split =
+      is.split ∙ ap (λ (rs : List Request). is.had ++ rs) after.split
+      ∙ sym (append_assoc is.had after.gone (r ∷ after.rest)) ∙ sym (append_assoc older (r ∷ []) after.rest)
+
+  next_is_waiting : IsWaiting (state_of s) r
+  next_is_waiting =
+      (all-middle (IsWaiting (state_of s)) (values is.tested) r (values next.rest)
+      (subst (AllByRecursion (IsWaiting (state_of s))) (ap values next_entries ∙ values_split is.tested anything r next.rest) (waiting_wait s is.turns.settled.sound))).0
 
   -- it starts with this
   pub next_first : (with : Room) → CanStart s.frames r with → IsFirstToStart s anything with
   next_first with can = record { before = is.tested; request = r; behind = next.rest; entries = next_entries; oldest = known_now; can = can }
 
+  none_tested : AllByRecursion (λ entry. CannotStart s.frames entry.1) is.tested
+  none_tested = all_then (Waits s.frames) (λ entry. CannotStart s.frames entry.1) is.tested (λ e waits alive could. cannot_begin s.frames e.0 e.1.op waits alive could) is.waits
+
   pub next_started : (with : Room) (can : CanStart s.frames r with) (new : State) → IsSettled new → Through (layout_in s) s.frames.shard Scans (state_of s) (state_of new)
-      → AreLive new.frames → LeavesLine s anything new → IfSome (oldest_of anything (entries_of s.waiting)) (λ request. StartsWith with s request new) → OnlyStarts s new
+      → AreLive new.frames → LeavesLine s anything new → IfSome (oldest_of anything (entries_of s.waiting)) (λ request. StartsWith with anything s request new) → OnlyStarts s new
       → IsScanned old new
   unfolding next_first
   next_started with can new settled leads live left starts only =
       let first = next_first with can in
       let started = started_with s anything with new first left starts in
+      let was = is.turns.settled in
       record {
         live = live;
-        had = is.had ++ r ∷ [];
+        had = older ++ r ∷ [];
+        behind = after.rest;
         tested = is.tested;
-        untested = next.rest;
+        untested = entries_left (with_it s anything with new first left starts) next.rest;
         split = next_split;
-        entries = started_left s anything with new first left starts;
+        left = left_behind_it s anything with new first left starts was none_tested after.rest after.left only.0.0;
+        entries = started_left s anything with new first left starts was none_tested;
         waits = room_taken with s.frames r new.frames started.1 can started.2 is.tested is.waits;
-        unknown = next.unknown;
-        turns = had_started old is.had s new (values is.tested) r is.turns settled leads only started.0;
+        unknown = all_left (λ entry. entry.0 ≡ anything) (with_it s anything with new first left starts) next.rest next.unknown;
+        turns = had_started old older after.rest s new (values is.tested) r passed_over settled leads only next_is_waiting
+            (started_behind s anything with new first left starts was none_tested after.rest after.left);
       }
 
   pub next_started_fewer : (with : Room) (can : CanStart s.frames r with) (new : State) → LeavesLine s anything new
-      → IfSome (oldest_of anything (entries_of s.waiting)) (λ request. StartsWith with s request new)
+      → IfSome (oldest_of anything (entries_of s.waiting)) (λ request. StartsWith with anything s request new)
       → count_for (λ cause. cause == anything) (entries_of new.waiting) < count_for (λ cause. cause == anything) (entries_of s.waiting)
   unfolding next_first
   next_started_fewer with can new left starts =
       let first = next_first with can in
-      subst (λ es. count_for (λ cause. cause == anything) es < count_for (λ cause. cause == anything) (entries_of s.waiting)) (sym (started_left s anything with new first left starts))
-      (subst (λ es. count_for (λ cause. cause == anything) (is.tested ++ next.rest) < count_for (λ cause. cause == anything) es) (sym next_entries)
-      (fewer_started (λ cause. cause == anything) anything r is.tested next.rest refl))
+      let wanted = with_it s anything with new first left starts in
+      let test : ℕ → Bool = λ cause. cause == anything in
+      subst (λ es. count_for test es < count_for test (entries_of s.waiting)) (sym (started_left s anything with new first left starts is.turns.settled none_tested))
+      (subst (λ es. count_for test (is.tested ++ entries_left wanted next.rest) < count_for test es) (sym next_entries)
+      (fewer_started test anything r is.tested next.rest (entries_left wanted next.rest) refl (count_left test wanted next.rest)))
 
   -- it waits for this
   module _ (cause : ℕ) (waits : WaitsFor s.frames cause r.op) where
@@ -394,18 +521,22 @@ module _ (old s : State) (is : IsScanned old s) (r : Request) (oldest : oldest_o
 
     pub next_waits : IsScanned old (with_line s moved)
     next_waits =
+        let same = moved_oldest s anything cause in
         let cannot : AllByRecursion (CannotStart s.frames) (r ∷ []) = ((λ alive could. cannot_begin s.frames cause r.op waits alive could), tt) in
-        let turns = had_line old (is.had ++ r ∷ []) s (values is.tested ++ r ∷ []) moved (had_waited old is.had s (values is.tested) (r ∷ []) is.turns cannot) (moved_oldest s anything cause) in
+        let turns = had_line old (older ++ r ∷ []) after.rest s (values is.tested ++ r ∷ []) moved
+        (had_waited old older after.rest s (values is.tested) (r ∷ []) passed_over (next_is_waiting, tt) cannot) same in
         record {
           live = is.live;
-          had = is.had ++ r ∷ [];
+          had = older ++ r ∷ [];
+          behind = after.rest;
           tested = is.tested ++ (cause, r) ∷ [];
           untested = next.rest;
           split = next_split;
+          left = subst (λ (x : Shard). AreLeft (layout_in s) x after.rest (values next.rest)) (sym (same_state s moved same.requests)) after.left;
           entries = moved_entries ∙ sym (append_assoc is.tested ((cause, r) ∷ []) next.rest);
           waits = all-append (Waits s.frames) is.tested ((cause, r) ∷ []) is.waits (waits, tt);
           unknown = next.unknown;
-          turns = subst (λ rs. HaveHad old (is.had ++ r ∷ []) (with_line s moved) rs) (sym (values_both is.tested ((cause, r) ∷ []))) turns;
+          turns = subst (λ rs. HaveHad old (older ++ r ∷ []) after.rest (with_line s moved) rs) (sym (values_both is.tested ((cause, r) ∷ []))) turns;
         }
 
     pub next_waits_fewer : count_for (λ c. c == anything) (entries_of moved) < count_for (λ c. c == anything) (entries_of s.waiting)
@@ -430,9 +561,14 @@ module _ (old new : State) (is : IsScanned old new) (none : oldest_of anything (
   pub scanned_core : IsCore new
   scanned_core = record { settled = is.turns.settled; waits = λ live. subst (AllByRecursion (Waits new.frames)) (sym all_tested) is.waits }
 
+  -- for all others rows are held
+  all_through : HaveHad old (is.had ++ is.behind) [] new (values is.tested)
+  all_through =
+      had_joined old is.had [] new (values is.tested) is.behind (subst (λ rs. HaveHad old is.had rs new (values is.tested)) (sym (append-nil is.behind)) is.turns)
+      (none_left (layout_in new) (state_of new) is.behind (subst (λ (es : Entries Request). AreLeft (layout_in new) (state_of new) is.behind (values es)) nobody is.left))
+
   pub scanned_turns : WaitingHaveTurns old new
-  scanned_turns =
-      all_had old new is.had (values is.tested) is.turns (is.split ∙ ap (λ (es : Entries Request). is.had ++ values es) nobody ∙ append-nil is.had) (ap values all_tested)
+  scanned_turns = all_had old new (is.had ++ is.behind) (values is.tested) all_through is.split (ap values all_tested)
 
 -- in a shard that has stopped none can start
 pub none_starts : (fs : Frames) (rs : List Request) → (AreLive fs → ⊥) → AllByRecursion (CannotStart fs) rs

@@ -1,4 +1,4 @@
--- What a hold is for: a request, or a check or repair, whose row is counted.
+-- What a hold is for: requests, or a check or repair, whose row is counted.
 use Rattle.std.proofs.Common.{Bool, ◌≡◌, ℕ, ◌+◌, ◌*◌, ◌≤◌, List, [], ◌∷◌, map, refl, ap, Some, arith}
 use Rattle.r6_recover.specs.declared.class.RowClass.TheVariants as class
 use Rattle.r6_stripe.specs.Holds.{Kind}
@@ -6,18 +6,17 @@ use Rattle.r6_world.specs.PlainArray as world
 use Rattle.r6_world.specs.Tasks.{Task, ReadFor, WriteFor, Rebuild, Check, Repair}
 use Rattle.r6_world.specs.ShardStates as shards
 use Rattle.r6_world.specs.Changes.{counted}
-use Rattle.r6_frames.specs.declared.op.Op.{Op}
-use Rattle.r6_frames.specs.declared.op.Op.TheVariants as op
 use Rattle.r6_frames.specs.declared.finish.Ended.{Ended}
 use Rattle.r6_frames.specs.declared.finish.Ended.TheVariants as ended
 use Rattle.r6_frames.specs.declared.frames.Job.{Job}
 use Rattle.r6_frames.specs.declared.frames.Job.TheVariants as job
 use Rattle.r6_frames.specs.declared.frames.Scrub.TheVariants as scrub
-use Rattle.r6_frames.specs.Views.{is_scrub, op_of, outcome_of, requests_by, task_by, task_for}
-use Rattle.r6_frames.specs.Calls.{ended_task, ended_outcome}
+use Rattle.r6_frames.specs.Views.{batch_in, is_scrub, requests_by, task_by}
+use Rattle.r6_frames.specs.Calls.{requests_of as requests_ended, ended_task, ended_outcome}
+use Rattle.r6_frames.specs.Writes.{Entry, entries_of, request_of, write_task}
 use Rattle.r6_core.specs.declared.counts.Counts.{Counts}
 use Rattle.r6_core.specs.Shards.{counts_of}
-use Rattle.r6_core.specs.Inside.{is_turn, numbered_op, one_if, requests_ended, rows_found}
+use Rattle.r6_core.specs.Inside.{is_turn, is_written, numbered_op, one_if, rows_found}
 
 -- the requests of a task
 abbrev pub requests_for : Task → List (ℕ × world.Op)
@@ -28,19 +27,20 @@ requests_for (Rebuild slot generation) = []
 requests_for Check = []
 requests_for Repair = []
 
+writes_numbered : (writes : List Entry) → requests_for (write_task writes) ≡ map numbered_op (map request_of writes)
+writes_numbered [] = refl
+writes_numbered (write ∷ writes) = ap (λ rs. numbered_op (request_of write) ∷ rs) (writes_numbered writes)
+
 pub requests_of_job : (j : Job) (kind : Kind) → requests_for (task_by j kind) ≡ requests_by j kind
 requests_of_job (job.Read served buffer) kind = refl
-requests_of_job (job.Write served) kind = refl
+requests_of_job (job.Write served) kind = writes_numbered (entries_of served (batch_in kind))
 requests_of_job (job.Scrub scrub.Check) kind = refl
 requests_of_job (job.Scrub scrub.Repair) kind = refl
 requests_of_job (job.Rebuild target) kind = refl
 
-requests_of_op : (id : ℕ) (o : Op) → requests_for (task_for id o) ≡ (id, op_of o) ∷ []
-requests_of_op id (op.Read block buffer) = refl
-requests_of_op id (op.Write block buffer) = refl
-
 pub requests_of_end : (e : Ended) → requests_for (ended_task e) ≡ map numbered_op (requests_ended e)
-requests_of_end (ended.Request r) = requests_of_op r.id r.op
+requests_of_end (ended.Read served buffer) = refl
+requests_of_end (ended.Wrote writes) = writes_numbered writes
 requests_of_end (ended.Classed scrub.Check class) = refl
 requests_of_end (ended.Classed scrub.Repair class) = refl
 requests_of_end (ended.Skipped scrub.Check) = refl
@@ -48,7 +48,7 @@ requests_of_end (ended.Skipped scrub.Repair) = refl
 requests_of_end (ended.Rebuilt target row) = refl
 requests_of_end (ended.GivenUp target) = refl
 
--- whether it is a check or repair, and whether it is any of what a shard does by itself
+-- whether it is a check or repair, whether it is any of what a shard does by itself, and whether it is writes
 abbrev pub scrub_weight : Task → ℕ
 scrub_weight (ReadFor id block) = 0
 scrub_weight (WriteFor writes) = 0
@@ -63,38 +63,37 @@ turn_weight (Rebuild slot generation) = 1
 turn_weight Check = 1
 turn_weight Repair = 1
 
+abbrev pub write_weight : Task → ℕ
+write_weight (ReadFor id block) = 0
+write_weight (WriteFor writes) = 1
+write_weight (Rebuild slot generation) = 0
+write_weight Check = 0
+write_weight Repair = 0
+
 -- a test of what a row is held for counts as this weight of its task
-pub record Weighs (test : Job → Bool) (weight : Task → ℕ) : Type 0 where
-  pub job : (row : ℕ) (j : Job) (kind : Kind) → one_if test (Some (row, j)) ≡ weight (task_by j kind)
-  pub request : (id : ℕ) (o : Op) → weight (task_for id o) ≡ 0
-
-scrub_weighed : (row : ℕ) (j : Job) (kind : Kind) → one_if is_scrub (Some (row, j)) ≡ scrub_weight (task_by j kind)
-scrub_weighed row (job.Read served buffer) kind = refl
-scrub_weighed row (job.Write served) kind = refl
-scrub_weighed row (job.Scrub scrub.Check) kind = refl
-scrub_weighed row (job.Scrub scrub.Repair) kind = refl
-scrub_weighed row (job.Rebuild target) kind = refl
-
-turn_weighed : (row : ℕ) (j : Job) (kind : Kind) → one_if is_turn (Some (row, j)) ≡ turn_weight (task_by j kind)
-turn_weighed row (job.Read served buffer) kind = refl
-turn_weighed row (job.Write served) kind = refl
-turn_weighed row (job.Scrub scrub.Check) kind = refl
-turn_weighed row (job.Scrub scrub.Repair) kind = refl
-turn_weighed row (job.Rebuild target) kind = refl
-
-no_scrub : (id : ℕ) (o : Op) → scrub_weight (task_for id o) ≡ 0
-no_scrub id (op.Read block buffer) = refl
-no_scrub id (op.Write block buffer) = refl
-
-no_turn : (id : ℕ) (o : Op) → turn_weight (task_for id o) ≡ 0
-no_turn id (op.Read block buffer) = refl
-no_turn id (op.Write block buffer) = refl
+abbrev pub Weighs : (test : Job → Bool) (weight : Task → ℕ) → Type 0
+Weighs test weight = (row : ℕ) (j : Job) (kind : Kind) → one_if test (Some (row, j)) ≡ weight (task_by j kind)
 
 pub scrubs_weigh : Weighs is_scrub scrub_weight
-scrubs_weigh = record { job = scrub_weighed; request = no_scrub }
+scrubs_weigh row (job.Read served buffer) kind = refl
+scrubs_weigh row (job.Write served) kind = refl
+scrubs_weigh row (job.Scrub scrub.Check) kind = refl
+scrubs_weigh row (job.Scrub scrub.Repair) kind = refl
+scrubs_weigh row (job.Rebuild target) kind = refl
 
 pub turns_weigh : Weighs is_turn turn_weight
-turns_weigh = record { job = turn_weighed; request = no_turn }
+turns_weigh row (job.Read served buffer) kind = refl
+turns_weigh row (job.Write served) kind = refl
+turns_weigh row (job.Scrub scrub.Check) kind = refl
+turns_weigh row (job.Scrub scrub.Repair) kind = refl
+turns_weigh row (job.Rebuild target) kind = refl
+
+pub writes_weigh : Weighs is_written write_weight
+writes_weigh row (job.Read served buffer) kind = refl
+writes_weigh row (job.Write served) kind = refl
+writes_weigh row (job.Scrub scrub.Check) kind = refl
+writes_weigh row (job.Scrub scrub.Repair) kind = refl
+writes_weigh row (job.Rebuild target) kind = refl
 
 -- ---- the rows that are counted
 
@@ -105,13 +104,10 @@ found_in k = k.consistent + k.wrong_p + k.wrong_q + k.wrong_data + k.many + k.re
 abbrev IsMore : shards.Counts → shards.Counts → Task → Type 0
 IsMore old new task = (found_in new ≤ found_in old + 2 * turn_weight task) × (new.skipped ≤ old.skipped + scrub_weight task)
 
-counted_none : (k : shards.Counts) (id : ℕ) (o : Op) → IsMore k (counted k (task_for id o) (outcome_of o)) (task_for id o)
-counted_none k id (op.Read block buffer) = (omega arith, omega arith)
-counted_none k id (op.Write block buffer) = (omega arith, omega arith)
-
 -- the row of a check or repair is counted twice at most
 counted_rows : (k : shards.Counts) (e : Ended) → IsMore k (counted k (ended_task e) (ended_outcome e)) (ended_task e)
-counted_rows k (ended.Request r) = counted_none k r.id r.op
+counted_rows k (ended.Read served buffer) = (omega arith, omega arith)
+counted_rows k (ended.Wrote writes) = (omega arith, omega arith)
 counted_rows k (ended.Rebuilt target row) = (omega arith, omega arith)
 counted_rows k (ended.GivenUp target) = (omega arith, omega arith)
 counted_rows k (ended.Skipped scrub.Check) = (omega arith, omega arith)

@@ -6,12 +6,10 @@ use Rattle.std.specs.List.{IsDistinct, AllByRecursion}
 use Rattle.std.specs.List.Sorted.{IsNonDecreasingBy}
 use Rattle.std.specs.Map.{keys_of}
 use Rattle.std.specs.Cmp.{nat_eq_equiv}
-use Rattle.std.proofs.lemmas.Bool.{eqb-true, eq-eqb}
+use Rattle.std.proofs.lemmas.Bool.{eq-eqb}
 use Rattle.circular_buffer.specs.Buffer.{Buffer}
 use Rattle.std.proofs.lemmas.List.{drop-append-le, length-map, map-append, take-append-drop, take-append-le}
-use Rattle.std.proofs.lemmas.List.Elements.{All-from_recursion, recursion_from_All}
-use Rattle.std.proofs.lemmas.List.Sorted.{IsNonDecreasingBy-drop, IsPermutation-sym, IsPermutation-trans, IsPermutation-append_comm, IsPermutation-append_right, IsPermutation-map, All-permutation, Contains-permutation, length_permutation}
-use Rattle.std.proofs.lemmas.Map.Views.{Contains-from_lookup, lookup-from_Contains}
+use Rattle.std.proofs.lemmas.List.Sorted.{IsNonDecreasingBy-drop, IsPermutation-sym, IsPermutation-trans, IsPermutation-append_comm, IsPermutation-append_right, IsPermutation-map, length_permutation}
 use Rattle.std.proofs.lemmas.Map.Keys.{IsDistinct-head, IsDistinct-tail, IsDistinct-IsPermutation}
 use Rattle.r6_world.specs.PlainArray as world
 use Rattle.r6_world.specs.PlainArray.{ArrayFailed}
@@ -37,6 +35,9 @@ use Rattle.r6_world.specs.ShardStates.{limit}
 use Rattle.r6_core.specs.Refusals.{most_unanswered}
 use Rattle.r6_core.specs.Order.{IsRising, FailsAll}
 use Rattle.r6_core.specs.Inside.{AreBounded, AreOwnRows, HandsBack, IsReadOn, IsSound, IsSettled, Gathers, count_unheld, Seen, held_op, numbered_op, unreplied, count_untold}
+use Rattle.r6_core.proofs.Rooms.{rooms_still}
+use Rattle.r6_core.proofs.Lined.{all_permuted}
+use Rattle.r6_core.proofs.Together.{table_permuted}
 use Rattle.r6_core.proofs.CountedRows.{counted_kept, no_rows_counted, rows_of_holds, same_or_fewer}
 use Rattle.r6_core.proofs.Kept.{own_rows_kept, requests_kept, sizes_kept}
 use Rattle.r6_core.proofs.SlotsKept.{calls_same}
@@ -45,22 +46,6 @@ use Rattle.r6_core.proofs.Going.{keys_framed}
 use Rattle.r6_core.proofs.ReadOn.{keys_on, none_reading}
 use Rattle.r6_core.proofs.Passed.{all-append}
 use Rattle.r6_core.proofs.Replied.{as_many, keys_replied, keys_requests, numbers}
-
--- ---- a look-up doesn't depend on the order
-
-found_still : {X : Type 0} (xs ys : Entries X) (q : ℕ) (v : X) → IsPermutation xs ys → IsDistinct nat_eq (keys_of ys) → table xs q ≡ Some v → table ys q ≡ Some v
-found_still xs ys q v same distinct is =
-    lookup-from_Contains nat_eq_equiv q v ys distinct (Contains-permutation xs ys (q, v) same (Contains-from_lookup (λ x y e. eqb-true x y e) q v xs is))
-
-pub table_permuted : {X : Type 0} (xs ys : Entries X) (q : ℕ) → IsPermutation xs ys → IsPermutation ys xs → IsDistinct nat_eq (keys_of xs) → IsDistinct nat_eq (keys_of ys) → table xs q ≡ table ys q
-table_permuted xs ys q same back dx dy =
-    elim (table xs q) as (λ o. table xs q ≡ o → table xs q ≡ table ys q) [
-      | Some v ↦ λ e. e ∙ sym (found_still xs ys q v same dy e)
-      | None ↦ λ e. elim (table ys q) as (λ o. table ys q ≡ o → table xs q ≡ table ys q) [
-        | None ↦ λ f. e ∙ sym f
-        | Some v ↦ λ f. let there = found_still ys xs q v back dx f in absurd (cc)
-      ] refl
-    ] refl
 
 -- ---- each request that isn't released is answered that the array has failed
 
@@ -172,6 +157,8 @@ module _ (s : State) (fs : Frames) (sound : IsSound s) (sees : SeesFailure s.fra
           replies = sound.room.replies;
           calls = sound.room.calls;
           few_calls = let same = calls_same s.frames fs slots_seen sees.0 in omega (arith, same, sound.room.few_calls);
+          rooms = rooms_still s.rooms.items s.frames fs sound.frames frames (rows_of_holds s.frames fs holds) sound.room.rooms;
+          space = sound.room.space;
         };
         tokens =
             let reads = as_many (read_requests fs) (read_requests s.frames) keys_read in
@@ -206,9 +193,6 @@ distinct_behind [] ys h = h
 distinct_behind (x ∷ xs) ys h = distinct_behind xs ys (IsDistinct-tail nat_eq x.0 (keys_of (xs ++ ys)) h)
 
 -- ---- the shard behind it
-
-pub all_permuted : {X : Type 0} (P : X → Type 0) (xs ys : List X) → IsPermutation xs ys → AllByRecursion P xs → AllByRecursion P ys
-all_permuted P xs ys same all = recursion_from_All P ys (All-permutation P xs ys same (All-from_recursion P xs all))
 
 module _ (s : State) (mid : State) (sorted : Buffer Request) (sound : IsSound s) (seen : s.frames.saw_failed ≡ true) (none : read_requests s.frames ≡ []) (gathers : Gathers s mid)
     (before : take mid.released sorted.items ≡ take mid.released mid.replies.items) (same : IsPermutation (drop mid.released mid.replies.items) (drop mid.released sorted.items))
@@ -352,6 +336,8 @@ module _ (s : State) (mid : State) (sorted : Buffer Request) (sound : IsSound s)
                 let same = calls_same s.frames mid.frames slots geometry in
                 let calls : length mid.calls.items + count_untold mid.untold ≡ length s.calls.items + count_untold s.untold = λ i. length (gathers.rest.3.0 i).items + count_untold (gathers.rest.3.1 i) in
                 omega (arith, same, calls, sound.room.few_calls);
+            rooms = gathers.rooms;
+            space = omega (arith, gathers.space, sound.room.space);
           };
           tokens =
               let next : mid.frames.commands.next ≡ s.frames.commands.next = ap (λ (x : Shard). x.tokens) (shard_is (rest_of s)) in
@@ -421,9 +407,9 @@ module _ (s : State) (fs : Frames) (back : State) (sees : SeesFailure s.frames f
   pub none_read_in : read_requests back.frames ≡ []
   none_read_in = none_reading back.frames handed.sound.frames stopped_in handed.reading
 
-  pub see_failed_state : (new : State) → state_of new ≡ record (state_of back) { frame = λ f. None; request = λ q. failed_request ((state_of back).request q) }
-      → state_of new ≡ after (layout_in s) (state_of s) See_failed
-  see_failed_state new is =
+  pub see_failed_state : (later : State) → state_of later ≡ record (state_of back) { frame = λ f. None; request = λ q. failed_request ((state_of back).request q) }
+      → state_of later ≡ after (layout_in s) (state_of s) See_failed
+  see_failed_state later is =
       let seen = record s { frames = fs } in
       is
       ∙ (λ i. record (handed.state i) { frame = λ f. None; request = λ q. failed_request ((handed.state i).request q) })
@@ -436,5 +422,5 @@ module _ (s : State) (fs : Frames) (back : State) (sees : SeesFailure s.frames f
       })
       (fun_ext (λ q. sym (table_failed (requests_of seen) q) ∙ ap (λ (es : Entries shards.Request). table es q) fails_same ∙ table_failed (requests_of s) q))
 
-  pub see_failed_order : (new : State) → Seen FailsAll back new → Seen FailsAll s new
-  see_failed_order new order = (order.0, order.1 ∙ (λ i. take (handed.rest i).released (handed.rest i).replies.items), order.2)
+  pub see_failed_order : (later : State) → Seen FailsAll back later → Seen FailsAll s later
+  see_failed_order later order = (order.0, order.1 ∙ (λ i. take (handed.rest i).released (handed.rest i).replies.items), order.2)

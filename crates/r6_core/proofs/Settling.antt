@@ -21,7 +21,7 @@ use Rattle.r6_core.specs.Shards.{core_of, state_of, layout_in}
 use Rattle.r6_core.specs.Order.{AreOfOneRow, Finishes, MayFinish}
 use Rattle.r6_core.specs.Inside.{AllWait, AreReadOn, HasBuffer, HasFreed, HasLetGo, KeepsWaiting, SameFrames, IsSound, IsSettled, IsRested, IsRestedFrame, FinishesHeld, Seen, StandByNumber, count_rows, numbered_op, one_if}
 use Rattle.r6_core.proofs.CountedRows.{row_weight, rows_counted_but_one}
-use Rattle.r6_core.proofs.SeenFailure.{all_permuted}
+use Rattle.r6_core.proofs.Lined.{all_permuted}
 use Rattle.r6_core.proofs.Throughs.{through_both, through_in, through_of}
 use Rattle.r6_core.proofs.Going.{Goes, goes_still, drives_give, drives_still, between_states, gone_sound, puts_out_on, reading_kept}
 

@@ -20,7 +20,9 @@ use Rattle.r6_core.specs.Shards.{rest_of, state_of, requests_of, waiting_request
 use Rattle.r6_core.specs.Order.{IsRising}
 use Rattle.r6_core.specs.Inside.{IsSound}
 use Rattle.r6_core.proofs.Replied.{keys_replied, more_replied}
-use Rattle.r6_core.proofs.SeenFailure.{all_permuted, distinct_behind, rising, table_permuted}
+use Rattle.r6_core.proofs.Lined.{all_permuted}
+use Rattle.r6_core.proofs.SeenFailure.{distinct_behind, rising}
+use Rattle.r6_core.proofs.Together.{table_permuted}
 
 pub rising_few : (rs : List Request) → length rs ≤ 1 → IsRising rs
 rising_few [] few = tt
@@ -118,6 +120,8 @@ module _ (s : State) (from : ℕ) (sorted : Buffer Request) (sound : IsSound s) 
           replies = capacity ∙ sound.room.replies;
           calls = sound.room.calls;
           few_calls = sound.room.few_calls;
+          rooms = sound.room.rooms;
+          space = sound.room.space;
         };
         tokens = sound.tokens;
         accepted = sound.accepted;

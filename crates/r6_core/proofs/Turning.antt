@@ -24,7 +24,8 @@ use Rattle.r6_core.specs.Shards.{Step, core_of, layout_in, rest_of, state_of}
 use Rattle.r6_core.specs.Inside.{AreOwnRows, IsCore, IsPassedOver, IsSound, IsTakenUp, HasSlotOut, SameFrames, next_row}
 use Rattle.r6_core.proofs.AtRest.{not_held_by, rests_in}
 use Rattle.r6_core.proofs.Starting.{not_held}
-use Rattle.r6_core.proofs.HeldTurns.{BeginsTurn, few_rows, turn_allowed}
+use Rattle.r6_core.proofs.HeldTurns.{BeginsTurn, turn_allowed}
+use Rattle.r6_core.proofs.Rooms.{few_rows}
 use Rattle.r6_layout.specs.Layout.{first_row}
 use Rattle.r6_layout.specs.Shape.{Shape, IsShape}
 use Rattle.r6_world.specs.Layouts.{IsRowOf}
@@ -113,7 +114,7 @@ module _ (s : State) (check_row repair_row : ℕ) (core : IsCore s) (few : s.cou
               sized = requests.sized;
               marked = requests.marked;
             };
-            room = record { waiting = sound.room.waiting; causes = sound.room.causes; replies = sound.room.replies; calls = sound.room.calls; few_calls = sound.room.few_calls };
+            room = record { waiting = sound.room.waiting; causes = sound.room.causes; replies = sound.room.replies; calls = sound.room.calls; few_calls = sound.room.few_calls; rooms = sound.room.rooms; space = sound.room.space };
             tokens = sound.tokens;
             accepted = sound.accepted;
             counted = record { found = sound.counted.found; skipped = omega (arith, rows, sound.frames.frames.count, few) };

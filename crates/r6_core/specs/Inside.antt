@@ -1,7 +1,8 @@
 -- What is true of a state between calls, and what internal calls do. No public clause needs it.
-use Rattle.std.specs.Prelude.{◌≡◌, ◌≢◌, ℕ, ◌+◌, ◌*◌, ◌<◌, ◌≤◌, nat_eq, not, ◌⊎◌, Bool, true, false, List, [], ◌∷◌, ◌++◌, length, map, take, drop, if◌then◌else◌, option_map, IsPermutation, Option, Some, None, Result, Ok, Err}
-use Rattle.std.specs.List.{AllByRecursion, IsDistinct}
+use Rattle.std.specs.Prelude.{◌≡◌, ◌≢◌, ℕ, ◌+◌, ◌*◌, ◌<◌, ◌≤◌, nat_eq, not, ◌⊎◌, Bool, true, false, List, [], ◌∷◌, ◌++◌, length, map, take, drop, if◌then◌else◌, option_map, IfSome, MatchOption, IsPermutation, vec_capacity, Option, Some, None, Result, Ok, Err}
+use Rattle.std.specs.List.{All, AllByRecursion, IsDistinct}
 use Rattle.std.specs.Map.{keys_of}
+use Rattle.std.specs.Global.{Vec}
 use Rattle.r6_stripe.specs.Plans.{is_in_sync}
 use Rattle.r6_layout.specs.Shape.{blocks}
 use Rattle.r6_layout.specs.Layout as layout
@@ -11,6 +12,7 @@ use Rattle.r6_world.specs.Geometries.{layout_of}
 use Rattle.r6_world.specs.ShardStates as shards
 use Rattle.r6_world.specs.ShardStates.{SlotState, Synced, Missing, Building}
 use Rattle.r6_world.specs.Tables.{count_below}
+use Rattle.r6_world.specs.Tasks.{Task, ReadFor}
 use Rattle.r6_world.specs.Changes.{Change, after, Allowed}
 use Rattle.r6_world.specs.Steps as steps
 use Rattle.r6_world.specs.Steps.{Through, GoesOn, Takes}
@@ -19,7 +21,7 @@ use Rattle.r6_frames.specs.declared.op.Request.{Request}
 use Rattle.r6_core.specs.declared.call.Call.{Call}
 use Rattle.r6_core.specs.declared.call.Call.TheVariants as call
 use Rattle.circular_buffer.specs.Buffer.{buffer}
-use Rattle.r6_waiters.specs.Line.{Entries, capacity_of, causes_of, entries_of, with_entries, without_oldest}
+use Rattle.r6_waiters.specs.Line.{Entries, Line, capacity_of, causes_of, entries_of, oldest_of, oldest_keyed, with_entries, without_oldest, without_oldest_keyed}
 use Rattle.r6_frames.specs.declared.rebuilt.Target.{Target}
 use Rattle.r6_core.specs.declared.reply.Reply.{Reply}
 use Rattle.r6_core.specs.declared.reply.Reply.TheVariants as reply
@@ -36,6 +38,9 @@ use Rattle.r6_frames.specs.declared.finish.Ended.TheVariants as ended
 use Rattle.r6_frames.specs.declared.frames.Frames.{Frames}
 use Rattle.r6_frames.specs.declared.frames.FrameUse.{FrameUse}
 use Rattle.r6_frames.specs.declared.frames.Job.{Job}
+use Rattle.r6_frames.specs.declared.frames.Job.TheVariants as job
+use Rattle.r6_frames.specs.Writes.{Entry, IsWriteIn, blocks_in, request_of, write_task}
+use Rattle.r6_stripe.specs.BatchLists.{AreDistinct}
 use Rattle.r6_frames.specs.declared.frames.Scrub.{Scrub}
 use Rattle.r6_frames.specs.declared.frames.HeldRow.{HeldRow}
 use Rattle.r6_frames.specs.declared.rebuilt.Rebuilt.{Rebuilt}
@@ -47,13 +52,17 @@ use Rattle.r6_frames.specs.declared.directs.DirectRead.{DirectRead}
 use Rattle.r6_frames.specs.Directs.{direct_at, read_request, read_requests}
 use Rattle.r6_frames.specs.Reads.{FreesDirect, IsFreeDirect, TakesDirect}
 use Rattle.r6_frames.specs.Views.{op_of, buffer_of, is_request, is_scrub, held_for, row_in, kind_in, requests_by, held_requests, hold_at, AreLive}
-use Rattle.r6_frames.specs.Calls.{AreAllInSync, Between, BringsIn, HasOneBlock, Marks, IsAwaited, IsFreeFrame, IsHolder, IsRequestOf, KeepsDirects, KeepsHolds, KeepsOthers, NotHeldBy}
-use Rattle.r6_frames.specs.Owed.{owed, IsDriven, IsOver}
+use Rattle.r6_frames.specs.Calls.{requests_of as requests_ended, AreAllInSync, Between, BringsIn, HasOneBlock, Marks, IsAwaited, IsFreeFrame, IsHolder, IsRequestOf, KeepsDirects, KeepsHolds, KeepsOthers, NotHeldBy}
+use Rattle.r6_frames.specs.Owed.{owed, last_token, IsDriven, IsOver, OwesCommands}
+use Rattle.r6_layout.specs.declared.place.Place.{Place}
 use Rattle.r6_frames.specs.Calls as frames
 use Rattle.r6_frames.specs.Sound as held
 use Rattle.r6_core.specs.Shards.{CoreView, SameShard, buffer_in, core_of, layout_in, requests_of, state_of, turn_row, waiting_of}
 use Rattle.r6_world.specs.ShardStates.{limit}
 use Rattle.r6_core.specs.Refusals.{most_unanswered, HasCompletionFault}
+use Rattle.r6_core.specs.Batches.{entries_left, joined}
+pub use Rattle.r6_core.specs.Batches.{block_written}
+use Rattle.r6_core.specs.Turns.{wanted_with}
 use Rattle.r6_core.specs.Order.{AreOfOneRow, IsRising, Starts, HaveTurns, KeepsReplies, ReadAgainBy, WereRead, reply_to}
 use Rattle.r6_waiters.specs.Line.{capacity_of}
 
@@ -155,7 +164,21 @@ count_slots test fs = count_below (λ slot. test (states_of fs.slots slot)) fs.g
 abbrev pub most_calls : Frames → ℕ
 most_calls fs = count_slots is_missing fs + count_slots is_settled fs
 
+-- a hold of writes has the room for them
+abbrev pub is_written : Job → Bool
+is_written (job.Read served buffer) = false
+is_written (job.Write served) = true
+is_written (job.Scrub scrub) = false
+is_written (job.Rebuild target) = false
+
+-- of the rooms for writes, one for each frame, those that no hold has are empty
+pub record HaveRooms (rooms : List (List Entry)) (fs : Frames) : Type 0 where
+  pub many : length rooms + count_rows is_written fs.held ≡ shards.frames
+  pub empty : AllByRecursion (λ writes. writes ≡ []) rooms
+
 pub record HasRoom (s : State) : Type 0 where
+  pub rooms : HaveRooms s.rooms.items s.frames
+  pub space : shards.frames ≤ vec_capacity s.rooms
   pub waiting : capacity_of s.waiting ≡ most_unanswered
   pub causes : causes_of s.waiting ≡ causes
   pub replies : s.replies.capacity ≡ most_unanswered
@@ -294,10 +317,6 @@ abbrev pub CanStart : Frames → Request → Room → Type 0
 CanStart fs request = CanBegin fs request.op
 
 -- a write that waits has the number of its block as key, and a read none
-abbrev pub block_written : Op → Option ℕ
-block_written (op.Read block buffer) = None
-block_written (op.Write block buffer) = Some block
-
 abbrev pub key_of : Request → Option ℕ
 key_of request = block_written request.op
 
@@ -470,15 +489,109 @@ TakesRoom (room.Direct number) old request new = KeepsHolds old new × TakesDire
 TakesRoom (room.Frame frame) old request new =
     KeepsOthers old frame new × KeepsDirects old new × IsHolder new (row_of_request new request) frame
 
--- the request starts with the room
-abbrev pub StartsWith : Room → State → Request → State → Type 0
-StartsWith with old request new =
-    Starts (layout_in old) old.frames.shard (state_of old) request (state_of new)
+-- the others that wait, in their order
+abbrev pub others_in : State → (cause : ℕ) → List Request
+others_in s cause = map (λ entry. entry.1) (without_oldest cause (entries_of s.waiting))
+
+-- the request, the oldest that waits for the cause, starts with the room, and with a write those of the others that
+-- are for other blocks of its row
+abbrev pub StartsWith : Room → (cause : ℕ) → State → Request → State → Type 0
+StartsWith with cause old request new =
+    Starts (layout_in old) old.frames.shard (state_of old) request (others_in old cause) (state_of new)
     × IsLike old.frames new.frames × TakesRoom with old.frames request new.frames
 
--- the oldest request that waited for the cause waits no more
+-- The writes that a hold serves: the request, and of those in the line the ones that start with it, which have left it
+pub record ServeTogether (fs : Frames) (request : Request) (line : Entries Request) (writes : List Entry) (now : Entries Request)
+    : Type 0 where
+  pub joined :
+      IsPermutation
+      (request ∷ joined (wanted_with (layout_of fs.geometry) request.op) (map (λ entry. entry.1) line))
+      (map request_of writes)
+  pub left : now ≡ entries_left (wanted_with (layout_of fs.geometry) request.op) line
+  pub some : writes ≢ []
+  pub in_row : All (IsWriteIn fs.geometry (row_of_request fs request)) writes
+  pub distinct : AreDistinct (blocks_in writes)
+
+-- the write alone
+abbrev pub alone : Request → (index : ℕ) → Entry
+alone request index =
+    record {
+      served = record { id = request.id; block = world.block_of (op_of request.op) };
+      index = index;
+      new_data = buffer_of request.op;
+    }
+
+-- the writes that a hold of the write serves: it alone, or with those that wait for other blocks of its row
+abbrev pub JoinedBy : (near : Option (List ℕ)) → State → Request → List Entry → (now : Line Request) → Type 0
+JoinedBy None old request writes now =
+    (writes ≡ alone request (layout.index_of old.frames.geometry (world.block_of (op_of request.op))) ∷ [])
+    × (now ≡ old.waiting)
+JoinedBy (Some near) old request writes now =
+    ServeTogether old.frames request (entries_of old.waiting) writes (entries_of now)
+    × (now ≡ with_entries old.waiting (entries_of now))
+
+-- what the row of the request is held for, and those whose row it is
+abbrev pub IsForAll : (near : Option (List ℕ)) → State → Request → Op → (now : Line Request) → Task → (served : List Request) → Type 0
+IsForAll near old request (op.Read block buffer) now task served =
+    (task ≡ ReadFor request.id block) × (served ≡ request ∷ []) × (now ≡ old.waiting)
+IsForAll near old request (op.Write block buffer) now task served =
+    (writes : List Entry) × (task ≡ write_task writes) × (served ≡ map request_of writes)
+    × JoinedBy near old request writes now
+
+-- the request's row is held in the frame, and nothing was put out
+pub record BeginsFor (near : Option (List ℕ)) (frame : ℕ) (old : State) (request : Request) (new : State) : Type 0 where
+  pub task : Task
+  pub served : List Request
+  pub for : IsForAll near old request request.op new.waiting task served
+  pub begins : frames.Begins old.frames frame (row_of_request old.frames request) task served new.frames
+  pub sound : held.IsSound new.frames
+  pub same : frames.KeepsSlots old.frames new.frames
+  pub others : KeepsOthers old.frames frame new.frames
+  pub directs : KeepsDirects old.frames new.frames
+  pub owed : owed new.frames ≡ owed old.frames + 2 * old.frames.geometry.slots
+  pub owes : OwesCommands new.frames frame
+  pub rooms : HaveRooms new.rooms.items new.frames
+  pub space : vec_capacity new.rooms ≡ vec_capacity old.rooms
+  pub rest : new ≡ record old { frames = new.frames; waiting = new.waiting; rooms = new.rooms }
+
+-- and has put out what comes first
+pub record HoldsFor (near : Option (List ℕ)) (frame : ℕ) (old : State) (request : Request) (new : State) : Type 0 where
+  pub mid : State
+  pub begins : BeginsFor near frame old request mid
+  pub drives : frames.Drives mid.frames new.frames
+  pub requests : held_requests new.frames ≡ held_requests mid.frames
+  pub sound : held.IsSound new.frames
+  pub live : AreLive new.frames
+  pub driven : IsDriven new.frames frame
+  pub others : KeepsOthers mid.frames frame new.frames
+  pub rows : frames.KeepsRows mid.frames new.frames
+  pub owes : last_token new.frames ≤ last_token mid.frames
+  pub goes_out : IsOver new.frames frame → ⊥
+  pub directs : KeepsDirects mid.frames new.frames
+  pub rooms : HaveRooms new.rooms.items new.frames
+  pub rest : new ≡ record mid { frames = new.frames }
+
+-- the oldest write of the block in the line was put in at the index, and waits no more
+pub record JoinsOne (block index : ℕ) (old : State) (writes : List Entry) (new : State) (more : List Entry) : Type 0 where
+  pub waiting : new.waiting
+      ≡ with_entries old.waiting (without_oldest_keyed key_of block (entries_of old.waiting))
+  pub put : MatchOption (oldest_keyed key_of block (entries_of old.waiting)) (more ≡ writes)
+      (λ request. (write : Entry) × (write.index ≡ index) × (request_of write ≡ request) × (more ≡ write ∷ writes))
+  pub rest : new ≡ record old { waiting = new.waiting }
+
+-- the one write of the list is of this place
+abbrev pub IsFirst : Frames → Place → List Entry → Entry → Type 0
+IsFirst fs place writes write =
+    (writes ≡ write ∷ []) × (write.index ≡ place.index) × IsRequestOf fs (request_of write)
+    × frames.IsPlaceOf fs.geometry (request_of write).op place
+
+-- the oldest request that waited for the cause waits no more, nor do those that start with it
 abbrev pub LeavesLine : State → (cause : ℕ) → State → Type 0
-LeavesLine old cause new = new.waiting ≡ with_entries old.waiting (without_oldest cause (entries_of old.waiting))
+LeavesLine old cause new =
+    let entries = entries_of old.waiting in
+    IfSome (oldest_of cause entries) (λ request.
+    new.waiting
+    ≡ with_entries old.waiting (entries_left (wanted_with (layout_in old) request.op) (without_oldest cause entries)))
 
 -- the request, as the frames have it
 abbrev pub served_of : Request → Served
@@ -487,14 +600,6 @@ served_of request = record { id = request.id; block = world.block_of (op_of requ
 -- a request with its number
 abbrev pub numbered_op : Request → ℕ × world.Op
 numbered_op request = (request.id, op_of request.op)
-
--- the request that has ended, if it was one
-abbrev pub requests_ended : Ended → List Request
-requests_ended (ended.Request request) = request ∷ []
-requests_ended (ended.Classed scrub class) = []
-requests_ended (ended.Skipped scrub) = []
-requests_ended (ended.Rebuilt target row) = []
-requests_ended (ended.GivenUp target) = []
 
 -- a row more is rebuilt
 abbrev pub one_rebuilt : Counts → Counts
@@ -510,13 +615,32 @@ IsMarked old target row new =
 
 -- no row is rebuilt with it
 abbrev pub IsPlainEnd : Ended → Type 0
-IsPlainEnd (ended.Request request) = Unit {0}
+IsPlainEnd (ended.Read served buffer) = Unit {0}
+IsPlainEnd (ended.Wrote writes) = Unit {0}
 IsPlainEnd (ended.Classed scrub class) = Unit {0}
 IsPlainEnd (ended.Skipped scrub) = Unit {0}
 IsPlainEnd (ended.Rebuilt target row) = ⊥
 IsPlainEnd (ended.GivenUp target) = Unit {0}
 
--- the frame's hold was over, and its request is finished, if it had one
+-- there is a place for the room of writes that end
+abbrev pub HasPlace : Ended → Vec (List Entry) → Type 0
+HasPlace (ended.Read served buffer) rooms = Unit {0}
+HasPlace (ended.Wrote writes) rooms = length rooms.items < vec_capacity rooms
+HasPlace (ended.Classed scrub class) rooms = Unit {0}
+HasPlace (ended.Skipped scrub) rooms = Unit {0}
+HasPlace (ended.Rebuilt target row) rooms = Unit {0}
+HasPlace (ended.GivenUp target) rooms = Unit {0}
+
+-- with writes that end a room is empty again
+abbrev pub FreesRoom : Ended → (old new : Vec (List Entry)) → Type 0
+FreesRoom (ended.Read served buffer) old new = new ≡ old
+FreesRoom (ended.Wrote writes) old new = (new.items ≡ old.items ++ [] ∷ []) × (vec_capacity new ≡ vec_capacity old)
+FreesRoom (ended.Classed scrub class) old new = new ≡ old
+FreesRoom (ended.Skipped scrub) old new = new ≡ old
+FreesRoom (ended.Rebuilt target row) old new = new ≡ old
+FreesRoom (ended.GivenUp target) old new = new ≡ old
+
+-- the frame's hold was over, and its requests are finished
 abbrev pub FinishesHeld : State → (frame : ℕ) → State → Type 0
 FinishesHeld old frame new =
     (h : HeldRow) → hold_at old.frames.held frame ≡ Some h → IsOver old.frames frame
@@ -567,6 +691,8 @@ pub record Gathers (old new : State) : Type 0 where
   pub shard : Between (λ l n s s'. s' ≡ record s { frame = λ frame. None }) old.frames new.frames
   pub room : (capacity_of new.waiting ≡ capacity_of old.waiting) × (causes_of new.waiting ≡ causes_of old.waiting)
       × (new.replies.capacity ≡ old.replies.capacity)
+  pub rooms : HaveRooms new.rooms.items new.frames
+  pub space : vec_capacity new.rooms ≡ vec_capacity old.rooms
   pub rest : (new.accepted ≡ old.accepted) × (new.unanswered ≡ old.unanswered) × (new.released ≡ old.released)
       × SameCalls old new
   pub scrubs : SameScrubs old new

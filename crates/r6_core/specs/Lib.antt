@@ -1,6 +1,8 @@
 pub mod Shards
 pub mod Rebuilds
 pub mod Refusals
+pub mod Batches
+pub mod Turns
 pub mod Order
 pub mod Effects
 pub mod Inside

@@ -5,20 +5,20 @@ use Rattle.r6_world.specs.PlainArray as world
 use Rattle.r6_world.specs.Layouts.{Layout}
 use Rattle.r6_world.specs.Registers.{Snapshot, status_of}
 use Rattle.r6_world.specs.ShardStates as shards
-use Rattle.r6_world.specs.ShardStates.{Shard, Reading, IsLive, CouldStart}
-use Rattle.r6_world.specs.Changes.{Change, Read_direct, Start, Release, after, Allowed, differs}
+use Rattle.r6_world.specs.ShardStates.{Shard, Reading}
+use Rattle.r6_world.specs.Changes.{Change, Release, after, Allowed, differs}
 use Rattle.r6_world.specs.Steps.{Through, GoesOn, Takes, TakesOver}
 use Rattle.r6_frames.specs.declared.op.Op.{Op}
 use Rattle.r6_frames.specs.declared.op.Op.TheVariants as op
 use Rattle.r6_frames.specs.declared.op.Request.{Request}
-use Rattle.r6_frames.specs.Views.{op_of, buffer_of, task_for}
-use Rattle.r6_frames.specs.Calls.{PutsOut}
+use Rattle.r6_frames.specs.Views.{op_of, buffer_of}
 use Rattle.r6_core.specs.declared.reply.Reply.{Reply}
 use Rattle.r6_core.specs.declared.reply.Reply.TheVariants as reply
 use Rattle.r6_core.specs.declared.refusal.DeviceFault.{DeviceFault}
 use Rattle.r6_core.specs.declared.refusal.Receipt.{Receipt}
 use Rattle.r6_world.specs.ShardStates.{limit}
 use Rattle.r6_core.specs.Shards.{CoreView, world_shard, core_layout, completion_of, receipt_of}
+pub use Rattle.r6_core.specs.Turns.{IsHeld, IsHeldFor, IsRead, IsWaiting, InTurn, MustWait, Starts}
 
 -- ---- replies
 
@@ -110,41 +110,11 @@ HasNoReply core = (core.released ≡ []) × ((world_shard core).saw_failed ≡ t
 
 -- ---- in which order requests start
 
--- the change with which a row is held for the request
-abbrev pub start_of : Layout → Request → (frame : ℕ) → Change
-start_of l request frame = Start frame (l.row_of (world.block_of (op_of request.op))) (task_for request.id request.op)
-
--- the request is a read, and is read directly, with one command and a direct buffer
-abbrev pub IsRead : Layout → ℕ → Shard → (id : ℕ) → Op → Shard → Type 0
-IsRead l n old id (op.Read block buffer) new =
-    (direct : ℕ) × (generation : ℕ) × Allowed l n old (Read_direct direct id block generation)
-    × (new ≡ after l old (Read_direct direct id block generation))
-IsRead l n old id (op.Write block buffer) new = ⊥
-
--- its row is held for it in a frame, and the hold puts out what comes first
-abbrev pub IsHeldFor : Layout → ℕ → Shard → Request → Shard → Type 0
-IsHeldFor l n old request new =
-    (frame : ℕ) × Allowed l n old (start_of l request frame)
-    × Through l n PutsOut (after l old (start_of l request frame)) new
-
--- the request starts: it is read directly, or its row is held for it
-abbrev pub Starts : Layout → ℕ → Shard → Request → Shard → Type 0
-Starts l n old request new = IsRead l n old request.id request.op new ⊎ IsHeldFor l n old request new
-
-abbrev pub MustWait : Layout → Shard → Request → Type 0
-MustWait l s request = IsLive l s → CouldStart l s (op_of request.op) → ⊥
-
--- Each request has its turn, from the oldest to the newest: it starts if it can at its turn, and else it waits still
-abbrev pub InTurn : Layout → ℕ → (old : Shard) → List Request → (new : Shard) → (waiting : List Request) → Type 0
-InTurn l n old [] new waiting = (new ≡ old) × (waiting ≡ [])
-InTurn l n old (request ∷ newer) new waiting =
-    ((mid : Shard) × Starts l n old request mid × InTurn l n mid newer new waiting)
-    ⊎ (MustWait l old request × (others : List Request) × (waiting ≡ request ∷ others)
-    × InTurn l n old newer new others)
-
--- from this shard on each of these requests has its turn, and those that wait still are what then waits
+-- these requests wait in this shard; from it on each has its turn, and those that wait still are what then waits
 abbrev pub HaveTurns : CoreView → Shard → List Request → CoreView → Type 0
-HaveTurns old from requests new = InTurn (core_layout old) old.shard from requests (world_shard new) new.waiting
+HaveTurns old from requests new =
+    AllByRecursion (IsWaiting from) requests
+    × InTurn (core_layout old) old.shard from requests (world_shard new) new.waiting
 
 -- all but one frame have what they had
 abbrev pub KeepsFrames : Shard → Shard → Type 0

@@ -1,24 +1,24 @@
 //! Completions of commands, and losses that they tell of.
 
-ghost use Rattle.std.specs.Prelude.{◌≡◌, ◌⊎◌, ◌+◌, ◌<◌, ◌≤◌, ◌++◌, ◌^◌, ℕ, length, MatchOption, IfOk, IfErr};
+ghost use Rattle.std.specs.Prelude.{◌≡◌, ◌⊎◌, ◌+◌, ◌<◌, ◌≤◌, ◌++◌, ◌∷◌, [], ◌^◌, ℕ, length, MatchOption, IfOk, IfErr};
 ghost use Rattle.circular_buffer.specs.Buffer.{buffer};
 ghost use Rattle.r6_world.specs.Changes.{counted};
 ghost use Rattle.r6_world.specs.Steps.{Deliver, Good, Error, Taken, GoesOn};
 ghost use Rattle.r6_frames.specs.Views.{AreLive};
 ghost use Rattle.r6_frames.specs.Reads.{IsOfRead};
-ghost use Rattle.r6_frames.specs.Calls.{IsAwaited, IsAbandoned, IsHeldFrame, KeepsHolds, KeepsOthers, KeepsReads, MayMark, ended_task, ended_outcome};
+ghost use Rattle.r6_frames.specs.Calls.{IsAwaited, IsAbandoned, IsHeldFrame, KeepsHolds, KeepsOthers, KeepsReads, requests_of as requests_ended, MayMark, ended_task, ended_outcome};
 ghost use Rattle.r6_frames.specs.Sound as held;
 ghost use Rattle.r6_frames.specs.Owed.{IsDriven};
 ghost use Rattle.r6_core.specs.Shards.{Step, core_of, completion_of, receipt_of, counts_of};
 ghost use Rattle.r6_core.specs.Refusals.{IsFirstFault, HasNone, deliver_faults};
 ghost use Rattle.r6_core.specs.Order.{MayFinish, Finishes, FinishesBy, HaveTurnsBehind};
-ghost use Rattle.r6_core.specs.Inside.{IsSound, IsSettled, IsCore, IsMarked, IsPlainEnd, IsRestedFrame, one_rebuilt, HasFault, HasFreed, HasBuffer, HasEnded, HandsBack, AreReadOn, FinishesHeld, FinishMore, requests_ended, rows_counted, KeepsShard, KeepsWaiting, ReadAgain, ReadAgainFor, Leads, Seen, TakesThrough};
+ghost use Rattle.r6_core.specs.Inside.{IsSound, IsSettled, IsCore, IsMarked, IsPlainEnd, IsRestedFrame, one_rebuilt, HasFault, HasFreed, HasBuffer, HasEnded, HasPlace, HandsBack, FreesRoom, AreReadOn, FinishesHeld, FinishMore, rows_counted, KeepsShard, KeepsWaiting, ReadAgain, ReadAgainFor, Leads, Seen, TakesThrough};
 
 use crate::call::Call;
 use crate::refusal::{DeviceFault, Receipt, Refusal, Refused};
 use crate::scan::{ANYTHING, Freed};
 use crate::state::State;
-use r6_frames::{Ended, Target};
+use r6_frames::{Ended, Op, Request, Served, Target};
 use r6_kernels::Buffer;
 
 impl State {
@@ -143,9 +143,7 @@ impl State {
         ensures holds { KeepsHolds self.old.frames self.new.frames }
     {
         let request = self.frames.answer_read(token, buffer);
-        let Ok(()) = self.replies.try_push_back(request) else {
-            unreachable!()
-        };
+        self.finished(request);
     }
 
     // The device of the command has failed: its slot is out, and the loss is to be declared. Direct reads from it wait
@@ -199,7 +197,7 @@ impl State {
         }
         let first = self.replies.len();
         self.frames.drive_all();
-        while let Some(frame) = self.frames.first_over() {
+        while let Some(frame) = self.frames.any_over() {
             let _ = self.finish(frame);
         }
         self.sort_finished(first);
@@ -265,29 +263,65 @@ impl State {
         }
     }
 
-    // A request has its reply, and the row of a check or repair is counted.
+    // Requests have their replies, and the row of a check or repair is counted.
     fn close(&mut self, ended: Ended)
         requires plain { IsPlainEnd ended }
         requires room { length self.old.replies.items + length (requests_ended ended) ≤ self.old.replies.capacity }
+        requires place { HasPlace ended self.old.rooms }
         requires counts { rows_counted self.old.counts < 2 ^ 63 }
         ensures plain { IsPlainEnd ended }
         ensures same { self.new ≡ record self.old {
           replies = buffer (self.old.replies.items ++ requests_ended ended) self.old.replies.capacity;
           counts = self.new.counts;
+          rooms = self.new.rooms;
         } }
+        ensures rooms { FreesRoom ended self.old.rooms self.new.rooms }
         ensures counted { counts_of self.new.counts
             ≡ counted (counts_of self.old.counts) (ended_task ended) (ended_outcome ended) }
     {
         match ended {
-            Ended::Request(request) => {
-                let Ok(()) = self.replies.try_push_back(request) else {
-                    unreachable!()
-                };
-            }
+            Ended::Read(..) | Ended::Wrote(_) => self.reply_to(ended),
             Ended::Classed(scrub, class) => self.counts.add(scrub, class),
             Ended::Skipped(_) => self.counts.skipped += 1,
             Ended::GivenUp(_) => {}
             Ended::Rebuilt(..) => unreachable!(),
         }
+    }
+
+    /// The requests of what has ended have their replies, and the room of writes is free again.
+    pub(crate) fn reply_to(&mut self, ended: Ended)
+        requires room { length self.old.replies.items + length (requests_ended ended) ≤ self.old.replies.capacity }
+        requires place { HasPlace ended self.old.rooms }
+        ensures same { self.new ≡ record self.old {
+          replies = buffer (self.old.replies.items ++ requests_ended ended) self.old.replies.capacity;
+          rooms = self.new.rooms;
+        } }
+        ensures rooms { FreesRoom ended self.old.rooms self.new.rooms }
+    {
+        match ended {
+            Ended::Read(Served { id, block }, buffer) => {
+                let op = Op::Read(block, buffer);
+                self.finished(Request { id, op });
+            }
+            Ended::Wrote(mut writes) => {
+                while let Some(request) = writes.take() {
+                    self.finished(request);
+                }
+                self.rooms.push_reserved(writes);
+            }
+            Ended::Classed(..) | Ended::Skipped(_) | Ended::Rebuilt(..) | Ended::GivenUp(_) => {}
+        }
+    }
+
+    /// The request is finished, behind all that were.
+    pub(crate) fn finished(&mut self, request: Request)
+        requires room { length self.old.replies.items < self.old.replies.capacity }
+        ensures same { self.new ≡ record self.old {
+          replies = buffer (self.old.replies.items ++ request ∷ []) self.old.replies.capacity;
+        } }
+    {
+        let Ok(()) = self.replies.try_push_back(request) else {
+            unreachable!()
+        };
     }
 }

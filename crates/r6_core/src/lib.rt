@@ -5,6 +5,7 @@ mod call;
 mod counts;
 mod course;
 mod deliver;
+mod hold;
 mod laws;
 mod look;
 mod rebuild;

@@ -120,15 +120,11 @@ impl State {
     {
         self.waiting.gather(ANYTHING);
         while let Some(request) = self.waiting.pop_oldest(ANYTHING) {
-            let Ok(()) = self.replies.try_push_back(request) else {
-                unreachable!()
-            };
+            self.finished(request);
         }
         for frame in 0..FRAMES {
-            if let Some(request) = self.frames.give_up(frame) {
-                let Ok(()) = self.replies.try_push_back(request) else {
-                    unreachable!()
-                };
+            if let Some(ended) = self.frames.give_up(frame) {
+                self.reply_to(ended);
             }
         }
     }

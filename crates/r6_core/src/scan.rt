@@ -225,7 +225,7 @@ impl State {
         }
     }
 
-    // The oldest request that waits for the cause starts.
+    // The oldest request that waits for the cause starts, and those that join it.
     fn start(&mut self, cause: usize, room: Room)
         requires settled { IsSettled self.old }
         requires cause { cause < causes }
@@ -235,7 +235,7 @@ impl State {
         ensures live { AreLive self.new.frames }
         ensures left { LeavesLine self.old cause self.new }
         ensures starts { IfSome (oldest_of cause (entries_of self.old.waiting)) (λ request.
-            StartsWith room self.old request self.new) }
+            StartsWith room cause self.old request self.new) }
         ensures only { OnlyStarts self.old self.new }
     {
         let Some(request) = self.waiting.pop_oldest(cause) else {
@@ -244,10 +244,7 @@ impl State {
         let place = self.place(&request);
         match room {
             Room::Direct(number) => self.read(number, request, place),
-            Room::Frame(frame) => {
-                self.frames.begin(frame, request, place);
-                self.frames.drive(frame);
-            }
+            Room::Frame(frame) => self.hold(frame, request, place, Some([cause, FREE_FRAME])),
         }
     }
 

@@ -1,6 +1,8 @@
 //! The state of a shard, and what requests do to it.
 
 ghost use Rattle.std.specs.Prelude.{◌≡◌, ◌+◌, ◌<◌, ◌++◌, ◌∷◌, [], length, map, MatchOption, IfOk, IfErr, IfSome};
+ghost use Rattle.std.specs.Prelude.{◌≤◌, replicate, vec_capacity};
+ghost use Rattle.r6_world.specs.ShardStates as shards;
 ghost use Rattle.r6_kernels.specs.Blocks.{IsBlock};
 ghost use Rattle.r6_layout.specs.Shape.{IsShape};
 ghost use Rattle.r6_world.specs.Steps.{Submit, No_command, Take_reply, No_reply, Scans, Through};
@@ -22,7 +24,7 @@ use crate::reply::{OpId, Reply};
 use crate::scan::{CAUSES, Room};
 use crate::written::Written;
 use circular_buffer::HeapCircularBuffer;
-use r6_frames::{Command, Device, Frames, MOST_SLOTS, Op, Request};
+use r6_frames::{Command, Device, FRAMES, Frames, MOST_SLOTS, Op, Request, Writes};
 use r6_layout::{Geometry, Place};
 use r6_waiters::Waiters;
 use std::alloc::{AllocError, Global};
@@ -43,6 +45,8 @@ pub(crate) struct State {
     pub unanswered: usize,
     /// From the oldest to the newest, each with what it waits for.
     pub waiting: Waiters<Request, Written>,
+    /// Room for the writes of a hold, for each that isn't one of writes.
+    pub rooms: Vec<Writes>,
     /// Those that are finished, in the order in which they finished. Once a look has seen that the array failed, those
     /// behind the released ones are answered so, from the oldest to the newest.
     pub replies: HeapCircularBuffer<Request>,
@@ -82,6 +86,7 @@ impl State {
             accepted: 0,
             unanswered: 0,
             waiting: Waiters::with_capacity(alloc, UNANSWERED, CAUSES)?,
+            rooms: new_rooms(alloc)?,
             replies: HeapCircularBuffer::with_capacity(alloc, UNANSWERED)?,
             released: 0,
             calls: HeapCircularBuffer::with_capacity(alloc, 2 * MOST_SLOTS)?,
@@ -171,10 +176,7 @@ impl State {
         self.unanswered += 1;
         match self.room_for(&request.op, &place) {
             Ok(Room::Direct(number)) => self.read(number, request, place),
-            Ok(Room::Frame(frame)) => {
-                self.frames.begin(frame, request, place);
-                self.frames.drive(frame);
-            }
+            Ok(Room::Frame(frame)) => self.hold(frame, request, place, None),
             Err(cause) => {
                 let Ok(()) = self.waiting.push(cause, request) else {
                     unreachable!()
@@ -223,6 +225,18 @@ impl State {
         self.unanswered -= 1;
         Some(reply(request, is_released))
     }
+}
+
+// Room for the writes of a hold in each frame.
+fn new_rooms(alloc: Global) -> Result<Vec<Writes>, AllocError>
+    ensures empty { IfOk result (λ rooms. rooms.items ≡ replicate shards.frames []) }
+    ensures space { IfOk result (λ rooms. shards.frames ≤ vec_capacity rooms) }
+{
+    let mut rooms = Vec::with_capacity(alloc, FRAMES)?;
+    for _ in 0..FRAMES {
+        rooms.push_reserved(Writes::new(alloc)?);
+    }
+    Ok(rooms)
 }
 
 // The reply to the request: its answer, if it is released, and else that the array has failed.

@@ -171,3 +171,76 @@ fn writes_to_one_row_wait_for_each_other(rt: HostRuntime) -> Result<(), Fail> {
     ];
     play(&rt, rt.alloc(), 4, 1, &[], &course)
 }
+
+// Row 0 has blocks 0 and 1 in slots 1 and 2, P in slot 3 and Q in slot 0. The second hold takes the oldest write of each
+// block, reads nothing, and leaves the youngest to the third.
+#[test]
+fn a_hold_takes_with_it_the_oldest_write_of_each_block(rt: HostRuntime) -> Result<(), Fail> {
+    let course = [
+        (Step::Write(0, 0x11), Answer::Accepted(0)),
+        (Step::Write(1, 0x22), Answer::Accepted(1)),
+        (Step::Write(0, 0x33), Answer::Accepted(2)),
+        (Step::Write(1, 0x44), Answer::Accepted(3)),
+        (Step::Take, Answer::Command(0, 2, 0)),
+        (Step::Take, Answer::Nothing),
+        (Step::Do(0), Answer::Taken),
+        (Step::Drive(3), Answer::Driven(3, 0)),
+        (Step::Stored(1, 0), Answer::Stored(0x11)),
+        (Step::Take, Answer::Command(4, 1, 0)),
+        (Step::Take, Answer::Command(5, 2, 0)),
+        (Step::Take, Answer::Command(6, 3, 0)),
+        (Step::Take, Answer::Command(7, 0, 0)),
+        (Step::Take, Answer::Nothing),
+        (Step::Do(4), Answer::Taken),
+        (Step::Do(5), Answer::Taken),
+        (Step::Do(6), Answer::Taken),
+        (Step::Do(7), Answer::Taken),
+        (Step::Stored(1, 0), Answer::Stored(0x33)),
+        (Step::Stored(2, 0), Answer::Stored(0x22)),
+        (Step::Stored(3, 0), Answer::Stored(0x11)),
+        (Step::Stored(0, 0), Answer::Stored(0x77)),
+        (Step::Take, Answer::Command(8, 1, 0)),
+        (Step::Take, Answer::Nothing),
+        (Step::Do(8), Answer::Taken),
+        (Step::Drive(9), Answer::Driven(3, 0)),
+        (Step::Stored(2, 0), Answer::Stored(0x44)),
+        (Step::Look, Answer::Looked),
+        (Step::Reply, Answer::Done(0, 0x11)),
+        (Step::Reply, Answer::Done(1, 0x22)),
+        (Step::Reply, Answer::Done(2, 0x33)),
+        (Step::Reply, Answer::Done(3, 0x44)),
+    ];
+    play(&rt, rt.alloc(), 4, 1, &[], &course)
+}
+
+// Rows 0 and 1 have blocks 0 and 1, and 2 and 3. Both second holds wait for slot 0 alone when it is lost: they end with
+// the one error, and their requests stand by number.
+#[test]
+fn requests_of_holds_that_end_together_stand_by_number(rt: HostRuntime) -> Result<(), Fail> {
+    let course = [
+        (Step::Write(0, 0x11), Answer::Accepted(0)),
+        (Step::Write(2, 0x22), Answer::Accepted(1)),
+        (Step::Write(0, 0x33), Answer::Accepted(2)),
+        (Step::Write(2, 0x44), Answer::Accepted(3)),
+        (Step::Write(1, 0x55), Answer::Accepted(4)),
+        (Step::Write(3, 0x66), Answer::Accepted(5)),
+        (Step::Drive(8), Answer::Driven(8, 0)),
+        (Step::TakeAll, Answer::Commands(8)),
+        (Step::Do(8), Answer::Taken),
+        (Step::Do(9), Answer::Taken),
+        (Step::Do(10), Answer::Taken),
+        (Step::Do(13), Answer::Taken),
+        (Step::Do(14), Answer::Taken),
+        (Step::Do(15), Answer::Taken),
+        (Step::Fail(11), Answer::Taken),
+        (Step::TellAll, Answer::Told(1, false)),
+        (Step::Look, Answer::Looked),
+        (Step::Reply, Answer::Done(0, 0x11)),
+        (Step::Reply, Answer::Done(1, 0x22)),
+        (Step::Reply, Answer::Done(2, 0x33)),
+        (Step::Reply, Answer::Done(3, 0x44)),
+        (Step::Reply, Answer::Done(4, 0x55)),
+        (Step::Reply, Answer::Done(5, 0x66)),
+    ];
+    play(&rt, rt.alloc(), 4, 1, &[], &course)
+}

@@ -1,26 +1,25 @@
--- What a row may be held for, and what its hold is in the world: a request's, or a scrub's.
-use Rattle.std.proofs.Common.{◌≡◌, ℕ, ◌+◌, ◌<◌, false, List, [], ◌∷◌, map, length, refl, sym, ap, subst, ◌∙◌, Some, inl, inr, arith}
-use Rattle.std.proofs.lemmas.List.Elements.{All-cons, All-nil}
-use Rattle.r6_kernels.specs.Blocks.{IsBlock}
-use Rattle.r6_layout.specs.Shape.{Shape, IsShape, blocks, data_slots}
+-- What a row may be held for, and what its hold is in the world: requests', a scrub's, or a rebuild's.
+use Rattle.std.proofs.Common.{◌≡◌, ◌≢◌, ℕ, ◌+◌, ◌-◌, ◌<◌, false, List, [], ◌∷◌, map, length, refl, sym, ap, subst, ◌∙◌, inl, inr, arith}
+use Rattle.std.specs.List.{All}
+use Rattle.r6_layout.specs.Shape.{Shape, IsShape}
 use Rattle.r6_layout.specs.Layout as layout
-use Rattle.r6_stripe.specs.Batches.{IsEntryFor}
-use Rattle.r6_stripe.specs.Holds.{Cell, cell_at, with_target, MayBegin}
+use Rattle.r6_stripe.specs.BatchLists.{AreDistinct}
+use Rattle.r6_stripe.specs.Holds.{Cell, IsBatch, Kind, cell_at}
 use Rattle.r6_stripe.specs.Holds.Standing.{InSync}
-use Rattle.r6_stripe.specs.Sound.{IsTask}
 use Rattle.r6_stripe.specs.Views.{kind_of_task}
+use Rattle.r6_stripe.specs.declared.command.Task.{Task as RowTask}
 use Rattle.r6_stripe.specs.declared.command.Task.TheVariants as asks
-use Rattle.r6_world.specs.PlainArray.{block_of}
+use Rattle.r6_world.specs.PlainArray.{Block}
 use Rattle.r6_world.specs.Layouts.{IsRowOf}
 use Rattle.r6_world.specs.Geometries.{layout_of}
 use Rattle.r6_world.specs.ShardStates.{standing_of}
-use Rattle.r6_world.specs.Tasks.{kind_of}
+use Rattle.r6_world.specs.Tasks.{Task, ReadFor, kind_of}
 use Rattle.r6_world.proofs.Cells.{found-long, found-at}
 use Rattle.r6_world.proofs.Geometries.{layouts}
-use Rattle.r6_frames.specs.declared.op.Op.{Op}
-use Rattle.r6_frames.specs.declared.op.Op.TheVariants as op
 use Rattle.r6_frames.specs.declared.op.Request.{Request}
+use Rattle.r6_frames.specs.declared.frames.Job.{Job}
 use Rattle.r6_frames.specs.declared.frames.Job.TheVariants as job
+use Rattle.r6_frames.specs.declared.frames.Served.{Served}
 use Rattle.r6_frames.specs.declared.frames.Scrub.{Scrub}
 use Rattle.r6_frames.specs.declared.frames.Scrub.TheVariants as scrub
 use Rattle.r6_frames.specs.declared.frames.FrameUse.TheVariants.{Held as HeldIn}
@@ -29,71 +28,29 @@ use Rattle.r6_frames.specs.declared.rebuilt.Target.{Target}
 use Rattle.r6_frames.specs.declared.slots.Device.{Device}
 use Rattle.r6_frames.specs.Rebuilt.{IsRebuilt, is_rebuilt}
 use Rattle.r6_frames.specs.Slots.{states_of}
-use Rattle.r6_frames.specs.Views.{op_of, buffer_of, job_for, row_task, rebuild_task, scrub_row_task, scrub_task, task_for, task_by, row_in, requests_by, held_entry, request_at, requests_from}
-use Rattle.r6_frames.specs.Calls.{entry_of, AreAllInSync, Begins, BeginsRebuild, BeginsScrub, Holds, IsFreeFrame, IsNextOn, IsRequestOf, NotHeldBy}
-use Rattle.r6_frames.specs.Uses.{block_in, task_in, row_of, begun_row}
-use Rattle.r6_frames.specs.Sound.{IsDeviceOf, IsJob, IsSound, IsTargetAt, MayHold}
+use Rattle.r6_frames.specs.Views.{numbered, read_for, rebuild_task, scrub_row_task, scrub_task, task_by, row_in, requests_by, held_entry, request_at, requests_from}
+use Rattle.r6_frames.specs.Calls.{entry_of, AreAllInSync, Begins, BeginsRebuild, BeginsScrub, Holds, IsFreeFrame, IsNextOn, NotHeldBy}
+use Rattle.r6_frames.specs.Reads.{IsReadable}
+use Rattle.r6_frames.specs.Writes.{Entry, IsWriteIn, blocks_in, request_of, served_in, write_task}
+use Rattle.r6_frames.specs.Uses.{begun_row}
+use Rattle.r6_frames.specs.Sound.{IsDeviceOf, IsSound, IsTargetAt, MayHold}
 use Rattle.r6_frames.proofs.Beginning.{begun_shard, found_in, inside}
 use Rattle.r6_frames.proofs.NewDevices.{next_unbuilt, stands_in}
 use Rattle.r6_frames.proofs.LostRows.{target_out}
 use Rattle.r6_frames.proofs.Held.{held_comes, same_requests}
+use Rattle.r6_frames.proofs.Batches.{are_batch, batch_is, entries_back, entries_held, fit_row}
 
--- ---- a request
+-- ---- what begins
 
-kind_is : (shape : Shape) (row id : ℕ) (o : Op) → kind_of (layout_of shape) row (task_for id o) ≡ kind_of_task (row_task (layout.index_of shape (block_of (op_of o))) o)
-kind_is shape row id (op.Read block buffer) = refl
-kind_is shape row id (op.Write block buffer) = refl
-
-task_is : (index id : ℕ) (o : Op) → task_by (job_for id o) (kind_of_task (row_task index o)) ≡ task_for id o
-task_is index id (op.Read block buffer) = refl
-task_is index id (op.Write block buffer) = refl
-
-one_request : (index id : ℕ) (o : Op) → requests_by (job_for id o) (kind_of_task (row_task index o)) ≡ (id, op_of o) ∷ []
-one_request index id (op.Read block buffer) = refl
-one_request index id (op.Write block buffer) = refl
-
-job_is : (shape : Shape) (id : ℕ) (o : Op) → block_of (op_of o) < blocks shape → IsBlock shape.block (buffer_of o)
-    → IsJob shape (layout.row_of shape (block_of (op_of o))) (job_for id o) (kind_of_task (row_task (layout.index_of shape (block_of (op_of o))) o))
-job_is shape id (op.Read block buffer) there sized = ((there, refl), refl, sized)
-job_is shape id (op.Write block buffer) there sized = ((there, refl), buffer, refl, sized)
-
-may_begin : (fs : FramesState) (row index : ℕ) (o : Op) → index < data_slots fs.geometry → IsBlock fs.geometry.block (buffer_of o) → MayBegin (found_in fs row) (kind_of_task (row_task index o))
-may_begin fs row index (op.Read block buffer) below sized = let wide = found-long (layout_of fs.geometry) (states_of fs.slots) row in omega arith
-may_begin fs row index (op.Write block buffer) below sized =
-    let wide = found-long (layout_of fs.geometry) (states_of fs.slots) row in (λ none. (cc), (omega arith, sized, λ none. none, tt))
-
-fits_row : (shape : Shape) (index : ℕ) (o : Op) → index < data_slots shape → IsBlock shape.block (buffer_of o) → IsTask shape.slots shape.block (Some (row_task index o))
-fits_row shape index (op.Read block buffer) below sized = omega arith
-fits_row shape index (op.Write block buffer) below sized = (
-  λ none. cc,
-  All-cons (IsEntryFor shape.slots shape.block) (index, buffer) [] (omega arith, sized.length_is) (All-nil (IsEntryFor shape.slots shape.block)),
-)
-
-no_target : (index : ℕ) (o : Op) (cells : List Cell) → with_target (kind_of_task (row_task index o)) cells ≡ cells
-no_target index (op.Read block buffer) cells = refl
-no_target index (op.Write block buffer) cells = refl
-
--- the row of its block may be held for it
-pub may_hold : (fs : FramesState) (request : Request) → IsShape fs.geometry → IsRequestOf fs request → MayHold fs (row_of fs request) (job_for request.id request.op) (task_in fs.geometry request)
-may_hold fs request shape right =
-    let placed = (layouts fs.geometry shape).placed (block_in request) right.there in
-    let index = layout.index_of fs.geometry (block_in request) in
-    record {
-      own = (placed.0, right.own);
-      job = job_is fs.geometry request.id request.op right.there right.sized;
-      fits = fits_row fs.geometry index request.op placed.1 right.sized;
-      may_begin = may_begin fs (row_of fs request) index request.op placed.1 right.sized;
-      targets = inl (no_target index request.op);
-    }
-
-pub begins : (fs new : FramesState) (frame : ℕ) (request : Request) → IsSound fs → IsFreeFrame fs frame → IsRequestOf fs request → NotHeldBy fs (row_of fs request)
-    → Holds fs frame (begun_row fs (row_of fs request) (job_for request.id request.op) (task_in fs.geometry request)) new → Begins fs frame request new
-begins fs new frame request sound free right unheld holds =
-    let row = begun_row fs (row_of fs request) (job_for request.id request.op) (task_in fs.geometry request) in
-    let index = layout.index_of fs.geometry (block_in request) in
-    let entry = ap (map (held_entry frame)) (one_request index request.id request.op) in
-    let came = held_comes 0 fs.held frame frame (HeldIn row) (entry_of frame request) (inside fs frame sound free) (ap row_in free.1) (omega arith) entry in
-    subst (Begins fs frame request) (sym holds.same) (record {
+-- a hold for the task begins on the row
+pub begins : (fs new : FramesState) (frame row : ℕ) (what : Job) (asked : Task) (served : List Request) (task : RowTask) → IsSound fs → IsFreeFrame fs frame → MayHold fs row what task → NotHeldBy fs row
+    → task_by what (kind_of_task task) ≡ asked → kind_of (layout_of fs.geometry) row asked ≡ kind_of_task task → requests_by what (kind_of_task task) ≡ map numbered served
+    → Holds fs frame (begun_row fs row what task) new → Begins fs frame row asked served new
+begins fs new frame row what asked served task sound free may unheld task_is kind_is requests_are holds =
+    let held = begun_row fs row what task in
+    let entries = ap (map (held_entry frame)) requests_are ∙ entries_held frame served in
+    let came = held_comes 0 fs.held frame frame (HeldIn held) (map (entry_of frame) served) (inside fs frame sound free) (ap row_in free.1) (omega arith) entries in
+    subst (Begins fs frame row asked served) (sym holds.same) (record {
       requests = record {
         before = came.before;
         behind = came.behind;
@@ -101,15 +58,62 @@ begins fs new frame request sound free right unheld holds =
         with = ap (requests_from 0) holds.put ∙ came.with;
         elsewhere = came.elsewhere;
       };
-      shard = (
-        refl,
-        refl,
-        λ rest.
-            begun_shard fs frame (row_of fs request) (job_for request.id request.op) (task_in fs.geometry request) holds.held holds.spare sound free (may_hold fs request sound.shape right) unheld holds.put
-            (task_for request.id request.op) (task_is index request.id request.op) (kind_is fs.geometry (row_of fs request) request.id request.op) rest,
-        refl,
-      );
+      shard = (refl, refl, λ rest. begun_shard fs frame row what task holds.held holds.spare sound free may unheld holds.put asked task_is kind_is rest, refl);
     })
+
+-- ---- a read
+
+-- the row of its block may be held for it
+pub may_read : (fs : FramesState) (served : Served) (buffer : Block) → IsShape fs.geometry → IsReadable fs served buffer
+    → MayHold fs (layout.row_of fs.geometry served.block) (job.Read served buffer) (asks.Read (layout.index_of fs.geometry served.block))
+may_read fs served buffer shape right =
+    let placed = (layouts fs.geometry shape).placed served.block right.there in
+    let row = layout.row_of fs.geometry served.block in
+    let wide = found-long (layout_of fs.geometry) (states_of fs.slots) row in
+    record {
+      own = (placed.0, right.own);
+      job = ((right.there, refl), refl, right.sized);
+      fits = omega (arith, placed.1);
+      may_begin = omega (arith, wide, placed.1);
+      targets = inl (λ cells. refl);
+    }
+
+pub begins_read : (fs new : FramesState) (frame : ℕ) (served : Served) (buffer : Block) → IsSound fs → IsFreeFrame fs frame → IsReadable fs served buffer → NotHeldBy fs (layout.row_of fs.geometry served.block)
+    → Holds fs frame (begun_row fs (layout.row_of fs.geometry served.block) (job.Read served buffer) (asks.Read (layout.index_of fs.geometry served.block))) new
+    → Begins fs frame (layout.row_of fs.geometry served.block) (ReadFor served.id served.block) (read_for served buffer ∷ []) new
+begins_read fs new frame served buffer sound free right unheld holds =
+    begins fs new frame (layout.row_of fs.geometry served.block) (job.Read served buffer) (ReadFor served.id served.block) (read_for served buffer ∷ []) (asks.Read (layout.index_of fs.geometry served.block)) sound free
+    (may_read fs served buffer sound.shape right) unheld refl refl refl holds
+
+-- ---- writes
+
+some_blocks : (writes : List Entry) → writes ≢ [] → blocks_in writes ≢ []
+some_blocks [] some none = some refl
+some_blocks (write ∷ writes) some none = absurd (omega (arith, ap length none))
+
+-- the row of their blocks may be held for them
+pub may_write : (fs : FramesState) (row : ℕ) (writes : List Entry) → IsShape fs.geometry → IsRowOf (layout_of fs.geometry) fs.shard row → writes ≢ [] → All (IsWriteIn fs.geometry row) writes → AreDistinct (blocks_in writes)
+    → MayHold fs row (job.Write (served_in writes)) (asks.Write (record { blocks = blocks_in writes }))
+may_write fs row writes shape own some all distinct =
+    let wide = found-long (layout_of fs.geometry) (states_of fs.slots) row in
+    record {
+      own = own;
+      job = (writes, refl, refl, all, distinct);
+      fits = (some_blocks writes some, fit_row fs.geometry row writes shape all);
+      may_begin = (some_blocks writes some, subst (λ (n : ℕ). IsBatch (n - 2) fs.geometry.block (blocks_in writes)) (sym wide) (are_batch fs.geometry row writes shape all distinct));
+      targets = inl (λ cells. refl);
+    }
+
+pub begins_writes : (fs new : FramesState) (frame row : ℕ) (writes : List Entry) → IsSound fs → IsFreeFrame fs frame → IsRowOf (layout_of fs.geometry) fs.shard row → writes ≢ [] → All (IsWriteIn fs.geometry row) writes
+    → AreDistinct (blocks_in writes) → NotHeldBy fs row
+    → Holds fs frame (begun_row fs row (job.Write (served_in writes)) (asks.Write (record { blocks = blocks_in writes }))) new → Begins fs frame row (write_task writes) (map request_of writes) new
+begins_writes fs new frame row writes sound free own some all distinct unheld holds =
+    begins fs new frame row (job.Write (served_in writes)) (write_task writes) (map request_of writes) (asks.Write (record { blocks = blocks_in writes })) sound free
+    (may_write fs row writes sound.shape own some all distinct) unheld
+    (ap write_task (entries_back writes))
+    (ap Kind.Write (batch_is fs.geometry row writes all))
+    (ap (λ (ws : List Entry). map numbered (map request_of ws)) (entries_back writes))
+    holds
 
 -- ---- a scrub
 

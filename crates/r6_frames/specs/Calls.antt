@@ -1,13 +1,13 @@
 -- What each call of the frames does to the shard.
 use Rattle.std.specs.Prelude.{◌≡◌, ◌≢◌, ℕ, ◌<◌, ◌≤◌, ◌||◌, Bool, true, false, List, [], ◌∷◌, ◌++◌, length, map, slice_set, Option, MatchOption, IsTrue, ◌↔◌, Some, None, option_map}
-use Rattle.std.specs.List.{AllByRecursion}
+use Rattle.std.specs.List.{All, AllByRecursion}
 use Rattle.r6_kernels.specs.Blocks.{IsBlock}
 use Rattle.r6_layout.specs.Shape.{Shape, blocks}
 use Rattle.r6_layout.specs.Layout as layout
 use Rattle.r6_layout.specs.declared.place.Place.{Place}
 use Rattle.r6_recover.specs.declared.class.RowClass.{RowClass}
 use Rattle.r6_stripe.specs.Checks.{IsEnd}
-use Rattle.r6_stripe.specs.Holds.{MayEnd}
+use Rattle.r6_stripe.specs.Holds.{Kind, MayEnd}
 use Rattle.r6_stripe.specs.Plans as stripe
 use Rattle.r6_stripe.specs.Steps.{Held as StripeHold, lost, has_outcome}
 use Rattle.r6_stripe.specs.declared.command.Outcome.{Outcome as End}
@@ -17,7 +17,7 @@ use Rattle.r6_world.specs.PlainArray as world
 use Rattle.r6_world.specs.PlainArray.{Block}
 use Rattle.r6_world.specs.Layouts.{Layout, IsRowOf}
 use Rattle.r6_world.specs.Geometries.{layout_of}
-use Rattle.r6_world.specs.Tasks.{Hold, Task, Outcome, Classed, Skipped, Rebuilt, GivenUp, end_of}
+use Rattle.r6_world.specs.Tasks.{Hold, Task, ReadFor, Outcome, Answered, Wrote, Classed, Skipped, Rebuilt, GivenUp, end_of}
 use Rattle.r6_world.specs.ShardStates as shards
 use Rattle.r6_world.specs.ShardStates.{Shard, Held, LossOf, frames, begun}
 use Rattle.r6_world.specs.Changes.{Change, Ask, Prepare, Classify, Send, Come_home, Lose, Finish, abandoned_if, read_stage, taken_out, with_row, AllBuilt, after, Allowed}
@@ -40,8 +40,9 @@ use Rattle.r6_frames.specs.declared.slots.Device.TheVariants as device
 use Rattle.r6_frames.specs.Rebuilt.{IsNext}
 use Rattle.r6_frames.specs.Slots.{slot_in, state_of, states_of, is_abandoned}
 use Rattle.r6_frames.specs.FramesState.{FramesState}
-use Rattle.r6_frames.specs.Views.{op_of, buffer_of, outcome_of, task_for, rebuilds, rebuild_task, scrub_task, requests_by, kind_in, held_for, plan_in, use_at, hold_at, held_requests, outstanding, world_command, world_commands, Rest, shard_with, reads_on, AreLive}
+use Rattle.r6_frames.specs.Views.{op_of, buffer_of, read_for, rebuilds, rebuild_task, scrub_task, kind_in, held_for, plan_in, use_at, hold_at, held_requests, outstanding, world_command, world_commands, Rest, shard_with, reads_on, AreLive}
 use Rattle.r6_frames.specs.Directs.{read_requests}
+use Rattle.r6_frames.specs.Writes.{blocks_in, request_of, served_in, write_task}
 use Rattle.r6_frames.specs.Owed.{owed}
 
 -- the requests that are read directly are those that were
@@ -221,16 +222,16 @@ pub record IsPlaceOf (shape : Shape) (o : Op) (place : Place) : Type 0 where
 abbrev pub HasOneBlock : Shape → Request → Type 0
 HasOneBlock shape request = length (buffer_of request.op) ≡ shape.block
 
--- the list has one more entry, whose frame no other has
+-- the list has these entries more, side by side, whose frame no other has
 abbrev pub IsElsewhere : ℕ → ℕ × shards.Request → Type 0
 IsElsewhere frame entry = entry.1.stage ≢ Held frame
 
-pub record IsWith (few : List (ℕ × shards.Request)) (frame : ℕ) (entry : ℕ × shards.Request)
-    (more : List (ℕ × shards.Request)) : Type 0 where
+pub record IsWith (few : List (ℕ × shards.Request)) (frame : ℕ) (entries more : List (ℕ × shards.Request))
+    : Type 0 where
   pub before : List (ℕ × shards.Request)
   pub behind : List (ℕ × shards.Request)
   pub without : few ≡ before ++ behind
-  pub with : more ≡ before ++ entry ∷ behind
+  pub with : more ≡ before ++ entries ++ behind
   pub elsewhere : AllByRecursion (IsElsewhere frame) (before ++ behind)
 
 abbrev pub entry_of : ℕ → Request → ℕ × shards.Request
@@ -243,15 +244,12 @@ pub record Holds (old : FramesState) (frame : ℕ) (h : HeldRow) (new : FramesSt
   pub put : held ≡ slice_set old.held frame (uses.Held h)
   pub same : new ≡ record old { held = held; spare = spare }
 
--- the row of the request's block is held in the frame, and its hold begins
-abbrev pub begun_for : FramesState → Request → Hold
-begun_for fs request =
-    let row = layout.row_of fs.geometry (world.block_of (op_of request.op)) in
-    begun (layout_of fs.geometry) (states_of fs.slots) row (task_for request.id request.op)
-
-pub record Begins (old : FramesState) (frame : ℕ) (request : Request) (new : FramesState) : Type 0 where
-  pub requests : IsWith (held_requests old) frame (entry_of frame request) (held_requests new)
-  pub shard : Between (λ l n s s'. s' ≡ record s { frame = put s.frame frame (Some (begun_for old request)) }) old new
+-- the row is held in the frame for the task, which serves these requests, and its hold begins
+pub record Begins (old : FramesState) (frame row : ℕ) (task : Task) (served : List Request) (new : FramesState)
+    : Type 0 where
+  pub requests : IsWith (held_requests old) frame (map (entry_of frame) served) (held_requests new)
+  pub shard :
+      Between (λ l n s s'. s' ≡ record s { frame = put s.frame frame (Some (begun l s.slot row task)) }) old new
 
 -- every slot is in sync for the row
 abbrev pub AreAllInSync : FramesState → (row : ℕ) → Type 0
@@ -292,16 +290,27 @@ BringsIn old target row new =
 
 -- ---- holds end
 
+-- the requests that have ended with the hold, each with its answer in its buffer
+abbrev pub requests_of : Ended → List Request
+requests_of (ended.Read served buffer) = read_for served buffer ∷ []
+requests_of (ended.Wrote writes) = map request_of writes
+requests_of (ended.Classed scrub class) = []
+requests_of (ended.Skipped scrub) = []
+requests_of (ended.Rebuilt target row) = []
+requests_of (ended.GivenUp target) = []
+
 -- what the hold was for, by the world, and how it has ended
 abbrev pub ended_task : Ended → Task
-ended_task (ended.Request request) = task_for request.id request.op
+ended_task (ended.Read served buffer) = ReadFor served.id served.block
+ended_task (ended.Wrote writes) = write_task writes
 ended_task (ended.Classed scrub class) = scrub_task scrub
 ended_task (ended.Skipped scrub) = scrub_task scrub
 ended_task (ended.Rebuilt target row) = rebuild_task target
 ended_task (ended.GivenUp target) = rebuild_task target
 
 abbrev pub ended_outcome : Ended → Outcome
-ended_outcome (ended.Request request) = outcome_of request.op
+ended_outcome (ended.Read served buffer) = Answered buffer
+ended_outcome (ended.Wrote writes) = Wrote
 ended_outcome (ended.Classed scrub class) = Classed class
 ended_outcome (ended.Skipped scrub) = Skipped
 ended_outcome (ended.Rebuilt target row) = Rebuilt
@@ -309,9 +318,10 @@ ended_outcome (ended.GivenUp target) = GivenUp
 
 -- the row was held for this
 abbrev pub IsEndedOf : HeldRow → Ended → Type 0
-IsEndedOf h (ended.Request request) =
-    (requests_by h.job (kind_in h) ≡ (request.id, op_of request.op) ∷ [])
-    × (length (buffer_of request.op) ≡ h.hold.planned.hold.size)
+IsEndedOf h (ended.Read served buffer) =
+    (given : Block) × (h.job ≡ job.Read served given) × (length buffer ≡ h.hold.planned.hold.size)
+IsEndedOf h (ended.Wrote writes) =
+    (h.job ≡ job.Write (served_in writes)) × (kind_in h ≡ Kind.Write (blocks_in writes))
 IsEndedOf h (ended.Classed scrub class) = h.job ≡ job.Scrub scrub
 IsEndedOf h (ended.Skipped scrub) = h.job ≡ job.Scrub scrub
 IsEndedOf h (ended.Rebuilt target row) = (h.job ≡ job.Rebuild target) × (h.row ≡ row)
@@ -335,7 +345,8 @@ rebuild_ended target row (Some end.GivenUp) = ended.GivenUp target
 
 -- the class is the one that the hold has found
 abbrev pub SaysClass : Option RowClass → Ended → Type 0
-SaysClass found (ended.Request request) = Unit {0}
+SaysClass found (ended.Read served buffer) = Unit {0}
+SaysClass found (ended.Wrote writes) = Unit {0}
 SaysClass found (ended.Classed scrub class) = found ≡ Some class
 SaysClass found (ended.Skipped scrub) = Unit {0}
 SaysClass found (ended.Rebuilt target row) = Unit {0}
@@ -343,7 +354,8 @@ SaysClass found (ended.GivenUp target) = Unit {0}
 
 -- a row whose rebuild has ended may be marked
 abbrev pub MayMark : FramesState → Ended → Type 0
-MayMark fs (ended.Request request) = Unit {0}
+MayMark fs (ended.Read served buffer) = Unit {0}
+MayMark fs (ended.Wrote writes) = Unit {0}
 MayMark fs (ended.Classed scrub class) = Unit {0}
 MayMark fs (ended.Skipped scrub) = Unit {0}
 MayMark fs (ended.GivenUp target) = Unit {0}
@@ -363,18 +375,16 @@ TellsEnd hold e =
     MayEnd hold.planned.hold outcome → has_outcome hold.planned ≡ true
     → (end_of (ended_outcome e) ≡ outcome) × SaysClass hold.class e
 
--- the request that has ended is held no more, and its buffer is one block; a scrub has none
+-- the requests that have ended are held no more, and their buffers are one block each
 abbrev pub Leaves : FramesState → (frame : ℕ) → Ended → FramesState → Type 0
-Leaves old frame (ended.Request request) new =
-    IsWith (held_requests new) frame (entry_of frame request) (held_requests old) × HasOneBlock old.geometry request
-Leaves old frame (ended.Classed scrub class) new = held_requests new ≡ held_requests old
-Leaves old frame (ended.Skipped scrub) new = held_requests new ≡ held_requests old
-Leaves old frame (ended.Rebuilt target row) new = held_requests new ≡ held_requests old
-Leaves old frame (ended.GivenUp target) new = held_requests new ≡ held_requests old
+Leaves old frame ended new =
+    IsWith (held_requests new) frame (map (entry_of frame) (requests_of ended)) (held_requests old)
+    × All (HasOneBlock old.geometry) (requests_of ended)
 
 -- a row that is rebuilt is the hold's
 abbrev pub IsOfRow : Hold → Ended → Type 0
-IsOfRow hold (ended.Request request) = Unit {0}
+IsOfRow hold (ended.Read served buffer) = Unit {0}
+IsOfRow hold (ended.Wrote writes) = Unit {0}
 IsOfRow hold (ended.Classed scrub class) = Unit {0}
 IsOfRow hold (ended.Skipped scrub) = Unit {0}
 IsOfRow hold (ended.Rebuilt target row) = hold.row ≡ row
@@ -392,11 +402,10 @@ pub record Ends (old : FramesState) (frame : ℕ) (ended : Ended) (new : FramesS
 -- the frame's hold ends as it stands
 pub record GivesUp (old : FramesState) (frame : ℕ) (ended : Ended) (new : FramesState) : Type 0 where
   pub leaves : Leaves old frame ended new
+  pub row : HeldRow
+  pub held : hold_at old.held frame ≡ Some row
+  pub of : IsEndedOf row ended
   pub shard : Between (λ l n s s'. s' ≡ record s { frame = put s.frame frame None }) old new
-
--- and it was of no request
-abbrev pub GivesTurnUp : FramesState → ℕ → FramesState → Type 0
-GivesTurnUp old frame new = (e : Ended) × GivesUp old frame e new × (held_requests new ≡ held_requests old)
 
 -- ---- what a call leaves
 

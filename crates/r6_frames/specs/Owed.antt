@@ -1,5 +1,5 @@
 -- What the held rows still owe: their commands, and their ends.
-use Rattle.std.specs.Prelude.{◌≡◌, ℕ, ◌+◌, ◌≤◌, ◌||◌, Bool, true, false, List, [], ◌∷◌, Some, None}
+use Rattle.std.specs.Prelude.{◌≡◌, ℕ, ◌+◌, ◌||◌, Bool, true, false, List, [], ◌∷◌, Some, None}
 use Rattle.r6_stripe.specs.Holds.{Cell, Event as RowEvent}
 use Rattle.r6_stripe.specs.Plans as plans
 use Rattle.r6_stripe.specs.Plans.{IsPlanned, AreSilent, planned_at, is_over, has_read_out, has_write_out}
@@ -8,7 +8,7 @@ use Rattle.r6_frames.specs.declared.frames.HeldRow.{HeldRow}
 use Rattle.r6_frames.specs.declared.frames.FrameUse.{FrameUse}
 use Rattle.r6_frames.specs.declared.frames.FrameUse.TheVariants as uses
 use Rattle.r6_frames.specs.FramesState.{FramesState}
-use Rattle.r6_frames.specs.Views.{hold_at, rank_of}
+use Rattle.r6_frames.specs.Views.{hold_at}
 
 -- ---- commands and ends
 
@@ -19,18 +19,6 @@ IsDriven fs frame = (h : HeldRow) → hold_at fs.held frame ≡ Some h → plans
 -- the frame's hold may end
 abbrev pub IsOver : FramesState → ℕ → Type 0
 IsOver fs frame = (h : HeldRow) × (hold_at fs.held frame ≡ Some h) × (has_outcome h.hold.planned ≡ true)
-
--- it may, and its row has this rank
-abbrev pub IsOverWith : FramesState → ℕ → (rank : ℕ) → Type 0
-IsOverWith fs frame rank =
-    IsOver fs frame × ((h : HeldRow) → hold_at fs.held frame ≡ Some h → rank_of h.job ≡ rank)
-
--- of the frames that may end, this one has the oldest request, or none has one
-abbrev pub IsLowestOver : FramesState → ℕ → Type 0
-IsLowestOver fs frame =
-    IsOver fs frame
-    × ((other : ℕ) (h i : HeldRow) → IsOver fs other → hold_at fs.held frame ≡ Some h
-    → hold_at fs.held other ≡ Some i → rank_of h.job ≤ rank_of i.job)
 
 -- a command of the frame's hold is put out that is neither answered nor abandoned
 abbrev pub HasOut : FramesState → ℕ → Type 0

@@ -10,15 +10,14 @@ use Rattle.r6_stripe.specs.Plans.{is_out}
 use Rattle.r6_stripe.specs.Steps.{Held, begun_held, answered, is_away}
 use Rattle.r6_stripe.specs.Views.{kind_of_task}
 use Rattle.r6_stripe.specs.declared.command.Task.{Task as RowTask}
-use Rattle.r6_world.specs.PlainArray.{Block, block_of}
+use Rattle.r6_world.specs.PlainArray.{Block}
 use Rattle.r6_world.specs.Layouts.{first}
-use Rattle.r6_frames.specs.declared.op.Request.{Request}
 use Rattle.r6_frames.specs.declared.frames.Job.{Job}
 use Rattle.r6_frames.specs.declared.frames.HeldRow.{HeldRow}
 use Rattle.r6_frames.specs.declared.frames.FrameUse.{FrameUse}
 use Rattle.r6_frames.specs.declared.frames.FrameUse.TheVariants as uses
 use Rattle.r6_frames.specs.FramesState.{FramesState}
-use Rattle.r6_frames.specs.Views.{op_of, row_task, is_synced_at}
+use Rattle.r6_frames.specs.Views.{is_synced_at}
 
 abbrev pub none_held : ℕ → List FrameUse
 none_held n = replicate n uses.Free
@@ -28,16 +27,6 @@ abbrev pub IsForRow : Shape → buffers.Shape → Type 0
 IsForRow shape frame = frame ≡ record { count = shape.slots; size = shape.block }
 
 -- ---- a hold begins
-
-abbrev pub block_in : Request → ℕ
-block_in request = block_of (op_of request.op)
-
--- what the hold of a request is asked to do, and on which row
-abbrev pub task_in : Shape → Request → RowTask
-task_in shape request = row_task (layout.index_of shape (block_in request)) request.op
-
-abbrev pub row_of : FramesState → Request → ℕ
-row_of fs request = layout.row_of fs.geometry (block_in request)
 
 -- which positions of the row are in sync
 abbrev pub synced : FramesState → ℕ → List Bool

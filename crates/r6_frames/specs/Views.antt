@@ -11,12 +11,13 @@ use Rattle.r6_stripe.specs.declared.command.RowCommand.{RowCommand}
 use Rattle.r6_stripe.specs.declared.command.RowCommand.TheVariants as stripe
 use Rattle.r6_world.specs.PlainArray as world
 use Rattle.r6_world.specs.PlainArray.{Block}
-use Rattle.r6_world.specs.Tasks.{Task, ReadFor, WriteFor, Rebuild, Check, Repair, Hold, Outcome, Answered, Wrote}
+use Rattle.r6_world.specs.Tasks.{Task, ReadFor, Rebuild, Check, Repair, Hold}
 use Rattle.r6_world.specs.ShardStates as shards
 use Rattle.r6_world.specs.ShardStates.{Shard, Held, Transfer, Fetch, Store, Storing, Call}
 use Rattle.r6_world.specs.Changes.{read_on}
 use Rattle.r6_frames.specs.declared.op.Op.{Op}
 use Rattle.r6_frames.specs.declared.op.Op.TheVariants as op
+use Rattle.r6_frames.specs.declared.op.Request.{Request}
 use Rattle.r6_frames.specs.declared.command.Command.{Command}
 use Rattle.r6_frames.specs.declared.command.CommandKind.{CommandKind}
 use Rattle.r6_frames.specs.declared.command.CommandKind.TheVariants as command
@@ -26,11 +27,13 @@ use Rattle.r6_frames.specs.declared.frames.Job.TheVariants as job
 use Rattle.r6_frames.specs.declared.frames.Scrub.{Scrub}
 use Rattle.r6_frames.specs.declared.frames.Scrub.TheVariants as scrub
 use Rattle.r6_frames.specs.declared.frames.HeldRow.{HeldRow}
+use Rattle.r6_frames.specs.declared.frames.Served.{Served}
 use Rattle.r6_frames.specs.declared.frames.FrameUse.{FrameUse}
 use Rattle.r6_frames.specs.declared.frames.FrameUse.TheVariants as uses
 use Rattle.r6_frames.specs.declared.rebuilt.Target.{Target}
 use Rattle.r6_frames.specs.declared.slots.Slot.{Slot}
 use Rattle.r6_frames.specs.Slots.{states_of, count_out, is_abandoned}
+use Rattle.r6_frames.specs.Writes.{entries_of, request_of, write_task}
 use Rattle.r6_frames.specs.FramesState.{FramesState}
 
 -- ---- requests
@@ -43,36 +46,24 @@ abbrev pub buffer_of : Op → Block
 buffer_of (op.Read block buffer) = buffer
 buffer_of (op.Write block buffer) = buffer
 
--- how the hold of a request ends, whose answer stands in its buffer
-abbrev pub outcome_of : Op → Outcome
-outcome_of (op.Read block buffer) = Answered buffer
-outcome_of (op.Write block buffer) = Wrote
+-- a request with its number
+abbrev pub numbered : Request → ℕ × world.Op
+numbered request = (request.id, op_of request.op)
 
--- what a row is held for by a request
-abbrev pub task_for : ℕ → Op → Task
-task_for id (op.Read block buffer) = ReadFor id block
-task_for id (op.Write block buffer) = WriteFor (record { id = id; block = block; new_data = buffer } ∷ [])
-
--- what a row is held for by a request, as the frames have it, and what its hold is asked to do at the index
-abbrev pub job_for : ℕ → Op → Job
-job_for id (op.Read block buffer) = job.Read (record { id = id; block = block }) buffer
-job_for id (op.Write block buffer) = job.Write (record { id = id; block = block })
-
-abbrev pub row_task : ℕ → Op → RowTask
-row_task index (op.Read block buffer) = asks.Read index
-row_task index (op.Write block buffer) = asks.Write (record { room = 1; blocks = (index, buffer) ∷ [] })
+-- the request of a read, with its block in the buffer
+abbrev pub read_for : Served → Block → Request
+read_for served buffer = record { id = served.id; op = op.Read served.block buffer }
 
 -- ---- held rows
 
--- the block that a hold writes
-abbrev pub new_data_of : Kind → Block
-new_data_of (WriteKind (entry ∷ rest)) = entry.1
-new_data_of (WriteKind []) = []
-new_data_of Idle = []
-new_data_of (ReadKind index) = []
-new_data_of (RebuildKind target) = []
-new_data_of CheckKind = []
-new_data_of RepairKind = []
+-- the new blocks of a hold that writes
+abbrev pub batch_in : Kind → List (ℕ × Block)
+batch_in (WriteKind batch) = batch
+batch_in Idle = []
+batch_in (ReadKind index) = []
+batch_in (RebuildKind target) = []
+batch_in CheckKind = []
+batch_in RepairKind = []
 
 -- the task of a scrub, in the world and by the rules of one row
 abbrev pub scrub_task : Scrub → Task
@@ -109,17 +100,9 @@ rebuilds (job.Rebuild target) slot = target.slot == slot
 abbrev pub rebuild_task : Target → Task
 rebuild_task target = Rebuild target.slot target.generation
 
--- in which order holds end that are over together: from the oldest request to the newest, and then those of no request
-abbrev pub rank_of : Job → ℕ
-rank_of (job.Read served buffer) = served.id
-rank_of (job.Write served) = served.id
-rank_of (job.Scrub scrub) = 18446744073709551615
-rank_of (job.Rebuild target) = 18446744073709551615
-
 abbrev pub task_by : Job → Kind → Task
 task_by (job.Read served buffer) kind = ReadFor served.id served.block
-task_by (job.Write served) kind =
-    WriteFor (record { id = served.id; block = served.block; new_data = new_data_of kind } ∷ [])
+task_by (job.Write served) kind = write_task (entries_of served (batch_in kind))
 task_by (job.Scrub scrub) kind = scrub_task scrub
 task_by (job.Rebuild target) kind = rebuild_task target
 
@@ -156,7 +139,7 @@ frame_of fs frame = option_map hold_of (hold_at fs.held frame)
 -- the requests that rows are held for, each with its number, in the order of the frames
 abbrev pub requests_by : Job → Kind → List (ℕ × world.Op)
 requests_by (job.Read served buffer) kind = (served.id, world.Op.Read served.block) ∷ []
-requests_by (job.Write served) kind = (served.id, world.Op.Write served.block (new_data_of kind)) ∷ []
+requests_by (job.Write served) kind = map numbered (map request_of (entries_of served (batch_in kind)))
 requests_by (job.Scrub scrub) kind = []
 requests_by (job.Rebuild target) kind = []
 

@@ -1,17 +1,21 @@
 //! The rows that a shard holds, each in a frame, and their commands, as the code has them.
 
-ghost use Rattle.std.specs.Prelude.{◌≡◌, ◌<◌, ◌≤◌, ◌+◌, ◌*◌, ◌↔◌, ℕ, length, map, replicate, vec_capacity, slice_index_or, slice_set, false, MatchOption, IfOk, IsTrue};
+ghost use Rattle.std.specs.Prelude.{◌≡◌, ◌≢◌, ◌<◌, ◌≤◌, ◌+◌, ◌*◌, ◌↔◌, ◌∷◌, [], ℕ, length, map, replicate, vec_capacity, slice_index_or, slice_set, false, MatchOption, IfOk, IsTrue};
+ghost use Rattle.std.specs.List.{All};
 ghost use Rattle.r6_layout.specs.Shape.{IsShape};
 ghost use Rattle.r6_layout.specs.Layout as layout;
 ghost use Rattle.r6_stripe.specs.Sound.{IsTask};
 ghost use Rattle.r6_tables.specs.Table.{next_of};
-ghost use Rattle.r6_world.specs.PlainArray.{block_of};
 ghost use Rattle.r6_world.specs.Layouts.{IsRowOf};
 ghost use Rattle.r6_world.specs.Geometries.{layout_of};
 ghost use Rattle.r6_world.specs.ShardStates.{frames};
-ghost use Rattle.r6_frames.specs.Views.{op_of, job_for, row_task, AreLive, is_synced_at};
-ghost use Rattle.r6_frames.specs.Calls.{KeepsDirects, IsFreeFrame, IsNextOn, NotHeldBy, IsHolder, IsRequestOf, IsPlaceOf, Begins, BeginsRebuild, BeginsScrub, AreAllInSync, Holds, KeepsOthers, IsAtStart, KeepsSlots};
+ghost use Rattle.r6_world.specs.Tasks.{ReadFor};
+ghost use Rattle.r6_frames.specs.Views.{read_for, AreLive, is_synced_at};
+ghost use Rattle.r6_frames.specs.Calls.{KeepsDirects, IsFreeFrame, IsNextOn, NotHeldBy, IsHolder, IsPlaceOf, Begins, BeginsRebuild, BeginsScrub, AreAllInSync, Holds, KeepsOthers, IsAtStart, KeepsSlots};
 ghost use Rattle.r6_frames.specs.Owed.{owed, OwesCommands};
+ghost use Rattle.r6_frames.specs.Reads.{IsReadable};
+ghost use Rattle.r6_frames.specs.Writes.{IsWriteIn, request_of, write_task};
+ghost use Rattle.r6_frames.specs.declared.op.Op.TheVariants as requested;
 ghost use Rattle.r6_frames.specs.Slots.{slot_before, slot_in, AreUsed};
 ghost use Rattle.r6_frames.specs.Inside.{view_of, HasRoom};
 ghost use Rattle.r6_frames.specs.Sound.{IsSound, IsToldLive, MayHold};
@@ -20,13 +24,14 @@ ghost use Rattle.r6_frames.specs.Uses.{begun_row, none_held, IsForRow};
 use crate::command::Outstanding;
 use crate::directs::DIRECTS;
 use crate::frames::{FRAMES, FrameUse, HeldRow, Job, Scrub, Served};
-use crate::op::{Op, Request};
 use crate::pool::Pool;
 use crate::rebuilt::Target;
 use crate::slots::{Device, MOST_SLOTS, Slot};
 use crate::turns::{left_of, right_of};
+use crate::writes::Writes;
+use r6_kernels::Buffer;
 use r6_layout::{Geometry, Place};
-use r6_stripe::{Batch, Frame, Hold, Task};
+use r6_stripe::{Frame, Hold, Task};
 use r6_tables::Table;
 use std::alloc::{AllocError, Global};
 
@@ -48,7 +53,6 @@ pub(crate) struct Rows {
     pub(crate) handed: u64,
     /// The direct buffers.
     pub(crate) directs: Pool,
-    pub(crate) alloc: Global,
 }
 
 impl Rows {
@@ -83,7 +87,6 @@ impl Rows {
             commands,
             handed: 0,
             directs,
-            alloc,
         };
         rows.live = rows.goes_on();
         Ok(rows)
@@ -165,20 +168,20 @@ impl Rows {
         None
     }
 
-    pub(crate) fn begin(&mut self, frame: usize, request: Request, place: Place)
+    pub(crate) fn begin_read(&mut self, frame: usize, served: Served, buffer: Buffer, place: Place)
         requires sound { IsSound (view_of self.old) }
         requires room { HasRoom self.old }
         requires live { AreLive (view_of self.old) }
         requires free { IsFreeFrame (view_of self.old) frame }
-        requires request { IsRequestOf (view_of self.old) request }
-        requires place { IsPlaceOf self.old.geometry request.op place }
-        requires unheld { NotHeldBy (view_of self.old)
-            (layout.row_of self.old.geometry (block_of (op_of request.op))) }
+        requires request { IsReadable (view_of self.old) served buffer }
+        requires place { IsPlaceOf self.old.geometry (requested.Read served.block buffer) place }
+        requires unheld { NotHeldBy (view_of self.old) (layout.row_of self.old.geometry served.block) }
 
         // The row is held.
         ensures sound { IsSound (view_of self.new) }
         ensures room { HasRoom self.new }
-        ensures begins { Begins (view_of self.old) frame request (view_of self.new) }
+        ensures begins { Begins (view_of self.old) frame (layout.row_of self.old.geometry served.block)
+            (ReadFor served.id served.block) (read_for served buffer ∷ []) (view_of self.new) }
 
         // All else is as it was.
         ensures same { KeepsSlots (view_of self.old) (view_of self.new) }
@@ -189,9 +192,39 @@ impl Rows {
         ensures owed { owed (view_of self.new) ≡ owed (view_of self.old) + 2 * self.old.geometry.slots }
         ensures owes { OwesCommands (view_of self.new) frame }
     {
-        let (job, task) = parts(request, place.index, self.alloc);
         let first = left_of(place.slot, place.index, self.geometry.slots());
-        self.hold(frame, place.row, first, job, task);
+        let job = Job::Read(served, buffer);
+        self.hold(frame, place.row, first, job, Task::Read(place.index));
+    }
+
+    pub(crate) fn begin_writes(&mut self, frame: usize, writes: Writes, row: u64)
+        requires sound { IsSound (view_of self.old) }
+        requires room { HasRoom self.old }
+        requires live { AreLive (view_of self.old) }
+        requires free { IsFreeFrame (view_of self.old) frame }
+        requires row { IsRowOf (layout_of self.old.geometry) self.old.shard row }
+        requires some { writes ≢ [] }
+        requires writes { All (IsWriteIn self.old.geometry row) writes }
+        requires unheld { NotHeldBy (view_of self.old) row }
+
+        // The row is held.
+        ensures sound { IsSound (view_of self.new) }
+        ensures room { HasRoom self.new }
+        ensures begins { Begins (view_of self.old) frame row (write_task writes) (map request_of writes)
+            (view_of self.new) }
+
+        // All else is as it was.
+        ensures same { KeepsSlots (view_of self.old) (view_of self.new) }
+        ensures others { KeepsOthers (view_of self.old) frame (view_of self.new) }
+        ensures directs { KeepsDirects (view_of self.old) (view_of self.new) }
+
+        // The hold owes at most a read and a write of each position, and at least one command.
+        ensures owed { owed (view_of self.new) ≡ owed (view_of self.old) + 2 * self.old.geometry.slots }
+        ensures owes { OwesCommands (view_of self.new) frame }
+    {
+        let first = self.geometry.slot_at(row, 0);
+        let (served, batch) = writes.into_parts();
+        self.hold(frame, row, first, Job::Write(served), Task::Write(batch));
     }
 
     pub(crate) fn begin_scrub(&mut self, frame: usize, scrub: Scrub, row: u64)
@@ -364,23 +397,4 @@ fn with_devices(devices: [Device; MOST_SLOTS]) -> [Slot; MOST_SLOTS]
         slots[slot].device = devices[slot];
     }
     slots
-}
-
-// What the row is held for, and what the hold is asked to do at the index.
-fn parts(request: Request, index: usize, alloc: Global) -> (Job, Task)
-    requires { index < 32 }
-    ensures job { result.0 ≡ job_for request.id request.op }
-    ensures task { result.1 ≡ row_task index request.op }
-{
-    let Request { id, op } = request;
-    let block = op.block();
-    let served = Served { id, block };
-    match op {
-        Op::Read(_, buffer) => (Job::Read(served, buffer), Task::Read(index)),
-        Op::Write(_, buffer) => {
-            let mut batch = Batch::new(alloc);
-            batch.put(index, buffer);
-            (Job::Write(served), Task::Write(batch))
-        }
-    }
 }

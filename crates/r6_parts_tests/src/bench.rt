@@ -96,10 +96,10 @@ pub(crate) fn has_bytes(blocks: &Vec<Buffer>, bytes: &[u8], lost: &[usize]) -> b
 fn batch_of(alloc: Global, new: &[(usize, u8)], count: usize) -> Result<Batch, Fail>
     ensures { IfOk result (λ batch. AreNewFor count 16 batch.blocks) }
 {
-    let mut batch = Batch::with_room(alloc, 31)?;
+    let mut batch = Batch::new(alloc)?;
     for (index, byte) in new {
         let block = filled(alloc, BLOCK, *byte)?;
-        if *index >= 30 || *index + 2 >= count || batch.has(*index) || batch.is_full() {
+        if *index >= 30 || *index + 2 >= count || batch.has(*index) {
             return Err(Fail::from("no batch"));
         }
         batch.put(*index, block);

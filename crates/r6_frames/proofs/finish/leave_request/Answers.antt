@@ -1,17 +1,35 @@
-use Rattle.std.proofs.Common.{◌≡◌, sym, ◌∙◌, ap, subst}
+use Rattle.std.proofs.Common.{◌≡◌, List, sym, ◌∙◌, ap, subst}
 use Rattle.r6_stripe.specs.Holds.{Kind, Owes, Outcome, Reading, cell_at}
 use Rattle.r6_stripe.specs.Plans.{known_block, outcome_of}
 use Rattle.r6_stripe.specs.Steps.{Held}
 use Rattle.r6_stripe.specs.Views.{kind_of_task}
+use Rattle.r6_frames.specs.declared.frames.Job.{Job}
+use Rattle.r6_frames.specs.declared.finish.Ended.TheVariants as ended
+use Rattle.r6_frames.specs.Calls.{IsEndedOf}
+use Rattle.r6_frames.specs.Sound.{IsJob}
+use Rattle.r6_frames.specs.Views.{kind_in}
+use Rattle.r6_frames.specs.Writes.{Entry}
+use Rattle.r6_frames.proofs.Batches.{back_side_by_side, ended_writes}
 use Rattle.r6_frames.proofs.finish.leave_request.Goals as goal
 
-pub returns-in-Some-Read-Read-clause-outcome : goal.returns-in-Some-Read-Read-clause-outcome
-returns-in-Some-Read-Read-clause-outcome c = λ may.
+pub returns-in-Some-Read-Read-clause-told : goal.returns-in-Some-Read-Read-clause-told
+returns-in-Some-Read-Read-clause-told c = λ may over.
     let hold = c.args.held.hold.planned.hold in
     let i = c.in-Some-Read-Read.index in
     let closed = c.in-Some-Read-Read.ensures.closed in
     let reads : hold.kind ≡ Kind.Read i = sym c.in-Some-Read-Read.ensures.task ∙ ap kind_of_task c.in-Some-Read-Read.batch-1-is in
     let block = known_block (cell_at hold.cells i).reading in
-    let known : (cell_at hold.cells i).reading ≡ Reading.Known block = subst (λ (kind : Kind). Owes hold kind (outcome_of hold kind)) reads may.owes_nothing in
-    ap Outcome.Data (c.with_block.ensures.block block (ap (λ (h : Held). (cell_at h.planned.hold.cells i).reading) closed ∙ known))
-    ∙ sym (ap (outcome_of hold) reads)
+    let known : (cell_at hold.cells i).reading ≡ Reading.Known block = subst (λ (kind : Kind). Owes hold kind (outcome_of hold kind)) reads may.owes_nothing in (
+      ap Outcome.Data (c.with_block-buffer.ensures.block block (ap (λ (h : Held). (cell_at h.planned.hold.cells i).reading) closed ∙ known))
+          ∙ sym (ap (outcome_of hold) reads),
+      tt,
+    )
+
+pub returns-in-Some-Write-Write-clause-owner : goal.returns-in-Some-Write-Write-clause-owner
+returns-in-Some-Write-Write-clause-owner c =
+    let w = c.in-Some-Write-Write in
+    let held = c.requires.held.3 in
+    let same : Kind.Write w.batch.blocks ≡ kind_in c.args.held = search in
+    let mine = subst (λ (what : Job). IsJob c.requires.held.0 c.args.held.row what (kind_in c.args.held)) w.is-1 held.job in
+    let side = back_side_by_side c.requires.held.0 c.args.held.row w.served (kind_in c.args.held) w.batch.blocks mine same in
+    subst (λ (writes : List Entry). IsEndedOf c.args.held (ended.Wrote writes)) (sym c.from_parts-writes.ensures) (ended_writes c.args.held w.served w.batch.blocks side w.is-1 same)

@@ -1,5 +1,5 @@
-use Rattle.std.proofs.Common.{◌+◌, ◌++◌, ◌∷◌, [], ◌∙◌, ap, length, refl, sym, subst, length-append}
-use Rattle.r6_waiters.specs.Line.{Line}
+use Rattle.std.proofs.Common.{◌+◌, ◌++◌, ◌∷◌, [], ap, length, sym, subst, length-append, arith}
+use Rattle.r6_waiters.specs.Line.{Line, entries_of}
 use Rattle.r6_world.specs.Steps.{Through, Scans}
 use Rattle.r6_world.specs.Changes.{Accept, after}
 use Rattle.r6_frames.specs.declared.op.Request.{Request}
@@ -10,8 +10,9 @@ use Rattle.r6_core.specs.declared.state.State.{State}
 use Rattle.r6_core.specs.Inside.{CanBegin, IsCore, anything}
 use Rattle.r6_core.proofs.Accepting.{request_of}
 use Rattle.r6_core.proofs.ReadStarts.{IsReadStart, own_op}
-use Rattle.r6_core.proofs.Entering.{entering, entering_items, others_left, reads_core, reads_leads, reads_turns, entered, waiting_settled, waits_core, waits_turns, waits_leads, starts_core, starts_leads, starts_turns}
-use Rattle.r6_core.proofs.Starting.{IsStart, begun_held, begun_numbers}
+use Rattle.r6_core.proofs.Entering.{entering, entering_items, others_left, reads_core, reads_leads, reads_turns, entered, waiting_settled, waits_core, waits_turns, waits_leads}
+use Rattle.r6_core.proofs.HeldFor.{entries_own, one_more_hold}
+use Rattle.r6_core.proofs.Accepted.{accepted_core, accepted_leads, accepted_turns}
 use Rattle.r6_core.proofs.state.State.accept.Goals as goal
 
 -- ---- what it starts with
@@ -19,66 +20,48 @@ use Rattle.r6_core.proofs.state.State.accept.Goals as goal
 pub room_for-requires-clause-request : goal.room_for-requires-clause-request
 room_for-requires-clause-request c = own_op c.args.self.now.frames _ (request_of c.args.self.now c.args.op c.requires.right c.requires.sized c.args.self.now.accepted)
 
-pub begin-requires-clause-live : goal.begin-requires-clause-live
-begin-requires-clause-live c = (subst (CanBegin c.args.self.now.frames c.args.op) c.in-Ok-Frame.field-0-is c.in-Ok-Frame.ensures).1.0
-
-pub begin-requires-clause-free : goal.begin-requires-clause-free
-begin-requires-clause-free c = (subst (CanBegin c.args.self.now.frames c.args.op) c.in-Ok-Frame.field-0-is c.in-Ok-Frame.ensures).1.1
-
-pub begin-requires-clause-request : goal.begin-requires-clause-request
-begin-requires-clause-request c = request_of c.args.self.now c.args.op c.requires.right c.requires.sized c.args.self.now.accepted
-
-pub begin-requires-clause-unheld : goal.begin-requires-clause-unheld
-begin-requires-clause-unheld c = (subst (CanBegin c.args.self.now.frames c.args.op) c.in-Ok-Frame.field-0-is c.in-Ok-Frame.ensures).1.2
-
-pub drive-requires-clause-held : goal.drive-requires-clause-held
-drive-requires-clause-held c = begun_held c.args.self.now.frames c.in-Ok-Frame.frame (entered c.args.self.now c.args.op c.requires.core c.requires.right c.requires.sized) c.begin.new.self c.begin.ensures.begins
-
-pub drive-requires-clause-numbers : goal.drive-requires-clause-numbers
-drive-requires-clause-numbers c =
-    let s = c.args.self.now in
-    let r = entered s c.args.op c.requires.core c.requires.right c.requires.sized in
-    begun_numbers s.frames c.in-Ok-Frame.frame r c.begin.new.self c.begin.ensures.begins
-    (entering s c.args.op c.requires.core c.requires.right c.requires.sized) (waiting_of s)
-    (waiting_settled s c.args.op c.requires.core c.requires.right c.requires.sized anything).sound
-    (ap length (entering_items s c.args.op c.requires.core c.requires.right c.requires.sized) ∙ length-append (waiting_of s) (r ∷ [])) refl c.begin.ensures.owed
-
 -- ---- its row is held
 
-start :
-    (c : goal.After-drive) → IsStart (entering c.args.self.now c.args.op c.requires.core c.requires.right c.requires.sized) (waiting_of c.args.self.now)
-    (entered c.args.self.now c.args.op c.requires.core c.requires.right c.requires.sized) [] c.args.self.now.waiting c.in-Ok-Frame.frame c.begin.new.self c.drive.new.self
-start c =
-    record {
-      left = others_left c.args.self.now c.args.op c.requires.core c.requires.right c.requires.sized;
-      items = entering_items c.args.self.now c.args.op c.requires.core c.requires.right c.requires.sized;
-      plain = (subst (CanBegin c.args.self.now.frames c.args.op) c.in-Ok-Frame.field-0-is c.in-Ok-Frame.ensures).0;
-      can = (subst (CanBegin c.args.self.now.frames c.args.op) c.in-Ok-Frame.field-0-is c.in-Ok-Frame.ensures).1;
-      begins = c.begin.ensures.begins;
-      begun_sound = c.begin.ensures.sound;
-      begun_others = c.begin.ensures.others;
-      begun_owed = c.begin.ensures.owed;
-      sound = c.drive.ensures.sound;
-      drives = c.drive.ensures.drives;
-      driven = c.drive.ensures.driven;
-      held_still = c.drive.ensures.held;
-      others_kept = c.drive.ensures.others;
-      rows = c.drive.ensures.rows;
-      requests = c.drive.ensures.requests;
-      all_owed = c.drive.ensures.owed;
-      live = c.drive.ensures.live;
-      goes_out = c.drive.ensures.out c.begin.ensures.owes;
-      directs = c.drive.ensures.directs ∙ c.begin.ensures.directs;
-    }
+pub hold-requires-clause-sound : goal.hold-requires-clause-sound
+hold-requires-clause-sound c = c.requires.core.settled.sound.frames
+
+pub hold-requires-clause-rooms : goal.hold-requires-clause-rooms
+hold-requires-clause-rooms c = c.requires.core.settled.sound.room.rooms
+
+pub hold-requires-clause-request : goal.hold-requires-clause-request
+hold-requires-clause-request c = request_of c.args.self.now c.args.op c.requires.right c.requires.sized c.args.self.now.accepted
+
+pub hold-requires-clause-waiting : goal.hold-requires-clause-waiting
+hold-requires-clause-waiting c =
+    let s = c.args.self.now in
+    entries_own s.frames (entries_of s.waiting) c.requires.core.settled.sound.requests.waiting
+
+pub hold-requires-clause-can : goal.hold-requires-clause-can
+hold-requires-clause-can c = (subst (CanBegin c.args.self.now.frames c.args.op) c.in-Ok-Frame.field-0-is c.in-Ok-Frame.ensures).1
+
+pub hold-requires-clause-numbers : goal.hold-requires-clause-numbers
+hold-requires-clause-numbers c =
+    let s = c.args.self.now in
+    let r = entered s c.args.op c.requires.core c.requires.right c.requires.sized in
+    let items = ap length (entering_items s c.args.op c.requires.core c.requires.right c.requires.sized) in
+    let many = length-append (waiting_of s) (r ∷ []) in
+    one_more_hold (entering s c.args.op c.requires.core c.requires.right c.requires.sized) (waiting_settled s c.args.op c.requires.core c.requires.right c.requires.sized anything).sound
+    (omega (arith, items, many))
 
 pub returns-in-Ok-Frame-clause-core : goal.returns-in-Ok-Frame-clause-core
-returns-in-Ok-Frame-clause-core c = starts_core c.args.self.now c.args.op c.requires.core c.requires.right c.requires.sized _ _ _ (start c)
+returns-in-Ok-Frame-clause-core c =
+    accepted_core c.args.self.now c.args.op c.requires.core c.requires.right c.requires.sized c.in-Ok-Frame.frame
+    (subst (CanBegin c.args.self.now.frames c.args.op) c.in-Ok-Frame.field-0-is c.in-Ok-Frame.ensures) c.hold.new.self c.hold.ensures
 
 pub returns-in-Ok-Frame-clause-leads : goal.returns-in-Ok-Frame-clause-leads
-returns-in-Ok-Frame-clause-leads c = starts_leads c.args.self.now c.args.op c.requires.core c.requires.right c.requires.sized _ _ _ (start c)
+returns-in-Ok-Frame-clause-leads c =
+    accepted_leads c.args.self.now c.args.op c.requires.core c.requires.right c.requires.sized c.in-Ok-Frame.frame
+    (subst (CanBegin c.args.self.now.frames c.args.op) c.in-Ok-Frame.field-0-is c.in-Ok-Frame.ensures) c.hold.new.self c.hold.ensures
 
 pub returns-in-Ok-Frame-clause-turns : goal.returns-in-Ok-Frame-clause-turns
-returns-in-Ok-Frame-clause-turns c = starts_turns c.args.self.now c.args.op c.requires.core c.requires.right c.requires.sized _ _ _ (start c)
+returns-in-Ok-Frame-clause-turns c =
+    accepted_turns c.args.self.now c.args.op c.requires.core c.requires.right c.requires.sized c.in-Ok-Frame.frame
+    (subst (CanBegin c.args.self.now.frames c.args.op) c.in-Ok-Frame.field-0-is c.in-Ok-Frame.ensures) c.hold.new.self c.hold.ensures
 
 pub returns-in-Ok-clause-core : goal.returns-in-Ok-clause-core
 returns-in-Ok-clause-core c =

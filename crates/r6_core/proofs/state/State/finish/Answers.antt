@@ -3,16 +3,15 @@ use Rattle.circular_buffer.specs.Buffer.{buffer}
 use Rattle.r6_world.specs.Steps.{Through, GoesOn}
 use Rattle.r6_frames.specs.declared.frames.Frames.{Frames}
 use Rattle.r6_frames.specs.declared.finish.Ended.{Ended}
-use Rattle.r6_frames.specs.Calls.{Ends, MayMark}
+use Rattle.r6_frames.specs.Calls.{requests_of as requests_ended, Ends, MayMark}
 use Rattle.r6_frames.specs.Views.{hold_at, use_at, AreLive}
 use Rattle.r6_core.specs.declared.state.State.{State}
 use Rattle.r6_core.specs.Shards.{layout_in, state_of}
-use Rattle.r6_core.specs.Inside.{IsRestedFrame, IsSound, requests_ended}
+use Rattle.r6_core.specs.Inside.{IsRestedFrame, IsSound}
 use Rattle.r6_frames.specs.Directs.{read_requests}
 use Rattle.r6_frames.specs.Slots.{states_of}
-use Rattle.r6_core.proofs.Delivering.{ends_still, few_ended, freed, none_rested, ended_requests, one_ends, ended_sound, room_to_end}
+use Rattle.r6_core.proofs.Delivering.{ends_still, freed, none_rested, ended_requests, one_ends, one_row_ended, ended_sound, place_to_end, room_to_end}
 use Rattle.r6_core.proofs.MarkedRows.{marked_ends, marked_frames, marked_leads, marked_others, marked_reads, marked_rests, marked_sound, report_fits}
-use Rattle.r6_core.proofs.Settling.{one_row_few}
 use Rattle.r6_core.proofs.Throughs.{through_none}
 use Rattle.r6_core.proofs.state.State.finish.Goals as goal
 use Rattle.r6_frames.proofs.Held.{held_within}
@@ -86,7 +85,13 @@ returns-in-Some-Rebuilt-clause-ends c =
 
 pub close-requires-clause-room : goal.close-requires-clause-room
 close-requires-clause-room c =
-    room_to_end c.args.self.now c.args.frame c.in-Some.ended c.finish.new.self c.requires.held.0 c.requires.sound c.requires.live c.in-Some.ensures.ends c.requires.held.1
+    room_to_end c.args.self.now c.args.frame c.in-Some.ended c.finish.new.self c.requires.sound c.requires.live c.in-Some.ensures.ends
+
+pub close-requires-clause-place : goal.close-requires-clause-place
+close-requires-clause-place c =
+    let left = c.in-Some.ensures in
+    let held = c.requires.held in
+    place_to_end c.args.self.now c.args.frame c.in-Some.ended c.finish.new.self held.0 c.requires.sound left.ends held.1 left.sound left.others
 
 pub close-requires-clause-counts : goal.close-requires-clause-counts
 close-requires-clause-counts c = let sound = c.requires.sound in omega (arith, sound.counted.found, sound.counted.skipped, sound.tokens)
@@ -104,10 +109,10 @@ returns-in-Some c =
     let replies = buffer (s.replies.items ++ more) s.replies.capacity in
     record {
       sound = subst IsSound (sym same)
-          (ended_sound s c.args.frame e fs replies c.close.new.self.counts held.0 c.requires.sound c.requires.live ends held.1 refl c.close.ensures.counted left.sound left.others left.owed.0 left.owed.1 refl);
+          (ended_sound s c.args.frame e fs replies c.close.new.self.counts c.close.new.self.rooms held.0 c.requires.sound c.requires.live ends held.1 refl c.close.ensures.counted left.sound left.others left.owed.0 left.owed.1 refl c.close.ensures.rooms);
       live = subst (λ (x : State). AreLive x.frames) (sym same) left.live;
       leads = subst (λ (x : State). Through (layout_in s) s.frames.shard GoesOn (state_of s) (state_of x)) (sym same)
-          (one_ends s c.args.frame e fs replies c.close.new.self.counts held.0 c.requires.sound c.requires.live ends held.1 refl c.close.ensures.counted c.close.ensures.plain);
+          (one_ends s c.args.frame e fs replies c.close.new.self.counts c.close.new.self.rooms held.0 c.requires.sound c.requires.live ends held.1 refl c.close.ensures.counted c.close.ensures.plain);
       rests = subst (λ (x : State). IsRestedFrame x c.args.frame) (sym same) (none_rested fs c.args.frame (freed s.frames fs c.args.frame e ends));
       others = λ other ne. ap (λ (x : State). use_at x.frames.held other) same ∙ left.others other ne;
       keeps = (
@@ -115,7 +120,7 @@ returns-in-Some c =
         ap (λ (x : State). x.waiting) same,
         ap (λ (x : State). x.unanswered) same,
       );
-      more = (more, one_row_few (layout_in s) more (few_ended e), ap (λ (x : State). x.replies.items) same);
+      more = (more, one_row_ended s c.args.frame e fs held.0 c.requires.sound ends held.1, ap (λ (x : State). x.replies.items) same);
       released = ap (λ (x : State). x.released) same;
       ends = λ h is over. (
         more,

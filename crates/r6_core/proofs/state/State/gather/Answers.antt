@@ -1,9 +1,12 @@
-use Rattle.std.proofs.Common.{◌≡◌, None, refl, inl, inr, ◌+◌, ◌∷◌, ◌≤◌, length, sym, ap, subst, ◌∙◌, arith}
+use Rattle.std.proofs.Common.{◌≡◌, None, refl, ◌+◌, ◌++◌, ◌∷◌, [], ◌≤◌, length, sym, ap, subst, ◌∙◌, arith}
+use Rattle.circular_buffer.specs.Buffer.{buffer}
 use Rattle.r6_core.specs.declared.state.State.{State}
 use Rattle.r6_frames.specs.declared.frames.Frames.{Frames}
-use Rattle.r6_core.proofs.Gathering.{IsGathering, gathering_line, gathering_none, gathering_waiting, gathering_held, gathering_scrub, gathering_skips, gathered, replies_room, some_waits, some_held}
+use Rattle.r6_frames.specs.Calls.{requests_of as requests_ended}
+use Rattle.r6_frames.specs.Views.{held_requests}
+use Rattle.r6_core.proofs.Gathering.{IsGathering, all_held, gathering_line, gathering_none, gathering_waiting, gathering_held, gathering_skips, gathered, place_given, replies_room, some_waits}
 use Rattle.r6_core.proofs.state.State.gather.Goals as goal
-use Rattle.r6_core.proofs.state.State.gather.Goals.{in-Some-give_up+in-Ok-try_push_back, in_default-give_up}
+use Rattle.r6_core.proofs.state.State.gather.Goals.{in-Some-give_up, in_default-give_up}
 use Rattle.r6_core.specs.Shards.{waiting_of, requests_in}
 use Rattle.std.specs.List.{AllByRecursion}
 use Rattle.r6_waiters.specs.Line.{Line, capacity_of, causes_of, entries_of, oldest_of, with_entries, without_oldest, gathered as gathered_for}
@@ -28,9 +31,10 @@ loop-request-preserved c =
     let inv = c.loop-request.invariant in
     let es = entries_of mid.waiting in
     let first = first_of_all anything es r inv.1 (sym c.pop_oldest.ensures.value ∙ c.in-Some.is) ∙ ap (λ line. r ∷ requests_in line) (sym popped) in
-    let pushed = c.in-Ok.ensures.ok in (
-      gathering_waiting c.args.self.now mid 0 r inv.0 c.try_push_back.new.self (ap (λ b. b.items) pushed) c.pop_oldest.new.self first
-          (ap capacity_of popped, ap causes_of popped) (ap (λ b. b.capacity) pushed),
+    let done = c.finished.ensures.same in
+    let replies = buffer (mid.replies.items ++ r ∷ []) mid.replies.capacity in
+    subst (λ (x : State). (IsGathering c.args.self.now x 0) × AllByRecursion (IsFor anything) (entries_of x.waiting)) (sym done) (
+      gathering_waiting c.args.self.now mid 0 r inv.0 replies refl c.pop_oldest.new.self first (ap capacity_of popped, ap causes_of popped) refl,
       subst (λ (line : Line Request). AllByRecursion (IsFor anything) (entries_of line)) (sym popped) (rest_of_all anything es inv.1),
     )
 
@@ -40,7 +44,8 @@ loop-request-smaller c =
     let first = first_of_all anything es c.in-Some.request c.loop-request.invariant.1 (sym c.pop_oldest.ensures.value ∙ c.in-Some.is)
     ∙ ap (λ line. c.in-Some.request ∷ requests_in line) (sym c.pop_oldest.ensures.rest) in
     let long = ap length first in
-    omega (arith, long)
+    let same = ap (λ (x : State). length (waiting_of x)) c.finished.ensures.same in
+    omega (arith, long, same)
 
 -- none waits any more
 pub loop-frame-init : goal.loop-frame-init
@@ -56,24 +61,31 @@ loop-frame-init c =
       none_waiting = ap (λ left. requests_in left) line ∙ none_of_all anything es inv.1 none;
     }
 
-pub unreachable-requires : goal.unreachable-requires
-unreachable-requires c =
+pub finished-requires : goal.finished-requires
+finished-requires c =
     let mid = c.loop-request.self in
     let r = c.in-Some.request in
     let es = entries_of mid.waiting in
     let first = first_of_all anything es r c.loop-request.invariant.1 (sym c.pop_oldest.ensures.value ∙ c.in-Some.is) in
-    let room = replies_room c.args.self.now mid 0 c.requires.sound c.loop-request.invariant.0 (some_waits mid r (values (without_oldest anything es)) first) in
-    let no = c.in_default-try_push_back.ensures.variant.1 room in
-    absurd (cc)
+    let room = replies_room c.args.self.now mid 0 c.requires.sound c.loop-request.invariant.0 in
+    let some = some_waits mid r (values (without_oldest anything es)) first in
+    omega (arith, room, some)
 
-pub unreachable-requires-in_default-try_push_back-2 :
-    goal.unreachable-requires-in_default-try_push_back-2
-unreachable-requires-in_default-try_push_back-2 c =
+-- ---- a hold is given up
+
+pub reply_to-requires-clause-room : goal.reply_to-requires-clause-room
+reply_to-requires-clause-room c =
     let mid = c.loop-frame.self in
-    let gives = c.in-Some-give_up.ensures.gives in
-    let room = replies_room c.args.self.now mid c.loop-frame.frame c.requires.sound c.loop-frame.invariant.gathering (some_held mid _ c.loop-frame.frame c.in-Some-give_up.request gives.leaves.0) in
-    let no = c.in_default-try_push_back-2.ensures.variant.1 room in
-    absurd (cc)
+    let count = c.loop-frame.frame in
+    let room = replies_room c.args.self.now mid count c.requires.sound c.loop-frame.invariant.gathering in
+    let most = all_held mid (held_requests c.give_up.new.self) count (requests_ended c.in-Some-give_up.ended) c.in-Some-give_up.ensures.gives.leaves.0 in
+    omega (arith, room, most)
+
+pub reply_to-requires-clause-place : goal.reply_to-requires-clause-place
+reply_to-requires-clause-place c =
+    let left = c.give_up.ensures in
+    place_given c.args.self.now c.loop-frame.self c.loop-frame.frame c.in-Some-give_up.ended c.give_up.new.self c.requires.sound c.loop-frame.invariant.gathering c.in-Some-give_up.ensures.gives
+    left.sound left.others left.none
 
 pub loop-frame-preserved : goal.loop-frame-preserved
 loop-frame-preserved c =
@@ -84,24 +96,19 @@ loop-frame-preserved c =
     let fs = c.give_up.new.self in
     let left = c.give_up.ensures in
     elim c.match-give_up.branch [
-      | in-Some-give_up+in-Ok-try_push_back w ↦
+      | in-Some-give_up w ↦
           let gives = w.in-Some-give_up.ensures.gives in
-          let replies = w.try_push_back-in-Some-give_up.new.self in
-          let pushed = w.in-Ok-try_push_back.ensures.ok in
-          let new : State = record mid { frames = fs; replies = replies } in
-          let is : IsGathering s new (count + 1) =
-          gathering_held s mid count w.in-Some-give_up.request inv.gathering replies (ap (λ b. b.items) pushed) fs left.sound left.stopped gives left.others left.none left.owed.0 (ap (λ b. b.capacity) pushed) in
+          let replied = w.reply_to.ensures in
+          let is = gathering_held s mid count w.in-Some-give_up.ended fs w.reply_to.new.self.rooms inv.gathering gives left.sound left.stopped left.others left.none left.owed.0 replied.rooms in
+          let same = w.self-is ∙ replied.same in
           record {
-            gathering = subst (λ (x : State). IsGathering s x (count + 1)) (sym w.self-is) is;
-            none_waiting = ap (λ (x : State). waiting_of x) w.self-is ∙ inv.none_waiting;
+            gathering = subst (λ (x : State). IsGathering s x (count + 1)) (sym same) is;
+            none_waiting = ap (λ (x : State). waiting_of x) same ∙ inv.none_waiting;
           }
       | in_default-give_up w ↦
-          let gives = w.in_default-give_up.ensures.gives in
-          let new : State = record mid { frames = fs } in
-          let is : IsGathering s new (count + 1) = elim gives [
-            | inl none ↦ subst (λ (x : Frames). IsGathering s (record mid { frames = x }) (count + 1)) (sym none.1) (gathering_skips s mid count inv.gathering none.0)
-            | inr scrub ↦ gathering_scrub s mid count fs inv.gathering left.sound left.stopped scrub left.others left.none left.owed.0
-          ] in
+          let none = w.in_default-give_up.ensures.gives in
+          let is : IsGathering s (record mid { frames = fs }) (count + 1) =
+          subst (λ (x : Frames). IsGathering s (record mid { frames = x }) (count + 1)) (sym none.1) (gathering_skips s mid count inv.gathering none.0) in
           record {
             gathering = subst (λ (x : State). IsGathering s x (count + 1)) (sym w.self-is) is;
             none_waiting = ap (λ (x : State). waiting_of x) w.self-is ∙ inv.none_waiting;

@@ -96,7 +96,7 @@ returns-then-saw_failed-clause-turns c =
     let mid = c.adopt-went_out.new.self in
     stopped_turns s mid c.args.snapshot.now
     (record { told = told_of s (sym c.is_empty.ensures ∙ c.if-not-is_empty.false) (sym c.is_some.ensures ∙ c.if-is_some.false); takes = adopt.takes; slots = adopt.slots; same = adopt.keeps.0; order = adopt.order; again = adopt.again })
-    (sym c.saw_failed.ensures ∙ c.if-saw_failed.true) (stays s mid c.args.snapshot.now c.adopt-went_out.result adopt.some adopt.none)
+    adopt.sound (sym c.saw_failed.ensures ∙ c.if-saw_failed.true) (stays s mid c.args.snapshot.now c.adopt-went_out.result adopt.some adopt.none)
     (none_again s mid c.args.snapshot.now c.adopt-went_out.result adopt.again adopt.some adopt.none)
 
 -- ---- a look at an array that hasn't failed

@@ -15,13 +15,13 @@ loop-frame-init c =
 pub loop-frame-smaller : goal.loop-frame-smaller
 loop-frame-smaller c =
     let done = c.finish.ensures in
-    fewer_left c.args.self.now c.loop-frame.self c.finish.new.self c.in-Some.frame c.loop-frame.invariant c.in-Some.ensures.0
+    fewer_left c.args.self.now c.loop-frame.self c.finish.new.self c.in-Some.frame c.loop-frame.invariant c.in-Some.ensures
     done.sound done.live done.leads done.rests done.others done.keeps.0 done.released done.ends done.keeps.2 done.keeps.1 done.reads
 
 pub loop-frame-preserved : goal.loop-frame-preserved
 loop-frame-preserved c =
     let done = c.finish.ensures in
-    settling_on c.args.self.now c.loop-frame.self c.finish.new.self c.in-Some.frame c.loop-frame.invariant c.in-Some.ensures.0
+    settling_on c.args.self.now c.loop-frame.self c.finish.new.self c.in-Some.frame c.loop-frame.invariant c.in-Some.ensures
     done.sound done.live done.leads done.rests done.others done.keeps.0 done.released done.ends done.keeps.2 done.keeps.1 done.reads
 
 -- ---- what was finished stands by number

@@ -1,12 +1,18 @@
-use Rattle.std.proofs.Common.{◌++◌, ◌∙◌, IfSome, ap, length, refl, sym, subst}
-use Rattle.r6_waiters.specs.Line.{entries_of, oldest_of}
+use Rattle.std.proofs.Common.{◌≡◌, ◌∷◌, [], ◌∙◌, IfSome, Some, ap, length, sym, subst, arith}
+use Rattle.std.specs.List.{AllByRecursion}
+use Rattle.r6_waiters.specs.Line.{Line, entries_of, oldest_of, with_entries, without_oldest}
 use Rattle.r6_world.specs.Steps.{Through, Scans}
+use Rattle.r6_frames.specs.declared.op.Request.{Request}
+use Rattle.r6_frames.specs.Calls.{IsRequestOf}
 use Rattle.r6_core.specs.Shards.{state_of, layout_in}
 use Rattle.r6_core.specs.declared.state.State.{State}
-use Rattle.r6_core.specs.Inside.{CanStart, IsSettled, StartsWith}
+use Rattle.r6_core.specs.declared.scan.Room.TheVariants as room
+use Rattle.r6_core.specs.Inside.{CanStart, HoldsFor, IsSettled, StartsWith, free_frame, others_in}
+use Rattle.r6_core.proofs.BatchStarts.{line_own}
+use Rattle.r6_core.proofs.HeldFor.{direct_leaves, one_more_hold, start_leads, start_leaves, start_settled, start_starts}
 use Rattle.r6_core.proofs.Lined.{values}
 use Rattle.r6_core.proofs.ReadStarts.{IsReadStart, read_core, read_leads, read_like, read_started}
-use Rattle.r6_core.proofs.Starting.{with_frames, IsStart, first_there, first_items, first_can, first_left, first_own, longer, begun_held, begun_numbers, started, started_core, started_leads, started_like, started_takes}
+use Rattle.r6_core.proofs.Starting.{with_frames, first_there, first_items, first_can, first_left, first_own, longer}
 use Rattle.r6_core.proofs.state.State.start.Goals as goal
 
 pub unreachable-requires : goal.unreachable-requires
@@ -19,79 +25,70 @@ place-place-requires c =
 
 -- ---- its row is held
 
-pub begin-requires-clause-request : goal.begin-requires-clause-request
-begin-requires-clause-request c =
+there : (c : goal.After-hold) → oldest_of c.args.cause (entries_of c.args.self.now.waiting) ≡ Some c.in-Some.request
+there c = sym c.pop_oldest.ensures.value ∙ c.in-Some.is
+
+pub hold-requires-clause-sound : goal.hold-requires-clause-sound
+hold-requires-clause-sound c = c.requires.settled.sound.frames
+
+pub hold-requires-clause-rooms : goal.hold-requires-clause-rooms
+hold-requires-clause-rooms c = c.requires.settled.sound.room.rooms
+
+pub hold-requires-clause-request : goal.hold-requires-clause-request
+hold-requires-clause-request c =
     first_own c.args.self.now c.args.cause c.args.room c.requires.first c.in-Some.request (sym c.in-Some.is ∙ c.pop_oldest.ensures.value) c.requires.settled
 
-pub begin-requires-clause-live : goal.begin-requires-clause-live
-begin-requires-clause-live c =
+pub hold-requires-clause-waiting : goal.hold-requires-clause-waiting
+hold-requires-clause-waiting c =
+    let s = c.args.self.now in
+    subst (λ (line : Line Request). AllByRecursion (λ entry. IsRequestOf s.frames entry.1) (entries_of line)) (sym c.pop_oldest.ensures.rest)
+    (line_own s c.requires.settled c.args.cause c.in-Some.request (sym c.pop_oldest.ensures.value ∙ c.in-Some.is))
+
+pub hold-requires-clause-can : goal.hold-requires-clause-can
+hold-requires-clause-can c =
     (subst (CanStart c.args.self.now.frames c.in-Some.request) c.in-Frame.is
-    (first_can c.args.self.now c.args.cause c.args.room c.requires.first c.in-Some.request (sym c.in-Some.is ∙ c.pop_oldest.ensures.value))).1.0
+    (first_can c.args.self.now c.args.cause c.args.room c.requires.first c.in-Some.request (sym c.in-Some.is ∙ c.pop_oldest.ensures.value))).1
 
-pub begin-requires-clause-free : goal.begin-requires-clause-free
-begin-requires-clause-free c =
-    (subst (CanStart c.args.self.now.frames c.in-Some.request) c.in-Frame.is
-    (first_can c.args.self.now c.args.cause c.args.room c.requires.first c.in-Some.request (sym c.in-Some.is ∙ c.pop_oldest.ensures.value))).1.1
-
-pub begin-requires-clause-unheld : goal.begin-requires-clause-unheld
-begin-requires-clause-unheld c =
-    (subst (CanStart c.args.self.now.frames c.in-Some.request) c.in-Frame.is
-    (first_can c.args.self.now c.args.cause c.args.room c.requires.first c.in-Some.request (sym c.in-Some.is ∙ c.pop_oldest.ensures.value))).1.2
-
-pub drive-requires-clause-held : goal.drive-requires-clause-held
-drive-requires-clause-held c = begun_held c.args.self.now.frames c.in-Frame.frame c.in-Some.request c.begin.new.self c.begin.ensures.begins
-
-pub drive-requires-clause-numbers : goal.drive-requires-clause-numbers
-drive-requires-clause-numbers c =
+pub hold-requires-clause-numbers : goal.hold-requires-clause-numbers
+hold-requires-clause-numbers c =
     let s = c.args.self.now in
     let first = c.requires.first in
-    let items = first_items s c.args.cause c.args.room first c.in-Some.request (sym c.in-Some.is ∙ c.pop_oldest.ensures.value) in
-    begun_numbers s.frames c.in-Frame.frame c.in-Some.request c.begin.new.self c.begin.ensures.begins s (values first.before ++ values first.behind) c.requires.settled.sound
-    (ap length items ∙ longer (values first.before) c.in-Some.request (values first.behind)) refl c.begin.ensures.owed
+    let items = ap length (first_items s c.args.cause c.args.room first c.in-Some.request (sym c.in-Some.is ∙ c.pop_oldest.ensures.value)) in
+    let many = longer (values first.before) c.in-Some.request (values first.behind) in
+    one_more_hold s c.requires.settled.sound (omega (arith, items, many))
 
-start :
-    (c : goal.After-drive) → let first = c.requires.first in
-    IsStart c.args.self.now (values first.before) c.in-Some.request (values first.behind) c.pop_oldest.new.self c.in-Frame.frame c.begin.new.self c.drive.new.self
-start c =
+-- what the hold says of the line that was left
+held :
+    (c : goal.After-hold) → HoldsFor (Some (c.args.cause ∷ free_frame ∷ [])) c.in-Frame.frame
+    (record c.args.self.now { waiting = with_entries c.args.self.now.waiting (without_oldest c.args.cause (entries_of c.args.self.now.waiting)) }) c.in-Some.request c.hold.new.self
+held c =
     let s = c.args.self.now in
-    let is = sym c.in-Some.is ∙ c.pop_oldest.ensures.value in
-    let can = subst (CanStart s.frames c.in-Some.request) c.in-Frame.is (first_can s c.args.cause c.args.room c.requires.first c.in-Some.request is) in
-    record {
-      left = first_left s c.args.cause c.args.room c.requires.first c.in-Some.request is c.pop_oldest.new.self c.pop_oldest.ensures.rest;
-      items = first_items s c.args.cause c.args.room c.requires.first c.in-Some.request is;
-      plain = can.0;
-      can = can.1;
-      begins = c.begin.ensures.begins;
-      begun_sound = c.begin.ensures.sound;
-      begun_others = c.begin.ensures.others;
-      begun_owed = c.begin.ensures.owed;
-      sound = c.drive.ensures.sound;
-      drives = c.drive.ensures.drives;
-      driven = c.drive.ensures.driven;
-      held_still = c.drive.ensures.held;
-      others_kept = c.drive.ensures.others;
-      rows = c.drive.ensures.rows;
-      requests = c.drive.ensures.requests;
-      all_owed = c.drive.ensures.owed;
-      live = c.drive.ensures.live;
-      goes_out = c.drive.ensures.out c.begin.ensures.owes;
-      directs = c.drive.ensures.directs ∙ c.begin.ensures.directs;
-    }
+    subst (λ (line : Line Request). HoldsFor (Some (c.args.cause ∷ free_frame ∷ [])) c.in-Frame.frame (record s { waiting = line }) c.in-Some.request c.hold.new.self)
+    c.pop_oldest.ensures.rest c.hold.ensures
+
+can : (c : goal.After-hold) → CanStart c.args.self.now.frames c.in-Some.request (room.Frame c.in-Frame.frame)
+can c =
+    subst (CanStart c.args.self.now.frames c.in-Some.request) c.in-Frame.is
+    (first_can c.args.self.now c.args.cause c.args.room c.requires.first c.in-Some.request (sym c.in-Some.is ∙ c.pop_oldest.ensures.value))
 
 pub returns-in-Frame-clause-settled : goal.returns-in-Frame-clause-settled
-returns-in-Frame-clause-settled c = started_core c.args.self.now _ _ _ _ _ _ _ (start c) c.requires.settled
+returns-in-Frame-clause-settled c =
+    start_settled c.args.self.now c.requires.settled c.args.cause c.in-Some.request (there c) c.in-Frame.frame (can c).0 (c.args.cause ∷ free_frame ∷ []) c.hold.new.self (can c).1 (held c)
 
 pub returns-in-Frame-clause-leads : goal.returns-in-Frame-clause-leads
-returns-in-Frame-clause-leads c = started_leads c.args.self.now _ _ _ _ _ _ _ (start c) c.requires.settled.sound
+returns-in-Frame-clause-leads c =
+    start_leads c.args.self.now c.requires.settled c.args.cause c.in-Some.request (there c) c.in-Frame.frame (can c).0 (c.args.cause ∷ free_frame ∷ []) c.hold.new.self (can c).1 (held c)
+
+pub returns-in-Frame-clause-left : goal.returns-in-Frame-clause-left
+returns-in-Frame-clause-left c =
+    start_leaves c.args.self.now c.requires.settled c.args.cause c.in-Some.request (there c) c.in-Frame.frame (can c).0 (c.args.cause ∷ free_frame ∷ []) c.hold.new.self (can c).1 (held c)
 
 pub returns-in-Frame-clause-starts : goal.returns-in-Frame-clause-starts
 returns-in-Frame-clause-starts c =
     let s = c.args.self.now in
-    let new = with_frames s c.pop_oldest.new.self c.drive.new.self in
-    let is = sym c.in-Some.is ∙ c.pop_oldest.ensures.value in
-    subst (λ o. IfSome o (λ request. StartsWith c.args.room s request new)) is
-    (subst (λ with. StartsWith with s c.in-Some.request new) (sym c.in-Frame.is)
-    (started s _ _ _ _ _ _ _ (start c) c.requires.settled, started_like s _ _ _ _ _ _ _ (start c), started_takes s _ _ _ _ _ _ _ (start c)))
+    subst (λ o. IfSome o (λ request. StartsWith c.args.room c.args.cause s request c.hold.new.self)) (sym (there c))
+    (subst (λ with. StartsWith with c.args.cause s c.in-Some.request c.hold.new.self) (sym c.in-Frame.is)
+    (start_starts s c.requires.settled c.args.cause c.in-Some.request (there c) c.in-Frame.frame (can c).0 (c.args.cause ∷ free_frame ∷ []) c.hold.new.self (can c).1 (held c)))
 
 -- ---- it is read directly
 
@@ -137,7 +134,14 @@ returns-in-Direct-clause-starts c =
     let s = c.args.self.now in
     let is = sym c.in-Some.is ∙ c.pop_oldest.ensures.value in
     let new = with_frames s c.pop_oldest.new.self c.read.new.self.frames in
-    subst (λ (x : State). IfSome (oldest_of c.args.cause (entries_of s.waiting)) (λ request. StartsWith c.args.room s request x)) (sym c.read.ensures.same)
-    (subst (λ o. IfSome o (λ request. StartsWith c.args.room s request new)) is
-    (subst (λ with. StartsWith with s c.in-Some.request new) (sym c.in-Direct.is)
-    (read_started s _ _ _ _ _ _ (read_start c) c.requires.settled.sound, read_like s _ _ _ _ _ _ (read_start c), (c.read.ensures.holds, c.read.ensures.taken))))
+    subst (λ (x : State). IfSome (oldest_of c.args.cause (entries_of s.waiting)) (λ request. StartsWith c.args.room c.args.cause s request x)) (sym c.read.ensures.same)
+    (subst (λ o. IfSome o (λ request. StartsWith c.args.room c.args.cause s request new)) is
+    (subst (λ with. StartsWith with c.args.cause s c.in-Some.request new) (sym c.in-Direct.is)
+    (read_started s _ _ _ _ _ _ (read_start c) (others_in s c.args.cause) c.requires.settled.sound, read_like s _ _ _ _ _ _ (read_start c), (c.read.ensures.holds, c.read.ensures.taken))))
+
+pub returns-in-Direct-clause-left : goal.returns-in-Direct-clause-left
+returns-in-Direct-clause-left c =
+    let s = c.args.self.now in
+    let with = subst (CanStart s.frames c.in-Some.request) c.in-Direct.is (first_can s c.args.cause c.args.room c.requires.first c.in-Some.request (sym c.in-Some.is ∙ c.pop_oldest.ensures.value)) in
+    direct_leaves s c.requires.settled c.args.cause c.in-Some.request (sym c.pop_oldest.ensures.value ∙ c.in-Some.is) with.1 c.read.new.self
+    (ap (λ (x : State). x.waiting) c.read.ensures.same ∙ c.pop_oldest.ensures.rest)

@@ -2,7 +2,6 @@ use Rattle.std.proofs.Common.{◌<◌, ◌==◌, sym, subst}
 use Rattle.r6_waiters.specs.Line.{Line, entries_of}
 use Rattle.r6_frames.specs.declared.op.Request.{Request}
 use Rattle.r6_core.specs.Inside.{IsRoomFor, Waits, anything}
-use Rattle.r6_core.specs.Shards.{waiting_of}
 use Rattle.r6_core.proofs.Lined.{all_of_empty}
 use Rattle.r6_core.proofs.Waking.{all_cannot}
 use Rattle.r6_core.proofs.Scanned.{IsScanned, count_for, next_first, next_started, next_started_fewer, next_waits, next_waits_fewer, none_scanned, scanned_core, scanned_turns, with_line, all_wait}
@@ -73,5 +72,5 @@ returns-then-is_empty-clause-core c =
 pub returns-then-is_empty-clause-turns : goal.returns-then-is_empty-clause-turns
 returns-then-is_empty-clause-turns c =
     let s = c.args.self.now in
-    all_wait s (waiting_of s) c.requires.settled
+    all_wait s c.requires.settled
     (all_cannot s.frames (entries_of s.waiting) (λ _. all_of_empty (Waits s.frames) (entries_of s.waiting) (c.is_empty.ensures.0 c.if-is_empty.true)))

@@ -1,0 +1,41 @@
+use Rattle.std.proofs.Common.{List, sym, subst, arith}
+use Rattle.r6_stripe.specs.Batches.{NewBlocks}
+use Rattle.r6_stripe.specs.declared.command.Task.TheVariants as asks
+use Rattle.r6_frames.specs.Inside.{view_of}
+use Rattle.r6_frames.specs.declared.frames.Job.TheVariants as job
+use Rattle.r6_frames.specs.declared.frames.Served.{Served}
+use Rattle.r6_frames.specs.Calls.{Holds}
+use Rattle.r6_frames.specs.Uses.{begun_row}
+use Rattle.r6_frames.specs.Sound.{MayHold}
+use Rattle.r6_frames.proofs.Beginning.{others_kept, slots_kept, directs_kept}
+use Rattle.r6_frames.proofs.BegunFor.{may_write, begins_writes}
+use Rattle.r6_frames.proofs.rows.Rows.begin_writes.Goals as goal
+
+pub slot_at-first-requires-clause-row_within : goal.slot_at-first-requires-clause-row_within
+slot_at-first-requires-clause-row_within c = c.requires.row.0
+
+pub slot_at-first-requires-clause-position_within : goal.slot_at-first-requires-clause-position_within
+slot_at-first-requires-clause-position_within c = let least = c.requires.sound.shape.slots_allowed.0 in omega (arith, least)
+
+pub hold-requires-clause-may : goal.hold-requires-clause-may
+hold-requires-clause-may c =
+    let fs = view_of c.args.self.now in
+    let parts = c.into_parts-served in
+    subst (λ (x : List Served × NewBlocks). MayHold fs c.args.row (job.Write x.0) (asks.Write x.1)) (sym (λ i. (parts.ensures.served i, parts.ensures.blocks i)))
+    (may_write fs c.args.row c.args.writes c.requires.sound.shape c.requires.row c.requires.some c.requires.writes parts.ensures.distinct)
+
+pub returns-clause-begins : goal.returns-clause-begins
+returns-clause-begins c =
+    let fs = view_of c.args.self.now in
+    let parts = c.into_parts-served in
+    begins_writes fs (view_of c.hold.new.self) c.args.frame c.args.row c.args.writes c.requires.sound c.requires.free c.requires.row c.requires.some c.requires.writes parts.ensures.distinct c.requires.unheld
+    (subst (λ (x : List Served × NewBlocks). Holds fs c.args.frame (begun_row fs c.args.row (job.Write x.0) (asks.Write x.1)) (view_of c.hold.new.self)) (λ i. (parts.ensures.served i, parts.ensures.blocks i)) c.hold.ensures.holds)
+
+pub returns-clause-same : goal.returns-clause-same
+returns-clause-same c = slots_kept (view_of c.args.self.now) c.args.frame _ (view_of c.hold.new.self) c.hold.ensures.holds
+
+pub returns-clause-others : goal.returns-clause-others
+returns-clause-others c = others_kept (view_of c.args.self.now) c.args.frame _ (view_of c.hold.new.self) c.hold.ensures.holds
+
+pub returns-clause-directs : goal.returns-clause-directs
+returns-clause-directs c = directs_kept (view_of c.args.self.now) c.args.frame _ (view_of c.hold.new.self) c.hold.ensures.holds
