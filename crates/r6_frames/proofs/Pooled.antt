@@ -1,28 +1,15 @@
 -- Which direct buffers are free after one was lent, left or brought back.
-use Rattle.std.proofs.Common.{◌≡◌, inl, inr, ℕ, ◌-◌, ◌*◌, ◌%◌, ◌^◌, ◌<◌, ◌≤◌, Bool, true, false, bit_and, bit_or, w64, List, length, set, sym, ap, ◌∙◌, arith}
-use Rattle.std.specs.Prelude.{◌==◌, ◌&&◌, if◌then◌else◌, is_none, is_some, not, replicate, Option}
+use Rattle.std.proofs.Common.{◌≡◌, inl, inr, ℕ, ◌<◌, ◌≤◌, Bool, true, false, List, length, set, sym, ap, ◌∙◌, arith}
+use Rattle.std.specs.Prelude.{◌==◌, ◌&&◌, if◌then◌else◌, is_none, is_some, not, replicate, Option, Some, None, MatchOption}
 use Rattle.std.proofs.lemmas.Bool.{cases_eq, cases_lt, eq-eqb, ne_eqb}
 use Rattle.std.proofs.lemmas.List.{length-set, length-replicate, get_or-replicate, get_or_past}
-use Rattle.std.proofs.lemmas.Nat.Bits.{bit_at_set_same, bit_at_set_other, bit_at_clear_same, bit_at_clear_other, bit_at_ones, bit_at-zero}
+use Rattle.std.proofs.lemmas.Nat.Bits.{bit_at_ones}
 use Rattle.r6_frames.specs.declared.directs.Direct.{Direct}
 use Rattle.r6_frames.specs.declared.directs.DirectRead.{DirectRead}
 use Rattle.r6_frames.specs.Directs.{direct_at, is_free_direct, no_direct, unused}
-use Rattle.r6_frames.specs.Pool.{IsPool, is_set}
+use Rattle.r6_frames.specs.Bits.{is_set, HasNone, IsLowest}
+use Rattle.r6_frames.specs.Pool.{IsPool}
 use Rattle.r6_frames.proofs.DirectReads.{direct_own, direct_other}
-
-pub set-with : (a k i : ℕ) → k < 64 → is_set (bit_or a (1 * 2 ^ k % 18446744073709551616)) i ≡ (if i == k then true else is_set a i)
-set-with a k i within =
-    elim (cases_eq i k) [
-      | inl same ↦ rw (eq-eqb i k same, same) (ap (λ (n : ℕ). n == 1) (bit_at_set_same w64 a k within))
-      | inr other ↦ rw (ne_eqb i k other) (ap (λ (n : ℕ). n == 1) (bit_at_set_other w64 a k within i other))
-    ]
-
-pub set-without : (a k i : ℕ) → k < 64 → i < 64 → is_set (bit_and a (18446744073709551615 - 1 * 2 ^ k % 18446744073709551616)) i ≡ (if i == k then false else is_set a i)
-set-without a k i within inside =
-    elim (cases_eq i k) [
-      | inl same ↦ rw (eq-eqb i k same, same) (ap (λ (n : ℕ). n == 1) (bit_at_clear_same w64 a k within))
-      | inr other ↦ rw (ne_eqb i k other) (ap (λ (n : ℕ). n == 1) (bit_at_clear_other w64 a k within i inside other))
-    ]
 
 -- one is another
 pub pooled : (free bits : ℕ) (buffers : List Direct) (number : ℕ) (d : Direct) → IsPool free buffers → number < length buffers
@@ -62,9 +49,11 @@ unused_pool block = record {
       ∙ sym (ap is_free_direct (get_or-replicate {A = Direct} 64 i (unused block) no_direct inside));
 }
 
--- none is where no bit is set
-pub none_free : (buffers : List Direct) → IsPool 0 buffers → (number : ℕ) → is_free_direct (direct_at buffers number) ≡ false
-none_free buffers pool number = elim (cases_lt number 64) [
-  | inl inside ↦ sym (pool.bits number inside) ∙ ap (λ (n : ℕ). n == 1) (bit_at-zero number)
+-- the lowest bit is that of a buffer that is free, and none is where no bit is set
+pub lowest_pooled : (free : ℕ) (buffers : List Direct) (found : Option ℕ) → IsPool free buffers → MatchOption found (HasNone free) (IsLowest free)
+    → MatchOption found ((number : ℕ) → is_free_direct (direct_at buffers number) ≡ false) (λ number. (number < 64) × (is_free_direct (direct_at buffers number) ≡ true))
+lowest_pooled free buffers None pool none = λ number. elim (cases_lt number 64) [
+  | inl inside ↦ sym (pool.bits number inside) ∙ none number inside
   | inr past ↦ none_past buffers number (let few = pool.few in omega arith)
 ]
+lowest_pooled free buffers (Some number) pool is = (is.0, sym (pool.bits number is.0) ∙ is.1)

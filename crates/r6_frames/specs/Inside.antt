@@ -1,5 +1,5 @@
 -- What the code has of the rows, and the room that it keeps.
-use Rattle.std.specs.Prelude.{◌≡◌, ◌≤◌, length, vec_capacity}
+use Rattle.std.specs.Prelude.{◌≡◌, ◌≤◌, ℕ, List, length, vec_capacity}
 use Rattle.std.specs.List.{All}
 use Rattle.std.specs.Global.{Vec}
 use Rattle.r6_layout.specs.Shape.{Shape}
@@ -7,9 +7,11 @@ use Rattle.r6_stripe.specs.Frames as buffers
 use Rattle.r6_tables.specs.Table.{Numbered, capacity_of, next_of, entries_of}
 use Rattle.r6_world.specs.ShardStates.{frames}
 use Rattle.r6_frames.specs.declared.command.Outstanding.{Outstanding}
+use Rattle.r6_frames.specs.declared.frames.FrameUse.{FrameUse}
 use Rattle.r6_frames.specs.declared.rows.Rows.{Rows}
 use Rattle.r6_frames.specs.FramesState.{FramesState, Commands}
 use Rattle.r6_frames.specs.Sound.{most_commands, IsSound}
+use Rattle.r6_frames.specs.Pool.{AreFree}
 use Rattle.r6_frames.specs.Uses.{IsForRow}
 
 abbrev pub commands_in : Numbered Outstanding → Commands
@@ -31,15 +33,17 @@ view_of rows =
       directs = rows.directs;
     }
 
--- there is room for the buffers of all frames, each frame's are for a row of the array, and each buffer may have a
--- command
-pub record IsRoom (shape : Shape) (spare : Vec buffers.Shape) (commands : Numbered Outstanding) : Type 0 where
+-- there is room for the buffers of all frames, each frame's are for a row of the array, each buffer may have a command,
+-- and which frames are free is known
+pub record IsRoom (shape : Shape) (spare : Vec buffers.Shape) (commands : Numbered Outstanding) (free_frames : ℕ)
+    (held : List FrameUse) : Type 0 where
   pub buffer_room : frames ≤ vec_capacity spare
   pub shapes : All (IsForRow shape) spare.items
   pub command_room : capacity_of commands ≡ most_commands shape
+  pub free : AreFree free_frames held
 
 abbrev pub HasRoom : Rows → Type 0
-HasRoom rows = IsRoom rows.geometry rows.spare rows.commands
+HasRoom rows = IsRoom rows.geometry rows.spare rows.commands rows.free_frames rows.held.items
 
 abbrev pub IsSoundInside : Rows → Type 0
 IsSoundInside rows = IsSound (view_of rows) × HasRoom rows

@@ -1,10 +1,10 @@
 //! The direct buffers, and which of them a read can have.
 
-ghost use Rattle.std.specs.Prelude.{◌≡◌, ◌<◌, ◌==◌, ℕ, true, false, length, replicate, slice_set, option_copied, IfOk, MatchOption, if◌then◌else◌};
+ghost use Rattle.std.specs.Prelude.{◌≡◌, ◌<◌, ℕ, true, false, length, replicate, slice_set, option_copied, IfOk, MatchOption};
 ghost use Rattle.r6_world.specs.ShardStates.{direct_buffers};
 ghost use Rattle.r6_frames.specs.Directs.{direct_at, is_free_direct, left_by, lent_for, returned, unused};
-ghost use Rattle.r6_frames.specs.Pool.{is_set};
 
+use crate::bits::{lowest, with_bit};
 use crate::directs::{DIRECTS, Direct, DirectRead};
 use r6_kernels::Buffer;
 use std::alloc::{AllocError, Global};
@@ -52,10 +52,7 @@ impl Pool {
             ((number : ℕ) → is_free_direct (direct_at self.now number) ≡ false)
             (λ number. (number < direct_buffers) × (is_free_direct (direct_at self.now number) ≡ true)) }
     {
-        if self.free == 0 {
-            return None;
-        }
-        Some(self.free.trailing_zeros() as usize)
+        lowest(self.free)
     }
 
     /// The read that has the buffer.
@@ -100,15 +97,6 @@ impl Pool {
         self.free = with_bit(self.free, number, is_free);
         self.buffers[number].read.take()
     }
-}
-
-// The bits with this one set or not.
-fn with_bit(bits: u64, number: usize, is_in: bool) -> u64
-    requires { number < 64 }
-    ensures { (i : ℕ) → i < 64 → is_set result i ≡ (if i == number then is_in else is_set bits i) }
-{
-    let bit = 1 << number;
-    if is_in { bits | bit } else { bits & !bit }
 }
 
 // Buffers of the length that no read has.

@@ -13,6 +13,8 @@ ghost use Rattle.r6_world.specs.Tasks.{ReadFor};
 ghost use Rattle.r6_frames.specs.Views.{read_for, AreLive, is_synced_at};
 ghost use Rattle.r6_frames.specs.Calls.{KeepsDirects, IsFreeFrame, IsNextOn, NotHeldBy, IsHolder, IsPlaceOf, Begins, BeginsRebuild, BeginsScrub, AreAllInSync, Holds, KeepsOthers, IsAtStart, KeepsSlots};
 ghost use Rattle.r6_frames.specs.Owed.{owed, OwesCommands};
+ghost use Rattle.r6_frames.specs.Pool.{is_free, AreInUse};
+ghost use Rattle.r6_frames.specs.Bits.{IsWithBit};
 ghost use Rattle.r6_frames.specs.Reads.{IsReadable};
 ghost use Rattle.r6_frames.specs.Writes.{IsWriteIn, request_of, write_task};
 ghost use Rattle.r6_frames.specs.declared.op.Op.TheVariants as requested;
@@ -21,6 +23,7 @@ ghost use Rattle.r6_frames.specs.Inside.{view_of, HasRoom};
 ghost use Rattle.r6_frames.specs.Sound.{IsSound, IsToldLive, MayHold};
 ghost use Rattle.r6_frames.specs.Uses.{begun_row, none_held, IsForRow};
 
+use crate::bits::{lowest, take_lowest, with_bit};
 use crate::command::Outstanding;
 use crate::directs::DIRECTS;
 use crate::frames::{FRAMES, FrameUse, HeldRow, Job, Scrub, Served};
@@ -46,6 +49,8 @@ pub(crate) struct Rows {
     /// Holds go on: at most two slots are out, and no look has seen that the array failed.
     pub(crate) live: bool,
     pub(crate) held: Vec<FrameUse>,
+    /// Bit i: frame i is free.
+    pub(crate) free_frames: u64,
     /// The buffers of the frames that are free.
     pub(crate) spare: Vec<Frame>,
     pub(crate) commands: Table<Outstanding>,
@@ -83,6 +88,7 @@ impl Rows {
             saw_failed: false,
             live: false,
             held,
+            free_frames: u64::MAX,
             spare,
             commands,
             handed: 0,
@@ -134,38 +140,45 @@ impl Rows {
     }
 
     pub(crate) fn free_frame(&self) -> Option<usize>
-        requires { IsSound (view_of self.now) }
+        requires { HasRoom self.now }
         ensures { MatchOption result ((frame : ℕ) → IsFreeFrame (view_of self.now) frame → ⊥)
             (IsFreeFrame (view_of self.now)) }
     {
-        if self.spare.is_empty() {
-            return None;
-        }
-        for (frame, held) in self.held.iter().enumerate() {
-            if let FrameUse::Free = held {
+        lowest(self.free_frames)
+    }
+
+    // The frames that are in use, a bit each.
+    pub(crate) fn used_frames(&self) -> u64
+        requires { HasRoom self.now }
+        ensures { AreInUse result self.now.held.items }
+    {
+        !self.free_frames
+    }
+
+    pub(crate) fn holder(&self, row: u64) -> Option<usize>
+        requires sound { IsSound (view_of self.now) }
+        requires room { HasRoom self.now }
+        ensures { MatchOption result (NotHeldBy (view_of self.now) row) (IsHolder (view_of self.now) row) }
+    {
+        let mut used = self.used_frames();
+        while let Some(frame) = take_lowest(&mut used) {
+            if self.holds(frame, row) {
                 return Some(frame);
             }
         }
         None
     }
 
-    pub(crate) fn holder(&self, row: u64) -> Option<usize>
-        requires { IsSound (view_of self.now) }
-        ensures { MatchOption result (NotHeldBy (view_of self.now) row) (IsHolder (view_of self.now) row) }
+    // Whether the frame holds the row.
+    fn holds(&self, frame: usize, row: u64) -> bool
+        requires sound { IsSound (view_of self.now) }
+        requires frame { frame < frames }
+        ensures { IsTrue result ↔ IsHolder (view_of self.now) row frame }
     {
-        // no row is held past the last frame in use
-        let mut in_use = FRAMES - self.spare.len();
-        for (frame, held) in self.held.iter().enumerate() {
-            if in_use == 0 {
-                return None;
-            }
-            match held {
-                FrameUse::Held(held) if held.row == row => return Some(frame),
-                FrameUse::Held(_) | FrameUse::Returning(_) => in_use -= 1,
-                FrameUse::Free => {}
-            }
+        match &self.held[frame] {
+            FrameUse::Held(held) => held.row == row,
+            FrameUse::Free | FrameUse::Returning(_) => false,
         }
-        None
     }
 
     pub(crate) fn begin_read(&mut self, frame: usize, served: Served, buffer: Buffer, place: Place)
@@ -308,7 +321,12 @@ impl Rows {
             unreachable!()
         };
         let held = self.row_for(row, first, job, task, spare);
-        put(&mut self.held, frame, FrameUse::Held(held));
+        put(
+            &mut self.held,
+            &mut self.free_frames,
+            frame,
+            FrameUse::Held(held),
+        );
     }
 
     // The row as its hold begins, in this frame of buffers.
@@ -378,10 +396,17 @@ fn free_frames(alloc: Global) -> Result<Vec<FrameUse>, AllocError>
 }
 
 // The frame is used for this in place of what it was used for.
-pub(crate) fn put(held: &mut Vec<FrameUse>, frame: usize, used: FrameUse)
-    requires { frame < length held.old.items }
-    ensures { held.new.items ≡ slice_set held.old.items frame used }
+pub(crate) fn put(held: &mut Vec<FrameUse>, free_frames: &mut u64, frame: usize, used: FrameUse)
+    requires there { frame < length held.old.items }
+    requires few { frame < 64 }
+    ensures put { held.new.items ≡ slice_set held.old.items frame used }
+    ensures free { IsWithBit free_frames.old frame (is_free used) free_frames.new }
 {
+    let is_free = match &used {
+        FrameUse::Free => true,
+        FrameUse::Held(_) | FrameUse::Returning(_) => false,
+    };
+    *free_frames = with_bit(*free_frames, frame, is_free);
     held[frame] = used;
 }
 

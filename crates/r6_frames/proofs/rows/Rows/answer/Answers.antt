@@ -5,6 +5,7 @@ use Rattle.r6_frames.specs.declared.frames.FrameUse.TheVariants.{Held}
 use Rattle.r6_frames.proofs.Held.{held_within}
 use Rattle.r6_frames.proofs.Completions.{Completed, out_of, out_there, out_row, place_left, completed}
 use Rattle.r6_frames.proofs.SlotsInTurn.{slot_below, some_slots}
+use Rattle.r6_frames.proofs.FreeFrames.{free_held}
 use Rattle.r6_frames.proofs.rows.Rows.answer.Goals as goal
 
 pub index_mut-requires : goal.index_mut-requires
@@ -68,7 +69,12 @@ pub returns-clause-sound : goal.returns-clause-sound
 returns-clause-sound c = (done c).sound
 
 pub returns-clause-room : goal.returns-clause-room
-returns-clause-room c = record { buffer_room = c.requires.room.buffer_room; shapes = c.requires.room.shapes; command_room = ap (λ t. t.0) c.remove.ensures.rest ∙ c.requires.room.command_room }
+returns-clause-room c =
+    let fs = view_of c.args.self.now in
+    let command = c.in-Some.command in
+    let h = c.in-Held.held in
+    let out = out_row fs c.args.token command h c.index_mut.result.now c.requires.sound c.requires.awaited c.requires.wanted c.requires.hold (sym c.remove.ensures.entry ∙ c.in-Some.is) c.index_mut.ensures.value c.in-Held.is in
+    record { buffer_room = c.requires.room.buffer_room; shapes = c.requires.room.shapes; command_room = ap (λ t. t.0) c.remove.ensures.rest ∙ c.requires.room.command_room; free = free_held c.args.self.now.free_frames fs.held command.frame h (record h { hold = c.done.new.self }) out.held c.requires.room.free }
 
 pub returns-clause-live : goal.returns-clause-live
 returns-clause-live c =

@@ -1,18 +1,28 @@
-use Rattle.std.proofs.Common.{◌∙◌, sym, arith}
-use borrow.Author.Count.{below_more}
+use Rattle.std.proofs.Common.{◌<◌, ◌∙◌, sym, arith}
 use Rattle.r6_frames.specs.Inside.{view_of}
 use Rattle.r6_frames.specs.Owed.{IsOver}
+use Rattle.r6_frames.proofs.BitSets.{out_more}
+use Rattle.r6_frames.proofs.FreeFrames.{out_of_use}
 use Rattle.r6_frames.proofs.Held.{held_within}
 use Rattle.r6_frames.proofs.rows.Rows.any_over.Goals as goal
 
 pub loop-frame-init : goal.loop-frame-init
-loop-frame-init c = λ index below. absurd (omega arith)
+loop-frame-init c =
+    out_of_use c.used_frames-used.result c.args.self.now.held.items (λ frame. IsOver (view_of c.args.self.now) frame → ⊥) c.used_frames-used.ensures (λ frame none over. none over.0 over.1)
+
+pub loop-frame-smaller : goal.loop-frame-smaller
+loop-frame-smaller c = c.in-Some.ensures.less
+
+pub is_over-requires-clause-frame : goal.is_over-requires-clause-frame
+is_over-requires-clause-frame c = omega (arith, c.in-Some.ensures.lowest.0, c.requires.sound.frames.count)
 
 pub loop-frame-preserved : goal.loop-frame-preserved
 loop-frame-preserved c =
-    below_more (λ index. IsOver (view_of c.args.self.now) index → ⊥) c.loop-frame.frame c.loop-frame.invariant (λ over. let both = sym c.if-is_over.false ∙ c.is_over.ensures.1 over in cc)
+    out_more (λ frame. IsOver (view_of c.args.self.now) frame → ⊥) c.loop-frame.used c.in-Some.frame c.take_lowest.new.bits c.in-Some.ensures.left c.loop-frame.invariant
+    (λ over. let both = sym c.if-is_over.false ∙ c.is_over.ensures.1 over in cc)
 
 pub returns : goal.returns
 returns c frame over =
-    let count = c.requires.frames.count in
-    c.loop-frame.invariant frame (omega (arith, held_within c.args.self.now.held.items frame over.0 over.1, count)) over
+    let count = c.requires.sound.frames.count in
+    let inside : frame < 64 = omega (arith, held_within c.args.self.now.held.items frame over.0 over.1, count) in
+    c.loop-frame.invariant frame inside (c.in_default.ensures.lowest frame inside) over

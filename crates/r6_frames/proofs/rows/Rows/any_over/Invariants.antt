@@ -1,7 +1,10 @@
-use Rattle.std.proofs.Common.{ℕ, ◌<◌}
 use Rattle.r6_frames.specs.Inside.{view_of}
 use Rattle.r6_frames.specs.Owed.{IsOver}
+use Rattle.r6_frames.proofs.BitSets.{AllOut}
 use Rattle.r6_frames.proofs.rows.Rows.any_over.Given as goal
 
 abbrev pub invariant-loop-frame : goal.invariant-loop-frame
-invariant-loop-frame l = (index : ℕ) → index < l.frame → IsOver (view_of l.self) index → ⊥
+invariant-loop-frame l = AllOut l.used (λ frame. IsOver (view_of l.self) frame → ⊥)
+
+abbrev pub decreases-loop-frame : goal.decreases-loop-frame
+decreases-loop-frame l = l.used

@@ -1,4 +1,4 @@
-use Rattle.std.proofs.Common.{◌≡◌, ◌≤◌, ℕ, length, set, refl, sym, ap, subst, ◌∙◌, arith, Some}
+use Rattle.std.proofs.Common.{◌≡◌, ◌≤◌, ℕ, List, length, set, refl, sym, ap, subst, ◌∙◌, arith, Some}
 use Rattle.std.specs.Prelude.{slice_index_or}
 use Rattle.std.specs.List.{All}
 use Rattle.std.proofs.lemmas.List.Elements.{All-append}
@@ -14,6 +14,8 @@ use Rattle.r6_frames.specs.Views.{row_in, hold_at}
 use Rattle.r6_frames.specs.Calls.{IsHeldFrame}
 use Rattle.r6_frames.proofs.Held.{held_within}
 use Rattle.r6_frames.proofs.Finishing.{some-held, HasLeft, leaves, left_shapes, sound_after, gives_up_after, ends_after, marks_after, owed_after}
+use Rattle.r6_frames.specs.Pool.{AreFree}
+use Rattle.r6_frames.proofs.FreeFrames.{free_put}
 use Rattle.r6_frames.proofs.rows.Rows.close.Goals as goal
 
 -- the row that is taken out of the frame
@@ -30,8 +32,8 @@ leave-ended-requires c =
     let here = taken fs c.args.frame read.result.now c.replace.result c.in-Held.held c.requires.held read.ensures.value c.replace.ensures.value c.in-Held.is in
     (fs.geometry, fs.shard, fs.slots, c.requires.sound.frames.rows c.args.frame c.in-Held.held here)
 
-pub retire-requires-clause-room : goal.retire-requires-clause-room
-retire-requires-clause-room c =
+pub retire-left-requires-clause-room : goal.retire-left-requires-clause-room
+retire-left-requires-clause-room c =
     let fs = view_of c.args.self.now in
     let are = c.requires.sound.frames in
     let count = are.count in
@@ -40,8 +42,8 @@ retire-requires-clause-room c =
     let some = some-held fs.held c.args.frame c.requires.held.0 c.requires.held.1 in
     omega arith
 
-pub put-requires : goal.put-requires
-put-requires c =
+pub put-requires-clause-there : goal.put-requires-clause-there
+put-requires-clause-there c =
     let items = c.args.self.now.held.items in
     let held = c.requires.held in
     omega (arith, held_within items c.args.frame held.0 held.1, length-set items c.args.frame c.replace.new.dest)
@@ -52,13 +54,19 @@ row_left c =
     taken (view_of c.args.self.now) c.args.frame read.result.now c.replace.result c.in-Held.held c.requires.held read.ensures.value c.replace.ensures.value c.in-Held.is
 
 -- what the hold leaves
-left : (c : goal.After-put) → HasLeft (view_of c.args.self.now) c.args.frame c.in-Held.held (record (view_of c.args.self.now) { held = c.put.new.held.items; spare = length c.retire.new.spare.items })
+left : (c : goal.After-put) → HasLeft (view_of c.args.self.now) c.args.frame c.in-Held.held (record (view_of c.args.self.now) { held = c.put.new.held.items; spare = length c.retire-left.new.spare.items })
 left c =
     let items = c.args.self.now.held.items in
     let leave = c.leave-ended in
-    leaves (view_of c.args.self.now) c.args.frame c.in-Held.held c.put.new.held.items (length c.retire.new.spare.items) leave.result.1 c.requires.sound (row_left c) leave.ensures.hold
-    (c.put.ensures ∙ set-set items c.args.frame c.replace.new.dest c.retire.result ∙ ap (set items c.args.frame) c.retire.ensures.left)
-    (ap length c.retire.ensures.spare ∙ length-append c.args.self.now.spare.items (spared leave.result.1))
+    leaves (view_of c.args.self.now) c.args.frame c.in-Held.held c.put.new.held.items (length c.retire-left.new.spare.items) leave.result.1 c.requires.sound (row_left c) leave.ensures.hold
+    (c.put.ensures.put ∙ set-set items c.args.frame c.replace.new.dest c.retire-left.result ∙ ap (set items c.args.frame) c.retire-left.ensures.left)
+    (ap length c.retire-left.ensures.spare ∙ length-append c.args.self.now.spare.items (spared leave.result.1))
+
+free_now : (c : goal.After-put) → AreFree c.put.new.free_frames c.put.new.held.items
+free_now c =
+    let items = c.args.self.now.held.items in
+    subst (λ (held : List FrameUse). AreFree c.put.new.free_frames held) (sym (c.put.ensures.put ∙ set-set items c.args.frame c.replace.new.dest c.retire-left.result))
+    (free_put c.args.self.now.free_frames c.put.new.free_frames items c.args.frame c.retire-left.result (held_within items c.args.frame c.requires.held.0 c.requires.held.1) c.requires.room.free c.put.ensures.free)
 
 pub returns-clause-sound : goal.returns-clause-sound
 returns-clause-sound c = sound_after (view_of c.args.self.now) c.args.frame c.in-Held.held c.requires.sound (row_left c) _ (left c) c.requires.over
@@ -69,9 +77,10 @@ returns-clause-room c =
     let leave = c.leave-ended in
     let more = left_shapes (view_of c.args.self.now) c.args.frame c.in-Held.held leave.result.1 c.requires.sound (row_left c) leave.ensures.hold in
     record {
-      buffer_room = subst (λ n. frames ≤ n) (sym c.retire.ensures.room) c.requires.room.buffer_room;
-      shapes = subst (All IsFor) (sym c.retire.ensures.spare) (All-append IsFor c.args.self.now.spare.items (spared leave.result.1) c.requires.room.shapes more);
+      buffer_room = subst (λ n. frames ≤ n) (sym c.retire-left.ensures.room) c.requires.room.buffer_room;
+      shapes = subst (All IsFor) (sym c.retire-left.ensures.spare) (All-append IsFor c.args.self.now.spare.items (spared leave.result.1) c.requires.room.shapes more);
       command_room = c.requires.room.command_room;
+      free = free_now c;
     }
 
 pub returns-clause-gives : goal.returns-clause-gives

@@ -12,6 +12,9 @@ use Rattle.r6_frames.specs.declared.command.Outstanding.{Outstanding}
 use Rattle.r6_frames.proofs.DirectUses.{frees_direct, readers_kept}
 use Rattle.r6_frames.proofs.HeldRows.{use_found}
 use Rattle.r6_frames.proofs.LateBuffers.{CameHome, is_late, stopped_home, direct_home, brought_home, spared_shapes, awaits_buffer, has_room}
+use Rattle.r6_frames.specs.declared.frames.FrameUse.{FrameUse}
+use Rattle.r6_frames.specs.Pool.{AreFree}
+use Rattle.r6_frames.proofs.FreeFrames.{free_put}
 use Rattle.r6_frames.proofs.rows.Rows.come_home.Goals as goal
 
 pub position_at-position-requires-clause-row_within : goal.position_at-position-requires-clause-row_within
@@ -48,7 +51,7 @@ came c =
     let was = use_found fs.held command.frame c.index_mut.result.now c.replace-used.result late.below c.index_mut.ensures.value (sym c.replace-used.ensures.value) in
     let home = c.bring_home-used in
     let items =
-    c.put.ensures ∙ set-set fs.held command.frame c.replace-used.new.dest home.result ∙ ap (set fs.held command.frame) home.ensures.left in
+    c.put.ensures.put ∙ set-set fs.held command.frame c.replace-used.new.dest home.result ∙ ap (set fs.held command.frame) home.ensures.left in
     subst (λ (t : Numbered Outstanding). CameHome fs c.args.token (record fs { held = c.put.new.held.items; spare = length home.new.spare.items; commands = commands_in t })) (sym c.remove.ensures.rest)
     (brought_home fs c.args.token command c.requires.sound late c.replace-used.result c.position_at-position.result c.args.buffer c.put.new.held.items (length home.new.spare.items) was
     c.position_at-position.ensures.value items
@@ -72,6 +75,8 @@ returns-then-is_live-clause-room c =
       shapes = subst (All IsFor) (sym home.ensures.spare)
           (All-append IsFor c.args.self.now.spare.items (spared_home c.replace-used.result c.position_at-position.result c.args.buffer) c.requires.room.shapes more);
       command_room = ap (λ t. t.0) c.remove.ensures.rest ∙ c.requires.room.command_room;
+      free = subst (λ (held : List FrameUse). AreFree c.put.new.free_frames held) (sym (c.put.ensures.put ∙ set-set fs.held command.frame c.replace-used.new.dest home.result))
+          (free_put c.args.self.now.free_frames c.put.new.free_frames fs.held command.frame home.result late.below c.requires.room.free c.put.ensures.free);
     }
 
 pub returns-then-is_live-clause-comes : goal.returns-then-is_live-clause-comes
@@ -99,7 +104,7 @@ pub returns-else-is_live-clause-sound : goal.returns-else-is_live-clause-sound
 returns-else-is_live-clause-sound c = (stopped c).sound
 
 pub returns-else-is_live-clause-room : goal.returns-else-is_live-clause-room
-returns-else-is_live-clause-room c = record { buffer_room = c.requires.room.buffer_room; shapes = c.requires.room.shapes; command_room = ap (λ t. t.0) c.remove.ensures.rest ∙ c.requires.room.command_room }
+returns-else-is_live-clause-room c = record { buffer_room = c.requires.room.buffer_room; shapes = c.requires.room.shapes; command_room = ap (λ t. t.0) c.remove.ensures.rest ∙ c.requires.room.command_room; free = c.requires.room.free }
 
 pub returns-else-is_live-clause-comes : goal.returns-else-is_live-clause-comes
 returns-else-is_live-clause-comes c = (stopped c).comes

@@ -1,4 +1,4 @@
-use Rattle.std.proofs.Common.{◌≡◌, ◌+◌, ◌*◌, ℕ, false, length, replicate, refl, sym, subst, ap, ◌∙◌}
+use Rattle.std.proofs.Common.{◌≡◌, ◌+◌, ◌*◌, ℕ, List, false, length, replicate, refl, sym, subst, ap, ◌∙◌}
 use Rattle.std.specs.FinMap as map
 use Rattle.std.specs.List.{All}
 use Rattle.std.proofs.lemmas.List.{length-replicate}
@@ -8,6 +8,9 @@ use Rattle.r6_frames.specs.Inside.{commands_in}
 use Rattle.r6_frames.specs.Directs.{unused}
 use Rattle.r6_frames.specs.Uses.{IsForRow}
 use Rattle.r6_frames.proofs.AtStart.{all_alike, at_start, at_start_sound}
+use Rattle.r6_frames.specs.declared.frames.FrameUse.{FrameUse}
+use Rattle.r6_frames.specs.Pool.{AreFree}
+use Rattle.r6_frames.proofs.FreeFrames.{all_free}
 use Rattle.r6_frames.proofs.rows.Rows.new.Goals as goal
 
 tables : (c : goal.After-goes_on) → c.in_ok-commands.commands ≡ (64 * c.args.geometry.slots + 64, (0, map.empty))
@@ -45,6 +48,7 @@ returns-clause-room c = record {
   buffer_room = c.in_ok-spare.ensures.room;
   shapes = subst (All (IsForRow c.args.geometry)) (sym (spares c)) (all_alike c.args.geometry 64);
   command_room = ap (λ t. t.0) (tables c);
+  free = subst (λ (held : List FrameUse). AreFree 18446744073709551615 held) (sym c.in_ok-held.ensures) all_free;
 }
 
 pub returns-clause-start : goal.returns-clause-start

@@ -11,6 +11,7 @@ use Rattle.r6_frames.proofs.SlotsInTurn.{IsSlotAt, slot_of_row, slot_below, some
 use Rattle.r6_frames.proofs.CommandComes.{pushed, new_command}
 use Rattle.r6_frames.proofs.NothingOut.{none_held, none_sound, none_drives, none_driven, none_owed, none_requests, none_first, none_still}
 use Rattle.r6_frames.proofs.OneOut.{one_below, one_synced, some_sound, some_drives, some_held, some_owed, some_requests, some_out, some_room}
+use Rattle.r6_frames.proofs.FreeFrames.{free_held}
 use Rattle.r6_frames.proofs.rows.Rows.put_out.Goals as goal
 
 -- ---- nothing comes next
@@ -26,6 +27,14 @@ returns-in_default-next-clause-sound c = none_sound (view_of c.args.self.now) c.
 
 pub returns-in_default-next-clause-drives : goal.returns-in_default-next-clause-drives
 returns-in_default-next-clause-drives c = none_drives (view_of c.args.self.now) c.args.frame c.in-Held.held c.next_command.new.self (none_is c) c.requires.sound c.requires.live (none_puts c)
+
+pub returns-in_default-next-clause-room : goal.returns-in_default-next-clause-room
+returns-in_default-next-clause-room c = record {
+  buffer_room = c.requires.room.buffer_room;
+  shapes = c.requires.room.shapes;
+  command_room = c.requires.room.command_room;
+  free = free_held c.args.self.now.free_frames c.args.self.now.held.items c.args.frame c.in-Held.held (record c.in-Held.held { hold = c.next_command.new.self }) (none_is c) c.requires.room.free;
+}
 
 pub returns-in_default-next-clause-driven : goal.returns-in_default-next-clause-driven
 returns-in_default-next-clause-driven c = λ _. none_driven (view_of c.args.self.now) c.args.frame c.in-Held.held c.next_command.new.self (none_is c) c.requires.sound c.requires.live (none_puts c)
@@ -129,7 +138,7 @@ returns-clause-sound c =
     (turned c).within (turned c).value (turned c).inverse (sym c.generation.ensures ∙ c.in-Some-generation.is) (ap commands_in c.push.ensures.entry)
 
 pub returns-clause-room : goal.returns-clause-room
-returns-clause-room c = record { buffer_room = c.requires.room.buffer_room; shapes = c.requires.room.shapes; command_room = ap (λ t. t.0) c.push.ensures.entry ∙ c.requires.room.command_room }
+returns-clause-room c = record { buffer_room = c.requires.room.buffer_room; shapes = c.requires.room.shapes; command_room = ap (λ t. t.0) c.push.ensures.entry ∙ c.requires.room.command_room; free = free_held c.args.self.now.free_frames c.args.self.now.held.items c.args.frame c.in-Held.held (record c.in-Held.held { hold = c.next_command.new.self }) (found c) c.requires.room.free }
 
 pub returns-clause-drives : goal.returns-clause-drives
 returns-clause-drives c =

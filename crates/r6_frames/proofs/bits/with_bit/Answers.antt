@@ -1,5 +1,5 @@
-use Rattle.r6_frames.proofs.Pooled.{set-with, set-without}
-use Rattle.r6_frames.proofs.pool.with_bit.Goals as goal
+use Rattle.r6_frames.proofs.BitSets.{set-with, set-without}
+use Rattle.r6_frames.proofs.bits.with_bit.Goals as goal
 
 pub returns-then-is_in : goal.returns-then-is_in
 returns-then-is_in c i inside = rw c.if-is_in.true (set-with c.args.bits c.args.number i c.requires)
