@@ -75,18 +75,18 @@ q_known b other = on all_asked (Gives 3 (q b other))
 abbrev p_known : (b other : Block) → Hold
 p_known b other = on (q_known b other) (Gives 2 (p b other))
 
-abbrev other_known : (b other : Block) → Hold
+abbrev pub other_known : (b other : Block) → Hold
 other_known b other = on (p_known b other) (Gives 1 other)
 
-abbrev all_known : (b other : Block) → Hold
+abbrev pub all_known : (b other : Block) → Hold
 all_known b other = on (other_known b other) (Gives 0 b)
 
-abbrev classed : (b other : Block) → Hold
+abbrev pub classed : (b other : Block) → Hold
 classed b other = record (all_known b other) { class = Some Consistent }
 
 -- ---- the states
 
-abbrev own_out : ℕ → Option Command
+abbrev pub own_out : ℕ → Option Command
 own_out = put no_command 0 (Some (fetch 1 0))
 
 abbrev data_out : ℕ → Option Command
@@ -107,7 +107,7 @@ three_reads_out b other = state 0 no_request (held (q_known b other)) 4 data_and
 abbrev two_reads_out : (b other : Block) → Shard
 two_reads_out b other = state 0 no_request (held (p_known b other)) 4 data_out (but_one (Synced 0)) [] 0
 
-abbrev one_read_out : (b other : Block) → Shard
+abbrev pub one_read_out : (b other : Block) → Shard
 one_read_out b other = state 0 no_request (held (other_known b other)) 4 own_out (but_one (Synced 0)) [] 0
 
 abbrev after_own : (b other : Block) → Shard
@@ -255,10 +255,10 @@ known_of b other (suc (suc zero)) below = refl
 known_of b other (suc (suc (suc zero))) below = refl
 known_of b other (suc (suc (suc (suc at)))) below = absurd (omega (arith, below))
 
-is_read : (b other : Block) → IsBlock 16 b → IsBlock 16 other → IsClassRead (all_known b other).course Consistent
+pub is_read : (b other : Block) → IsBlock 16 b → IsBlock 16 other → IsClassRead (all_known b other).course Consistent
 is_read b other sized other-sized = (full b other, refl, known_of b other, consistent b other sized other-sized)
 
-may_end : (b other : Block) → MayEnd (classed b other).course Read_all
+pub may_end : (b other : Block) → MayEnd (classed b other).course Read_all
 may_end b other = record {
   quiet =
       each IsQuiet (classed b other) (λ in'. (known_not_asked b, unwritten_not_sent)) (λ in'. (known_not_asked other, unwritten_not_sent))
@@ -295,16 +295,21 @@ when_reading_three array = record (when_made array) { shard = three_reads_out (a
 abbrev when_reading_two : Array → View
 when_reading_two array = record (when_made array) { shard = two_reads_out (array 0) (array 1); used = 2 ∷ 3 ∷ []; settled = false }
 
-abbrev when_reading_one : Array → View
+abbrev pub when_reading_one : Array → View
 when_reading_one array = record (when_made array) { shard = one_read_out (array 0) (array 1); used = 1 ∷ 2 ∷ 3 ∷ []; settled = false }
 
 abbrev pub when_checked : Array → View
 when_checked array = record (when_made array) { shard = after_own (array 0) (array 1); used = 0 ∷ 1 ∷ 2 ∷ 3 ∷ []; settled = false }
 
+-- all but block 0 is read
+pub reads_three : (array : Array) (w : World) → Stands w (when_made array) → Reaches small w (λ later. Stands later (when_reading_one array))
+reads_three array w at =
+    leads w (when_reading_all array) (λ later. Stands later (when_reading_one array)) (core w (when_made array) at (Turn_started Check) all_reads_out n0≤2 (record {}) (record {}) turns)
+    (λ x1 at1. leads x1 (when_reading_three array) (λ later. Stands later (when_reading_one array)) (reads x1 (when_reading_all array) at1 3 0 0 (three_reads_out (array 0) (array 1)) refl refl n0≤2 (learns_q (array 0) (array 1)))
+    (λ x2 at2. leads x2 (when_reading_two array) (λ later. Stands later (when_reading_one array)) (reads x2 (when_reading_three array) at2 2 3 0 (two_reads_out (array 0) (array 1)) refl refl n0≤2 (learns_p (array 0) (array 1)))
+    (λ x3 at3. reads x3 (when_reading_two array) at3 1 2 0 (one_read_out (array 0) (array 1)) refl refl n0≤2 (learns_other (array 0) (array 1)))))
+
 pub checks : (array : Array) → IsBlock 16 (array 0) → IsBlock 16 (array 1) → (w : World) → Stands w (when_made array) → Reaches small w (λ later. Stands later (when_checked array))
 checks array sized other-sized w at =
-    leads w (when_reading_all array) (λ later. Stands later (when_checked array)) (core w (when_made array) at (Turn_started Check) all_reads_out n0≤2 (record {}) (record {}) turns)
-    (λ x1 at1. leads x1 (when_reading_three array) (λ later. Stands later (when_checked array)) (reads x1 (when_reading_all array) at1 3 0 0 (three_reads_out (array 0) (array 1)) refl refl n0≤2 (learns_q (array 0) (array 1)))
-    (λ x2 at2. leads x2 (when_reading_two array) (λ later. Stands later (when_checked array)) (reads x2 (when_reading_three array) at2 2 3 0 (two_reads_out (array 0) (array 1)) refl refl n0≤2 (learns_p (array 0) (array 1)))
-    (λ x3 at3. leads x3 (when_reading_one array) (λ later. Stands later (when_checked array)) (reads x3 (when_reading_two array) at3 1 2 0 (one_read_out (array 0) (array 1)) refl refl n0≤2 (learns_other (array 0) (array 1)))
-    (λ x4 at4. reads x4 (when_reading_one array) at4 0 1 0 (after_own (array 0) (array 1)) refl refl n0≤2 (classifies (array 0) (array 1) sized other-sized)))))
+    leads w (when_reading_one array) (λ later. Stands later (when_checked array)) (reads_three array w at)
+    (λ x4 at4. reads x4 (when_reading_one array) at4 0 1 0 (after_own (array 0) (array 1)) refl refl n0≤2 (classifies (array 0) (array 1) sized other-sized))

@@ -104,10 +104,10 @@ write_taken = state 1 no_request no_hold 4 no_command (but_one (Synced 0)) [] 0
 
 -- ---- numbers
 
-n4≤4 : 4 ≤ 4
+pub n4≤4 : 4 ≤ 4
 n4≤4 = omega arith
 
-n4≤5 : 4 ≤ 5
+pub n4≤5 : 4 ≤ 5
 n4≤5 = omega arith
 
 n4≰3 : 4 ≤ 3 → ⊥
