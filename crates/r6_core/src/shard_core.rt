@@ -14,10 +14,10 @@ use crate::refusal::{CoreError, DeviceFault, Receipt, Refusal, Refused};
 use crate::reply::{OpId, Reply};
 use crate::state::State;
 use crate::turn::{Task, Turn};
-use r6_frames::{Command, Device, MOST_SLOTS, Op, Scrub};
+use r6_frames::{Command, Device, Op, Scrub};
 use r6_health::{Answer, Refusal as RegisterRefusal, SlotState, Snapshot};
 use r6_kernels::Buffer;
-use r6_layout::Geometry;
+use r6_layout::{Geometry, MOST_SLOTS};
 use std::alloc::Global;
 use std::marker::Model;
 

@@ -24,8 +24,8 @@ use crate::reply::{OpId, Reply};
 use crate::scan::{CAUSES, Room};
 use crate::written::Written;
 use circular_buffer::HeapCircularBuffer;
-use r6_frames::{Command, Device, FRAMES, Frames, MOST_SLOTS, Op, Request, Writes};
-use r6_layout::{Geometry, Place};
+use r6_frames::{Command, Device, FRAMES, Frames, Op, Request, Writes};
+use r6_layout::{Geometry, MOST_SLOTS, Place};
 use r6_waiters::Waiters;
 use std::alloc::{AllocError, Global};
 

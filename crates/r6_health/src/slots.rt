@@ -2,9 +2,6 @@
 ghost use Rattle.std.specs.Prelude.{◌≡◌, ◌≤◌, ◌<◌};
 ghost use Rattle.r6_health.specs.Slots.{no_shards, has_shard, with_shard, has_all, is_lost, is_out};
 
-/// The most slots that an array has.
-pub const MOST_SLOTS: usize = 32;
-
 /// A set of shards, which are numbered from 0 to 15.
 #[derive(Clone, Copy, PartialEq, Eq, Debug)]
 pub struct ShardSet {

@@ -4,8 +4,8 @@ ghost use Rattle.r6_health.specs.Registers.{state_at, attaches_of, has_failed, a
 ghost use Rattle.r6_health.specs.Slots.{is_lost};
 ghost use Rattle.r6_health.specs.declared.slots.SlotState.TheVariants.{InSync};
 
-use crate::slots::{MOST_SLOTS, SlotState};
-use r6_layout::Geometry;
+use crate::slots::SlotState;
+use r6_layout::{Geometry, MOST_SLOTS};
 
 /// A copy of what the register holds.
 #[derive(Clone, Copy, PartialEq, Eq, Debug)]

@@ -3,8 +3,9 @@ ghost use Rattle.std.specs.Prelude.{◌≡◌, ◌≤◌, ◌<◌, ◌-◌, ◌/
 ghost use Rattle.r6_health.specs.Words.{slot_state_of, snapshot_of, turn_of, call_of, last_call, slots_of, shards_of};
 
 use crate::call::Call;
-use crate::slots::{MOST_SLOTS, ShardSet, SlotState};
+use crate::slots::{ShardSet, SlotState};
 use crate::snapshot::Snapshot;
+use r6_layout::MOST_SLOTS;
 
 /// How many words the cell has: one a slot, and nine more.
 pub const WORDS: usize = 41;

@@ -1,9 +1,10 @@
 //! Looks that wait for the parts of new devices.
 
 use crate::parts::Parts;
-use crate::shard::{MOST_SLOTS, Shard};
+use crate::shard::Shard;
 use r6_dev::BlockDevice;
 use r6_health::{Register, SlotState, Snapshot};
+use r6_layout::MOST_SLOTS;
 use std::sync::Wait;
 
 impl<D: BlockDevice + Drop> Parts<D> {

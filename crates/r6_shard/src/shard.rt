@@ -15,12 +15,9 @@ use crate::ledger::{Asked, Entry};
 use crate::performs::Performs;
 use r6_core::{Call, Core, Op, OpId, Receipt, Refusal, Refused, Task, Turn};
 use r6_health::{Answer, Pass, Refusal as RegisterRefusal, Register, Snapshot};
-use r6_layout::Geometry;
+use r6_layout::{Geometry, MOST_SLOTS};
 use std::alloc::{AllocError, Global};
 use std::sync::Wait;
-
-// No array has more.
-pub(crate) const MOST_SLOTS: usize = 32;
 
 /// Which shard of which array.
 #[derive(Clone, Copy, PartialEq, Eq, Debug)]
