@@ -1,7 +1,8 @@
 //! A device that fails by plan, for tests of what stands above it.
 
-ghost use Rattle.std.specs.Prelude.{◌≡◌, ◌≢◌, length, Err, IfSome, MatchResult};
+ghost use Rattle.std.specs.Prelude.{◌≡◌, ◌≢◌, length, Err, IfSome, IsOk, MatchResult};
 ghost use Rattle.r6_dev.specs.History.{Answers, Reads, Writes, Fails};
+ghost use Rattle.r6_dev.specs.Promises.{Covers, no_promise};
 ghost use Rattle.r6_dev.specs.Failing.{refusal_of, number_after};
 
 use crate::device::BlockDevice;
@@ -52,6 +53,8 @@ impl<D> Faulty<D> {
 impl<D: BlockDevice> BlockDevice for Faulty<D> {
     ghost told = { λ faulty. D.told faulty.device };
 
+    ghost promised = { λ _. no_promise };
+
     fn read(&mut self, row: u64, buffer: &mut Buffer) -> Result<(), Fault>
         ensures answers { MatchResult result
             (λ _. Answers (D.told self.old.device) (Reads row buffer.new) (D.told self.new.device))
@@ -59,6 +62,8 @@ impl<D: BlockDevice> BlockDevice for Faulty<D> {
         ensures same_length { length buffer.new ≡ length buffer.old }
         ensures unchanged { result ≡ Err Fault.Length → D.told self.new.device ≡ D.told self.old.device }
         ensures faults { result ≢ Err Fault.WriteFault }
+        ensures sound { Covers no_promise row (length buffer.old) → IsOk result }
+        ensures promised { no_promise ≡ no_promise }
         ensures planned { IfSome (refusal_of self.old.failing.items self.old.gone_from self.old.next Fault.ReadFault)
             (λ fault. (result ≡ Err fault) × (self.new.device ≡ self.old.device) × (buffer.new ≡ buffer.old)) }
         ensures counted { self.new ≡ record self.old { device = self.new.device; next = number_after self.old.next } }
@@ -77,6 +82,8 @@ impl<D: BlockDevice> BlockDevice for Faulty<D> {
             (λ _. Answers (D.told self.old.device) Fails (D.told self.new.device)) }
         ensures unchanged { result ≡ Err Fault.Length → D.told self.new.device ≡ D.told self.old.device }
         ensures faults { result ≢ Err Fault.ReadFault }
+        ensures sound { Covers no_promise row (length buffer.now) → IsOk result }
+        ensures promised { no_promise ≡ no_promise }
         ensures planned { IfSome (refusal_of self.old.failing.items self.old.gone_from self.old.next Fault.WriteFault)
             (λ fault. (result ≡ Err fault) × (self.new.device ≡ self.old.device)) }
         ensures counted { self.new ≡ record self.old { device = self.new.device; next = number_after self.old.next } }

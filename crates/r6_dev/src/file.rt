@@ -1,7 +1,8 @@
 //! A device on a raw file, or on a block device of the system.
 
-ghost use Rattle.std.specs.Prelude.{◌≡◌, ◌≢◌, ◌↔◌, ◌⊎◌, ◌*◌, ◌^◌, ◌≤◌, ◌<◌, length, IfOk, IfErr, IfSome, IsNone, OnOk, OnErr, Err, None, MatchResult};
+ghost use Rattle.std.specs.Prelude.{◌≡◌, ◌≢◌, ◌↔◌, ◌⊎◌, ◌*◌, ◌^◌, ◌≤◌, ◌<◌, length, IfOk, IfErr, IfSome, IsNone, IsOk, OnOk, OnErr, Err, None, MatchResult};
 ghost use Rattle.r6_dev.specs.History.{Answers, Reads, Writes, Fails};
+ghost use Rattle.r6_dev.specs.Promises.{Covers, no_promise};
 ghost use Rattle.r6_dev.specs.FilePart.{ServesRow, Takes, HasKnownLength};
 ghost use Rattle.r6_dev.specs.OpenErrors.{IsOpenError};
 
@@ -152,6 +153,8 @@ impl<F: FileExt + Seek + Drop> FileDevice<F> {
 impl<F: FileExt + Seek + Drop> BlockDevice for FileDevice<F> {
     ghost told = { λ _. None };
 
+    ghost promised = { λ _. no_promise };
+
     fn read(&mut self, row: u64, buffer: &mut Buffer) -> Result<(), Fault>
         ensures answers { MatchResult result
             (λ _. Answers None (Reads row buffer.new) None)
@@ -160,6 +163,8 @@ impl<F: FileExt + Seek + Drop> BlockDevice for FileDevice<F> {
         ensures kept { self.new ≡ self.old }
         ensures refused { (result ≡ Err Fault.Length) ↔ ¬ Takes self.old row buffer.old }
         ensures faults { result ≢ Err Fault.WriteFault }
+        ensures sound { Covers no_promise row (length buffer.old) → IsOk result }
+        ensures promised { no_promise ≡ no_promise }
         ensures nothing_else { IfErr result (λ fault. (fault ≡ Fault.ReadFault) ⊎ (fault ≡ Fault.Length)) }
         ensures unread { OnErr result (buffer.new ≡ buffer.old) }
     {
@@ -185,6 +190,8 @@ impl<F: FileExt + Seek + Drop> BlockDevice for FileDevice<F> {
         ensures kept { self.new ≡ self.old }
         ensures refused { (result ≡ Err Fault.Length) ↔ ¬ Takes self.old row buffer.now }
         ensures faults { result ≢ Err Fault.ReadFault }
+        ensures sound { Covers no_promise row (length buffer.now) → IsOk result }
+        ensures promised { no_promise ≡ no_promise }
         ensures nothing_else { IfErr result (λ fault. (fault ≡ Fault.WriteFault) ⊎ (fault ≡ Fault.Length)) }
     {
         let Some(offset) = self.offset_of(row) else {

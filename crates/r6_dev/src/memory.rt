@@ -1,10 +1,11 @@
 //! A device that keeps its blocks in memory.
 
-ghost use Rattle.std.specs.Prelude.{◌≡◌, ◌≢◌, ◌↔◌, ◌≤◌, ◌<◌, ◌+◌, ◌-◌, length, replicate, slice_set, slice_index_or, [], Some, IfOk, IfErr, IfSome, IsNone, OnOk, OnErr, Err, MatchResult};
+ghost use Rattle.std.specs.Prelude.{◌≡◌, ◌≢◌, ◌↔◌, ◌≤◌, ◌<◌, ◌+◌, ◌-◌, length, replicate, slice_set, slice_index_or, [], Some, IfOk, IfErr, IfSome, IsNone, IsOk, OnOk, OnErr, Err, MatchResult};
 ghost use Rattle.std.specs.List.{All};
 ghost use Rattle.r6_kernels.specs.Blocks.{zeros};
 ghost use Rattle.r6_dev.specs.History.{Answers, Reads, Writes, Fails};
-ghost use Rattle.r6_dev.specs.Memory.{Serves, told_by};
+ghost use Rattle.r6_dev.specs.Memory.{Serves, told_by, promised_by};
+ghost use Rattle.r6_dev.specs.Promises.{Covers};
 
 use crate::device::BlockDevice;
 use crate::fault::Fault;
@@ -71,6 +72,8 @@ impl MemoryDevice {
 impl BlockDevice for MemoryDevice {
     ghost told = { told_by };
 
+    ghost promised = { promised_by };
+
     fn read(&mut self, row: u64, buffer: &mut Buffer) -> Result<(), Fault>
         ensures answers { MatchResult result
             (λ _. Answers (told_by self.old) (Reads row buffer.new) (told_by self.new))
@@ -78,6 +81,8 @@ impl BlockDevice for MemoryDevice {
         ensures same_length { length buffer.new ≡ length buffer.old }
         ensures unchanged { result ≡ Err Fault.Length → told_by self.new ≡ told_by self.old }
         ensures faults { result ≢ Err Fault.WriteFault }
+        ensures sound { Covers (promised_by self.old) row (length buffer.old) → IsOk result }
+        ensures promised { promised_by self.new ≡ promised_by self.old }
         ensures kept { self.new ≡ self.old }
         ensures refused { (result ≡ Err Fault.Length)
             ↔ ¬ (Serves self.old row × (length buffer.old ≡ self.old.block)) }
@@ -100,6 +105,8 @@ impl BlockDevice for MemoryDevice {
             (λ _. Answers (told_by self.old) Fails (told_by self.new)) }
         ensures unchanged { result ≡ Err Fault.Length → told_by self.new ≡ told_by self.old }
         ensures faults { result ≢ Err Fault.ReadFault }
+        ensures sound { Covers (promised_by self.old) row (length buffer.now) → IsOk result }
+        ensures promised { promised_by self.new ≡ promised_by self.old }
         ensures written { OnOk result
             (self.new ≡ record self.old { blocks = slice_set self.old.blocks (row - self.old.first) buffer.now }) }
         ensures refused { (result ≡ Err Fault.Length)

@@ -66,8 +66,11 @@ impl Guest<'_> {
 
 impl BlockDevice for Guest<'_> {
     ghost use Rattle.std.specs.Prelude.{None};
+    ghost use Rattle.r6_dev.specs.Promises.{no_promise};
 
     ghost told = { λ _. None };
+
+    ghost promised = { λ _. no_promise };
 
     fn read(&mut self, row: u64, buffer: &mut Buffer) -> Result<(), Fault> {
         match self.come() {
