@@ -3,6 +3,9 @@ use Rattle.std.specs.Prelude.{◌≡◌, ℕ, ◌<◌, List, All, Bool, true, fa
 use Rattle.std.specs.List.Sorted.{IsStrictlyIncreasing}
 use Rattle.r6_layout.specs.Shape.{Shape}
 use Rattle.r6_dev.specs.History.{Telling}
+use Rattle.r6_dev.specs.Promises.{Promise, FailsNone}
+use Rattle.r6_world.specs.Geometries.{layout_of}
+use Rattle.r6_world.specs.Layouts.{IsRowOf}
 use Rattle.r6_frames.specs.declared.op.Op.TheVariants as op
 use Rattle.r6_lists.specs.declared.work.Work.{Work}
 use Rattle.r6_lists.specs.declared.work.Work.TheVariants.{Read, Write, Attach, Check, Repair}
@@ -17,6 +20,13 @@ duty_in told (Write block buffer) = Serves (op.Write block buffer)
 duty_in told (Attach slot generation part) = Takes_up slot (told part)
 duty_in told Check = Checks
 duty_in told Repair = Repairs
+
+-- where the parts of new devices of its slot fail no command of this shard, as is promised, this one fails none
+abbrev pub IsAsPromised : {D : Type 0} → (promised : D → Promise) → Shape → (Sound : (shard slot : ℕ) → Type 0)
+    → (shard : ℕ) → Work D → Type 0
+IsAsPromised {D = D} promised shape Sound shard work =
+    (slot generation : ℕ) (part : D) → work ≡ Attach slot generation part → Sound shard slot
+    → FailsNone (promised part) (IsRowOf (layout_of shape) shard) shape.block
 
 -- Of the three parts that each list has of the ledger one is its own, one that of who puts and one that of who takes.
 -- Who puts leaves its part to the list, and who finishes the list takes both

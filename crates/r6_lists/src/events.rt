@@ -1,6 +1,6 @@
 //! The events of a run, as the types of its lists know them.
 
-ghost use Rattle.std.specs.Prelude.{List};
+ghost use Rattle.std.specs.Prelude.{ℕ, List};
 ghost use Rattle.r6_layout.specs.Shape.{Shape};
 ghost use Rattle.r6_lists.specs.Events.{Event};
 
@@ -12,6 +12,9 @@ pub trait Events: Ledger {
     ghost shape: { Shape };
 
     ghost events: { List Event };
+
+    /// Of which slots the parts of new devices fail no command of this shard, as their devices promise.
+    ghost sound: { ℕ → ℕ → Type 0 };
 }
 
 impl Events for Brand {
@@ -21,4 +24,6 @@ impl Events for Brand {
     ghost shape = { shape_of 0 0 0 0 0 };
 
     ghost events = { [] };
+
+    ghost sound = { λ shard slot. ⊥ };
 }

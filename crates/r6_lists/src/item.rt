@@ -2,7 +2,7 @@
 
 ghost use Rattle.std.specs.Prelude.{◌≡◌, Some};
 ghost use Rattle.r6_lists.specs.Events.{task, task_at};
-ghost use Rattle.r6_lists.specs.Lists.{duty_in};
+ghost use Rattle.r6_lists.specs.Lists.{duty_in, IsAsPromised};
 
 use crate::events::Events;
 use crate::work::Work;
@@ -20,12 +20,14 @@ pub struct Item<L: Events, D: BlockDevice> {
     pub work: Work<D>,
     events: PhantomData<L>,
     pub ghost of_event: { task_at L.shape shard L.events number ≡ Some (task number waits (duty_in D.told work)) },
+    pub ghost promised: { IsAsPromised D.promised L.shape L.sound shard work },
 }
 
 impl<L: Events, D: BlockDevice> Item<L, D> {
     /// The shard's part of the event with this number.
     pub fn new(shard: usize, number: u64, waits: u64, work: Work<D>) -> Item<L, D>
-        requires { task_at L.shape shard L.events number ≡ Some (task number waits (duty_in D.told work)) }
+        requires task { task_at L.shape shard L.events number ≡ Some (task number waits (duty_in D.told work)) }
+        requires promised { IsAsPromised D.promised L.shape L.sound shard work }
         ensures place { (result.shard ≡ shard) × (result.number ≡ number) × (result.waits ≡ waits) }
         ensures work { result.work ≡ work }
     {

@@ -148,6 +148,7 @@ fn play<L: Events + Send + Sync, R: Threads + Wait + Sync>(
         ∷ Request (op.Read 7 (zeros 16))
         ∷ Attach 1 (λ shard. told_by (record { first = 2 * shard; block = 16; blocks = replicate 2 (zeros 16) }))
         ∷ [] }
+    requires none_promised { (shard : ℕ) (slot : ℕ) → L.sound shard slot → ⊥ }
 {
     let data = Buffer::new(alloc, 16)?;
     let near = Buffer::new(alloc, 16)?;
