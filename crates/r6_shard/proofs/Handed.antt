@@ -26,11 +26,11 @@ use Rattle.r6_shard.specs.Courses.{stand_of, HasCourse}
 use Rattle.r6_shard.proofs.Courses.{put-alike}
 use Rattle.r6_shard.proofs.Places.{first-of, behind, replaced, elsewhere, not-both}
 
-of-first : {D : Type 0} (part : Part D) (parts : List (Part D)) (slot generation : ℕ) → is_of slot generation part ≡ true
+pub of-first : {D : Type 0} (part : Part D) (parts : List (Part D)) (slot generation : ℕ) → is_of slot generation part ≡ true
     → part_of (part ∷ parts) slot generation ≡ Some part
 of-first part parts slot generation e = rw e
 
-of-behind : {D : Type 0} (part : Part D) (parts : List (Part D)) (slot generation : ℕ) → is_of slot generation part ≡ false
+pub of-behind : {D : Type 0} (part : Part D) (parts : List (Part D)) (slot generation : ℕ) → is_of slot generation part ≡ false
     → part_of (part ∷ parts) slot generation ≡ part_of parts slot generation
 of-behind part parts slot generation e = rw e
 
@@ -39,7 +39,7 @@ own part = ap (λ y. y && (part.generation == part.generation)) (eq-eqb part.slo
 
 -- ---- in the place of another
 
-part-found : {D : Type 0} (parts : List (Part D)) (at : ℕ) (d : Part D) (slot generation : ℕ) → at < length parts
+pub part-found : {D : Type 0} (parts : List (Part D)) (at : ℕ) (d : Part D) (slot generation : ℕ) → at < length parts
     → is_of slot generation (get_or parts at d) ≡ true → ((k : ℕ) → k < at → is_of slot generation (get_or parts k d) ≡ false)
     → part_of parts slot generation ≡ Some (get_or parts at d)
 part-found [] at d slot generation below is before = absurd (omega arith)
@@ -48,7 +48,7 @@ part-found (part ∷ parts) (suc at) d slot generation below is before =
     of-behind part parts slot generation (before 0 (omega arith))
     ∙ part-found parts at d slot generation (omega arith) is (λ k low. before (suc k) (omega arith))
 
-part-replaced : {D : Type 0} (parts : List (Part D)) (at : ℕ) (d new : Part D) (slot generation : ℕ) → at < length parts
+pub part-replaced : {D : Type 0} (parts : List (Part D)) (at : ℕ) (d new : Part D) (slot generation : ℕ) → at < length parts
     → is_of slot generation new ≡ true → ((k : ℕ) → k < at → is_of slot generation (get_or parts k d) ≡ false)
     → part_of (slice_set parts at new) slot generation ≡ Some new
 part-replaced [] at d new slot generation below is before = absurd (omega arith)
@@ -56,6 +56,19 @@ part-replaced (part ∷ parts) zero d new slot generation below is before = of-f
 part-replaced (part ∷ parts) (suc at) d new slot generation below is before =
     of-behind part (slice_set parts at new) slot generation (before 0 (omega arith))
     ∙ part-replaced parts at d new slot generation (omega arith) is (λ k low. before (suc k) (omega arith))
+
+-- of another slot or generation nothing changes
+pub part-elsewhere : {D : Type 0} (parts : List (Part D)) (at : ℕ) (d new : Part D) (other g : ℕ) → at < length parts
+    → is_of other g new ≡ false → is_of other g (get_or parts at d) ≡ false
+    → part_of (slice_set parts at new) other g ≡ part_of parts other g
+part-elsewhere [] at d new other g below is was = absurd (omega arith)
+part-elsewhere (part ∷ parts) zero d new other g below is was = of-behind new parts other g is ∙ sym (of-behind part parts other g was)
+part-elsewhere (part ∷ parts) (suc at) d new other g below is was = elim (cases_Bool (is_of other g part)) [
+  | inl yes' ↦ of-first part (slice_set parts at new) other g yes' ∙ sym (of-first part parts other g yes')
+  | inr no' ↦
+      of-behind part (slice_set parts at new) other g no' ∙ part-elsewhere parts at d new other g (omega arith) is was
+      ∙ sym (of-behind part parts other g no')
+]
 
 pub takes-place : {D : Type 0} (told : D → Telling) (parts : List (Part D)) (at : ℕ) (earlier part : Part D)
     → position (is_of part.slot part.generation) parts ≡ Some at → get_or parts at earlier ≡ earlier
@@ -69,6 +82,9 @@ takes-place told parts at earlier part place here =
       tells = replaced told parts at earlier part part.slot part.generation p.0 (own part) p.2;
       others = λ other g ne.
           elsewhere told parts at earlier part other g p.0 (not-both part part.slot part.generation other g (own part) ne)
+          (ap (is_of other g) here ∙ not-both earlier part.slot part.generation other g was ne);
+      kept = λ other g ne.
+          part-elsewhere parts at earlier part other g p.0 (not-both part part.slot part.generation other g (own part) ne)
           (ap (is_of other g) here ∙ not-both earlier part.slot part.generation other g was ne);
     }
 
@@ -129,6 +145,14 @@ others-added told (part ∷ parts) new other g e = elim (cases_Bool (is_of other
       behind told part (parts ++ new ∷ []) other g no' ∙ others-added told parts new other g e ∙ sym (behind told part parts other g no')
 ]
 
+parts-added : {D : Type 0} (parts : List (Part D)) (new : Part D) (other g : ℕ) → is_of other g new ≡ false
+    → part_of (parts ++ new ∷ []) other g ≡ part_of parts other g
+parts-added [] new other g e = of-behind new [] other g e
+parts-added (part ∷ parts) new other g e = elim (cases_Bool (is_of other g part)) [
+  | inl yes' ↦ of-first part (parts ++ new ∷ []) other g yes' ∙ sym (of-first part parts other g yes')
+  | inr no' ↦ of-behind part (parts ++ new ∷ []) other g no' ∙ parts-added parts new other g e ∙ sym (of-behind part parts other g no')
+]
+
 pub takes-behind : {D : Type 0} (told : D → Telling) (parts : List (Part D)) (part : Part D) → part_of parts part.slot part.generation ≡ None
     → TakesIn told part None parts (parts ++ part ∷ [])
 takes-behind told parts part none =
@@ -137,6 +161,7 @@ takes-behind told parts part none =
       there = part-added parts part none;
       tells = tells-added told parts part none;
       others = λ other g ne. others-added told parts part other g (not-both part part.slot part.generation other g (own part) ne);
+      kept = λ other g ne. parts-added parts part other g (not-both part part.slot part.generation other g (own part) ne);
     }
 
 -- ---- the course

@@ -10,7 +10,7 @@ use Rattle.r6_world.specs.ShardStates.{Shard, Command, LossOf, Call}
 use Rattle.r6_world.specs.Changes.{Hand_call, Hear}
 use Rattle.r6_world.specs.Steps as steps
 use Rattle.r6_world.specs.Steps.{Event, Submit, Deliver, Completion, Good, Error, Receipt, Taken, Late, Take_command, No_command, Take_call, No_call, Told}
-use Rattle.r6_world.specs.Refusals.{IsToTell, IsNoError}
+use Rattle.r6_world.specs.Refusals.{IsToTell, IsNoError, IsNoLook}
 use Rattle.r6_world.proofs.Changes.{Keeps, step-kept}
 use Rattle.r6_world.proofs.Refused.Refusals.{only_errors_declare}
 use Rattle.r6_core.specs.declared.refusal.DeviceFault.{DeviceFault}
@@ -248,6 +248,15 @@ turned old task.Check Started new x = (steps.Turn_started Check, record {}, λ r
 turned old task.Check Skipped new x = (steps.Turn_skipped Check _, record {}, λ register. record {}, λ history. refl, λ looked. refl, x)
 turned old task.Repair Started new x = (steps.Turn_started Repair, record {}, λ register. record {}, λ history. refl, λ looked. refl, x)
 turned old task.Repair Skipped new x = (steps.Turn_skipped Repair _, record {}, λ register. record {}, λ history. refl, λ looked. refl, x)
+
+-- and no look
+pub turned-no-look : (old : CoreView) (own : Task) (turn : Turn) (new : CoreView) (x : TakesTurn old own turn new) → IsNoLook (turned old own turn new x).0
+unfolding turned
+turned-no-look old task.Rebuild turn new x = record {}
+turned-no-look old task.Check Started new x = record {}
+turned-no-look old task.Check Skipped new x = record {}
+turned-no-look old task.Repair Started new x = record {}
+turned-no-look old task.Repair Skipped new x = record {}
 
 -- a turn passes what its task says
 pub turned-passes : (old : CoreView) (own : Task) (turn : Turn) (new : CoreView) (x : TakesTurn old own turn new) → passes (turned old own turn new x).0 ≡ rows_of own

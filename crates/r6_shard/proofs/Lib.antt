@@ -5,6 +5,8 @@ pub mod Places
 pub mod Handed
 pub mod Keeping
 pub mod Own
+pub mod Sound
+pub mod Promises
 pub mod Counting
 pub mod Lasting
 pub mod Going

@@ -22,7 +22,7 @@ pub behind : {D : Type 0} (told : D → Telling) (part : Part D) (parts : List (
 behind told part parts slot generation e = rw e
 
 -- the part that is found tells what is told of it
-found : {D : Type 0} (told : D → Telling) (parts : List (Part D)) (at : ℕ) (d : Part D) (slot generation : ℕ) → at < length parts
+pub found : {D : Type 0} (told : D → Telling) (parts : List (Part D)) (at : ℕ) (d : Part D) (slot generation : ℕ) → at < length parts
     → is_of slot generation (get_or parts at d) ≡ true → ((k : ℕ) → k < at → is_of slot generation (get_or parts k d) ≡ false)
     → part_in told parts slot generation ≡ Some (told (get_or parts at d).device)
 found told [] at d slot generation below is before = absurd (omega arith)

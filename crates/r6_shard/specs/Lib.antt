@@ -6,6 +6,8 @@ pub mod Histories
 pub mod Courses
 pub mod Beginnings
 pub mod Shards
+pub mod Naming
+pub mod Sound
 pub mod Splitting
 pub mod Handing
 pub mod Counted

@@ -1,6 +1,7 @@
 -- The parts that a shard has.
-use Rattle.std.specs.Prelude.{◌≡◌, ℕ, ◌≤◌, ◌==◌, ◌&&◌, Bool, List, [], ◌∷◌, length, if◌then◌else◌, Option, Some, None}
+use Rattle.std.specs.Prelude.{◌≡◌, ℕ, ◌≤◌, ◌==◌, ◌&&◌, Bool, List, [], ◌∷◌, length, if◌then◌else◌, Option, Some, None, option_map, unwrap_or}
 use Rattle.r6_dev.specs.History.{Telling}
+use Rattle.r6_dev.specs.Promises.{Promise, no_promise}
 use Rattle.r6_course.specs.Steps.{OthersAreKept}
 use Rattle.r6_shard.specs.declared.parts.Part.{Part}
 
@@ -19,6 +20,11 @@ part_of [] slot generation = None
 part_of (part ∷ parts) slot generation =
     if is_of slot generation part then Some part else part_of parts slot generation
 
+-- what it promises
+abbrev pub promise_in : {D : Type 0} → (D → Promise) → List (Part D) → (slot generation : ℕ) → Promise
+promise_in promised parts slot generation =
+    unwrap_or (option_map (λ part. promised part.device) (part_of parts slot generation)) no_promise
+
 -- a part is taken in: from now on it is the one of its slot and generation, no other changes, and back comes the one
 -- that was there
 pub record TakesIn {D : Type 0} (told : D → Telling) (part : Part D) (earlier : Option (Part D))
@@ -27,6 +33,7 @@ pub record TakesIn {D : Type 0} (told : D → Telling) (part : Part D) (earlier 
   pub there : part_of new part.slot part.generation ≡ Some part
   pub tells : part_in told new part.slot part.generation ≡ Some (told part.device)
   pub others : OthersAreKept part.slot part.generation (part_in told old) (part_in told new)
+  pub kept : (other g : ℕ) → ((other ≡ part.slot) × (g ≡ part.generation) → ⊥) → part_of new other g ≡ part_of old other g
 
 -- it would be one more than there is room for
 abbrev pub HasNoRoom : {D : Type 0} → Part D → List (Part D) → (capacity : ℕ) → Type 0

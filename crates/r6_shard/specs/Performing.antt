@@ -1,6 +1,7 @@
 -- What the parts do with a command.
 use Rattle.std.specs.Prelude.{◌≡◌, ℕ, List, length, Option, Some}
 use Rattle.r6_dev.specs.History.{Telling}
+use Rattle.r6_dev.specs.Promises.{Promise}
 use Rattle.r6_frames.specs.Views.{given_transfer}
 use Rattle.r6_core.specs.declared.Command.{Command}
 use Rattle.r6_core.specs.declared.refusal.DeviceFault.{DeviceFault}
@@ -19,3 +20,7 @@ pub record Performed (old new : ℕ → ℕ → Option Telling) (c : Command) (c
 -- its part may tell anything from then on, and no other changed
 abbrev pub Failed : (old new : ℕ → ℕ → Option Telling) → Command → DeviceFault → Type 0
 Failed old new c fault = OthersAreKept c.slot c.generation old new × (length fault.buffer ≡ length c.buffer)
+
+-- the parts promise what they promised
+abbrev pub ArePromised : (old new : ℕ → ℕ → Promise) → Type 0
+ArePromised old new = (slot generation : ℕ) → new slot generation ≡ old slot generation

@@ -77,6 +77,7 @@ impl<D: BlockDevice + Drop> Parts<D> {
 impl<D: BlockDevice + Drop> Shard<Parts<D>> {
     ghost use Rattle.std.specs.Prelude.{IfOk, IfErr};
     ghost use Rattle.r6_shard.specs.Handing.{HandsIn, RefusesPart};
+    ghost use Rattle.r6_shard.specs.Sound.{TakesSound};
 
     /// Hands a part in, of a device of a generation that the core hasn't looked at: before its attach, or behind it.
     /// Of two parts for one slot and generation the later counts, and the earlier comes back. No memory is taken:
@@ -86,6 +87,7 @@ impl<D: BlockDevice + Drop> Shard<Parts<D>> {
     /// [`PartRefusal`], with the part back. Nothing changes.
     pub fn hand_in(&mut self, part: Part<D>) -> Result<Option<Part<D>>, RefusedPart<D>>
         ensures handed { IfOk result (λ earlier. HandsIn D.told part earlier self.old self.new) }
+        ensures sound { IfOk result (λ _. TakesSound D.told D.promised part self.old self.new) }
         ensures refused { IfErr result (λ r. RefusesPart part self.old r self.new) }
     {
         if part.generation <= self.looked {

@@ -1,8 +1,9 @@
 //! Parts of devices, which perform commands in place.
 
-ghost use Rattle.std.specs.Prelude.{◌≡◌, ◌<◌, length, IfSome, MatchResult};
+ghost use Rattle.std.specs.Prelude.{◌≡◌, ◌<◌, length, IfSome, IsOk, MatchResult};
 ghost use Rattle.std.specs.List.{position};
 ghost use Rattle.r6_frames.specs.Views.{given_transfer};
+ghost use Rattle.r6_dev.specs.Promises.{Covers};
 ghost use Rattle.r6_course.specs.Steps.{Does};
 
 use crate::performs::Performs;
@@ -40,10 +41,12 @@ fn perform_on<D: BlockDevice>(
     kind: CommandKind,
     mut buffer: Buffer,
 ) -> Result<Buffer, DeviceFault>
-    ensures { MatchResult result
+    ensures done { MatchResult result
         (λ came. Does (D.told device.old) (given_transfer kind buffer) row came (D.told device.new)
         × (length came ≡ length buffer))
         (λ fault. length fault.buffer ≡ length buffer) }
+    ensures sound { Covers (D.promised device.old) row (length buffer) → IsOk result }
+    ensures promised { D.promised device.new ≡ D.promised device.old }
 {
     let answer = match kind {
         CommandKind::Read => device.read(row, &mut buffer),
@@ -73,15 +76,21 @@ impl<D: BlockDevice + Drop> Parts<D> {
 }
 
 impl<D: BlockDevice + Drop> Performs for Parts<D> {
-    ghost use Rattle.r6_shard.specs.Parts.{part_in};
-    ghost use Rattle.r6_shard.specs.Performing.{Performed, Failed};
+    ghost use Rattle.r6_shard.specs.Parts.{part_in, promise_in};
+    ghost use Rattle.r6_shard.specs.Performing.{Performed, Failed, ArePromised};
 
     ghost tells = { λ parts. part_in D.told parts.parts.items };
 
+    ghost promised = { λ parts. promise_in D.promised parts.parts.items };
+
     fn perform(&mut self, command: Command) -> Result<Buffer, DeviceFault>
-        ensures { MatchResult result
+        ensures performed { MatchResult result
             (Performed (part_in D.told self.old.parts.items) (part_in D.told self.new.parts.items) command)
             (Failed (part_in D.told self.old.parts.items) (part_in D.told self.new.parts.items) command) }
+        ensures sound { Covers (promise_in D.promised self.old.parts.items command.slot command.generation) command.row
+            (length command.buffer) → IsOk result }
+        ensures promised { ArePromised (promise_in D.promised self.old.parts.items)
+            (promise_in D.promised self.new.parts.items) }
     {
         let Command {
             token: _,

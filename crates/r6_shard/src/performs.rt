@@ -1,8 +1,9 @@
 //! Who performs commands.
 
-ghost use Rattle.std.specs.Prelude.{ℕ, Option, MatchResult};
+ghost use Rattle.std.specs.Prelude.{ℕ, Option, IsOk, MatchResult, length};
 ghost use Rattle.r6_dev.specs.History.{Telling};
-ghost use Rattle.r6_shard.specs.Performing.{Performed, Failed};
+ghost use Rattle.r6_dev.specs.Promises.{Promise, Covers};
+ghost use Rattle.r6_shard.specs.Performing.{Performed, Failed, ArePromised};
 
 use r6_core::{Command, DeviceFault};
 use r6_kernels::Buffer;
@@ -12,12 +13,18 @@ pub trait Performs {
     /// What each part tells, by slot and generation; `None`: no part is there.
     ghost tells: { Self → ℕ → ℕ → Option Telling };
 
+    /// Which commands each part promises never to answer by a fault, by slot and generation.
+    ghost promised: { Self → ℕ → ℕ → Promise };
+
     /// Performs a command: its part reads into the buffer or writes from it, and no other part changes.
     ///
     /// # Errors
     /// The fault of the part, with the buffer; `Gone` where no part is there.
     fn perform(&mut self, command: Command) -> Result<Buffer, DeviceFault>
-        ensures { MatchResult result
+        ensures performed { MatchResult result
             (Performed (tells self.old) (tells self.new) command)
-            (Failed (tells self.old) (tells self.new) command) };
+            (Failed (tells self.old) (tells self.new) command) }
+        ensures sound { Covers (promised self.old command.slot command.generation) command.row (length command.buffer)
+            → IsOk result }
+        ensures promised { ArePromised (promised self.old) (promised self.new) };
 }

@@ -8,12 +8,33 @@ use r6_layout::MOST_SLOTS;
 use std::sync::Wait;
 
 impl<D: BlockDevice + Drop> Parts<D> {
-    // Whether the part of each device is here that the snapshot has rebuilding.
-    fn has_all(&self, snapshot: &Snapshot) -> bool {
-        (0..MOST_SLOTS).all(|slot| match snapshot.slot(slot) {
+    ghost use Rattle.std.specs.Prelude.{◌≡◌, ◌<◌, true};
+    ghost use Rattle.r6_health.specs.declared.slots.SlotState.TheVariants.{Rebuilding};
+    ghost use Rattle.r6_shard.specs.Parts.{part_in};
+    ghost use Rattle.r6_shard.specs.Sound.{HasNew, HasPart};
+
+    // Whether the part of the slot's new device is here, if one is rebuilt.
+    fn has_new(&self, slot: usize, state: SlotState) -> bool
+        ensures { result ≡ true → (generation : _) (reported : _) → state ≡ Rebuilding generation reported
+            → HasPart (part_in D.told self.now.parts.items) slot generation }
+    {
+        match state {
             SlotState::Rebuilding(generation, _) => self.place_of(slot, generation).is_some(),
             SlotState::InSync | SlotState::Lost => true,
-        })
+        }
+    }
+
+    // Whether the part of each device is here that the snapshot has rebuilding.
+    fn has_all(&self, snapshot: &Snapshot) -> bool
+        ensures { result ≡ true → (slot : _) → slot < 32
+            → HasNew (part_in D.told self.now.parts.items) snapshot.now slot }
+    {
+        for slot in 0..MOST_SLOTS {
+            if !self.has_new(slot, snapshot.slot(slot)) {
+                return false;
+            }
+        }
+        true
     }
 }
 
@@ -24,6 +45,7 @@ impl<D: BlockDevice + Drop> Shard<Parts<D>> {
     ghost use Rattle.r6_shard.specs.Counted.{CountsAll, PassesNone};
     ghost use Rattle.r6_shard.specs.Refusing.{Lasts};
     ghost use Rattle.r6_shard.specs.Shards.{GoesOn, SameLedger};
+    ghost use Rattle.r6_shard.specs.Sound.{StaysSound, parts_promise};
 
     // Looks at the register as it is, if the parts of the new devices are here; whether it did.
     fn look_when_here<R: Wait>(&mut self, rt: &R, register: &Register) -> bool
@@ -31,6 +53,7 @@ impl<D: BlockDevice + Drop> Shard<Parts<D>> {
         ensures pass { IsPassOf register.now self.new.pass }
         ensures course { GoesOn (parts_tell D.told) self.old self.new }
         ensures lasts { Lasts self.old.core self.new.core }
+        ensures sound { StaysSound (parts_tell D.told) (parts_promise D.promised) self.old self.new }
         ensures passed { PassesNone self.old.core self.new.core }
         ensures ledger { SameLedger self.old self.new }
     {
@@ -49,6 +72,7 @@ impl<D: BlockDevice + Drop> Shard<Parts<D>> {
         ensures pass { IsPassOf register.now self.new.pass }
         ensures course { GoesOn (parts_tell D.told) self.old self.new }
         ensures lasts { Lasts self.old.core self.new.core }
+        ensures sound { StaysSound (parts_tell D.told) (parts_promise D.promised) self.old self.new }
         ensures passed { CountsAll self.old.core self.new.core }
         ensures asked { self.new.asked.items ≡ self.old.asked.items }
         ensures room { self.new.room ≡ self.old.room }

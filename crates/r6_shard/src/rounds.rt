@@ -14,11 +14,13 @@ impl<P: Performs + Drop> Shard<P> {
     ghost use Rattle.r6_shard.specs.Counted.{PassesNone};
     ghost use Rattle.r6_shard.specs.Refusing.{Lasts};
     ghost use Rattle.r6_shard.specs.Shards.{GoesOn, SameLedger, Rests};
+    ghost use Rattle.r6_shard.specs.Sound.{StaysSound};
 
     // Performs what was put out, until nothing more is.
     pub(crate) fn perform_all<R: Wait>(&mut self, rt: &R)
         ensures course { GoesOn P.tells self.old self.new }
         ensures lasts { Lasts self.old.core self.new.core }
+        ensures sound { StaysSound P.tells P.promised self.old self.new }
         ensures passed { PassesNone self.old.core self.new.core }
         ensures ledger { SameLedger self.old self.new }
         ensures pass { self.new.pass ≡ self.old.pass }
@@ -37,6 +39,7 @@ impl<P: Performs + Drop> Shard<P> {
         ensures pass { IsPassOf register.now self.new.pass }
         ensures course { GoesOn P.tells self.old self.new }
         ensures lasts { Lasts self.old.core self.new.core }
+        ensures sound { StaysSound P.tells P.promised self.old self.new }
         ensures passed { PassesNone self.old.core self.new.core }
         ensures ledger { SameLedger self.old self.new }
     {
@@ -51,6 +54,7 @@ impl<P: Performs + Drop> Shard<P> {
     pub(crate) fn collect_all<R: Wait>(&mut self, rt: &R)
         ensures course { GoesOn P.tells self.old self.new }
         ensures lasts { Lasts self.old.core self.new.core }
+        ensures sound { StaysSound P.tells P.promised self.old self.new }
         ensures passed { PassesNone self.old.core self.new.core }
         ensures asked { self.new.asked ≡ self.old.asked }
         ensures room { self.new.room ≡ self.old.room }
@@ -85,6 +89,7 @@ impl<P: Performs + Drop> Shard<P> {
         ensures pass { IsPassOf register.now self.new.pass }
         ensures course { GoesOn P.tells self.old self.new }
         ensures lasts { Lasts self.old.core self.new.core }
+        ensures sound { StaysSound P.tells P.promised self.old self.new }
         ensures passed { PassesNone self.old.core self.new.core }
         ensures ledger { SameLedger self.old self.new }
         ensures rests { result ≡ true → Rests self.new }

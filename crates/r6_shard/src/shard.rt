@@ -110,6 +110,8 @@ impl<P: Performs + Drop> Shard<P> {
     ghost use Rattle.r6_shard.specs.Kept.{NoneIsOut, NoneIsToTell};
     ghost use Rattle.r6_shard.specs.Counted.{HasPassedRows, PassesMore, PassesNone, rows_of};
     ghost use Rattle.r6_shard.specs.Shards.{GoesOn, SameLedger, Submits, Collects, Begins};
+    ghost use Rattle.r6_shard.specs.Sound.{BeginsSound, HasNew, IsSoundIn, StaysSound};
+    ghost use Rattle.r6_shard.specs.Naming.{NamesFailures};
 
     /// A shard of the array as it begins, with room for so many requests.
     ///
@@ -134,6 +136,9 @@ impl<P: Performs + Drop> Shard<P> {
         requires pass { IsFirstPass place.geometry snapshot.now (view_of pass) }
         ensures begins { IfOk result (Begins P.tells place.geometry place.number snapshot.now) }
         ensures passed { IfOk result (λ shard. HasPassedRows false 0 0 shard.core) }
+        ensures sound { IfOk result (λ shard. (slot : _)
+            → BeginsSound (P.tells parts) (P.promised parts) place.geometry place.number snapshot.now slot
+            → IsSoundIn P.tells P.promised place.geometry place.number slot shard) }
         ensures parts { IfOk result (λ shard. shard.parts ≡ parts) }
         ensures pass { IfOk result (λ shard. shard.pass ≡ pass) }
         ensures empty { IfOk result (λ shard. shard.asked.items ≡ []) }
@@ -182,6 +187,8 @@ impl<P: Performs + Drop> Shard<P> {
         ensures refused { IfErr result (λ r. RefusesOp self.old.core op r.refusal r.back self.new.core) }
         ensures same { IfErr result (λ _. self.new ≡ self.old) }
         ensures lasts { Lasts self.old.core self.new.core }
+        ensures named { self.new.named ≡ self.old.named }
+        ensures sound { StaysSound P.tells P.promised self.old self.new }
         ensures passed { PassesNone self.old.core self.new.core }
     {
         let block = op.block();
@@ -203,6 +210,8 @@ impl<P: Performs + Drop> Shard<P> {
     pub fn perform_next(&mut self) -> bool
         ensures course { GoesOn P.tells self.old self.new }
         ensures lasts { Lasts self.old.core self.new.core }
+        ensures named { NamesFailures P.tells self.old self.new }
+        ensures sound { StaysSound P.tells P.promised self.old self.new }
         ensures passed { PassesNone self.old.core self.new.core }
         ensures ledger { SameLedger self.old self.new }
         ensures pass { self.new.pass ≡ self.old.pass }
@@ -228,6 +237,7 @@ impl<P: Performs + Drop> Shard<P> {
         ensures pass { IsPassOf register.now self.new.pass }
         ensures course { GoesOn P.tells self.old self.new }
         ensures lasts { Lasts self.old.core self.new.core }
+        ensures named { self.new.named ≡ self.old.named }
         ensures passed { PassesNone self.old.core self.new.core }
         ensures ledger { SameLedger self.old self.new }
     {
@@ -241,6 +251,9 @@ impl<P: Performs + Drop> Shard<P> {
         ensures pass { IsPassOf register.now self.new.pass }
         ensures course { GoesOn P.tells self.old self.new }
         ensures core { self.new.core ≡ self.old.core }
+        ensures named { self.new.named ≡ self.old.named }
+        ensures sound { StaysSound P.tells P.promised self.old self.new }
+        ensures parts { self.new.parts ≡ self.old.parts }
         ensures ledger { SameLedger self.old self.new }
         ensures snapshot { result ≡ held (view_of self.new.pass).start (view_of self.new.pass).seen }
     {
@@ -252,6 +265,11 @@ impl<P: Performs + Drop> Shard<P> {
         requires { snapshot.now ≡ held (view_of self.old.pass).start (view_of self.old.pass).seen }
         ensures course { GoesOn P.tells self.old self.new }
         ensures lasts { Lasts self.old.core self.new.core }
+        ensures named { self.new.named ≡ self.old.named }
+        ensures sound { (shape : _) (number : _) (slot : _)
+            → (slot < shape.slots → HasNew (P.tells self.old.parts) snapshot.now slot)
+            → IsSoundIn P.tells P.promised shape number slot self.old
+            → IsSoundIn P.tells P.promised shape number slot self.new }
         ensures passed { PassesNone self.old.core self.new.core }
         ensures ledger { SameLedger self.old self.new }
         ensures pass { self.new.pass ≡ self.old.pass }
@@ -266,6 +284,8 @@ impl<P: Performs + Drop> Shard<P> {
         ensures pass { IsPassOf register.now self.new.pass }
         ensures course { GoesOn P.tells self.old self.new }
         ensures lasts { Lasts self.old.core self.new.core }
+        ensures named { self.new.named ≡ self.old.named }
+        ensures sound { StaysSound P.tells P.promised self.old self.new }
         ensures passed { PassesNone self.old.core self.new.core }
         ensures ledger { SameLedger self.old self.new }
         ensures none { result ≡ false → (world_shard self.new.core ≡ world_shard self.old.core)
@@ -285,6 +305,8 @@ impl<P: Performs + Drop> Shard<P> {
     pub fn collect(&mut self) -> bool
         ensures course { GoesOn P.tells self.old self.new }
         ensures lasts { Lasts self.old.core self.new.core }
+        ensures named { self.new.named ≡ self.old.named }
+        ensures sound { StaysSound P.tells P.promised self.old self.new }
         ensures passed { PassesNone self.old.core self.new.core }
         ensures ledger { Collects result self.old self.new }
         ensures asked { self.new.asked ≡ self.old.asked }
@@ -311,6 +333,8 @@ impl<P: Performs + Drop> Shard<P> {
     pub fn turn(&mut self, task: Task) -> Result<Turn, Refusal>
         ensures course { GoesOn P.tells self.old self.new }
         ensures lasts { Lasts self.old.core self.new.core }
+        ensures named { self.new.named ≡ self.old.named }
+        ensures sound { StaysSound P.tells P.promised self.old self.new }
         ensures passed { IfOk result (λ _. PassesMore (rows_of task) self.old.core self.new.core) }
         ensures ledger { SameLedger self.old self.new }
         ensures pass { self.new.pass ≡ self.old.pass }

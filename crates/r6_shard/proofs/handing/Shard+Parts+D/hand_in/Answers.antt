@@ -2,6 +2,7 @@ use Rattle.std.proofs.Common.{◌<◌, refl, arith}
 use Rattle.r6_health.specs.Passes.{view_of}
 use Rattle.r6_shard.specs.Handing.{parts_tell}
 use Rattle.r6_shard.proofs.Handed.{has-handed}
+use Rattle.r6_shard.proofs.Promises.{takes-sound}
 use Rattle.r6_shard.proofs.handing.Shard+Parts+D.hand_in.Goals as goal
 
 pub returns-in-Ok-clause-handed : goal.returns-in-Ok-clause-handed
@@ -24,3 +25,9 @@ returns-in-Ok-clause-handed g c =
           has-handed s device old.core (view_of old.pass) old.looked (parts_tell told old.parts) (parts_tell told new) old.asked.items old.entries.items ops
           part.slot part.generation (told part.device) unseen alike tells taken.tells taken.others x;
     }
+
+pub returns-in-Ok-clause-sound : goal.returns-in-Ok-clause-sound
+returns-in-Ok-clause-sound g c = λ shape number slot fails x.
+    let old = c.args.self.now in
+    takes-sound g.D.BlockDevice.told g.D.BlockDevice.promised c.args.part _ old.parts.parts.items c.take_in.new.self.parts.items shape number slot
+    old.core old.named c.in-Ok.ensures.taken fails x

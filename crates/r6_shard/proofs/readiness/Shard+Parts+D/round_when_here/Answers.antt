@@ -11,3 +11,8 @@ returns-clause-passed g c = λ stopped counted rows x.
     let performed = c.perform_all.new.self.core in
     let all = counted-at-rest stopped counted rows performed (c.perform_all.ensures.passed stopped counted rows x) c.perform_all.ensures.none in
     c.collect_all.ensures.passed stopped rows rows (c.look_when_here.ensures.passed stopped rows rows (c.tell_all.ensures.passed stopped rows rows all))
+
+pub returns-clause-sound : goal.returns-clause-sound
+returns-clause-sound g c = λ shape number slot x.
+    c.collect_all.ensures.sound shape number slot
+    (c.look_when_here.ensures.sound shape number slot (c.tell_all.ensures.sound shape number slot (c.perform_all.ensures.sound shape number slot x)))

@@ -12,6 +12,7 @@ use Rattle.r6_shard.proofs.Lasting.{lasts_by}
 use Rattle.r6_shard.proofs.Going.{has-collected}
 use Rattle.r6_shard.specs.Own.{SeesFailure}
 use Rattle.r6_shard.proofs.Own.{failure-on, failure-replied}
+use Rattle.r6_shard.proofs.Sound.{sound-by}
 use Rattle.r6_shard.proofs.shard.Shard.collect.Goals as goal
 
 pub invariant_of-self-clause-kept : goal.invariant_of-self-clause-kept
@@ -67,3 +68,19 @@ returns-in_default-clause-passed g c = passes-none c.args.self.now.core No_reply
 pub returns-clause-passed : goal.returns-clause-passed
 returns-clause-passed g c =
     passes-none c.args.self.now.core (Take_reply c.in-Some.id.0 (reply_of c.in-Some.reply)) c.take_reply.new.self refl c.in-Some.ensures.reply.step
+
+pub returns-in_default-clause-sound : goal.returns-in_default-clause-sound
+returns-in_default-clause-sound g c = λ shape number slot x.
+    let tells = g.P.Performs.tells in
+    let promised = g.P.Performs.promised in
+    let old = c.args.self.now in
+    sound-by (tells old.parts) (promised old.parts) shape number slot old.core No_reply c.take_reply.new.self old.named (record {})
+    c.in_default.ensures.reply.step x
+
+pub returns-clause-sound : goal.returns-clause-sound
+returns-clause-sound g c = λ shape number slot x.
+    let tells = g.P.Performs.tells in
+    let promised = g.P.Performs.promised in
+    let old = c.args.self.now in
+    sound-by (tells old.parts) (promised old.parts) shape number slot old.core (Take_reply c.in-Some.id.0 (reply_of c.in-Some.reply)) c.take_reply.new.self
+    old.named (record {}) c.in-Some.ensures.reply.step x

@@ -6,6 +6,7 @@ use Rattle.r6_shard.specs.Courses.{HasCourse}
 use Rattle.r6_shard.proofs.Beginnings.{begun}
 use Rattle.r6_shard.proofs.Counting.{none-passed}
 use Rattle.r6_shard.proofs.Own.{failure-at-first}
+use Rattle.r6_shard.proofs.Sound.{sound-begun, none-named}
 use Rattle.r6_shard.proofs.shard.Shard.new.Goals as goal
 
 pub invariant_of-result-clause-own : goal.invariant_of-result-clause-own
@@ -30,3 +31,9 @@ returns-clause-begins g c = λ device array lawful hold.
 
 pub returns-clause-passed : goal.returns-clause-passed
 returns-clause-passed g c = none-passed c.args.place.geometry c.args.snapshot.now c.args.place.number c.in-Ok.core c.in-Ok.ensures.made
+
+pub returns-clause-sound : goal.returns-clause-sound
+returns-clause-sound g c = λ slot x.
+    let place = c.args.place in
+    sound-begun (g.P.Performs.tells c.args.parts) (g.P.Performs.promised c.args.parts) place.geometry c.args.snapshot.now place.number slot
+    c.in-Ok.core _ c.in-Ok.ensures.made (none-named 32) x

@@ -1,4 +1,4 @@
-use Rattle.std.proofs.Common.{◌<◌, length, sym, subst, arith, refl}
+use Rattle.std.proofs.Common.{◌<◌, length, inl, inr, sym, subst, arith, refl, ◌∙◌}
 use Rattle.r6_world.specs.Steps.{No_command, Take_command, Deliver}
 use Rattle.r6_frames.specs.Views.{world_command}
 use Rattle.r6_core.specs.Shards.{core_layout, world_shard, completion_of, receipt_of}
@@ -12,6 +12,8 @@ use Rattle.r6_shard.proofs.Lasting.{lasts_by, lasts_twice}
 use Rattle.r6_shard.proofs.Going.{has-performed, at_err}
 use Rattle.r6_shard.specs.Own.{AreOwn}
 use Rattle.r6_shard.proofs.Own.{own-named, failure-on}
+use Rattle.r6_shard.specs.Sound.{IsSound}
+use Rattle.r6_shard.proofs.Sound.{sound-by, sound-performed, named-how}
 use Rattle.r6_shard.proofs.shard.Shard.perform_next.Goals as goal
 
 pub invariant_of-self-clause-kept : goal.invariant_of-self-clause-kept
@@ -54,7 +56,7 @@ unreachable-requires g c =
     let t = c.in-Some.ensures.step in
     let refused = at_err c.deliver.result c.in_default-deliver.field-0 _ c.in_default-deliver.is c.deliver.ensures.refused in
     not-refused old.core c.take_command.new.self (tells old.parts) (tells c.perform-completion.new.self) c.in-Some.command t.0 t.1
-    c.perform-completion.result c.in_default-deliver.field-0.refusal t.2 c.in-Some.ensures.there c.perform-completion.ensures refused.fault
+    c.perform-completion.result c.in_default-deliver.field-0.refusal t.2 c.in-Some.ensures.there c.perform-completion.ensures.performed refused.fault
 
 pub invariant_of-self-2-clause-kept : goal.invariant_of-self-2-clause-kept
 invariant_of-self-2-clause-kept g c =
@@ -75,7 +77,7 @@ returns-clause-course g c = λ s ops x.
     let t = c.in-Some.ensures.step in
     has-performed s old.core c.take_command.new.self c.deliver.new.self (view_of old.pass) old.looked (tells old.parts) (tells c.perform-completion.new.self)
     old.asked.items old.entries.items ops c.in-Some.command t.0 t.1 (receipt_of c.in-Ok.receipt) c.perform-completion.result
-    t.2 c.in-Ok.ensures.received.step c.perform-completion.ensures x
+    t.2 c.in-Ok.ensures.received.step c.perform-completion.ensures.performed x
 
 pub returns-in_default-clause-lasts : goal.returns-in_default-clause-lasts
 returns-in_default-clause-lasts g c = lasts_by c.args.self.now.core No_command c.take_command.new.self c.in_default.ensures.step
@@ -98,3 +100,47 @@ returns-clause-passed g c = λ stopped counted rows x.
     passes-none c.take_command.new.self (Deliver command.token (completion_of c.perform-completion.result) (receipt_of c.in-Ok.receipt)) c.deliver.new.self refl
     c.in-Ok.ensures.received.step stopped counted rows
     (passes-none c.args.self.now.core (Take_command command.token (world_command t.0 t.1 command)) c.take_command.new.self refl t.2 stopped counted rows x)
+
+pub returns-in_default-clause-sound : goal.returns-in_default-clause-sound
+returns-in_default-clause-sound g c = λ shape number slot x.
+    let tells = g.P.Performs.tells in
+    let promised = g.P.Performs.promised in
+    let old = c.args.self.now in
+    sound-by (tells old.parts) (promised old.parts) shape number slot old.core No_command c.take_command.new.self old.named (record {})
+    c.in_default.ensures.step x
+
+pub returns-clause-sound : goal.returns-clause-sound
+returns-clause-sound g c = λ shape number slot x.
+    let tells = g.P.Performs.tells in
+    let promised = g.P.Performs.promised in
+    let old = c.args.self.now in
+    let command = c.in-Some.command in
+    let t = c.in-Some.ensures.step in
+    let done = c.perform-completion.ensures in
+    let parts = c.perform-completion.new.self in
+    subst (IsSound (tells parts) (promised parts) shape number slot c.deliver.new.self) (sym c.name.ensures)
+    (sound-performed (tells old.parts) (tells parts) (promised old.parts) (promised parts) shape number slot old.core c.take_command.new.self c.deliver.new.self
+    command t.0 t.1 c.perform-completion.result c.in-Ok.receipt c.is_err-failed.result old.named t.2 c.in-Ok.ensures.received.step
+    c.in-Some.ensures.there done.performed done.sound done.promised c.is_err-failed.ensures.value x)
+
+pub returns-clause-named : goal.returns-clause-named
+returns-clause-named g c =
+    let tells = g.P.Performs.tells in
+    let promised = g.P.Performs.promised in
+    let old = c.args.self.now in
+    let command = c.in-Some.command in
+    let t = c.in-Some.ensures.step in
+    let parts = c.perform-completion.new.self in
+    elim (named-how (tells old.parts) (tells parts) c.take_command.new.self c.deliver.new.self command c.perform-completion.result c.in-Ok.receipt
+    c.is_err-failed.result old.named c.perform-completion.ensures.performed c.in-Ok.ensures.received.step c.is_err-failed.ensures.value) [
+      | inl none ↦ inl (c.name.ensures ∙ none)
+      | inr own ↦ inr (record {
+        command = command;
+        fault = own.0;
+        between = c.take_command.new.self;
+        handed = t;
+        failed = own.1;
+        taken = own.2;
+        named = c.name.ensures ∙ own.3;
+      })
+    ]

@@ -21,3 +21,6 @@ returns-clause-course g c = λ s ops x.
     let old = c.args.self.now in
     has-seen s old.core (view_of old.pass) (view_of c.read.new.pass) old.looked (g.P.Performs.tells old.parts) old.asked.items old.entries.items ops
     c.read.ensures.looks x
+
+pub returns-clause-sound : goal.returns-clause-sound
+returns-clause-sound g c = λ shape number slot x. x

@@ -43,3 +43,10 @@ returns-clause-passed g c = λ stopped counted rows x.
     (HasPassedRows stopped counted rows new) c.turn.ensures.passed c.turn.ensures.refused
     (λ _ more. none-more told new more stopped counted rows before)
     (λ refusal refused. passes-same told new refused.same stopped counted rows before)
+
+pub returns-then-tell_next-clause-sound : goal.returns-then-tell_next-clause-sound
+returns-then-tell_next-clause-sound g c = λ shape number slot x. c.tell_next.ensures.sound shape number slot (c.perform_next.ensures.sound shape number slot x)
+
+pub returns-clause-sound : goal.returns-clause-sound
+returns-clause-sound g c = λ shape number slot x.
+    c.turn.ensures.sound shape number slot (c.tell_next.ensures.sound shape number slot (c.perform_next.ensures.sound shape number slot x))

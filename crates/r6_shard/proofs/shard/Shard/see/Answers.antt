@@ -13,6 +13,8 @@ use Rattle.r6_shard.proofs.Lasting.{lasts_by, lasts_same}
 use Rattle.r6_shard.proofs.Going.{has-gone, either_way, both_ok, both_err}
 use Rattle.r6_shard.specs.Own.{SeesFailure}
 use Rattle.r6_shard.proofs.Own.{failure-looked, failure-same}
+use Rattle.r6_shard.specs.Sound.{IsSound}
+use Rattle.r6_shard.proofs.Sound.{sound-looked, sound-same}
 use Rattle.r6_shard.proofs.shard.Shard.see.Goals as goal
 
 pub invariant_of-self-clause-kept : goal.invariant_of-self-clause-kept
@@ -86,3 +88,15 @@ returns-clause-passed g c =
     c.look.ensures.looked c.look.ensures.refused
     (λ _ looked. passes-none old (Look snapshot) new refl looked.step)
     (λ refusal refused. passes-same old new refused.same)
+
+pub returns-clause-sound : goal.returns-clause-sound
+returns-clause-sound g c = λ shape number slot here x.
+    let tells = g.P.Performs.tells in
+    let promised = g.P.Performs.promised in
+    let old = c.args.self.now in
+    let new = c.look.new.self in
+    let snapshot = c.args.snapshot.now in
+    either_way c.look.result (λ _. LooksAt old.core snapshot new) (λ refusal. RefusesLook old.core refusal new)
+    (IsSound (tells old.parts) (promised old.parts) shape number slot new old.named) c.look.ensures.looked c.look.ensures.refused
+    (λ _ looked. sound-looked (tells old.parts) (promised old.parts) shape number slot old.core snapshot new old.named here looked.step x)
+    (λ refusal refused. sound-same (tells old.parts) (promised old.parts) shape number slot old.core new old.named refused.same x)

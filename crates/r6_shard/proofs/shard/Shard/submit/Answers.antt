@@ -13,6 +13,7 @@ use Rattle.r6_shard.proofs.Keeping.{kept-submitting}
 use Rattle.r6_shard.proofs.Going.{has-submitted}
 use Rattle.r6_shard.proofs.Lasting.{lasts_by, lasts_same}
 use Rattle.r6_shard.proofs.Own.{failure-on, failure-same}
+use Rattle.r6_shard.proofs.Sound.{sound-by, sound-same}
 use Rattle.r6_shard.proofs.shard.Shard.submit.Goals as goal
 
 pub invariant_of-self-clause-kept : goal.invariant_of-self-clause-kept
@@ -83,3 +84,18 @@ returns-in-Ok-clause-passed g c =
 
 pub returns-in-Err-clause-passed : goal.returns-in-Err-clause-passed
 returns-in-Err-clause-passed g c = passes-same c.args.self.now.core c.submit.new.self c.in-Err.ensures.refused.same
+
+pub returns-in-Ok-clause-sound : goal.returns-in-Ok-clause-sound
+returns-in-Ok-clause-sound g c = λ shape number slot x.
+    let tells = g.P.Performs.tells in
+    let promised = g.P.Performs.promised in
+    let old = c.args.self.now in
+    sound-by (tells old.parts) (promised old.parts) shape number slot old.core (Submit (op_of c.args.op) c.in-Ok.id.0) c.submit.new.self old.named
+    (record {}) c.in-Ok.ensures.accepted.step x
+
+pub returns-in-Err-clause-sound : goal.returns-in-Err-clause-sound
+returns-in-Err-clause-sound g c = λ shape number slot x.
+    let tells = g.P.Performs.tells in
+    let promised = g.P.Performs.promised in
+    let old = c.args.self.now in
+    sound-same (tells old.parts) (promised old.parts) shape number slot old.core c.submit.new.self old.named c.in-Err.ensures.refused.same x

@@ -1,5 +1,6 @@
 use Rattle.std.proofs.Common.{◌∙◌, sym, subst}
 use Rattle.r6_shard.specs.Counted.{HasPassedRows}
+use Rattle.r6_shard.specs.Sound.{IsSoundIn}
 use Rattle.r6_shard.specs.Shards.{CourseOf}
 use Rattle.r6_shard.proofs.Lasting.{lasts_on}
 use Rattle.r6_shard.proofs.shard.Shard.tell_all.Goals as goal
@@ -25,6 +26,7 @@ loop-preserved g c =
         course = λ s ops x. now.course s ops (before.course s ops x);
         lasts = lasts_on c.args.self.now.core c.loop.self.core c.tell_next.new.self.core before.lasts now.lasts;
         passed = λ stopped counted rows x. now.passed stopped counted rows (before.passed stopped counted rows x);
+        sound = λ shape number slot x. now.sound shape number slot (before.sound shape number slot x);
         ledger = record {
           asked = now.ledger.asked ∙ before.ledger.asked;
           entries = now.ledger.entries ∙ before.ledger.entries;
@@ -39,4 +41,14 @@ returns-clause-passed g c = λ stopped counted rows x.
     elim c.match-next.branch [
       | in-None w ↦ subst (λ s. HasPassedRows stopped counted rows s.core) (sym w.self-is) before
       | in-Some+then-not-tell_next w ↦ subst (λ s. HasPassedRows stopped counted rows s.core) (sym w.self-is) (w.tell_next.ensures.passed stopped counted rows before)
+    ]
+
+pub returns-clause-sound : goal.returns-clause-sound
+returns-clause-sound g c = λ shape number slot x.
+    let tells = g.P.Performs.tells in
+    let promised = g.P.Performs.promised in
+    let before = c.loop.invariant.2.sound shape number slot x in
+    elim c.match-next.branch [
+      | in-None w ↦ subst (IsSoundIn tells promised shape number slot) (sym w.self-is) before
+      | in-Some+then-not-tell_next w ↦ subst (IsSoundIn tells promised shape number slot) (sym w.self-is) (w.tell_next.ensures.sound shape number slot before)
     ]

@@ -13,6 +13,7 @@ use Rattle.r6_shard.proofs.Going.{has-told, either_way}
 use Rattle.r6_shard.specs.Own.{SeesFailure}
 use Rattle.r6_health.proofs.Tells.{seen_after}
 use Rattle.r6_shard.proofs.Own.{own-told, failure-on, failure-later}
+use Rattle.r6_shard.proofs.Sound.{sound-by, sound-twice}
 use Rattle.r6_shard.proofs.shard.Shard.tell_next.Goals as goal
 
 pub invariant_of-self-clause-kept : goal.invariant_of-self-clause-kept
@@ -88,3 +89,19 @@ returns-clause-passed g c = λ stopped counted rows x.
     let call = call_of c.in-Some.call in
     passes-none c.take_call.new.self (Told call c.make-answer.result) c.told.new.self refl c.in-Ok.ensures.heard.step stopped counted rows
     (passes-none c.args.self.now.core (Take_call call) c.take_call.new.self refl c.in-Some.ensures.step stopped counted rows x)
+
+pub returns-in_default-clause-sound : goal.returns-in_default-clause-sound
+returns-in_default-clause-sound g c = λ shape number slot x.
+    let tells = g.P.Performs.tells in
+    let promised = g.P.Performs.promised in
+    let old = c.args.self.now in
+    sound-by (tells old.parts) (promised old.parts) shape number slot old.core No_call c.take_call.new.self old.named (record {}) c.in_default.ensures.step x
+
+pub returns-clause-sound : goal.returns-clause-sound
+returns-clause-sound g c = λ shape number slot x.
+    let tells = g.P.Performs.tells in
+    let promised = g.P.Performs.promised in
+    let old = c.args.self.now in
+    let call = call_of c.in-Some.call in
+    sound-twice (tells old.parts) (promised old.parts) shape number slot old.core (Take_call call) c.take_call.new.self (Told call c.make-answer.result)
+    c.told.new.self old.named (record {}) (record {}) c.in-Some.ensures.step c.in-Ok.ensures.heard.step x

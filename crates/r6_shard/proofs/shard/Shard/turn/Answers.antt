@@ -15,6 +15,9 @@ use Rattle.r6_shard.proofs.Lasting.{lasts_turned, lasts_same}
 use Rattle.r6_shard.proofs.Going.{has-gone, either_way}
 use Rattle.r6_shard.specs.Own.{SeesFailure}
 use Rattle.r6_shard.proofs.Own.{failure-on, failure-same, plain-sees}
+use Rattle.r6_shard.specs.Sound.{IsSound}
+use Rattle.r6_shard.proofs.Keeping.{turned-no-look}
+use Rattle.r6_shard.proofs.Sound.{sound-by, sound-same}
 use Rattle.r6_shard.proofs.shard.Shard.turn.Goals as goal
 
 pub invariant_of-self-clause-kept : goal.invariant_of-self-clause-kept
@@ -87,3 +90,17 @@ returns-clause-passed g c =
       | Ok turn ↦ λ t. more turn t
       | Err refusal ↦ λ t. t
     ] c.turn.ensures.turned
+
+pub returns-clause-sound : goal.returns-clause-sound
+returns-clause-sound g c = λ shape number slot x.
+    let tells = g.P.Performs.tells in
+    let promised = g.P.Performs.promised in
+    let old = c.args.self.now in
+    let new = c.turn.new.self in
+    let task = c.args.task in
+    either_way c.turn.result (λ turn. Turns old.core task turn new) (λ refusal. RefusesTurn old.core task refusal new)
+    (IsSound (tells old.parts) (promised old.parts) shape number slot new old.named) c.turn.ensures.turned c.turn.ensures.refused
+    (λ turn t.
+    let p = turned old.core task turn new t.taken in
+    sound-by (tells old.parts) (promised old.parts) shape number slot old.core p.0 new old.named (turned-no-look old.core task turn new t.taken) p.5 x)
+    (λ refusal refused. sound-same (tells old.parts) (promised old.parts) shape number slot old.core new old.named refused.same x)

@@ -1,0 +1,148 @@
+-- What parts in a list promise.
+use Rattle.std.proofs.Common.{◌≡◌, ◌<◌, ℕ, zero, suc, List, [], ◌∷◌, length, get_or, All, true, false, inl, inr, refl, sym, ap, subst, ◌∙◌, arith, Option, Some, None}
+use Rattle.std.specs.Prelude.{slice_set, ◌==◌, ◌&&◌, Bool, option_map, unwrap_or, is_some}
+use Rattle.std.specs.List.{position}
+use Rattle.std.proofs.lemmas.List.Quantifiers.{position-Some}
+use Rattle.std.proofs.lemmas.Bool.{cases_Bool, cases_eq, and_parts, eqb-true, false≢true}
+use Rattle.r6_dev.specs.History.{Telling}
+use Rattle.r6_dev.specs.Promises.{Promise, FailsNone, no_promise}
+use Rattle.r6_layout.specs.Shape.{Shape}
+use Rattle.r6_world.specs.Geometries.{layout_of}
+use Rattle.r6_world.specs.Layouts.{IsRowOf}
+use Rattle.r6_world.specs.Registers.{Snapshot, ShardSet, Rebuilding}
+use Rattle.r6_world.proofs.Tables.{None-not_Some}
+use Rattle.r6_core.specs.Shards.{CoreView}
+use Rattle.r6_shard.specs.declared.parts.Part.{Part}
+use Rattle.r6_shard.specs.Parts.{is_of, part_in, part_of, promise_in, TakesIn}
+use Rattle.r6_shard.specs.Performing.{ArePromised}
+use Rattle.r6_shard.specs.Sound.{HasPart, DeviceFailsNone, IsSound, BeginsSound, StartsSound}
+use Rattle.r6_shard.proofs.Places.{first-of, behind, found, not-both}
+use Rattle.r6_shard.proofs.Handed.{of-first, of-behind, part-found, part-replaced, part-elsewhere}
+
+-- this slot and generation, or another
+pub same-or-not : {A : Type 0} (slot g slot' g' : ℕ) → (slot ≡ slot' → g ≡ g' → A) → (((slot ≡ slot') × (g ≡ g') → ⊥) → A) → A
+same-or-not slot g slot' g' here else = elim (cases_eq slot slot') [
+  | inl same ↦ elim (cases_eq g g') [
+    | inl same' ↦ here same same'
+    | inr ne ↦ else (λ both. ne both.1)
+  ]
+  | inr ne ↦ else (λ both. ne both.0)
+]
+
+-- the part that stands at this place of the list
+pub part-at : {D : Type 0} (parts : List (Part D)) (at : ℕ) (here : Part D) (slot generation : ℕ)
+    → position (is_of slot generation) parts ≡ Some at → get_or parts at here ≡ here
+    → part_of parts slot generation ≡ Some here
+part-at parts at here slot generation place is =
+    let p = position-Some (is_of slot generation) parts at here place in
+    part-found parts at here slot generation p.0 p.1 p.2 ∙ ap Some is
+
+-- a part that is found is there
+pub here-part : {D : Type 0} (told : D → Telling) (parts : List (Part D)) (slot generation : ℕ) (o : Option ℕ)
+    → o ≡ position (is_of slot generation) parts → is_some o ≡ true → HasPart (part_in told parts) slot generation
+here-part told parts slot generation None e some = absurd (false≢true some)
+here-part told [] slot generation (Some at) e some = absurd (None-not_Some at (sym e))
+here-part told (part ∷ parts) slot generation (Some at) e some = λ none.
+    let p = position-Some (is_of slot generation) (part ∷ parts) at part (sym e) in
+    None-not_Some _ (sym none ∙ found told (part ∷ parts) at part slot generation p.0 p.1 p.2)
+
+pub same-new : (g g' : ℕ) (reported reported' : ShardSet) → Rebuilding g reported ≡ Rebuilding g' reported' → g ≡ g'
+same-new g g' reported reported' e = cc
+
+pub no-row : (row : ℕ) → row < 0 → ⊥
+no-row row below = omega (arith, below)
+
+-- its promise
+pub promise-of : {D : Type 0} (promised : D → Promise) (parts : List (Part D)) (slot generation : ℕ) (part : Part D) → part_of parts slot generation ≡ Some part
+    → promise_in promised parts slot generation ≡ promised part.device
+promise-of promised parts slot generation part e = ap (λ o. unwrap_or (option_map (λ (y : Part _). promised y.device) o) no_promise) e
+
+pub still-promised : {D : Type 0} (promised : D → Promise) (parts : List (Part D)) (at : ℕ) (before behind' : Part D) (slot generation : ℕ)
+    → position (is_of slot generation) parts ≡ Some at → get_or parts at before ≡ before
+    → behind'.slot ≡ before.slot → behind'.generation ≡ before.generation → promised behind'.device ≡ promised before.device
+    → ArePromised (promise_in promised parts) (promise_in promised (slice_set parts at behind'))
+still-promised {D = D} promised parts at before behind' slot generation place here slot' generation' stays other g =
+    let p = position-Some (is_of slot generation) parts at before place in
+    let was : is_of slot generation before ≡ true = ap (is_of slot generation) (sym here) ∙ p.1 in
+    let is : is_of slot generation behind' ≡ true =
+    ap (λ (y : ℕ). (y == slot) && (behind'.generation == generation)) slot'
+    ∙ ap (λ (y : ℕ). (before.slot == slot) && (y == generation)) generation' ∙ was in
+    let new = slice_set parts at behind' in
+    same-or-not other g slot generation
+    (λ same same'.
+    let own : promise_in promised new slot generation ≡ promise_in promised parts slot generation =
+    promise-of promised new slot generation behind' (part-replaced parts at before behind' slot generation p.0 is p.2) ∙ stays
+    ∙ sym (promise-of promised parts slot generation before (part-at parts at before slot generation place here)) in
+    subst (λ y. promise_in promised new y g ≡ promise_in promised parts y g) (sym same)
+    (subst (λ y. promise_in promised new slot y ≡ promise_in promised parts slot y) (sym same') own))
+    (λ ne. ap (λ o. unwrap_or (option_map (λ (y : Part D). promised y.device) o) no_promise)
+    (part-elsewhere parts at before behind' other g p.0 (not-both behind' slot generation other g is ne)
+    (ap (is_of other g) here ∙ not-both before slot generation other g was ne)))
+
+-- ---- a part is taken in
+
+pub takes-sound : {D : Type 0} (told : D → Telling) (promised : D → Promise) (part : Part D) (earlier : Option (Part D)) (old new : List (Part D))
+    (shape : Shape) (number slot : ℕ) (core : CoreView) (named : List Bool) → TakesIn told part earlier old new
+    → (part.slot ≡ slot → DeviceFailsNone promised shape number part.device)
+    → IsSound (part_in told old) (promise_in promised old) shape number slot core named
+    → IsSound (part_in told new) (promise_in promised new) shape number slot core named
+takes-sound {D = D} told promised part earlier old new shape number slot core named taken fails x =
+    let Fine = λ (y : Promise). FailsNone y (IsRowOf (layout_of shape) number) shape.block in
+    let stays : (g : ℕ) → HasPart (part_in told old) slot g → HasPart (part_in told new) slot g =
+    (λ g has. same-or-not slot g part.slot part.generation
+    (λ same same' e. None-not_Some (told part.device)
+    (sym e ∙ ap (λ y. part_in told new y g) same ∙ ap (part_in told new part.slot) same' ∙ taken.tells))
+    (λ ne e. has (sym (taken.others slot g ne) ∙ e))) in
+    record {
+      shape_is = x.shape_is;
+      place = x.place;
+      parts = λ g has. same-or-not slot g part.slot part.generation
+          (λ same same'.
+          subst Fine
+          (sym (promise-of promised new slot g part (ap (λ y. part_of new y g) same ∙ ap (part_of new part.slot) same' ∙ taken.there)))
+          (fails (sym same)))
+          (λ ne.
+          subst Fine (sym (ap (λ o. unwrap_or (option_map (λ (y : Part D). promised y.device) o) no_promise) (taken.kept slot g ne)))
+          (x.parts g (λ e. has (taken.others slot g ne ∙ e))));
+      here = (λ below g u. stays g (x.here.0 below g u), λ token c e same. stays c.generation (x.here.1 token c e same));
+      unnamed = x.unnamed;
+    }
+
+-- ---- at the start
+
+-- a part that tells is there, and one of the list
+one-of : {D : Type 0} (told : D → Telling) (Q : Part D → Type 0) (parts : List (Part D)) (slot generation : ℕ)
+    → All (λ part. part.slot ≡ slot → Q part) parts → HasPart (part_in told parts) slot generation
+    → (part : Part D) × (part_of parts slot generation ≡ Some part) × Q part
+one-of told Q [] slot generation all has = absurd (has refl)
+one-of told Q (part ∷ parts) slot generation all has = elim (cases_Bool (is_of slot generation part)) [
+  | inl yes' ↦ (
+    part,
+    of-first part parts slot generation yes',
+    all 0 part (omega arith) (eqb-true part.slot slot (and_parts (part.slot == slot) (part.generation == generation) yes').0),
+  )
+  | inr no' ↦
+      let rest = one-of told Q parts slot generation (λ k d below. all (suc k) d (omega (arith, below)))
+      (λ e. has (behind told part parts slot generation no' ∙ e)) in
+      (rest.0, of-behind part parts slot generation no' ∙ rest.1, rest.2)
+]
+
+untold : {D : Type 0} (told : D → Telling) (parts : List (Part D)) (slot generation : ℕ) → part_in told parts slot generation ≡ None
+    → part_of parts slot generation ≡ None
+untold told [] slot generation e = refl
+untold told (part ∷ parts) slot generation e = elim (cases_Bool (is_of slot generation part)) [
+  | inl yes' ↦ absurd (None-not_Some (told part.device) (sym e ∙ first-of told part parts slot generation yes'))
+  | inr no' ↦ of-behind part parts slot generation no' ∙ untold told parts slot generation (sym (behind told part parts slot generation no') ∙ e)
+]
+
+pub begins-sound : {D : Type 0} (told : D → Telling) (promised : D → Promise) (shape : Shape) (number slot : ℕ) (snapshot : Snapshot) (parts : List (Part D))
+    → StartsSound promised shape number snapshot slot parts
+    → BeginsSound (part_in told parts) (promise_in promised parts) shape number snapshot slot
+begins-sound told promised shape number slot snapshot parts x =
+    record {
+      parts = λ g has.
+          let one = one-of told (λ part. DeviceFailsNone promised shape number part.device) parts slot g x.each has in
+          subst (λ (y : Promise). FailsNone y (IsRowOf (layout_of shape) number) shape.block)
+          (sym (promise-of promised parts slot g one.0 one.1)) one.2;
+      here = λ below sync e. x.first below sync (untold told parts slot 0 e);
+    }

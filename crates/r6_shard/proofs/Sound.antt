@@ -1,0 +1,374 @@
+-- Sound slots stay sound.
+use Rattle.std.proofs.Common.{◌≡◌, ◌≢◌, ℕ, zero, suc, ◌<◌, ◌⊎◌, List, [], ◌∷◌, length, get_or, Bool, true, false, inl, inr, refl, sym, ap, subst, ◌∙◌, arith, get_or-set_other, Option, Some, None, Result, Ok, Err, replicate}
+use Rattle.std.specs.Prelude.{◌==◌, ◌||◌, slice_index_or, slice_set, is_err, IsOk, MatchResult}
+use Rattle.std.specs.List.{All}
+use Rattle.std.proofs.lemmas.Bool.{cases_eq, true≢false, false≢true}
+use Rattle.r6_dev.specs.History.{Telling}
+use Rattle.r6_dev.specs.Promises.{Promise, Covers, FailsNone}
+use Rattle.r6_layout.specs.Shape.{Shape}
+use Rattle.r6_world.specs.Tables.{put}
+use Rattle.r6_world.specs.Layouts.{Layout, IsRowOf, slot_of}
+use Rattle.r6_world.specs.Geometries.{layout_of}
+use Rattle.r6_world.specs.Registers.{Snapshot, ShardSet, Status, InSync, Lost, Rebuilding, status_of}
+use Rattle.r6_world.specs.Tasks.{Task, Hold, Outcome, ReadFor, WriteFor, Rebuild, Check, Repair, Answered, Wrote, Rebuilt, GivenUp, Classed, Skipped}
+use Rattle.r6_world.specs.ShardStates as world
+use Rattle.r6_world.specs.ShardStates.{Command, SlotState, Synced, Missing, Building, InSyncFor, Fetch, Store, handed}
+use Rattle.r6_world.specs.Changes.{Change, Ask, Send, Read_direct, Give_direct, Learn, Confirm, Come_home, Lose, Adopt, See_failed, Finish, Bring_in, Hand_command, IsTarget, abandoned_if, abandoned_to, adopted, slots_after, with_row, after}
+use Rattle.r6_world.specs.Steps as steps
+use Rattle.r6_world.specs.Steps.{Event, Look, Deliver, Take_command, Completion, Receipt}
+use Rattle.r6_world.specs.Worlds.{slot_at_start, shard_at_start}
+use Rattle.r6_world.proofs.Tables.{put-cases, Some-inj, not_both, None-not_Some}
+use Rattle.r6_world.specs.Refusals.{IsNoLook}
+use Rattle.r6_world.proofs.Changes.{Keeps, step-kept}
+use Rattle.r6_frames.specs.Views.{world_command}
+use Rattle.r6_course.specs.Ends.{IsInUse}
+use Rattle.r6_course.specs.Steps.{OthersAreKept}
+use Rattle.r6_core.specs.declared.Command.{Command as CoreCommand}
+use Rattle.r6_core.specs.declared.refusal.DeviceFault.{DeviceFault}
+use Rattle.r6_core.specs.declared.refusal.Receipt.{Receipt as CoreReceipt}
+use Rattle.r6_core.specs.declared.refusal.Receipt.TheVariants as core-receipt
+use Rattle.r6_core.specs.Effects.{IsMade, IsCommandOf}
+use Rattle.r6_core.specs.Shards.{CoreView, Step, core_layout, world_shard, completion_of, receipt_of}
+use Rattle.r6_shard.specs.declared.parts.Part.{Part}
+use Rattle.r6_shard.specs.declared.shard.Shard.{Shard}
+use Rattle.r6_shard.specs.Kept.{named_by}
+use Rattle.r6_shard.specs.Performing.{Performed, Failed, ArePromised}
+use Rattle.r6_shard.specs.Sound.{UsesOnly, HasPart, PartsFailNone, IsSound, BeginsSound, HasNew}
+
+-- ---- each small change
+
+in-sync-used : (state : SlotState) (row generation : ℕ) → InSyncFor state row generation → IsInUse state generation
+in-sync-used (Synced current) row generation e = e
+in-sync-used Missing row generation e = absurd e
+in-sync-used (Building current built) row generation e = e.0
+
+target-used : (task : Task) (slot generation : ℕ) (state : SlotState) → IsTarget task slot generation state → IsInUse state generation
+target-used task slot generation state t = subst (λ y. IsInUse y generation) (sym t.2) refl
+
+-- a slot that a look has changed is used with a device that it was used with, or with that which is rebuilding
+adopted-used : (now : SlotState) (status : Status) (generation : ℕ) → IsInUse (adopted now status) generation
+    → IsInUse now generation ⊎ ((reported : ShardSet) × (status ≡ Rebuilding generation reported))
+adopted-used (Synced current) InSync generation u = inl u
+adopted-used Missing InSync generation u = inl u
+adopted-used (Building current built) InSync generation u = inl u
+adopted-used (Synced current) Lost generation u = absurd u
+adopted-used Missing Lost generation u = absurd u
+adopted-used (Building current built) Lost generation u = absurd u
+adopted-used (Synced current) (Rebuilding g reported) generation u = at (current == g) u
+  where
+    at : (b : Bool) → IsInUse (Rattle.std.specs.Prelude.cond b (Synced current) (Building g (λ row. false))) generation
+        → IsInUse (Synced current) generation ⊎ ((r : ShardSet) × (Rebuilding g reported ≡ Rebuilding generation r))
+    at true v = inl v
+    at false v = inr (reported, ap (λ y. Rebuilding y reported) (sym v))
+adopted-used Missing (Rebuilding g reported) generation u = inr (reported, ap (λ y. Rebuilding y reported) (sym u))
+adopted-used (Building current built) (Rebuilding g reported) generation u = at (current == g) u
+  where
+    at : (b : Bool) → IsInUse (Rattle.std.specs.Prelude.cond b (Building current built) (Building g (λ row. false))) generation
+        → IsInUse (Building current built) generation ⊎ ((r : ShardSet) × (Rebuilding g reported ≡ Rebuilding generation r))
+    at true v = inl v
+    at false v = inr (reported, ap (λ y. Rebuilding y reported) (sym v))
+
+with-row-used : (state : SlotState) (row generation : ℕ) → IsInUse (with_row state row) generation → IsInUse state generation
+with-row-used (Synced current) row generation u = u
+with-row-used Missing row generation u = u
+with-row-used (Building current built) row generation u = u
+
+-- one slot's state is put
+put-used : (states : ℕ → SlotState) (d : ℕ) (state : SlotState) (slot generation : ℕ) {A : Type 0}
+    → (slot ≡ d → IsInUse state generation → A) → (IsInUse (states slot) generation → A) → IsInUse (put states d state slot) generation → A
+put-used states d state slot generation here there u = elim (put-cases states d state slot (put states d state slot) refl) [
+  | inl p ↦ here p.0 (subst (λ y. IsInUse y generation) (sym p.1) u)
+  | inr p ↦ there (subst (λ y. IsInUse y generation) (sym p.1) u)
+]
+
+finished-used : (s : world.Shard) (h : Hold) (task : Task) (outcome : Outcome) (slot generation : ℕ)
+    → IsInUse (slots_after s h task outcome slot) generation → IsInUse (s.slot slot) generation
+finished-used s h (Rebuild target g) Rebuilt slot generation u =
+    put-used s.slot target (with_row (s.slot target) h.row) slot generation
+    (λ same v. subst (λ y. IsInUse (s.slot y) generation) (sym same) (with-row-used (s.slot target) h.row generation v)) (λ v. v) u
+finished-used s h (Rebuild target g) GivenUp slot generation u = u
+finished-used s h (Rebuild target g) (Answered b) slot generation u = u
+finished-used s h (Rebuild target g) Wrote slot generation u = u
+finished-used s h (Rebuild target g) (Classed class) slot generation u = u
+finished-used s h (Rebuild target g) Skipped slot generation u = u
+finished-used s h (ReadFor id block) outcome slot generation u = u
+finished-used s h (WriteFor writes) outcome slot generation u = u
+finished-used s h Check outcome slot generation u = u
+finished-used s h Repair outcome slot generation u = u
+
+-- an abandoned command goes where it went
+if-goes : (b : Bool) (o : Option Command) (c : Command) {A : Type 0} → abandoned_if b o ≡ Some c
+    → ((d : Command) → o ≡ Some d → (d.slot ≡ c.slot) → (d.generation ≡ c.generation) → A) → A
+if-goes b None c e k = absurd (not_both None c refl e)
+if-goes b (Some d) c e k = let same = Some-inj _ c e in k d refl (ap (λ (y : Command). y.slot) same) (ap (λ (y : Command). y.generation) same)
+
+to-goes : (b : Bool) (slot : ℕ) (o : Option Command) (c : Command) {A : Type 0} → abandoned_to b slot o ≡ Some c
+    → ((d : Command) → o ≡ Some d → (d.slot ≡ c.slot) → (d.generation ≡ c.generation) → A) → A
+to-goes b slot None c e k = absurd (not_both None c refl e)
+to-goes b slot (Some d) c e k = if-goes (b || (d.slot == slot)) (Some d) c e k
+
+module _ (l : Layout) (n : ℕ) (Has : ℕ → Type 0) (slot : ℕ) where
+  abbrev Goes : (ℕ → Option Command) → Type 0
+  Goes command = (token : ℕ) (c : Command) → command token ≡ Some c → c.slot ≡ slot → Has c.generation
+
+  with-one : (command : ℕ → Option Command) (at : ℕ) (new : Command) → (new.slot ≡ slot → Has new.generation) → Goes command
+      → Goes (put command at (Some new))
+  with-one command at new has x t c e same = elim (put-cases command at (Some new) t (Some c) e) [
+    | inl p ↦
+        let is = Some-inj new c p.1 in
+        subst Has (ap (λ (y : Command). y.generation) is) (has (ap (λ (y : Command). y.slot) is ∙ same))
+    | inr p ↦ x t c p.1 same
+  ]
+
+  without-one : (command : ℕ → Option Command) (at : ℕ) → Goes command → Goes (put command at None)
+  without-one command at x t c e same = elim (put-cases command at None t (Some c) e) [
+    | inl p ↦ absurd (not_both None c refl p.1)
+    | inr p ↦ x t c p.1 same
+  ]
+
+  abandoned-go : (stopped : Bool) (d : ℕ) (command : ℕ → Option Command) → Goes command → Goes (λ t. abandoned_to stopped d (command t))
+  abandoned-go stopped d command x t c e same =
+      to-goes stopped d (command t) c e (λ c' e' slot' g'. subst Has g' (x t c' e' (slot' ∙ same)))
+
+  -- where the event is a look: the slot's new device is one of those
+  abbrev pub Finds : Event → Type 0
+  Finds (Look seen) = slot < l.slots → (generation : ℕ) (reported : ShardSet) → status_of seen slot ≡ Rebuilding generation reported → Has generation
+  Finds event = record {}
+
+  -- a new command goes to a device that is used
+  to-used : (s : world.Shard) (d g : ℕ) → UsesOnly l.slots Has slot s → d < l.slots → IsInUse (s.slot d) g → d ≡ slot → Has g
+  to-used s d g x below u same =
+      x.0 (subst (λ y. y < l.slots) same below) g (subst (λ y. IsInUse (s.slot y) g) same u)
+
+  uses-kept : (event : Event) → Finds event → Keeps l n (UsesOnly l.slots Has slot) event
+  uses-kept event finds s (Ask f h d g) within a x = (
+    x.0,
+    with-one s.command s.tokens (record { frame = f; slot = d; generation = g; row = h.row; transfer = Fetch; taken = false; abandoned = false })
+        (to-used s d g x a.1 (in-sync-used (s.slot d) h.row g a.2)) x.1,
+  )
+  uses-kept event finds s (Send f h d g b) within a x = (
+    x.0,
+    with-one s.command s.tokens (record { frame = f; slot = d; generation = g; row = h.row; transfer = Store b; taken = false; abandoned = false })
+        (to-used s d g x a.1 (elim a.2 [
+          | inl sync ↦ in-sync-used (s.slot d) h.row g sync
+          | inr target ↦ target-used h.task d g (s.slot d) target
+        ])) x.1,
+  )
+  uses-kept event finds s (Read_direct buffer id block g) within a x = (
+    x.0,
+    with-one s.command s.tokens (record { frame = buffer; slot = slot_of l block; generation = g; row = l.row_of block; transfer = Fetch; taken = false; abandoned = false })
+        (to-used s (slot_of l block) g x a.3 (in-sync-used (s.slot (slot_of l block)) (l.row_of block) g a.4)) x.1,
+  )
+  uses-kept event finds s (Give_direct t c id block b) within a x = (x.0, without-one s.command t x.1)
+  uses-kept event finds s (Learn t c h b) within a x = (x.0, without-one s.command t x.1)
+  uses-kept event finds s (Confirm t c h) within a x = (x.0, without-one s.command t x.1)
+  uses-kept event finds s (Come_home t c) within a x = (x.0, without-one s.command t x.1)
+  uses-kept event finds s (Lose t c) within a x = (
+    λ below g u. put-used s.slot c.slot Missing slot g (λ same v. absurd v) (x.0 below g) u,
+    abandoned-go _ c.slot (put s.command t None) (without-one s.command t x.1),
+  )
+  uses-kept event finds s (Adopt d status) within a x = (
+    λ below g u. put-used s.slot d (adopted (s.slot d) status) slot g
+        (λ same v. elim (adopted-used (s.slot d) status g v) [
+          | inl before ↦ x.0 below g (subst (λ y. IsInUse (s.slot y) g) (sym same) before)
+          | inr new ↦
+              let sees : Finds (Look within.0) = subst Finds within.1 finds in
+              sees below g new.0 (ap (status_of within.0) same ∙ sym within.2 ∙ new.1)
+        ])
+        (x.0 below g) u,
+    abandoned-go _ d s.command x.1,
+  )
+  uses-kept event finds s See_failed within a x = (
+    x.0,
+    λ t c e same. if-goes true (s.command t) c e (λ c' e' slot' g'. subst Has g' (x.1 t c' e' (slot' ∙ same))),
+  )
+  uses-kept event finds s (Finish f h outcome) within a x = (
+    λ below g u. x.0 below g (finished-used s h h.task outcome slot g u),
+    x.1,
+  )
+  uses-kept event finds s (Bring_in d g) within a x = (
+    λ below g' u. put-used s.slot d (Synced g) slot g'
+        (λ same v. x.0 below g' (subst (λ y. IsInUse (s.slot y) g') (sym same) (subst (λ y. IsInUse y g') (sym a.1) v)))
+        (x.0 below g') u,
+    x.1,
+  )
+  uses-kept event finds s (Hand_command t c) within a x = (
+    x.0,
+    with-one s.command t (record c { taken = true; transfer = handed c.transfer }) (x.1 t c a.0) x.1,
+  )
+  uses-kept event finds s change within a x = x
+
+  pub uses-on : (event : Event) → Finds event → (old new : world.Shard) → steps.Step l n old event new → UsesOnly l.slots Has slot old
+      → UsesOnly l.slots Has slot new
+  uses-on event finds old new step x = step-kept l n (UsesOnly l.slots Has slot) event (uses-kept event finds) old new step x
+
+-- ---- each call of the core
+
+finds-none : (l : Layout) (n : ℕ) (Has : ℕ → Type 0) (slot : ℕ) (event : Event) → IsNoLook event → Finds l n Has slot event
+finds-none l n Has slot (Look seen) k = absurd k
+finds-none l n Has slot event k = record {}
+
+step-in : (shape : Shape) (old : CoreView) (event : Event) (new : CoreView) → old.shape ≡ shape → Step old event new
+    → steps.Step (layout_of shape) old.shard (world_shard old) event (world_shard new)
+step-in shape old event new is step =
+    subst (λ y. steps.Step (layout_of y) old.shard (world_shard old) event (world_shard new)) is step.1
+
+module _ (part : ℕ → ℕ → Option Telling) (promise : ℕ → ℕ → Promise) (shape : Shape) (number slot : ℕ) where
+  goes-on : (old : CoreView) (event : Event) (new : CoreView) (named : List Bool)
+      → Finds (layout_of shape) old.shard (HasPart part slot) slot event → Step old event new
+      → IsSound part promise shape number slot old named → IsSound part promise shape number slot new named
+  goes-on old event new named finds step x =
+      record {
+        shape_is = step.0.0 ∙ x.shape_is;
+        place = step.0.1 ∙ x.place;
+        parts = x.parts;
+        here = uses-on (layout_of shape) old.shard (HasPart part slot) slot event finds (world_shard old) (world_shard new)
+            (step-in shape old event new x.shape_is step) x.here;
+        unnamed = x.unnamed;
+      }
+
+  -- any call but a look
+  pub sound-by : (old : CoreView) (event : Event) (new : CoreView) (named : List Bool) → IsNoLook event → Step old event new
+      → IsSound part promise shape number slot old named → IsSound part promise shape number slot new named
+  sound-by old event new named none step x =
+      goes-on old event new named (finds-none (layout_of shape) old.shard (HasPart part slot) slot event none) step x
+
+  pub sound-twice : (old : CoreView) (event : Event) (mid : CoreView) (event' : Event) (new : CoreView) (named : List Bool)
+      → IsNoLook event → IsNoLook event' → Step old event mid → Step mid event' new
+      → IsSound part promise shape number slot old named → IsSound part promise shape number slot new named
+  sound-twice old event mid event' new named none none' first second x =
+      sound-by mid event' new named none' second (sound-by old event mid named none first x)
+
+  pub sound-same : (old new : CoreView) (named : List Bool) → new ≡ old
+      → IsSound part promise shape number slot old named → IsSound part promise shape number slot new named
+  sound-same old new named same x = subst (λ y. IsSound part promise shape number slot y named) (sym same) x
+
+  pub sound-looked : (old : CoreView) (seen : Snapshot) (new : CoreView) (named : List Bool) → (slot < shape.slots → HasNew part seen slot)
+      → Step old (Look seen) new
+      → IsSound part promise shape number slot old named → IsSound part promise shape number slot new named
+  sound-looked old seen new named here step x = goes-on old (Look seen) new named (λ below g reported e. here below g reported e) step x
+
+-- ---- a command
+
+is-ok : {A : Type 0} (completion : Result (List ℕ) DeviceFault) → IsOk completion → is_err completion ≡ true → A
+is-ok (Ok came) ok e = absurd (true≢false (sym e))
+is-ok (Err fault) ok e = absurd (false≢true ok)
+
+-- of another slot nothing is named
+still-unnamed : (failed : Bool) (receipt : CoreReceipt) (named : List Bool) (slot other : ℕ)
+    → (failed ≡ true → other ≡ slot → ⊥) → slice_index_or named other false ≡ false
+    → slice_index_or (named_by failed receipt slot named) other false ≡ false
+still-unnamed true core-receipt.Taken named slot other ne e = get_or-set_other named slot other true false (λ same. ne refl same) ∙ e
+still-unnamed true core-receipt.Late named slot other ne e = e
+still-unnamed false receipt named slot other ne e = e
+
+module _ (old-part new-part : ℕ → ℕ → Option Telling) (old-promise new-promise : ℕ → ℕ → Promise) (shape : Shape) (number slot : ℕ) where
+  abbrev Did : CoreCommand → Result (List ℕ) DeviceFault → Type 0
+  Did c completion = MatchResult completion (Performed old-part new-part c) (Failed old-part new-part c)
+
+  others-kept : (c : CoreCommand) (completion : Result (List ℕ) DeviceFault) → Did c completion
+      → OthersAreKept c.slot c.generation old-part new-part
+  others-kept c (Ok came) did = did.others
+  others-kept c (Err fault) did = did.0
+
+  own-there : (c : CoreCommand) (completion : Result (List ℕ) DeviceFault) → Did c completion → IsOk completion
+      → HasPart new-part c.slot c.generation
+  own-there c (Ok came) did ok = λ e. None-not_Some did.behind (sym e ∙ did.is)
+  own-there c (Err fault) did ok = absurd (false≢true ok)
+
+  pub sound-performed : (old mid new : CoreView) (c : CoreCommand) (frame : ℕ) (abandoned : Bool)
+      (completion : Result (List ℕ) DeviceFault) (receipt : CoreReceipt) (failed : Bool) (named : List Bool)
+      → Step old (Take_command c.token (world_command frame abandoned c)) mid
+      → Step mid (Deliver c.token (completion_of completion) (receipt_of receipt)) new
+      → IsCommandOf old c → Did c completion
+      → (Covers (old-promise c.slot c.generation) c.row (length c.buffer) → IsOk completion)
+      → ArePromised old-promise new-promise → failed ≡ is_err completion
+      → IsSound old-part old-promise shape number slot old named
+      → IsSound new-part new-promise shape number slot new (named_by failed receipt c.slot named)
+  sound-performed old mid new c frame abandoned completion receipt failed named takes delivers there did sure still is x =
+      let between = sound-twice old-part old-promise shape number slot old (Take_command c.token (world_command frame abandoned c)) mid
+      (Deliver c.token (completion_of completion) (receipt_of receipt)) new named (record {}) (record {}) takes delivers x in
+      record {
+        shape_is = between.shape_is;
+        place = between.place;
+        parts = λ g has. subst (λ y. FailsNone y (IsRowOf (layout_of shape) number) shape.block) (sym (still slot g)) (x.parts g (was g has));
+        here = (
+          λ below g u. stays g (between.here.0 below g u),
+          λ token d e same. stays d.generation (between.here.1 token d e same),
+        );
+        unnamed = still-unnamed failed receipt named c.slot slot (λ f same. is-ok completion (fine (sym same)) (sym is ∙ f)) x.unnamed;
+      }
+    where
+      -- the command goes to a part of the slot
+      out : c.slot ≡ slot → HasPart old-part slot c.generation
+      out same = x.here.1 c.token (world_command frame abandoned c) takes.1.0.0 same
+
+      row-of : IsRowOf (layout_of shape) number c.row
+      row-of = subst (λ n. IsRowOf (layout_of shape) n c.row) x.place
+          (subst (λ y. IsRowOf (layout_of y) old.shard c.row) x.shape_is there.row)
+
+      fine : c.slot ≡ slot → IsOk completion
+      fine same = sure (subst (λ y. Covers (old-promise y c.generation) c.row (length c.buffer)) (sym same)
+          (subst (Covers (old-promise slot c.generation) c.row) (sym (there.block ∙ ap (λ (y : Shape). y.block) x.shape_is))
+          (x.parts c.generation (out same) c.row row-of)))
+
+      which : {A : Type 0} (g : ℕ) → ((slot ≡ c.slot) → (g ≡ c.generation) → A) → (((slot ≡ c.slot) × (g ≡ c.generation) → ⊥) → A) → A
+      which g here else = elim (cases_eq slot c.slot) [
+        | inl same ↦ elim (cases_eq g c.generation) [
+          | inl same' ↦ here same same'
+          | inr ne ↦ else (λ both. ne both.1)
+        ]
+        | inr ne ↦ else (λ both. ne both.0)
+      ]
+
+      was : (g : ℕ) → HasPart new-part slot g → HasPart old-part slot g
+      was g has = which g (λ same same'. subst (HasPart old-part slot) (sym same') (out (sym same)))
+          (λ ne e. has (others-kept c completion did slot g ne ∙ e))
+
+      stays : (g : ℕ) → HasPart old-part slot g → HasPart new-part slot g
+      stays g has = which g
+          (λ same same'. subst (HasPart new-part slot) (sym same') (subst (λ y. HasPart new-part y c.generation) (sym same)
+          (own-there c completion did (fine (sym same)))))
+          (λ ne e. has (sym (others-kept c completion did slot g ne) ∙ e))
+
+-- how a slot is named, if it is
+pub named-how : (old-part new-part : ℕ → ℕ → Option Telling) (mid new : CoreView) (c : CoreCommand) (completion : Result (List ℕ) DeviceFault)
+    (receipt : CoreReceipt) (failed : Bool) (named : List Bool)
+    → MatchResult completion (Performed old-part new-part c) (Failed old-part new-part c)
+    → Step mid (Deliver c.token (completion_of completion) (receipt_of receipt)) new → failed ≡ is_err completion
+    → (named_by failed receipt c.slot named ≡ named)
+    ⊎ ((fault : DeviceFault) × Failed old-part new-part c fault × Step mid (Deliver c.token steps.Error steps.Taken) new
+    × (named_by failed receipt c.slot named ≡ slice_set named c.slot true))
+named-how old-part new-part mid new c completion receipt false named did step is = inl refl
+named-how old-part new-part mid new c completion core-receipt.Late true named did step is = inl refl
+named-how old-part new-part mid new c (Ok came) core-receipt.Taken true named did step is = absurd (true≢false is)
+named-how old-part new-part mid new c (Err fault) core-receipt.Taken true named did step is = inr (fault, did, step, refl)
+
+-- ---- the start
+
+-- no slot is named at first
+pub none-named : (count k : ℕ) → slice_index_or (replicate count false) k false ≡ false
+none-named zero k = refl
+none-named (suc count) zero = refl
+none-named (suc count) (suc k) = none-named count k
+
+pub sound-begun : (part : ℕ → ℕ → Option Telling) (promise : ℕ → ℕ → Promise) (shape : Shape) (snapshot : Snapshot) (number slot : ℕ)
+    (core : CoreView) (named : List Bool) → IsMade shape snapshot number core → ((k : ℕ) → slice_index_or named k false ≡ false)
+    → BeginsSound part promise shape number snapshot slot → IsSound part promise shape number slot core named
+sound-begun part promise shape snapshot number slot core named made none x =
+    let l = layout_of shape in
+    record {
+      shape_is = made.geometry;
+      place = made.number;
+      parts = x.parts;
+      here = subst (UsesOnly shape.slots (HasPart part slot) slot) (sym made.start) (
+        λ below g u. first below g (status_of snapshot slot) refl u,
+        λ token c e same. absurd (None-not_Some c e),
+      );
+      unnamed = none slot;
+    }
+  where
+    first : slot < shape.slots → (g : ℕ) → (status : Status) → status_of snapshot slot ≡ status → IsInUse (slot_at_start status) g → HasPart part slot g
+    first below g InSync e u = subst (HasPart part slot) (sym u) (x.here below e)
+    first below g Lost e u = absurd u
+    first below g (Rebuilding generation reported) e u = absurd u
