@@ -1,6 +1,11 @@
 -- What was done stays so where a pass is split from that of the shard.
 use Rattle.std.proofs.Common.{◌≡◌, ℕ, List, length, sym, ap, subst, ◌∙◌, Option}
 use Rattle.r6_dev.specs.History.{Telling}
+use Rattle.r6_dev.specs.Promises.{Promise}
+use Rattle.r6_layout.specs.Shape.{Shape}
+use Rattle.r6_shard.specs.declared.parts.Parts.{Parts}
+use Rattle.r6_shard.specs.Handing.{parts_tell}
+use Rattle.r6_shard.specs.Sound.{IsSoundIn, parts_promise}
 use Rattle.r6_health.specs.declared.history.View.{View}
 use Rattle.r6_health.specs.Passes.{view_of}
 use Rattle.r6_world.specs.PlainArray as world
@@ -33,3 +38,9 @@ rests-still old new k x = record {
   refusal = x.refusal;
   none_to_rebuild = subst (λ (y : CoreView). IsFirstFault (HasTaskFault y task.Rebuild) turn_faults x.refusal) (sym k.core) x.none_to_rebuild;
 }
+
+pub still-sound : {D : Type 0} (told : D → Telling) (promised : D → Promise) (shape : Shape) (number slot : ℕ) (old new : Shard (Parts D)) → new ≡ old
+    → IsSoundIn (parts_tell told) (parts_promise promised) shape number slot old
+    → IsSoundIn (parts_tell told) (parts_promise promised) shape number slot new
+still-sound told promised shape number slot old new same x =
+    subst (IsSoundIn (parts_tell told) (parts_promise promised) shape number slot) (sym same) x

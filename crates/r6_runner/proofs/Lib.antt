@@ -1,5 +1,6 @@
 pub mod Tasks
 pub mod Done
 pub mod Keeping
+pub mod Sound
 pub mod Counting
 pub mod Awaiting

@@ -1,5 +1,6 @@
 pub mod Tasks
 pub mod Runners
+pub mod Sound
 pub mod Splitting
 pub mod Counted
 pub mod Waits

@@ -6,6 +6,7 @@ ghost use Rattle.r6_lists.specs.Events.{waits_before};
 ghost use Rattle.r6_shard.specs.Counted.{rows_of};
 ghost use Rattle.r6_runner.specs.Counted.{StaysCounted};
 ghost use Rattle.r6_runner.specs.Runners.{GoesOnSame, IsServed, IsPassing, KeepsSelf, taken_by};
+ghost use Rattle.r6_runner.specs.Sound.{KeepsSound};
 ghost use Rattle.r6_runner.specs.Waits.{HasAwaited, KeepsAwaited, MayFollow};
 
 use crate::due::{Due, Duty};
@@ -26,6 +27,7 @@ impl<D: BlockDevice + Drop> Runner<D> {
         requires follows { MayFollow waits self.old }
         ensures served { IsServed D.told event op self.old self.new }
         ensures counted { StaysCounted self.old self.new }
+        ensures sound { KeepsSound D.told D.promised self.old self.new }
         ensures place { self.new.shard.core.shard ≡ self.old.shard.core.shard }
         ensures awaited { (events : _) → waits ≡ waits_before events event
             → HasAwaited events self.old → HasAwaited events self.new }
@@ -43,6 +45,7 @@ impl<D: BlockDevice + Drop> Runner<D> {
         requires task { rows_of task ≡ 1 }
         ensures begun { IsPassing event task self.old self.new }
         ensures counted { StaysCounted self.old self.new }
+        ensures sound { KeepsSound D.told D.promised self.old self.new }
         ensures awaited { KeepsAwaited self.old self.new }
     {
         self.passing = Some(Passing {
@@ -79,6 +82,7 @@ impl<D: BlockDevice + Drop> Runner<D> {
     fn begin_next(&mut self) -> bool
         ensures course { GoesOnSame D.told self.old self.new }
         ensures counted { StaysCounted self.old self.new }
+        ensures sound { KeepsSound D.told D.promised self.old self.new }
         ensures awaited { KeepsAwaited self.old self.new }
         ensures same { KeepsSelf self.old self.new }
         ensures count { taken_by self.new ≡ taken_by self.old }
@@ -102,6 +106,7 @@ impl<D: BlockDevice + Drop> Runner<D> {
     pub(crate) fn begin_all<R: Wait>(&mut self, rt: &R)
         ensures course { GoesOnSame D.told self.old self.new }
         ensures counted { StaysCounted self.old self.new }
+        ensures sound { KeepsSound D.told D.promised self.old self.new }
         ensures awaited { KeepsAwaited self.old self.new }
         ensures same { KeepsSelf self.old self.new }
         ensures count { taken_by self.new ≡ taken_by self.old }

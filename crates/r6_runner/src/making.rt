@@ -5,8 +5,10 @@ ghost use Rattle.r6_layout.specs.Shape.{IsShape};
 ghost use Rattle.r6_health.specs.Passes.{view_of};
 ghost use Rattle.r6_shard.specs.Beginnings.{IsFirstPass};
 ghost use Rattle.r6_shard.specs.Handing.{parts_tell};
+ghost use Rattle.r6_shard.specs.Sound.{StartsSound};
 ghost use Rattle.r6_runner.specs.Counted.{HasCounted, rows_of_shard};
 ghost use Rattle.r6_runner.specs.Runners.{HasDone, taken_by};
+ghost use Rattle.r6_runner.specs.Sound.{IsSoundIn};
 ghost use Rattle.r6_runner.specs.Waits.{HasAwaited};
 
 use crate::runner::Runner;
@@ -39,6 +41,9 @@ impl<D: BlockDevice + Drop> Runner<D> {
             → HasDone D.told shape events place.geometry place.number snapshot.now (parts_tell D.told parts)
             [] runner) }
         ensures counted { IfOk result (λ runner. HasCounted (rows_of_shard place.geometry place.number) runner) }
+        ensures sound { IfOk result (λ runner. (slot : _)
+            → StartsSound D.promised place.geometry place.number snapshot.now slot parts.parts.items
+            → IsSoundIn D.told D.promised place.geometry place.number slot runner) }
         ensures awaited { IfOk result (λ runner. (events : _) → HasAwaited events runner) }
         ensures pass { IfOk result (λ runner. runner.shard.pass ≡ pass) }
         ensures place { IfOk result (λ runner. runner.shard.core.shard ≡ place.number) }

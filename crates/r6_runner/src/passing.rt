@@ -6,6 +6,7 @@ ghost use Rattle.r6_shard.specs.Counted.{PassesMore, rows_of};
 ghost use Rattle.r6_shard.specs.Refusing.{IsEnding, Lasts};
 ghost use Rattle.r6_runner.specs.Counted.{CountsOn, HasTurned};
 ghost use Rattle.r6_runner.specs.Runners.{GoesOnSame, KeepsSelf, ShardGoesOn, taken_by};
+ghost use Rattle.r6_runner.specs.Sound.{KeepsSound};
 ghost use Rattle.r6_runner.specs.Waits.{KeepsAwaited};
 
 use crate::pass::Passing;
@@ -24,6 +25,7 @@ impl<D: BlockDevice + Drop> Runner<D> {
     // Takes up or passes over the next row.
     fn turn_one(&mut self, task: Task) -> Result<Turn, Refusal>
         ensures course { ShardGoesOn D.told self.old self.new }
+        ensures sound { KeepsSound D.told D.promised self.old self.new }
         ensures pass { self.new.shard.pass ≡ self.old.shard.pass }
         ensures passed { IfOk result (λ _. PassesMore (rows_of task) self.old.shard.core self.new.shard.core) }
         ensures lasts { Lasts self.old.shard.core self.new.shard.core }
@@ -36,6 +38,7 @@ impl<D: BlockDevice + Drop> Runner<D> {
     fn turn(&mut self, passing: Passing) -> Passing
         requires { passing.given_up ≡ false }
         ensures course { ShardGoesOn D.told self.old self.new }
+        ensures sound { KeepsSound D.told D.promised self.old self.new }
         ensures pass { self.new.shard.pass ≡ self.old.shard.pass }
         ensures counted { HasTurned passing result self.old.shard.core self.new.shard.core }
     {
@@ -56,6 +59,7 @@ impl<D: BlockDevice + Drop> Runner<D> {
     pub(crate) fn go_on(&mut self)
         ensures course { GoesOnSame D.told self.old self.new }
         ensures counted { CountsOn self.old self.new }
+        ensures sound { KeepsSound D.told D.promised self.old self.new }
         ensures awaited { KeepsAwaited self.old self.new }
         ensures same { KeepsSelf self.old self.new }
         ensures count { taken_by self.new ≡ taken_by self.old }

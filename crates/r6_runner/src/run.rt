@@ -5,6 +5,7 @@ ghost use Rattle.r6_health.specs.Passes.{IsPassOf};
 ghost use Rattle.r6_lists.specs.Events.{tasks_of};
 ghost use Rattle.r6_runner.specs.Counted.{AreCounted, CountsAll, HasCounted, KeepsCounted};
 ghost use Rattle.r6_runner.specs.Runners.{GoesOn, GoesOnSame, IsOver, KeepsSelf, taken_by};
+ghost use Rattle.r6_runner.specs.Sound.{KeepsPromised, KeepsSound};
 ghost use Rattle.r6_runner.specs.Waits.{HasAwaited, KeepsAwaited};
 
 use crate::rest::Rest;
@@ -31,6 +32,7 @@ impl<D: BlockDevice + Drop> Runner<D> {
         requires { IsPassOf register.now self.old.shard.pass }
         ensures pass { IsPassOf register.now self.new.shard.pass }
         ensures course { GoesOnSame D.told self.old self.new }
+        ensures sound { KeepsSound D.told D.promised self.old self.new }
         ensures counted { KeepsCounted self.old self.new }
         ensures awaited { KeepsAwaited self.old self.new }
         ensures count { taken_by self.new ≡ taken_by self.old }
@@ -49,6 +51,7 @@ impl<D: BlockDevice + Drop> Runner<D> {
         requires { IsPassOf register.now self.old.shard.pass }
         ensures pass { IsPassOf register.now self.new.shard.pass }
         ensures course { GoesOnSame D.told self.old self.new }
+        ensures sound { KeepsSound D.told D.promised self.old self.new }
         ensures counted { CountsAll self.old self.new }
         ensures awaited { KeepsAwaited self.old self.new }
         ensures count { taken_by self.new ≡ taken_by self.old }
@@ -62,6 +65,7 @@ impl<D: BlockDevice + Drop> Runner<D> {
     fn rebuild(&mut self)
         ensures pass { self.new.shard.pass ≡ self.old.shard.pass }
         ensures course { GoesOnSame D.told self.old self.new }
+        ensures sound { KeepsSound D.told D.promised self.old self.new }
         ensures counted { KeepsCounted self.old self.new }
         ensures awaited { KeepsAwaited self.old self.new }
         ensures count { taken_by self.new ≡ taken_by self.old }
@@ -77,6 +81,7 @@ impl<D: BlockDevice + Drop> Runner<D> {
         requires { IsPassOf register.now self.old.shard.pass }
         ensures pass { IsPassOf register.now self.new.shard.pass }
         ensures course { GoesOnSame D.told self.old self.new }
+        ensures sound { KeepsSound D.told D.promised self.old self.new }
         ensures counted { KeepsCounted self.old self.new }
         ensures awaited { KeepsAwaited self.old self.new }
         ensures count { taken_by self.new ≡ taken_by self.old }
@@ -94,6 +99,7 @@ impl<D: BlockDevice + Drop> Runner<D> {
         requires { IsPassOf register.now self.old.shard.pass }
         ensures pass { IsPassOf register.now self.new.shard.pass }
         ensures course { GoesOnSame D.told self.old self.new }
+        ensures sound { KeepsSound D.told D.promised self.old self.new }
         ensures counted { KeepsCounted self.old self.new }
         ensures awaited { KeepsAwaited self.old self.new }
         ensures count { taken_by self.new ≡ taken_by self.old }
@@ -123,6 +129,8 @@ impl<L: Events, D: BlockDevice + Drop> Taking<L, D> {
             self.new.consumer.numbers.items self.old.runner self.new.runner }
         ensures counted { KeepsCounted self.old.runner self.new.runner }
         ensures awaited { HasAwaited L.events self.old.runner → HasAwaited L.events self.new.runner }
+        ensures sound { KeepsPromised D.told D.promised L.shape L.sound self.old.consumer.shard
+            self.old.runner self.new.runner }
         ensures same { KeepsSelf self.old.runner self.new.runner }
         ensures shard { self.new.consumer.shard ≡ self.old.consumer.shard }
         ensures open { self.new.consumer.finished ≡ false }
@@ -141,6 +149,8 @@ impl<L: Events, D: BlockDevice + Drop> Taking<L, D> {
             self.new.consumer.numbers.items self.old.runner self.new.runner }
         ensures counted { KeepsCounted self.old.runner self.new.runner }
         ensures awaited { HasAwaited L.events self.old.runner → HasAwaited L.events self.new.runner }
+        ensures sound { KeepsPromised D.told D.promised L.shape L.sound self.old.consumer.shard
+            self.old.runner self.new.runner }
         ensures same { KeepsSelf self.old.runner self.new.runner }
         ensures shard { self.new.consumer.shard ≡ self.old.consumer.shard }
     {
@@ -157,6 +167,8 @@ impl<L: Events, D: BlockDevice + Drop> Taking<L, D> {
             self.new.consumer.numbers.items self.old.runner self.new.runner }
         ensures counted { KeepsCounted self.old.runner self.new.runner }
         ensures awaited { HasAwaited L.events self.old.runner → HasAwaited L.events self.new.runner }
+        ensures sound { KeepsPromised D.told D.promised L.shape L.sound self.old.consumer.shard
+            self.old.runner self.new.runner }
         ensures same { KeepsSelf self.old.runner self.new.runner }
         ensures shard { self.new.consumer.shard ≡ self.old.consumer.shard }
     {
@@ -195,6 +207,8 @@ impl<L: Events, D: BlockDevice + Drop> Taking<L, D> {
             self.new.consumer.numbers.items self.old.runner self.new.runner }
         ensures counted { KeepsCounted self.old.runner self.new.runner }
         ensures awaited { HasAwaited L.events self.old.runner → HasAwaited L.events self.new.runner }
+        ensures sound { KeepsPromised D.told D.promised L.shape L.sound self.old.consumer.shard
+            self.old.runner self.new.runner }
         ensures shard { self.new.consumer.shard ≡ self.old.consumer.shard }
         ensures place { self.new.runner.shard.core.shard ≡ self.old.runner.shard.core.shard }
         ensures over { result ≡ true → IsOver self.new.runner × (self.new.consumer.finished ≡ true) }
@@ -224,6 +238,8 @@ impl<L: Events, D: BlockDevice + Drop> Taking<L, D> {
         ensures counted { (rows : _) → HasCounted rows self.old.runner
             → AreCounted rows self.new.runner.shard.core self.new.runner.passed.items }
         ensures awaited { HasAwaited L.events self.old.runner → HasAwaited L.events self.new.runner }
+        ensures sound { KeepsPromised D.told D.promised L.shape L.sound self.old.consumer.shard
+            self.old.runner self.new.runner }
         ensures shard { self.new.consumer.shard ≡ self.old.consumer.shard }
         ensures place { self.new.runner.shard.core.shard ≡ self.old.runner.shard.core.shard }
         ensures finished { self.new.consumer.finished ≡ true }

@@ -1,8 +1,10 @@
 //! What came by the list is taken up.
 
 ghost use Rattle.std.specs.Prelude.{◌≡◌, ◌+◌, ◌<◌, ◌++◌, ◌∷◌, []};
+ghost use Rattle.r6_shard.specs.Sound.{TakesSound};
 ghost use Rattle.r6_runner.specs.Counted.{KeepsCounted};
 ghost use Rattle.r6_runner.specs.Runners.{GoesOn, IsPut, IsHandedIn, KeepsSelf, taken_by};
+ghost use Rattle.r6_runner.specs.Sound.{KeepsPromised};
 ghost use Rattle.r6_runner.specs.Waits.{HasAwaited};
 
 use crate::due::{Due, Duty};
@@ -24,7 +26,8 @@ impl<D: BlockDevice + Drop> Runner<D> {
     // The part of a new device is handed in, unless its core has looked at its generation.
     fn hand_in(&mut self, event: u64, part: Part<D>)
         requires { taken_by self.old < self.old.room }
-        ensures { IsHandedIn D.told event part self.old self.new }
+        ensures handed { IsHandedIn D.told event part self.old self.new }
+        ensures sound { TakesSound D.told D.promised part self.old.shard self.new.shard }
     {
         let slot = part.slot;
         let generation = part.generation;
@@ -53,6 +56,7 @@ impl<D: BlockDevice + Drop> Runner<D> {
         ensures course { (numbers : _) → GoesOn D.told L.shape L.events item.shard numbers
             (numbers ++ item.number ∷ []) self.old self.new }
         ensures counted { KeepsCounted self.old self.new }
+        ensures sound { KeepsPromised D.told D.promised L.shape L.sound item.shard self.old self.new }
         ensures awaited { HasAwaited L.events self.old → HasAwaited L.events self.new }
         ensures same { KeepsSelf self.old self.new }
         ensures count { taken_by self.new ≡ taken_by self.old + 1 }

@@ -3,6 +3,7 @@ use Rattle.r6_runner.specs.Counted.{HasCounted}
 use Rattle.r6_runner.specs.Runners.{HasDone, IsOver}
 use Rattle.r6_runner.specs.Waits.{HasAwaited}
 use Rattle.r6_runner.specs.declared.runner.Runner.{Runner}
+use Rattle.r6_runner.specs.Sound.{IsSoundIn}
 use Rattle.r6_runner.proofs.run.Taking.go_on.Goals as goal
 
 pub returns-then-not-go_round-clause-course : goal.returns-then-not-go_round-clause-course
@@ -42,3 +43,14 @@ pub returns-clause-awaited : goal.returns-clause-awaited
 returns-clause-awaited g c = λ x.
     let events = g.L.Events.events in
     subst (HasAwaited events) (sym c.is_finished.ensures.runner) (c.go_round.ensures.awaited events (c.take_in.ensures.awaited x))
+
+pub returns-then-not-go_round-clause-sound : goal.returns-then-not-go_round-clause-sound
+returns-then-not-go_round-clause-sound g c = λ slot promise x.
+    c.go_round.ensures.sound g.L.Events.shape c.args.self.now.consumer.shard slot (c.take_in.ensures.sound slot promise x)
+
+pub returns-clause-sound : goal.returns-clause-sound
+returns-clause-sound g c = λ slot promise x.
+    let shape = g.L.Events.shape in
+    let number = c.args.self.now.consumer.shard in
+    subst (IsSoundIn g.D.BlockDevice.told g.D.BlockDevice.promised shape number slot) (sym c.is_finished.ensures.runner)
+    (c.go_round.ensures.sound shape number slot (c.take_in.ensures.sound slot promise x))

@@ -1,6 +1,7 @@
 use Rattle.std.proofs.Common.{rules, ◌∙◌}
 use Rattle.r6_runner.proofs.Counting.{counted-at-end}
 use Rattle.r6_runner.proofs.Done.{goes-then}
+use Rattle.r6_runner.proofs.Sound.{promised-on}
 use Rattle.r6_runner.proofs.run.Taking.run.Goals as goal
 
 pub returns-then-go_on-clause-counted : goal.returns-then-go_on-clause-counted
@@ -21,6 +22,8 @@ loop-preserved g c =
             c.args.self.now.consumer.numbers.items c.loop.self.consumer.numbers.items c.go_on.new.self.consumer.numbers.items
             c.args.self.now.runner c.loop.self.runner c.go_on.new.self.runner before.shard before.course now.course;
         counted = λ rows x. now.counted rows (before.counted rows x);
+        sound = promised-on g.D.BlockDevice.told g.D.BlockDevice.promised g.L.Events.shape g.L.Events.sound c.args.self.now.consumer.shard c.loop.self.consumer.shard
+            c.args.self.now.runner c.loop.self.runner c.go_on.new.self.runner before.shard before.sound now.sound;
         awaited = λ x. now.awaited (before.awaited x);
         shard = search rules;
         place = now.place ∙ before.place;
@@ -39,3 +42,9 @@ returns-then-go_on-clause-course g c =
 
 pub returns-then-go_on-clause-over : goal.returns-then-go_on-clause-over
 returns-then-go_on-clause-over g c = (c.go_on.ensures.over c.if-go_on.true).0
+
+pub returns-then-go_on-clause-sound : goal.returns-then-go_on-clause-sound
+returns-then-go_on-clause-sound g c =
+    let before = c.loop.invariant.2 in
+    promised-on g.D.BlockDevice.told g.D.BlockDevice.promised g.L.Events.shape g.L.Events.sound c.args.self.now.consumer.shard c.loop.self.consumer.shard
+    c.args.self.now.runner c.loop.self.runner c.go_on.new.self.runner before.shard before.sound c.go_on.ensures.sound

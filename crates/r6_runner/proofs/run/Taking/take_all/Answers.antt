@@ -3,6 +3,8 @@ use Rattle.r6_runner.specs.Counted.{HasCounted}
 use Rattle.r6_runner.specs.Runners.{HasDone}
 use Rattle.r6_runner.specs.Waits.{HasAwaited}
 use Rattle.r6_runner.proofs.Done.{goes-then}
+use Rattle.r6_runner.specs.Sound.{IsSoundIn}
+use Rattle.r6_runner.proofs.Sound.{promised-on}
 use Rattle.r6_runner.proofs.run.Taking.take_all.Goals as goal
 use Rattle.r6_runner.proofs.run.Taking.take_all.Goals.{in-None, in-Some+then-not-take_one}
 
@@ -52,9 +54,27 @@ loop-preserved g c =
       record {
         course = search rules;
         counted = λ rows x. now.counted rows (before.counted rows x);
+        sound = promised-on g.D.BlockDevice.told g.D.BlockDevice.promised g.L.Events.shape g.L.Events.sound c.args.self.now.consumer.shard c.loop.self.consumer.shard
+            c.args.self.now.runner c.loop.self.runner c.take_one.new.self.runner before.shard before.sound now.sound;
         awaited = λ x. now.awaited (before.awaited x);
         same = search rules;
         shard = search rules;
         open_yet = search rules;
       },
     )
+
+pub returns-clause-sound : goal.returns-clause-sound
+returns-clause-sound g c = λ slot promise x.
+    let told = g.D.BlockDevice.told in
+    let promised = g.D.BlockDevice.promised in
+    let shape = g.L.Events.shape in
+    let old = c.args.self.now in
+    let mid = c.loop.self in
+    let at = c.loop.invariant.2 in
+    elim c.match-next.branch [
+      | in-None w ↦ subst (λ s. IsSoundIn told promised shape old.consumer.shard slot s.runner) (sym w.self-is) (at.sound slot promise x)
+      | in-Some+then-not-take_one w ↦
+          subst (λ s. IsSoundIn told promised shape old.consumer.shard slot s.runner) (sym w.self-is)
+          (promised-on told promised shape g.L.Events.sound old.consumer.shard mid.consumer.shard old.runner mid.runner w.take_one.new.self.runner at.shard
+          at.sound w.take_one.ensures.sound slot promise x)
+    ]

@@ -1,6 +1,7 @@
 use Rattle.std.proofs.Common.{◌≡◌, false}
 use Rattle.r6_runner.specs.Counted.{KeepsCounted}
 use Rattle.r6_runner.specs.Runners.{GoesOn, KeepsSelf}
+use Rattle.r6_runner.specs.Sound.{KeepsPromised}
 use Rattle.r6_runner.specs.Waits.{HasAwaited}
 use Rattle.r6_runner.proofs.run.Taking.take_all.Given as goal
 
@@ -10,6 +11,8 @@ invariant-loop g l =
       course : GoesOn g.D.BlockDevice.told g.L.Events.shape g.L.Events.events l.fn.self.consumer.shard l.fn.self.consumer.numbers.items
           l.self.consumer.numbers.items l.fn.self.runner l.self.runner;
       counted : KeepsCounted l.fn.self.runner l.self.runner;
+      sound : KeepsPromised g.D.BlockDevice.told g.D.BlockDevice.promised g.L.Events.shape g.L.Events.sound l.fn.self.consumer.shard
+          l.fn.self.runner l.self.runner;
       awaited : HasAwaited g.L.Events.events l.fn.self.runner → HasAwaited g.L.Events.events l.self.runner;
       same : KeepsSelf l.fn.self.runner l.self.runner;
       shard : l.self.consumer.shard ≡ l.fn.self.consumer.shard;

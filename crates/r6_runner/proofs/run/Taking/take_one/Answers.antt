@@ -3,6 +3,7 @@ use Rattle.std.proofs.lemmas.List.{length-append}
 use Rattle.r6_lists.specs.Events.{tasks_of}
 use Rattle.r6_lists.proofs.Tasks.{all_taken}
 use Rattle.r6_runner.specs.Runners.{HasDone}
+use Rattle.r6_runner.specs.Sound.{IsSoundIn}
 use Rattle.r6_runner.proofs.run.Taking.take_one.Goals as goal
 
 pub take_up-requires : goal.take_up-requires
@@ -30,3 +31,13 @@ returns-clause-course g c = λ geometry snapshot before x.
     (subst (λ (n : ℕ). HasDone told shape events geometry n snapshot before numbers old.runner) (sym c.in-Some.ensures.of_shard) x) in
     subst (λ ns. HasDone told shape events geometry old.consumer.shard snapshot before ns new) (sym c.in-Some.ensures.kept)
     (subst (λ (n : ℕ). HasDone told shape events geometry n snapshot before (numbers ++ item.number ∷ []) new) c.in-Some.ensures.of_shard done)
+
+pub returns-clause-sound : goal.returns-clause-sound
+returns-clause-sound g c = λ slot promise x.
+    let told = g.D.BlockDevice.told in
+    let promised = g.D.BlockDevice.promised in
+    let shape = g.L.Events.shape in
+    let same = c.in-Some.ensures.of_shard in
+    subst (λ n. IsSoundIn told promised shape n slot c.take_up.new.self) same
+    (c.take_up.ensures.sound slot (subst (λ n. g.L.Events.sound n slot) (sym same) promise)
+    (subst (λ n. IsSoundIn told promised shape n slot c.args.self.now.runner) (sym same) x))

@@ -7,3 +7,8 @@ returns-clause-awaited g c = λ events x.
 pub returns-clause-counted : goal.returns-clause-counted
 returns-clause-counted g c = λ rows x.
     c.rebuild.ensures.counted rows (c.go_on.ensures.counted rows (c.begin_all.ensures.counted rows (c.round.ensures.counted rows x)))
+
+pub returns-clause-sound : goal.returns-clause-sound
+returns-clause-sound g c = λ shape number slot x.
+    c.rebuild.ensures.sound shape number slot (c.go_on.ensures.sound shape number slot
+    (c.begin_all.ensures.sound shape number slot (c.round.ensures.sound shape number slot x)))

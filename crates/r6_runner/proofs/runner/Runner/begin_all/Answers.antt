@@ -2,6 +2,7 @@ use Rattle.std.proofs.Common.{sym, subst, ◌∙◌}
 use Rattle.r6_runner.specs.Counted.{HasCountedAll}
 use Rattle.r6_runner.specs.Waits.{HasAwaited}
 use Rattle.r6_runner.proofs.Done.{self-on}
+use Rattle.r6_runner.specs.Sound.{IsSoundIn}
 use Rattle.r6_runner.proofs.runner.Runner.begin_all.Goals as goal
 use Rattle.r6_runner.proofs.runner.Runner.begin_all.Goals.{in-None, in-Some+then-not-begin_next}
 
@@ -32,8 +33,20 @@ loop-preserved g c =
             now.course shape events number numbers geometry snapshot earlier
             (before.course shape events number numbers geometry snapshot earlier x);
         counted = λ rows x. now.counted rows (before.counted rows x);
+        sound = λ shape number slot x. now.sound shape number slot (before.sound shape number slot x);
         awaited = λ events x. now.awaited events (before.awaited events x);
         same = self-on c.args.self.now c.loop.self c.begin_next.new.self before.same now.same;
         count = now.count ∙ before.count;
       },
     )
+
+pub returns-clause-sound : goal.returns-clause-sound
+returns-clause-sound g c = λ shape number slot x.
+    let told = g.D.BlockDevice.told in
+    let promised = g.D.BlockDevice.promised in
+    let before = c.loop.invariant.2.sound shape number slot x in
+    elim c.match-next.branch [
+      | in-None w ↦ subst (IsSoundIn told promised shape number slot) (sym w.self-is) before
+      | in-Some+then-not-begin_next w ↦
+          subst (IsSoundIn told promised shape number slot) (sym w.self-is) (w.begin_next.ensures.sound shape number slot before)
+    ]

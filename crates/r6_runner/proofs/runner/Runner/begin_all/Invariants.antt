@@ -1,6 +1,7 @@
 use Rattle.std.proofs.Common.{◌≡◌}
 use Rattle.r6_runner.specs.Counted.{StaysCounted}
 use Rattle.r6_runner.specs.Runners.{GoesOnSame, KeepsSelf, taken_by}
+use Rattle.r6_runner.specs.Sound.{KeepsSound}
 use Rattle.r6_runner.specs.Waits.{KeepsAwaited}
 use Rattle.r6_runner.proofs.runner.Runner.begin_all.Given as goal
 
@@ -9,6 +10,7 @@ invariant-loop g l =
     (goal.iterator-loop g).can_next l.iterator' × (goal.iterator-loop g).is_finite l.iterator' × record {
       course : GoesOnSame g.D.BlockDevice.told l.fn.self l.self;
       counted : StaysCounted l.fn.self l.self;
+      sound : KeepsSound g.D.BlockDevice.told g.D.BlockDevice.promised l.fn.self l.self;
       awaited : KeepsAwaited l.fn.self l.self;
       same : KeepsSelf l.fn.self l.self;
       count : taken_by l.self ≡ taken_by l.fn.self;

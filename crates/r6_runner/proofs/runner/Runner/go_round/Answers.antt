@@ -10,3 +10,6 @@ returns-clause-counted g c = λ rows x. c.rests.ensures.counted rows (c.advance.
 
 pub returns-clause-awaited : goal.returns-clause-awaited
 returns-clause-awaited g c = λ events x. c.rests.ensures.awaited events (c.advance.ensures.awaited events x)
+
+pub returns-clause-sound : goal.returns-clause-sound
+returns-clause-sound g c = λ shape number slot x. c.rests.ensures.sound shape number slot (c.advance.ensures.sound shape number slot x)

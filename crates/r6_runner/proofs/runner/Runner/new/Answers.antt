@@ -2,6 +2,7 @@ use Rattle.std.proofs.Common.{[], None, refl}
 use Rattle.r6_shard.specs.Handing.{parts_tell}
 use Rattle.r6_runner.proofs.Awaiting.{none}
 use Rattle.r6_runner.proofs.Done.{is-first, is-like}
+use Rattle.r6_shard.proofs.Promises.{begins-sound}
 use Rattle.r6_runner.proofs.runner.Runner.new.Goals as goal
 
 pub returns-clause-begins : goal.returns-clause-begins
@@ -18,3 +19,9 @@ returns-clause-begins g c = λ shape events.
 pub returns-clause-awaited : goal.returns-clause-awaited
 returns-clause-awaited g c = λ events.
     none events 0 c.in_ok-shard.shard.asked.items c.in_ok-due.due.items c.in_ok-shard.ensures.empty c.in_ok-due.ensures.items
+
+pub returns-clause-sound : goal.returns-clause-sound
+returns-clause-sound g c = λ slot x.
+    let p = c.args.place in
+    c.in_ok-shard.ensures.sound slot (begins-sound g.D.BlockDevice.told g.D.BlockDevice.promised p.geometry p.number slot c.args.snapshot.now
+    c.args.parts.parts.items x)

@@ -1,10 +1,11 @@
-use Rattle.std.proofs.Common.{◌∙◌, Some, refl, ap}
+use Rattle.std.proofs.Common.{◌∙◌, Some, refl, ap, sym, subst}
 use Rattle.r6_lists.specs.Events.{Serves, Checks, Repairs, task}
 use Rattle.r6_lists.specs.Lists.{duty_in}
 use Rattle.r6_frames.specs.declared.op.Op.TheVariants as op
 use Rattle.r6_shard.specs.declared.parts.Part.{Part}
 use Rattle.r6_runner.proofs.Awaiting.{put-awaited, handed-awaited}
 use Rattle.r6_runner.proofs.Done.{put-on, handed-on}
+use Rattle.r6_runner.proofs.Keeping.{still-sound}
 use Rattle.r6_runner.proofs.runner.Runner.take_up.Goals as goal
 
 pub returns-in-Read-clause-course : goal.returns-in-Read-clause-course
@@ -30,7 +31,7 @@ returns-in-Attach-clause-course g c = λ numbers geometry snapshot before x.
     handed-on g.D.BlockDevice.told g.L.Events.shape g.L.Events.events geometry i.shard snapshot before numbers c.args.self.now c.hand_in.new.self
     i.number i.waits part
     (i.of_event ∙ ap (λ w. Some (task i.number i.waits (duty_in g.D.BlockDevice.told w))) c.in-Attach.is)
-    c.hand_in.ensures x
+    c.hand_in.ensures.handed x
 
 pub returns-in-Check-clause-course : goal.returns-in-Check-clause-course
 returns-in-Check-clause-course g c = λ numbers geometry snapshot before x.
@@ -71,4 +72,31 @@ returns-in-Repair-clause-awaited g c =
 pub returns-in-Attach-clause-awaited : goal.returns-in-Attach-clause-awaited
 returns-in-Attach-clause-awaited g c =
     let part : Part _ = record { slot = c.in-Attach.slot; generation = c.in-Attach.generation; device = c.in-Attach.device } in
-    handed-awaited g.D.BlockDevice.told g.L.Events.events c.args.self.now c.hand_in.new.self c.args.item.number part c.hand_in.ensures
+    handed-awaited g.D.BlockDevice.told g.L.Events.events c.args.self.now c.hand_in.new.self c.args.item.number part c.hand_in.ensures.handed
+
+pub returns-in-Read-clause-sound : goal.returns-in-Read-clause-sound
+returns-in-Read-clause-sound g c = λ slot promise x.
+    still-sound g.D.BlockDevice.told g.D.BlockDevice.promised g.L.Events.shape c.args.item.shard slot c.args.self.now.shard c.put.new.self.shard
+    c.put.ensures.shard x
+
+pub returns-in-Write-clause-sound : goal.returns-in-Write-clause-sound
+returns-in-Write-clause-sound g c = λ slot promise x.
+    still-sound g.D.BlockDevice.told g.D.BlockDevice.promised g.L.Events.shape c.args.item.shard slot c.args.self.now.shard c.put-in-Write.new.self.shard
+    c.put-in-Write.ensures.shard x
+
+pub returns-in-Check-clause-sound : goal.returns-in-Check-clause-sound
+returns-in-Check-clause-sound g c = λ slot promise x.
+    still-sound g.D.BlockDevice.told g.D.BlockDevice.promised g.L.Events.shape c.args.item.shard slot c.args.self.now.shard c.put-in-Check.new.self.shard
+    c.put-in-Check.ensures.shard x
+
+pub returns-in-Repair-clause-sound : goal.returns-in-Repair-clause-sound
+returns-in-Repair-clause-sound g c = λ slot promise x.
+    still-sound g.D.BlockDevice.told g.D.BlockDevice.promised g.L.Events.shape c.args.item.shard slot c.args.self.now.shard c.put-in-Repair.new.self.shard
+    c.put-in-Repair.ensures.shard x
+
+pub returns-in-Attach-clause-sound : goal.returns-in-Attach-clause-sound
+returns-in-Attach-clause-sound g c = λ slot promise x.
+    let i = c.args.item in
+    let own = c.in-Attach.slot in
+    c.hand_in.ensures.sound g.L.Events.shape i.shard slot
+    (λ same. i.promised own c.in-Attach.generation c.in-Attach.device c.in-Attach.is (subst (g.L.Events.sound i.shard) (sym same) promise)) x

@@ -58,6 +58,7 @@ loop-turned-preserved g c =
     let passed = c.in_default.ensures.passed in
     record {
       course = shard-on g.D.BlockDevice.told c.args.self.now c.loop-turned.self c.turn_one.new.self at.course c.turn_one.ensures.course;
+      sound = λ shape number slot x. c.turn_one.ensures.sound shape number slot (at.sound shape number slot x);
       pass = c.turn_one.ensures.pass ∙ at.pass;
       more = at.more + rows_of task;
       passes = λ stopped counted rows x.
@@ -66,3 +67,7 @@ loop-turned-preserved g c =
       lasts = lasts_on old mid new at.lasts c.turn_one.ensures.lasts;
       one = λ one. let turned = at.one one in omega (arith, turned, one);
     }
+
+pub returns-in-Err-clause-sound : goal.returns-in-Err-clause-sound
+returns-in-Err-clause-sound g c = λ shape number slot x.
+    c.turn_one.ensures.sound shape number slot (c.loop-turned.invariant.sound shape number slot x)
