@@ -3,4 +3,5 @@ pub mod Asked
 pub mod Counts
 pub mod Requests
 pub mod Passing
+pub mod Promised
 pub mod Told

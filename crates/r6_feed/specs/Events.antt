@@ -1,7 +1,10 @@
 -- The events of a run as they are handed in, and as the shards' lists know them (this project's own).
-use Rattle.std.specs.Prelude.{◌≡◌, ℕ, List, length, map, All, slice_get, Bool, None, is_some, unwrap_or, option_map}
+use Rattle.std.specs.Prelude.{◌≡◌, ℕ, List, length, map, All, slice_get, Bool, Some, None, is_some, unwrap_or, option_map}
 use Rattle.r6_layout.specs.Shape.{Shape}
 use Rattle.r6_dev.specs.History.{Telling}
+use Rattle.r6_dev.specs.Promises.{Promise, FailsNone}
+use Rattle.r6_world.specs.Geometries.{layout_of}
+use Rattle.r6_world.specs.Layouts.{IsRowOf}
 use Rattle.r6_frames.specs.declared.op.Op.{Op}
 use Rattle.r6_frames.specs.declared.op.Op.TheVariants as op
 use Rattle.r6_lists.specs.Events as lists
@@ -34,6 +37,22 @@ IsWhole shards event = Unit {0}
 
 abbrev pub AreWhole : {D : Type 0} → (shards : ℕ) → List (Event D) → Type 0
 AreWhole shards events = All (IsWhole shards) events
+
+-- the part for this shard, of the parts of a new device, fails no command of the shard
+abbrev pub PartFailsNone : {D : Type 0} → (D → Promise) → Shape → (shard : ℕ) → List D → Type 0
+PartFailsNone {D = D} promised shape shard parts =
+    (part : D) → slice_get parts shard ≡ Some part
+    → FailsNone (promised part) (IsRowOf (layout_of shape) shard) shape.block
+
+-- if it is promised of the parts of new devices of its slot
+abbrev pub IsPromised : {D : Type 0} → (D → Promise) → Shape → (Sound : (shard slot : ℕ) → Type 0) → Event D → Type 0
+IsPromised promised shape Sound (Attach slot parts) =
+    (shard : ℕ) → Sound shard slot → PartFailsNone promised shape shard parts.items
+IsPromised promised shape Sound event = Unit {0}
+
+abbrev pub ArePromised : {D : Type 0} → (D → Promise) → Shape → (Sound : (shard slot : ℕ) → Type 0) → List (Event D)
+    → Type 0
+ArePromised promised shape Sound events = All (IsPromised promised shape Sound) events
 
 -- a request as its shard is handed it
 abbrev pub work_for : {D : Type 0} → Op → Work D

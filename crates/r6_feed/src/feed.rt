@@ -3,7 +3,7 @@
 ghost use Rattle.std.specs.Prelude.{◌≡◌, ◌+◌, ◌≤◌, All, length, map, slice_get, vec_capacity, Some, false};
 ghost use Rattle.r6_health.specs.Passes.{IsPassOf, view_of};
 ghost use Rattle.r6_lists.specs.Events.{waits_before};
-ghost use Rattle.r6_feed.specs.Events.{event_of, events_of, IsWhole, AreWhole};
+ghost use Rattle.r6_feed.specs.Events.{event_of, events_of, IsWhole, AreWhole, IsPromised, ArePromised};
 ghost use Rattle.r6_feed.specs.Feeds.{IsAt, IsLater, TellsOn, WereTold, is_unsettled, asked_before, asked_in, calls_of};
 
 use crate::answer::EventAnswer;
@@ -47,6 +47,7 @@ impl<L: Events> Feed<L> {
     )
         requires next { slice_get L.events self.old.number ≡ Some (event_of D.told event) }
         requires whole { IsWhole L.shape.shards event }
+        requires promised { IsPromised D.promised L.shape L.sound event }
         requires pass { IsPassOf shards.now.register.now self.old.pass }
         ensures number { self.new.number ≡ self.old.number + 1 }
         ensures pass { IsPassOf shards.now.register.now self.new.pass }
@@ -73,6 +74,7 @@ impl<L: Events> Feed<L> {
         requires begins { self.old.number ≡ 0 }
         requires events { events_of D.told events.items ≡ L.events }
         requires whole { AreWhole L.shape.shards events.items }
+        requires promised { ArePromised D.promised L.shape L.sound events.items }
         requires pass { IsPassOf shards.now.register.now self.old.pass }
         ensures number { self.new.number ≡ length L.events }
         ensures pass { IsPassOf shards.now.register.now self.new.pass }
@@ -113,7 +115,8 @@ impl<L: Events> Feed<L> {
     /// Then a check or repair is handed to every shard, and the next event has its turn at once. It hands the pass
     /// back, and what those events were answered that no shard answers, in the order of the events.
     ///
-    /// The events must be those that were given to `new`, and each new device must have a part for every shard.
+    /// The events must be those that were given to `new`, and each new device must have a part for every shard, which
+    /// fails no command of the shard where that is promised.
     pub fn hand_out<D: BlockDevice + Drop, R: Wait>(
         mut self,
         rt: &R,
@@ -123,6 +126,7 @@ impl<L: Events> Feed<L> {
         requires begins { self.number ≡ 0 }
         requires events { events_of D.told events.items ≡ L.events }
         requires whole { AreWhole L.shape.shards events.items }
+        requires promised { ArePromised D.promised L.shape L.sound events.items }
         requires pass { IsPassOf shards.now.register.now self.pass }
         ensures pass { IsPassOf shards.now.register.now result.0 }
         ensures asked { map asked_in result.1.items ≡ asked_before L.shape L.events (length L.events) }

@@ -2,7 +2,7 @@
 
 ghost use Rattle.std.specs.Prelude.{◌≡◌, ◌+◌, length, slice_get, Some};
 ghost use Rattle.r6_lists.specs.Events.{Attach, waits_before};
-ghost use Rattle.r6_feed.specs.Events.{part_for, event_of_pass, work_of_pass};
+ghost use Rattle.r6_feed.specs.Events.{part_for, event_of_pass, work_of_pass, PartFailsNone};
 ghost use Rattle.r6_feed.specs.Feeds.{IsAt};
 
 use crate::shards::Shards;
@@ -59,6 +59,8 @@ impl<'a, L: Events, D: BlockDevice + Drop> Shards<'a, L, D> {
             ≡ Some (Attach device.slot (part_for D.told device.parts.items)) }
         requires waits { at.waits ≡ waits_before L.events at.number }
         requires whole { length device.parts.items ≡ L.shape.shards }
+        requires promised { (shard : _) → L.sound shard device.slot
+            → PartFailsNone D.promised L.shape shard device.parts.items }
         requires left { IsAt (λ p. p.lists) (λ p. p.left) L.shape L.events at.number producers.old }
         ensures left { IsAt (λ p. p.lists) (λ p. p.left) L.shape L.events (at.number + 1) producers.new }
     {

@@ -7,7 +7,7 @@ ghost use Rattle.r6_health.specs.Passes.{IsPassOf, view_of};
 ghost use Rattle.r6_lists.specs.Events.{Request, Attach, Fail, Check, Repair, Wait, task_at};
 ghost use Rattle.r6_layout.specs.Shape.{blocks};
 ghost use Rattle.r6_layout.specs.Layout.{shard_of, row_of};
-ghost use Rattle.r6_feed.specs.Events.{part_for, event_of_pass, work_for};
+ghost use Rattle.r6_feed.specs.Events.{part_for, event_of_pass, work_for, PartFailsNone};
 ghost use Rattle.r6_feed.specs.Feeds.{TellsOn};
 
 use crate::answer::{EventAnswer, Outcome};
@@ -131,6 +131,7 @@ impl<L: Events> Feed<L> {
     )
         requires next { slice_get L.events self.old.number ≡ Some (Attach slot (part_for D.told parts.items)) }
         requires whole { length parts.items ≡ L.shape.shards }
+        requires promised { (shard : _) → L.sound shard slot → PartFailsNone D.promised L.shape shard parts.items }
         requires pass { IsPassOf shards.now.register.now self.old.pass }
         ensures number { self.new.number ≡ self.old.number + 1 }
         ensures pass { IsPassOf shards.now.register.now self.new.pass }

@@ -3,6 +3,7 @@ use Rattle.r6_lists.specs.Events.{Request, Serves}
 use Rattle.r6_feed.proofs.Payments.{may_put, handed_one, among}
 use Rattle.r6_feed.proofs.Requests.{of_shard, of_no_other, not_answered_here}
 use Rattle.r6_feed.proofs.Asked.{next_within, no_wait, none_asked}
+use Rattle.r6_feed.proofs.Promised.{request-promised}
 use Rattle.r6_feed.proofs.feed.Feed.hand_over.Goals as goal
 
 pub put-requires-clause-left : goal.put-requires-clause-left
@@ -33,3 +34,7 @@ invariant_of-self-clause-waited g c =
 pub invariant_of-self-clause-asked : goal.invariant_of-self-clause-asked
 invariant_of-self-clause-asked g c =
     c.args.self.now.asked ∙ sym (none_asked g.L.Events.shape g.L.Events.events c.args.self.now.number (Request c.args.op) c.requires.next (not_answered_here g.L.Events.shape c.args.op c.requires.within))
+
+pub new-item-requires-clause-promised : goal.new-item-requires-clause-promised
+new-item-requires-clause-promised g c =
+    request-promised g.D.BlockDevice.promised g.L.Events.shape g.L.Events.sound c.args.shard c.args.op c.work_of.result c.work_of.ensures

@@ -1,10 +1,13 @@
-use Rattle.std.proofs.Common.{◌+◌, ◌∙◌, get_or, refl, sym, ap, rules}
+use Rattle.std.proofs.Common.{◌≡◌, ◌+◌, ◌∙◌, Some, length, get_or, refl, sym, ap, subst, rules}
 use Rattle.std.proofs.lemmas.List.{length-set, length_push}
 use Rattle.std.proofs.lemmas.Iterator.Adapters.{YieldsList-from_vec}
 use Rattle.std.proofs.lemmas.Iterator.Consumers.{YieldsList-turn}
 use Rattle.r6_lists.specs.Events.{Attach, Takes_up}
 use Rattle.r6_feed.specs.Events.{part_for}
 use Rattle.r6_feed.proofs.Payments.{may_put, still_open, handed_next, below_one, next_below, among_parts}
+use Rattle.std.specs.Prelude.{slice_get}
+use Rattle.std.proofs.lemmas.Option.{slice_get_read}
+use Rattle.r6_feed.proofs.Promised.{part-promised}
 use Rattle.r6_feed.proofs.shards.Shards.hand_parts.Goals as goal
 
 pub put-requires-clause-left : goal.put-requires-clause-left
@@ -46,3 +49,15 @@ loop-part-preserved g c =
             c.loop-part.invariant.2.has_left below at c.requires.next refl c.put.ensures.left;
       },
     )
+
+pub new-item-requires-clause-promised : goal.new-item-requires-clause-promised
+new-item-requires-clause-promised g c =
+    let parts = c.args.device.parts.items in
+    let turn = YieldsList-turn
+    (YieldsList-from_vec {s = c.into_iter-part-iterator.result} parts (search rules) (search rules))
+    c.loop-part.yielded c.loop-part.part-iterator c.loop-part.yielded_by c.next.result c.next.new.self c.in-Some.part c.in-Some.is
+    c.next.ensures.steps in
+    part-promised g.D.BlockDevice.promised g.L.Events.shape g.L.Events.sound c.loop-part.shard c.args.device.slot c.args.device.generation c.in-Some.part
+    (λ sound. c.requires.promised c.loop-part.shard sound c.in-Some.part
+    (subst (λ n. slice_get parts n ≡ Some c.in-Some.part) (sym c.loop-part.invariant.2.shard_is)
+    (slice_get_read parts (length parts) (length c.loop-part.yielded) c.in-Some.part refl turn.0 turn.1)))

@@ -3,6 +3,7 @@ use Rattle.std.proofs.lemmas.List.{length-set}
 use Rattle.r6_feed.specs.Events.{event_of_pass}
 use Rattle.r6_feed.proofs.Payments.{may_put, still_open, handed_next, below_one, next_below}
 use Rattle.r6_feed.proofs.Passing.{handed_to_all, duty_of_pass}
+use Rattle.r6_feed.proofs.Promised.{pass-promised}
 use Rattle.r6_feed.proofs.shards.Shards.hand_pass.Goals as goal
 
 pub put-requires-clause-left : goal.put-requires-clause-left
@@ -34,3 +35,7 @@ loop-shard-preserved g c =
           c.loop-shard.invariant.has_left below at c.requires.next
           (handed_to_all g.L.Events.shape c.loop-shard.shard c.args.task) c.put.ensures.left;
     }
+
+pub new-item-requires-clause-promised : goal.new-item-requires-clause-promised
+new-item-requires-clause-promised g c =
+    pass-promised g.D.BlockDevice.promised g.L.Events.shape g.L.Events.sound c.loop-shard.shard c.args.task c.work.result c.work.ensures
