@@ -1,6 +1,6 @@
 //! The one shard of an array of zeros takes events from its list, until all is done.
 
-ghost use Rattle.std.specs.Prelude.{◌≡◌, ◌+◌, ◌-◌, ◌^◌, ◌<◌, if◌then◌else◌, length, slice_get, Some};
+ghost use Rattle.std.specs.Prelude.{◌≡◌, ℕ, ◌+◌, ◌-◌, ◌^◌, ◌<◌, if◌then◌else◌, length, slice_get, Some};
 ghost use Rattle.r6_layout.specs.Shape.{IsShape};
 ghost use Rattle.r6_health.specs.Passes.{view_of, IsPassOf};
 ghost use Rattle.r6_health.specs.Registers.{starting};
@@ -101,6 +101,7 @@ fn put_all<L: Events, R: Wait>(
 ) -> Result<(), AllocError>
     requires shape { L.shape ≡ geometry.now }
     requires events { L.events ≡ events_of asks.now }
+    requires none_promised { (shard : ℕ) (slot : ℕ) → L.sound shard slot → ⊥ }
 {
     let mut waits: u64 = 0;
     for number in 0..asks.len() {
@@ -143,6 +144,7 @@ fn play<L: Events, R: Wait>(
     requires blank { (blank.name ≡ L.name) × (blank.parts ≡ L.parts) × (L.parts ≡ 3) }
     requires shape { L.shape ≡ place.geometry }
     requires events { L.events ≡ events_of asks.now }
+    requires none_promised { (shard : ℕ) (slot : ℕ) → L.sound shard slot → ⊥ }
     requires limits { IsShape place.geometry }
     requires number { (place.number ≡ 0) × (0 < place.geometry.shards) }
     requires window { place.window ≡ 1 }

@@ -25,7 +25,7 @@ use Rattle.r6_serve.proofs.InOrder.{are-behind}
 use Rattle.r6_serve.proofs.Reasons.{IsOf, each-of, reasons}
 use Rattle.r6_serve.proofs.Rows.{count-each-row}
 
-some_same : {A : Type 0} (x y : A) → Some x ≡ Some y → x ≡ y
+pub some_same : {A : Type 0} (x y : A) → Some x ≡ Some y → x ≡ y
 some_same x y is = ap (λ o. elim o [ None ↦ x | Some z ↦ z ]) is
 
 -- what each is made of

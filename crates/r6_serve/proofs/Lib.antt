@@ -5,3 +5,4 @@ mod Passes
 mod Rows
 mod Reasons
 mod InOrder
+mod Named

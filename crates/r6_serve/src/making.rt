@@ -7,6 +7,7 @@ ghost use Rattle.r6_health.specs.Passes.{IsPassOf, view_of};
 ghost use Rattle.r6_shard.specs.Beginnings.{IsFirstPass};
 ghost use Rattle.r6_lists.specs.Events.{tasks_of};
 ghost use Rattle.r6_feed.specs.Events.{events_of};
+ghost use Rattle.r6_serve.specs.Named.{BeginsSound};
 ghost use Rattle.r6_serve.specs.Serves.{AreNumbered, Begins};
 
 use r6_dev::BlockDevice;
@@ -89,6 +90,8 @@ pub(crate) fn taking_of<L: Events, D: BlockDevice + Drop>(
     requires pass { IsFirstPass place.geometry start.now (view_of pass) }
     ensures begins { IfOk result (λ taking. Begins D.told L.shape L.events start.now parts taking.consumer.shard
         taking.consumer.numbers.items taking.runner) }
+    ensures sound { IfOk result (λ taking. BeginsSound D.told D.promised L.shape start.now parts taking.consumer.shard
+        taking.runner) }
     ensures number { IfOk result (λ taking. taking.consumer.shard ≡ place.number) }
     ensures pass { IfOk result (λ taking. taking.runner.shard.pass ≡ pass) }
 {
@@ -146,6 +149,8 @@ pub(crate) fn takings_of<L: Events, D: BlockDevice + Drop>(
     ensures begins { IfOk result (λ takings. AllZip (λ parts taking. Begins D.told L.shape L.events
         opening.now.start.now parts taking.consumer.shard taking.consumer.numbers.items taking.runner)
         parts.items takings.items) }
+    ensures sound { IfOk result (λ takings. AllZip (λ parts taking. BeginsSound D.told D.promised L.shape
+        opening.now.start.now parts taking.consumer.shard taking.runner) parts.items takings.items) }
     ensures numbered { IfOk result (λ takings. AreNumbered (λ taking. taking.consumer.shard) takings.items) }
     ensures passes { IfOk result (λ takings.
         All (λ taking. IsPassOf opening.now.register.now taking.runner.shard.pass) takings.items) }

@@ -3,7 +3,8 @@
 ghost use Rattle.std.specs.Prelude.{◌≡◌, ◌<◌, All, IfOk};
 ghost use Rattle.std.specs.List.{AllZip};
 ghost use Rattle.r6_health.specs.Passes.{IsPassOf, view_of};
-ghost use Rattle.r6_feed.specs.Events.{events_of, AreWhole};
+ghost use Rattle.r6_feed.specs.Events.{events_of, AreWhole, ArePromised};
+ghost use Rattle.r6_runner.specs.Sound.{KeepsPromised};
 ghost use Rattle.r6_serve.specs.Serves.{HasAnswered, HasRun};
 
 use crate::worker::Station;
@@ -27,6 +28,7 @@ fn hand_out<L: Events, D: BlockDevice + Drop, R: Wait>(
     requires begins { feed.number ≡ 0 }
     requires events { events_of D.told events.items ≡ L.events }
     requires whole { AreWhole L.shape.shards events.items }
+    requires promised { ArePromised D.promised L.shape L.sound events.items }
     requires pass { IsPassOf shards.now.register.now feed.pass }
     ensures pass { IsPassOf shards.now.register.now result.0 }
     ensures answered { HasAnswered L.shape L.events (view_of feed.pass) result.1.items (view_of result.0) }
@@ -52,19 +54,23 @@ where
     requires begins { feed.number ≡ 0 }
     requires events { events_of D.told events.items ≡ L.events }
     requires whole { AreWhole L.shape.shards events.items }
+    requires promised { ArePromised D.promised L.shape L.sound events.items }
     requires pass { IsPassOf station.now.shards.register.now feed.pass }
     ensures pass { IfOk result (λ r. IsPassOf station.now.shards.register.now r.0.0) }
     ensures answered { IfOk result (λ r.
         HasAnswered L.shape L.events (view_of feed.pass) r.0.1.items (view_of r.0.0)) }
     ensures run { IfOk result (λ r. AllZip (λ old new. IsPassOf station.now.shards.register.now new.runner.shard.pass
         × HasRun D.told L.shape L.events old.consumer.shard old.consumer.numbers.items old.runner
-        new.consumer.shard new.consumer.numbers.items new.consumer.finished new.runner) takings.items r.1.items) }
+        new.consumer.shard new.consumer.numbers.items new.consumer.finished new.runner
+        × KeepsPromised D.told D.promised L.shape L.sound old.consumer.shard old.runner new.runner)
+        takings.items r.1.items) }
 {
     let shards = &station.shards;
     let feeding = move || -> (Pass, Vec<EventAnswer>)
         requires begins { feed.number ≡ 0 }
         requires events { events_of D.told events.items ≡ L.events }
         requires whole { AreWhole L.shape.shards events.items }
+        requires promised { ArePromised D.promised L.shape L.sound events.items }
         requires pass { IsPassOf shards.now.register.now feed.pass }
         ensures pass { IsPassOf shards.entry.now.register.now result.0 }
         ensures answered { HasAnswered L.shape L.events (view_of feed.pass) result.1.items (view_of result.0) }

@@ -1,12 +1,13 @@
 //! An array is served.
 
-ghost use Rattle.std.specs.Prelude.{◌≡◌, ◌*◌, ◌≤◌, ◌<◌, ◌^◌, All, IfOk, count_ones, length};
+ghost use Rattle.std.specs.Prelude.{◌≡◌, ◌↔◌, ℕ, ◌*◌, ◌≤◌, ◌<◌, ◌^◌, All, IfOk, count_ones, length};
 ghost use Rattle.r6_layout.specs.Shape.{IsShape};
 ghost use Rattle.r6_health.specs.Passes.{view_of};
 ghost use Rattle.r6_health.specs.Histories.{start_losing, held};
 ghost use Rattle.r6_health.specs.Registers.{starting};
 ghost use Rattle.r6_health.specs.Views.{first_of, newcomer};
 ghost use Rattle.r6_feed.specs.Events.{events_of, AreWhole};
+ghost use Rattle.r6_serve.specs.Named.{AttachesFailNone, LeaveSoundAlone};
 ghost use Rattle.r6_serve.specs.Passes.{CallAsTheyMay, IsShown};
 ghost use Rattle.r6_serve.specs.Serves.{HasAnswered, HaveServed};
 
@@ -75,6 +76,8 @@ where
     requires few { count_ones config.lost ≤ 2 }
     requires parts { length parts.items ≡ L.shape.shards }
     requires whole { AreWhole L.shape.shards events.items }
+    requires sound { (shard : ℕ) (slot : ℕ)
+        → L.sound shard slot ↔ AttachesFailNone D.promised L.shape shard slot events.items }
     ensures served { IfOk result (λ served.
         HaveServed D.told L.shape L.events (starting config.lost) parts.items served.runners.items) }
     ensures answered { IfOk result (λ served. HasAnswered L.shape L.events
@@ -83,6 +86,8 @@ where
     ensures snapshot { IfOk result (λ served.
         served.snapshot ≡ held (view_of served.pass).start (view_of served.pass).seen) }
     ensures calls { IfOk result (λ served. CallAsTheyMay served.runners.items) }
+    ensures sound { IfOk result (λ served. LeaveSoundAlone D.promised L.shape (starting config.lost) parts.items
+        events.items served.runners.items) }
     ensures failure { IfOk result (λ served. All (IsShown served.snapshot) served.runners.items) }
 {
     let Config {
@@ -168,6 +173,8 @@ where
     ensures snapshot { IfOk result (λ served.
         served.snapshot ≡ held (view_of served.pass).start (view_of served.pass).seen) }
     ensures calls { IfOk result (λ served. CallAsTheyMay served.runners.items) }
+    ensures sound { IfOk result (λ served. LeaveSoundAlone D.promised config.geometry (starting config.lost) parts.items
+        events.items served.runners.items) }
     ensures failure { IfOk result (λ served. All (IsShown served.snapshot) served.runners.items) }
 {
     let blank = Blank::new(3 * config.geometry.shards() as u64);

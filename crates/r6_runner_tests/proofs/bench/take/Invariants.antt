@@ -6,7 +6,7 @@ abbrev pub ghosts-play-L-Ledger : goal.ghosts-play-L-Ledger
 ghosts-play-L-Ledger g a = record { name = a.blank.name; parts = a.blank.parts }
 
 abbrev pub ghosts-play-L-Events : goal.ghosts-play-L-Events
-ghosts-play-L-Events g a = record { shape = a.place.geometry; events = events_of a.asks.now }
+ghosts-play-L-Events g a = record { shape = a.place.geometry; events = events_of a.asks.now; sound = λ shard slot. ⊥ }
 
 abbrev pub invariant-loop-slot : goal.invariant-loop-slot
 invariant-loop-slot g l = IsPassOf l.register l.caller

@@ -6,6 +6,7 @@ use Rattle.std.proofs.lemmas.List.{length_push}
 use Rattle.std.proofs.lemmas.List.Elements.{All-push}
 use Rattle.std.proofs.lemmas.Slice.Zip.{AllZip-long, all_zipped_more}
 use Rattle.r6_health.specs.Passes.{IsPassOf}
+use Rattle.r6_serve.specs.Named.{BeginsSound}
 use Rattle.r6_serve.specs.Serves.{Begins}
 use Rattle.r6_serve.proofs.Numbers.{fewer, one_more, unchanged}
 use Rattle.r6_serve.proofs.making.takings_of.Goals as goal
@@ -59,6 +60,9 @@ loop-parts-preserved g c =
         begins = rw pushed (all_zipped_more (λ parts t. Begins g.D.BlockDevice.told g.L.Events.shape g.L.Events.events
             c.args.opening.now.start.now parts t.consumer.shard t.consumer.numbers.items t.runner)
             c.loop-parts.yielded before c.in-Some.parts taking kept.begins c.in_ok-taking.ensures.begins);
+        sound = rw pushed (all_zipped_more (λ parts t. BeginsSound g.D.BlockDevice.told g.D.BlockDevice.promised g.L.Events.shape
+            c.args.opening.now.start.now parts t.consumer.shard t.runner)
+            c.loop-parts.yielded before c.in-Some.parts taking kept.sound c.in_ok-taking.ensures.sound);
         numbered = rw pushed (one_more (λ t. t.consumer.shard) before taking kept.numbered
             (c.in_ok-taking.ensures.number ∙ long));
         passes = rw pushed (All-push (λ t. IsPassOf c.args.opening.now.register.now t.runner.shard.pass) before taking kept.passes
@@ -79,6 +83,16 @@ returns-clause-begins g c =
     subst (λ parts. AllZip (λ p t. Begins g.D.BlockDevice.told g.L.Events.shape g.L.Events.events
     c.args.opening.now.start.now p t.consumer.shard t.consumer.numbers.items t.runner) parts c.loop-parts.takings.items)
     (sym (unchanged c.loop-parts.yielded) ∙ end.0) c.loop-parts.invariant.2.begins
+
+pub returns-clause-sound : goal.returns-clause-sound
+returns-clause-sound g c =
+    let end = YieldsList-end
+    (YieldsList-from_vec {s = c.into_iter-parts-iterator.result} c.args.parts.items (search rules) (search rules))
+    c.loop-parts.yielded c.loop-parts.parts-iterator c.loop-parts.yielded_by c.next.result c.next.new.self c.in-None.is
+    c.next.ensures.steps in
+    subst (λ parts. AllZip (λ p t. BeginsSound g.D.BlockDevice.told g.D.BlockDevice.promised g.L.Events.shape
+    c.args.opening.now.start.now p t.consumer.shard t.runner) parts c.loop-parts.takings.items)
+    (sym (unchanged c.loop-parts.yielded) ∙ end.0) c.loop-parts.invariant.2.sound
 
 pub returns-clause-parts : goal.returns-clause-parts
 returns-clause-parts g c =

@@ -1,6 +1,7 @@
 use Rattle.std.proofs.Common.{◌≡◌, ◌+◌, ◌≤◌, All, length, vec_capacity}
 use Rattle.std.specs.List.{AllZip}
 use Rattle.r6_health.specs.Passes.{IsPassOf, view_of}
+use Rattle.r6_serve.specs.Named.{BeginsSound}
 use Rattle.r6_serve.specs.Serves.{AreNumbered, Begins}
 use Rattle.r6_serve.proofs.making.takings_of.Given as goal
 
@@ -11,6 +12,8 @@ invariant-loop-parts g l =
       same : view_of l.first ≡ view_of l.fn.first;
       begins : AllZip (λ parts taking. Begins g.D.BlockDevice.told g.L.Events.shape g.L.Events.events l.fn.opening.start.now parts
           taking.consumer.shard taking.consumer.numbers.items taking.runner) l.yielded l.takings.items;
+      sound : AllZip (λ parts taking. BeginsSound g.D.BlockDevice.told g.D.BlockDevice.promised g.L.Events.shape l.fn.opening.start.now parts
+          taking.consumer.shard taking.runner) l.yielded l.takings.items;
       numbered : AreNumbered (λ taking. taking.consumer.shard) l.takings.items;
       passes : All (λ taking. IsPassOf l.fn.opening.register.now taking.runner.shard.pass) l.takings.items;
       room : length l.fn.parts.items ≤ vec_capacity l.takings;

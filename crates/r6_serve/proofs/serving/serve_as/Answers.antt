@@ -9,6 +9,9 @@ use Rattle.r6_serve.specs.Serves.{Begins, HasAnswered, HasRun}
 use Rattle.r6_serve.proofs.EachShard.{each_of, have_served, less, numbered_still, read_again}
 use Rattle.r6_serve.proofs.Kept.{have_still}
 use Rattle.r6_serve.proofs.Passes.{call_as_they_may, is_shown}
+use Rattle.r6_runner.specs.Sound.{KeepsPromised}
+use Rattle.r6_serve.specs.Named.{BeginsSound}
+use Rattle.r6_serve.proofs.Named.{are-promised, leave_sound_alone}
 use Rattle.r6_serve.proofs.serving.serve_as.Goals as goal
 
 pub run_all-requires-clause-ready : goal.run_all-requires-clause-ready
@@ -90,3 +93,22 @@ returns-clause-answered g c =
     subst (λ v. HasAnswered shape events v answers (view_of c.read-snapshot.new.pass)) first
     (read_again shape events (view_of c.in_ok-feed.feed.pass) answers (view_of c.in_ok-pass.pass) (view_of c.settle.new.pass)
     (view_of c.read-snapshot.new.pass) c.in_ok-pass.ensures.answered c.settle.ensures.back c.read-snapshot.ensures.looks)
+
+pub run_all-requires-clause-promised : goal.run_all-requires-clause-promised
+run_all-requires-clause-promised g c κs within =
+    are-promised g.D.BlockDevice.promised g.L.Events.shape g.L.Events.sound c.args.events.items (λ shard slot. (c.requires.sound shard slot).0)
+
+pub returns-clause-sound : goal.returns-clause-sound
+returns-clause-sound g c =
+    let told = g.D.BlockDevice.told in
+    let promised = g.D.BlockDevice.promised in
+    let shape = g.L.Events.shape in
+    let olds = c.in_ok-takings.takings.items in
+    let news = c.in_ok-pass.ended.items in
+    leave_sound_alone told promised shape g.L.Events.sound (starting c.args.config.lost) c.args.events.items (λ t. t.consumer.shard) (λ t. t.runner)
+    c.args.parts.items olds news c.settle.new.runners.items
+    (subst (λ start. AllZip (λ p t. BeginsSound told promised shape start p t.consumer.shard t.runner) c.args.parts.items olds)
+    c.start-start.ensures c.in_ok-takings.ensures.sound)
+    (less _ (λ old new. KeepsPromised told promised shape g.L.Events.sound old.consumer.shard old.runner new.runner) (λ old new ran. ran.2) olds news
+    c.in_ok-pass.ensures.run)
+    c.in_ok-takings.ensures.numbered c.settle.ensures.runners (returns-clause-calls g c) (λ shard slot. (c.requires.sound shard slot).1)

@@ -1,0 +1,56 @@
+-- Which slots the ledgers of an array don't name, and which its shards don't declare lost: those whose devices fail no
+-- command (md(4): a device is failed where it answers a command by an error; the promises are this project's own).
+use Rattle.std.specs.Prelude.{◌≡◌, ◌==◌, ℕ, Bool, false, List, All, slice_get, slice_index_or, Some}
+use Rattle.r6_dev.specs.History.{Telling}
+use Rattle.r6_dev.specs.Promises.{Promise}
+use Rattle.r6_layout.specs.Shape.{Shape}
+use Rattle.r6_health.specs.Passes.{view_of}
+use Rattle.r6_health.specs.declared.call.Call.{Call}
+use Rattle.r6_health.specs.declared.call.Call.TheVariants.{DeclareLost}
+use Rattle.r6_world.specs.Registers.{Snapshot}
+use Rattle.r6_shard.specs.declared.parts.Parts.{Parts}
+use Rattle.r6_shard.specs.Sound.{StartsSound}
+use Rattle.r6_feed.specs.declared.event.Event.{Event}
+use Rattle.r6_feed.specs.declared.event.Event.TheVariants.{Attach}
+use Rattle.r6_feed.specs.Events.{PartFailsNone}
+use Rattle.r6_runner.specs.declared.runner.Runner.{Runner}
+use Rattle.r6_runner.specs.Sound.{IsSoundIn}
+
+-- the parts for this shard of the new devices of this slot fail no command of the shard
+abbrev pub AttachFailsNone : {D : Type 0} → (D → Promise) → Shape → (shard slot : ℕ) → Event D → Type 0
+AttachFailsNone promised shape shard slot (Attach other parts) =
+    other ≡ slot → PartFailsNone promised shape shard parts.items
+AttachFailsNone promised shape shard slot event = Unit {0}
+
+abbrev pub AttachesFailNone : {D : Type 0} → (D → Promise) → Shape → (shard slot : ℕ) → List (Event D) → Type 0
+AttachesFailNone promised shape shard slot events = All (AttachFailsNone promised shape shard slot) events
+
+-- whether a call declares the slot lost
+abbrev pub declares : (slot : ℕ) → Call → Bool
+declares slot (DeclareLost other generation) = other == slot
+declares slot call = false
+
+-- the shard's ledger doesn't name the slot, and the shard never declared it lost
+abbrev pub LeavesAlone : {D : Type 0} → (slot : ℕ) → Runner D → Type 0
+LeavesAlone slot runner =
+    (slice_index_or runner.shard.named slot false ≡ false)
+    × All (λ made. declares slot made.call ≡ false) (view_of runner.shard.pass).mine
+
+-- A slot is left alone in each shard of whose commands its parts fail none: those of the start, with one for its first
+-- device unless the slot is lost, and those of its new devices. What its neighbours do doesn't matter
+abbrev pub LeaveSoundAlone : {D : Type 0} → (D → Promise) → Shape → (start : Snapshot) → List (Parts D)
+    → List (Event D) → List (Runner D) → Type 0
+LeaveSoundAlone {D = D} promised shape start parts events runners =
+    (shard slot : ℕ) (own : Parts D) (runner : Runner D)
+    → slice_get parts shard ≡ Some own → slice_get runners shard ≡ Some runner
+    → StartsSound promised shape shard start slot own.parts.items
+    → AttachesFailNone promised shape shard slot events → LeavesAlone slot runner
+
+-- ---- while the threads begin
+
+-- the thread of a shard begins with these parts: each slot is sound of which they are
+abbrev pub BeginsSound : {D : Type 0} → (D → Telling) → (D → Promise) → Shape → (start : Snapshot) → Parts D
+    → (shard : ℕ) → Runner D → Type 0
+BeginsSound told promised shape start parts shard runner =
+    (slot : ℕ) → StartsSound promised shape shard start slot parts.parts.items
+    → IsSoundIn told promised shape shard slot runner
