@@ -6,6 +6,8 @@ pub mod Handed
 pub mod Keeping
 pub mod Own
 pub mod Sound
+pub mod Whole
+pub mod Again
 pub mod Promises
 pub mod Counting
 pub mod Lasting

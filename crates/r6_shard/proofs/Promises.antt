@@ -1,5 +1,5 @@
 -- What parts in a list promise.
-use Rattle.std.proofs.Common.{◌≡◌, ◌<◌, ℕ, zero, suc, List, [], ◌∷◌, length, get_or, All, true, false, inl, inr, refl, sym, ap, subst, ◌∙◌, arith, Option, Some, None}
+use Rattle.std.proofs.Common.{◌≡◌, ◌<◌, ◌≤◌, ◌+◌, ℕ, zero, suc, List, [], ◌∷◌, length, get_or, All, true, false, inl, inr, refl, sym, ap, subst, ◌∙◌, arith, Option, Some, None}
 use Rattle.std.specs.Prelude.{slice_set, ◌==◌, ◌&&◌, Bool, option_map, unwrap_or, is_some}
 use Rattle.std.specs.List.{position}
 use Rattle.std.proofs.lemmas.List.Quantifiers.{position-Some}
@@ -7,6 +7,8 @@ use Rattle.std.proofs.lemmas.Bool.{cases_Bool, cases_eq, and_parts, eqb-true, fa
 use Rattle.r6_dev.specs.History.{Telling}
 use Rattle.r6_dev.specs.Promises.{Promise, FailsNone, no_promise}
 use Rattle.r6_layout.specs.Shape.{Shape}
+use Rattle.r6_layout.specs.Layout.{first_row}
+use Rattle.r6_world.proofs.Geometries.{layouts}
 use Rattle.r6_world.specs.Geometries.{layout_of}
 use Rattle.r6_world.specs.Layouts.{IsRowOf}
 use Rattle.r6_world.specs.Registers.{Snapshot, ShardSet, Rebuilding}
@@ -15,7 +17,7 @@ use Rattle.r6_core.specs.Shards.{CoreView}
 use Rattle.r6_shard.specs.declared.parts.Part.{Part}
 use Rattle.r6_shard.specs.Parts.{is_of, part_in, part_of, promise_in, TakesIn}
 use Rattle.r6_shard.specs.Performing.{ArePromised}
-use Rattle.r6_shard.specs.Sound.{HasPart, DeviceFailsNone, IsSound, BeginsSound, StartsSound}
+use Rattle.r6_shard.specs.Sound.{HasPart, DeviceFailsNone, IsSound, BeginsSound, StartsSound, MemoryLaw}
 use Rattle.r6_shard.proofs.Places.{first-of, behind, found, not-both}
 use Rattle.r6_shard.proofs.Handed.{of-first, of-behind, part-found, part-replaced, part-elsewhere}
 
@@ -146,3 +148,12 @@ begins-sound told promised shape number slot snapshot parts x =
           (sym (promise-of promised parts slot g one.0 one.1)) one.2;
       here = λ below sync e. x.first below sync (untold told parts slot 0 e);
     }
+
+-- ---- devices in memory
+
+pub memory_law_holds : MemoryLaw
+memory_law_holds shape lawful number m begins ends block row own =
+    let there = (layouts shape lawful).shared row own.0 in
+    let low : first_row shape number ≤ row = subst (λ n. first_row shape n ≤ row) own.1 there.1 in
+    let high : row < first_row shape (number + 1) = subst (λ n. row < first_row shape (n + 1)) own.1 there.2 in
+    (omega (arith, begins, low), omega (arith, high, ends), sym block)

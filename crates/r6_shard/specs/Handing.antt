@@ -34,6 +34,7 @@ pub record HandsIn {D : Type 0} (told : D → Telling) (part : Part D) (earlier 
   pub pass : new.pass ≡ old.pass
   pub looked : new.looked ≡ old.looked
   pub named : new.named ≡ old.named
+  pub saw_out : new.saw_out ≡ old.saw_out
   pub ledger : SameLedger old new
   pub course : (s : Start) (device : Devices) (ops : List world.Op)
       → OthersAreAlike part.slot part.generation s.device device

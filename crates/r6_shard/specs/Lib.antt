@@ -8,6 +8,7 @@ pub mod Beginnings
 pub mod Shards
 pub mod Naming
 pub mod Sound
+pub mod Whole
 pub mod Splitting
 pub mod Handing
 pub mod Counted

@@ -1,9 +1,11 @@
 -- Slots whose devices fail no command: a shard names none of them (md(4): a device is failed where it answers a command
 -- by an error; the promises are this project's own).
-use Rattle.std.specs.Prelude.{◌≡◌, ◌≢◌, ℕ, ◌<◌, Bool, false, List, All, Option, Some, None, slice_index_or}
+use Rattle.std.specs.Prelude.{◌≡◌, ◌≢◌, ℕ, ◌+◌, ◌<◌, ◌≤◌, Bool, false, List, All, length, Option, Some, None, slice_index_or}
 use Rattle.r6_dev.specs.History.{Telling}
 use Rattle.r6_dev.specs.Promises.{Promise, FailsNone}
-use Rattle.r6_layout.specs.Shape.{Shape}
+use Rattle.r6_dev.specs.Memory.{Memory, promised_by}
+use Rattle.r6_layout.specs.Shape.{Shape, IsShape}
+use Rattle.r6_layout.specs.Layout.{first_row}
 use Rattle.r6_world.specs.Geometries.{layout_of}
 use Rattle.r6_world.specs.Layouts.{IsRowOf}
 use Rattle.r6_world.specs.Registers.{Snapshot, ShardSet, InSync, Rebuilding, status_of}
@@ -91,3 +93,10 @@ TakesSound told promised part old new =
     (shape : Shape) (number slot : ℕ) → (part.slot ≡ slot → DeviceFailsNone promised shape number part.device)
     → IsSoundIn (parts_tell told) (parts_promise promised) shape number slot old
     → IsSoundIn (parts_tell told) (parts_promise promised) shape number slot new
+
+-- a device in memory that has all rows of a shard, in blocks of the array's length, fails none of its commands
+abbrev pub MemoryLaw : Type 0
+MemoryLaw =
+    (shape : Shape) → IsShape shape → (number : ℕ) (m : Memory) → m.first ≤ first_row shape number
+    → first_row shape (number + 1) ≤ m.first + length m.blocks → m.block ≡ shape.block
+    → DeviceFailsNone promised_by shape number m

@@ -13,3 +13,4 @@ pub record KeepsAll {P : Type 0} (old new : Shard P) : Type 0 where
   pub room : new.room ≡ old.room
   pub named : new.named ≡ old.named
   pub looked : new.looked ≡ old.looked
+  pub saw_out : new.saw_out ≡ old.saw_out

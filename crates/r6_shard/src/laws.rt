@@ -2,6 +2,7 @@
 
 ghost use Rattle.r6_shard.specs.Behind.{BehindLaw};
 ghost use Rattle.r6_shard.specs.Laws.{HandedLaw, LedgerLaw};
+ghost use Rattle.r6_shard.specs.Sound.{MemoryLaw};
 
 use crate::performs::Performs;
 use r6_dev::BlockDevice;
@@ -21,4 +22,10 @@ pub fn ledger_law<P: Performs + Drop>()
 /// a ledger behind all that were handed in before it.
 pub fn behind_law<P: Performs + Drop>()
     ensures { BehindLaw P.tells }
+{}
+
+/// A device in memory that has all rows of a shard, in blocks of the array's length, promises to fail none of the
+/// shard's commands.
+pub fn memory_law()
+    ensures { MemoryLaw }
 {}

@@ -14,7 +14,7 @@ mod shard;
 mod splitting;
 
 pub use handing::{PartRefusal, RefusedPart};
-pub use laws::{behind_law, handed_law, ledger_law};
+pub use laws::{behind_law, handed_law, ledger_law, memory_law};
 pub use ledger::{Asked, Entry};
 pub use parts::{Part, Parts};
 pub use performs::Performs;

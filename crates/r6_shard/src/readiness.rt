@@ -46,6 +46,7 @@ impl<D: BlockDevice + Drop> Shard<Parts<D>> {
     ghost use Rattle.r6_shard.specs.Refusing.{Lasts};
     ghost use Rattle.r6_shard.specs.Shards.{GoesOn, SameLedger};
     ghost use Rattle.r6_shard.specs.Sound.{StaysSound, parts_promise};
+    ghost use Rattle.r6_shard.specs.Whole.{Remembers};
 
     // Looks at the register as it is, if the parts of the new devices are here; whether it did.
     fn look_when_here<R: Wait>(&mut self, rt: &R, register: &Register) -> bool
@@ -53,6 +54,7 @@ impl<D: BlockDevice + Drop> Shard<Parts<D>> {
         ensures pass { IsPassOf register.now self.new.pass }
         ensures course { GoesOn (parts_tell D.told) self.old self.new }
         ensures lasts { Lasts self.old.core self.new.core }
+        ensures remembers { Remembers self.old.named self.old.saw_out self.new.named self.new.saw_out }
         ensures sound { StaysSound (parts_tell D.told) (parts_promise D.promised) self.old self.new }
         ensures passed { PassesNone self.old.core self.new.core }
         ensures ledger { SameLedger self.old self.new }
@@ -72,6 +74,7 @@ impl<D: BlockDevice + Drop> Shard<Parts<D>> {
         ensures pass { IsPassOf register.now self.new.pass }
         ensures course { GoesOn (parts_tell D.told) self.old self.new }
         ensures lasts { Lasts self.old.core self.new.core }
+        ensures remembers { Remembers self.old.named self.old.saw_out self.new.named self.new.saw_out }
         ensures sound { StaysSound (parts_tell D.told) (parts_promise D.promised) self.old self.new }
         ensures passed { CountsAll self.old.core self.new.core }
         ensures asked { self.new.asked.items ≡ self.old.asked.items }

@@ -15,11 +15,13 @@ impl<P: Performs + Drop> Shard<P> {
     ghost use Rattle.r6_shard.specs.Refusing.{Lasts};
     ghost use Rattle.r6_shard.specs.Shards.{GoesOn, SameLedger, Rests};
     ghost use Rattle.r6_shard.specs.Sound.{StaysSound};
+    ghost use Rattle.r6_shard.specs.Whole.{Remembers};
 
     // Performs what was put out, until nothing more is.
     pub(crate) fn perform_all<R: Wait>(&mut self, rt: &R)
         ensures course { GoesOn P.tells self.old self.new }
         ensures lasts { Lasts self.old.core self.new.core }
+        ensures remembers { Remembers self.old.named self.old.saw_out self.new.named self.new.saw_out }
         ensures sound { StaysSound P.tells P.promised self.old self.new }
         ensures passed { PassesNone self.old.core self.new.core }
         ensures ledger { SameLedger self.old self.new }
@@ -39,6 +41,7 @@ impl<P: Performs + Drop> Shard<P> {
         ensures pass { IsPassOf register.now self.new.pass }
         ensures course { GoesOn P.tells self.old self.new }
         ensures lasts { Lasts self.old.core self.new.core }
+        ensures remembers { Remembers self.old.named self.old.saw_out self.new.named self.new.saw_out }
         ensures sound { StaysSound P.tells P.promised self.old self.new }
         ensures passed { PassesNone self.old.core self.new.core }
         ensures ledger { SameLedger self.old self.new }
@@ -54,6 +57,7 @@ impl<P: Performs + Drop> Shard<P> {
     pub(crate) fn collect_all<R: Wait>(&mut self, rt: &R)
         ensures course { GoesOn P.tells self.old self.new }
         ensures lasts { Lasts self.old.core self.new.core }
+        ensures remembers { Remembers self.old.named self.old.saw_out self.new.named self.new.saw_out }
         ensures sound { StaysSound P.tells P.promised self.old self.new }
         ensures passed { PassesNone self.old.core self.new.core }
         ensures asked { self.new.asked ≡ self.old.asked }
@@ -89,6 +93,7 @@ impl<P: Performs + Drop> Shard<P> {
         ensures pass { IsPassOf register.now self.new.pass }
         ensures course { GoesOn P.tells self.old self.new }
         ensures lasts { Lasts self.old.core self.new.core }
+        ensures remembers { Remembers self.old.named self.old.saw_out self.new.named self.new.saw_out }
         ensures sound { StaysSound P.tells P.promised self.old self.new }
         ensures passed { PassesNone self.old.core self.new.core }
         ensures ledger { SameLedger self.old self.new }

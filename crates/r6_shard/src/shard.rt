@@ -1,20 +1,22 @@
 //! A shard in its thread.
 
-ghost use Rattle.std.specs.Prelude.{◌≡◌, ◌+◌, ◌<◌, ◌≤◌, ◌++◌, length, vec_capacity, IfOk, IfErr};
+ghost use Rattle.std.specs.Prelude.{◌≡◌, ◌+◌, ◌<◌, ◌≤◌, ◌++◌, length, vec_capacity, IfOk, IfErr, false};
 ghost use Rattle.r6_health.specs.Passes.{view_of, IsPassOf};
 ghost use Rattle.r6_health.specs.Histories.{held};
-ghost use Rattle.r6_health.specs.Registers.{attaches_of};
+ghost use Rattle.r6_health.specs.Registers.{attaches_of, state_at};
+ghost use Rattle.r6_health.specs.declared.slots.SlotState.TheVariants.{InSync};
 ghost use Rattle.r6_health.specs.Views.{Answered, made_by};
 ghost use Rattle.r6_world.specs.Worlds.{as_made};
 ghost use Rattle.r6_core.specs.Shards.{world_shard, call_of};
 ghost use Rattle.r6_shard.specs.Kept.{IsKept, named_by};
 ghost use Rattle.r6_shard.specs.Own.{AreOwn, SeesFailure};
 ghost use Rattle.r6_shard.specs.Refusing.{Lasts};
+ghost use Rattle.r6_shard.specs.Whole.{SkipsNone, Remembers};
 
 use crate::ledger::{Asked, Entry};
 use crate::performs::Performs;
 use r6_core::{Call, Core, Op, OpId, Receipt, Refusal, Refused, Task, Turn};
-use r6_health::{Answer, Pass, Refusal as RegisterRefusal, Register, Snapshot};
+use r6_health::{Answer, Pass, Refusal as RegisterRefusal, Register, SlotState, Snapshot};
 use r6_layout::{Geometry, MOST_SLOTS};
 use std::alloc::{AllocError, Global};
 use std::sync::Wait;
@@ -48,9 +50,12 @@ pub struct Shard<P> {
     pub named: [bool; MOST_SLOTS],
     /// The attaches that the core saw when it looked last; at first 0.
     pub looked: u32,
+    /// Whether a slot wasn't in sync where the core looked, or at the start.
+    pub saw_out: bool,
     pub ghost kept: { IsKept core number named (length asked.items) },
     pub ghost own: { AreOwn number named (view_of pass).mine },
     pub ghost failure: { SeesFailure core (view_of pass) entries.items },
+    pub ghost whole: { SkipsNone core named saw_out },
     pub ghost counted: { core.unanswered + length entries.items ≡ length asked.items },
     pub ghost within: { length asked.items ≤ room },
     pub ghost asked_room: { room ≤ vec_capacity asked },
@@ -101,8 +106,29 @@ fn looked_by(look: Result<(), Refusal>, snapshot: &Snapshot, looked: u32) -> u32
     }
 }
 
+// Whether a slot isn't in sync.
+fn has_out(snapshot: &Snapshot) -> bool
+    ensures { result ≡ false → (slot : _) → slot < 32 → state_at snapshot.now slot ≡ InSync }
+{
+    for slot in 0..MOST_SLOTS {
+        match snapshot.slot(slot) {
+            SlotState::InSync => {}
+            SlotState::Lost | SlotState::Rebuilding(..) => return true,
+        }
+    }
+    false
+}
+
+// Whether one wasn't in sync before, or isn't now.
+fn saw_by(saw_out: bool, snapshot: &Snapshot) -> bool
+    ensures { result ≡ false → (saw_out ≡ false)
+        × ((slot : _) → slot < 32 → state_at snapshot.now slot ≡ InSync) }
+{
+    saw_out || has_out(snapshot)
+}
+
 impl<P: Performs + Drop> Shard<P> {
-    ghost use Rattle.std.specs.Prelude.{◌↔◌, false, [], IsTrue};
+    ghost use Rattle.std.specs.Prelude.{◌↔◌, [], IsTrue};
     ghost use Rattle.r6_layout.specs.Shape.{IsShape};
     ghost use Rattle.r6_shard.specs.Beginnings.{IsFirstPass};
     ghost use Rattle.r6_core.specs.Effects.{RefusesOp, RefusesTurn};
@@ -166,6 +192,7 @@ impl<P: Performs + Drop> Shard<P> {
             room,
             named: [false; MOST_SLOTS],
             looked: 0,
+            saw_out: has_out(snapshot),
         })
     }
 
@@ -187,6 +214,7 @@ impl<P: Performs + Drop> Shard<P> {
         ensures refused { IfErr result (λ r. RefusesOp self.old.core op r.refusal r.back self.new.core) }
         ensures same { IfErr result (λ _. self.new ≡ self.old) }
         ensures lasts { Lasts self.old.core self.new.core }
+        ensures remembers { Remembers self.old.named self.old.saw_out self.new.named self.new.saw_out }
         ensures named { self.new.named ≡ self.old.named }
         ensures sound { StaysSound P.tells P.promised self.old self.new }
         ensures passed { PassesNone self.old.core self.new.core }
@@ -210,6 +238,7 @@ impl<P: Performs + Drop> Shard<P> {
     pub fn perform_next(&mut self) -> bool
         ensures course { GoesOn P.tells self.old self.new }
         ensures lasts { Lasts self.old.core self.new.core }
+        ensures remembers { Remembers self.old.named self.old.saw_out self.new.named self.new.saw_out }
         ensures named { NamesFailures P.tells self.old self.new }
         ensures sound { StaysSound P.tells P.promised self.old self.new }
         ensures passed { PassesNone self.old.core self.new.core }
@@ -251,6 +280,7 @@ impl<P: Performs + Drop> Shard<P> {
         ensures pass { IsPassOf register.now self.new.pass }
         ensures course { GoesOn P.tells self.old self.new }
         ensures core { self.new.core ≡ self.old.core }
+        ensures remembers { Remembers self.old.named self.old.saw_out self.new.named self.new.saw_out }
         ensures named { self.new.named ≡ self.old.named }
         ensures sound { StaysSound P.tells P.promised self.old self.new }
         ensures parts { self.new.parts ≡ self.old.parts }
@@ -265,6 +295,7 @@ impl<P: Performs + Drop> Shard<P> {
         requires { snapshot.now ≡ held (view_of self.old.pass).start (view_of self.old.pass).seen }
         ensures course { GoesOn P.tells self.old self.new }
         ensures lasts { Lasts self.old.core self.new.core }
+        ensures remembers { Remembers self.old.named self.old.saw_out self.new.named self.new.saw_out }
         ensures named { self.new.named ≡ self.old.named }
         ensures sound { (shape : _) (number : _) (slot : _)
             → (slot < shape.slots → HasNew (P.tells self.old.parts) snapshot.now slot)
@@ -275,6 +306,7 @@ impl<P: Performs + Drop> Shard<P> {
         ensures pass { self.new.pass ≡ self.old.pass }
     {
         self.looked = looked_by(self.core.look(snapshot), snapshot, self.looked);
+        self.saw_out = saw_by(self.saw_out, snapshot);
     }
 
     /// Makes the call at the register that is to be made next, and tells the core the answer; whether there was one. A
@@ -284,6 +316,7 @@ impl<P: Performs + Drop> Shard<P> {
         ensures pass { IsPassOf register.now self.new.pass }
         ensures course { GoesOn P.tells self.old self.new }
         ensures lasts { Lasts self.old.core self.new.core }
+        ensures remembers { Remembers self.old.named self.old.saw_out self.new.named self.new.saw_out }
         ensures named { self.new.named ≡ self.old.named }
         ensures sound { StaysSound P.tells P.promised self.old self.new }
         ensures passed { PassesNone self.old.core self.new.core }
@@ -305,6 +338,7 @@ impl<P: Performs + Drop> Shard<P> {
     pub fn collect(&mut self) -> bool
         ensures course { GoesOn P.tells self.old self.new }
         ensures lasts { Lasts self.old.core self.new.core }
+        ensures remembers { Remembers self.old.named self.old.saw_out self.new.named self.new.saw_out }
         ensures named { self.new.named ≡ self.old.named }
         ensures sound { StaysSound P.tells P.promised self.old self.new }
         ensures passed { PassesNone self.old.core self.new.core }
@@ -333,6 +367,7 @@ impl<P: Performs + Drop> Shard<P> {
     pub fn turn(&mut self, task: Task) -> Result<Turn, Refusal>
         ensures course { GoesOn P.tells self.old self.new }
         ensures lasts { Lasts self.old.core self.new.core }
+        ensures remembers { Remembers self.old.named self.old.saw_out self.new.named self.new.saw_out }
         ensures named { self.new.named ≡ self.old.named }
         ensures sound { StaysSound P.tells P.promised self.old self.new }
         ensures passed { IfOk result (λ _. PassesMore (rows_of task) self.old.core self.new.core) }

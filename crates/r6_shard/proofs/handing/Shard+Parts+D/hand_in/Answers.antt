@@ -20,6 +20,7 @@ returns-in-Ok-clause-handed g c =
       pass = refl;
       looked = refl;
       named = refl;
+      saw_out = refl;
       ledger = record { asked = refl; entries = refl; room = refl };
       course = λ s device ops alike tells x.
           has-handed s device old.core (view_of old.pass) old.looked (parts_tell told old.parts) (parts_tell told new) old.asked.items old.entries.items ops

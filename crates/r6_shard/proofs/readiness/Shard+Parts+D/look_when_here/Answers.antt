@@ -17,3 +17,6 @@ returns-then-here-clause-sound g c = λ shape number slot x.
     c.see.ensures.sound shape number slot
     (λ below. c.has_all-here.ensures c.if-here.true slot (omega arith))
     (c.read-snapshot.ensures.sound shape number slot x)
+
+pub returns-then-here-clause-remembers : goal.returns-then-here-clause-remembers
+returns-then-here-clause-remembers g c = λ x. c.read-snapshot.ensures.remembers (c.see.ensures.remembers x)

@@ -16,3 +16,7 @@ pub returns-clause-sound : goal.returns-clause-sound
 returns-clause-sound g c = λ shape number slot x.
     c.collect_all.ensures.sound shape number slot
     (c.look_when_here.ensures.sound shape number slot (c.tell_all.ensures.sound shape number slot (c.perform_all.ensures.sound shape number slot x)))
+
+pub returns-clause-remembers : goal.returns-clause-remembers
+returns-clause-remembers g c = λ x.
+    c.perform_all.ensures.remembers (c.tell_all.ensures.remembers (c.look_when_here.ensures.remembers (c.collect_all.ensures.remembers x)))

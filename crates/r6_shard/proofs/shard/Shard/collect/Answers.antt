@@ -13,6 +13,7 @@ use Rattle.r6_shard.proofs.Going.{has-collected}
 use Rattle.r6_shard.specs.Own.{SeesFailure}
 use Rattle.r6_shard.proofs.Own.{failure-on, failure-replied}
 use Rattle.r6_shard.proofs.Sound.{sound-by}
+use Rattle.r6_shard.proofs.Whole.{skips-by}
 use Rattle.r6_shard.proofs.shard.Shard.collect.Goals as goal
 
 pub invariant_of-self-clause-kept : goal.invariant_of-self-clause-kept
@@ -84,3 +85,14 @@ returns-clause-sound g c = λ shape number slot x.
     let old = c.args.self.now in
     sound-by (tells old.parts) (promised old.parts) shape number slot old.core (Take_reply c.in-Some.id.0 (reply_of c.in-Some.reply)) c.take_reply.new.self
     old.named (record {}) c.in-Some.ensures.reply.step x
+
+pub invariant_of-self-clause-whole : goal.invariant_of-self-clause-whole
+invariant_of-self-clause-whole g c =
+    let old = c.args.self.now in
+    skips-by old.named old.saw_out old.core No_reply c.take_reply.new.self (λ y. record {}) c.in_default.ensures.reply.step old.whole
+
+pub invariant_of-self-2-clause-whole : goal.invariant_of-self-2-clause-whole
+invariant_of-self-2-clause-whole g c =
+    let old = c.args.self.now in
+    skips-by old.named old.saw_out old.core (Take_reply c.in-Some.id.0 (reply_of c.in-Some.reply)) c.take_reply.new.self (λ y. record {})
+    c.in-Some.ensures.reply.step old.whole

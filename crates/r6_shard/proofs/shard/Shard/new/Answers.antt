@@ -1,4 +1,4 @@
-use Rattle.std.proofs.Common.{[], sym, subst}
+use Rattle.std.proofs.Common.{[], false, replicate, sym, subst, arith}
 use Rattle.std.proofs.lemmas.List.Elements.{All-nil}
 use Rattle.r6_health.specs.Passes.{view_of}
 use Rattle.r6_shard.specs.Beginnings.{start_of}
@@ -7,6 +7,7 @@ use Rattle.r6_shard.proofs.Beginnings.{begun}
 use Rattle.r6_shard.proofs.Counting.{none-passed}
 use Rattle.r6_shard.proofs.Own.{failure-at-first}
 use Rattle.r6_shard.proofs.Sound.{sound-begun, none-named}
+use Rattle.r6_shard.proofs.Whole.{skips-at-first}
 use Rattle.r6_shard.proofs.shard.Shard.new.Goals as goal
 
 pub invariant_of-result-clause-own : goal.invariant_of-result-clause-own
@@ -37,3 +38,9 @@ returns-clause-sound g c = λ slot x.
     let place = c.args.place in
     sound-begun (g.P.Performs.tells c.args.parts) (g.P.Performs.promised c.args.parts) place.geometry c.args.snapshot.now place.number slot
     c.in-Ok.core _ c.in-Ok.ensures.made (none-named 32) x
+
+pub invariant_of-result-clause-whole : goal.invariant_of-result-clause-whole
+invariant_of-result-clause-whole g c =
+    let place = c.args.place in
+    skips-at-first place.geometry c.args.snapshot.now place.number c.in-Ok.core (replicate 32 false) c.has_out.result
+    (λ none slot below. let few = c.requires.limits in c.has_out.ensures none slot (omega (arith, few.slots_allowed.1, below))) c.in-Ok.ensures.made

@@ -14,6 +14,8 @@ use Rattle.r6_shard.specs.Own.{AreOwn}
 use Rattle.r6_shard.proofs.Own.{own-named, failure-on}
 use Rattle.r6_shard.specs.Sound.{IsSound}
 use Rattle.r6_shard.proofs.Sound.{sound-by, sound-performed, named-how}
+use Rattle.r6_shard.specs.Whole.{SkipsNone, Remembers}
+use Rattle.r6_shard.proofs.Whole.{skips-by, skips-performed, clean-before}
 use Rattle.r6_shard.proofs.shard.Shard.perform_next.Goals as goal
 
 pub invariant_of-self-clause-kept : goal.invariant_of-self-clause-kept
@@ -144,3 +146,27 @@ returns-clause-named g c =
         named = c.name.ensures ∙ own.3;
       })
     ]
+
+pub invariant_of-self-clause-whole : goal.invariant_of-self-clause-whole
+invariant_of-self-clause-whole g c =
+    let old = c.args.self.now in
+    skips-by old.named old.saw_out old.core No_command c.take_command.new.self (λ y. record {}) c.in_default.ensures.step old.whole
+
+pub invariant_of-self-2-clause-whole : goal.invariant_of-self-2-clause-whole
+invariant_of-self-2-clause-whole g c =
+    let old = c.args.self.now in
+    let new = c.deliver.new.self in
+    let command = c.in-Some.command in
+    let t = c.in-Some.ensures.step in
+    let below : command.slot < length old.named = let some = c.in-Some.ensures.there.slot in let few = old.kept.1 in let many = old.kept.6 in omega arith in
+    subst (λ y. SkipsNone new y old.saw_out) (sym c.name.ensures)
+    (skips-performed old.core c.take_command.new.self new command.token (world_command t.0 t.1 command) c.perform-completion.result c.in-Ok.receipt
+    c.is_err-failed.result command.slot old.named old.saw_out t.2 c.in-Ok.ensures.received.step below c.is_err-failed.ensures.value old.whole)
+
+pub returns-clause-remembers : goal.returns-clause-remembers
+returns-clause-remembers g c =
+    let old = c.args.self.now in
+    let command = c.in-Some.command in
+    let below : command.slot < length old.named = let some = c.in-Some.ensures.there.slot in let few = old.kept.1 in let many = old.kept.6 in omega arith in
+    subst (λ y. Remembers old.named old.saw_out y old.saw_out) (sym c.name.ensures)
+    (clean-before c.is_err-failed.result c.in-Ok.receipt command.slot old.named old.saw_out below)

@@ -50,3 +50,9 @@ returns-then-tell_next-clause-sound g c = λ shape number slot x. c.tell_next.en
 pub returns-clause-sound : goal.returns-clause-sound
 returns-clause-sound g c = λ shape number slot x.
     c.turn.ensures.sound shape number slot (c.tell_next.ensures.sound shape number slot (c.perform_next.ensures.sound shape number slot x))
+
+pub returns-then-tell_next-clause-remembers : goal.returns-then-tell_next-clause-remembers
+returns-then-tell_next-clause-remembers g c = λ x. c.perform_next.ensures.remembers (c.tell_next.ensures.remembers x)
+
+pub returns-clause-remembers : goal.returns-clause-remembers
+returns-clause-remembers g c = λ x. c.perform_next.ensures.remembers (c.tell_next.ensures.remembers (c.turn.ensures.remembers x))

@@ -1,4 +1,4 @@
-use Rattle.std.proofs.Common.{◌≡◌, ℕ, ◌+◌, length, refl, sym, ap, subst, ◌∙◌}
+use Rattle.std.proofs.Common.{◌≡◌, ◌≤◌, ℕ, ◌+◌, length, refl, sym, ap, subst, ◌∙◌}
 use Rattle.r6_health.specs.Passes.{view_of}
 use Rattle.r6_world.specs.Steps.{Look}
 use Rattle.r6_core.specs.Shards.{CoreView}
@@ -15,6 +15,8 @@ use Rattle.r6_shard.specs.Own.{SeesFailure}
 use Rattle.r6_shard.proofs.Own.{failure-looked, failure-same}
 use Rattle.r6_shard.specs.Sound.{IsSound}
 use Rattle.r6_shard.proofs.Sound.{sound-looked, sound-same}
+use Rattle.r6_shard.specs.Whole.{SkipsNone}
+use Rattle.r6_shard.proofs.Whole.{skips-looked, skips-same, seen-whole}
 use Rattle.r6_shard.proofs.shard.Shard.see.Goals as goal
 
 pub invariant_of-self-clause-kept : goal.invariant_of-self-clause-kept
@@ -100,3 +102,19 @@ returns-clause-sound g c = λ shape number slot here x.
     (IsSound (tells old.parts) (promised old.parts) shape number slot new old.named) c.look.ensures.looked c.look.ensures.refused
     (λ _ looked. sound-looked (tells old.parts) (promised old.parts) shape number slot old.core snapshot new old.named here looked.step x)
     (λ refusal refused. sound-same (tells old.parts) (promised old.parts) shape number slot old.core new old.named refused.same x)
+
+pub invariant_of-self-clause-whole : goal.invariant_of-self-clause-whole
+invariant_of-self-clause-whole g c =
+    let old = c.args.self.now in
+    let new = c.look.new.self in
+    let snapshot = c.args.snapshot.now in
+    let few : old.core.shape.slots ≤ 32 = old.kept.1 in
+    let now = c.saw_by-self.result in
+    let sees = seen-whole old.saw_out now snapshot old.core.shape.slots few c.saw_by-self.ensures in
+    either_way c.look.result (λ _. LooksAt old.core snapshot new) (λ refusal. RefusesLook old.core refusal new)
+    (SkipsNone new old.named now) c.look.ensures.looked c.look.ensures.refused
+    (λ _ looked. skips-looked old.core snapshot new old.named old.saw_out now sees looked.step old.whole)
+    (λ refusal refused. λ clean. skips-same old.named old.saw_out old.core new refused.same old.whole (clean.0, (sees clean.1).0))
+
+pub returns-clause-remembers : goal.returns-clause-remembers
+returns-clause-remembers g c = λ x. (x.0, (c.saw_by-self.ensures x.1).0)

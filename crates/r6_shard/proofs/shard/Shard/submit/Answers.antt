@@ -14,6 +14,8 @@ use Rattle.r6_shard.proofs.Going.{has-submitted}
 use Rattle.r6_shard.proofs.Lasting.{lasts_by, lasts_same}
 use Rattle.r6_shard.proofs.Own.{failure-on, failure-same}
 use Rattle.r6_shard.proofs.Sound.{sound-by, sound-same}
+use Rattle.r6_shard.proofs.Whole.{skips-by, skips-same}
+use Rattle.r6_shard.proofs.Again.{shard-again}
 use Rattle.r6_shard.proofs.shard.Shard.submit.Goals as goal
 
 pub invariant_of-self-clause-kept : goal.invariant_of-self-clause-kept
@@ -31,6 +33,7 @@ invariant_of-self-in-Err-1 g c =
       kept = subst (λ y. IsKept y old.number old.named (length old.asked.items)) (sym same) old.kept;
       own = old.own;
       failure = failure-same old.core c.submit.new.self (view_of old.pass) old.entries.items same old.failure;
+      whole = skips-same old.named old.saw_out old.core c.submit.new.self same old.whole;
       counted = ap (λ (y : CoreView). y.unanswered + length old.entries.items) same ∙ old.counted;
       within = old.within;
       asked_room = old.asked_room;
@@ -99,3 +102,11 @@ returns-in-Err-clause-sound g c = λ shape number slot x.
     let promised = g.P.Performs.promised in
     let old = c.args.self.now in
     sound-same (tells old.parts) (promised old.parts) shape number slot old.core c.submit.new.self old.named c.in-Err.ensures.refused.same x
+
+pub invariant_of-self-clause-whole : goal.invariant_of-self-clause-whole
+invariant_of-self-clause-whole g c =
+    let old = c.args.self.now in
+    skips-by old.named old.saw_out old.core (Submit (op_of c.args.op) c.in-Ok.id.0) c.submit.new.self (λ y. record {}) c.in-Ok.ensures.accepted.step old.whole
+
+pub returns-in-Err-clause-same : goal.returns-in-Err-clause-same
+returns-in-Err-clause-same g c = shard-again c.args.self.now c.submit.new.self (sym c.in-Err.ensures.refused.same) _ _ _ _ _ _ _ _

@@ -14,6 +14,8 @@ use Rattle.r6_shard.specs.Own.{SeesFailure}
 use Rattle.r6_health.proofs.Tells.{seen_after}
 use Rattle.r6_shard.proofs.Own.{own-told, failure-on, failure-later}
 use Rattle.r6_shard.proofs.Sound.{sound-by, sound-twice}
+use Rattle.r6_shard.specs.Whole.{SkipsNone}
+use Rattle.r6_shard.proofs.Whole.{skips-by}
 use Rattle.r6_shard.proofs.shard.Shard.tell_next.Goals as goal
 
 pub invariant_of-self-clause-kept : goal.invariant_of-self-clause-kept
@@ -105,3 +107,23 @@ returns-clause-sound g c = λ shape number slot x.
     let call = call_of c.in-Some.call in
     sound-twice (tells old.parts) (promised old.parts) shape number slot old.core (Take_call call) c.take_call.new.self (Told call c.make-answer.result)
     c.told.new.self old.named (record {}) (record {}) c.in-Some.ensures.step c.in-Ok.ensures.heard.step x
+
+pub invariant_of-self-clause-whole : goal.invariant_of-self-clause-whole
+invariant_of-self-clause-whole g c =
+    let old = c.args.self.now in
+    skips-by old.named old.saw_out old.core No_call c.take_call.new.self (λ y. record {}) c.in_default.ensures.step old.whole
+
+pub invariant_of-self-2-clause-whole : goal.invariant_of-self-2-clause-whole
+invariant_of-self-2-clause-whole g c =
+    let old = c.args.self.now in
+    let mid = c.take_call.new.self in
+    let new = c.told.new.self in
+    let call = c.in-Some.call in
+    let answer = c.make-answer.result in
+    let takes = c.in-Some.ensures.step in
+    either_way c.told.result (λ _. Hears mid call answer new) (λ refusal. RefusesAnswer mid call refusal new)
+    (SkipsNone new old.named old.saw_out) c.told.ensures.heard c.told.ensures.refused
+    (λ _ heard.
+    skips-by old.named old.saw_out mid (Told (call_of call) answer) new (λ y. record {}) heard.step
+    (skips-by old.named old.saw_out old.core (Take_call (call_of call)) mid (λ y. record {}) takes old.whole))
+    (λ refusal refused. absurd (refused.unknown (ap (λ (y : Shard). y.untold) takes.1.2)))

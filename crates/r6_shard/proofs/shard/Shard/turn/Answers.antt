@@ -18,6 +18,8 @@ use Rattle.r6_shard.proofs.Own.{failure-on, failure-same, plain-sees}
 use Rattle.r6_shard.specs.Sound.{IsSound}
 use Rattle.r6_shard.proofs.Keeping.{turned-no-look}
 use Rattle.r6_shard.proofs.Sound.{sound-by, sound-same}
+use Rattle.r6_shard.specs.Whole.{SkipsNone}
+use Rattle.r6_shard.proofs.Whole.{skips-by, skips-same, turned-calm}
 use Rattle.r6_shard.proofs.shard.Shard.turn.Goals as goal
 
 pub invariant_of-self-clause-kept : goal.invariant_of-self-clause-kept
@@ -104,3 +106,15 @@ returns-clause-sound g c = λ shape number slot x.
     let p = turned old.core task turn new t.taken in
     sound-by (tells old.parts) (promised old.parts) shape number slot old.core p.0 new old.named (turned-no-look old.core task turn new t.taken) p.5 x)
     (λ refusal refused. sound-same (tells old.parts) (promised old.parts) shape number slot old.core new old.named refused.same x)
+
+pub invariant_of-self-clause-whole : goal.invariant_of-self-clause-whole
+invariant_of-self-clause-whole g c =
+    let old = c.args.self.now in
+    let new = c.turn.new.self in
+    let task = c.args.task in
+    either_way c.turn.result (λ turn. Turns old.core task turn new) (λ refusal. RefusesTurn old.core task refusal new)
+    (SkipsNone new old.named old.saw_out) c.turn.ensures.turned c.turn.ensures.refused
+    (λ turn t.
+    let p = turned old.core task turn new t.taken in
+    skips-by old.named old.saw_out old.core p.0 new (λ y. turned-calm old.core task turn new t.taken old.core.shape.slots) p.5 old.whole)
+    (λ refusal refused. skips-same old.named old.saw_out old.core new refused.same old.whole)

@@ -1,0 +1,71 @@
+-- A shard whose core is as it was is the shard that it was.
+use Rattle.std.proofs.Common.{◌≡◌, ℕ, ◌+◌, ◌≤◌, length, subst, vec_capacity}
+use Rattle.std.proofs.Props.{props}
+use Rattle.r6_health.specs.Passes.{view_of}
+use Rattle.r6_core.specs.Shards.{CoreView}
+use Rattle.r6_shard.specs.declared.shard.Shard.{Shard}
+use Rattle.r6_shard.specs.Kept.{IsKept}
+use Rattle.r6_shard.specs.Own.{AreOwn, SeesFailure}
+use Rattle.r6_shard.specs.Whole.{SkipsNone}
+
+module _ {P : Type 0} (old : Shard P) where
+  abbrev Kept : CoreView → Type 0
+  Kept core = IsKept core old.number old.named (length old.asked.items)
+
+  abbrev Fails : CoreView → Type 0
+  Fails core = SeesFailure core (view_of old.pass) old.entries.items
+
+  abbrev Whole : CoreView → Type 0
+  Whole core = SkipsNone core old.named old.saw_out
+
+  abbrev Counted : CoreView → Type 0
+  Counted core = core.unanswered + length old.entries.items ≡ length old.asked.items
+
+  abbrev Own : Type 0
+  Own = AreOwn old.number old.named (view_of old.pass).mine
+
+  abbrev Within : Type 0
+  Within = length old.asked.items ≤ old.room
+
+  abbrev AskedRoom : Type 0
+  AskedRoom = old.room ≤ vec_capacity old.asked
+
+  abbrev EntriesRoom : Type 0
+  EntriesRoom = old.room ≤ vec_capacity old.entries
+
+  abbrev Again : CoreView → Type 0
+  Again core =
+      (kept : Kept core) (own : Own) (failure : Fails core) (whole : Whole core) (counted : Counted core) (within : Within)
+      (asked_room : AskedRoom) (entries_room : EntriesRoom)
+      → record old {
+        core = core;
+        kept = kept;
+        own = own;
+        failure = failure;
+        whole = whole;
+        counted = counted;
+        within = within;
+        asked_room = asked_room;
+        entries_room = entries_room;
+      } ≡ old
+
+  pub shard-again : (core : CoreView) → old.core ≡ core → Again core
+  shard-again core e = subst Again e (λ kept own failure whole counted within asked_room entries_room.
+      let k : IsProp (Kept old.core) = Prim.hlevel props in
+      let o : IsProp Own = Prim.hlevel props in
+      let f : IsProp (Fails old.core) = Prim.hlevel props in
+      let w : IsProp (Whole old.core) = Prim.hlevel props in
+      let n : IsProp (Counted old.core) = Prim.hlevel props in
+      let l : IsProp Within = Prim.hlevel props in
+      let a : IsProp AskedRoom = Prim.hlevel props in
+      let r : IsProp EntriesRoom = Prim.hlevel props in
+      λ i. record old {
+        kept = k kept old.kept i;
+        own = o own old.own i;
+        failure = f failure old.failure i;
+        whole = w whole old.whole i;
+        counted = n counted old.counted i;
+        within = l within old.within i;
+        asked_room = a asked_room old.asked_room i;
+        entries_room = r entries_room old.entries_room i;
+      })

@@ -1,0 +1,327 @@
+-- A shard that loses no slot and sees none out skips no row.
+use Rattle.std.proofs.Common.{◌≡◌, ℕ, ◌<◌, ◌⊎◌, List, length, Bool, true, false, inl, inr, refl, sym, ap, subst, ◌∙◌, arith, get_or-set_same, Option, Some, None, Result, Ok, Err}
+use Rattle.std.specs.Prelude.{◌≤◌, slice_index_or, slice_set, is_err}
+use Rattle.std.proofs.lemmas.Bool.{cases_Bool, cases_eq, true≢false, false≢true}
+use Rattle.r6_layout.specs.Shape.{Shape}
+use Rattle.r6_recover.specs.declared.class.RowClass.{RowClass}
+use Rattle.r6_recover.specs.declared.class.RowClass.TheVariants.{Consistent, WrongP, WrongQ, WrongData, Many}
+use Rattle.r6_stripe.specs.Holds.{Hold as Course, Kind, MayEnd, Owes, after_event}
+use Rattle.r6_stripe.specs.Holds.{Event as RowEvent}
+use Rattle.r6_stripe.specs.Holds.Kind.{Idle, Read as RowRead, Write as RowWrite, Rebuild as RowRebuild, Check as RowCheck, Repair as RowRepair}
+use Rattle.r6_stripe.specs.Holds.Event.{Asks, Restores, Computes, Writes, Gives, Confirms, Loses}
+use Rattle.r6_stripe.specs.Holds.Outcome.{GivenUp as RowGivenUp}
+use Rattle.r6_world.specs.Tables.{put}
+use Rattle.r6_world.specs.Layouts.{Layout}
+use Rattle.r6_world.specs.Geometries.{layout_of}
+use Rattle.r6_world.specs.Registers.{Snapshot, Status, InSync, Lost, Rebuilding, status_of}
+use Rattle.r6_world.specs.Tasks.{Task, Hold, Outcome, ReadFor, WriteFor, Rebuild, Check, Repair, Answered, Wrote, Rebuilt, GivenUp, Classed, Skipped, kind_of}
+use Rattle.r6_world.specs.ShardStates as world
+use Rattle.r6_world.specs.ShardStates.{SlotState, Synced, Missing, Building, InSyncFor, Counts, is_away, begun}
+use Rattle.r6_world.specs.Changes.{Change, Start, Ask, Prepare, Classify, Send, Learn, Confirm, Lose, Adopt, See_failed, Finish, Bring_in, Skip_turn, IsWorkedOut, Ends, counted, with_class, with_repair, differs, slots_after, with_row, after}
+use Rattle.r6_world.specs.Steps as steps
+use Rattle.r6_world.specs.Steps.{Event, Look, Deliver, Take_command, Error, Taken, Late}
+use Rattle.r6_world.specs.Worlds.{slot_at_start, shard_at_start}
+use Rattle.r6_world.proofs.Tables.{put-cases, Some-inj, not_both, None-not_Some}
+use Rattle.r6_world.proofs.Changes.{Keeps, step-kept}
+use Rattle.r6_core.specs.declared.refusal.DeviceFault.{DeviceFault}
+use Rattle.r6_core.specs.declared.refusal.Receipt.{Receipt as CoreReceipt}
+use Rattle.r6_core.specs.declared.refusal.Receipt.TheVariants as core-receipt
+use Rattle.r6_core.specs.Effects.{IsMade}
+use Rattle.r6_core.specs.Shards.{CoreView, Step, core_layout, world_shard, completion_of, receipt_of}
+use Rattle.r6_core.specs.declared.turn.Task.{Task as CoreTask}
+use Rattle.r6_core.specs.declared.turn.Turn.{Turn}
+use Rattle.r6_core.specs.Effects.{TakesTurn}
+use Rattle.r6_world.specs.Refusals.{IsNoLook}
+use Rattle.r6_shard.proofs.Keeping.{IsPlain, turned, turned-no-look}
+use Rattle.r6_shard.specs.Kept.{named_by}
+use Rattle.r6_shard.specs.Whole.{IsClean, IsWhole, SkipsNone, Remembers, is_rebuild, rebuilds}
+
+-- ---- each small change
+
+kind-rebuilds : (l : Layout) (row : ℕ) (task : Task) → is_rebuild (kind_of l row task) ≡ rebuilds task
+kind-rebuilds l row (ReadFor id block) = refl
+kind-rebuilds l row (WriteFor writes) = refl
+kind-rebuilds l row (Rebuild slot generation) = refl
+kind-rebuilds l row Check = refl
+kind-rebuilds l row Repair = refl
+
+-- a slot in sync has a generation
+synced-for : (state : SlotState) → is_away state ≡ false → (row : ℕ) → (generation : ℕ) × InSyncFor state row generation
+synced-for (Synced current) here row = (current, refl)
+synced-for Missing here row = absurd (true≢false here)
+synced-for (Building current built) here row = absurd (true≢false here)
+
+none-differs : (now : SlotState) (status : Status) → status ≡ InSync → differs now status ≡ true → {A : Type 0} → A
+none-differs (Synced current) InSync e d = absurd (false≢true d)
+none-differs Missing InSync e d = absurd (false≢true d)
+none-differs (Building current built) InSync e d = absurd (false≢true d)
+none-differs now Lost e d = absurd (apart e)
+  where
+    apart : Lost ≡ InSync → ⊥
+    apart f = cc
+none-differs now (Rebuilding generation reported) e d = absurd (apart e)
+  where
+    apart : Rebuilding generation reported ≡ InSync → ⊥
+    apart f = cc
+
+with-row-away : (state : SlotState) (row : ℕ) → is_away (with_row state row) ≡ is_away state
+with-row-away (Synced current) row = refl
+with-row-away Missing row = refl
+with-row-away (Building current built) row = refl
+
+put-away : (states : ℕ → SlotState) (d : ℕ) (state : SlotState) (slot : ℕ) → (slot ≡ d → is_away state ≡ false)
+    → is_away (states slot) ≡ false → is_away (put states d state slot) ≡ false
+put-away states d state slot here there = elim (put-cases states d state slot (put states d state slot) refl) [
+  | inl p ↦ ap is_away (sym p.1) ∙ here p.0
+  | inr p ↦ ap is_away (sym p.1) ∙ there
+]
+
+finished-away : (s : world.Shard) (h : Hold) (task : Task) (outcome : Outcome) (slot : ℕ) → is_away (s.slot slot) ≡ false
+    → is_away (slots_after s h task outcome slot) ≡ false
+finished-away s h (Rebuild target g) Rebuilt slot e =
+    put-away s.slot target (with_row (s.slot target) h.row) slot
+    (λ same. with-row-away (s.slot target) h.row ∙ ap (λ y. is_away (s.slot y)) (sym same) ∙ e) e
+finished-away s h (Rebuild target g) GivenUp slot e = e
+finished-away s h (Rebuild target g) (Answered b) slot e = e
+finished-away s h (Rebuild target g) Wrote slot e = e
+finished-away s h (Rebuild target g) (Classed class) slot e = e
+finished-away s h (Rebuild target g) Skipped slot e = e
+finished-away s h (ReadFor id block) outcome slot e = e
+finished-away s h (WriteFor writes) outcome slot e = e
+finished-away s h Check outcome slot e = e
+finished-away s h Repair outcome slot e = e
+
+-- a class that is counted is no row skipped
+class-skips : (k : Counts) (class : RowClass) → (with_class k class).skipped ≡ k.skipped
+class-skips k Consistent = refl
+class-skips k WrongP = refl
+class-skips k WrongQ = refl
+class-skips k (WrongData z) = refl
+class-skips k Many = refl
+
+repair-skips : (k : Counts) (task : Task) (class : RowClass) → (with_repair k task class).skipped ≡ k.skipped
+repair-skips k Repair Consistent = refl
+repair-skips k Repair WrongP = refl
+repair-skips k Repair WrongQ = refl
+repair-skips k Repair (WrongData z) = refl
+repair-skips k Repair Many = refl
+repair-skips k Check class = refl
+repair-skips k (ReadFor id block) class = refl
+repair-skips k (WriteFor writes) class = refl
+repair-skips k (Rebuild slot g) class = refl
+
+-- a hold that wasn't cut short doesn't end skipped
+owes-none : (course : Course) (k : Kind) → course.cut_short ≡ false → is_rebuild k ≡ false → Owes course k RowGivenUp → ⊥
+owes-none course Idle uncut none owes = owes
+owes-none course (RowRead index) uncut none owes = owes
+owes-none course (RowWrite batch) uncut none owes = owes
+owes-none course (RowRebuild target) uncut none owes = true≢false none
+owes-none course RowCheck uncut none owes = false≢true (sym uncut ∙ owes)
+owes-none course RowRepair uncut none owes = false≢true (sym uncut ∙ owes)
+
+never-skipped : (s : world.Shard) (h : Hold) (task : Task) → h.course.cut_short ≡ false → is_rebuild h.course.kind ≡ rebuilds task
+    → MayEnd h.course RowGivenUp → Ends s h task Skipped → ⊥
+never-skipped s h (Rebuild target g) uncut same may ends = ends
+never-skipped s h (ReadFor id block) uncut same may ends = owes-none h.course h.course.kind uncut same may.owes_nothing
+never-skipped s h (WriteFor writes) uncut same may ends = owes-none h.course h.course.kind uncut same may.owes_nothing
+never-skipped s h Check uncut same may ends = owes-none h.course h.course.kind uncut same may.owes_nothing
+never-skipped s h Repair uncut same may ends = owes-none h.course h.course.kind uncut same may.owes_nothing
+
+-- what a hold works out neither cuts it short nor changes its kind
+worked-out : (course : Course) (e : RowEvent) → IsWorkedOut e → ((after_event course e).cut_short ≡ course.cut_short) × ((after_event course e).kind ≡ course.kind)
+worked-out course (Restores position block) k = (refl, refl)
+worked-out course (Computes new) k = (refl, refl)
+worked-out course (Asks position) k = (refl, refl)
+worked-out course (Writes position block) k = (refl, refl)
+worked-out course (Gives position block) k = (refl, refl)
+worked-out course (Confirms position) k = (refl, refl)
+worked-out course (Loses position) k = absurd k
+
+-- the event takes no slot out, and sees none out
+abbrev pub IsCalm : (slots : ℕ) → Event → Type 0
+IsCalm slots (Look seen) = (slot : ℕ) → slot < slots → status_of seen slot ≡ InSync
+IsCalm slots (Deliver token Error Taken) = ⊥
+IsCalm slots event = record {}
+
+module _ (l : Layout) (n : ℕ) where
+  -- the frames where one has another hold
+  framed : (s : world.Shard) (f : ℕ) (new : Hold) (Q : Hold → Type 0) → Q new → ((g : ℕ) (h : Hold) → s.frame g ≡ Some h → Q h)
+      → (g : ℕ) (h : Hold) → put s.frame f (Some new) g ≡ Some h → Q h
+  framed s f new Q here there g h e = elim (put-cases s.frame f (Some new) g (Some h) e) [
+    | inl p ↦ subst Q (Some-inj new h p.1) here
+    | inr p ↦ there g h p.1
+  ]
+
+  unframed : (s : world.Shard) (f : ℕ) (Q : Hold → Type 0) → ((g : ℕ) (h : Hold) → s.frame g ≡ Some h → Q h)
+      → (g : ℕ) (h : Hold) → put s.frame f None g ≡ Some h → Q h
+  unframed s f Q there g h e = elim (put-cases s.frame f None g (Some h) e) [
+    | inl p ↦ absurd (not_both None h refl p.1)
+    | inr p ↦ there g h p.1
+  ]
+
+  abbrev Uncut : Hold → Type 0
+  Uncut h = h.course.cut_short ≡ false
+
+  abbrev Fits : Hold → Type 0
+  Fits h = is_rebuild h.course.kind ≡ rebuilds h.task
+
+  -- a hold goes on
+  held-on : (s new : world.Shard) (f : ℕ) (h h' : Hold) → IsWhole l s → s.frame f ≡ Some h → h'.task ≡ h.task
+      → h'.course.cut_short ≡ h.course.cut_short → h'.course.kind ≡ h.course.kind
+      → new.slot ≡ s.slot → new.counts ≡ s.counts → new.frame ≡ put s.frame f (Some h') → IsWhole l new
+  held-on s new f h h' x there task cut kind' slots counts frames = record {
+    in_sync = subst (λ (y : ℕ → SlotState). (slot : ℕ) → slot < l.slots → is_away (y slot) ≡ false) (sym slots) x.in_sync;
+    unskipped = ap (λ (y : Counts). y.skipped) counts ∙ x.unskipped;
+    uncut = subst (λ (y : ℕ → Option Hold). (g : ℕ) (k : Hold) → y g ≡ Some k → Uncut k) (sym frames)
+        (framed s f h' Uncut (cut ∙ x.uncut f h there) x.uncut);
+    tasks = subst (λ (y : ℕ → Option Hold). (g : ℕ) (k : Hold) → y g ≡ Some k → Fits k) (sym frames)
+        (framed s f h' Fits (ap is_rebuild kind' ∙ x.tasks f h there ∙ sym (ap rebuilds task)) x.tasks);
+  }
+
+  -- slots, holds and counts stay
+  same-whole : (s new : world.Shard) → new.slot ≡ s.slot → new.counts ≡ s.counts → new.frame ≡ s.frame → IsWhole l s → IsWhole l new
+  same-whole s new slots counts frames x = record {
+    in_sync = subst (λ (y : ℕ → SlotState). (slot : ℕ) → slot < l.slots → is_away (y slot) ≡ false) (sym slots) x.in_sync;
+    unskipped = ap (λ (y : Counts). y.skipped) counts ∙ x.unskipped;
+    uncut = subst (λ (y : ℕ → Option Hold). (g : ℕ) (k : Hold) → y g ≡ Some k → Uncut k) (sym frames) x.uncut;
+    tasks = subst (λ (y : ℕ → Option Hold). (g : ℕ) (k : Hold) → y g ≡ Some k → Fits k) (sym frames) x.tasks;
+  }
+
+  finished-counts : (s : world.Shard) (h : Hold) (task : Task) (outcome : Outcome) → Uncut h → is_rebuild h.course.kind ≡ rebuilds task
+      → MayEnd h.course (Rattle.r6_world.specs.Tasks.end_of outcome) → Ends s h task outcome → (counted s.counts task outcome).skipped ≡ s.counts.skipped
+  finished-counts s h task (Answered b) uncut fits may ends = refl
+  finished-counts s h task Wrote uncut fits may ends = refl
+  finished-counts s h task Rebuilt uncut fits may ends = refl
+  finished-counts s h task GivenUp uncut fits may ends = refl
+  finished-counts s h task (Classed class) uncut fits may ends =
+      repair-skips (with_class s.counts class) task class ∙ class-skips s.counts class
+  finished-counts s h task Skipped uncut fits may ends = absurd (never-skipped s h task uncut fits may ends)
+
+  whole-kept : (event : Event) → IsCalm l.slots event → Keeps l n (IsWhole l) event
+  whole-kept event calm s (Start f row task) within a x = record {
+    in_sync = x.in_sync;
+    unskipped = x.unskipped;
+    uncut = framed s f (begun l s.slot row task) Uncut refl x.uncut;
+    tasks = framed s f (begun l s.slot row task) Fits (kind-rebuilds l row task) x.tasks;
+  }
+  whole-kept event calm s (Ask f h d g) within a x = held-on s (after l s (Ask f h d g)) f h _ x a.0 refl refl refl refl refl refl
+  whole-kept event calm s (Prepare f h e) within a x =
+      let same = worked-out h.course e a.2 in
+      held-on s (after l s (Prepare f h e)) f h _ x a.0 refl same.0 same.1 refl refl refl
+  whole-kept event calm s (Classify f h class) within a x = held-on s (after l s (Classify f h class)) f h _ x a.0 refl refl refl refl refl refl
+  whole-kept event calm s (Send f h d g b) within a x = held-on s (after l s (Send f h d g b)) f h _ x a.0 refl refl refl refl refl refl
+  whole-kept event calm s (Learn t c h b) within a x = held-on s (after l s (Learn t c h b)) c.frame h _ x a.2 refl refl refl refl refl refl
+  whole-kept event calm s (Confirm t c h) within a x = held-on s (after l s (Confirm t c h)) c.frame h _ x a.2 refl refl refl refl refl refl
+  whole-kept event calm s (Lose t c) within a x = absurd (subst (IsCalm l.slots) within calm)
+  whole-kept event calm s (Adopt d status) within a x =
+      let sees : IsCalm l.slots (Look within.0) = subst (IsCalm l.slots) within.1 calm in
+      none-differs (s.slot d) status (within.2 ∙ sees d a.0) a.1
+  whole-kept event calm s See_failed within a x = record {
+    in_sync = x.in_sync;
+    unskipped = x.unskipped;
+    uncut = λ g h e. absurd (None-not_Some h e);
+    tasks = λ g h e. absurd (None-not_Some h e);
+  }
+  whole-kept event calm s (Finish f h outcome) within a x = record {
+    in_sync = λ slot below. finished-away s h h.task outcome slot (x.in_sync slot below);
+    unskipped = finished-counts s h h.task outcome (x.uncut f h a.0) (x.tasks f h a.0) a.1 a.3 ∙ x.unskipped;
+    uncut = unframed s f Uncut x.uncut;
+    tasks = unframed s f Fits x.tasks;
+  }
+  whole-kept event calm s (Bring_in d g) within a x = record {
+    in_sync = λ slot below. put-away s.slot d (Synced g) slot (λ same. refl) (x.in_sync slot below);
+    unskipped = x.unskipped;
+    uncut = x.uncut;
+    tasks = x.tasks;
+  }
+  whole-kept event calm s (Skip_turn task row) within a x =
+      let sync = synced-for (s.slot a.3) (x.in_sync a.3 a.4) row in absurd (a.5 sync.0 sync.1)
+  whole-kept event calm s change within a x = same-whole s (after l s change) refl refl refl x
+
+  pub whole-on : (event : Event) → IsCalm l.slots event → (old new : world.Shard) → steps.Step l n old event new → IsWhole l old → IsWhole l new
+  whole-on event calm old new step x = step-kept l n (IsWhole l) event (whole-kept event calm) old new step x
+
+-- ---- each call of the core
+
+module _ (named : List Bool) (saw_out : Bool) where
+  pub skips-by : (old : CoreView) (event : Event) (new : CoreView) → (IsClean named saw_out → IsCalm old.shape.slots event) → Step old event new
+      → SkipsNone old named saw_out → SkipsNone new named saw_out
+  skips-by old event new calm step x = λ clean.
+      subst (λ (y : Shape). IsWhole (layout_of y) (world_shard new)) (sym step.0.0)
+      (whole-on (core_layout old) old.shard event (calm clean) (world_shard old) (world_shard new) step.1 (x clean))
+
+  pub skips-same : (old new : CoreView) → new ≡ old → SkipsNone old named saw_out → SkipsNone new named saw_out
+  skips-same old new same x = subst (λ y. SkipsNone y named saw_out) (sym same) x
+
+-- a slot that is named is seen to be so
+still-clean : (slot : ℕ) (named : List Bool) → slot < length named → ((k : ℕ) → slice_index_or (slice_set named slot true) k false ≡ false) → ⊥
+still-clean slot named below none = false≢true (sym (none slot) ∙ get_or-set_same named slot true false below)
+
+-- what was named before stays named
+pub clean-before : (failed : Bool) (receipt : CoreReceipt) (slot : ℕ) (named : List Bool) (saw_out : Bool) → slot < length named
+    → Remembers named saw_out (named_by failed receipt slot named) saw_out
+clean-before true core-receipt.Taken slot named saw_out below x = absurd (still-clean slot named below x.0)
+clean-before true core-receipt.Late slot named saw_out below x = x
+clean-before false receipt slot named saw_out below x = x
+
+-- a completion that names no slot takes none out
+calm-delivery : (slots : ℕ) (failed : Bool) (token : ℕ) (completion : Result (List ℕ) DeviceFault) (receipt : CoreReceipt) (slot : ℕ) (named : List Bool)
+    → slot < length named → failed ≡ is_err completion → ((k : ℕ) → slice_index_or (named_by failed receipt slot named) k false ≡ false)
+    → IsCalm slots (Deliver token (completion_of completion) (receipt_of receipt))
+calm-delivery slots failed token (Ok came) core-receipt.Taken slot named below is none = record {}
+calm-delivery slots failed token (Ok came) core-receipt.Late slot named below is none = record {}
+calm-delivery slots failed token (Err fault) core-receipt.Late slot named below is none = record {}
+calm-delivery slots true token (Err fault) core-receipt.Taken slot named below is none = absurd (still-clean slot named below none)
+calm-delivery slots false token (Err fault) core-receipt.Taken slot named below is none = absurd (false≢true is)
+
+pub skips-performed : (old mid new : CoreView) (token : ℕ) (c : world.Command) (completion : Result (List ℕ) DeviceFault) (receipt : CoreReceipt) (failed : Bool) (slot : ℕ)
+    (named : List Bool) (saw_out : Bool) → Step old (Take_command token c) mid
+    → Step mid (Deliver token (completion_of completion) (receipt_of receipt)) new → slot < length named → failed ≡ is_err completion
+    → SkipsNone old named saw_out → SkipsNone new (named_by failed receipt slot named) saw_out
+skips-performed old mid new token c completion receipt failed slot named saw_out takes delivers below is x = λ clean.
+    let before = clean-before failed receipt slot named saw_out below clean in
+    let between = skips-by named saw_out old (Take_command token c) mid (λ y. record {}) takes x before in
+    subst (λ (y : Shape). IsWhole (layout_of y) (world_shard new)) (sym delivers.0.0)
+    (whole-on (core_layout mid) mid.shard (Deliver token (completion_of completion) (receipt_of receipt))
+    (calm-delivery mid.shape.slots failed token completion receipt slot named below is clean.0) (world_shard mid) (world_shard new) delivers.1 between)
+
+-- a look that sees no slot out
+pub skips-looked : (old : CoreView) (seen : Snapshot) (new : CoreView) (named : List Bool) (before now : Bool)
+    → (now ≡ false → (before ≡ false) × ((slot : ℕ) → slot < old.shape.slots → status_of seen slot ≡ InSync))
+    → Step old (Look seen) new → SkipsNone old named before → SkipsNone new named now
+skips-looked old seen new named before now sees step x = λ clean.
+    let s = sees clean.1 in
+    skips-by named before old (Look seen) new (λ y. s.1) step x (clean.0, s.0)
+
+-- ---- the start
+
+pub skips-at-first : (shape : Shape) (snapshot : Snapshot) (number : ℕ) (core : CoreView) (named : List Bool) (saw_out : Bool)
+    → (saw_out ≡ false → (slot : ℕ) → slot < shape.slots → status_of snapshot slot ≡ InSync) → IsMade shape snapshot number core
+    → SkipsNone core named saw_out
+skips-at-first shape snapshot number core named saw_out sees made = λ clean.
+    subst (λ (y : Shape). IsWhole (layout_of y) (world_shard core)) (sym made.geometry)
+    (subst (IsWhole (layout_of shape)) (sym made.start)
+    (record {
+      in_sync = λ slot below. ap (λ y. is_away (slot_at_start y)) (sees clean.1 slot below);
+      unskipped = refl;
+      uncut = λ f h e. absurd (None-not_Some h e);
+      tasks = λ f h e. absurd (None-not_Some h e);
+    }))
+
+-- a turn is no completion and no look
+plain-calm : (slots : ℕ) (event : Event) → IsPlain event → IsNoLook event → IsCalm slots event
+plain-calm slots (Look seen) plain none = absurd none
+plain-calm slots (Deliver token completion receipt) plain none = absurd plain
+plain-calm slots event plain none = record {}
+
+pub turned-calm : (old : CoreView) (own : CoreTask) (turn : Turn) (new : CoreView) (x : TakesTurn old own turn new) (slots : ℕ)
+    → IsCalm slots (turned old own turn new x).0
+turned-calm old own turn new x slots =
+    plain-calm slots (turned old own turn new x).0 (turned old own turn new x).1 (turned-no-look old own turn new x)
+
+-- no slot was out before, and none of the array is seen out
+pub seen-whole : (before now : Bool) (snapshot : Snapshot) (slots : ℕ) → slots ≤ 32
+    → (now ≡ false → (before ≡ false) × ((slot : ℕ) → slot < 32 → status_of snapshot slot ≡ InSync))
+    → now ≡ false → (before ≡ false) × ((slot : ℕ) → slot < slots → status_of snapshot slot ≡ InSync)
+seen-whole before now snapshot slots few sees none =
+    let s = sees none in (s.0, λ slot below. s.1 slot (omega (arith, few, below)))
