@@ -3,4 +3,5 @@ pub mod Runners
 pub mod Sound
 pub mod Splitting
 pub mod Counted
+pub mod Skipping
 pub mod Waits

@@ -2,6 +2,7 @@
 
 ghost use Rattle.std.specs.Prelude.{◌≤◌, length, vec_capacity};
 ghost use Rattle.std.specs.VecDeque.{deque_capacity};
+ghost use Rattle.r6_runner.specs.Skipping.{SkipNone};
 ghost use Rattle.r6_runner.specs.Tasks.{count_of};
 
 use crate::due::Due;
@@ -45,6 +46,7 @@ pub struct Runner<D> {
     pub rows: u64,
     /// As many tasks may be taken.
     pub room: usize,
+    pub ghost unskipped: { SkipNone shard.named shard.saw_out passed.items },
     ghost within: { count_of refused.items shard.asked.items passing passed.items handed.items due.items ≤ room },
     ghost others_within: { length others.items ≤ length handed.items },
     ghost shard_room: { room ≤ shard.room },

@@ -1,4 +1,7 @@
-use Rattle.std.proofs.Common.{ap, ◌∙◌}
+use Rattle.std.proofs.Common.{◌≡◌, All, ap, sym, subst, ◌∙◌}
+use Rattle.std.proofs.lemmas.List.Elements.{All-push}
+use Rattle.r6_world.specs.ShardStates.{Counts}
+use Rattle.r6_runner.specs.declared.pass.Passed.{Passed}
 use Rattle.r6_core.specs.Shards.{counts_of}
 use Rattle.r6_runner.proofs.Awaiting.{alike}
 use Rattle.r6_runner.proofs.Counting.{over-counted, turned-counted}
@@ -32,3 +35,11 @@ returns-else-is_over-clause-awaited g c = λ events x.
     let new = c.turn-turned.new.self in
     let h = c.turn-turned.ensures.course in
     alike events old.waits new.waits old.shard.asked.items new.shard.asked.items old.due.items new.due.items h.waits h.asked h.kept.due x
+
+pub invariant_of-self-then-is_over-clause-unskipped : goal.invariant_of-self-then-is_over-clause-unskipped
+invariant_of-self-then-is_over-clause-unskipped g c = λ clean.
+    let old = c.args.self.now in
+    let q = c.over.result in
+    subst (All (λ (p : Passed). p.after.skipped ≡ 0)) (sym c.push_reserved.ensures.items)
+    (All-push (λ (p : Passed). p.after.skipped ≡ 0) old.passed.items q (old.unskipped clean)
+    (ap (λ (p : Passed). p.after.skipped) c.over.ensures ∙ ap (λ (k : Counts). k.skipped) c.counts.ensures ∙ (old.shard.whole clean).unskipped))
