@@ -7,6 +7,7 @@ use Rattle.r6_shard.specs.Counted.{IsInService}
 use Rattle.r6_runner.specs.declared.pass.Passed.{Passed}
 use Rattle.r6_runner.specs.declared.runner.Runner.{Runner}
 use Rattle.r6_runner.specs.Counted.{IsUsedUp, rows_in}
+use Rattle.r6_runner.specs.Skipping.{SkipNone}
 
 -- the rows that a shard counted for the event with this number, of whichever class or none
 abbrev pub rows_for : (event : ℕ) → List Passed → ℕ
@@ -22,3 +23,8 @@ CountEachRow shape events runners =
     All (λ runner. MayGoOn runner.shard.core) runners → (event : ℕ)
     → (slice_get events event ≡ Some Check) ⊎ (slice_get events event ≡ Some Repair)
     → sum_by (λ runner. rows_for event runner.passed.items) runners ≡ shape.rows
+
+-- unless a shard names a slot, or saw one that wasn't in sync, its checks and repairs skipped no row
+abbrev pub EachSkipsNone : {D : Type 0} → List (Runner D) → Type 0
+EachSkipsNone runners =
+    All (λ runner. SkipNone runner.shard.named runner.shard.saw_out runner.passed.items) runners

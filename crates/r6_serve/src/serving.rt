@@ -7,6 +7,7 @@ ghost use Rattle.r6_health.specs.Histories.{start_losing, held};
 ghost use Rattle.r6_health.specs.Registers.{starting};
 ghost use Rattle.r6_health.specs.Views.{first_of, newcomer};
 ghost use Rattle.r6_feed.specs.Events.{events_of, AreWhole};
+ghost use Rattle.r6_serve.specs.Counted.{EachSkipsNone};
 ghost use Rattle.r6_serve.specs.Named.{AttachesFailNone, LeaveSoundAlone};
 ghost use Rattle.r6_serve.specs.Passes.{CallAsTheyMay, IsShown};
 ghost use Rattle.r6_serve.specs.Serves.{HasAnswered, HaveServed};
@@ -88,6 +89,7 @@ where
     ensures calls { IfOk result (λ served. CallAsTheyMay served.runners.items) }
     ensures sound { IfOk result (λ served. LeaveSoundAlone D.promised L.shape (starting config.lost) parts.items
         events.items served.runners.items) }
+    ensures unskipped { IfOk result (λ served. EachSkipsNone served.runners.items) }
     ensures failure { IfOk result (λ served. All (IsShown served.snapshot) served.runners.items) }
 {
     let Config {
@@ -175,6 +177,7 @@ where
     ensures calls { IfOk result (λ served. CallAsTheyMay served.runners.items) }
     ensures sound { IfOk result (λ served. LeaveSoundAlone D.promised config.geometry (starting config.lost) parts.items
         events.items served.runners.items) }
+    ensures unskipped { IfOk result (λ served. EachSkipsNone served.runners.items) }
     ensures failure { IfOk result (λ served. All (IsShown served.snapshot) served.runners.items) }
 {
     let blank = Blank::new(3 * config.geometry.shards() as u64);

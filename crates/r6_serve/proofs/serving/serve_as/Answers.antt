@@ -1,4 +1,4 @@
-use Rattle.std.proofs.Common.{arith, ◌≡◌, ◌∙◌, ap, map, refl, subst, true}
+use Rattle.std.proofs.Common.{arith, ◌≡◌, ◌∙◌, ap, map, refl, slice_index_or, subst, true}
 use Rattle.std.specs.List.{AllZip}
 use Rattle.std.proofs.lemmas.Slice.Zip.{AllZip-long}
 use Rattle.r6_health.specs.Histories.{start_losing}
@@ -112,3 +112,6 @@ returns-clause-sound g c =
     (less _ (λ old new. KeepsPromised told promised shape g.L.Events.sound old.consumer.shard old.runner new.runner) (λ old new ran. ran.2) olds news
     c.in_ok-pass.ensures.run)
     c.in_ok-takings.ensures.numbered c.settle.ensures.runners (returns-clause-calls g c) (λ shard slot. (c.requires.sound shard slot).1)
+
+pub returns-clause-unskipped : goal.returns-clause-unskipped
+returns-clause-unskipped g c = λ k d below. (slice_index_or c.settle.new.runners.items k d).unskipped
