@@ -154,7 +154,10 @@ fn keys_stay_through_sweeps(rt: HostRuntime) -> Result<(), Fail> {
     assert_eq!(rt; answer(&mut line, Step::Push(1, 992)), Some(992));
     for round in 0..30_u32 {
         assert_eq!(rt; answer(&mut line, Step::Push(0, round)), Some(round));
-        assert_eq!(rt; answer(&mut line, Step::Take((round / 10) as u64)), Some(round));
+        assert_eq!(rt;
+            answer(&mut line, Step::Take((round / 10) as u64)),
+            Some(round)
+        );
     }
     assert_eq!(rt; answer(&mut line, Step::Take(99)), Some(991));
     assert_eq!(rt; answer(&mut line, Step::Take(99)), Some(992));
