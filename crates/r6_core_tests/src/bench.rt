@@ -29,8 +29,19 @@ pub(crate) type Told = Result<RegisterAnswer, RegisterRefusal>;
 pub(crate) enum Step {
     /// A request to write this byte throughout a block.
     Write(u64, u8),
+    /// Requests to write 5a throughout the first block of each row, from the first row to before the second; they are
+    /// to have the numbers from 0 on.
+    WriteRows(u64, u64),
+    /// So many times two requests: to write 11 throughout the second block of every fourth row, and 22 throughout the
+    /// first block of the row behind it. They are to have the numbers from 0 on.
+    WritePairs(u64),
     /// A request to read a block.
     Read(u64),
+    /// Requests to read a block, which are to have the numbers from the second on, to before the third.
+    Reads(u64, u64, u64),
+    /// So many requests to read a block, of this many blocks one after another, and again from the first; they are to
+    /// have the numbers from 0 on.
+    ReadInTurn(u64, u64),
     /// The same, into a buffer of this length.
     ReadInto(u64, usize),
     /// The next command is taken.
@@ -43,6 +54,8 @@ pub(crate) enum Step {
     Fail(u64),
     /// A completion of this token, with a buffer of this length and byte that no device filled.
     Deliver(u64, usize, u8),
+    /// Completions of the tokens from the first to before the second, of zeros; they are to be late.
+    DeliverLate(u64, u64),
     /// Commands are taken, performed and delivered one by one, so many at the most.
     Drive(usize),
     /// The next call is taken.
@@ -61,6 +74,8 @@ pub(crate) enum Step {
     InSync(usize),
     /// A task has its turn.
     Turn(Task),
+    /// Likewise, and its commands are taken, performed and delivered.
+    Pass(Task),
     /// The counts are asked for.
     Counts,
     /// The block of a device in a row has this byte throughout from now on; nobody tells the core.
@@ -74,6 +89,8 @@ pub(crate) enum Step {
 pub(crate) enum Answer {
     /// The number of the request.
     Accepted(u64),
+    /// All of the requests have their numbers.
+    AllAccepted,
     /// By this number, with what was handed in.
     Refused(u8),
     /// The token, the slot and the row.
@@ -82,6 +99,8 @@ pub(crate) enum Answer {
     Commands(usize),
     Taken,
     Late,
+    /// All of the completions.
+    AllLate,
     /// So many completions were taken, and so many came late.
     Driven(usize, usize),
     /// The slot and the generation whose loss is to be declared.
@@ -131,7 +150,7 @@ pub(crate) fn filled(alloc: Global, len: usize, byte: u8) -> Result<Buffer, Allo
 }
 
 /// The byte that a block has throughout.
-fn byte_of(block: &Buffer) -> Option<u8> {
+pub(crate) fn byte_of(block: &Buffer) -> Option<u8> {
     let byte = *block.as_slice().first()?;
     if block.len() == BLOCK && block.as_slice().iter().all(|b| *b == byte) {
         Some(byte)
@@ -248,19 +267,21 @@ impl Bench {
     }
 
     /// What a step answers.
-    pub(crate) fn answer(&mut self, step: Step) -> Result<Answer, AllocError> {
+    fn answer(&mut self, step: Step) -> Result<Answer, AllocError> {
         Ok(match step {
             Step::Write(block, byte) => self.write(block, byte)?,
+            Step::WriteRows(first, end) => self.write_rows(first, end)?,
+            Step::WritePairs(pairs) => self.write_pairs(pairs)?,
             Step::Read(block) => self.read(block, BLOCK)?,
+            Step::Reads(block, first, end) => self.reads(block, first, end)?,
+            Step::ReadInTurn(count, blocks) => self.read_in_turn(count, blocks)?,
             Step::ReadInto(block, len) => self.read(block, len)?,
             Step::Take => self.take()?,
             Step::TakeAll => self.take_all()?,
             Step::Do(token) => self.answer_taken(token, true),
             Step::Fail(token) => self.answer_taken(token, false),
-            Step::Deliver(token, len, byte) => {
-                let block = filled(self.alloc, len, byte)?;
-                self.deliver(token, Ok(block))
-            }
+            Step::Deliver(token, len, byte) => self.deliver_filled(token, len, byte)?,
+            Step::DeliverLate(first, end) => self.deliver_late(first, end)?,
             Step::Drive(most) => self.drive(most, &[]),
             Step::TakeCall => self.take_call(),
             Step::Tell(slot, told) => self.tell(Call::DeclareLost(slot, 0), told),
@@ -270,6 +291,10 @@ impl Bench {
             Step::Reply => self.take_reply(),
             Step::InSync(slot) => Answer::Generation(self.core.in_sync(slot)),
             Step::Turn(task) => self.turn(task),
+            Step::Pass(task) => match self.turn(task) {
+                Answer::Turned(Turn::Started) => self.drive(9, &[]),
+                answer => answer,
+            },
             Step::Counts => Answer::Counted(self.core.counts()),
             Step::Spoil(slot, row, byte) => self.spoil(slot, row, byte)?,
             Step::Stored(slot, row) => self.stored(slot, row)?,
@@ -284,6 +309,50 @@ impl Bench {
     fn read(&mut self, block: u64, len: usize) -> Result<Answer, AllocError> {
         let buffer = Buffer::new(self.alloc, len)?;
         Ok(self.submit(Op::Read(block, buffer)))
+    }
+
+    fn write_rows(&mut self, first: u64, end: u64) -> Result<Answer, AllocError> {
+        for row in first..end {
+            let block = row.saturating_mul(2);
+            if self.write(block, 0x5a)? != Answer::Accepted(row - first) {
+                return Ok(Answer::Wrong);
+            }
+        }
+        Ok(Answer::AllAccepted)
+    }
+
+    fn write_pairs(&mut self, pairs: u64) -> Result<Answer, AllocError> {
+        for id in 0..pairs.saturating_mul(2) {
+            let block = (id / 2).saturating_mul(8).saturating_add(id % 2 + 1);
+            let byte = if id % 2 == 0 { 0x11 } else { 0x22 };
+            if self.write(block, byte)? != Answer::Accepted(id) {
+                return Ok(Answer::Wrong);
+            }
+        }
+        Ok(Answer::AllAccepted)
+    }
+
+    fn read_in_turn(&mut self, count: u64, blocks: u64) -> Result<Answer, AllocError> {
+        let mut block: u64 = 0;
+        for id in 0..count {
+            if self.read(block, BLOCK)? != Answer::Accepted(id) {
+                return Ok(Answer::Wrong);
+            }
+            block = block.saturating_add(1);
+            if block >= blocks {
+                block = 0;
+            }
+        }
+        Ok(Answer::AllAccepted)
+    }
+
+    fn reads(&mut self, block: u64, first: u64, end: u64) -> Result<Answer, AllocError> {
+        for id in first..end {
+            if self.read(block, BLOCK)? != Answer::Accepted(id) {
+                return Ok(Answer::Wrong);
+            }
+        }
+        Ok(Answer::AllAccepted)
     }
 
     fn submit(&mut self, op: Op) -> Answer {
@@ -369,8 +438,22 @@ impl Bench {
         }
     }
 
+    fn deliver_filled(&mut self, token: u64, len: usize, byte: u8) -> Result<Answer, AllocError> {
+        let block = filled(self.alloc, len, byte)?;
+        Ok(self.deliver(token, Ok(block)))
+    }
+
+    fn deliver_late(&mut self, first: u64, end: u64) -> Result<Answer, AllocError> {
+        for token in first..end {
+            if self.deliver_filled(token, BLOCK, 0)? != Answer::Late {
+                return Ok(Answer::Wrong);
+            }
+        }
+        Ok(Answer::AllLate)
+    }
+
     /// Takes and answers commands until there is none, so many at the most, with an error at each of these tokens.
-    pub(crate) fn drive(&mut self, most: usize, failing: &[u64]) -> Answer {
+    fn drive(&mut self, most: usize, failing: &[u64]) -> Answer {
         let (mut taken, mut late): (usize, usize) = (0, 0);
         for _ in 0..most {
             let Some(command) = self.core.take_command() else {
@@ -387,7 +470,7 @@ impl Bench {
     }
 
     /// Likewise, but before the command of this token is answered, a look finds the slot lost.
-    pub(crate) fn drive_losing(&mut self, most: usize, slot: usize, at: u64) {
+    fn drive_losing(&mut self, most: usize, slot: usize, at: u64) {
         for _ in 0..most {
             if let Some(command) = self.core.take_command() {
                 if command.token == at {
@@ -397,6 +480,19 @@ impl Bench {
                 self.complete(command, true);
             }
         }
+    }
+
+    /// A request is run to its reply, and before the command of this token is answered, a look finds the slot lost.
+    pub(crate) fn run_losing(
+        &mut self,
+        request: Step,
+        slot: usize,
+        at: u64,
+    ) -> Result<Answer, AllocError> {
+        self.answer(request)?;
+        self.drive_losing(9, slot, at);
+        self.look();
+        Ok(self.take_reply())
     }
 
     fn take_call(&mut self) -> Answer {
@@ -414,7 +510,7 @@ impl Bench {
         }
     }
 
-    pub(crate) fn tell_all(&mut self) -> Answer {
+    fn tell_all(&mut self) -> Answer {
         for count in 0..SLOTS {
             let Some(call) = self.core.take_call() else {
                 return Answer::Told(count, self.register.failed());
@@ -438,7 +534,7 @@ impl Bench {
         }
     }
 
-    pub(crate) fn look(&mut self) -> Answer {
+    fn look(&mut self) -> Answer {
         match self.core.look(&self.register) {
             Ok(()) => Answer::Looked,
             Err(refusal) => Answer::Refused(refusal.number()),

@@ -1,6 +1,6 @@
 //! Losses in the middle of requests, by errors and by looks, step by step.
 
-use crate::bench::{Answer, Bench, Step, Told, play};
+use crate::bench::{Answer, Step, Told, play};
 use r6_health::{Answer as RegisterAnswer, Refusal as RegisterRefusal};
 use std::test::Fail;
 
@@ -10,7 +10,7 @@ const CONTENDED: Told = Err(RegisterRefusal::Contended);
 
 #[test]
 fn a_block_is_read_whose_device_was_lost_in_its_write(rt: HostRuntime) -> Result<(), Fail> {
-    let course = [
+    let course = &[
         (Step::Write(0, 0x5a), Answer::Accepted(0)),
         // a read, and the write to slot 1, which has the block
         (Step::Take, Answer::Command(0, 2, 0)),
@@ -30,25 +30,14 @@ fn a_block_is_read_whose_device_was_lost_in_its_write(rt: HostRuntime) -> Result
         (Step::Look, Answer::Looked),
         (Step::Reply, Answer::Data(1, 0x5a)),
     ];
-    play(&rt, rt.alloc(), 4, 1, &[], &course)
+    play(&rt, rt.alloc(), 4, 1, &[], course)
 }
 
-/// The course of a call that declares a slot lost, which is answered so; no look and no other call comes before.
-fn declared(slot: usize, told: Told) -> [(Step, Answer); 6] {
-    [
-        (Step::Look, Answer::Refused(8)),
-        (Step::TakeCall, Answer::Loss(slot, 0)),
-        (Step::TakeCall, Answer::Nothing),
-        (Step::Look, Answer::Refused(8)),
-        (Step::Tell(3, told), Answer::Refused(11)),
-        (Step::Tell(slot, told), Answer::Heard),
-    ]
-}
-
-// Block 0 stands in slot 1; without it slots 2 and 3 are read.
+// Block 0 stands in slot 1; without it slots 2 and 3 are read. No look and no other call comes before one that is taken
+// is answered, and that which was answered Contended is made again, before the other.
 #[test]
 fn losses_are_declared_in_turn_before_a_look(rt: HostRuntime) -> Result<(), Fail> {
-    let first = [
+    let course = &[
         (Step::Read(0), Answer::Accepted(0)),
         (Step::Take, Answer::Command(0, 1, 0)),
         (Step::Fail(0), Answer::Taken),
@@ -57,27 +46,37 @@ fn losses_are_declared_in_turn_before_a_look(rt: HostRuntime) -> Result<(), Fail
         (Step::Fail(1), Answer::Taken),
         (Step::InSync(2), Answer::Generation(None)),
         (Step::Tell(1, DEGRADED), Answer::Refused(11)),
-    ];
-    let last = [
+        (Step::Look, Answer::Refused(8)),
+        (Step::TakeCall, Answer::Loss(1, 0)),
+        (Step::TakeCall, Answer::Nothing),
+        (Step::Look, Answer::Refused(8)),
+        (Step::Tell(3, CONTENDED), Answer::Refused(11)),
+        (Step::Tell(1, CONTENDED), Answer::Heard),
+        (Step::Look, Answer::Refused(8)),
+        (Step::TakeCall, Answer::Loss(1, 0)),
+        (Step::TakeCall, Answer::Nothing),
+        (Step::Look, Answer::Refused(8)),
+        (Step::Tell(3, DEGRADED), Answer::Refused(11)),
+        (Step::Tell(1, DEGRADED), Answer::Heard),
+        (Step::Look, Answer::Refused(8)),
+        (Step::TakeCall, Answer::Loss(2, 0)),
+        (Step::TakeCall, Answer::Nothing),
+        (Step::Look, Answer::Refused(8)),
+        (Step::Tell(3, DEGRADED), Answer::Refused(11)),
+        (Step::Tell(2, DEGRADED), Answer::Heard),
         (Step::Tell(2, DEGRADED), Answer::Refused(11)),
         (Step::TakeCall, Answer::Nothing),
         (Step::Lose(1), Answer::Lost),
         (Step::Lose(2), Answer::Lost),
         (Step::Look, Answer::Looked),
     ];
-    let mut bench = Bench::new(rt.alloc(), 4, 1, &[])?;
-    bench.play(&rt, &first)?;
-    // the call that was answered Contended is made again, before the other
-    for (slot, told) in [(1, CONTENDED), (1, DEGRADED), (2, DEGRADED)] {
-        bench.play(&rt, &declared(slot, told))?;
-    }
-    bench.play(&rt, &last)
+    play(&rt, rt.alloc(), 4, 1, &[], course)
 }
 
 // Blocks of rows 2, 1, 3, 0 and 0 are read; the first request finishes.
 #[test]
 fn a_third_loss_fails_all_that_is_not_answered(rt: HostRuntime) -> Result<(), Fail> {
-    let course = [
+    let course = &[
         (Step::Read(4), Answer::Accepted(0)),
         (Step::Read(2), Answer::Accepted(1)),
         (Step::Read(6), Answer::Accepted(2)),
@@ -103,13 +102,13 @@ fn a_third_loss_fails_all_that_is_not_answered(rt: HostRuntime) -> Result<(), Fa
         (Step::Reply, Answer::Failed(4)),
         (Step::Read(0), Answer::Refused(5)),
     ];
-    play(&rt, rt.alloc(), 4, 1, &[], &course)
+    play(&rt, rt.alloc(), 4, 1, &[], course)
 }
 
 // Both blocks stand in slot 1.
 #[test]
 fn late_completions_bring_only_their_buffers_home(rt: HostRuntime) -> Result<(), Fail> {
-    let course = [
+    let course = &[
         (Step::Read(0), Answer::Accepted(0)),
         (Step::Read(3), Answer::Accepted(1)),
         (Step::Take, Answer::Command(0, 1, 0)),
@@ -127,14 +126,14 @@ fn late_completions_bring_only_their_buffers_home(rt: HostRuntime) -> Result<(),
         (Step::Reply, Answer::Data(0, 0)),
         (Step::Reply, Answer::Data(1, 0)),
     ];
-    play(&rt, rt.alloc(), 4, 1, &[], &course)
+    play(&rt, rt.alloc(), 4, 1, &[], course)
 }
 
 // The third takes over the frame of the first, in front of that of the second. All is done but the second's and the
 // third's writes to slot 3, which has P of row 0 and the block of row 2.
 #[test]
 fn what_one_loss_finishes_is_answered_by_number(rt: HostRuntime) -> Result<(), Fail> {
-    let course = [
+    let course = &[
         (Step::Write(2, 0x33), Answer::Accepted(0)),
         (Step::Write(0, 0x5a), Answer::Accepted(1)),
         // the read of the first, the read of the second, and three writes of the first
@@ -163,7 +162,7 @@ fn what_one_loss_finishes_is_answered_by_number(rt: HostRuntime) -> Result<(), F
         (Step::Reply, Answer::Done(1, 0x5a)),
         (Step::Reply, Answer::Done(2, 0xa5)),
     ];
-    play(&rt, rt.alloc(), 4, 1, &[], &course)
+    play(&rt, rt.alloc(), 4, 1, &[], course)
 }
 
 // Both read the other block of their row first, which stands in slot 1. The error is the answer of the second one's
@@ -172,7 +171,7 @@ fn what_one_loss_finishes_is_answered_by_number(rt: HostRuntime) -> Result<(), F
 fn holds_that_hear_of_one_loss_go_on_in_the_order_of_their_frames(
     rt: HostRuntime,
 ) -> Result<(), Fail> {
-    let course = [
+    let course = &[
         (Step::Write(2, 0x11), Answer::Accepted(0)),
         (Step::Write(1, 0x22), Answer::Accepted(1)),
         (Step::Take, Answer::Command(0, 1, 1)),
@@ -184,14 +183,14 @@ fn holds_that_hear_of_one_loss_go_on_in_the_order_of_their_frames(
         (Step::Take, Answer::Command(5, 3, 0)),
         (Step::Take, Answer::Nothing),
     ];
-    play(&rt, rt.alloc(), 4, 1, &[], &course)
+    play(&rt, rt.alloc(), 4, 1, &[], course)
 }
 
 // The third takes over the frame of the first, in front of that of the second. Both read the other block of their row
 // first, which stands in slot 1.
 #[test]
 fn a_hold_that_begins_takes_the_lowest_free_frame(rt: HostRuntime) -> Result<(), Fail> {
-    let course = [
+    let course = &[
         (Step::Write(4, 0x11), Answer::Accepted(0)),
         (Step::Write(1, 0x22), Answer::Accepted(1)),
         (Step::Take, Answer::Command(0, 0, 2)),
@@ -208,7 +207,7 @@ fn a_hold_that_begins_takes_the_lowest_free_frame(rt: HostRuntime) -> Result<(),
         (Step::Take, Answer::Command(9, 3, 0)),
         (Step::Take, Answer::Nothing),
     ];
-    play(&rt, rt.alloc(), 4, 1, &[], &course)
+    play(&rt, rt.alloc(), 4, 1, &[], course)
 }
 
 // Of rows 0, 1, 4, 5, 8 and so on the block is written whose other block stands in slot 1. That is read, and then,
@@ -216,7 +215,8 @@ fn a_hold_that_begins_takes_the_lowest_free_frame(rt: HostRuntime) -> Result<(),
 // row 2, whose other one stands in slot 0.
 #[test]
 fn frames_are_free_when_late_buffers_are_home(rt: HostRuntime) -> Result<(), Fail> {
-    let course = [
+    let course = &[
+        (Step::WritePairs(32), Answer::AllAccepted),
         (Step::TakeAll, Answer::Commands(64)),
         (Step::Lose(1), Answer::Lost),
         (Step::Look, Answer::Looked),
@@ -226,18 +226,5 @@ fn frames_are_free_when_late_buffers_are_home(rt: HostRuntime) -> Result<(), Fai
         (Step::Deliver(7, 16, 0), Answer::Late),
         (Step::Take, Answer::Command(384, 0, 2)),
     ];
-    let mut bench = Bench::new(rt.alloc(), 132, 1, &[])?;
-    for pair in 0..32u64 {
-        bench.play(
-            &rt,
-            &[
-                (Step::Write(8 * pair + 1, 0x11), Answer::Accepted(2 * pair)),
-                (
-                    Step::Write(8 * pair + 2, 0x22),
-                    Answer::Accepted(2 * pair + 1),
-                ),
-            ],
-        )?;
-    }
-    bench.play(&rt, &course)
+    play(&rt, rt.alloc(), 132, 1, &[], course)
 }

@@ -2,7 +2,7 @@
 //!
 //! In rows 0 to 3 of the array the slots have, in order: Q, D0, D1, P; D0, D1, P, Q; D1, P, Q, D0; P, Q, D0, D1.
 
-use crate::bench::{Answer, Bench, Step, play};
+use crate::bench::{Answer, Step, play};
 use r6_core::{Task, Turn};
 use std::test::Fail;
 
@@ -12,7 +12,7 @@ const STARTED: Answer = Answer::Turned(Turn::Started);
 // written yet.
 #[test]
 fn a_read_beside_a_write_gives_what_the_device_has(rt: HostRuntime) -> Result<(), Fail> {
-    let course = [
+    let course = &[
         (Step::Write(0, 0x5a), Answer::Accepted(0)),
         (Step::Drive(1), Answer::Driven(1, 0)),
         (Step::TakeAll, Answer::Commands(3)),
@@ -33,13 +33,13 @@ fn a_read_beside_a_write_gives_what_the_device_has(rt: HostRuntime) -> Result<()
         (Step::Look, Answer::Looked),
         (Step::Reply, Answer::Done(0, 0x5a)),
     ];
-    play(&rt, rt.alloc(), 4, 1, &[], &course)
+    play(&rt, rt.alloc(), 4, 1, &[], course)
 }
 
 // The row is checked while its block is read, and its block is read while the row is checked.
 #[test]
 fn reads_and_checks_wait_for_each_other_in_no_row(rt: HostRuntime) -> Result<(), Fail> {
-    let course = [
+    let course = &[
         (Step::Read(0), Answer::Accepted(0)),
         (Step::Turn(Task::Check), STARTED),
         (Step::Read(1), Answer::Accepted(1)),
@@ -53,13 +53,15 @@ fn reads_and_checks_wait_for_each_other_in_no_row(rt: HostRuntime) -> Result<(),
         // row 0 is held still, by the check
         (Step::Turn(Task::Repair), Answer::Refused(10)),
     ];
-    play(&rt, rt.alloc(), 4, 1, &[], &course)
+    play(&rt, rt.alloc(), 4, 1, &[], course)
 }
 
 // All are of one block.
 #[test]
 fn sixty_four_reads_of_one_block_are_under_way_at_once(rt: HostRuntime) -> Result<(), Fail> {
-    let course = [
+    let course = &[
+        (Step::Spoil(1, 0, 0x5a), Answer::Spoilt),
+        (Step::Reads(0, 0, 64), Answer::AllAccepted),
         (Step::TakeAll, Answer::Commands(64)),
         (Step::Do(63), Answer::Taken),
         (Step::Do(0), Answer::Taken),
@@ -67,19 +69,15 @@ fn sixty_four_reads_of_one_block_are_under_way_at_once(rt: HostRuntime) -> Resul
         (Step::Reply, Answer::Data(63, 0x5a)),
         (Step::Reply, Answer::Data(0, 0x5a)),
     ];
-    let mut bench = Bench::new(rt.alloc(), 4, 1, &[])?;
-    bench.play(&rt, &[(Step::Spoil(1, 0, 0x5a), Answer::Spoilt)])?;
-    for id in 0..64u64 {
-        bench.play(&rt, &[(Step::Read(0), Answer::Accepted(id))])?;
-    }
-    bench.play(&rt, &course)
+    play(&rt, rt.alloc(), 4, 1, &[], course)
 }
 
 // The 65th is one too many for the buffers of such reads. It waits for one, though its row has no holder and frames
 // are free: a write goes past it, which reads the other block of data of its row 1, in slot 1.
 #[test]
 fn a_read_waits_for_a_buffer_and_holds_no_row(rt: HostRuntime) -> Result<(), Fail> {
-    let course = [
+    let course = &[
+        (Step::Reads(0, 0, 65), Answer::AllAccepted),
         (Step::TakeAll, Answer::Commands(64)),
         (Step::Take, Answer::Nothing),
         (Step::Write(2, 0x5a), Answer::Accepted(65)),
@@ -88,17 +86,13 @@ fn a_read_waits_for_a_buffer_and_holds_no_row(rt: HostRuntime) -> Result<(), Fai
         (Step::Take, Answer::Command(65, 1, 0)),
         (Step::Take, Answer::Nothing),
     ];
-    let mut bench = Bench::new(rt.alloc(), 4, 1, &[])?;
-    for id in 0..65u64 {
-        bench.play(&rt, &[(Step::Read(0), Answer::Accepted(id))])?;
-    }
-    bench.play(&rt, &course)
+    play(&rt, rt.alloc(), 4, 1, &[], course)
 }
 
 // The other block of the row and P give it: 11 = 22 + 33.
 #[test]
 fn a_read_whose_device_fails_is_made_again_from_the_others(rt: HostRuntime) -> Result<(), Fail> {
-    let course = [
+    let course = &[
         (Step::Write(0, 0x11), Answer::Accepted(0)),
         (Step::Drive(9), Answer::Driven(4, 0)),
         (Step::Write(1, 0x22), Answer::Accepted(1)),
@@ -117,14 +111,14 @@ fn a_read_whose_device_fails_is_made_again_from_the_others(rt: HostRuntime) -> R
         (Step::Reply, Answer::Done(1, 0x22)),
         (Step::Reply, Answer::Data(2, 0x11)),
     ];
-    play(&rt, rt.alloc(), 4, 1, &[], &course)
+    play(&rt, rt.alloc(), 4, 1, &[], course)
 }
 
 // The first write holds row 0, and the second waits for it. The read was accepted before the second, and gives what
 // that writes: its device, that of block 0, is lost when it is out.
 #[test]
 fn a_read_whose_slot_is_lost_goes_behind_those_that_wait(rt: HostRuntime) -> Result<(), Fail> {
-    let course = [
+    let course = &[
         (Step::Write(1, 0x11), Answer::Accepted(0)),
         (Step::Read(0), Answer::Accepted(1)),
         (Step::Write(0, 0x22), Answer::Accepted(2)),
@@ -151,13 +145,13 @@ fn a_read_whose_slot_is_lost_goes_behind_those_that_wait(rt: HostRuntime) -> Res
         (Step::Reply, Answer::Done(2, 0x22)),
         (Step::Reply, Answer::Data(1, 0x22)),
     ];
-    play(&rt, rt.alloc(), 4, 1, &[], &course)
+    play(&rt, rt.alloc(), 4, 1, &[], course)
 }
 
 // Both blocks stand in slot 1. The third read takes over the buffer of the first, in front of that of the second.
 #[test]
 fn reads_of_one_loss_wait_again_in_the_order_of_their_tokens(rt: HostRuntime) -> Result<(), Fail> {
-    let course = [
+    let course = &[
         (Step::Read(0), Answer::Accepted(0)),
         (Step::Read(3), Answer::Accepted(1)),
         (Step::Take, Answer::Command(0, 1, 0)),
@@ -175,13 +169,13 @@ fn reads_of_one_loss_wait_again_in_the_order_of_their_tokens(rt: HostRuntime) ->
         (Step::Deliver(1, 16, 0xee), Answer::Late),
         (Step::Drive(9), Answer::Driven(0, 0)),
     ];
-    play(&rt, rt.alloc(), 4, 1, &[], &course)
+    play(&rt, rt.alloc(), 4, 1, &[], course)
 }
 
 // The earlier read is that of slot 2, and one look finds both slots lost.
 #[test]
 fn reads_of_one_look_wait_again_in_the_order_of_their_tokens(rt: HostRuntime) -> Result<(), Fail> {
-    let course = [
+    let course = &[
         (Step::Read(1), Answer::Accepted(0)),
         (Step::Read(3), Answer::Accepted(1)),
         (Step::Take, Answer::Command(0, 2, 0)),
@@ -196,37 +190,27 @@ fn reads_of_one_look_wait_again_in_the_order_of_their_tokens(rt: HostRuntime) ->
         (Step::Take, Answer::Command(5, 3, 1)),
         (Step::Take, Answer::Nothing),
     ];
-    play(&rt, rt.alloc(), 4, 1, &[], &course)
+    play(&rt, rt.alloc(), 4, 1, &[], course)
 }
 
 // Block 0 stands in slot 1. The 64 reads of it go on without slot 1, two reads each, one after another; their first
 // commands are out. Then a write holds row 1, so that a read of its block 2 has to have one of their buffers.
 #[test]
 fn a_buffer_is_free_when_the_late_completion_is_home(rt: HostRuntime) -> Result<(), Fail> {
-    let mut bench = Bench::new(rt.alloc(), 4, 1, &[])?;
-    for id in 0..64u64 {
-        bench.play(&rt, &[(Step::Read(0), Answer::Accepted(id))])?;
-    }
-    let course = [
+    let course = &[
+        (Step::Reads(0, 0, 64), Answer::AllAccepted),
         (Step::TakeAll, Answer::Commands(64)),
         (Step::Lose(1), Answer::Lost),
         (Step::Look, Answer::Looked),
         (Step::Drive(999), Answer::Driven(128, 0)),
         (Step::Write(2, 0x5a), Answer::Accepted(64)),
         (Step::TakeAll, Answer::Commands(2)),
-    ];
-    bench.play(&rt, &course)?;
-    for token in 0..63u64 {
-        bench.play(&rt, &[(Step::Deliver(token, 16, 0), Answer::Late)])?;
-    }
-    for id in 65..129u64 {
-        bench.play(&rt, &[(Step::Read(2), Answer::Accepted(id))])?;
-    }
-    let last = [
+        (Step::DeliverLate(0, 63), Answer::AllLate),
+        (Step::Reads(2, 65, 129), Answer::AllAccepted),
         (Step::TakeAll, Answer::Commands(63)),
         (Step::Deliver(63, 16, 0xee), Answer::Late),
         (Step::Take, Answer::Command(257, 0, 1)),
         (Step::Take, Answer::Nothing),
     ];
-    bench.play(&rt, &last)
+    play(&rt, rt.alloc(), 4, 1, &[], course)
 }

@@ -1,15 +1,12 @@
 //! Requests and completions, with no slot lost.
 
-ghost use Rattle.std.specs.Prelude.{◌<◌};
-
-use crate::bench::{Answer, Bench, Step, play};
-use std::alloc::AllocError;
+use crate::bench::{Answer, Step, play};
 use std::test::Fail;
 
 // The array has 8 blocks, of which shard 0 has those of rows 0 and 1.
 #[test]
 fn requests_are_refused_in_order(rt: HostRuntime) -> Result<(), Fail> {
-    let course = [
+    let course = &[
         (Step::ReadInto(8, 16), Answer::Refused(1)),
         (Step::ReadInto(8, 15), Answer::Refused(1)),
         (Step::ReadInto(4, 16), Answer::Refused(2)),
@@ -17,33 +14,14 @@ fn requests_are_refused_in_order(rt: HostRuntime) -> Result<(), Fail> {
         (Step::ReadInto(3, 15), Answer::Refused(3)),
         (Step::ReadInto(3, 16), Answer::Accepted(0)),
     ];
-    play(&rt, rt.alloc(), 4, 2, &[], &course)
-}
-
-/// Whether so many requests to read are accepted: of blocks at this distance, which begin again at the count of
-/// blocks.
-fn accepts_reads(
-    bench: &mut Bench,
-    requests: u64,
-    distance: u64,
-    blocks: u64,
-) -> Result<bool, AllocError>
-    requires { 0 < blocks }
-{
-    let mut block: u64 = 0;
-    for id in 0..requests {
-        if bench.answer(Step::Read(block))? != Answer::Accepted(id) {
-            return Ok(false);
-        }
-        block = block.saturating_add(distance) % blocks;
-    }
-    Ok(true)
+    play(&rt, rt.alloc(), 4, 2, &[], course)
 }
 
 // What the request itself has wrong comes first.
 #[test]
 fn the_257th_unanswered_request_is_refused(rt: HostRuntime) -> Result<(), Fail> {
-    let course = [
+    let course = &[
+        (Step::ReadInTurn(256, 8), Answer::AllAccepted),
         (Step::Read(0), Answer::Refused(4)),
         (Step::Read(8), Answer::Refused(1)),
         (Step::Drive(1000), Answer::Driven(256, 0)),
@@ -52,14 +30,12 @@ fn the_257th_unanswered_request_is_refused(rt: HostRuntime) -> Result<(), Fail> 
         (Step::Reply, Answer::Data(0, 0)),
         (Step::Read(0), Answer::Accepted(256)),
     ];
-    let mut bench = Bench::new(rt.alloc(), 4, 1, &[])?;
-    assert!(rt; accepts_reads(&mut bench, 256, 1, 8)?);
-    bench.play(&rt, &course)
+    play(&rt, rt.alloc(), 4, 1, &[], course)
 }
 
 #[test]
 fn completions_are_refused_in_order(rt: HostRuntime) -> Result<(), Fail> {
-    let course = [
+    let course = &[
         (Step::Read(0), Answer::Accepted(0)),
         // token 0 was put out and not taken
         (Step::Deliver(0, 16, 0), Answer::Refused(7)),
@@ -71,13 +47,13 @@ fn completions_are_refused_in_order(rt: HostRuntime) -> Result<(), Fail> {
         // it is answered
         (Step::Deliver(0, 16, 0), Answer::Refused(7)),
     ];
-    play(&rt, rt.alloc(), 4, 1, &[], &course)
+    play(&rt, rt.alloc(), 4, 1, &[], course)
 }
 
 // A write has a read, and then three writes together. There is no reply before a look.
 #[test]
 fn a_write_and_a_read_of_it(rt: HostRuntime) -> Result<(), Fail> {
-    let course = [
+    let course = &[
         (Step::Write(0, 0x5a), Answer::Accepted(0)),
         (Step::Drive(1), Answer::Driven(1, 0)),
         (Step::Drive(9), Answer::Driven(3, 0)),
@@ -90,13 +66,13 @@ fn a_write_and_a_read_of_it(rt: HostRuntime) -> Result<(), Fail> {
         (Step::Reply, Answer::Data(1, 0x5a)),
         (Step::Reply, Answer::Nothing),
     ];
-    play(&rt, rt.alloc(), 4, 1, &[], &course)
+    play(&rt, rt.alloc(), 4, 1, &[], course)
 }
 
 // Both put out a read first: row 0 of its second data block, which stands in slot 2, and row 1 of that in slot 1.
 #[test]
 fn rows_go_on_side_by_side(rt: HostRuntime) -> Result<(), Fail> {
-    let course = [
+    let course = &[
         (Step::Write(0, 0x5a), Answer::Accepted(0)),
         (Step::Write(2, 0xa5), Answer::Accepted(1)),
         (Step::Take, Answer::Command(0, 2, 0)),
@@ -111,14 +87,15 @@ fn rows_go_on_side_by_side(rt: HostRuntime) -> Result<(), Fail> {
         (Step::Look, Answer::Looked),
         (Step::Reply, Answer::Done(0, 0x5a)),
     ];
-    play(&rt, rt.alloc(), 4, 1, &[], &course)
+    play(&rt, rt.alloc(), 4, 1, &[], course)
 }
 
 // The first block of each row is written. When a row is let go of, with its last write, the oldest that waits has its
 // turn.
 #[test]
 fn sixty_four_rows_are_held_at_once(rt: HostRuntime) -> Result<(), Fail> {
-    let course = [
+    let course = &[
+        (Step::WriteRows(0, 66), Answer::AllAccepted),
         (Step::Take, Answer::Command(0, 2, 0)),
         (Step::TakeAll, Answer::Commands(63)),
         (Step::Do(0), Answer::Taken),
@@ -132,18 +109,13 @@ fn sixty_four_rows_are_held_at_once(rt: HostRuntime) -> Result<(), Fail> {
         (Step::Take, Answer::Command(67, 2, 64)),
         (Step::Take, Answer::Nothing),
     ];
-    let mut bench = Bench::new(rt.alloc(), 70, 1, &[])?;
-    for row in 0..66u64 {
-        let write = (Step::Write(2 * row, 0x5a), Answer::Accepted(row));
-        bench.play(&rt, &[write])?;
-    }
-    bench.play(&rt, &course)
+    play(&rt, rt.alloc(), 70, 1, &[], course)
 }
 
 // Row 0 has blocks 0 and 1; row 1 has block 2. The reads wait for no row: what they read is what stands there.
 #[test]
 fn writes_to_one_row_wait_for_each_other(rt: HostRuntime) -> Result<(), Fail> {
-    let course = [
+    let course = &[
         (Step::Write(0, 0x11), Answer::Accepted(0)),
         (Step::Write(0, 0x22), Answer::Accepted(1)),
         (Step::Write(0, 0x33), Answer::Accepted(2)),
@@ -169,7 +141,7 @@ fn writes_to_one_row_wait_for_each_other(rt: HostRuntime) -> Result<(), Fail> {
         (Step::Reply, Answer::Done(2, 0x33)),
         (Step::Reply, Answer::Data(5, 0x33)),
     ];
-    play(&rt, rt.alloc(), 4, 1, &[], &course)
+    play(&rt, rt.alloc(), 4, 1, &[], course)
 }
 
 // Row 0 has blocks 0 and 1 in slots 1 and 2, P in slot 3 and Q in slot 0. The second hold takes the oldest write of each

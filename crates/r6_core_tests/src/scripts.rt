@@ -1,7 +1,8 @@
 //! A script of requests with losses at all moments.
 
 use crate::bench::{Answer, Bench, Step};
-use std::alloc::Global;
+use std::alloc::{AllocError, Global};
+use std::process::Abort;
 use std::test::Fail;
 
 /// Two writes, and a read of each.
@@ -20,10 +21,9 @@ const ANSWERS: [Answer; 4] = [
     Answer::Data(3, 0xa5),
 ];
 
-/// The script, each request run to its reply, with an error at each of these tokens: the number of its commands, and
-/// the answers.
-fn run(alloc: Global, failing: &[u64]) -> Result<(u64, [Answer; 4]), Fail> {
-    let mut bench = Bench::new(alloc, 4, 1, &[])?;
+/// The script on a bench, each request run to its reply, with an error at each of these tokens: the number of its
+/// commands, and the answers.
+fn run_on(bench: &mut Bench, failing: &[u64]) -> Result<(u64, [Answer; 4]), AllocError> {
     let mut answers = [Answer::Nothing; 4];
     let mut tokens = 0u64;
     for index in 0..4 {
@@ -34,33 +34,52 @@ fn run(alloc: Global, failing: &[u64]) -> Result<(u64, [Answer; 4]), Fail> {
     Ok((tokens, answers))
 }
 
+/// The same on a new array.
+fn run(alloc: Global, failing: &[u64]) -> Result<(u64, [Answer; 4]), Fail> {
+    let mut bench = Bench::new(alloc, 4, 1, &[])?;
+    Ok(run_on(&mut bench, failing)?)
+}
+
+/// The script has to have its answers with these errors. The number of its commands.
+fn answers<R: Abort>(rt: &R, alloc: Global, failing: &[u64]) -> Result<u64, Fail> {
+    let (tokens, answers) = run(alloc, failing)?;
+    assert!(rt; answers == ANSWERS, "errors at {failing:?}: {answers:?}");
+    Ok(tokens)
+}
+
 #[test]
 fn one_or_two_errors_at_any_tokens_change_no_answer(rt: HostRuntime) -> Result<(), Fail> {
-    let (tokens, answers) = run(rt.alloc(), &[])?;
-    assert_eq!(rt; tokens, 10);
-    assert_eq!(rt; answers, ANSWERS);
+    assert!(rt; answers(&rt, rt.alloc(), &[])? == 10);
     for first in 0..10u64 {
-        let (tokens, answers) = run(rt.alloc(), &[first])?;
-        assert_eq!(rt; answers, ANSWERS, "an error at {first}");
+        let tokens = answers(&rt, rt.alloc(), &[first])?;
         for second in first + 1..tokens {
-            let (_, answers) = run(rt.alloc(), &[first, second])?;
-            assert_eq!(rt; answers, ANSWERS, "errors at {first} and {second}");
+            answers(&rt, rt.alloc(), &[first, second])?;
         }
     }
     Ok(())
 }
 
+/// The number of the script's commands with these errors.
+fn tokens_of(alloc: Global, failing: &[u64]) -> Result<u64, Fail> {
+    let (tokens, _) = run(alloc, failing)?;
+    Ok(tokens)
+}
+
+/// Whether each answer of the script is right or failed with these errors.
+fn is_right_or_failed(alloc: Global, failing: &[u64]) -> Result<bool, Fail> {
+    let (_, answers) = run(alloc, failing)?;
+    Ok(are_right_or_failed(&answers))
+}
+
 #[test]
 fn with_three_errors_each_answer_is_right_or_failed(rt: HostRuntime) -> Result<(), Fail> {
     for first in 0..10u64 {
-        let (seconds, _) = run(rt.alloc(), &[first])?;
-        for second in first + 1..seconds {
-            let (thirds, _) = run(rt.alloc(), &[first, second])?;
-            for third in second + 1..thirds {
-                let (_, answers) = run(rt.alloc(), &[first, second, third])?;
+        for second in first + 1..tokens_of(rt.alloc(), &[first])? {
+            for third in second + 1..tokens_of(rt.alloc(), &[first, second])? {
+                let failing = [first, second, third];
                 assert!(rt;
-                    are_right_or_failed(&answers),
-                    "errors at {first}, {second} and {third}"
+                    is_right_or_failed(rt.alloc(), &failing)?,
+                    "errors at {failing:?}"
                 );
             }
         }
@@ -87,28 +106,25 @@ fn are_right_or_failed(answers: &[Answer; 4]) -> bool {
     true
 }
 
-/// A write and a read of it, each run to its reply. A look finds the slot lost when the command of this token is out.
-fn run_losing(alloc: Global, slot: usize, at: u64) -> Result<[Answer; 2], Fail> {
+/// Whether a write and a read of it, each run to its reply, have their answers. A look finds the slot lost when the
+/// command of this token is out.
+fn is_right_losing(alloc: Global, slot: usize, at: u64) -> Result<bool, Fail> {
     let mut bench = Bench::new(alloc, 4, 1, &[])?;
-    let mut answers = [Answer::Nothing; 2];
-    let requests = [Step::Write(0, 0x5a), Step::Read(0)];
-    for index in 0..2 {
-        bench.answer(requests[index])?;
-        bench.drive_losing(9, slot, at);
-        bench.look();
-        answers[index] = bench.answer(Step::Reply)?;
-    }
-    Ok(answers)
+    Ok(are_right_losing(&mut bench, slot, at)?)
+}
+
+fn are_right_losing(bench: &mut Bench, slot: usize, at: u64) -> Result<bool, AllocError> {
+    let written = bench.run_losing(Step::Write(0, 0x5a), slot, at)?;
+    let read = bench.run_losing(Step::Read(0), slot, at)?;
+    Ok(written == Answer::Done(0, 0x5a) && read == Answer::Data(1, 0x5a))
 }
 
 #[test]
 fn a_slot_that_a_look_finds_lost_changes_no_answer(rt: HostRuntime) -> Result<(), Fail> {
     for slot in 0..4usize {
         for at in 0..5u64 {
-            let answers = run_losing(rt.alloc(), slot, at)?;
-            assert_eq!(rt;
-                answers,
-                [Answer::Done(0, 0x5a), Answer::Data(1, 0x5a)],
+            assert!(rt;
+                is_right_losing(rt.alloc(), slot, at)?,
                 "slot {slot} at {at}"
             );
         }

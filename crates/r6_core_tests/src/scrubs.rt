@@ -2,7 +2,7 @@
 //!
 //! In rows 0 to 3 of the array the slots have, in order: Q, D0, D1, P; D0, D1, P, Q; D1, P, Q, D0; P, Q, D0, D1.
 
-use crate::bench::{Answer, Bench, Step, play};
+use crate::bench::{Answer, Step, play};
 use r6_core::{Counts, Task, Turn};
 use std::test::Fail;
 
@@ -21,65 +21,67 @@ const STARTED: Answer = Answer::Turned(Turn::Started);
 
 const SKIPPED: Answer = Answer::Turned(Turn::Skipped);
 
-/// A turn of this kind that reads a row of four slots and writes so many parities.
-fn passes(task: Task, writes: usize) -> [(Step, Answer); 2] {
-    [
-        (Step::Turn(task), STARTED),
-        (Step::Drive(9), Answer::Driven(writes.saturating_add(4), 0)),
-    ]
-}
+/// A row of four slots is read, and nothing is written.
+const READ: Answer = Answer::Driven(4, 0);
 
-// A wrong D0 is off by as much in P as in Q; one and eight can be no data block's of two.
-fn spoilt() -> [(Step, Answer); 5] {
-    [
+const EACH_CLASS: Counts = Counts {
+    wrong_p: 1,
+    wrong_q: 1,
+    wrong_data: 1,
+    many: 1,
+    ..NONE
+};
+
+#[test]
+fn a_check_counts_each_class_and_writes_nothing(rt: HostRuntime) -> Result<(), Fail> {
+    const AGAIN: Counts = Counts {
+        wrong_p: 2,
+        ..EACH_CLASS
+    };
+    let course = &[
+        // a wrong D0 is off by as much in P as in Q; one and eight can be no data block's of two
         (Step::Spoil(3, 0, 0x11), Answer::Spoilt),
         (Step::Spoil(3, 1, 0x22), Answer::Spoilt),
         (Step::Spoil(3, 2, 0x33), Answer::Spoilt),
         (Step::Spoil(0, 3, 0x01), Answer::Spoilt),
         (Step::Spoil(1, 3, 0x08), Answer::Spoilt),
-    ]
-}
-
-#[test]
-fn a_check_counts_each_class_and_writes_nothing(rt: HostRuntime) -> Result<(), Fail> {
-    let mut bench = Bench::new(rt.alloc(), 4, 1, &[])?;
-    bench.play(&rt, &spoilt())?;
-    for _ in 0..4 {
-        bench.play(&rt, &passes(Task::Check, 0))?;
-    }
-    let all = Counts {
-        wrong_p: 1,
-        wrong_q: 1,
-        wrong_data: 1,
-        many: 1,
-        ..NONE
-    };
-    bench.play(&rt, &[(Step::Counts, Answer::Counted(all))])?;
-    // behind the last row comes the first again
-    bench.play(&rt, &passes(Task::Check, 0))?;
-    let again = Counts { wrong_p: 2, ..all };
-    bench.play(&rt, &[(Step::Counts, Answer::Counted(again))])
+        (Step::Pass(Task::Check), READ),
+        (Step::Pass(Task::Check), READ),
+        (Step::Pass(Task::Check), READ),
+        (Step::Pass(Task::Check), READ),
+        (Step::Counts, Answer::Counted(EACH_CLASS)),
+        // behind the last row comes the first again
+        (Step::Pass(Task::Check), READ),
+        (Step::Counts, Answer::Counted(AGAIN)),
+    ];
+    play(&rt, rt.alloc(), 4, 1, &[], course)
 }
 
 // The repair goes by itself: the checks before it did not move it on.
 #[test]
 fn a_repair_writes_the_wrong_parities_and_no_data(rt: HostRuntime) -> Result<(), Fail> {
-    let mut bench = Bench::new(rt.alloc(), 4, 1, &[])?;
-    bench.play(&rt, &spoilt())?;
-    bench.play(&rt, &passes(Task::Check, 0))?;
-    for writes in [1, 1, 2, 2] {
-        bench.play(&rt, &passes(Task::Repair, writes))?;
-    }
-    let repaired = Counts {
+    const REPAIRED: Counts = Counts {
         wrong_p: 2,
-        wrong_q: 1,
-        wrong_data: 1,
-        many: 1,
         repaired: 4,
-        ..NONE
+        ..EACH_CLASS
     };
-    let stored = [
-        (Step::Counts, Answer::Counted(repaired)),
+    const WHOLE: Counts = Counts {
+        consistent: 4,
+        ..REPAIRED
+    };
+    let course = &[
+        // a wrong D0 is off by as much in P as in Q; one and eight can be no data block's of two
+        (Step::Spoil(3, 0, 0x11), Answer::Spoilt),
+        (Step::Spoil(3, 1, 0x22), Answer::Spoilt),
+        (Step::Spoil(3, 2, 0x33), Answer::Spoilt),
+        (Step::Spoil(0, 3, 0x01), Answer::Spoilt),
+        (Step::Spoil(1, 3, 0x08), Answer::Spoilt),
+        (Step::Pass(Task::Check), READ),
+        (Step::Pass(Task::Repair), Answer::Driven(5, 0)),
+        (Step::Pass(Task::Repair), Answer::Driven(5, 0)),
+        (Step::Pass(Task::Repair), Answer::Driven(6, 0)),
+        (Step::Pass(Task::Repair), Answer::Driven(6, 0)),
+        (Step::Counts, Answer::Counted(REPAIRED)),
         (Step::Stored(3, 0), Answer::Stored(0)),
         (Step::Stored(3, 1), Answer::Stored(0)),
         // D0 stays, and is P and Q of the row with a D1 of zeros
@@ -89,21 +91,18 @@ fn a_repair_writes_the_wrong_parities_and_no_data(rt: HostRuntime) -> Result<(),
         (Step::Stored(2, 2), Answer::Stored(0x33)),
         (Step::Stored(0, 3), Answer::Stored(0)),
         (Step::Stored(1, 3), Answer::Stored(0)),
+        (Step::Pass(Task::Check), READ),
+        (Step::Pass(Task::Check), READ),
+        (Step::Pass(Task::Check), READ),
+        (Step::Pass(Task::Check), READ),
+        (Step::Counts, Answer::Counted(WHOLE)),
     ];
-    bench.play(&rt, &stored)?;
-    for _ in 0..4 {
-        bench.play(&rt, &passes(Task::Check, 0))?;
-    }
-    let whole = Counts {
-        consistent: 4,
-        ..repaired
-    };
-    bench.play(&rt, &[(Step::Counts, Answer::Counted(whole))])
+    play(&rt, rt.alloc(), 4, 1, &[], course)
 }
 
 #[test]
 fn a_request_waits_for_the_row_of_a_check(rt: HostRuntime) -> Result<(), Fail> {
-    let course = [
+    let course = &[
         (Step::Turn(Task::Check), STARTED),
         (Step::TakeAll, Answer::Commands(4)),
         (Step::Turn(Task::Repair), Answer::Refused(10)),
@@ -131,12 +130,12 @@ fn a_request_waits_for_the_row_of_a_check(rt: HostRuntime) -> Result<(), Fail> {
             }),
         ),
     ];
-    play(&rt, rt.alloc(), 4, 1, &[], &course)
+    play(&rt, rt.alloc(), 4, 1, &[], course)
 }
 
 #[test]
 fn a_row_with_a_slot_out_is_passed_over_held_or_not(rt: HostRuntime) -> Result<(), Fail> {
-    let course = [
+    let course = &[
         (Step::Write(0, 0x5a), Answer::Accepted(0)),
         (Step::Take, Answer::Command(0, 2, 0)),
         (Step::Turn(Task::Check), Answer::Refused(10)),
@@ -149,13 +148,13 @@ fn a_row_with_a_slot_out_is_passed_over_held_or_not(rt: HostRuntime) -> Result<(
         (Step::Do(0), Answer::Taken),
         (Step::Counts, Answer::Counted(Counts { skipped: 3, ..NONE })),
     ];
-    play(&rt, rt.alloc(), 4, 1, &[], &course)
+    play(&rt, rt.alloc(), 4, 1, &[], course)
 }
 
 // Token 1 is the read of slot 2, whose device fails.
 #[test]
 fn a_check_that_loses_a_position_is_counted_as_skipped(rt: HostRuntime) -> Result<(), Fail> {
-    let course = [
+    let course = &[
         (Step::Spoil(3, 0, 0x11), Answer::Spoilt),
         (Step::Turn(Task::Repair), STARTED),
         (Step::TakeAll, Answer::Commands(4)),
@@ -168,13 +167,13 @@ fn a_check_that_loses_a_position_is_counted_as_skipped(rt: HostRuntime) -> Resul
         (Step::Take, Answer::Nothing),
         (Step::Stored(3, 0), Answer::Stored(0x11)),
     ];
-    play(&rt, rt.alloc(), 4, 1, &[], &course)
+    play(&rt, rt.alloc(), 4, 1, &[], course)
 }
 
 // Its class was read, and the parity that is lost needs no repair any more.
 #[test]
 fn a_repair_that_loses_its_parity_is_counted_by_its_class(rt: HostRuntime) -> Result<(), Fail> {
-    let course = [
+    let course = &[
         (Step::Spoil(3, 0, 0x11), Answer::Spoilt),
         (Step::Turn(Task::Repair), STARTED),
         (Step::Drive(4), Answer::Driven(4, 0)),
@@ -190,12 +189,12 @@ fn a_repair_that_loses_its_parity_is_counted_by_its_class(rt: HostRuntime) -> Re
             }),
         ),
     ];
-    play(&rt, rt.alloc(), 4, 1, &[], &course)
+    play(&rt, rt.alloc(), 4, 1, &[], course)
 }
 
 #[test]
 fn a_stopped_shard_has_nothing_to_do(rt: HostRuntime) -> Result<(), Fail> {
-    let course = [
+    let course = &[
         (Step::Turn(Task::Check), SKIPPED),
         (Step::Read(0), Answer::Accepted(0)),
         (Step::Take, Answer::Command(0, 1, 0)),
@@ -207,18 +206,14 @@ fn a_stopped_shard_has_nothing_to_do(rt: HostRuntime) -> Result<(), Fail> {
         (Step::Turn(Task::Check), Answer::Refused(5)),
         (Step::Counts, Answer::Counted(Counts { skipped: 1, ..NONE })),
     ];
-    play(&rt, rt.alloc(), 4, 1, &[2, 3], &course)
+    play(&rt, rt.alloc(), 4, 1, &[2, 3], course)
 }
 
 // Rows 1 to 64 are written, each its first block, and row 0 is free.
 #[test]
 fn a_turn_needs_a_frame(rt: HostRuntime) -> Result<(), Fail> {
-    let mut bench = Bench::new(rt.alloc(), 66, 1, &[])?;
-    for row in 1..65u64 {
-        let write = (Step::Write(2 * row, 0x5a), Answer::Accepted(row - 1));
-        bench.play(&rt, &[write])?;
-    }
-    let course = [
+    let course = &[
+        (Step::WriteRows(1, 65), Answer::AllAccepted),
         (Step::Turn(Task::Check), Answer::Refused(9)),
         (Step::TakeAll, Answer::Commands(64)),
         (Step::Do(63), Answer::Taken),
@@ -228,5 +223,5 @@ fn a_turn_needs_a_frame(rt: HostRuntime) -> Result<(), Fail> {
         (Step::Turn(Task::Check), Answer::Refused(10)),
         (Step::Turn(Task::Repair), Answer::Refused(10)),
     ];
-    bench.play(&rt, &course)
+    play(&rt, rt.alloc(), 66, 1, &[], course)
 }

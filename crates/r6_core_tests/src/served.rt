@@ -38,17 +38,34 @@ fn is_read<R: Wait>(
     matches!(&reply, Some((OpId(number), Reply::Data(_))) if *number == id)
 }
 
+/// Whether two requests to read block 0 are served, and slot 1 is lost then.
+fn are_read_without_slot_1<R: Wait>(
+    rt: &R,
+    alloc: Global,
+    core: &mut Core,
+    devices: &mut Vec<MemoryDevice>,
+    register: &Register,
+    pass: &mut Pass,
+) -> Result<bool, AllocError>
+    requires { IsPassOf register.now pass.old }
+{
+    for id in 0..2u64 {
+        let op = Op::Read(0, Buffer::new(alloc, 16)?);
+        if !is_read(rt, core, devices, register, pass, op, id) {
+            return Ok(false);
+        }
+    }
+    Ok(register.read(rt, pass).slot(1).is_lost())
+}
+
 // Block 0 stands in slot 1, whose device is lost at the first command.
 #[test]
 fn requests_are_served_without_a_device(rt: HostRuntime) -> Result<(), Fail> {
     let geometry = Geometry::new(4, 1, 16, 4, 1)?;
+    let (register, mut pass) = Register::new(&rt, rt.alloc(), &geometry, 0)?;
     let mut devices = devices_of(rt.alloc())?;
     let mut core = Core::new(rt.alloc(), geometry, 0, 1, &Snapshot::start(&geometry, 0))?;
-    let (register, mut pass) = Register::new(&rt, rt.alloc(), &geometry, 0)?;
-    for id in 0..2u64 {
-        let op = Op::Read(0, Buffer::new(rt.alloc(), 16)?);
-        assert!(rt; is_read(&rt, &mut core, &mut devices, &register, &mut pass, op, id));
-    }
-    assert!(rt; register.read(&rt, &mut pass).slot(1).is_lost());
+    let (core, devices) = (&mut core, &mut devices);
+    assert!(rt; are_read_without_slot_1(&rt, rt.alloc(), core, devices, &register, &mut pass)?);
     Ok(())
 }

@@ -13,17 +13,19 @@ const STARTED: Answer = Answer::Turned(Turn::Started);
 
 #[test]
 fn slots_are_in_sync_with_generation_0(rt: HostRuntime) -> Result<(), Fail> {
-    let mut bench = Bench::new(rt.alloc(), 4, 1, &[])?;
-    for slot in 0..4usize {
-        bench.play(&rt, &[(Step::InSync(slot), Answer::Generation(Some(0)))])?;
-    }
-    Ok(())
+    let course = &[
+        (Step::InSync(0), Answer::Generation(Some(0))),
+        (Step::InSync(1), Answer::Generation(Some(0))),
+        (Step::InSync(2), Answer::Generation(Some(0))),
+        (Step::InSync(3), Answer::Generation(Some(0))),
+    ];
+    play(&rt, rt.alloc(), 4, 1, &[], course)
 }
 
 // Slots 1 and 2 have the data of row 0.
 #[test]
 fn a_core_begins_with_two_slots_lost(rt: HostRuntime) -> Result<(), Fail> {
-    let course = [
+    let course = &[
         (Step::InSync(0), Answer::Generation(Some(0))),
         (Step::InSync(1), Answer::Generation(None)),
         (Step::InSync(2), Answer::Generation(None)),
@@ -39,25 +41,42 @@ fn a_core_begins_with_two_slots_lost(rt: HostRuntime) -> Result<(), Fail> {
         (Step::Reply, Answer::Data(1, 0x5a)),
         (Step::Reply, Answer::Data(2, 0)),
     ];
-    play(&rt, rt.alloc(), 4, 1, &[1, 2], &course)
+    play(&rt, rt.alloc(), 4, 1, &[1, 2], course)
 }
 
 /// What a register holds when a device is attached in place of that of slot 1.
-fn rebuilding<R: Wait + Abort>(
-    rt: &R,
-    alloc: Global,
-    geometry: &Geometry,
-) -> Result<Snapshot, Fail> {
-    let (register, mut pass) = Register::new(rt, alloc, geometry, 0)?;
+fn rebuilding<R: Wait + Abort>(rt: &R, alloc: Global) -> Result<Snapshot, Fail> {
+    let geometry = Geometry::new(4, 1, 16, 4, 1)?;
+    let (register, mut pass) = Register::new(rt, alloc, &geometry, 0)?;
     assert!(rt; register.fail(rt, &mut pass, 1) == Ok(RegisterAnswer::Degraded));
     assert!(rt; register.attach(rt, &mut pass, 1) == Ok(1));
     Ok(register.read(rt, &mut pass))
 }
 
+/// Whether no shard has reported slot 1 as rebuilt.
+fn is_unreported(register: &Snapshot) -> bool {
+    register.slot(1) == SlotState::Rebuilding(1, ShardSet::empty())
+}
+
+/// Plays a course on a new array, whose register has had a device attached in place of that of slot 1. Of its rows so
+/// many may be rebuilt at one time.
+fn play_rebuilding<R: Wait + Abort>(
+    rt: &R,
+    alloc: Global,
+    window: usize,
+    course: &[(Step, Answer)],
+) -> Result<(), Fail> {
+    let register = rebuilding(rt, alloc)?;
+    assert!(rt; is_unreported(&register));
+    let mut bench = Bench::with_window(alloc, 4, 1, &[], window)?;
+    bench.register = register;
+    bench.play(rt, course)
+}
+
 // Its blocks are computed from the others', and nothing is written to it.
 #[test]
 fn a_rebuilding_slot_counts_as_out(rt: HostRuntime) -> Result<(), Fail> {
-    let course = [
+    let course = &[
         (Step::InSync(1), Answer::Generation(Some(0))),
         (Step::Look, Answer::Looked),
         (Step::InSync(1), Answer::Generation(None)),
@@ -79,11 +98,7 @@ fn a_rebuilding_slot_counts_as_out(rt: HostRuntime) -> Result<(), Fail> {
         (Step::Reply, Answer::Done(0, 0x5a)),
         (Step::Reply, Answer::Data(1, 0x5a)),
     ];
-    let mut bench = Bench::new(rt.alloc(), 4, 1, &[])?;
-    bench.register = rebuilding(&rt, rt.alloc(), &Geometry::new(4, 1, 16, 4, 1)?)?;
-    let is_empty = bench.register.slot(1) == SlotState::Rebuilding(1, ShardSet::empty());
-    assert!(rt; is_empty);
-    bench.play(&rt, &course)
+    play_rebuilding(&rt, rt.alloc(), 1, course)
 }
 
 // In rows 0 and 1 slot 1 has D0 and D1, blocks 0 and 3; its new device has other bytes. Row 0 is rebuilt: then the
@@ -91,7 +106,7 @@ fn a_rebuilding_slot_counts_as_out(rt: HostRuntime) -> Result<(), Fail> {
 // is held.
 #[test]
 fn a_rebuilding_slot_is_read_in_rows_that_are_rebuilt(rt: HostRuntime) -> Result<(), Fail> {
-    let course = [
+    let course = &[
         (Step::Spoil(1, 0, 0xff), Answer::Spoilt),
         (Step::Spoil(1, 1, 0xff), Answer::Spoilt),
         (Step::Look, Answer::Looked),
@@ -122,16 +137,14 @@ fn a_rebuilding_slot_is_read_in_rows_that_are_rebuilt(rt: HostRuntime) -> Result
         (Step::Reply, Answer::Data(0, 0)),
         (Step::Reply, Answer::Data(1, 0)),
     ];
-    let mut bench = Bench::new(rt.alloc(), 4, 1, &[])?;
-    bench.register = rebuilding(&rt, rt.alloc(), &Geometry::new(4, 1, 16, 4, 1)?)?;
-    bench.play(&rt, &course)
+    play_rebuilding(&rt, rt.alloc(), 1, course)
 }
 
 // Two rows of slot 1 are under way, and no third before one of them is rebuilt. In rows 0 to 3 slot 1 has D0, D1, P
 // and Q.
 #[test]
 fn as_many_rows_are_rebuilt_at_one_time_as_the_window_says(rt: HostRuntime) -> Result<(), Fail> {
-    let course = [
+    let course = &[
         (Step::Look, Answer::Looked),
         (Step::Turn(Task::Rebuild), STARTED),
         (Step::Turn(Task::Rebuild), STARTED),
@@ -159,7 +172,5 @@ fn as_many_rows_are_rebuilt_at_one_time_as_the_window_says(rt: HostRuntime) -> R
         (Step::InSync(1), Answer::Generation(Some(1))),
         (Step::TakeCall, Answer::Rebuilt(1, 1)),
     ];
-    let mut bench = Bench::with_window(rt.alloc(), 4, 1, &[], 2)?;
-    bench.register = rebuilding(&rt, rt.alloc(), &Geometry::new(4, 1, 16, 4, 1)?)?;
-    bench.play(&rt, &course)
+    play_rebuilding(&rt, rt.alloc(), 2, course)
 }
