@@ -238,18 +238,32 @@ impl Bench {
             Step::Answer(position) => self.answer_out(position),
             Step::Drive(most) => Seen::Commands(self.drive(most)),
             Step::Lose(position) => self.lose(position),
-            Step::IsOver => Seen::Is(self.hold.outcome() == Some(Outcome::Done)),
-            Step::End => Seen::End(self.hold.outcome()),
+            Step::IsOver => Seen::Is(self.outcome() == Some(Outcome::Done)),
+            Step::End => Seen::End(self.outcome()),
             Step::Finish => {
                 self.drive(9);
-                Seen::End(self.hold.outcome())
+                Seen::End(self.outcome())
             }
-            Step::IsHome => Seen::Is(self.hold.is_home()),
+            Step::IsHome => Seen::Is(self.is_home()),
         })
     }
 
+    // These three promise nothing, so that their callers have nothing to look through.
+
+    pub(crate) fn next_command(&mut self) -> Option<RowCommand> {
+        self.hold.next_command()
+    }
+
+    pub(crate) fn outcome(&self) -> Option<Outcome> {
+        self.hold.outcome()
+    }
+
+    pub(crate) fn is_home(&self) -> bool {
+        self.hold.is_home()
+    }
+
     fn next(&mut self) -> Result<Seen, AllocError> {
-        let Some(command) = self.hold.next_command() else {
+        let Some(command) = self.next_command() else {
             return Ok(Seen::Nothing);
         };
         let seen = seen_of(&command);
@@ -294,7 +308,7 @@ impl Bench {
     /// Performs commands one by one, so many at the most; how many there were.
     pub(crate) fn drive(&mut self, most: usize) -> usize {
         for count in 0..most {
-            match self.hold.next_command() {
+            match self.next_command() {
                 Some(command) => self.answer(command),
                 None => return count,
             };

@@ -27,7 +27,7 @@ fn said(alloc: Global, line: &str) -> Result<(Option<i32>, String), Fail> {
 #[test]
 fn reads_the_words(rt: HostRuntime) -> Result<(), Fail> {
     let alloc = rt.alloc();
-    let lines = [
+    let lines = &[
         ("raid6 geometry a.toml", "Geometry { config: \"a.toml\" }"),
         ("raid6 geometry -- -a", "Geometry { config: \"-a\" }"),
         ("raid6 geometry a --", "Geometry { config: \"a\" }"),
@@ -39,8 +39,8 @@ fn reads_the_words(rt: HostRuntime) -> Result<(), Fail> {
         ("raid6 run a -- --", "Run { config: \"a\", script: \"--\" }"),
     ];
     for (line, asked) in lines {
-        let (status, text) = said(alloc, line)?;
-        assert!(rt; status == None && text.as_str() == asked, "at {line}");
+        let (status, text) = said(alloc, *line)?;
+        assert!(rt; status == None && text.as_str() == *asked, "at {line}");
     }
     Ok(())
 }
@@ -49,7 +49,7 @@ fn reads_the_words(rt: HostRuntime) -> Result<(), Fail> {
 #[test]
 fn refuses_other_words(rt: HostRuntime) -> Result<(), Fail> {
     let alloc = rt.alloc();
-    let lines = [
+    let lines = &[
         ("raid6", 2),
         ("raid6 layout a", 2),
         ("raid6 geometry", 2),
@@ -61,8 +61,8 @@ fn refuses_other_words(rt: HostRuntime) -> Result<(), Fail> {
         ("raid6 geometry --help", 0),
     ];
     for (line, status) in lines {
-        let (found, _) = said(alloc, line)?;
-        assert!(rt; found == Some(status), "at {line}");
+        let (found, _) = said(alloc, *line)?;
+        assert!(rt; found == Some(*status), "at {line}");
     }
     Ok(())
 }
@@ -71,8 +71,8 @@ fn refuses_other_words(rt: HostRuntime) -> Result<(), Fail> {
 fn help_names_each_command(rt: HostRuntime) -> Result<(), Fail> {
     let alloc = rt.alloc();
     let (_, help) = said(alloc, "raid6 --help")?;
-    for name in ["geometry", "create", "verify", "simulate", "  run "] {
-        assert!(rt; help.as_str().contains(name), "at {name}");
+    for name in &["geometry", "create", "verify", "simulate", "  run "] {
+        assert!(rt; help.as_str().contains(*name), "at {name}");
     }
     Ok(())
 }

@@ -25,9 +25,9 @@ fn is_refused(device: &mut MemoryDevice, row: u64, block: &mut Buffer) -> bool {
 #[test]
 fn another_row_and_another_length_are_refused(rt: HostRuntime) -> Result<(), Fail> {
     let mut device = MemoryDevice::new(rt.alloc(), 4..8, 16)?;
-    for (row, len) in [(3, 16), (8, 16), (4, 15)] {
-        let mut block = Buffer::new(rt.alloc(), len)?;
-        assert!(rt; is_refused(&mut device, row, &mut block));
+    for (row, len) in &[(3, 16), (8, 16), (4, 15)] {
+        let mut block = Buffer::new(rt.alloc(), *len)?;
+        assert!(rt; is_refused(&mut device, *row, &mut block));
     }
     assert!(rt; Fault::Length.number() == 4);
     Ok(())

@@ -117,9 +117,9 @@ fn late_buffers_come_home(rt: HostRuntime) -> Result<(), Fail> {
 
 #[test]
 fn read_gives_its_block(rt: HostRuntime) -> Result<(), Fail> {
-    for (index, byte) in [(0usize, 0x01u8), (1, 0x80)] {
-        let bytes = [0x01, 0x80, 0x81, 0x1c];
-        let mut bench = Bench::new(rt.alloc(), Ask::Read(index), &bytes, &[true; 4])?;
+    for (index, byte) in &[(0usize, 0x01u8), (1, 0x80)] {
+        let bytes = &[0x01, 0x80, 0x81, 0x1c];
+        let mut bench = Bench::new(rt.alloc(), Ask::Read(*index), bytes, &[true; 4])?;
         bench.play(
             &rt,
             &[
@@ -127,7 +127,7 @@ fn read_gives_its_block(rt: HostRuntime) -> Result<(), Fail> {
                 (Step::IsOver, Seen::Is(true)),
             ],
         )?;
-        assert!(rt; bench.has_block(index, byte));
+        assert!(rt; bench.has_block(*index, *byte));
     }
     Ok(())
 }
@@ -199,7 +199,7 @@ fn changes<R: Abort>(
 
 #[test]
 fn eight_positions_in_sync_are_modified(rt: HostRuntime) -> Result<(), Fail> {
-    let course = [
+    let course = &[
         (Step::Next, Seen::Read(1)),
         (Step::Answer(1), Seen::Home),
         (Step::Next, Seen::Read(6)),
@@ -209,7 +209,7 @@ fn eight_positions_in_sync_are_modified(rt: HostRuntime) -> Result<(), Fail> {
         (Step::Drive(9), Seen::Commands(3)),
         (Step::IsOver, Seen::Is(true)),
     ];
-    changes(&rt, rt.alloc(), &[true; 8], &course, &[])
+    changes(&rt, rt.alloc(), &[true; 8], course, &[])
 }
 
 // P and Q of the bytes 0 and da alone: da, and x times da, 1b4 + 11d.
@@ -225,7 +225,7 @@ fn a_changed_block_changes_p_and_q(rt: HostRuntime) -> Result<(), Fail> {
 
 #[test]
 fn six_positions_in_sync_are_reconstructed(rt: HostRuntime) -> Result<(), Fail> {
-    let course = [
+    let course = &[
         (Step::Next, Seen::Read(0)),
         (Step::Answer(0), Seen::Home),
         (Step::Next, Seen::Read(2)),
@@ -235,23 +235,23 @@ fn six_positions_in_sync_are_reconstructed(rt: HostRuntime) -> Result<(), Fail> 
         (Step::Drive(9), Seen::Commands(3)),
         (Step::IsOver, Seen::Is(true)),
     ];
-    changes(&rt, rt.alloc(), &[true; 6], &course, &[])
+    changes(&rt, rt.alloc(), &[true; 6], course, &[])
 }
 
 #[test]
 fn data_alone_are_overwritten(rt: HostRuntime) -> Result<(), Fail> {
-    let in_sync = [true, true, true, true, false, false];
-    let course = [
+    let in_sync = &[true, true, true, true, false, false];
+    let course = &[
         (Step::Drive(9), Seen::Commands(1)),
         (Step::IsOver, Seen::Is(true)),
     ];
-    changes(&rt, rt.alloc(), &in_sync, &course, &[4, 5])
+    changes(&rt, rt.alloc(), in_sync, course, &[4, 5])
 }
 
 #[test]
 fn modify_without_p_reads_two(rt: HostRuntime) -> Result<(), Fail> {
-    let in_sync = [true, true, true, true, true, true, false, true];
-    let course = [
+    let in_sync = &[true, true, true, true, true, true, false, true];
+    let course = &[
         (Step::Next, Seen::Read(1)),
         (Step::Answer(1), Seen::Home),
         (Step::Next, Seen::Read(7)),
@@ -259,7 +259,7 @@ fn modify_without_p_reads_two(rt: HostRuntime) -> Result<(), Fail> {
         (Step::Drive(9), Seen::Commands(2)),
         (Step::IsOver, Seen::Is(true)),
     ];
-    changes(&rt, rt.alloc(), &in_sync, &course, &[6])
+    changes(&rt, rt.alloc(), in_sync, course, &[6])
 }
 
 // All three reads are out when the parity is lost. The block and the other parity are written while its buffer is
@@ -286,11 +286,11 @@ fn modify_goes_on_without_a_lost_parity(rt: HostRuntime) -> Result<(), Fail> {
 // Its block has come before it is lost: two reads and two writes are left.
 #[test]
 fn parities_take_a_block_whose_device_was_lost(rt: HostRuntime) -> Result<(), Fail> {
-    let course = [
+    let course = &[
         (Step::Drive(1), Seen::Commands(1)),
         (Step::Lose(1), Seen::Lost),
         (Step::Drive(9), Seen::Commands(4)),
         (Step::IsOver, Seen::Is(true)),
     ];
-    changes(&rt, rt.alloc(), &[true; 8], &course, &[1])
+    changes(&rt, rt.alloc(), &[true; 8], course, &[1])
 }

@@ -7,14 +7,14 @@ use std::test::Fail;
 fn parity_turns_left_by_one_slot_a_chunk_row(rt: HostRuntime) -> Result<(), Fail> {
     let geometry = Geometry::new(4, 1, 16, 8, 1)?;
     // from slot 0 on
-    let rows = [
+    let rows = &[
         (0, [Role::Q, Role::Data(0), Role::Data(1), Role::P]),
         (2, [Role::Data(1), Role::P, Role::Q, Role::Data(0)]),
         (4, [Role::Q, Role::Data(0), Role::Data(1), Role::P]),
     ];
     for (row, roles) in rows {
         for slot in 0..4 {
-            assert!(rt; geometry.role(row, slot) == roles[slot]);
+            assert!(rt; geometry.role(*row, slot) == roles[slot]);
         }
     }
     Ok(())
@@ -37,7 +37,7 @@ fn a_block_stands_at_its_offset_in_the_row_of_its_chunk(rt: HostRuntime) -> Resu
 
 #[test]
 fn the_first_limit_that_is_not_kept_is_named(rt: HostRuntime) {
-    let cases = [
+    let cases = &[
         ((3, 1, 16, 4, 1), GeometryError::Slots),
         ((33, 1, 16, 4, 1), GeometryError::Slots),
         ((4, 129, 16, 129, 1), GeometryError::Chunk),
@@ -49,13 +49,13 @@ fn the_first_limit_that_is_not_kept_is_named(rt: HostRuntime) {
         ((3, 1, 24, 4, 1), GeometryError::Slots),
     ];
     for ((slots, chunk, block, rows, shards), error) in cases {
-        assert!(rt; Geometry::new(slots, chunk, block, rows, shards) == Err(error));
+        assert!(rt; Geometry::new(*slots, *chunk, *block, *rows, *shards) == Err(*error));
     }
 }
 
 #[test]
 fn errors_have_the_numbers_of_their_arguments(rt: HostRuntime) {
-    let errors = [
+    let errors = &[
         (GeometryError::Slots, 1),
         (GeometryError::Chunk, 2),
         (GeometryError::Block, 3),
@@ -63,7 +63,7 @@ fn errors_have_the_numbers_of_their_arguments(rt: HostRuntime) {
         (GeometryError::Shards, 5),
     ];
     for (error, number) in errors {
-        assert!(rt; error.number() == number);
+        assert!(rt; error.number() == *number);
     }
 }
 

@@ -62,7 +62,7 @@ fn run(
                 bench.lose(loss.position);
             }
         }
-        if let Some(command) = bench.hold.next_command() {
+        if let Some(command) = bench.next_command() {
             out.push(command)?;
             if answers != Answers::AtOnce {
                 continue;
@@ -88,7 +88,7 @@ fn run(
 /// Whether the hold has ended and done its task: a read has its block, and a write changed all positions that aren't
 /// lost.
 fn is_done(bench: &Bench, writes: bool, row: &[u8], lost: &[usize]) -> bool {
-    bench.hold.outcome() == Some(Outcome::Done)
+    bench.outcome() == Some(Outcome::Done)
         && has_bytes(&bench.devices, row, lost)
         && (writes || bench.has_block(1, DATA[1]))
 }
@@ -135,7 +135,7 @@ fn does_its_task(
     let lost = [losses[0].position, losses[1].position];
     let was_done = is_done(bench, writes, after, &lost);
     answer_all(bench, late);
-    Ok(was_done && is_done(bench, writes, after, &lost) && bench.hold.is_home())
+    Ok(was_done && is_done(bench, writes, after, &lost) && bench.is_home())
 }
 
 /// Whether a hold does its task, whatever the two losses.
@@ -198,8 +198,9 @@ fn fatal_losses(
 fn any_two_losses_are_survived(rt: HostRuntime) -> Result<(), Fail> {
     for count in [4usize, 6, 8] {
         for answers in [Answers::AtOnce, Answers::LastFirst, Answers::LateIfLost] {
-            assert_eq!(rt; fatal_losses(rt.alloc(), count, false, answers)?, None);
-            assert_eq!(rt; fatal_losses(rt.alloc(), count, true, answers)?, None);
+            for writes in [false, true] {
+                assert_eq!(rt; fatal_losses(rt.alloc(), count, writes, answers)?, None);
+            }
         }
     }
     Ok(())
@@ -239,7 +240,7 @@ fn is_given_up(alloc: Global, ask: Ask, bytes: &[u8]) -> Result<bool, Fail> {
     let mut bench = Bench::new(alloc, ask, bytes, &in_sync)?;
     Ok(
         bench.drive(9) == 3
-            && bench.hold.outcome() != Some(Outcome::Done)
+            && bench.outcome() != Some(Outcome::Done)
             && has_bytes(&bench.devices, bytes, &[]),
     )
 }

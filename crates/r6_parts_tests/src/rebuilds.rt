@@ -34,14 +34,14 @@ fn rebuilds<R: Abort>(
 // As many reads as there are data, and one write.
 #[test]
 fn each_position_is_rebuilt_with_any_other_out(rt: HostRuntime) -> Result<(), Fail> {
-    let course = [
+    let course = &[
         (Step::Drive(9), Seen::Commands(5)),
         (Step::End, Seen::End(Some(Outcome::Rebuilt))),
     ];
     for target in 0..6usize {
         for other in 0..6usize {
             let out = if other == target { 6 } else { other };
-            rebuilds(&rt, rt.alloc(), target, other, &course, out)?;
+            rebuilds(&rt, rt.alloc(), target, other, course, out)?;
         }
     }
     Ok(())
@@ -80,7 +80,7 @@ fn a_position_lost_at_any_step_is_survived(rt: HostRuntime) -> Result<(), Fail> 
 // last.
 #[test]
 fn a_read_that_is_lost_comes_late(rt: HostRuntime) -> Result<(), Fail> {
-    let course = [
+    let course = &[
         (Step::NextAll, Seen::Commands(4)),
         (Step::Lose(0), Seen::Lost),
         (Step::Answer(1), Seen::Home),
@@ -96,5 +96,5 @@ fn a_read_that_is_lost_comes_late(rt: HostRuntime) -> Result<(), Fail> {
         (Step::Answer(0), Seen::Home),
         (Step::IsHome, Seen::Is(true)),
     ];
-    rebuilds(&rt, rt.alloc(), 5, 5, &course, 0)
+    rebuilds(&rt, rt.alloc(), 5, 5, course, 0)
 }

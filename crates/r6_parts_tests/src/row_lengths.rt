@@ -77,12 +77,26 @@ fn any_two_come_back(row: &mut RowBuf, bytes: &[u8], full: &RowBuf) -> bool {
     true
 }
 
+/// Whether any two blocks of a full row come back after they have other bytes.
+fn come_back_from_others(
+    alloc: Global,
+    row: &mut RowBuf,
+    full: &RowBuf,
+) -> Result<bool, AllocError> {
+    let len = if full.positions() > 0 {
+        full.block(0).len()
+    } else {
+        0
+    };
+    let other = pattern(alloc, len, 100)?;
+    Ok(any_two_come_back(row, other.as_slice(), full))
+}
+
 /// Whether any two blocks of a full row of a length come back.
 fn all_come_back(alloc: Global, len: usize) -> Result<bool, AllocError> {
     let full = full_row(alloc, len)?;
     let mut row = full_row(alloc, len)?;
-    let other = pattern(alloc, len, 100)?;
-    Ok(any_two_come_back(&mut row, other.as_slice(), &full))
+    come_back_from_others(alloc, &mut row, &full)
 }
 
 #[test]

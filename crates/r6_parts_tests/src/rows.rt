@@ -60,15 +60,15 @@ fn restores(alloc: Global, row: &[u8], known: &[usize], full: &[u8]) -> Result<b
 
 #[test]
 fn both_of_two_data_blocks(rt: HostRuntime) -> Result<(), Fail> {
-    let row = [0x00, 0x00, 0x81, 0x1c];
-    assert!(rt; restores(rt.alloc(), &row, &[2, 3], &[0x01, 0x80, 0x81, 0x1c])?);
+    let row = &[0x00, 0x00, 0x81, 0x1c];
+    assert!(rt; restores(rt.alloc(), row, &[2, 3], &[0x01, 0x80, 0x81, 0x1c])?);
     Ok(())
 }
 
 #[test]
 fn a_data_block_and_p(rt: HostRuntime) -> Result<(), Fail> {
-    let row = [0x01, 0x00, 0x00, 0x03];
-    assert!(rt; restores(rt.alloc(), &row, &[0, 3], &[0x01, 0x01, 0x00, 0x03])?);
+    let row = &[0x01, 0x00, 0x00, 0x03];
+    assert!(rt; restores(rt.alloc(), row, &[0, 3], &[0x01, 0x01, 0x00, 0x03])?);
     let known = known_at(&[0, 3]);
     assert!(rt; known.contains(3) && !known.contains(2));
     Ok(())
@@ -76,17 +76,17 @@ fn a_data_block_and_p(rt: HostRuntime) -> Result<(), Fail> {
 
 #[test]
 fn two_of_four_data_blocks(rt: HostRuntime) -> Result<(), Fail> {
-    let row = [0x01, 0x00, 0x03, 0x00, 0x04, 0x29];
-    let full = [0x01, 0x02, 0x03, 0x04, 0x04, 0x29];
-    assert!(rt; restores(rt.alloc(), &row, &[0, 2, 4, 5], &full)?);
+    let row = &[0x01, 0x00, 0x03, 0x00, 0x04, 0x29];
+    let full = &[0x01, 0x02, 0x03, 0x04, 0x04, 0x29];
+    assert!(rt; restores(rt.alloc(), row, &[0, 2, 4, 5], full)?);
     Ok(())
 }
 
 #[test]
 fn three_are_too_many(rt: HostRuntime) -> Result<(), Fail> {
-    let bytes = [0x05, 0x07, 0x00, 0x00];
-    let mut row = row_of(rt.alloc(), &bytes)?;
-    assert!(rt; restore(&mut row, known_at(&[1])) == Err(TooManyLost) && is_row(&row, &bytes));
+    let bytes = &[0x05, 0x07, 0x00, 0x00];
+    let mut row = row_of(rt.alloc(), bytes)?;
+    assert!(rt; restore(&mut row, known_at(&[1])) == Err(TooManyLost) && is_row(&row, bytes));
     Ok(())
 }
 
@@ -151,7 +151,7 @@ fn a_lost_block_beside_p_whose_buffers_are_away(rt: HostRuntime) -> Result<(), F
 // The row has zeros but for P and Q.
 #[test]
 fn classes(rt: HostRuntime) -> Result<(), Fail> {
-    let cases = [
+    let cases = &[
         (0x00, 0x00, RowClass::Consistent),
         (0x05, 0x0a, RowClass::WrongData(1)),
         (0x05, 0x00, RowClass::WrongP),
@@ -159,8 +159,8 @@ fn classes(rt: HostRuntime) -> Result<(), Fail> {
         (0x01, 0x10, RowClass::Many),
     ];
     for (p, q, class) in cases {
-        let row = row_of(rt.alloc(), &[0x00, 0x00, 0x00, 0x00, p, q])?;
-        assert!(rt; classify(&row) == class);
+        let row = row_of(rt.alloc(), &[0x00, 0x00, 0x00, 0x00, *p, *q])?;
+        assert!(rt; classify(&row) == *class);
     }
     Ok(())
 }

@@ -40,7 +40,7 @@ fn lacks_devices(alloc: Global, text: &str) -> bool {
 #[test]
 fn asks_for_devices_where_they_are_used(rt: HostRuntime) -> Result<(), Fail> {
     let alloc = rt.alloc();
-    let lines = [
+    let lines = &[
         "",
         "devices = 4\n",
         "devices = [\"a\", \"b\", \"c\"]\n",

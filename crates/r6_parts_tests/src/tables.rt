@@ -38,7 +38,7 @@ fn answer(table: &mut Table<u32>, step: Step) -> Result<u64, u64> {
 #[test]
 fn numbers_rise_and_are_never_given_twice(rt: HostRuntime) -> Result<(), Fail> {
     let mut table = Table::with_capacity(rt.alloc(), 2)?;
-    let steps = [
+    let steps = &[
         (Step::Put(10), Ok(0)),
         (Step::Put(11), Ok(1)),
         (Step::Put(12), Err(12)),
@@ -50,7 +50,7 @@ fn numbers_rise_and_are_never_given_twice(rt: HostRuntime) -> Result<(), Fail> {
         (Step::Get(1), Ok(13)),
     ];
     for (step, answered) in steps {
-        assert_eq!(rt; answer(&mut table, step), answered);
+        assert!(rt; answer(&mut table, *step) == *answered);
     }
     assert_eq!(rt; (table.len(), table.capacity(), table.next()), (2, 2, 3));
     Ok(())

@@ -3,6 +3,7 @@
 ghost use Rattle.std.specs.Prelude.{◌/◌, Some};
 
 use r6_waiters::{KeyOf, Waiters};
+use std::process::Abort;
 use std::test::Fail;
 
 /// The tens of a number are its key.
@@ -66,10 +67,18 @@ fn answer(line: &mut Line, step: Step) -> Option<u32> {
     }
 }
 
+/// Each step has to answer so.
+fn play<R: Abort>(rt: &R, line: &mut Line, steps: &[(Step, Option<u32>)]) {
+    for (index, (step, answered)) in steps.iter().enumerate() {
+        let found = answer(line, *step);
+        assert!(rt; found == *answered, "at step {index}: {found:?}");
+    }
+}
+
 #[test]
 fn an_entry_that_moves_keeps_its_age(rt: HostRuntime) -> Result<(), Fail> {
     let mut line = Line::with_capacity(rt.alloc(), 4, 3)?;
-    let steps = [
+    let steps = &[
         (Step::Push(0, 10), Some(10)),
         (Step::Push(1, 11), Some(11)),
         (Step::Push(0, 12), Some(12)),
@@ -90,9 +99,7 @@ fn an_entry_that_moves_keeps_its_age(rt: HostRuntime) -> Result<(), Fail> {
         (Step::Pop(1), Some(13)),
         (Step::Pop(1), Some(15)),
     ];
-    for (step, answered) in steps {
-        assert_eq!(rt; answer(&mut line, step), answered);
-    }
+    play(&rt, &mut line, steps);
     assert_eq!(rt; (line.len(), line.capacity(), line.causes()), (0, 4, 3));
     Ok(())
 }
@@ -100,7 +107,7 @@ fn an_entry_that_moves_keeps_its_age(rt: HostRuntime) -> Result<(), Fail> {
 #[test]
 fn all_go_out_by_age_whatever_they_wait_for(rt: HostRuntime) -> Result<(), Fail> {
     let mut line = Line::with_capacity(rt.alloc(), 4, 3)?;
-    let steps = [
+    let steps = &[
         (Step::PopAny, None),
         (Step::Push(2, 5), Some(5)),
         (Step::Push(0, 6), Some(6)),
@@ -114,9 +121,7 @@ fn all_go_out_by_age_whatever_they_wait_for(rt: HostRuntime) -> Result<(), Fail>
         (Step::Pop(0), Some(8)),
         (Step::PopAny, None),
     ];
-    for (step, answered) in steps {
-        assert_eq!(rt; answer(&mut line, step), answered);
-    }
+    play(&rt, &mut line, steps);
     assert!(rt; line.is_empty() && line.oldest_cause().is_none());
     Ok(())
 }
@@ -124,7 +129,7 @@ fn all_go_out_by_age_whatever_they_wait_for(rt: HostRuntime) -> Result<(), Fail>
 #[test]
 fn the_oldest_with_a_key_goes_out_whatever_it_waits_for(rt: HostRuntime) -> Result<(), Fail> {
     let mut line = Line::with_capacity(rt.alloc(), 4, 3)?;
-    let steps = [
+    let steps = &[
         (Step::Push(0, 21), Some(21)),
         (Step::Push(1, 661), Some(661)),
         (Step::Push(2, 22), Some(22)),
@@ -140,27 +145,34 @@ fn the_oldest_with_a_key_goes_out_whatever_it_waits_for(rt: HostRuntime) -> Resu
         (Step::Take(2), Some(24)),
         (Step::Take(2), None),
     ];
-    for (step, answered) in steps {
-        assert_eq!(rt; answer(&mut line, step), answered);
-    }
+    play(&rt, &mut line, steps);
     assert!(rt; line.is_empty());
     Ok(())
+}
+
+/// Whether entries that come for cause 0 are taken by their keys, while others stay.
+fn are_taken_by_key(line: &mut Line) -> bool {
+    for round in 0..30_u32 {
+        if answer(line, Step::Push(0, round)) != Some(round)
+            || answer(line, Step::Take((round / 10) as u64)) != Some(round)
+        {
+            return false;
+        }
+    }
+    true
 }
 
 #[test]
 fn keys_stay_through_sweeps(rt: HostRuntime) -> Result<(), Fail> {
     let mut line = Line::with_capacity(rt.alloc(), 4, 2)?;
-    assert_eq!(rt; answer(&mut line, Step::Push(1, 991)), Some(991));
-    assert_eq!(rt; answer(&mut line, Step::Push(1, 992)), Some(992));
-    for round in 0..30_u32 {
-        assert_eq!(rt; answer(&mut line, Step::Push(0, round)), Some(round));
-        assert_eq!(rt;
-            answer(&mut line, Step::Take((round / 10) as u64)),
-            Some(round)
-        );
-    }
-    assert_eq!(rt; answer(&mut line, Step::Take(99)), Some(991));
-    assert_eq!(rt; answer(&mut line, Step::Take(99)), Some(992));
+    let first = &[
+        (Step::Push(1, 991), Some(991)),
+        (Step::Push(1, 992), Some(992)),
+    ];
+    play(&rt, &mut line, first);
+    assert!(rt; are_taken_by_key(&mut line));
+    let last = &[(Step::Take(99), Some(991)), (Step::Take(99), Some(992))];
+    play(&rt, &mut line, last);
     Ok(())
 }
 
@@ -185,24 +197,22 @@ fn is_passed_through(line: &mut Line) -> bool {
 #[test]
 fn ages_stay_through_sweeps(rt: HostRuntime) -> Result<(), Fail> {
     let mut line = Line::with_capacity(rt.alloc(), 4, 2)?;
-    for (step, answered) in [
+    let first = &[
         (Step::Push(0, 1), Some(1)),
         (Step::Push(1, 2), Some(2)),
         (Step::Push(0, 3), Some(3)),
-    ] {
-        assert_eq!(rt; answer(&mut line, step), answered);
-    }
+    ];
+    play(&rt, &mut line, first);
     assert!(rt; is_passed_through(&mut line));
-    for (step, answered) in [
+    let last = &[
         (Step::MoveOldest(1, 0), Some(0)),
         (Step::Pop(0), Some(2)),
         (Step::MoveAll(0, 1), Some(0)),
         (Step::Pop(1), Some(38)),
         (Step::Pop(1), Some(39)),
         (Step::PopAny, None),
-    ] {
-        assert_eq!(rt; answer(&mut line, step), answered);
-    }
+    ];
+    play(&rt, &mut line, last);
     Ok(())
 }
 
@@ -226,19 +236,24 @@ fn have_gone(line: &mut Line, first: u32, end: u32) -> bool {
     true
 }
 
+/// Whether a line with room for a hundred entries is full of them, and they go out by age, whatever moves.
+fn is_passed_by_many(line: &mut Line) -> bool {
+    have_come(line, 0, 100)
+        && answer(line, Step::Push(0, 100)) == None
+        && answer(line, Step::MoveAll(0, 1)) == Some(0)
+        && have_gone(line, 0, 90)
+        && have_come(line, 100, 190)
+        && answer(line, Step::MoveAll(0, 1)) == Some(0)
+        && have_gone(line, 90, 150)
+        && have_come(line, 190, 250)
+        && answer(line, Step::Gather(1)) == Some(0)
+        && have_gone(line, 150, 250)
+        && line.is_empty()
+}
+
 #[test]
 fn more_wait_than_a_word_has_bits(rt: HostRuntime) -> Result<(), Fail> {
     let mut line = Line::with_capacity(rt.alloc(), 100, 2)?;
-    assert!(rt; have_come(&mut line, 0, 100));
-    assert_eq!(rt; answer(&mut line, Step::Push(0, 100)), None);
-    assert_eq!(rt; answer(&mut line, Step::MoveAll(0, 1)), Some(0));
-    assert!(rt; have_gone(&mut line, 0, 90));
-    assert!(rt; have_come(&mut line, 100, 190));
-    assert_eq!(rt; answer(&mut line, Step::MoveAll(0, 1)), Some(0));
-    assert!(rt; have_gone(&mut line, 90, 150));
-    assert!(rt; have_come(&mut line, 190, 250));
-    assert_eq!(rt; answer(&mut line, Step::Gather(1)), Some(0));
-    assert!(rt; have_gone(&mut line, 150, 250));
-    assert!(rt; line.is_empty());
+    assert!(rt; is_passed_by_many(&mut line));
     Ok(())
 }
