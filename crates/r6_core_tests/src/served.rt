@@ -58,14 +58,26 @@ fn are_read_without_slot_1<R: Wait>(
     Ok(register.read(rt, pass).slot(1).is_lost())
 }
 
+/// The same with new devices.
+fn are_served_without_slot_1<R: Wait>(
+    rt: &R,
+    alloc: Global,
+    core: &mut Core,
+    register: &Register,
+    pass: &mut Pass,
+) -> Result<bool, AllocError>
+    requires { IsPassOf register.now pass.old }
+{
+    let mut devices = devices_of(alloc)?;
+    are_read_without_slot_1(rt, alloc, core, &mut devices, register, pass)
+}
+
 // Block 0 stands in slot 1, whose device is lost at the first command.
 #[test]
 fn requests_are_served_without_a_device(rt: HostRuntime) -> Result<(), Fail> {
     let geometry = Geometry::new(4, 1, 16, 4, 1)?;
-    let (register, mut pass) = Register::new(&rt, rt.alloc(), &geometry, 0)?;
-    let mut devices = devices_of(rt.alloc())?;
     let mut core = Core::new(rt.alloc(), geometry, 0, 1, &Snapshot::start(&geometry, 0))?;
-    let (core, devices) = (&mut core, &mut devices);
-    assert!(rt; are_read_without_slot_1(&rt, rt.alloc(), core, devices, &register, &mut pass)?);
+    let (register, mut pass) = Register::new(&rt, rt.alloc(), &geometry, 0)?;
+    assert!(rt; are_served_without_slot_1(&rt, rt.alloc(), &mut core, &register, &mut pass)?);
     Ok(())
 }
