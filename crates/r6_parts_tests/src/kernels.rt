@@ -1,5 +1,7 @@
 //! Worked values of the kernels at lengths around the widths of vectors.
 
+ghost use Rattle.std.specs.Prelude.{◌≡◌, length};
+
 use crate::blocks::{filled, is_filled};
 use r6_field::{ConstMul, Gf};
 use r6_kernels::{Buffer, delta, double, parity, scale_add, xor_into};
@@ -32,15 +34,21 @@ fn parity_of_no_source(rt: HostRuntime) -> Result<(), Fail> {
     Ok(())
 }
 
+/// Whether a block of 80 bytes takes over another one of 1c, and zeros then.
+fn is_copied_and_cleared(block: &mut Buffer, other: &Buffer) -> bool
+    requires { length block.old ≡ length other.now }
+{
+    block.copy_from(other);
+    let is_copied = is_filled(block, 0x1c);
+    block.clear();
+    is_copied && is_filled(block, 0x00) && !block.is_empty() && block.len() == 80
+}
+
 #[test]
 fn a_block_keeps_what_is_copied(rt: HostRuntime) -> Result<(), Fail> {
     let mut block = filled(rt.alloc(), 80, 0x81)?;
     let other = filled(rt.alloc(), 80, 0x1c)?;
-    block.copy_from(&other);
-    assert!(rt; is_filled(&block, 0x1c));
-    block.clear();
-    assert!(rt; is_filled(&block, 0x00));
-    assert!(rt; !block.is_empty() && block.len() == 80);
+    assert!(rt; is_copied_and_cleared(&mut block, &other));
     assert!(rt; Buffer::empty(rt.alloc()).is_empty());
     Ok(())
 }

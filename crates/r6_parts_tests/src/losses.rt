@@ -8,13 +8,14 @@ use crate::holds::{CHANGED, DATA, full_row};
 use r6_kernels::Buffer;
 use r6_stripe::{Outcome, RowCommand};
 use std::alloc::{AllocError, Global};
+use std::process::Abort;
 use std::test::Fail;
 
 /// The last step at which a position is lost.
 const LAST_STEP: usize = 18;
 
 /// A position is lost: before the hold begins, or at one of its steps.
-#[derive(Clone, Copy, Debug, PartialEq, Eq)]
+#[derive(Clone, Copy)]
 struct Loss {
     position: usize,
     step: usize,
@@ -162,45 +163,52 @@ fn survives(
     )?)
 }
 
-/// Two losses of a row of so many positions that a hold doesn't survive; they may be the same.
-fn fatal_losses(
+/// A hold of a row of so many positions has to survive any two losses; they may be the same.
+fn any_two_are_survived<R: Abort>(
+    rt: &R,
     alloc: Global,
     count: usize,
     writes: bool,
     answers: Answers,
-) -> Result<Option<[Loss; 2]>, Fail>
+) -> Result<(), Fail>
     requires at_least { 4 ≤ count }
     requires at_most { count ≤ 8 }
 {
     for first in 0..count {
         for second in first..count {
             for moment in 0..35usize {
-                let losses = [
-                    Loss {
-                        position: first,
-                        step: moment / 5 * 3,
-                    },
-                    Loss {
-                        position: second,
-                        step: moment % 5 * 4,
-                    },
-                ];
-                if !survives(alloc, count, writes, losses, answers)? {
-                    return Ok(Some(losses));
-                }
+                let losses = losses_at(first, second, moment);
+                let is_survived = survives(alloc, count, writes, losses, answers)?;
+                assert!(rt;
+                    is_survived,
+                    "{first} and {second} of {count} lost, {moment}"
+                );
             }
         }
     }
-    Ok(None)
+    Ok(())
+}
+
+/// The losses of these positions, each at every step in turn.
+fn losses_at(first: usize, second: usize, moment: usize) -> [Loss; 2] {
+    [
+        Loss {
+            position: first,
+            step: (moment / 5).saturating_mul(3),
+        },
+        Loss {
+            position: second,
+            step: moment % 5 * 4,
+        },
+    ]
 }
 
 #[test]
 fn any_two_losses_are_survived(rt: HostRuntime) -> Result<(), Fail> {
     for count in [4usize, 6, 8] {
         for answers in [Answers::AtOnce, Answers::LastFirst, Answers::LateIfLost] {
-            for writes in [false, true] {
-                assert_eq!(rt; fatal_losses(rt.alloc(), count, writes, answers)?, None);
-            }
+            any_two_are_survived(&rt, rt.alloc(), count, false, answers)?;
+            any_two_are_survived(&rt, rt.alloc(), count, true, answers)?;
         }
     }
     Ok(())
