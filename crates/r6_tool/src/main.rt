@@ -122,10 +122,20 @@ fn main(rt: HostRuntime) -> ExitCode {
 #[cfg(test)]
 mod device_tests;
 #[cfg(test)]
+mod files;
+#[cfg(test)]
 mod run_tests;
 #[cfg(test)]
 mod runs;
 #[cfg(test)]
+mod simulate_losses;
+#[cfg(test)]
+mod simulate_requests;
+#[cfg(test)]
 mod simulate_tests;
 #[cfg(test)]
+mod simulate_turns;
+#[cfg(test)]
 mod tests;
+#[cfg(test)]
+mod transcripts;

@@ -7,6 +7,7 @@ use std::io::{self, ErrorKind, Read, Seek, Write};
 use std::os::unix::fs::FileExt;
 use std::process::Abort;
 use std::rt::Files;
+use std::str;
 use std::sync::Wait;
 use std::thread::Threads;
 
@@ -56,6 +57,26 @@ impl Write for Full {
     }
 }
 
+/// The status of a command whose settings and script these are. No more is known of it here, so that what calls this
+/// has nothing of what `execute` promises to look through.
+pub(crate) fn status_of<F, R, S, W, E>(
+    rt: &R,
+    alloc: Global,
+    invocation: &Invocation<'_>,
+    (mut settings, mut script): (S, S),
+    out: &mut W,
+    err: &mut ErrorOutput<E>,
+) -> u8
+where
+    F: FileExt + Seek + Drop + Send,
+    R: Wait + Threads + Files<File = F> + Sync,
+    S: Read + Drop,
+    W: Write,
+    E: Write,
+{
+    execute(rt, alloc, invocation, &mut settings, &mut script, out, err)
+}
+
 /// A command whose one file has this text has to end so.
 pub(crate) fn ends<
     F: FileExt + Seek + Drop + Send,
@@ -68,25 +89,11 @@ pub(crate) fn ends<
 pub(crate) fn ends_with<
     F: FileExt + Seek + Drop + Send,
     R: Abort + Wait + Threads + Files<File = F> + Sync,
->(
-    rt: &R,
-    alloc: Global,
-    invocation: &Invocation<'_>,
-    (mut settings, mut script): (&[u8], &[u8]),
-    wanted: Ended<'_>,
-) {
-    let text = script;
+>(rt: &R, alloc: Global, invocation: &Invocation<'_>, texts: (&[u8], &[u8]), wanted: Ended<'_>) {
+    let text = str::from_utf8(texts.1);
     let mut out = Vec::new(alloc);
     let mut err = ErrorOutput::new(Vec::new(alloc), false);
-    let status = execute(
-        rt,
-        alloc,
-        invocation,
-        &mut settings,
-        &mut script,
-        &mut out,
-        &mut err,
-    );
+    let status = status_of(rt, alloc, invocation, texts, &mut out, &mut err);
     assert_eq!(rt; out.as_slice(), wanted.0.as_bytes(), "at {text:?}");
     assert_eq!(rt; err.writer.as_slice(), wanted.1.as_bytes(), "at {text:?}");
     assert_eq!(rt; status, wanted.2, "at {text:?}");
@@ -104,18 +111,10 @@ pub(crate) fn ends_unread<
     kind: ErrorKind,
     wanted: (&str, u8),
 ) {
-    let (mut settings, mut script) = (Torn { text, kind }, Torn { text, kind });
     let mut out = Vec::new(alloc);
     let mut err = ErrorOutput::new(Vec::new(alloc), false);
-    let status = execute(
-        rt,
-        alloc,
-        invocation,
-        &mut settings,
-        &mut script,
-        &mut out,
-        &mut err,
-    );
+    let texts = (Torn { text, kind }, Torn { text, kind });
+    let status = status_of(rt, alloc, invocation, texts, &mut out, &mut err);
     assert!(rt; out.is_empty());
     assert_eq!(rt; err.writer.as_slice(), wanted.0.as_bytes());
     assert_eq!(rt; status, wanted.1);
@@ -126,35 +125,17 @@ pub(crate) fn ends_unwritten<
     F: FileExt + Seek + Drop + Send,
     R: Abort + Wait + Threads + Files<File = F> + Sync,
 >(rt: &R, alloc: Global, invocation: &Invocation<'_>, text: &[u8], room: usize) {
-    let (mut settings, mut script) = (text, text);
     let mut out = Full { room };
     let mut err = ErrorOutput::new(Vec::new(alloc), false);
-    let status = execute(
-        rt,
-        alloc,
-        invocation,
-        &mut settings,
-        &mut script,
-        &mut out,
-        &mut err,
-    );
+    let status = status_of(rt, alloc, invocation, (text, text), &mut out, &mut err);
     assert_eq!(rt;
         err.writer.as_slice(),
         b"output\n".as_slice(),
         "room {room}"
     );
     assert_eq!(rt; status, 4, "room {room}");
-    let (mut settings, mut script) = (text, text);
     let mut out = Full { room };
     let mut err = ErrorOutput::new(Full { room: 0 }, false);
-    let status = execute(
-        rt,
-        alloc,
-        invocation,
-        &mut settings,
-        &mut script,
-        &mut out,
-        &mut err,
-    );
+    let status = status_of(rt, alloc, invocation, (text, text), &mut out, &mut err);
     assert_eq!(rt; status, 4, "room {room}");
 }

@@ -1,8 +1,8 @@
 //! The command `geometry`.
 
-use crate::runs::{ends, ends_unread, ends_unwritten};
+use crate::runs::{ends, ends_unread, ends_unwritten, status_of};
 use r6_command::Invocation;
-use r6_execute::{ErrorOutput, execute};
+use r6_execute::ErrorOutput;
 use std::io::ErrorKind;
 
 const FOUR_SLOTS: &str = "slots = 4\nchunk = 1\nblock = 16\nrows = 4\nshards = 2\n";
@@ -72,27 +72,18 @@ fn is_largest(text: &[u8]) -> bool {
 
 #[test]
 fn prints_the_largest_array(rt: HostRuntime) {
-    let mut settings: &[u8] =
-        b"slots = 32\nchunk = 128\nblock = 4096\nrows = 16777216\nshards = 16\n";
-    let mut script: &[u8] = b"";
+    let settings = b"slots = 32\nchunk = 128\nblock = 4096\nrows = 16777216\nshards = 16\n";
+    let texts = (settings.as_slice(), settings.as_slice());
     let mut out = Vec::new(rt.alloc());
     let mut err = ErrorOutput::new(Vec::new(rt.alloc()), false);
-    execute(
-        &rt,
-        rt.alloc(),
-        &GEOMETRY,
-        &mut settings,
-        &mut script,
-        &mut out,
-        &mut err,
-    );
-    assert!(rt; is_largest(out.as_slice()));
+    let status = status_of(&rt, rt.alloc(), &GEOMETRY, texts, &mut out, &mut err);
+    assert!(rt; status == 0 && is_largest(out.as_slice()));
 }
 
 // What a text is refused for, and the text: a bar stands between.
 #[test]
 fn names_the_first_fault(rt: HostRuntime) {
-    let texts = [
+    let texts = &[
         "settings: toml\n|slots = ",
         "settings: toml\n|slots = 4\nslots = 4\n",
         "settings: key\n|slots = 4.0\nsize = 1\n",
@@ -128,14 +119,14 @@ fn names_the_first_fault(rt: HostRuntime) {
         "settings: geometry 5\n|slots = 4\nchunk = 1\nblock = 16\nrows = 4\nshards = 4294967295\n",
     ];
     for case in texts {
-        let (line, text) = case.split_once('|').unwrap_or(("", case));
+        let (line, text) = case.split_once('|').unwrap_or(("", *case));
         ends(&rt, rt.alloc(), &GEOMETRY, text.as_bytes(), ("", line, 3));
     }
 }
 
 #[test]
 fn a_file_that_fails_or_is_no_text_is_unreadable(rt: HostRuntime) {
-    let kinds = [
+    let kinds = &[
         (ErrorKind::PermissionDenied, ("settings: unreadable\n", 3)),
         (ErrorKind::OutOfMemory, ("memory\n", 5)),
     ];
@@ -145,8 +136,8 @@ fn a_file_that_fails_or_is_no_text_is_unreadable(rt: HostRuntime) {
             rt.alloc(),
             &GEOMETRY,
             FOUR_SLOTS.as_bytes(),
-            kind,
-            wanted,
+            *kind,
+            *wanted,
         );
     }
     let text = b"slots = 4 # \xff\n";
