@@ -61,7 +61,7 @@ fn with_wrong(row: u64, class: RowClass, counts: Counts) -> Report {
 
 #[test]
 fn zeros_are_consistent(rt: HostRuntime) -> Result<(), Fail> {
-    for shards in [1usize, 2, 3, 4] {
+    for shards in 1..=4usize {
         reports(&rt, rt.alloc(), &zeros(shards), &consistent(ROWS))?;
     }
     Ok(())
@@ -70,7 +70,7 @@ fn zeros_are_consistent(rt: HostRuntime) -> Result<(), Fail> {
 // Row 0 has Q in slot 0, its data in slots 1 and 2 and P in slot 3; each further row begins one slot to the left.
 #[test]
 fn a_wrong_block_is_named_by_its_place(rt: HostRuntime) -> Result<(), Fail> {
-    let places = [
+    let places = &[
         (0, 1, RowClass::WrongData(0)),
         (0, 2, RowClass::WrongData(1)),
         (1, 2, RowClass::WrongP),
@@ -78,19 +78,23 @@ fn a_wrong_block_is_named_by_its_place(rt: HostRuntime) -> Result<(), Fail> {
         (3, 3, RowClass::WrongData(1)),
     ];
     for (row, slot, class) in places {
-        let filled = [Filled { row, slot, byte: 1 }];
-        for shards in [1usize, 2, 4] {
+        let filled = [Filled {
+            row: *row,
+            slot: *slot,
+            byte: 1,
+        }];
+        for shards in &[1usize, 2, 4] {
             let array = Array {
                 filled: &filled,
-                ..zeros(shards)
+                ..zeros(*shards)
             };
             let mut counts = consistent(ROWS - 1).counts;
-            match class {
+            match *class {
                 RowClass::WrongP => counts.wrong_p = 1,
                 RowClass::WrongQ => counts.wrong_q = 1,
                 _ => counts.wrong_data = 1,
             }
-            reports(&rt, rt.alloc(), &array, &with_wrong(row, class, counts))?;
+            reports(&rt, rt.alloc(), &array, &with_wrong(*row, *class, counts))?;
         }
     }
     Ok(())
@@ -111,10 +115,10 @@ fn each_row_is_counted_by_its_class(rt: HostRuntime) -> Result<(), Fail> {
         wrong_q: 1,
         ..Counts::new()
     };
-    for shards in [1usize, 3] {
+    for shards in &[1usize, 3] {
         let array = Array {
             filled: &filled,
-            ..zeros(shards)
+            ..zeros(*shards)
         };
         reports(
             &rt,
@@ -128,7 +132,7 @@ fn each_row_is_counted_by_its_class(rt: HostRuntime) -> Result<(), Fail> {
 
 #[test]
 fn rows_of_a_lost_slot_are_skipped(rt: HostRuntime) -> Result<(), Fail> {
-    let lost: [&[usize]; 3] = [&[0], &[2], &[1, 3]];
+    let lost: &[&[usize]] = &[&[0], &[2], &[1, 3]];
     for lost in lost {
         let wanted = Report {
             counts: Counts {
@@ -138,7 +142,15 @@ fn rows_of_a_lost_slot_are_skipped(rt: HostRuntime) -> Result<(), Fail> {
             first: None,
             fault: None,
         };
-        reports(&rt, rt.alloc(), &Array { lost, ..zeros(2) }, &wanted)?;
+        reports(
+            &rt,
+            rt.alloc(),
+            &Array {
+                lost: *lost,
+                ..zeros(2)
+            },
+            &wanted,
+        )?;
     }
     Ok(())
 }
@@ -146,16 +158,24 @@ fn rows_of_a_lost_slot_are_skipped(rt: HostRuntime) -> Result<(), Fail> {
 // Each device is read once a row, so the command of a row is the one with its number within the shard.
 #[test]
 fn a_fault_at_any_command_ends_the_check_at_its_row(rt: HostRuntime) -> Result<(), Fail> {
-    for (is_gone, fault) in [(false, Fault::ReadFault), (true, Fault::Gone)] {
+    for (is_gone, fault) in &[(false, Fault::ReadFault), (true, Fault::Gone)] {
         for slot in 0..SLOTS {
             for row in 0..ROWS {
-                let broken = [Broken { slot, row, is_gone }];
+                let broken = [Broken {
+                    slot,
+                    row,
+                    is_gone: *is_gone,
+                }];
                 let array = Array {
                     broken: &broken,
                     ..zeros(2)
                 };
                 let wanted = Report {
-                    fault: Some(RowFault { row, slot, fault }),
+                    fault: Some(RowFault {
+                        row,
+                        slot,
+                        fault: *fault,
+                    }),
                     ..consistent(row)
                 };
                 reports(&rt, rt.alloc(), &array, &wanted)?;
@@ -203,8 +223,8 @@ fn nothing_behind_a_fault_of_another_shard_is_told(rt: HostRuntime) -> Result<()
 // Of two that fail in one row the lower slot is named. Those behind it aren't told to read that row.
 #[test]
 fn a_row_is_read_by_slot(rt: HostRuntime) -> Result<(), Fail> {
-    for (lower, upper) in [(0usize, 1usize), (0, 3), (1, 2), (2, 3)] {
-        let broken = [upper, lower].map(|slot| Broken {
+    for (lower, upper) in &[(0usize, 1usize), (0, 3), (1, 2), (2, 3)] {
+        let broken = [*upper, *lower].map(|slot| Broken {
             slot,
             row: 2,
             is_gone: false,
@@ -218,11 +238,11 @@ fn a_row_is_read_by_slot(rt: HostRuntime) -> Result<(), Fail> {
         let report = check_all(&rt, rt.alloc(), &geometry, parts.as_mut_slice())?;
         assert_eq!(rt;
             report.fault.map(|fault| (fault.row, fault.slot)),
-            Some((2, lower))
+            Some((2, *lower))
         );
         for (slot, part) in parts.iter().enumerate() {
             let told = part.as_ref().map(|part| part.next);
-            assert_eq!(rt; told, Some(if slot <= lower { 3 } else { 2 }));
+            assert_eq!(rt; told, Some(if slot <= *lower { 3 } else { 2 }));
         }
     }
     Ok(())

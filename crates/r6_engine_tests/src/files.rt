@@ -95,8 +95,8 @@ fn is_found<R: Files<File = File> + AllocGlobal + Threads + Wait + Sync>(
     paths: &[String],
     wanted: &Report,
 ) -> Result<bool, Fail> {
-    for shards in [1usize, 2, 4] {
-        if checked(rt, shards, paths)? != *wanted {
+    for shards in &[1usize, 2, 4] {
+        if checked(rt, *shards, paths)? != *wanted {
             return Ok(false);
         }
     }
@@ -216,7 +216,7 @@ fn are_unchanged<R: Abort + Files + AllocGlobal>(
 
 #[test]
 fn files_of_another_length_are_refused_and_not_changed(rt: HostRuntime) -> Result<(), Fail> {
-    let lengths = [
+    let lengths = &[
         (Some(0usize), Fault::Length),
         (Some(63), Fault::Length),
         (Some(65), Fault::Length),
@@ -229,9 +229,9 @@ fn files_of_another_length_are_refused_and_not_changed(rt: HostRuntime) -> Resul
             for path in &paths {
                 fill(&rt, path.as_str(), BYTES, 7)?;
             }
-            change(&rt, paths.get(slot).ok_or("no path")?.as_str(), length)?;
-            assert!(rt; are_refused(&rt, &geometry, paths.as_slice(), slot as u32, fault));
-            are_unchanged(&rt, paths.as_slice(), slot, length)?;
+            change(&rt, paths.get(slot).ok_or("no path")?.as_str(), *length)?;
+            assert!(rt; are_refused(&rt, &geometry, paths.as_slice(), slot as u32, *fault));
+            are_unchanged(&rt, paths.as_slice(), slot, *length)?;
         }
     }
     remove(&rt, paths.as_slice());

@@ -60,12 +60,12 @@ const ALL: Rebuilt = Rebuilt {
 
 #[test]
 fn a_slot_of_zeros_is_rebuilt(rt: HostRuntime) -> Result<(), Fail> {
-    for shards in [1usize, 2, 4] {
+    for shards in &[1usize, 2, 4] {
         let array = Array {
             lost: &[1],
-            ..zeros(shards)
+            ..zeros(*shards)
         };
-        let (done, _) = rebuilt(rt.alloc(), &array, &zeros(shards))?;
+        let (done, _) = rebuilt(rt.alloc(), &array, &zeros(*shards))?;
         assert_eq!(rt; done, ALL, "{shards} shards");
     }
     Ok(())
@@ -114,14 +114,17 @@ fn has_rows_before<R: Abort>(
     Ok(())
 }
 
+/// Slot 1 alone, and beside another one.
+const LOST: &[&[usize]] = &[&[1], &[1, 2], &[1, 3]];
+
 #[test]
 fn each_row_gets_its_block(rt: HostRuntime) -> Result<(), Fail> {
     let filled = BLOCKS_OF_5A.map(|(row, slot, byte)| Filled { row, slot, byte });
-    for lost in [[1usize].as_slice(), &[1, 2], &[1, 3]] {
-        for shards in [1usize, 2, 3] {
+    for lost in LOST {
+        for shards in 1..=3usize {
             let array = Array {
                 filled: &filled,
-                lost,
+                lost: *lost,
                 ..zeros(shards)
             };
             let (done, mut targets) = rebuilt(rt.alloc(), &array, &zeros(shards))?;
@@ -137,11 +140,11 @@ fn each_row_gets_its_block(rt: HostRuntime) -> Result<(), Fail> {
 fn rows_stay_where_a_target_fails(rt: HostRuntime) -> Result<(), Fail> {
     let filled = BLOCKS_OF_5A.map(|(row, slot, byte)| Filled { row, slot, byte });
     for row in 0..ROWS {
-        for shards in [1usize, 2, 4] {
+        for shards in &[1usize, 2, 4] {
             let array = Array {
                 filled: &filled,
                 lost: &[1],
-                ..zeros(shards)
+                ..zeros(*shards)
             };
             let broken = [Broken {
                 slot: 1,
@@ -150,7 +153,7 @@ fn rows_stay_where_a_target_fails(rt: HostRuntime) -> Result<(), Fail> {
             }];
             let new = Array {
                 broken: &broken,
-                ..zeros(shards)
+                ..zeros(*shards)
             };
             let (done, mut targets) = rebuilt(rt.alloc(), &array, &new)?;
             assert_eq!(rt; done.rows, row);
