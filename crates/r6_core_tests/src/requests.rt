@@ -148,7 +148,7 @@ fn writes_to_one_row_wait_for_each_other(rt: HostRuntime) -> Result<(), Fail> {
 // block, reads nothing, and leaves the youngest to the third.
 #[test]
 fn a_hold_takes_with_it_the_oldest_write_of_each_block(rt: HostRuntime) -> Result<(), Fail> {
-    let course = [
+    let course = &[
         (Step::Write(0, 0x11), Answer::Accepted(0)),
         (Step::Write(1, 0x22), Answer::Accepted(1)),
         (Step::Write(0, 0x33), Answer::Accepted(2)),
@@ -182,14 +182,14 @@ fn a_hold_takes_with_it_the_oldest_write_of_each_block(rt: HostRuntime) -> Resul
         (Step::Reply, Answer::Done(2, 0x33)),
         (Step::Reply, Answer::Done(3, 0x44)),
     ];
-    play(&rt, rt.alloc(), 4, 1, &[], &course)
+    play(&rt, rt.alloc(), 4, 1, &[], course)
 }
 
 // Rows 0 and 1 have blocks 0 and 1, and 2 and 3. Both second holds wait for slot 0 alone when it is lost: they end with
 // the one error, and their requests stand by number.
 #[test]
 fn requests_of_holds_that_end_together_stand_by_number(rt: HostRuntime) -> Result<(), Fail> {
-    let course = [
+    let course = &[
         (Step::Write(0, 0x11), Answer::Accepted(0)),
         (Step::Write(2, 0x22), Answer::Accepted(1)),
         (Step::Write(0, 0x33), Answer::Accepted(2)),
@@ -214,5 +214,5 @@ fn requests_of_holds_that_end_together_stand_by_number(rt: HostRuntime) -> Resul
         (Step::Reply, Answer::Done(4, 0x55)),
         (Step::Reply, Answer::Done(5, 0x66)),
     ];
-    play(&rt, rt.alloc(), 4, 1, &[], &course)
+    play(&rt, rt.alloc(), 4, 1, &[], course)
 }

@@ -33,6 +33,31 @@ do 0:6 -> taken
 do 0:7 -> taken
 look 0 -> looked | reply 0:0 done
 == 0
+# writes that wait for a row are written together: the second hold takes the oldest write of each block
+array 4 1 16 4 1 -> array
+write 0 11 -> op 0:0 | 0:0 read slot 2 gen 0 row 0
+write 1 22 -> op 0:1
+write 0 33 -> op 0:2
+write 1 44 -> op 0:3
+do 0:0 -> taken | 0:1 write slot 1 gen 0 row 0 11 | 0:2 write slot 3 gen 0 row 0 11 | 0:3 write slot 0 gen 0 row 0 11
+do 0:1 -> taken
+do 0:2 -> taken
+do 0:3 -> taken | 0:4 write slot 1 gen 0 row 0 33 | 0:5 write slot 2 gen 0 row 0 22 | 0:6 write slot 3 gen 0 row 0 11 | 0:7 write slot 0 gen 0 row 0 77
+do 0:4 -> taken
+do 0:5 -> taken
+do 0:6 -> taken
+do 0:7 -> taken | 0:8 read slot 1 gen 0 row 0
+do 0:8 -> taken | 0:9 write slot 2 gen 0 row 0 44 | 0:10 write slot 3 gen 0 row 0 77 | 0:11 write slot 0 gen 0 row 0 bb
+do 0:9 -> taken
+do 0:10 -> taken
+do 0:11 -> taken
+look 0 -> looked | reply 0:0 done | reply 0:1 done | reply 0:2 done | reply 0:3 done
+read 0 -> op 0:4 | 0:12 read slot 1 gen 0 row 0
+read 1 -> op 0:5 | 0:13 read slot 2 gen 0 row 0
+do 0:12 -> taken
+do 0:13 -> taken
+look 0 -> looked | reply 0:4 data 33 | reply 0:5 data 44
+== 0
 # each shard has its own numbers
 # Blocks 0 to 3 stand in the rows of shard 0, blocks 4 to 7 in those of shard 1. The second data block goes into Q
 # times 2.
