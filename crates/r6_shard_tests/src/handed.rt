@@ -43,6 +43,16 @@ fn is_accepted(shard: &mut Shard<Parts<MemoryDevice>>, event: u64, op: Op) -> bo
 
 type Handed = Result<Option<Part<MemoryDevice>>, RefusedPart<MemoryDevice>>;
 
+// Hands the part in. Whether it is taken or not, the shard's pass stays what it was.
+fn hand_in(shard: &mut Shard<Parts<MemoryDevice>>, part: Part<MemoryDevice>) -> Handed
+    ensures { shard.new.pass ≡ shard.old.pass }
+{
+    match shard.hand_in(part) {
+        Ok(earlier) => Ok(earlier),
+        Err(refused) => Err(refused),
+    }
+}
+
 // Why a part was refused, and its generation.
 fn refused(handed: &Handed) -> Option<(PartRefusal, u32)> {
     match handed {
@@ -68,12 +78,12 @@ fn the_later_part_of_an_attach_is_rebuilt_and_read(rt: HostRuntime) -> Result<()
     assert!(rt; is_accepted(&mut shard, 0, op_of(rt.alloc(), Ask::Write(0, 7))?));
     shard.run(&rt, &register);
     assert!(rt; last_answer(&shard) == Some(Answer::Done));
-    let none = shard.hand_in(new_part(rt.alloc(), 1, 0)?);
+    let none = hand_in(&mut shard, new_part(rt.alloc(), 1, 0)?);
     assert!(rt; matches!(none, Ok(None)));
     let mut pass = shard.split_pass(&register);
     assert!(rt; register.read(&rt, &mut pass).slot(1).is_lost());
     assert!(rt; matches!(register.attach(&rt, &mut pass, 1), Ok(1)));
-    let earlier = shard.hand_in(new_part(rt.alloc(), 1, 4)?);
+    let earlier = hand_in(&mut shard, new_part(rt.alloc(), 1, 4)?);
     assert!(rt; matches!(earlier, Ok(Some(_))));
     shard.run(&rt, &register);
     assert!(rt; !register.read(&rt, &mut pass).slot(1).is_out());
@@ -82,9 +92,9 @@ fn the_later_part_of_an_attach_is_rebuilt_and_read(rt: HostRuntime) -> Result<()
     shard.run(&rt, &register);
     assert!(rt; last_answer(&shard) == Some(Answer::Data(7)));
     assert!(rt; !register.read(&rt, &mut pass).slot(1).is_out());
-    let late = shard.hand_in(new_part(rt.alloc(), 1, 4)?);
+    let late = hand_in(&mut shard, new_part(rt.alloc(), 1, 4)?);
     assert!(rt; refused(&late) == Some((PartRefusal::Looked, 1)));
-    let full = shard.hand_in(new_part(rt.alloc(), 2, 4)?);
+    let full = hand_in(&mut shard, new_part(rt.alloc(), 2, 4)?);
     assert!(rt; refused(&full) == Some((PartRefusal::NoRoom, 2)));
     Ok(())
 }
