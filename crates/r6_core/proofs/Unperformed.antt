@@ -14,7 +14,9 @@ use Rattle.r6_world.specs.Laws.{at_start}
 use Rattle.r6_world.specs.Witness.{after_all}
 use Rattle.r6_world.proofs.Tables.{put-same, put-other, put-cases, not_both}
 use Rattle.r6_world.proofs.Laws.Judged.{IsIn}
-use Rattle.r6_world.proofs.Laws.Headline.{AreIn, Kept, one_step}
+use Rattle.r6_world.proofs.Laws.Headline.{AreIn}
+use Rattle.r6_world.proofs.Laws.Kept.{Kept}
+use Rattle.r6_world.proofs.Laws.Stepping.{one_step}
 use Rattle.r6_world.proofs.Laws.Starts.{kept-start}
 use Rattle.r6_core.specs.Shards.{CoreView}
 use Rattle.r6_core.specs.Runs.{Happening, Call, Perform, Tell, Outside, Moment, in_world, moment_of, cores_after, MayHappen, CoresRun}
@@ -70,8 +72,8 @@ module _ (l : Layout) (Ours : ℕ → Type 0) (Comes : RegisterCall → Type 0) 
       is-ours (Outside call) may = record {}
 
   module _ (is : IsLayout l) where
-    kept-along : (moments : List worlds.Moment) (w : World) (plain : Plain) → Kept l is Ours Comes w plain → AreIn Ours moments → Run l Comes w moments
-        → (last : Plain) × Kept l is Ours Comes (after_all l w moments) last
+    kept-along : (moments : List worlds.Moment) (w : World) (plain : Plain) → Kept l Ours w plain → AreIn Ours moments → Run l Comes w moments
+        → (last : Plain) × Kept l Ours (after_all l w moments) last
     kept-along [] w plain x ours run = (plain, x)
     kept-along (m ∷ moments) w plain x ours run =
         let step = one_step l is Ours Comes m.happening m.noise w plain x ours.0 run.0 in
@@ -90,7 +92,7 @@ module _ (l : Layout) (Ours : ℕ → Type 0) (Comes : RegisterCall → Type 0) 
     unperformed r device array start cores moments cores_run run n ours token c there untaken =
         let all = map moment_of moments in
         let w = after_all l (started l r device) all in
-        let k = kept-along all (started l r device) (at_start array) (kept-start l is Ours Comes r device array start)
+        let k = kept-along all (started l r device) (at_start array) (kept-start l is Ours r device array start)
         (are-ours (started l r device) cores moments cores_run) run in
         let flies = (k.1.sounds n ours).flies in
         unflown-along all (started l r device) run (λ m t e. refl) n token

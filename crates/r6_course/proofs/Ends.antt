@@ -80,7 +80,7 @@ abbrev StandsThere : ℕ → World → Type 0
 StandsThere n w = (w.shard n).saw_failed ≡ true → w.register.failed ≡ true
 
 module _ (s : Start) (lawful : IsLawful s) where
-  still-failed : (w : World) (plain : Plain) → IsKept s lawful w plain → (call : RegisterCall) (answer : Answer)
+  still-failed : (w : World) (plain : Plain) → IsKept s w plain → (call : RegisterCall) (answer : Answer)
       → IsAnswer s.layout w.register call answer
       → w.register.failed ≡ true → (register_after s.layout w.register call answer).failed ≡ true
   still-failed w plain x call answer (inr e) failed =
@@ -93,7 +93,7 @@ module _ (s : Start) (lawful : IsLawful s) where
         | inr fine ↦ absurd (false≢true (sym ((renewed-call s.layout lawful.layout w.register x.register call).was_fine fine) ∙ failed))
       ])
 
-  there-next : (w : World) (plain : Plain) → IsKept s lawful w plain → (m : Moment)
+  there-next : (w : World) (plain : Plain) → IsKept s w plain → (m : Moment)
       → Possible s.layout IsByAnyone w m.happening → IsOfShard s.number m.happening
       → StandsThere s.number w → StandsThere s.number (next s.layout w m)
   there-next w plain x m possible own y = at m.happening possible own

@@ -87,7 +87,7 @@ record Heard (s : Start) (looked : ℕ) (w : World) : Type 0 where
 
 module _ (s : Start) (lawful : IsLawful s) where
   -- attaches count up
-  more-attaches : (w : World) (plain : Plain) → IsKept s lawful w plain → (call : RegisterCall) (answer : Answer)
+  more-attaches : (w : World) (plain : Plain) → IsKept s w plain → (call : RegisterCall) (answer : Answer)
       → IsAnswer s.layout w.register call answer
       → w.register.attaches ≤ (register_after s.layout w.register call answer).attaches
   more-attaches w plain x call answer (inl e) =
@@ -108,7 +108,7 @@ module _ (s : Start) (lawful : IsLawful s) where
     counted : looked_by event looked ≤ w.register.attaches
     shard : IsUpTo (looked_by event looked) new
 
-  looks-on : (w : World) (plain : Plain) → IsKept s lawful w plain → (looked : ℕ) → looked ≤ w.register.attaches → (event : Event) (old new : Shard)
+  looks-on : (w : World) (plain : Plain) → IsKept s w plain → (looked : ℕ) → looked ≤ w.register.attaches → (event : Event) (old new : Shard)
       → MayCome w s.number event → Step s.layout s.number old event new → IsUpTo looked old → Looks looked w event new
   looks-on w plain x looked low event old new come step up = elim (looks event) [
     | inl q ↦ subst (λ y. Looks looked w y new) (sym q.1) (sees q.0 (subst (MayCome w s.number) q.1 come) (subst (λ y. Step s.layout s.number old y new) q.1 step))
@@ -138,7 +138,7 @@ module _ (s : Start) (lawful : IsLawful s) where
           same-look : (a b : Snapshot) → Look a ≡ Look b → a ≡ b
           same-look a b e = cc
 
-  heard-next : (w : World) (plain : Plain) (m : Moment) (looked : ℕ) → IsKept s lawful w plain → Possible s.layout IsByAnyone w m.happening
+  heard-next : (w : World) (plain : Plain) (m : Moment) (looked : ℕ) → IsKept s w plain → Possible s.layout IsByAnyone w m.happening
       → IsOfShard s.number m.happening → Heard s looked w
       → (looked ≤ looked_after m.happening looked) × Heard s (looked_after m.happening looked) (next s.layout w m)
   heard-next w plain m looked x possible own y = at m.happening possible own
@@ -196,7 +196,7 @@ module _ (s : Start) (lawful : IsLawful s) where
     others : (other g' row : ℕ) → ((other ≡ slot) × (g' ≡ g) → ⊥) → devices other g' row ≡ w.device other g' row
     here : (row : ℕ) → IsRowOf s.layout s.number row → devices slot g row ≡ device slot g row
 
-  twin-next : (device : Devices) (slot g : ℕ) (w : World) (plain : Plain) (moments : List Moment) (m : Moment) (looked : ℕ) → IsKept s lawful w plain
+  twin-next : (device : Devices) (slot g : ℕ) (w : World) (plain : Plain) (moments : List Moment) (m : Moment) (looked : ℕ) → IsKept s w plain
       → Possible s.layout IsByAnyone w m.happening → IsOfShard s.number m.happening → Heard s looked w → looked < g
       → ((other row : ℕ) → (next s.layout w m).broken s.number slot g ≡ false)
       → Twin device slot g w moments → Twin device slot g (next s.layout w m) (moments ++ m ∷ [])

@@ -14,7 +14,8 @@ use Rattle.r6_world.specs.Laws.{IsByAnyone, IsOfShard, ShardHolds, at_start}
 use Rattle.r6_world.proofs.Tables.{put-other, not_both, None-not_Some}
 use Rattle.r6_world.proofs.FullRows.{row-same}
 use Rattle.r6_world.proofs.Uses.{sync-uses}
-use Rattle.r6_world.proofs.Laws.Headline.{holds-at, one_step}
+use Rattle.r6_world.proofs.Laws.KeptClaims.{holds-at}
+use Rattle.r6_world.proofs.Laws.Stepping.{one_step}
 use Rattle.r6_course.specs.Courses.{Start, IsLawful, first_world, Mark, Asked, Replied, history_after, Reached, Stand, Tells, Follows}
 use Rattle.r6_course.specs.Ledgers.{Entry, entry, IsIn, IsBefore, InTime, PartsHold, OthersStay, OrderLaw, merged, MergeLaw}
 use Rattle.r6_course.proofs.Lists.{in-front, in-either, before-more, before-across, before-first}
@@ -46,12 +47,12 @@ record Led (s : Start) (w : World) (history : List Mark) (plain : Plain) : Type 
   in_time : InTime history order
 
 module _ (s : Start) (lawful : IsLawful s) where
-  holds : (w : World) (plain : Plain) → IsKept s lawful w plain → ShardHolds s.layout s.number w w plain
+  holds : (w : World) (plain : Plain) → IsKept s w plain → ShardHolds s.layout s.number w w plain
   holds w plain x =
-      holds-at s.layout lawful.layout (λ m. m ≡ s.number) IsByAnyone w w plain x s.number refl (λ failed id op reply e none. absurd (none reply e))
+      holds-at s.layout lawful.layout (λ m. m ≡ s.number) w w plain x s.number refl (λ failed id op reply e none. absurd (none reply e))
 
   -- a reply that is taken is the plain array's
-  replied-now : (w w' : World) (history history' : List Mark) (plain : Plain) → IsKept s lawful w plain
+  replied-now : (w w' : World) (history history' : List Mark) (plain : Plain) → IsKept s w plain
       → Led s w history plain
       → IsCall s.layout s.number w w' history history' ⊎ IsBeside s.number w w' history history'
       → (id : ℕ) (reply : Reply) → IsIn (Replied id reply) history' → reply ≢ ArrayFailed
@@ -102,7 +103,7 @@ module _ (s : Start) (lawful : IsLawful s) where
         | inr e ↦ inr ((subst (λ y. Step s.layout s.number (w.shard s.number) y c.1) e c.2).0)
       ]
 
-  led-next : (w : World) (history : List Mark) (plain : Plain) (m : Moment) → IsKept s lawful w plain
+  led-next : (w : World) (history : List Mark) (plain : Plain) (m : Moment) → IsKept s w plain
       → Led s w history plain
       → Possible s.layout IsByAnyone w m.happening → IsOfShard s.number m.happening
       → let new = next s.layout w m in Led s new (history_after m.happening history) (plain_next s.layout w m plain)
@@ -172,12 +173,12 @@ module _ (s : Start) (lawful : IsLawful s) where
       }
 
   led : (w : World) (history : List Mark) → Reached s w history
-      → (plain : Plain) × IsKept s lawful w plain × Led s w history plain
+      → (plain : Plain) × IsKept s w plain × Led s w history plain
   led w history x =
       holds-throughout s lawful (Led s) led-first (λ w history plain m k p possible own k'. led-next w history plain m k p possible own) w history x
 
   -- what the parts tell
-  parts-hold : (at : Stand) (x : Follows s at) (plain : Plain) → IsKept s lawful x.world plain
+  parts-hold : (at : Stand) (x : Follows s at) (plain : Plain) → IsKept s x.world plain
       → PartsHold s at plain.array
   parts-hold at x plain k row slot g inside there live unwritten sync telling part =
       let n = s.number in

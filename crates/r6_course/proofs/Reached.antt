@@ -12,7 +12,8 @@ use Rattle.r6_world.specs.Witness.{after_all}
 use Rattle.r6_world.proofs.Tables.{put-same, put-other, put-cases, not_both}
 use Rattle.r6_world.proofs.Witness.Pieces.{after-append}
 use Rattle.r6_world.proofs.Laws.Judged.{IsIn as IsOfJudged}
-use Rattle.r6_world.proofs.Laws.Headline.{Kept, one_step}
+use Rattle.r6_world.proofs.Laws.Kept.{Kept}
+use Rattle.r6_world.proofs.Laws.Stepping.{one_step}
 use Rattle.r6_world.proofs.Laws.Starts.{kept-start}
 use Rattle.r6_course.specs.Courses.{Start, first_world, IsLawful, Mark, history_after, history_of, looked_after, looked_of, Reached}
 use Rattle.r6_course.proofs.Lists.{none-behind}
@@ -75,21 +76,21 @@ is-of n (Tell m call answer middle new) e = e
 is-of n (Outside call) e = e
 
 -- what r6_world's laws keep, for one shard
-abbrev pub IsKept : (s : Start) → IsLawful s → World → Plain → Type 0
-IsKept s lawful w plain = Kept s.layout lawful.layout (λ m. m ≡ s.number) IsByAnyone w plain
+abbrev pub IsKept : (s : Start) → World → Plain → Type 0
+IsKept s w plain = Kept s.layout (λ m. m ≡ s.number) w plain
 
 module _ (s : Start) (lawful : IsLawful s) (P : World → List Moment → Plain → Type 0) where
   -- one step keeps it
   abbrev pub MomentKeeps : Type 0
   MomentKeeps =
-      (w : World) (before : List Moment) (plain : Plain) (m : Moment) → IsKept s lawful w plain → P w before plain
+      (w : World) (before : List Moment) (plain : Plain) (m : Moment) → IsKept s w plain → P w before plain
       → Possible s.layout IsByAnyone w m.happening → IsOfShard s.number m.happening
       → let new = next s.layout w m in let plain' = plain_next s.layout w m plain in
-      IsKept s lawful new plain' → P new (before ++ m ∷ []) plain'
+      IsKept s new plain' → P new (before ++ m ∷ []) plain'
 
-  along : MomentKeeps → (moments before : List Moment) (w : World) (plain : Plain) → IsKept s lawful w plain → P w before plain
+  along : MomentKeeps → (moments before : List Moment) (w : World) (plain : Plain) → IsKept s w plain → P w before plain
       → AreOfShard s.number moments → Run s.layout IsByAnyone w moments
-      → (last : Plain) × IsKept s lawful (after_all s.layout w moments) last × P (after_all s.layout w moments) (before ++ moments) last
+      → (last : Plain) × IsKept s (after_all s.layout w moments) last × P (after_all s.layout w moments) (before ++ moments) last
   along keeps [] before w plain x p own run = (plain, x, subst (λ y. P w y plain) (sym (none-behind before)) p)
   along keeps (m ∷ moments) before w plain x p own run =
       let new = next s.layout w m in
@@ -99,23 +100,23 @@ module _ (s : Start) (lawful : IsLawful s) (P : World → List Moment → Plain 
       (rest.0, rest.1, subst (λ y. P (after_all s.layout new moments) y rest.0) (append_assoc before (m ∷ []) moments) rest.2)
 
   pub holds-along : P (first_world s) [] (at_start s.array) → MomentKeeps → (w : World) (history : List Mark) (x : Reached s w history)
-      → (plain : Plain) × IsKept s lawful w plain × P w x.moments plain
+      → (plain : Plain) × IsKept s w plain × P w x.moments plain
   holds-along first keeps w history x =
-      let start = kept-start s.layout lawful.layout (λ m. m ≡ s.number) IsByAnyone s.register s.device s.array lawful.start in
+      let start = kept-start s.layout lawful.layout (λ m. m ≡ s.number) s.register s.device s.array lawful.start in
       let last = along keeps x.moments [] (first_world s) (at_start s.array) start first x.own x.run in
-      (last.0, subst (λ y. IsKept s lawful y last.0) x.world last.1, subst (λ y. P y x.moments last.0) x.world last.2)
+      (last.0, subst (λ y. IsKept s y last.0) x.world last.1, subst (λ y. P y x.moments last.0) x.world last.2)
 
 -- the same, of what the users saw
 module _ (s : Start) (lawful : IsLawful s) (P : World → List Mark → Plain → Type 0) where
   abbrev pub StepKeeps : Type 0
   StepKeeps =
-      (w : World) (history : List Mark) (plain : Plain) (m : Moment) → IsKept s lawful w plain → P w history plain
+      (w : World) (history : List Mark) (plain : Plain) (m : Moment) → IsKept s w plain → P w history plain
       → Possible s.layout IsByAnyone w m.happening → IsOfShard s.number m.happening
       → let new = next s.layout w m in let plain' = plain_next s.layout w m plain in
-      IsKept s lawful new plain' → P new (history_after m.happening history) plain'
+      IsKept s new plain' → P new (history_after m.happening history) plain'
 
   pub holds-throughout : P (first_world s) [] (at_start s.array) → StepKeeps → (w : World) (history : List Mark) → Reached s w history
-      → (plain : Plain) × IsKept s lawful w plain × P w history plain
+      → (plain : Plain) × IsKept s w plain × P w history plain
   holds-throughout first keeps w history x =
       let y = holds-along s lawful (λ w before plain. P w (history_of [] before) plain) first
       (λ w before plain m k p possible own k'.
@@ -126,7 +127,7 @@ module _ (s : Start) (lawful : IsLawful s) (P : World → List Mark → Plain �
 
 -- the world is as the laws of r6_world keep it
 pub kept : (s : Start) (lawful : IsLawful s) (w : World) (history : List Mark) → Reached s w history
-    → (plain : Plain) × IsKept s lawful w plain
+    → (plain : Plain) × IsKept s w plain
 kept s lawful w history x =
     let y = holds-throughout s lawful (λ w history plain. record {}) (record {}) (λ w history plain m k p possible own k'. record {}) w history x in
     (y.0, y.1)

@@ -1,6 +1,18 @@
 -- The laws, for every run.
 pub mod Judged
 pub mod Quiet
+pub mod Kept
+pub mod ShardSteps
+pub mod Adopting
+pub mod Delivering
+pub mod Looking
+pub mod Events
+pub mod Performers
+pub mod Effects
+pub mod Performing
+pub mod Telling
+pub mod KeptClaims
+pub mod Stepping
 pub mod Headline
 pub mod Starts
 pub mod AnyStarts
