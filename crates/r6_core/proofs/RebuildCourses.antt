@@ -5,7 +5,8 @@ use Rattle.std.specs.Result.{result_ok}
 use Rattle.r6_layout.specs.Shape.{Shape, IsShape}
 use Rattle.r6_health.specs.Registers.{starting, after}
 use Rattle.r6_world.specs.Tables.{put}
-use Rattle.r6_world.specs.PlainArray.{Block, Array, Read, Data}
+use Rattle.r6_layout.specs.PlainArray.{Block}
+use Rattle.r6_world.specs.PlainArray.{Array, Read, Data}
 use Rattle.r6_world.specs.Layouts.{Layout}
 use Rattle.r6_world.specs.Geometries.{layout_of}
 use Rattle.r6_world.specs.Registers.{Snapshot, RegisterCall, RegisterAnswer, Fail, Attach, ReportRebuilt, More, Complete, answer_to, register_after}

@@ -10,7 +10,7 @@ use Rattle.r6_layout.specs.Layout as layout
 use Rattle.r6_layout.proofs.Places.{row_of-block_at, index_of-block_at}
 use Rattle.r6_stripe.specs.BatchLists.{AreDistinct}
 use Rattle.r6_world.specs.PlainArray as world
-use Rattle.r6_world.specs.PlainArray.{Block}
+use Rattle.r6_layout.specs.PlainArray.{Block}
 use Rattle.r6_world.specs.Geometries.{layout_of}
 use Rattle.r6_world.specs.Tasks.{WriteFor, is_written}
 use Rattle.r6_world.specs.ShardStates.{Shard}

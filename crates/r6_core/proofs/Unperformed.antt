@@ -2,7 +2,8 @@
 use Rattle.std.proofs.Common.{◌≡◌, ℕ, List, [], ◌∷◌, inl, inr, refl, sym, ap, ◌∙◌, Option, Some, None, map, false}
 use Rattle.std.proofs.lemmas.Bool.{cases_eq, false≢true}
 use Rattle.r6_world.specs.Layouts.{Layout, IsLayout}
-use Rattle.r6_world.specs.PlainArray.{Array, Block, Plain}
+use Rattle.r6_layout.specs.PlainArray.{Block}
+use Rattle.r6_world.specs.PlainArray.{Array, Plain}
 use Rattle.r6_world.specs.Registers.{Snapshot, RegisterCall}
 use Rattle.r6_world.specs.ShardStates.{Command}
 use Rattle.r6_world.specs.Steps.{Event, Take_command}

@@ -2,7 +2,8 @@
 use Rattle.std.specs.Prelude.{◌≡◌, ℕ, zero, suc, List, [], ◌∷◌, ◌++◌, map, Ok}
 use Rattle.r6_layout.specs.Shape.{Shape, IsShape, shape_of}
 use Rattle.r6_health.specs.Registers.{starting, without}
-use Rattle.r6_world.specs.PlainArray.{Block, Array, Read, Data}
+use Rattle.r6_layout.specs.PlainArray.{Block}
+use Rattle.r6_world.specs.PlainArray.{Array, Read, Data}
 use Rattle.r6_world.specs.Geometries.{layout_of}
 use Rattle.r6_world.specs.Registers.{Snapshot, RegisterCall, RegisterAnswer, Degraded}
 use Rattle.r6_world.specs.ShardStates as shards

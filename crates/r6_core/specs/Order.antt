@@ -1,6 +1,7 @@
 -- In which order requests start, are finished, and are answered.
 use Rattle.std.specs.Prelude.{◌≡◌, ◌≢◌, ℕ, ◌<◌, ◌≤◌, ◌⊎◌, true, false, List, [], ◌∷◌, ◌++◌, Option, Some, None, Result, Ok, Err, IfOk}
 use Rattle.std.specs.List.{AllByRecursion}
+use Rattle.r6_layout.specs.PlainArray.{Block}
 use Rattle.r6_world.specs.PlainArray as world
 use Rattle.r6_world.specs.Layouts.{Layout}
 use Rattle.r6_world.specs.Registers.{Snapshot, status_of}
@@ -31,7 +32,7 @@ abbrev pub BringsBack : Option shards.Request → Reply → Type 0
 BringsBack (Some request) (reply.Done buffer) = (block : ℕ) × (request.op ≡ world.Op.Write block buffer)
 BringsBack (Some request) (reply.Data buffer) = (block : ℕ) × (request.op ≡ world.Op.Read block)
 BringsBack (Some request) (reply.ArrayFailed buffer) =
-    (block : ℕ) (new_data : world.Block) → request.op ≡ world.Op.Write block new_data → buffer ≡ new_data
+    (block : ℕ) (new_data : Block) → request.op ≡ world.Op.Write block new_data → buffer ≡ new_data
 BringsBack None back = ⊥
 
 -- no request is finished, and no reply released

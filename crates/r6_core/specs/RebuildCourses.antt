@@ -1,7 +1,8 @@
 -- A run of cores that rebuild: a slot fails, a new device comes, and each core rebuilds its row of it.
 use Rattle.std.specs.Prelude.{◌≡◌, ℕ, List, [], ◌∷◌, ◌++◌, Ok}
 use Rattle.r6_health.specs.Registers.{starting, after}
-use Rattle.r6_world.specs.PlainArray.{Block, Array, Read, Data}
+use Rattle.r6_layout.specs.PlainArray.{Block}
+use Rattle.r6_world.specs.PlainArray.{Array, Read, Data}
 use Rattle.r6_world.specs.Geometries.{layout_of}
 use Rattle.r6_world.specs.Registers.{Snapshot, RegisterAnswer, Fail, Attach, ReportRebuilt, More, Complete}
 use Rattle.r6_world.specs.Tasks.{Rebuild}

@@ -2,7 +2,8 @@
 use Rattle.std.proofs.Common.{◌≡◌, ◌≢◌, ℕ, ◌<◌, ◌≤◌, List, [], ◌∷◌, ◌++◌, Bool, true, false, if◌then◌else◌, inl, inr, refl, sym, ap, subst, ◌∙◌, arith, Option, Some, None}
 use Rattle.std.proofs.lemmas.Bool.{cases_eq, cases_Bool, false≢true}
 use Rattle.r6_world.specs.Tables.{put, put_in}
-use Rattle.r6_world.specs.PlainArray.{Block, Plain}
+use Rattle.r6_layout.specs.PlainArray.{Block}
+use Rattle.r6_world.specs.PlainArray.{Plain}
 use Rattle.r6_world.specs.Layouts.{Layout, IsRowOf}
 use Rattle.r6_world.specs.Registers.{Snapshot, Status, InSync, Lost, Rebuilding, status_of, RegisterCall, Told as Answer, answer_to, register_after}
 use Rattle.r6_world.specs.ShardStates.{Shard, Command, Transfer, Fetch, Store, Storing}

@@ -1,7 +1,8 @@
 -- Runs of a shard go on, one happening at a time.
 use Rattle.std.proofs.Common.{◌≡◌, ℕ, List, [], ◌∷◌, ◌++◌, append_assoc, inl, inr, refl, sym, ap, subst, ◌∙◌, Option, Some, None}
 use Rattle.std.proofs.lemmas.Bool.{cases_eq}
-use Rattle.r6_world.specs.PlainArray.{Block, Plain}
+use Rattle.r6_layout.specs.PlainArray.{Block}
+use Rattle.r6_world.specs.PlainArray.{Plain}
 use Rattle.r6_world.specs.Layouts.{Layout}
 use Rattle.r6_world.specs.ShardStates.{Command}
 use Rattle.r6_world.specs.Steps.{Event, Take_command}

@@ -3,7 +3,8 @@ use Rattle.std.proofs.Common.{◌≡◌, ℕ, zero, suc, ◌+◌, ◌<◌, ◌�
 use Rattle.std.proofs.lemmas.Bool.{false≢true, true≢false}
 use Rattle.r6_dev.specs.History.{Telling}
 use Rattle.r6_world.specs.Tables.{count_below}
-use Rattle.r6_world.specs.PlainArray.{Block, Array, Read, Data}
+use Rattle.r6_layout.specs.PlainArray.{Block}
+use Rattle.r6_world.specs.PlainArray.{Array, Read, Data}
 use Rattle.r6_world.specs.Registers.{Snapshot, Status, InSync, Lost, Rebuilding, is_out, status_of}
 use Rattle.r6_world.specs.ShardStates.{Shard, InSyncFor, is_away}
 use Rattle.r6_world.specs.Changes.{Hand_reply, after}

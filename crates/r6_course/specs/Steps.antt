@@ -6,7 +6,7 @@ use Rattle.r6_health.specs.declared.history.View.{View}
 use Rattle.r6_health.specs.Histories.{held}
 use Rattle.r6_health.specs.Views.{Looks, Answered}
 use Rattle.r6_world.specs.Tables.{put_in}
-use Rattle.r6_world.specs.PlainArray.{Block}
+use Rattle.r6_layout.specs.PlainArray.{Block}
 use Rattle.r6_world.specs.Registers.{Snapshot, Told as Answer}
 use Rattle.r6_world.specs.ShardStates.{Shard, Command, Transfer, Fetch, Store, Storing, Call}
 use Rattle.r6_world.specs.Steps.{Event, Submit, Deliver, Good, Error, Receipt, Look, Take_command, No_command, Take_call}

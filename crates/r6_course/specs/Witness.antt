@@ -2,7 +2,8 @@
 use Rattle.std.specs.Prelude.{◌≡◌, ℕ, ◌<◌, [], ◌∷◌, ◌++◌, Option, Some}
 use Rattle.r6_dev.specs.History.{Telling, Blocks}
 use Rattle.r6_kernels.specs.Blocks.{IsBlock}
-use Rattle.r6_world.specs.PlainArray.{Block, Array, Data}
+use Rattle.r6_layout.specs.PlainArray.{Block}
+use Rattle.r6_world.specs.PlainArray.{Array, Data}
 use Rattle.r6_world.specs.Layouts.{IsRowOf, IsArray}
 use Rattle.r6_world.specs.ShardStates.{InSyncFor, IsLive}
 use Rattle.r6_world.specs.Worlds.{Devices}

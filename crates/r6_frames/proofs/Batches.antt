@@ -10,7 +10,7 @@ use Rattle.r6_stripe.specs.BatchLists.{AreDistinct}
 use Rattle.r6_stripe.specs.Holds.{IsBatch, IsIndexOf, Kind}
 use Rattle.r6_stripe.specs.Plans.{names}
 use Rattle.r6_world.specs.Geometries.{layout_of}
-use Rattle.r6_world.specs.PlainArray.{Block}
+use Rattle.r6_layout.specs.PlainArray.{Block}
 use Rattle.r6_world.specs.ShardStates as shards
 use Rattle.r6_world.specs.Tasks.{batch_of}
 use Rattle.r6_world.proofs.Geometries.{layouts}

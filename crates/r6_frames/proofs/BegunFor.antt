@@ -9,7 +9,7 @@ use Rattle.r6_stripe.specs.Holds.Standing.{InSync}
 use Rattle.r6_stripe.specs.Views.{kind_of_task}
 use Rattle.r6_stripe.specs.declared.command.Task.{Task as RowTask}
 use Rattle.r6_stripe.specs.declared.command.Task.TheVariants as asks
-use Rattle.r6_world.specs.PlainArray.{Block}
+use Rattle.r6_layout.specs.PlainArray.{Block}
 use Rattle.r6_world.specs.Layouts.{IsRowOf}
 use Rattle.r6_world.specs.Geometries.{layout_of}
 use Rattle.r6_world.specs.ShardStates.{standing_of}

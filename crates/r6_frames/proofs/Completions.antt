@@ -13,7 +13,7 @@ use Rattle.r6_stripe.specs.Holds.Event.{Gives, Confirms}
 use Rattle.r6_stripe.specs.Holds.Standing.{Out}
 use Rattle.r6_stripe.specs.Plans as plans
 use Rattle.r6_stripe.specs.Steps.{Held as HeldHold, is_away, answered}
-use Rattle.r6_world.specs.PlainArray.{Block}
+use Rattle.r6_layout.specs.PlainArray.{Block}
 use Rattle.r6_world.specs.Tables.{put}
 use Rattle.r6_world.specs.ShardStates.{Fetch, Shard, frames}
 use Rattle.r6_world.specs.Changes.{Change, Learn, Confirm, Classify, Allowed, IsChecked, after}

@@ -7,7 +7,7 @@ use Rattle.r6_stripe.specs.Plans.{is_in_sync}
 use Rattle.r6_world.specs.Layouts.{IsRowOf}
 use Rattle.r6_world.specs.Geometries.{layout_of}
 use Rattle.r6_world.specs.PlainArray as world
-use Rattle.r6_world.specs.PlainArray.{Block}
+use Rattle.r6_layout.specs.PlainArray.{Block}
 use Rattle.r6_world.specs.ShardStates as shards
 use Rattle.r6_world.specs.ShardStates.{Shard, Stage, Waiting, Reading, Finished, frames, direct_buffers, limit, standing_of}
 use Rattle.r6_world.proofs.Geometries.{layouts}

@@ -15,7 +15,7 @@ use Rattle.r6_stripe.specs.Plans.{Planned, is_out, is_sent, planned_after}
 use Rattle.r6_stripe.specs.Steps.{Held as StripeHold, is_away, answered, with_answer}
 use Rattle.r6_stripe.proofs.Course.{kind_after, size_after, width_after}
 use Rattle.r6_stripe.proofs.Steps.{out_is}
-use Rattle.r6_world.specs.PlainArray.{Block}
+use Rattle.r6_layout.specs.PlainArray.{Block}
 use Rattle.r6_world.specs.ShardStates.{frames}
 use Rattle.r6_frames.specs.declared.command.Outstanding.{Outstanding}
 use Rattle.r6_frames.specs.declared.frames.HeldRow.{HeldRow}

@@ -14,7 +14,7 @@ use Rattle.r6_stripe.specs.declared.command.Outcome.{Outcome as End}
 use Rattle.r6_stripe.specs.declared.command.Outcome.TheVariants as end
 use Rattle.r6_world.specs.Tables.{put}
 use Rattle.r6_world.specs.PlainArray as world
-use Rattle.r6_world.specs.PlainArray.{Block}
+use Rattle.r6_layout.specs.PlainArray.{Block}
 use Rattle.r6_world.specs.Layouts.{Layout, IsRowOf}
 use Rattle.r6_world.specs.Geometries.{layout_of}
 use Rattle.r6_world.specs.Tasks.{Hold, Task, ReadFor, Outcome, Answered, Wrote, Classed, Skipped, Rebuilt, GivenUp, end_of}

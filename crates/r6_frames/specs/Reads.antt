@@ -5,7 +5,7 @@ use Rattle.r6_layout.specs.Shape.{blocks}
 use Rattle.r6_layout.specs.Layout as layout
 use Rattle.r6_world.specs.Tables.{put}
 use Rattle.r6_world.specs.PlainArray as world
-use Rattle.r6_world.specs.PlainArray.{Block}
+use Rattle.r6_layout.specs.PlainArray.{Block}
 use Rattle.r6_world.specs.Geometries.{layout_of}
 use Rattle.r6_world.specs.ShardStates as shards
 use Rattle.r6_world.specs.ShardStates.{Stage, Waiting, Reading, Finished, frames, direct_buffers}

@@ -10,7 +10,7 @@ use Rattle.r6_stripe.specs.declared.command.Task.TheVariants as asks
 use Rattle.r6_stripe.specs.declared.command.RowCommand.{RowCommand}
 use Rattle.r6_stripe.specs.declared.command.RowCommand.TheVariants as stripe
 use Rattle.r6_world.specs.PlainArray as world
-use Rattle.r6_world.specs.PlainArray.{Block}
+use Rattle.r6_layout.specs.PlainArray.{Block}
 use Rattle.r6_world.specs.Tasks.{Task, ReadFor, Rebuild, Check, Repair, Hold}
 use Rattle.r6_world.specs.ShardStates as shards
 use Rattle.r6_world.specs.ShardStates.{Shard, Held, Transfer, Fetch, Store, Storing, Call}

@@ -3,7 +3,7 @@ use Rattle.std.proofs.Common.{◌≡◌, ◌≢◌, ℕ, inl, inr, refl, sym, ap
 use Rattle.std.proofs.lemmas.Bool.{cases_eq}
 use Rattle.r6_dev.specs.History.{Telling}
 use Rattle.r6_world.specs.Tables.{put_in}
-use Rattle.r6_world.specs.PlainArray.{Block}
+use Rattle.r6_layout.specs.PlainArray.{Block}
 use Rattle.r6_world.specs.Geometries.{layout_of}
 use Rattle.r6_world.specs.Worlds.{Devices}
 use Rattle.r6_world.proofs.Tables.{None-not_Some, Some-inj}

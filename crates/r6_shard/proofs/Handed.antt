@@ -7,6 +7,7 @@ use Rattle.std.proofs.lemmas.Bool.{cases_Bool, ltb-false, eq-eqb}
 use Rattle.r6_dev.specs.History.{Telling}
 use Rattle.r6_health.specs.declared.history.View.{View}
 use Rattle.r6_world.specs.Tables.{put_in}
+use Rattle.r6_layout.specs.PlainArray.{Block}
 use Rattle.r6_world.specs.PlainArray as world
 use Rattle.r6_world.specs.Layouts.{Layout}
 use Rattle.r6_world.specs.Registers.{Snapshot}
@@ -179,7 +180,7 @@ still-start l r device device' array slot generation looked above alike x =
       not_failed = x.not_failed;
       sized = x.sized;
       full_rows = λ row d in-row below sync.
-          ap (λ (y : ℕ → world.Block). y row) (alike d 0 (λ there. let same = there.1 in absurd (omega arith)))
+          ap (λ (y : ℕ → Block). y row) (alike d 0 (λ there. let same = there.1 in absurd (omega arith)))
           ∙ x.full_rows row d in-row below sync;
     }
 

@@ -2,7 +2,7 @@
 -- step at a time (md(4): a device fails by an error; this project's own: what a late or lost completion is).
 use Rattle.std.specs.Prelude.{◌≡◌, ◌≢◌, ℕ, ◌<◌, ◌⊎◌, List, [], ◌∷◌, Bool, true, false, if◌then◌else◌, ◌==◌, Option, Some, None, Ok, Err}
 use Rattle.r6_world.specs.Tables.{put, put_in}
-use Rattle.r6_world.specs.PlainArray.{Block}
+use Rattle.r6_layout.specs.PlainArray.{Block}
 use Rattle.r6_world.specs.Layouts.{Layout}
 use Rattle.r6_world.specs.Registers.{Snapshot, Status, InSync, Lost, Rebuilding, RegisterCall, Fail, DeclareLost, Attach, ReportRebuilt, Degraded, Failed, Complete, Contended, Told as Answer, status_of, answer_to, register_after}
 use Rattle.r6_world.specs.ShardStates.{Shard, SlotState, Synced, Missing, Building, Command, Transfer, Fetch, Store, Storing, Call, LossOf, RebuildOf}

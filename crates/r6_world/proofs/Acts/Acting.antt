@@ -5,7 +5,8 @@ use Rattle.r6_stripe.specs.Holds.{after_event, Owes}
 use Rattle.r6_stripe.specs.Holds.Event.{Asks, Writes}
 use Rattle.r6_stripe.proofs.Seen as Laws
 use Rattle.r6_world.specs.Tables.{put}
-use Rattle.r6_world.specs.PlainArray.{Block, Array, Op, Read, Write, Data, Done, Plain, served}
+use Rattle.r6_layout.specs.PlainArray.{Block}
+use Rattle.r6_world.specs.PlainArray.{Array, Op, Read, Write, Data, Done, Plain, served}
 use Rattle.r6_world.specs.Layouts.{Layout, IsLayout, IsRowOf, full_row, slot_of}
 use Rattle.r6_world.specs.Tasks.{Write as RowWrite, Task, ReadFor, WriteFor, Rebuild, Check, Repair, Hold, is_written, serves, serves_one, kind_of, end_of, Outcome, Answered, Wrote, Rebuilt, GivenUp, Classed, Skipped}
 use Rattle.r6_world.specs.ShardStates.{Shard, IsLive, SlotState, Synced, Building, standing_of, Request, Stage, Waiting, Held, Finished, Released, Missing, Reading, InSyncFor}

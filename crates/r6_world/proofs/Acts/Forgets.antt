@@ -4,7 +4,8 @@ use Rattle.std.proofs.lemmas.Bool.{cases_eq, cases_Bool, false≢true, ne_eqb}
 use Rattle.r6_world.specs.Changes.{Change, Start, Ask, Prepare, Classify, Send, Read_direct, Finish, Bring_in, Release, Allowed, after, finished, finished_stage, released, released_stage, outcome_reply}
 use Rattle.r6_world.specs.ActingPoints.{kept_answer, kept_of, is_served}
 use Rattle.r6_world.specs.Layouts.{Layout}
-use Rattle.r6_world.specs.PlainArray.{Block, Op, Reply, Data}
+use Rattle.r6_layout.specs.PlainArray.{Block}
+use Rattle.r6_world.specs.PlainArray.{Op, Reply, Data}
 use Rattle.r6_world.specs.ShardStates.{Shard, Request, Stage, Waiting, Held, Reading, Finished, Released}
 use Rattle.r6_world.specs.Steps.{Scans, GoesOn, Leads, Through}
 use Rattle.r6_world.specs.Tasks.{serves}

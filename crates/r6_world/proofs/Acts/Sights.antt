@@ -7,7 +7,8 @@ use Rattle.r6_stripe.specs.Holds.{Cell, Standing, cell_at}
 use Rattle.r6_stripe.proofs.Seen as Laws
 use Rattle.r6_world.specs.Changes.{finished, finished_stage}
 use Rattle.r6_world.specs.Layouts.{Layout, IsLayout, IsRowOf, slot_of, full_row}
-use Rattle.r6_world.specs.PlainArray.{Block, Array, Op, Reply}
+use Rattle.r6_layout.specs.PlainArray.{Block}
+use Rattle.r6_world.specs.PlainArray.{Array, Op, Reply}
 use Rattle.r6_world.specs.ShardStates.{SlotState, Request, Stage, Waiting, Held, Reading, Finished, Released, Command, InSyncFor, found}
 use Rattle.r6_world.specs.Tables.{put}
 use Rattle.r6_world.specs.Tasks.{Write as RowWrite, WriteFor, Hold, Outcome, is_written, serves_one}

@@ -5,7 +5,8 @@ use Rattle.std.proofs.lemmas.Bool.{cases_Bool, or_left, eq-eqb, cases_eq}
 use Rattle.r6_world.specs.Changes.{Accept, Start, Ask, Prepare, Classify, Send, Learn, Confirm, Lose, Adopt, See_failed, Finish, Release, Hand_reply, MayStart, staged, finished, finished_stage, outcome_reply, released, released_stage, failed_request, told_hold, Read_direct, Give_direct, read_on, abandoned_to}
 use Rattle.r6_world.specs.Claims.{IsWrite, IsOpen}
 use Rattle.r6_world.specs.Layouts.{Layout}
-use Rattle.r6_world.specs.PlainArray.{Op, Read, Write, Reply, ArrayFailed, Block, Data}
+use Rattle.r6_layout.specs.PlainArray.{Block}
+use Rattle.r6_world.specs.PlainArray.{Op, Read, Write, Reply, ArrayFailed, Data}
 use Rattle.r6_world.specs.Registers.{Snapshot}
 use Rattle.r6_world.specs.ShardStates.{Shard, Request, Stage, Waiting, Held, Finished, Released, begun, Reading, Command}
 use Rattle.r6_world.specs.Steps.{Event, Submit, Look, Take_reply}

@@ -2,7 +2,8 @@
 use Rattle.std.proofs.Common.{◌≡◌, ℕ, ◌⊎◌, inl, inr, refl, sym, ap, ◌∙◌, subst, Option, Some, None}
 use Rattle.std.proofs.lemmas.Bool.{cases_eq, false≢true}
 use Rattle.r6_world.specs.Tables.{put}
-use Rattle.r6_world.specs.PlainArray.{Block, Op, Plain, Read, Data}
+use Rattle.r6_layout.specs.PlainArray.{Block}
+use Rattle.r6_world.specs.PlainArray.{Op, Plain, Read, Data}
 use Rattle.r6_world.specs.Layouts.{Layout, IsLayout}
 use Rattle.r6_world.specs.ShardStates.{Shard, Missing, IsLive, Transfer, Fetch, Store, Storing, handed, Command, Request, Held, Finished, Reading}
 use Rattle.r6_world.specs.Changes.{Change, Learn, Confirm, Come_home, Lose, Allowed, after, Give_direct}

@@ -4,7 +4,8 @@ use Rattle.std.proofs.lemmas.Bool.{cases_eq, false≢true, cases_lt, cases_Bool,
 use Rattle.r6_stripe.specs.Holds.{Cell, cell_at}
 use Rattle.r6_stripe.proofs.Seen as RowLaws
 use Rattle.r6_world.specs.Tables.{put, put_in}
-use Rattle.r6_world.specs.PlainArray.{Block, Array, Op, Reply, Plain, Read, Write, Data, Done}
+use Rattle.r6_layout.specs.PlainArray.{Block}
+use Rattle.r6_world.specs.PlainArray.{Array, Op, Reply, Plain, Read, Write, Data, Done}
 use Rattle.r6_world.specs.Layouts.{Layout, IsLayout, IsRowOf, full_row, slot_of}
 use Rattle.r6_world.specs.Tasks.{Task, WriteFor, Hold, Write as RowWrite}
 use Rattle.r6_world.specs.ShardStates.{SlotState, InSyncFor, IsLive, Transfer, Fetch, Store, Storing, Command, Request, frames, Held, Reading}

@@ -2,7 +2,8 @@
 use Rattle.std.proofs.Common.{◌≡◌, ℕ, ◌⊎◌, [], Bool, true, inl, inr, refl, sym, ap, ◌∙◌, subst, arith, Option, Some, None, ◌≤◌}
 use Rattle.std.proofs.lemmas.Bool.{cases_eq, cases_Bool}
 use Rattle.r6_world.specs.Tables.{put}
-use Rattle.r6_world.specs.PlainArray.{Block, Op, Reply, Plain, Data}
+use Rattle.r6_layout.specs.PlainArray.{Block}
+use Rattle.r6_world.specs.PlainArray.{Op, Reply, Plain, Data}
 use Rattle.r6_world.specs.Layouts.{Layout, IsLayout}
 use Rattle.r6_world.specs.Registers.{Snapshot, RegisterCall}
 use Rattle.r6_world.specs.Tasks.{Task, serves}

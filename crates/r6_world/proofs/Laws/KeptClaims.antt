@@ -5,7 +5,8 @@ use Rattle.r6_stripe.specs.Seen.{Seen}
 use Rattle.r6_stripe.specs.Holds.{Cell, cell_at}
 use Rattle.r6_stripe.proofs.Seen as RowLaws
 use Rattle.r6_world.specs.Tables.{put}
-use Rattle.r6_world.specs.PlainArray.{Block, Array, Op, Reply, ArrayFailed, Plain}
+use Rattle.r6_layout.specs.PlainArray.{Block}
+use Rattle.r6_world.specs.PlainArray.{Array, Op, Reply, ArrayFailed, Plain}
 use Rattle.r6_world.specs.Layouts.{Layout, IsLayout, IsRowOf, content, full_row}
 use Rattle.r6_world.specs.Registers.{Snapshot, RegisterCall, Told as Answer}
 use Rattle.r6_world.specs.Tasks.{WriteFor, Hold, Write as RowWrite}

@@ -1,7 +1,8 @@
 -- Who acts when a device performs a command.
 use Rattle.std.proofs.Common.{◌≡◌, ℕ, ◌<◌, ◌⊎◌, List, [], ◌∷◌, Bool, true, false, not, ◌&&◌, inl, inr, refl, sym, ap, ◌∙◌, subst, arith, Option, Some, None}
 use Rattle.std.proofs.lemmas.Bool.{false≢true, and_parts, eqb-true}
-use Rattle.r6_world.specs.PlainArray.{Block, Op, Reply, Plain, Read, Write}
+use Rattle.r6_layout.specs.PlainArray.{Block}
+use Rattle.r6_world.specs.PlainArray.{Op, Reply, Plain, Read, Write}
 use Rattle.r6_world.specs.Layouts.{Layout, IsLayout, IsRowOf, slot_of}
 use Rattle.r6_world.specs.Tasks.{Task, WriteFor, Hold, Write as RowWrite, serves}
 use Rattle.r6_world.specs.ShardStates.{Shard, Transfer, Command, Request, Released, Stage, Waiting, Held, Finished, Reading}

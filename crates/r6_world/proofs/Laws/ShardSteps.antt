@@ -2,7 +2,8 @@
 use Rattle.std.proofs.Common.{◌≡◌, ℕ, ◌⊎◌, [], false, inl, inr, refl, sym, ap, ◌∙◌, subst, Option, Some, None}
 use Rattle.std.proofs.lemmas.Bool.{false≢true}
 use Rattle.r6_world.specs.Tables.{put}
-use Rattle.r6_world.specs.PlainArray.{Block, Op, Reply, Plain, Data}
+use Rattle.r6_layout.specs.PlainArray.{Block}
+use Rattle.r6_world.specs.PlainArray.{Op, Reply, Plain, Data}
 use Rattle.r6_world.specs.Layouts.{Layout, IsLayout}
 use Rattle.r6_world.specs.ShardStates.{Shard, IsLive, Command, Request, Released, Stage, Waiting, Held, Finished, Reading}
 use Rattle.r6_world.specs.Changes.{Release, after, released, released_stage}

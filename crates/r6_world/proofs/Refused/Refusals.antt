@@ -2,7 +2,8 @@
 use Rattle.std.proofs.Common.{◌≡◌, ℕ, ◌⊎◌, List, [], ◌∷◌, Bool, true, false, inl, inr, refl, sym, ap, ◌∙◌, subst, Some, None, Ok, Err, Option}
 use Rattle.std.specs.Prelude.{◌++◌, if◌then◌else◌, ◌==◌}
 use Rattle.std.proofs.lemmas.Bool.{cases_Bool, false≢true}
-use Rattle.r6_world.specs.PlainArray.{Op, Read, Write, ArrayFailed, Block, Data}
+use Rattle.r6_layout.specs.PlainArray.{Block}
+use Rattle.r6_world.specs.PlainArray.{Op, Read, Write, ArrayFailed, Data}
 use Rattle.r6_world.specs.Layouts.{Layout}
 use Rattle.r6_world.specs.Registers.{Snapshot, Told as Answer, Contended}
 use Rattle.r6_world.specs.Tasks.{serves, Outcome, Answered, Wrote, Rebuilt, GivenUp, Classed, Skipped}

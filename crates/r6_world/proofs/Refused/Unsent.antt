@@ -8,7 +8,8 @@ use Rattle.r6_stripe.specs.Holds.Standing.{InSync}
 use Rattle.r6_stripe.specs.Holds.Writing.{Ready, Sent, Confirmed}
 use Rattle.r6_stripe.proofs.Course.{Became, cell_after, width_after, kind_after, standing_after}
 use Rattle.r6_world.specs.Tables.{put}
-use Rattle.r6_world.specs.PlainArray.{Block, Op, Read}
+use Rattle.r6_layout.specs.PlainArray.{Block}
+use Rattle.r6_world.specs.PlainArray.{Op, Read}
 use Rattle.r6_world.specs.Layouts.{Layout}
 use Rattle.r6_world.specs.Registers.{Snapshot}
 use Rattle.r6_world.specs.Tasks.{Task, ReadFor, WriteFor, Rebuild, Check, Repair, Hold, Outcome, Answered, Wrote, Rebuilt, GivenUp, Classed, Skipped, serves, end_of}

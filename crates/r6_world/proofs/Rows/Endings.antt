@@ -8,7 +8,8 @@ use Rattle.r6_stripe.specs.Holds.{Hold as Course, Cell, Kind, Standing, Outcome 
 use Rattle.r6_stripe.specs.Holds.Standing.{InSync, Target, Out}
 use Rattle.r6_stripe.proofs.Seen as Laws
 use Rattle.r6_world.specs.Tables.{put}
-use Rattle.r6_world.specs.PlainArray.{Block, Array}
+use Rattle.r6_layout.specs.PlainArray.{Block}
+use Rattle.r6_world.specs.PlainArray.{Array}
 use Rattle.r6_world.specs.Layouts.{Layout, IsLayout, full_row}
 use Rattle.r6_world.specs.Tasks.{Write as RowWrite, Task, ReadFor, WriteFor, Rebuild, Check, Repair, Hold, Outcome, Answered, Wrote, Rebuilt, GivenUp, Classed, Skipped, kind_of, batch_of, end_of}
 use Rattle.r6_world.specs.ShardStates.{Shard, SlotState, Synced, Missing, Building, Command, standing_of, found}

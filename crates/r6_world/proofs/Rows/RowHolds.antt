@@ -11,7 +11,8 @@ use Rattle.r6_stripe.specs.RowWorld.Command.{NoCommand}
 use Rattle.r6_stripe.specs.Seen.{Seen}
 use Rattle.r6_stripe.proofs.Seen as Laws
 use Rattle.r6_world.specs.Tables.{put}
-use Rattle.r6_world.specs.PlainArray.{Block, Array}
+use Rattle.r6_layout.specs.PlainArray.{Block}
+use Rattle.r6_world.specs.PlainArray.{Array}
 use Rattle.r6_world.specs.Layouts.{Layout, IsLayout, IsRowOf, full_row}
 use Rattle.r6_world.specs.Tasks.{Task, ReadFor, WriteFor, Rebuild, Check, Repair, Hold, kind_of}
 use Rattle.r6_world.specs.ShardStates.{frames, SlotState, Building, Command, Transfer, Fetch, Store, Storing, standing_of, found, begun}

@@ -8,7 +8,8 @@ use Rattle.r6_stripe.specs.Holds.Standing.{InSync, Target, Out}
 use Rattle.r6_stripe.specs.Seen.{Seen}
 use Rattle.r6_stripe.proofs.Seen as Laws
 use Rattle.r6_world.specs.Tables.{put}
-use Rattle.r6_world.specs.PlainArray.{Block, Array}
+use Rattle.r6_layout.specs.PlainArray.{Block}
+use Rattle.r6_world.specs.PlainArray.{Array}
 use Rattle.r6_world.specs.Layouts.{Layout, IsLayout, full_row}
 use Rattle.r6_world.specs.Tasks.{Hold}
 use Rattle.r6_world.specs.ShardStates.{SlotState, Command, standing_of, found, frames}

@@ -4,7 +4,8 @@ use Rattle.r6_stripe.specs.Holds.{Cell, Event, cell_at, after_event}
 use Rattle.r6_stripe.specs.Holds.Event.{Asks, Restores, Computes, Writes, Gives, Confirms}
 use Rattle.r6_stripe.specs.RowWorld as RowWorld
 use Rattle.r6_world.specs.Tables.{put}
-use Rattle.r6_world.specs.PlainArray.{Block, Array, Reply, Op, Read, Data, Done}
+use Rattle.r6_layout.specs.PlainArray.{Block}
+use Rattle.r6_world.specs.PlainArray.{Array, Reply, Op, Read, Data, Done}
 use Rattle.r6_world.specs.Layouts.{Layout, IsLayout, slot_of}
 use Rattle.r6_world.specs.Tasks.{Task, Hold, WriteFor, serves}
 use Rattle.r6_world.specs.ShardStates.{Shard, IsLive, Command, Transfer, Fetch, Store, Storing, Waiting, Held, Reading, Finished, begun}

@@ -4,7 +4,8 @@ use Rattle.std.proofs.lemmas.Bool.{cases_eq, eq-eqb, ne_eqb}
 use Rattle.r6_kernels.specs.Blocks.{IsBlock}
 use Rattle.r6_stripe.specs.Holds.Event.{Confirms}
 use Rattle.r6_world.specs.Tables.{put, put_in}
-use Rattle.r6_world.specs.PlainArray.{Block, Array, Op, Read, Write, Data}
+use Rattle.r6_layout.specs.PlainArray.{Block}
+use Rattle.r6_world.specs.PlainArray.{Array, Op, Read, Write, Data}
 use Rattle.r6_world.specs.Registers.{InSync}
 use Rattle.r6_world.specs.Tasks.{Hold}
 use Rattle.r6_world.specs.ShardStates.{Stage, Waiting, Held, Reading, Finished, Released, Request, Command, Shard, Synced}

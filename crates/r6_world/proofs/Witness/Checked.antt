@@ -10,7 +10,8 @@ use Rattle.r6_stripe.specs.Holds.Reading.{Unread, Known}
 use Rattle.r6_stripe.specs.Holds.Writing.{Unwritten}
 use Rattle.r6_stripe.specs.Holds.Event.{Asks, Gives}
 use Rattle.r6_world.specs.Tables.{put}
-use Rattle.r6_world.specs.PlainArray.{Block, Array}
+use Rattle.r6_layout.specs.PlainArray.{Block}
+use Rattle.r6_world.specs.PlainArray.{Array}
 use Rattle.r6_world.specs.Tasks.{Hold}
 use Rattle.r6_world.specs.ShardStates.{Command, Shard, Synced, begun}
 use Rattle.r6_world.specs.Changes.{Start, Ask, Learn, Finish, after}

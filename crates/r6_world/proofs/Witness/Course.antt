@@ -2,7 +2,8 @@
 use Rattle.std.proofs.Common.{◌≡◌, ℕ, ◌<◌, ◌≤◌, List, ◌++◌, length, true, refl, sym, ap, subst, ◌∙◌, arith, Some}
 use Rattle.r6_kernels.specs.Blocks.{IsBlock}
 use Rattle.r6_layout.specs.Shape.{IsShape}
-use Rattle.r6_world.specs.PlainArray.{Block, Array, Op, Read, Write, Reply, Data, Done}
+use Rattle.r6_layout.specs.PlainArray.{Block}
+use Rattle.r6_world.specs.PlainArray.{Array, Op, Read, Write, Reply, Data, Done}
 use Rattle.r6_world.specs.Layouts.{IsArray, content}
 use Rattle.r6_world.specs.Registers.{InSync, status_of}
 use Rattle.r6_world.specs.ShardStates.{Released}

@@ -7,7 +7,8 @@ use Rattle.r6_stripe.specs.Holds.Kind.{Read as Reads, Repair}
 use Rattle.r6_stripe.specs.Holds.Writing.{Unwritten}
 use Rattle.r6_stripe.specs.Holds.Event.{Asks, Gives, Restores}
 use Rattle.r6_world.specs.Tables.{put}
-use Rattle.r6_world.specs.PlainArray.{Block, Array, Read, Data}
+use Rattle.r6_layout.specs.PlainArray.{Block}
+use Rattle.r6_world.specs.PlainArray.{Array, Read, Data}
 use Rattle.r6_world.specs.Registers.{Lost, Degraded}
 use Rattle.r6_world.specs.Tasks.{ReadFor, Hold, Answered}
 use Rattle.r6_world.specs.ShardStates.{Held, Finished, Released, Command, Shard, Synced, Missing, LossOf, begun, Reading}

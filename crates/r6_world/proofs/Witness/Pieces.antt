@@ -2,7 +2,7 @@
 use Rattle.std.proofs.Common.{◌≡◌, ◌⊎◌, ℕ, ◌<◌, ◌≤◌, List, [], ◌∷◌, ◌++◌, Bool, true, false, if◌then◌else◌, ◌==◌, inl, inr, refl, sym, ap, subst, ◌∙◌, arith, Option, Some, None}
 use Rattle.std.proofs.lemmas.Bool.{cases_eq, or_parts, eqb-false, eq-eqb, ne_eqb}
 use Rattle.r6_world.specs.Tables.{put, put_in}
-use Rattle.r6_world.specs.PlainArray.{Block}
+use Rattle.r6_layout.specs.PlainArray.{Block}
 use Rattle.r6_world.specs.Layouts.{Layout}
 use Rattle.r6_world.specs.Registers.{Snapshot, RegisterCall, Told as Answer, answer_to, register_after}
 use Rattle.r6_world.specs.ShardStates.{Shard, away, Command, Transfer, Fetch, Store, Storing, Call}

@@ -10,7 +10,8 @@ use Rattle.r6_stripe.specs.Holds.Reading.{Asked}
 use Rattle.r6_stripe.specs.Holds.Writing.{Unwritten}
 use Rattle.r6_stripe.specs.Holds.Event.{Asks, Gives, Computes, Writes, Confirms}
 use Rattle.r6_world.specs.Tables.{put, put_in}
-use Rattle.r6_world.specs.PlainArray.{Block, Array, Read, Data}
+use Rattle.r6_layout.specs.PlainArray.{Block}
+use Rattle.r6_world.specs.PlainArray.{Array, Read, Data}
 use Rattle.r6_world.specs.Registers.{InSync, Rebuilding, no_shards, Attach, Generation, Complete}
 use Rattle.r6_world.specs.Tasks.{Rebuild, Hold, Rebuilt}
 use Rattle.r6_world.specs.ShardStates.{Reading, Finished, Released, Command, Shard, SlotState, Synced, Missing, Building, RebuildOf, begun}

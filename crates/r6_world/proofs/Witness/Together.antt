@@ -13,7 +13,8 @@ use Rattle.r6_stripe.specs.Holds.Reading.{Unread, Asked}
 use Rattle.r6_stripe.specs.Holds.Writing.{Sent, Confirmed}
 use Rattle.r6_stripe.specs.Holds.Event.{Computes, Writes, Confirms}
 use Rattle.r6_world.specs.Tables.{put, put_in}
-use Rattle.r6_world.specs.PlainArray.{Block, Array, Op, Write, Done}
+use Rattle.r6_layout.specs.PlainArray.{Block}
+use Rattle.r6_world.specs.PlainArray.{Array, Op, Write, Done}
 use Rattle.r6_world.specs.Registers.{InSync}
 use Rattle.r6_world.specs.Tasks.{Write as RowWrite, Task, WriteFor, Hold, Wrote, Classed}
 use Rattle.r6_world.specs.ShardStates.{Stage, Waiting, Held, Finished, Released, Request, Command, Shard, Synced, CouldStart, begun}

@@ -12,7 +12,8 @@ use Rattle.r6_stripe.specs.Holds.Reading.{Asked}
 use Rattle.r6_stripe.specs.Holds.Writing.{Unwritten, Confirmed}
 use Rattle.r6_stripe.specs.Holds.Event.{Asks, Gives, Computes, Writes, Confirms}
 use Rattle.r6_world.specs.Tables.{put, put_in}
-use Rattle.r6_world.specs.PlainArray.{Block, Array, Write, Done}
+use Rattle.r6_layout.specs.PlainArray.{Block}
+use Rattle.r6_world.specs.PlainArray.{Array, Write, Done}
 use Rattle.r6_world.specs.Layouts.{content}
 use Rattle.r6_world.specs.Registers.{InSync}
 use Rattle.r6_world.specs.Tasks.{Write as RowWrite, Task, WriteFor, Hold, Wrote}

@@ -1,7 +1,7 @@
 use Rattle.std.proofs.Common.{◌≡◌, ◌∙◌, sym, subst}
 use Rattle.r6_layout.specs.Shape.{Shape, IsShape}
 use Rattle.r6_health.specs.Registers.{starting}
-use Rattle.r6_world.specs.PlainArray.{Block}
+use Rattle.r6_layout.specs.PlainArray.{Block}
 use Rattle.r6_core.specs.Courses.{two_shards}
 use Rattle.r6_core.specs.RebuildCourses.{ReadsBack}
 use Rattle.r6_core.specs.Effects.{IsMade}
