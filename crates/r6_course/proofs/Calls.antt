@@ -1,5 +1,6 @@
 -- A course begins, and goes on by calls of the core alone.
 use Rattle.std.proofs.Common.{◌≡◌, ℕ, ◌<◌, Bool, true, false, if◌then◌else◌, refl, sym, ap, subst, ◌∙◌, Some, None}
+use Rattle.std.proofs.lemmas.Bool.{true≢false}
 use Rattle.r6_dev.specs.History.{Telling}
 use Rattle.r6_layout.specs.PlainArray.{Block}
 use Rattle.r6_world.specs.Layouts.{Layout, IsRowOf}
@@ -10,10 +11,18 @@ use Rattle.r6_world.specs.Worlds.{World, Happening, Core, Moment, MayCome, happe
 use Rattle.r6_world.proofs.Tables.{put-same}
 use Rattle.r6_course.specs.Courses.{Start, first_world, marked, looked_by, Stand, Tells, Follows}
 use Rattle.r6_course.specs.Steps.{CoursesBegin, IsPlainCall, CallsGoOn}
-use Rattle.r6_course.proofs.Reached.{begins, reach, begins-looked, reach-looked}
+use Rattle.r6_course.proofs.Reached.{begins, reach, begins-looked, reach-looked, reach-named}
 
 pub courses_begin : CoursesBegin
-courses_begin s part tells = record { world = first_world s; reached = begins s; shard = refl; register = refl; looked = begins-looked s; parts = tells }
+courses_begin s part named tells none = record {
+  world = first_world s;
+  reached = begins s;
+  shard = refl;
+  register = refl;
+  looked = begins-looked s;
+  named = λ slot e. absurd (true≢false (sym e ∙ none slot));
+  parts = tells;
+}
 
 pub both : {A : Type 0} (b : Bool) (x : A) → (if b then x else x) ≡ x
 both true x = refl
@@ -79,6 +88,7 @@ calls s at x event new below come step unbroken =
       shard = put-same w.shard n new n refl;
       register = x.register;
       looked = reach-looked s w at.history x.reached m _ _ at.looked x.looked;
+      named = reach-named s w at.history x.reached m _ _ at.named x.named;
       parts = λ slot g telling there ok.
           shown-tells s w (Core n event new) (λ slot g row. refl) slot g telling
           (x.parts slot g telling there (ap (λ (y : ℕ → ℕ → Bool). y slot g) (sym (put-same w.broken n _ n refl ∙ unbroken)) ∙ ok));

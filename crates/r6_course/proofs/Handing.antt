@@ -326,6 +326,7 @@ handing_goes_on s lawful device at slot g telling x above alike tells =
       shard = x.shard;
       register = x.register;
       looked = x.looked;
+      named = x.named;
       parts = λ other g' found there ok. elim (part-cases at.part slot g telling other g' found there) [
         | inl q ↦
             subst (λ y. Tells t (z.devices y g') found) (sym q.0)
@@ -345,5 +346,6 @@ letting_goes_on s at part x fewer =
       shard = x.shard;
       register = x.register;
       looked = x.looked;
+      named = x.named;
       parts = λ slot g telling there ok. x.parts slot g telling (fewer slot g telling there) ok;
     }

@@ -1,5 +1,5 @@
 -- A command is taken, performed in place and delivered.
-use Rattle.std.proofs.Common.{◌≡◌, ◌≢◌, ℕ, [], ◌⊎◌, Bool, true, false, if◌then◌else◌, inl, inr, refl, sym, ap, subst, ◌∙◌, Option, Some, None}
+use Rattle.std.proofs.Common.{◌≡◌, ◌≢◌, ℕ, List, [], ◌∷◌, ◌++◌, ◌⊎◌, Bool, true, false, if◌then◌else◌, inl, inr, refl, sym, ap, subst, ◌∙◌, Option, Some, None}
 use Rattle.std.proofs.lemmas.Bool.{cases_eq, cases_Bool, false≢true, true≢false}
 use Rattle.r6_dev.specs.History as dev
 use Rattle.r6_dev.specs.History.{Telling, Blocks}
@@ -8,14 +8,15 @@ use Rattle.r6_layout.specs.PlainArray.{Block}
 use Rattle.r6_world.specs.Layouts.{Layout, IsRowOf}
 use Rattle.r6_world.specs.ShardStates.{Shard, Command, Transfer, Fetch, Store, Storing, handed}
 use Rattle.r6_world.specs.Changes.{Hand_command, after}
-use Rattle.r6_world.specs.Steps.{Deliver, Good, Error, Take_command, Step}
+use Rattle.r6_world.specs.Steps as steps
+use Rattle.r6_world.specs.Steps.{Deliver, Good, Error, Receipt, Take_command, Step}
 use Rattle.r6_world.specs.Worlds.{World, Devices, Core, Perform, Moment, next, break, given, performed_on, Brings, IsBrought}
 use Rattle.r6_world.proofs.Tables.{put-same, put-other, None-not_Some, Some-inj}
 use Rattle.r6_world.proofs.Acts.Points.{put_in-same, put_in-other, put_in-apart}
 use Rattle.r6_world.proofs.Rows.Flights.{not-flying}
-use Rattle.r6_course.specs.Courses.{Start, IsLawful, Reached, looked_of, Stand, Tells, Follows}
+use Rattle.r6_course.specs.Courses.{Start, IsLawful, Reached, looked_of, HasFailed, AreFailed, Stand, Tells, Follows}
 use Rattle.r6_course.specs.Steps.{PerformingGoesOn, Does, FailureGoesOn}
-use Rattle.r6_course.proofs.Reached.{reach, reach-looked, kept, unflown}
+use Rattle.r6_course.proofs.Reached.{reach, reach-looked, reach-moments, reach-named, failed-on, kept, unflown}
 use Rattle.r6_course.proofs.Calls.{both, shown, tells-alike}
 
 -- a command that isn't taken is not in flight, so it was not performed
@@ -46,6 +47,7 @@ record Taken (s : Start) (at : Stand) (x : Follows s at) (token : ℕ) (c : Comm
   shard : world.shard s.number ≡ middle
   register : world.register ≡ x.world.register
   looked : looked_of 0 reached.moments ≡ at.looked
+  moments : reached.moments ≡ x.reached.moments ++ taking s token c middle block ∷ []
   flies : world.flight s.number token ≡ Some c
   performed : world.performed s.number token ≡ None
   broken : (d g : ℕ) → world.broken s.number d g ≡ x.world.broken s.number d g
@@ -80,12 +82,20 @@ takes s lawful at x token c middle block step =
       shard = put-same w.shard n middle n refl;
       register = refl;
       looked = reach-looked s w at.history x.reached m _ _ at.looked x.looked;
+      moments = reach-moments s w at.history x.reached m _ _;
       flies = put_in-same w.flight n token (Some c) token refl;
       performed = unperformed s lawful at x token c middle step;
       broken = broken-same;
       sound = λ d g row at' ok. unless _ block (w.device d g row) (in-row d g row at' ∙ ok);
       noisy = λ d g row at' no'. when _ block (w.device d g row) (in-row d g row at' ∙ no');
     }
+
+-- what was named before was named with reason
+named-before : (s : Start) (at : Stand) (x : Follows s at) (token : ℕ) (c : Command) (middle : Shard) (block : Block)
+    → (t : Taken s at x token c middle block) → AreFailed s.number at.named t.reached.moments
+named-before s at x token c middle block t slot e =
+    subst (HasFailed s.number slot) (sym t.moments)
+    (failed-on s.number slot x.reached.moments (taking s token c middle block) (x.named slot e))
 
 -- ---- the part performs it
 
@@ -198,6 +208,8 @@ performing_goes_on s lawful at token c block receipt new behind x p =
       shard = put-same w'.shard n new n refl;
       register = t.register ∙ x.register;
       looked = reach-looked s w' at.history reached' m' _ _ at.looked (reach-looked s w at.history t.reached m _ _ at.looked t.looked);
+      named = reach-named s w' at.history reached' m' _ _ at.named
+          (reach-named s w at.history t.reached m _ _ at.named (named-before s at x token c p.middle block t));
       parts = λ slot g found there ok.
           tells-alike s (performed_on w.device c c.transfer slot g) (w''.device slot g) found (λ row in'. device-is slot g row)
           (elim (part-cases at.part c.slot c.generation behind slot g found there) [
@@ -240,8 +252,32 @@ handed-there : (l : Layout) (s : Shard) (token : ℕ) (c : Command)
     → (after l s (Hand_command token c)).command token ≡ Some (record c { taken = true; transfer = handed c.transfer })
 handed-there l s token c = put-same s.command token (Some (record c { taken = true; transfer = handed c.transfer })) token refl
 
+-- the error of a command that was taken is the failure of its slot
+fails-now : (s : Start) (at : Stand) (x : Follows s at) (token : ℕ) (c : Command) (middle : Shard) (receipt : Receipt) (new : Shard) (noise : Devices)
+    (moments : List Moment) (slot : ℕ)
+    → moments ≡ (x.reached.moments ++ taking s token c middle [] ∷ [])
+    ++ record { happening = Core s.number (Deliver token Error receipt) new; noise = noise } ∷ []
+    → slot ≡ c.slot → receipt ≡ steps.Taken → HasFailed s.number slot moments
+fails-now s at x token c middle receipt new noise moments slot is same own =
+    let failing : Moment = record { happening = Core s.number (Deliver token Error receipt) new; noise = noise } in
+    record {
+      token = token;
+      command = c;
+      slot_is = sym same;
+      before = x.reached.moments;
+      taking = taking s token c middle [];
+      between = [];
+      failing = failing;
+      behind = [];
+      is = is;
+      middle = middle;
+      taken = refl;
+      new = new;
+      failed = ap (λ y. Core s.number (Deliver token Error y) new) own;
+    }
+
 pub failure_goes_on : FailureGoesOn
-failure_goes_on s lawful at token c receipt new part x p others =
+failure_goes_on s lawful at token c receipt new part named x p others names =
     let n = s.number in
     let l = s.layout in
     let t = takes s lawful at x token c p.middle [] p.taken in
@@ -262,6 +298,15 @@ failure_goes_on s lawful at token c receipt new part x p others =
       shard = put-same w.shard n new n refl;
       register = t.register ∙ x.register;
       looked = reach-looked s w at.history t.reached m _ _ at.looked t.looked;
+      named = λ slot e.
+          let reached' = reach s w at.history t.reached m
+          (lawful.number, record {}, subst (λ (y : Shard). Step l n y (Deliver token Error receipt) new) (sym t.shard) p.delivered) refl in
+          elim (names slot e) [
+            | inl old ↦ reach-named s w at.history t.reached m _ _ at.named (named-before s at x token c p.middle [] t) slot old
+            | inr own ↦
+                fails-now s at x token c p.middle receipt new m.noise reached'.moments slot
+                (reach-moments s w at.history t.reached m _ _ ∙ ap (λ y. y ++ m ∷ []) t.moments) own.0 own.1
+          ];
       parts = λ slot g found at' ok.
           let other : (slot ≡ c.slot) × (g ≡ c.generation) → ⊥ =
           (λ same. true≢false (sym (broken-own out (record c { taken = true; transfer = handed c.transfer }) (w.broken n) there)

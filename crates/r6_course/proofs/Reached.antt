@@ -1,5 +1,5 @@
 -- Runs of a shard go on, one happening at a time.
-use Rattle.std.proofs.Common.{◌≡◌, ℕ, List, [], ◌∷◌, ◌++◌, append_assoc, inl, inr, refl, sym, ap, subst, ◌∙◌, Option, Some, None}
+use Rattle.std.proofs.Common.{◌≡◌, ℕ, Bool, List, [], ◌∷◌, ◌++◌, append_assoc, inl, inr, refl, sym, ap, subst, ◌∙◌, Option, Some, None}
 use Rattle.std.proofs.lemmas.Bool.{cases_eq}
 use Rattle.r6_layout.specs.PlainArray.{Block}
 use Rattle.r6_world.specs.PlainArray.{Plain}
@@ -16,7 +16,7 @@ use Rattle.r6_world.proofs.Laws.Judged.{IsIn as IsOfJudged}
 use Rattle.r6_world.proofs.Laws.Kept.{Kept}
 use Rattle.r6_world.proofs.Laws.Stepping.{one_step}
 use Rattle.r6_world.proofs.Laws.Starts.{kept-start}
-use Rattle.r6_course.specs.Courses.{Start, first_world, IsLawful, Mark, history_after, history_of, looked_after, looked_of, Reached}
+use Rattle.r6_course.specs.Courses.{Start, first_world, IsLawful, Mark, history_after, history_of, looked_after, looked_of, HasFailed, AreFailed, Reached}
 use Rattle.r6_course.proofs.Lists.{none-behind}
 
 pub run-append : (l : Layout) (w : World) (a b : List Moment) → Run l IsByAnyone w a
@@ -63,6 +63,38 @@ pub reach-looked : (s : Start) (w : World) (history : List Mark) (x : Reached s 
     → looked_of 0 x.moments ≡ looked → looked_of 0 (reach s w history x m possible own).moments ≡ looked_after m.happening looked
 unfolding reach
 reach-looked s w history x m possible own looked same = looked-more 0 x.moments m ∙ ap (looked_after m.happening) same
+
+-- what has failed has failed for good
+pub failed-on : (n slot : ℕ) (moments : List Moment) (m : Moment) → HasFailed n slot moments → HasFailed n slot (moments ++ m ∷ [])
+failed-on n slot moments m x = record {
+  token = x.token;
+  command = x.command;
+  slot_is = x.slot_is;
+  before = x.before;
+  taking = x.taking;
+  between = x.between;
+  failing = x.failing;
+  behind = x.behind ++ m ∷ [];
+  is = ap (λ y. y ++ m ∷ []) x.is ∙ append_assoc (x.before ++ x.taking ∷ x.between) (x.failing ∷ x.behind) (m ∷ []);
+  middle = x.middle;
+  taken = x.taken;
+  new = x.new;
+  failed = x.failed;
+}
+
+-- one more thing happens
+pub reach-moments : (s : Start) (w : World) (history : List Mark) (x : Reached s w history) (m : Moment)
+    (possible : Possible s.layout IsByAnyone w m.happening) (own : IsOfShard s.number m.happening)
+    → (reach s w history x m possible own).moments ≡ x.moments ++ m ∷ []
+unfolding reach
+reach-moments s w history x m possible own = refl
+
+pub reach-named : (s : Start) (w : World) (history : List Mark) (x : Reached s w history) (m : Moment)
+    (possible : Possible s.layout IsByAnyone w m.happening) (own : IsOfShard s.number m.happening) (named : List Bool)
+    → AreFailed s.number named x.moments → AreFailed s.number named (reach s w history x m possible own).moments
+reach-named s w history x m possible own named y slot e =
+    subst (HasFailed s.number slot) (sym (reach-moments s w history x m possible own))
+    (failed-on s.number slot x.moments m (y slot e))
 
 pub begins-looked : (s : Start) → looked_of 0 (begins s).moments ≡ 0
 unfolding begins

@@ -14,7 +14,7 @@ use Rattle.r6_world.specs.Worlds.{Tell, Outside, Moment, IsAnswer, as_made, next
 use Rattle.r6_world.proofs.Tables.{put-same}
 use Rattle.r6_course.specs.Courses.{Start, IsLawful, Stand, Follows}
 use Rattle.r6_course.specs.Steps.{Knows, OthersGoOn, TellingGoesOn}
-use Rattle.r6_course.proofs.Reached.{reach, reach-looked}
+use Rattle.r6_course.proofs.Reached.{reach, reach-looked, reach-named}
 use Rattle.r6_course.proofs.Calls.{shown, shown-tells}
 
 -- ---- histories in two parts
@@ -49,6 +49,7 @@ outside s at x call reply answered =
       shard = x.shard;
       register = ap (λ y. register_after l y call (answer_to l y call)) x.register ∙ ap (register_after l at.register call) answered;
       looked = reach-looked s w at.history x.reached m _ _ at.looked x.looked;
+      named = reach-named s w at.history x.reached m _ _ at.named x.named;
       parts = λ slot g telling there ok.
           shown-tells s w (Outside call) (λ slot g row. refl) slot g telling (x.parts slot g telling there ok);
     }
@@ -117,6 +118,7 @@ tells s lawful at x call answer middle new is takes tells' =
       shard = put-same w.shard n new n refl;
       register = ap (λ y. register_after l y (as_made n call) answer) x.register;
       looked = reach-looked s w at.history x.reached m _ _ at.looked x.looked;
+      named = reach-named s w at.history x.reached m _ _ at.named x.named;
       parts = λ slot g telling there ok.
           shown-tells s w (Tell n call answer middle new) (λ slot g row. refl) slot g telling (x.parts slot g telling there ok);
     }

@@ -86,6 +86,7 @@ answers r device array new_data lawful c =
       shard = w.shard 0;
       register = w.register;
       looked = looked_of 0 moments;
+      named = [];
       part = all_tell w.device;
       history = history_of [] moments;
     } in
@@ -95,6 +96,7 @@ answers r device array new_data lawful c =
       shard = refl;
       register = refl;
       looked = refl;
+      named = λ slot e. absurd (false≢true e);
       parts = λ slot g telling there ok. tells-all s w.device slot g telling there;
     } in
     let new : Shard = after small (w.shard 0) (Hand_reply 2 (Read 0) (Data new_data)) in

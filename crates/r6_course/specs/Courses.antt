@@ -1,13 +1,13 @@
 -- The course of one shard: what happened at its core, at its parts of the devices and at the register since the start,
 -- as far as the thread that owns the core knows of it (this project's own).
-use Rattle.std.specs.Prelude.{◌≡◌, ℕ, ◌<◌, List, [], ◌∷◌, ◌++◌, Bool, false, Option, Some, None}
+use Rattle.std.specs.Prelude.{◌≡◌, ℕ, ◌<◌, List, [], ◌∷◌, ◌++◌, Bool, true, false, Option, Some, None, slice_index_or}
 use Rattle.r6_dev.specs.History.{Telling}
 use Rattle.r6_layout.specs.PlainArray.{Block}
 use Rattle.r6_world.specs.PlainArray.{Array, Op, Reply}
 use Rattle.r6_world.specs.Layouts.{Layout, IsLayout, IsRowOf}
 use Rattle.r6_world.specs.Registers.{Snapshot}
-use Rattle.r6_world.specs.ShardStates.{Shard}
-use Rattle.r6_world.specs.Steps.{Event, Submit, Look, Take_reply}
+use Rattle.r6_world.specs.ShardStates.{Shard, Command}
+use Rattle.r6_world.specs.Steps.{Event, Submit, Look, Take_command, Deliver, Error, Taken, Take_reply}
 use Rattle.r6_world.specs.Worlds.{World, Devices, Happening, Core, Perform, Tell, Outside, Moment, Run}
 use Rattle.r6_world.specs.Worlds.{started, shard_at_start}
 use Rattle.r6_world.specs.Claims.{IsLawfulStart}
@@ -66,6 +66,30 @@ abbrev pub looked_of : ℕ → List Moment → ℕ
 looked_of looked [] = looked
 looked_of looked (m ∷ moments) = looked_of (looked_after m.happening looked) moments
 
+-- a command to the slot was taken, and then the core took its error, as it takes none of a command that was abandoned
+-- (md(4): a device is failed where it answers a command by an error)
+pub record HasFailed (n slot : ℕ) (moments : List Moment) : Type 0 where
+  pub token : ℕ
+  pub command : Command
+  pub slot_is : command.slot ≡ slot
+  pub before : List Moment
+  pub taking : Moment
+  pub between : List Moment
+  pub failing : Moment
+  pub behind : List Moment
+  pub is : moments ≡ before ++ taking ∷ between ++ failing ∷ behind
+  pub middle : Shard
+  pub taken : taking.happening ≡ Core n (Take_command token command) middle
+  pub new : Shard
+  pub failed : failing.happening ≡ Core n (Deliver token Error Taken) new
+
+abbrev pub is_named : List Bool → (slot : ℕ) → Bool
+is_named named slot = slice_index_or named slot false
+
+-- only slots are named that have failed so
+abbrev pub AreFailed : (n : ℕ) → (named : List Bool) → List Moment → Type 0
+AreFailed n named moments = (slot : ℕ) → is_named named slot ≡ true → HasFailed n slot moments
+
 -- a run of the shard, beside calls that anyone makes at the register, leads from its start to this world, and its
 -- users saw this
 pub record Reached (s : Start) (w : World) (history : List Mark) : Type 0 where
@@ -76,11 +100,13 @@ pub record Reached (s : Start) (w : World) (history : List Mark) : Type 0 where
   pub marks : history_of [] moments ≡ history
 
 -- where a shard stands: its core, the register as its pass saw it last, the attaches that its core saw when it looked
--- last, what its parts tell by slot and generation (none: no part is there), and what its users saw
+-- last, the slots that it names as failed, what its parts tell by slot and generation (none: no part is there), and what
+-- its users saw
 pub record Stand : Type 0 where
   pub shard : Shard
   pub register : Snapshot
   pub looked : ℕ
+  pub named : List Bool
   pub part : ℕ → ℕ → Option Telling
   pub history : List Mark
 
@@ -102,15 +128,17 @@ pub record Follows (s : Start) (at : Stand) : Type 0 where
   pub shard : world.shard s.number ≡ at.shard
   pub register : world.register ≡ at.register
   pub looked : looked_of 0 reached.moments ≡ at.looked
+  pub named : AreFailed s.number at.named reached.moments
   pub parts : AreParts s world.device (world.broken s.number) at.part
 
--- at the start the core is made with the register, and its users saw nothing
+-- at the start the core is made with the register, no slot is named, and its users saw nothing
 abbrev pub first_stand : Start → (ℕ → ℕ → Option Telling) → Stand
 first_stand s part =
     record {
       shard = shard_at_start s.layout s.register s.number;
       register = s.register;
       looked = 0;
+      named = [];
       part = part;
       history = [];
     }

@@ -1,6 +1,6 @@
 -- How the course of a shard begins, and how it goes on: by calls of its core, by commands that are performed in place,
 -- and by calls at the register, others' and its own (this project's own).
-use Rattle.std.specs.Prelude.{◌≡◌, ◌<◌, ℕ, false, Option, Some}
+use Rattle.std.specs.Prelude.{◌≡◌, ◌<◌, ◌⊎◌, ℕ, List, Bool, true, false, Option, Some}
 use Rattle.r6_dev.specs.History.{Telling, Reads, Writes, Answers}
 use Rattle.r6_health.specs.declared.history.View.{View}
 use Rattle.r6_health.specs.Histories.{held}
@@ -9,16 +9,17 @@ use Rattle.r6_world.specs.Tables.{put_in}
 use Rattle.r6_layout.specs.PlainArray.{Block}
 use Rattle.r6_world.specs.Registers.{Snapshot, Told as Answer}
 use Rattle.r6_world.specs.ShardStates.{Shard, Command, Transfer, Fetch, Store, Storing, Call}
-use Rattle.r6_world.specs.Steps.{Event, Submit, Deliver, Good, Error, Receipt, Look, Take_command, No_command, Take_call}
+use Rattle.r6_world.specs.Steps.{Event, Submit, Deliver, Good, Error, Receipt, Taken, Look, Take_command, No_command, Take_call}
 use Rattle.r6_world.specs.Steps.{No_call, Told, Take_reply, No_reply, Turn_started, Turn_skipped, Step}
 use Rattle.r6_world.specs.Worlds.{Devices, as_made}
-use Rattle.r6_course.specs.Courses.{Start, IsLawful, Stand, Tells, AreParts, Follows, first_stand, marked, looked_by}
+use Rattle.r6_course.specs.Courses.{Start, IsLawful, Stand, Tells, AreParts, Follows, is_named, first_stand, marked, looked_by}
 
--- parts that tell what the devices have at the start
+-- parts that tell what the devices have at the start, and no slot is named
 abbrev pub CoursesBegin : Type 0
 CoursesBegin =
-    (s : Start) (part : ℕ → ℕ → Option Telling) → AreParts s s.device (λ slot generation. false) part
-    → Follows s (first_stand s part)
+    (s : Start) (part : ℕ → ℕ → Option Telling) (named : List Bool)
+    → AreParts s s.device (λ slot generation. false) part → ((slot : ℕ) → is_named named slot ≡ false)
+    → Follows s (record (first_stand s part) { named = named })
 
 -- calls of the core that go with no device and with no call at the register; a look sees the register as it was last
 -- seen
@@ -72,12 +73,18 @@ abbrev pub OthersAreKept : (slot generation : ℕ) → (old new : ℕ → ℕ �
 OthersAreKept slot generation old new =
     (other g : ℕ) → ((other ≡ slot) × (g ≡ generation) → ⊥) → new other g ≡ old other g
 
--- from then on that part may tell anything
+-- no slot is named but those of before, and that of a command whose error the core took
+abbrev pub NamesIt : (slot : ℕ) → Receipt → (old new : List Bool) → Type 0
+NamesIt slot receipt old new =
+    (other : ℕ) → is_named new other ≡ true → (is_named old other ≡ true) ⊎ ((other ≡ slot) × (receipt ≡ Taken))
+
+-- from then on that part may tell anything, and its slot may be named
 abbrev pub FailureGoesOn : Type 0
 FailureGoesOn =
     (s : Start) → IsLawful s → (at : Stand) (token : ℕ) (c : Command) (receipt : Receipt) (new : Shard)
-    (part : ℕ → ℕ → Option Telling) → Follows s at → Fails s at token c receipt new
-    → OthersAreKept c.slot c.generation at.part part → Follows s (record at { shard = new; part = part })
+    (part : ℕ → ℕ → Option Telling) (named : List Bool) → Follows s at → Fails s at token c receipt new
+    → OthersAreKept c.slot c.generation at.part part → NamesIt c.slot receipt at.named named
+    → Follows s (record at { shard = new; part = part; named = named })
 
 -- a pass knows the register as the shard last saw it
 pub record Knows (s : Start) (v : View) (register : Snapshot) : Type 0 where

@@ -34,7 +34,7 @@ use Rattle.r6_runner.specs.declared.pass.Passed.{Passed}
 use Rattle.r6_runner.specs.declared.runner.Handed.{Handed}
 use Rattle.r6_runner.specs.declared.runner.Runner.{Runner}
 use Rattle.r6_runner.specs.Tasks.{NewPart, request_in, pass_in, part_in, requests_in, passes_in, parts_in, due_requests, due_passes, request_of, pass_of, under_way, passed_of, slot_of, handed_of}
-use Rattle.r6_runner.specs.Runners.{taken_up, AllTell, IsDone, IsPartTaken, IsOutcome, HasDone, GoesOn, IsPut, IsHandedIn, ShardGoesOn, KeepsSelf}
+use Rattle.r6_runner.specs.Runners.{taken_up, AllTell, IsDone, IsPartTaken, IsOutcome, HasDone, GoesOn, IsPut, IsHandedIn, IsPassing, ShardGoesOn, KeepsSelf}
 use Rattle.r6_runner.proofs.Tasks.{of_tasks-more, taken_up-more, tell-less, none-silent, put_if}
 
 -- ---- the same, of equal things
@@ -374,6 +374,25 @@ served-on told shape events geometry number snapshot before numbers old new d du
     old.passed.items old.handed.items d due event op request pass outcome
     (subst (λ y. IsDone told shape events geometry number snapshot before numbers old.shard old.refused.items old.passing old.passed.items old.handed.items y)
     first x))
+
+-- a check or repair that was due began
+pub passing-on : {D : Type 0} (told : D → Telling) (shape : Shape) (events : List Event) (geometry : Shape) (number : ℕ) (snapshot : Snapshot)
+    (before : ℕ → ℕ → Option Telling) (numbers : List ℕ) (old mid new : Runner D) (d : Due) (due : List Due) (task : Pass)
+    → request_of d.event d.duty ≡ None → pass_of d.event d.duty ≡ Some (d.event, task) → IsPassing d.event task mid new
+    → old.passing ≡ None → mid.shard ≡ old.shard → mid.refused.items ≡ old.refused.items → mid.passed.items ≡ old.passed.items
+    → mid.handed.items ≡ old.handed.items → mid.due.items ≡ due → old.due.items ≡ d ∷ due
+    → HasDone told shape events geometry number snapshot before numbers old
+    → HasDone told shape events geometry number snapshot before numbers new
+passing-on told shape events geometry number snapshot before numbers old mid new d due task request pass h none e1 e2 e3 e4 e5 first x =
+    is-like told shape events geometry number snapshot before numbers old.shard new.shard old.refused.items new.refused.items
+    (Some h.passing) new.passing old.passed.items new.passed.items old.handed.items new.handed.items due new.due.items
+    (h.shard ∙ e1) (h.refused ∙ e2) h.under_way (h.passed ∙ e3) (h.handed ∙ e4) (h.due ∙ e5)
+    (has-passing told shape events geometry number snapshot before numbers old.shard old.refused.items old.passed.items old.handed.items
+    d due h.passing request (pass ∙ (λ i. Some (sym h.event_is i, sym h.task_is i)))
+    (subst (λ y. IsDone told shape events geometry number snapshot before numbers old.shard old.refused.items y old.passed.items old.handed.items (d ∷ due))
+    none
+    (subst (λ y. IsDone told shape events geometry number snapshot before numbers old.shard old.refused.items old.passing old.passed.items old.handed.items y)
+    first x)))
 
 -- ---- one call after another
 

@@ -1,5 +1,5 @@
 -- What was done stays so where a pass is split from that of the shard.
-use Rattle.std.proofs.Common.{◌≡◌, ℕ, List, length, sym, ap, subst, ◌∙◌, Option}
+use Rattle.std.proofs.Common.{◌≡◌, ℕ, Bool, List, length, sym, ap, subst, ◌∙◌, Option}
 use Rattle.r6_dev.specs.History.{Telling}
 use Rattle.r6_dev.specs.Promises.{Promise}
 use Rattle.r6_layout.specs.Shape.{Shape}
@@ -23,12 +23,13 @@ use Rattle.r6_shard.specs.Splitting.{KeepsAll}
 
 pub shard-keeps : {P : Type 0} (tells : P → ℕ → ℕ → Option Telling) (old new : Shard P) → KeepsAll old new → GoesOn tells old new
 shard-keeps tells old new k s ops x =
-    subst (λ (y : CoreView). HasCourse s y (view_of new.pass) new.looked (tells new.parts) new.asked.items new.entries.items ops) (sym k.core)
-    (subst (λ (y : View). HasCourse s old.core y new.looked (tells new.parts) new.asked.items new.entries.items ops) (sym k.view)
-    (subst (λ (y : ℕ). HasCourse s old.core (view_of old.pass) y (tells new.parts) new.asked.items new.entries.items ops) (sym k.looked)
-    (subst (λ y. HasCourse s old.core (view_of old.pass) old.looked (tells y) new.asked.items new.entries.items ops) (sym k.parts)
-    (subst (λ (y : List Asked). HasCourse s old.core (view_of old.pass) old.looked (tells old.parts) y new.entries.items ops) (sym k.asked)
-    (subst (λ (y : List Entry). HasCourse s old.core (view_of old.pass) old.looked (tells old.parts) old.asked.items y ops) (sym k.entries) x)))))
+    subst (λ (y : CoreView). HasCourse s y (view_of new.pass) new.looked new.named (tells new.parts) new.asked.items new.entries.items ops) (sym k.core)
+    (subst (λ (y : View). HasCourse s old.core y new.looked new.named (tells new.parts) new.asked.items new.entries.items ops) (sym k.view)
+    (subst (λ (y : ℕ). HasCourse s old.core (view_of old.pass) y new.named (tells new.parts) new.asked.items new.entries.items ops) (sym k.looked)
+    (subst (λ (y : List Bool). HasCourse s old.core (view_of old.pass) old.looked y (tells new.parts) new.asked.items new.entries.items ops) (sym k.named)
+    (subst (λ y. HasCourse s old.core (view_of old.pass) old.looked old.named (tells y) new.asked.items new.entries.items ops) (sym k.parts)
+    (subst (λ (y : List Asked). HasCourse s old.core (view_of old.pass) old.looked old.named (tells old.parts) y new.entries.items ops) (sym k.asked)
+    (subst (λ (y : List Entry). HasCourse s old.core (view_of old.pass) old.looked old.named (tells old.parts) old.asked.items y ops) (sym k.entries) x))))))
 
 pub rests-still : {P : Type 0} (old new : Shard P) → KeepsAll old new → Rests old → Rests new
 rests-still old new k x = record {

@@ -16,9 +16,11 @@ use Rattle.r6_lists.specs.Events.{Event}
 use Rattle.r6_shard.specs.declared.parts.Parts.{Parts}
 use Rattle.r6_shard.specs.Own.{AreOwn, HasFailed}
 use Rattle.r6_shard.proofs.Own.{failed-later}
+use Rattle.r6_shard.proofs.Whole.{saw-later}
 use Rattle.r6_feed.specs.Feeds.{Joins}
 use Rattle.r6_runner.specs.declared.runner.Runner.{Runner}
 use Rattle.r6_runner.specs.Splitting.{KeepsAll}
+use Rattle.r6_serve.specs.Counted.{EachSawWithPass}
 use Rattle.r6_serve.specs.Passes.{CallAsTheyMay, IsShown, TakesBack, IsHeard}
 use Rattle.r6_serve.specs.Serves.{AreNumbered, Begins, HasRun}
 use Rattle.r6_serve.proofs.EachShard.{partner_at, number_at}
@@ -40,16 +42,32 @@ call_as_they_may told shape events start number numbers finished runner parts ol
 
 -- ---- what was seen shows
 
+-- what the pass of a shard has seen is the beginning of what the one that reads last has
+seen_before : {D : Type 0} (register : Register) (by last : View) (runner : Runner D) → IsHeard register by runner
+    → Looks by last → last.start ≡ start_of register
+    → (last.start ≡ (view_of runner.shard.pass).start) × StartsWith last.seen (view_of runner.shard.pass).seen
+seen_before register by last runner h looks same =
+    let v = view_of runner.shard.pass in (
+      (same ∙ sym h.0.same_start),
+      looks.told v.seen (subst (λ (all : List (List Entry)). Contains all v.seen) (sym looks.grows.heard) h.1),
+    )
+
+pub each_saw_with_pass : {D : Type 0} (register : Register) (by last : View) (runners : List (Runner D))
+    → All (IsHeard register by) runners → Looks by last → last.start ≡ start_of register → EachSawWithPass last runners
+each_saw_with_pass register by last runners heard looks same k d below =
+    let runner = slice_index_or runners k d in
+    let before = seen_before register by last runner (heard k d below) looks same in
+    saw-later runner.shard.saw_out (view_of runner.shard.pass) last before.0 before.1 runner.shard.saw
+
 pub is_shown : {D : Type 0} (register : Register) (by last : View) (snapshot : Snapshot) (runners : List (Runner D))
     → All (IsHeard register by) runners → Looks by last → last.start ≡ start_of register → snapshot ≡ held last.start last.seen
     → All (IsShown snapshot) runners
 is_shown register by last snapshot runners heard looks same is k d below =
     let runner = slice_index_or runners k d in
-    let h = heard k d below in
     let v = view_of runner.shard.pass in
-    let longer : StartsWith last.seen v.seen = looks.told v.seen (subst (λ (all : List (List Entry)). Contains all v.seen) (sym looks.grows.heard) h.1) in
+    let before = seen_before register by last runner (heard k d below) looks same in
     let shows : HasFailed v → snapshot.failed ≡ true = λ x.
-    ap (λ (y : Snapshot). y.failed) is ∙ failed-later v last (same ∙ sym h.0.same_start) longer x in
+    ap (λ (y : Snapshot). y.failed) is ∙ failed-later v last before.0 before.1 x in
     record {
       seen = λ saw. shows (runner.shard.failure.there saw);
       answered = λ j e low so. shows (runner.shard.failure.there (runner.shard.failure.answered j e low so));

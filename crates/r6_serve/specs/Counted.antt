@@ -1,9 +1,11 @@
 -- What the checks and repairs of an array count, over all shards (md(4): a check reads every row of the array).
 use Rattle.std.specs.Prelude.{◌≡◌, ℕ, ◌-◌, ◌==◌, ◌⊎◌, List, All, slice_get, sum_by, Some, if◌then◌else◌}
 use Rattle.r6_layout.specs.Shape.{Shape}
+use Rattle.r6_health.specs.declared.history.View.{View}
 use Rattle.r6_core.specs.Shards.{CoreView}
 use Rattle.r6_lists.specs.Events.{Event, Check, Repair}
 use Rattle.r6_shard.specs.Counted.{IsInService}
+use Rattle.r6_shard.specs.Whole.{SawWithPass}
 use Rattle.r6_runner.specs.declared.pass.Passed.{Passed}
 use Rattle.r6_runner.specs.declared.runner.Runner.{Runner}
 use Rattle.r6_runner.specs.Counted.{IsUsedUp, rows_in}
@@ -28,3 +30,7 @@ CountEachRow shape events runners =
 abbrev pub EachSkipsNone : {D : Type 0} → List (Runner D) → Type 0
 EachSkipsNone runners =
     All (λ runner. SkipNone runner.shard.named runner.shard.saw_out runner.passed.items) runners
+
+-- if each slot was in sync at every time that the calling thread has seen, no shard says that it saw one that wasn't
+abbrev pub EachSawWithPass : {D : Type 0} → (last : View) → List (Runner D) → Type 0
+EachSawWithPass last runners = All (λ runner. SawWithPass runner.shard.saw_out last) runners

@@ -7,7 +7,7 @@ ghost use Rattle.r6_health.specs.Histories.{start_losing, held};
 ghost use Rattle.r6_health.specs.Registers.{starting};
 ghost use Rattle.r6_health.specs.Views.{first_of, newcomer};
 ghost use Rattle.r6_feed.specs.Events.{events_of, AreWhole};
-ghost use Rattle.r6_serve.specs.Counted.{EachSkipsNone};
+ghost use Rattle.r6_serve.specs.Counted.{EachSkipsNone, EachSawWithPass};
 ghost use Rattle.r6_serve.specs.Named.{AttachesFailNone, LeaveSoundAlone};
 ghost use Rattle.r6_serve.specs.Passes.{CallAsTheyMay, IsShown};
 ghost use Rattle.r6_serve.specs.Serves.{HasAnswered, HaveServed};
@@ -90,6 +90,7 @@ where
     ensures sound { IfOk result (λ served. LeaveSoundAlone D.promised L.shape (starting config.lost) parts.items
         events.items served.runners.items) }
     ensures unskipped { IfOk result (λ served. EachSkipsNone served.runners.items) }
+    ensures saw { IfOk result (λ served. EachSawWithPass (view_of served.pass) served.runners.items) }
     ensures failure { IfOk result (λ served. All (IsShown served.snapshot) served.runners.items) }
 {
     let Config {
@@ -178,6 +179,7 @@ where
     ensures sound { IfOk result (λ served. LeaveSoundAlone D.promised config.geometry (starting config.lost) parts.items
         events.items served.runners.items) }
     ensures unskipped { IfOk result (λ served. EachSkipsNone served.runners.items) }
+    ensures saw { IfOk result (λ served. EachSawWithPass (view_of served.pass) served.runners.items) }
     ensures failure { IfOk result (λ served. All (IsShown served.snapshot) served.runners.items) }
 {
     let blank = Blank::new(3 * config.geometry.shards() as u64);

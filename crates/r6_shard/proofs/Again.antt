@@ -1,4 +1,4 @@
--- A shard whose core is as it was is the shard that it was.
+-- A shard whose core and parts are as they were is the shard that it was.
 use Rattle.std.proofs.Common.{◌≡◌, ℕ, ◌+◌, ◌≤◌, length, subst, vec_capacity}
 use Rattle.std.proofs.Props.{props}
 use Rattle.r6_health.specs.Passes.{view_of}
@@ -6,7 +6,7 @@ use Rattle.r6_core.specs.Shards.{CoreView}
 use Rattle.r6_shard.specs.declared.shard.Shard.{Shard}
 use Rattle.r6_shard.specs.Kept.{IsKept}
 use Rattle.r6_shard.specs.Own.{AreOwn, SeesFailure}
-use Rattle.r6_shard.specs.Whole.{SkipsNone}
+use Rattle.r6_shard.specs.Whole.{SkipsNone, SawWithPass}
 
 module _ {P : Type 0} (old : Shard P) where
   abbrev Kept : CoreView → Type 0
@@ -17,6 +17,9 @@ module _ {P : Type 0} (old : Shard P) where
 
   abbrev Whole : CoreView → Type 0
   Whole core = SkipsNone core old.named old.saw_out
+
+  abbrev Saw : Type 0
+  Saw = SawWithPass old.saw_out (view_of old.pass)
 
   abbrev Counted : CoreView → Type 0
   Counted core = core.unanswered + length old.entries.items ≡ length old.asked.items
@@ -33,28 +36,31 @@ module _ {P : Type 0} (old : Shard P) where
   abbrev EntriesRoom : Type 0
   EntriesRoom = old.room ≤ vec_capacity old.entries
 
-  abbrev Again : CoreView → Type 0
-  Again core =
-      (kept : Kept core) (own : Own) (failure : Fails core) (whole : Whole core) (counted : Counted core) (within : Within)
-      (asked_room : AskedRoom) (entries_room : EntriesRoom)
+  abbrev Again : CoreView → P → Type 0
+  Again core parts =
+      (kept : Kept core) (own : Own) (failure : Fails core) (whole : Whole core) (saw : Saw) (counted : Counted core)
+      (within : Within) (asked_room : AskedRoom) (entries_room : EntriesRoom)
       → record old {
         core = core;
+        parts = parts;
         kept = kept;
         own = own;
         failure = failure;
         whole = whole;
+        saw = saw;
         counted = counted;
         within = within;
         asked_room = asked_room;
         entries_room = entries_room;
       } ≡ old
 
-  pub shard-again : (core : CoreView) → old.core ≡ core → Again core
-  shard-again core e = subst Again e (λ kept own failure whole counted within asked_room entries_room.
+  pub shard-again : (core : CoreView) (parts : P) → old.core ≡ core → old.parts ≡ parts → Again core parts
+  shard-again core parts e e' = subst (Again core) e' (subst (λ (y : CoreView). Again y old.parts) e (λ kept own failure whole saw counted within asked_room entries_room.
       let k : IsProp (Kept old.core) = Prim.hlevel props in
       let o : IsProp Own = Prim.hlevel props in
       let f : IsProp (Fails old.core) = Prim.hlevel props in
       let w : IsProp (Whole old.core) = Prim.hlevel props in
+      let s : IsProp Saw = Prim.hlevel props in
       let n : IsProp (Counted old.core) = Prim.hlevel props in
       let l : IsProp Within = Prim.hlevel props in
       let a : IsProp AskedRoom = Prim.hlevel props in
@@ -64,8 +70,9 @@ module _ {P : Type 0} (old : Shard P) where
         own = o own old.own i;
         failure = f failure old.failure i;
         whole = w whole old.whole i;
+        saw = s saw old.saw i;
         counted = n counted old.counted i;
         within = l within old.within i;
         asked_room = a asked_room old.asked_room i;
         entries_room = r entries_room old.entries_room i;
-      })
+      }))

@@ -1,5 +1,5 @@
 -- A shard's course begins.
-use Rattle.std.proofs.Common.{◌≡◌, ℕ, ◌<◌, ◌≤◌, List, [], length, Bool, inl, inr, refl, sym, ap, subst, ◌∙◌, Option}
+use Rattle.std.proofs.Common.{◌≡◌, ℕ, ◌<◌, ◌≤◌, List, [], length, Bool, false, inl, inr, refl, sym, ap, subst, ◌∙◌, Option}
 use Rattle.r6_dev.specs.History.{Telling}
 use Rattle.r6_layout.specs.Shape.{Shape, IsShape}
 use Rattle.r6_health.specs.declared.history.View.{View}
@@ -14,19 +14,21 @@ use Rattle.r6_world.proofs.Geometries.{layouts}
 use Rattle.r6_world.proofs.Tables.{None-not_Some}
 use Rattle.r6_core.specs.Shards.{CoreView}
 use Rattle.r6_core.specs.Effects.{IsMade}
+use Rattle.r6_course.specs.Courses.{is_named}
 use Rattle.r6_course.proofs.Calls.{courses_begin}
 use Rattle.r6_shard.specs.Beginnings.{IsFirstPass, start_of, Hold}
 use Rattle.r6_shard.specs.Kept.{AreNumbered, NoneIsTaken, NoneIsUntold, AreNamed, IsKept}
 use Rattle.r6_shard.specs.Courses.{HasCourse}
 
 pub begun : (geometry : Shape) (number : ℕ) (snapshot : Snapshot) (device : Devices) (array : Array) (core : CoreView) (v : View)
-    (part : ℕ → ℕ → Option Telling) → IsShape geometry → number < geometry.shards → IsLawfulStart (layout_of geometry) snapshot device array
+    (named : List Bool) (part : ℕ → ℕ → Option Telling) → IsShape geometry → number < geometry.shards → IsLawfulStart (layout_of geometry) snapshot device array
     → Hold (start_of geometry number snapshot device array) part → IsMade geometry snapshot number core → IsFirstPass geometry snapshot v
-    → HasCourse (start_of geometry number snapshot device array) core v 0 part [] [] []
-begun geometry number snapshot device array core v part limits below lawful hold made first =
+    → ((slot : ℕ) → is_named named slot ≡ false)
+    → HasCourse (start_of geometry number snapshot device array) core v 0 named part [] [] []
+begun geometry number snapshot device array core v named part limits below lawful hold made first none =
     let s = start_of geometry number snapshot device array in
     let now : held v.start v.seen ≡ snapshot = ap (held v.start) first.seen ∙ first.began in
-    let y = courses_begin s part (λ slot generation telling there ok. hold slot generation telling there) in
+    let y = courses_begin s part named (λ slot generation telling there ok. hold slot generation telling there) none in
     record {
       history = [];
       tells = record { asked = refl; replied = refl; answered = refl; blocks = refl; linked = record {} };
@@ -41,6 +43,7 @@ begun geometry number snapshot device array core v part limits below lawful hold
           shard = y.shard ∙ sym made.start;
           register = y.register ∙ sym now;
           looked = y.looked;
+          named = y.named;
           parts = y.parts;
         };
       };

@@ -25,7 +25,7 @@ use Rattle.r6_core.specs.Shards.{CoreView, Step, core_layout, world_shard, compl
 use Rattle.r6_core.specs.Effects.{IsCommandOf}
 use Rattle.r6_core.specs.Refusals.{HasDeliverFault, IsFirstFault, deliver_faults}
 use Rattle.r6_course.specs.Courses.{Start, Mark, Follows, marked, looked_by}
-use Rattle.r6_course.specs.Steps.{IsPlainCall, Performs, OthersAreKept}
+use Rattle.r6_course.specs.Steps.{IsPlainCall, Performs, OthersAreKept, NamesIt}
 use Rattle.r6_course.proofs.Calls.{calls_go_on}
 use Rattle.r6_course.proofs.Performing.{performing_goes_on, failure_goes_on}
 use Rattle.r6_course.proofs.Register.{others_go_on, telling_goes_on}
@@ -45,16 +45,16 @@ layout-kept : (s : Start) (old : CoreView) (event : Event) (new : CoreView) → 
 layout-kept s old event new layout step = layout ∙ ap Rattle.r6_world.specs.Geometries.layout_of (sym step.0.0)
 
 -- a call of the core alone
-pub goes : (s : Start) (old new : CoreView) (v : View) (looked : ℕ) (part : ℕ → ℕ → Option Telling) (history : List Mark) (event : Event)
-    → IsPlainCall (held v.start v.seen) event → Step old event new → Course s old v looked part history
-    → Course s new v (looked_by event looked) part (marked event history)
-goes s old new v looked part history event plain step x =
+pub goes : (s : Start) (old new : CoreView) (v : View) (looked : ℕ) (named : List Bool) (part : ℕ → ℕ → Option Telling) (history : List Mark) (event : Event)
+    → IsPlainCall (held v.start v.seen) event → Step old event new → Course s old v looked named part history
+    → Course s new v (looked_by event looked) named part (marked event history)
+goes s old new v looked named part history event plain step x =
     record {
       lawful = x.lawful;
       layout = layout-kept s old event new x.layout step;
       number = x.number ∙ sym step.0.1;
       pass = x.pass;
-      follows = calls_go_on s x.lawful (stand_of old v looked part history) event (world_shard new) x.follows plain
+      follows = calls_go_on s x.lawful (stand_of old v looked named part history) event (world_shard new) x.follows plain
           (stepped s old event new x.layout x.number step);
     }
 
@@ -75,13 +75,14 @@ put-alike part part' slot generation behind is others other g = elim (cases_eq o
       others other g (λ both. ne both.0) ∙ sym (ap (λ (y : ℕ → Option Telling). y g) (put_in-apart part slot generation (Some behind) other ne))
 ]
 
-pub performed : (s : Start) (old mid new : CoreView) (v : View) (looked : ℕ) (part part' : ℕ → ℕ → Option Telling) (history : List Mark) (c : Command)
+pub performed : (s : Start) (old mid new : CoreView) (v : View) (looked : ℕ) (named named' : List Bool) (part part' : ℕ → ℕ → Option Telling) (history : List Mark) (c : Command)
     (frame : ℕ) (abandoned : Bool) (receipt : steps.Receipt) (completion : Result (List ℕ) DeviceFault)
     → Step old (Take_command c.token (world_command frame abandoned c)) mid
     → Step mid (Deliver c.token (completion_of completion) receipt) new
     → MatchResult completion (Performed part part' c) (Failed part part' c)
-    → Course s old v looked part history → Course s new v looked part' history
-performed s old mid new v looked part part' history c frame abandoned receipt completion takes delivers did x =
+    → MatchResult completion (λ _. named' ≡ named) (λ _. NamesIt c.slot receipt named named')
+    → Course s old v looked named part history → Course s new v looked named' part' history
+performed s old mid new v looked named named' part part' history c frame abandoned receipt completion takes delivers did names x =
     let layout-mid = layout-kept s old (Take_command c.token (world_command frame abandoned c)) mid x.layout takes in
     let number-mid = x.number ∙ sym takes.0.1 in
     let second = stepped s mid (Deliver c.token (completion_of completion) receipt) new layout-mid number-mid delivers in
@@ -90,15 +91,17 @@ performed s old mid new v looked part part' history c frame abandoned receipt co
       layout = layout-kept s mid (Deliver c.token (completion_of completion) receipt) new layout-mid delivers;
       number = number-mid ∙ sym delivers.0.1;
       pass = x.pass;
-      follows = at completion second did;
+      follows = at completion second did names;
     }
   where
     at : (completion : Result (List ℕ) DeviceFault)
         → steps.Step s.layout s.number (world_shard mid) (Deliver c.token (completion_of completion) receipt) (world_shard new)
-        → MatchResult completion (Performed part part' c) (Failed part part' c) → Follows s (stand_of new v looked part' history)
-    at (Ok came) second p =
+        → MatchResult completion (Performed part part' c) (Failed part part' c)
+        → MatchResult completion (λ _. named' ≡ named) (λ _. NamesIt c.slot receipt named named')
+        → Follows s (stand_of new v looked named' part' history)
+    at (Ok came) second p same =
         let command = world_command frame abandoned c in
-        let q : Performs s (stand_of old v looked part history) c.token command came receipt (world_shard new) p.behind = record {
+        let q : Performs s (stand_of old v looked named part history) c.token command came receipt (world_shard new) p.behind = record {
           middle = world_shard mid;
           taken = stepped s old (Take_command c.token command) mid x.layout x.number takes;
           delivered = second;
@@ -106,13 +109,14 @@ performed s old mid new v looked part part' history c frame abandoned receipt co
           there = p.was;
           does = p.does;
         } in
-        let y = performing_goes_on s x.lawful (stand_of old v looked part history) c.token command came receipt (world_shard new) p.behind x.follows q in
-        letting_goes_on s (stand_of new v looked (put_in part c.slot c.generation (Some p.behind)) history) part' y
+        let y = performing_goes_on s x.lawful (stand_of old v looked named part history) c.token command came receipt (world_shard new) p.behind x.follows q in
+        letting_goes_on s (stand_of new v looked named' (put_in part c.slot c.generation (Some p.behind)) history) part'
+        (subst (λ y. Follows s (stand_of new v looked y (put_in part c.slot c.generation (Some p.behind)) history)) (sym same) y)
         (λ slot g telling there. sym (put-alike part part' c.slot c.generation p.behind p.is p.others slot g) ∙ there)
-    at (Err fault) second p =
+    at (Err fault) second p names =
         let command = world_command frame abandoned c in
-        failure_goes_on s x.lawful (stand_of old v looked part history) c.token command receipt (world_shard new) part' x.follows
-        (record { middle = world_shard mid; taken = stepped s old (Take_command c.token command) mid x.layout x.number takes; delivered = second }) p.0
+        failure_goes_on s x.lawful (stand_of old v looked named part history) c.token command receipt (world_shard new) part' named' x.follows
+        (record { middle = world_shard mid; taken = stepped s old (Take_command c.token command) mid x.layout x.number takes; delivered = second }) p.0 names
 
 -- ---- its completion is not refused
 
@@ -140,21 +144,21 @@ not-refused old mid part part' c frame abandoned completion refusal takes there 
 
 -- ---- the register
 
-pub seen : (s : Start) (core : CoreView) (v w : View) (looked : ℕ) (part : ℕ → ℕ → Option Telling) (history : List Mark) → Looks v w
-    → Course s core v looked part history → Course s core w looked part history
-seen s core v w looked part history look x =
-    let y = others_go_on s x.lawful (stand_of core v looked part history) v w x.follows x.pass look in
+pub seen : (s : Start) (core : CoreView) (v w : View) (looked : ℕ) (named : List Bool) (part : ℕ → ℕ → Option Telling) (history : List Mark) → Looks v w
+    → Course s core v looked named part history → Course s core w looked named part history
+seen s core v w looked named part history look x =
+    let y = others_go_on s x.lawful (stand_of core v looked named part history) v w x.follows x.pass look in
     record { lawful = x.lawful; layout = x.layout; number = x.number; pass = y.1; follows = y.0 }
 
 -- the shard's own call is made, and its answer told
-pub told : (s : Start) (old mid new : CoreView) (v w : View) (looked : ℕ) (part : ℕ → ℕ → Option Telling) (history : List Mark) (number : ℕ)
+pub told : (s : Start) (old mid new : CoreView) (v w : View) (looked : ℕ) (named : List Bool) (part : ℕ → ℕ → Option Telling) (history : List Mark) (number : ℕ)
     (call : Call) (answer : Answer) → number ≡ old.shard → Step old (Take_call (call_of call)) mid
     → Step mid (Told (call_of call) answer) new → Answered v (as_made number (call_of call)) answer w
-    → Course s old v looked part history → Course s new w looked part history
-told s old mid new v w looked part history number call answer same takes tells answered x =
+    → Course s old v looked named part history → Course s new w looked named part history
+told s old mid new v w looked named part history number call answer same takes tells answered x =
     let layout-mid = layout-kept s old (Take_call (call_of call)) mid x.layout takes in
     let number-mid = x.number ∙ sym takes.0.1 in
-    let y = telling_goes_on s x.lawful (stand_of old v looked part history) v w (call_of call) answer (world_shard mid) (world_shard new) x.follows x.pass
+    let y = telling_goes_on s x.lawful (stand_of old v looked named part history) v w (call_of call) answer (world_shard mid) (world_shard new) x.follows x.pass
     (stepped s old (Take_call (call_of call)) mid x.layout x.number takes)
     (stepped s mid (Told (call_of call) answer) new layout-mid number-mid tells)
     (subst (λ n. Answered v (as_made n (call_of call)) answer w) (same ∙ sym x.number) answered) in

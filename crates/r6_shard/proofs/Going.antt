@@ -1,7 +1,7 @@
 -- The thread's lists and its course go on together.
-use Rattle.std.proofs.Common.{◌≡◌, ℕ, ◌+◌, ◌<◌, List, [], ◌∷◌, ◌++◌, length, map, get_or, refl, sym, ap, subst, ◌∙◌, arith, Option, Some, None, Result, Ok, Err, IfOk, IfErr}
-use Rattle.std.specs.Prelude.{MatchResult, slice_index_or, is_err, true}
-use Rattle.std.proofs.lemmas.Bool.{false≢true}
+use Rattle.std.proofs.Common.{◌≡◌, ℕ, ◌+◌, ◌<◌, inl, inr, Bool, true, false, List, [], ◌∷◌, ◌++◌, length, map, get_or, get_or-set_other, refl, sym, ap, subst, ◌∙◌, arith, Option, Some, None, Result, Ok, Err, IfOk, IfErr}
+use Rattle.std.specs.Prelude.{MatchResult, slice_index_or, slice_set, is_err}
+use Rattle.std.proofs.lemmas.Bool.{cases_eq, false≢true, true≢false}
 use Rattle.std.proofs.lemmas.List.{length-map, map-append, get_or_append_left, length-append}
 use Rattle.r6_dev.specs.History.{Telling}
 use Rattle.r6_health.specs.declared.history.View.{View}
@@ -17,54 +17,74 @@ use Rattle.r6_frames.specs.Views.{world_command}
 use Rattle.r6_core.specs.declared.Command.{Command}
 use Rattle.r6_core.specs.declared.call.Call.{Call}
 use Rattle.r6_core.specs.declared.refusal.DeviceFault.{DeviceFault}
-use Rattle.r6_core.specs.Shards.{CoreView, Step, completion_of, call_of, reply_of}
+use Rattle.r6_core.specs.declared.refusal.Receipt.{Receipt}
+use Rattle.r6_core.specs.declared.refusal.Receipt.TheVariants as core-receipt
+use Rattle.r6_core.specs.Shards.{CoreView, Step, completion_of, receipt_of, call_of, reply_of}
 use Rattle.r6_course.specs.Courses.{Start, Mark, Asked, Replied, marked, looked_by}
-use Rattle.r6_course.specs.Steps.{IsPlainCall}
+use Rattle.r6_course.specs.Steps.{IsPlainCall, NamesIt}
 use Rattle.r6_shard.specs.declared.ledger.Asked.{Asked as Accepted}
 use Rattle.r6_shard.specs.declared.ledger.Entry.{Entry}
 use Rattle.r6_shard.specs.Performing.{Performed, Failed}
+use Rattle.r6_shard.specs.Kept.{named_by}
 use Rattle.r6_shard.specs.Histories.{replied_in, numbered}
 use Rattle.r6_shard.specs.Courses.{Course, AreOf, HasCourse, replied_of}
 use Rattle.r6_shard.proofs.Histories.{asked-more, replied-same, before-more, numbered-more, asked-same, replied-more, before-same}
 use Rattle.r6_shard.proofs.Courses.{goes, performed, seen, told}
 
-pub has-gone : (s : Start) (old new : CoreView) (v : View) (looked : ℕ) (part : ℕ → ℕ → Option Telling) (accepted : List Accepted) (entries : List Entry)
+pub has-gone : (s : Start) (old new : CoreView) (v : View) (looked : ℕ) (named : List Bool) (part : ℕ → ℕ → Option Telling) (accepted : List Accepted) (entries : List Entry)
     (ops : List world.Op) (event : Event) → IsPlainCall (held v.start v.seen) event → ((history : List Mark) → marked event history ≡ history)
-    → Step old event new → HasCourse s old v looked part accepted entries ops → HasCourse s new v (looked_by event looked) part accepted entries ops
-has-gone s old new v looked part accepted entries ops event plain unmarked step x =
+    → Step old event new → HasCourse s old v looked named part accepted entries ops → HasCourse s new v (looked_by event looked) named part accepted entries ops
+has-gone s old new v looked named part accepted entries ops event plain unmarked step x =
     record {
       history = x.history;
       tells = x.tells;
-      course = subst (Course s new v (looked_by event looked) part) (unmarked x.history) (goes s old new v looked part x.history event plain step x.course);
+      course = subst (Course s new v (looked_by event looked) named part) (unmarked x.history) (goes s old new v looked named part x.history event plain step x.course);
     }
 
-pub has-performed : (s : Start) (old mid new : CoreView) (v : View) (looked : ℕ) (part part' : ℕ → ℕ → Option Telling) (accepted : List Accepted)
-    (entries : List Entry) (ops : List world.Op) (c : Command) (frame : ℕ) (abandoned : Rattle.std.proofs.Common.Bool) (receipt : steps.Receipt)
+pub has-performed : (s : Start) (old mid new : CoreView) (v : View) (looked : ℕ) (named named' : List Bool) (part part' : ℕ → ℕ → Option Telling) (accepted : List Accepted)
+    (entries : List Entry) (ops : List world.Op) (c : Command) (frame : ℕ) (abandoned : Bool) (receipt : steps.Receipt)
     (completion : Result (List ℕ) DeviceFault) → Step old (Take_command c.token (world_command frame abandoned c)) mid
     → Step mid (Deliver c.token (completion_of completion) receipt) new → MatchResult completion (Performed part part' c) (Failed part part' c)
-    → HasCourse s old v looked part accepted entries ops → HasCourse s new v looked part' accepted entries ops
-has-performed s old mid new v looked part part' accepted entries ops c frame abandoned receipt completion takes delivers did x =
+    → MatchResult completion (λ _. named' ≡ named) (λ _. NamesIt c.slot receipt named named')
+    → HasCourse s old v looked named part accepted entries ops → HasCourse s new v looked named' part' accepted entries ops
+has-performed s old mid new v looked named named' part part' accepted entries ops c frame abandoned receipt completion takes delivers did names x =
     record {
       history = x.history;
       tells = x.tells;
-      course = performed s old mid new v looked part part' x.history c frame abandoned receipt completion takes delivers did x.course;
+      course = performed s old mid new v looked named named' part part' x.history c frame abandoned receipt completion takes delivers did names x.course;
     }
 
-pub has-seen : (s : Start) (core : CoreView) (v w : View) (looked : ℕ) (part : ℕ → ℕ → Option Telling) (accepted : List Accepted) (entries : List Entry)
-    (ops : List world.Op) → Looks v w → HasCourse s core v looked part accepted entries ops → HasCourse s core w looked part accepted entries ops
-has-seen s core v w looked part accepted entries ops look x =
-    record { history = x.history; tells = x.tells; course = seen s core v w looked part x.history look x.course }
+-- a slot is named where its command's error was taken, and no other is
+names-it : (named : List Bool) (slot : ℕ) → NamesIt slot steps.Taken named (slice_set named slot true)
+names-it named slot other e = elim (cases_eq other slot) [
+  | inl same ↦ inr (same, refl)
+  | inr ne ↦ inl (sym (get_or-set_other named slot other true false ne) ∙ e)
+]
 
-pub has-told : (s : Start) (old mid new : CoreView) (v w : View) (looked : ℕ) (part : ℕ → ℕ → Option Telling) (accepted : List Accepted)
+pub names-by : (named named' : List Bool) (failed : Bool) (receipt : Receipt) (slot : ℕ) (completion : Result (List ℕ) DeviceFault)
+    → failed ≡ is_err completion → named' ≡ named_by failed receipt slot named
+    → MatchResult completion (λ _. named' ≡ named) (λ _. NamesIt slot (receipt_of receipt) named named')
+names-by named named' true receipt slot (Ok came) is same = absurd (true≢false is)
+names-by named named' false receipt slot (Ok came) is same = same
+names-by named named' true core-receipt.Taken slot (Err fault) is same = subst (NamesIt slot steps.Taken named) (sym same) (names-it named slot)
+names-by named named' true core-receipt.Late slot (Err fault) is same = subst (NamesIt slot steps.Late named) (sym same) (λ other e. inl e)
+names-by named named' false receipt slot (Err fault) is same = absurd (false≢true is)
+
+pub has-seen : (s : Start) (core : CoreView) (v w : View) (looked : ℕ) (named : List Bool) (part : ℕ → ℕ → Option Telling) (accepted : List Accepted) (entries : List Entry)
+    (ops : List world.Op) → Looks v w → HasCourse s core v looked named part accepted entries ops → HasCourse s core w looked named part accepted entries ops
+has-seen s core v w looked named part accepted entries ops look x =
+    record { history = x.history; tells = x.tells; course = seen s core v w looked named part x.history look x.course }
+
+pub has-told : (s : Start) (old mid new : CoreView) (v w : View) (looked : ℕ) (named : List Bool) (part : ℕ → ℕ → Option Telling) (accepted : List Accepted)
     (entries : List Entry) (ops : List world.Op) (number : ℕ) (call : Call) (answer : Answer) → number ≡ old.shard
     → Step old (Take_call (call_of call)) mid → Step mid (Told (call_of call) answer) new
     → Answered v (as_made number (call_of call)) answer w
-    → HasCourse s old v looked part accepted entries ops → HasCourse s new w looked part accepted entries ops
-has-told s old mid new v w looked part accepted entries ops number call answer same takes tells answered x =
+    → HasCourse s old v looked named part accepted entries ops → HasCourse s new w looked named part accepted entries ops
+has-told s old mid new v w looked named part accepted entries ops number call answer same takes tells answered x =
     record {
       history = x.history;
       tells = x.tells;
-      course = told s old mid new v w looked part x.history number call answer same takes tells answered x.course;
+      course = told s old mid new v w looked named part x.history number call answer same takes tells answered x.course;
     }
 
 -- ---- requests and replies
@@ -95,11 +115,11 @@ linked-more : (accepted : List Accepted) (entries : List Entry) (e : Entry) → 
 linked-more accepted [] e x below event block = (below, event, block, record {})
 linked-more accepted (first ∷ entries) e x below event block = (x.0, x.1, x.2, linked-more accepted entries e x.3 below event block)
 
-pub has-submitted : (s : Start) (old new : CoreView) (v : View) (looked : ℕ) (part : ℕ → ℕ → Option Telling) (accepted : List Accepted) (entries : List Entry)
+pub has-submitted : (s : Start) (old new : CoreView) (v : View) (looked : ℕ) (named : List Bool) (part : ℕ → ℕ → Option Telling) (accepted : List Accepted) (entries : List Entry)
     (ops : List world.Op) (event : ℕ) (op : world.Op) (id : ℕ) → id ≡ length accepted → Step old (Submit op id) new
-    → HasCourse s old v looked part accepted entries ops
-    → HasCourse s new v looked part (accepted ++ record { event = event; block = block_of op; answered = length entries } ∷ []) entries (ops ++ op ∷ [])
-has-submitted s old new v looked part accepted entries ops event op id same step x =
+    → HasCourse s old v looked named part accepted entries ops
+    → HasCourse s new v looked named part (accepted ++ record { event = event; block = block_of op; answered = length entries } ∷ []) entries (ops ++ op ∷ [])
+has-submitted s old new v looked named part accepted entries ops event op id same step x =
     let h = x.history in
     let t = x.tells in
     let a : Accepted = record { event = event; block = block_of op; answered = length entries } in
@@ -117,15 +137,15 @@ has-submitted s old new v looked part accepted entries ops event op id same step
             ∙ sym (map-append block_of ops (op ∷ []));
         linked = linked-longer accepted a entries t.linked;
       };
-      course = goes s old new v looked part h (Submit op id) (record {}) step x.course;
+      course = goes s old new v looked named part h (Submit op id) (record {}) step x.course;
     }
 
-pub has-collected : (s : Start) (old new : CoreView) (v : View) (looked : ℕ) (part : ℕ → ℕ → Option Telling) (accepted : List Accepted) (entries : List Entry)
+pub has-collected : (s : Start) (old new : CoreView) (v : View) (looked : ℕ) (named : List Bool) (part : ℕ → ℕ → Option Telling) (accepted : List Accepted) (entries : List Entry)
     (ops : List world.Op) (e : Entry) → Step old (Take_reply e.id.0 (reply_of e.reply)) new → e.id.0 < length accepted
     → slice_index_or (map (λ (a : Accepted). a.event) accepted) e.id.0 0 ≡ e.event
     → slice_index_or (map (λ (a : Accepted). a.block) accepted) e.id.0 0 ≡ e.block
-    → HasCourse s old v looked part accepted entries ops → HasCourse s new v looked part accepted (entries ++ e ∷ []) ops
-has-collected s old new v looked part accepted entries ops e step below event block x =
+    → HasCourse s old v looked named part accepted entries ops → HasCourse s new v looked named part accepted (entries ++ e ∷ []) ops
+has-collected s old new v looked named part accepted entries ops e step below event block x =
     let h = x.history in
     let t = x.tells in
     record {
@@ -138,7 +158,7 @@ has-collected s old new v looked part accepted entries ops e step below event bl
         blocks = t.blocks;
         linked = linked-more accepted entries e t.linked below event block;
       };
-      course = goes s old new v looked part h (Take_reply e.id.0 (reply_of e.reply)) (record {}) step x.course;
+      course = goes s old new v looked named part h (Take_reply e.id.0 (reply_of e.reply)) (record {}) step x.course;
     }
 
 -- ---- of a result

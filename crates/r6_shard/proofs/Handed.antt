@@ -1,5 +1,5 @@
 -- A part is handed in.
-use Rattle.std.proofs.Common.{◌≡◌, ℕ, ◌<◌, ◌≤◌, zero, suc, List, [], ◌∷◌, ◌++◌, length, get_or, true, false, inl, inr, refl, sym, ap, ◌∙◌, arith, Option, Some, None}
+use Rattle.std.proofs.Common.{◌≡◌, ℕ, ◌<◌, ◌≤◌, zero, suc, List, [], ◌∷◌, ◌++◌, length, get_or, Bool, true, false, inl, inr, refl, sym, ap, ◌∙◌, arith, Option, Some, None}
 use Rattle.std.specs.Prelude.{slice_set, ◌==◌, ◌&&◌, nat_lt, cond}
 use Rattle.std.specs.List.{position, position_or_len}
 use Rattle.std.proofs.lemmas.List.Quantifiers.{position-Some}
@@ -184,14 +184,14 @@ still-start l r device device' array slot generation looked above alike x =
           ∙ x.full_rows row d in-row below sync;
     }
 
-pub has-handed : (s : Start) (device : Devices) (core : CoreView) (v : View) (looked : ℕ) (part part' : ℕ → ℕ → Option Telling)
+pub has-handed : (s : Start) (device : Devices) (core : CoreView) (v : View) (looked : ℕ) (named : List Bool) (part part' : ℕ → ℕ → Option Telling)
     (accepted : List Accepted) (entries : List Entry) (ops : List world.Op) (slot generation : ℕ) (telling : Telling) → looked < generation
     → OthersAreAlike slot generation s.device device → courses.Tells s (device slot generation) telling
     → part' slot generation ≡ Some telling → OthersAreKept slot generation part part'
-    → HasCourse s core v looked part accepted entries ops → HasCourse (record s { device = device }) core v looked part' accepted entries ops
-has-handed s device core v looked part part' accepted entries ops slot generation telling above alike tells is others x =
+    → HasCourse s core v looked named part accepted entries ops → HasCourse (record s { device = device }) core v looked named part' accepted entries ops
+has-handed s device core v looked named part part' accepted entries ops slot generation telling above alike tells is others x =
     let t : Start = record s { device = device } in
-    let y = handing_goes_on s x.course.lawful device (stand_of core v looked part x.history) slot generation telling x.course.follows above alike tells in
+    let y = handing_goes_on s x.course.lawful device (stand_of core v looked named part x.history) slot generation telling x.course.follows above alike tells in
     record {
       history = x.history;
       tells = x.tells;
@@ -204,7 +204,7 @@ has-handed s device core v looked part part' accepted entries ops slot generatio
         layout = x.course.layout;
         number = x.course.number;
         pass = record { slots = x.course.pass.slots; shards = x.course.pass.shards; now = x.course.pass.now };
-        follows = letting_goes_on t (stand_of core v looked (put_in part slot generation (Some telling)) x.history) part' y
+        follows = letting_goes_on t (stand_of core v looked named (put_in part slot generation (Some telling)) x.history) part' y
             (λ d g told there. sym (put-alike part part' slot generation telling is others d g) ∙ there);
       };
     }

@@ -134,6 +134,7 @@ dummy-stand core = record {
   shard = world_shard core;
   register = record { slots = []; attaches = 0; failed = false };
   looked = 0;
+  named = [];
   part = λ d g. None;
   history = [];
 }

@@ -30,7 +30,7 @@ use Rattle.r6_shard.proofs.Lasting.{none-own, still-refused, none-later}
 pub ledger : {P : Type 0} (tells : P → ℕ → ℕ → Option Telling) (s : Start) (ops : List world.Op) (shard : Shard P)
     → CourseOf tells s ops shard → IsLedger tells s ops shard
 ledger tells s ops shard x =
-    let at = stand_of shard.core (view_of shard.pass) shard.looked (tells shard.parts) x.history in
+    let at = stand_of shard.core (view_of shard.pass) shard.looked shard.named (tells shard.parts) x.history in
     let lawful = x.course.lawful in
     record {
       history = x.history;

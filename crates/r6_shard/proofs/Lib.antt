@@ -12,6 +12,7 @@ pub mod Promises
 pub mod Counting
 pub mod Lasting
 pub mod Going
+pub mod Advances
 pub mod Beginnings
 pub mod Ledgers
 pub mod FromStarts

@@ -11,6 +11,9 @@ use Rattle.r6_stripe.specs.Holds.Kind.{Idle, Read as RowRead, Write as RowWrite,
 use Rattle.r6_stripe.specs.Holds.Event.{Asks, Restores, Computes, Writes, Gives, Confirms, Loses}
 use Rattle.r6_stripe.specs.Holds.Outcome.{GivenUp as RowGivenUp}
 use Rattle.r6_world.specs.Tables.{put}
+use Rattle.r6_health.specs.declared.history.View.{View}
+use Rattle.r6_health.specs.Histories.{held, StartsWith}
+use Rattle.r6_health.proofs.Histories.{starts_with-trans}
 use Rattle.r6_world.specs.Layouts.{Layout}
 use Rattle.r6_world.specs.Geometries.{layout_of}
 use Rattle.r6_world.specs.Registers.{Snapshot, Status, InSync, Lost, Rebuilding, status_of}
@@ -34,7 +37,7 @@ use Rattle.r6_core.specs.Effects.{TakesTurn}
 use Rattle.r6_world.specs.Refusals.{IsNoLook}
 use Rattle.r6_shard.proofs.Keeping.{IsPlain, turned, turned-no-look}
 use Rattle.r6_shard.specs.Kept.{named_by}
-use Rattle.r6_shard.specs.Whole.{IsClean, IsWhole, SkipsNone, Remembers, is_rebuild, rebuilds}
+use Rattle.r6_shard.specs.Whole.{IsClean, IsWhole, SkipsNone, WereAllInSync, SawWithPass, Remembers, is_rebuild, rebuilds}
 
 -- ---- each small change
 
@@ -318,6 +321,16 @@ pub turned-calm : (old : CoreView) (own : CoreTask) (turn : Turn) (new : CoreVie
     → IsCalm slots (turned old own turn new x).0
 turned-calm old own turn new x slots =
     plain-calm slots (turned old own turn new x).0 (turned old own turn new x).1 (turned-no-look old own turn new x)
+
+-- what was in sync in all that a pass has seen was so in what it saw before
+were-before : (v w : View) → w.start ≡ v.start → StartsWith w.seen v.seen → WereAllInSync w → WereAllInSync v
+were-before v w same longer were = λ front starts slot below.
+    subst (λ s. status_of (held s front) slot ≡ InSync) same
+    (were front (starts_with-trans w.seen v.seen front longer starts) slot below)
+
+pub saw-later : (saw_out : Bool) (v w : View) → w.start ≡ v.start → StartsWith w.seen v.seen → SawWithPass saw_out v
+    → SawWithPass saw_out w
+saw-later saw_out v w same longer x = λ were. x (were-before v w same longer were)
 
 -- no slot was out before, and none of the array is seen out
 pub seen-whole : (before now : Bool) (snapshot : Snapshot) (slots : ℕ) → slots ≤ 32

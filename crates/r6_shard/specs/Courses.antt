@@ -1,5 +1,5 @@
 -- That all that a shard's thread did is a course of its shard.
-use Rattle.std.specs.Prelude.{◌≡◌, ℕ, ◌<◌, List, [], ◌∷◌, length, map, slice_index_or, Option}
+use Rattle.std.specs.Prelude.{◌≡◌, ℕ, ◌<◌, Bool, List, [], ◌∷◌, length, map, slice_index_or, Option}
 use Rattle.r6_dev.specs.History.{Telling}
 use Rattle.r6_health.specs.declared.history.View.{View}
 use Rattle.r6_health.specs.Histories.{held}
@@ -11,20 +11,27 @@ use Rattle.r6_shard.specs.Histories.{asked_in, replied_in, answered_before, numb
 use Rattle.r6_shard.specs.declared.ledger.Asked.{Asked as Accepted}
 use Rattle.r6_shard.specs.declared.ledger.Entry.{Entry}
 
--- where a core stands with its parts, beside a register that its pass has seen so far and of which it looked at so
--- many attaches
-abbrev pub stand_of : CoreView → View → (looked : ℕ) → (ℕ → ℕ → Option Telling) → List Mark → Stand
-stand_of core v looked part history =
-    record { shard = world_shard core; register = held v.start v.seen; looked = looked; part = part; history = history }
+-- where a core stands with its parts and the slots that are named, beside a register that its pass has seen so far and of
+-- which it looked at so many attaches
+abbrev pub stand_of : CoreView → View → (looked : ℕ) → (named : List Bool) → (ℕ → ℕ → Option Telling) → List Mark → Stand
+stand_of core v looked named part history =
+    record {
+      shard = world_shard core;
+      register = held v.start v.seen;
+      looked = looked;
+      named = named;
+      part = part;
+      history = history;
+    }
 
 -- a run from this start leads there
-pub record Course (s : Start) (core : CoreView) (v : View) (looked : ℕ) (part : ℕ → ℕ → Option Telling)
-    (history : List Mark) : Type 0 where
+pub record Course (s : Start) (core : CoreView) (v : View) (looked : ℕ) (named : List Bool)
+    (part : ℕ → ℕ → Option Telling) (history : List Mark) : Type 0 where
   pub lawful : IsLawful s
   pub layout : s.layout ≡ core_layout core
   pub number : s.number ≡ core.shard
   pub pass : Knows s v (held v.start v.seen)
-  pub follows : Follows s (stand_of core v looked part history)
+  pub follows : Follows s (stand_of core v looked named part history)
 
 -- ---- the history, as the thread's lists tell it
 
@@ -49,8 +56,8 @@ pub record Tells (accepted : List Accepted) (entries : List Entry) (ops : List O
   pub linked : AreOf accepted entries
 
 -- A course of the shard with such a history
-pub record HasCourse (s : Start) (core : CoreView) (v : View) (looked : ℕ) (part : ℕ → ℕ → Option Telling)
-    (accepted : List Accepted) (entries : List Entry) (ops : List Op) : Type 0 where
+pub record HasCourse (s : Start) (core : CoreView) (v : View) (looked : ℕ) (named : List Bool)
+    (part : ℕ → ℕ → Option Telling) (accepted : List Accepted) (entries : List Entry) (ops : List Op) : Type 0 where
   pub history : List Mark
   pub tells : Tells accepted entries ops history
-  pub course : Course s core v looked part history
+  pub course : Course s core v looked named part history

@@ -9,6 +9,7 @@ pub mod Shards
 pub mod Naming
 pub mod Sound
 pub mod Whole
+pub mod Advances
 pub mod Splitting
 pub mod Handing
 pub mod Counted

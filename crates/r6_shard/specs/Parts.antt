@@ -33,7 +33,8 @@ pub record TakesIn {D : Type 0} (told : D → Telling) (part : Part D) (earlier 
   pub there : part_of new part.slot part.generation ≡ Some part
   pub tells : part_in told new part.slot part.generation ≡ Some (told part.device)
   pub others : OthersAreKept part.slot part.generation (part_in told old) (part_in told new)
-  pub kept : (other g : ℕ) → ((other ≡ part.slot) × (g ≡ part.generation) → ⊥) → part_of new other g ≡ part_of old other g
+  pub kept : (other g : ℕ) → ((other ≡ part.slot) × (g ≡ part.generation) → ⊥)
+      → part_of new other g ≡ part_of old other g
 
 -- it would be one more than there is room for
 abbrev pub HasNoRoom : {D : Type 0} → Part D → List (Part D) → (capacity : ℕ) → Type 0

@@ -25,7 +25,7 @@ use Rattle.r6_shard.specs.Kept.{NoneIsOut, NoneIsToTell}
 -- the shard has had a course from this start, in which these ops were handed in, in this order
 abbrev pub CourseOf : {P : Type 0} → (P → ℕ → ℕ → Option Telling) → Start → List world.Op → Shard P → Type 0
 CourseOf tells s ops shard =
-    HasCourse s shard.core (view_of shard.pass) shard.looked (tells shard.parts)
+    HasCourse s shard.core (view_of shard.pass) shard.looked shard.named (tells shard.parts)
     shard.asked.items shard.entries.items ops
 
 -- whatever its course was, it has gone on

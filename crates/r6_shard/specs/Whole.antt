@@ -2,7 +2,11 @@
 use Rattle.std.specs.Prelude.{◌≡◌, ℕ, ◌<◌, Bool, true, false, List, slice_index_or, Some}
 use Rattle.r6_stripe.specs.Holds.{Kind}
 use Rattle.r6_stripe.specs.Holds.Kind.{Idle, Read as RowRead, Write as RowWrite, Rebuild as RowRebuild, Check as RowCheck, Repair as RowRepair}
+use Rattle.r6_health.specs.declared.history.Entry.{Entry}
+use Rattle.r6_health.specs.declared.history.View.{View}
+use Rattle.r6_health.specs.Histories.{held, StartsWith}
 use Rattle.r6_world.specs.Layouts.{Layout}
+use Rattle.r6_world.specs.Registers.{Snapshot, InSync, status_of}
 use Rattle.r6_world.specs.Tasks.{Task, Hold, ReadFor, WriteFor, Rebuild, Check, Repair}
 use Rattle.r6_world.specs.ShardStates.{Shard, is_away}
 use Rattle.r6_core.specs.Shards.{CoreView, core_layout, world_shard}
@@ -10,6 +14,18 @@ use Rattle.r6_core.specs.Shards.{CoreView, core_layout, world_shard}
 -- no slot is named, and none was seen that wasn't in sync
 abbrev pub IsClean : (named : List Bool) → (saw_out : Bool) → Type 0
 IsClean named saw_out = ((slot : ℕ) → slice_index_or named slot false ≡ false) × (saw_out ≡ false)
+
+-- each slot is in sync
+abbrev pub AreAllInSync : Snapshot → Type 0
+AreAllInSync snapshot = (slot : ℕ) → slot < 32 → status_of snapshot slot ≡ InSync
+
+-- at no time that the pass has seen was a slot not in sync
+abbrev pub WereAllInSync : View → Type 0
+WereAllInSync v = (front : List Entry) → StartsWith v.seen front → AreAllInSync (held v.start front)
+
+-- the shard saw a slot that wasn't in sync only where its pass did
+abbrev pub SawWithPass : (saw_out : Bool) → View → Type 0
+SawWithPass saw_out v = WereAllInSync v → saw_out ≡ false
 
 -- what was named or seen stays so
 abbrev pub Remembers : (named : List Bool) → (saw_out : Bool) → (named' : List Bool) → (saw_out' : Bool) → Type 0

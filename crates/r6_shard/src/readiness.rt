@@ -43,19 +43,15 @@ impl<D: BlockDevice + Drop> Shard<Parts<D>> {
     ghost use Rattle.r6_health.specs.Passes.{IsPassOf};
     ghost use Rattle.r6_shard.specs.Handing.{parts_tell};
     ghost use Rattle.r6_shard.specs.Counted.{CountsAll, PassesNone};
-    ghost use Rattle.r6_shard.specs.Refusing.{Lasts};
-    ghost use Rattle.r6_shard.specs.Shards.{GoesOn, SameLedger};
-    ghost use Rattle.r6_shard.specs.Sound.{StaysSound, parts_promise};
-    ghost use Rattle.r6_shard.specs.Whole.{Remembers};
+    ghost use Rattle.r6_shard.specs.Advances.{Advances};
+    ghost use Rattle.r6_shard.specs.Shards.{SameLedger};
+    ghost use Rattle.r6_shard.specs.Sound.{parts_promise};
 
     // Looks at the register as it is, if the parts of the new devices are here; whether it did.
     fn look_when_here<R: Wait>(&mut self, rt: &R, register: &Register) -> bool
         requires { IsPassOf register.now self.old.pass }
         ensures pass { IsPassOf register.now self.new.pass }
-        ensures course { GoesOn (parts_tell D.told) self.old self.new }
-        ensures lasts { Lasts self.old.core self.new.core }
-        ensures remembers { Remembers self.old.named self.old.saw_out self.new.named self.new.saw_out }
-        ensures sound { StaysSound (parts_tell D.told) (parts_promise D.promised) self.old self.new }
+        ensures advances { Advances (parts_tell D.told) (parts_promise D.promised) self.old self.new }
         ensures passed { PassesNone self.old.core self.new.core }
         ensures ledger { SameLedger self.old self.new }
     {
@@ -72,10 +68,7 @@ impl<D: BlockDevice + Drop> Shard<Parts<D>> {
     pub fn round_when_here<R: Wait>(&mut self, rt: &R, register: &Register)
         requires { IsPassOf register.now self.old.pass }
         ensures pass { IsPassOf register.now self.new.pass }
-        ensures course { GoesOn (parts_tell D.told) self.old self.new }
-        ensures lasts { Lasts self.old.core self.new.core }
-        ensures remembers { Remembers self.old.named self.old.saw_out self.new.named self.new.saw_out }
-        ensures sound { StaysSound (parts_tell D.told) (parts_promise D.promised) self.old self.new }
+        ensures advances { Advances (parts_tell D.told) (parts_promise D.promised) self.old self.new }
         ensures passed { CountsAll self.old.core self.new.core }
         ensures asked { self.new.asked.items ≡ self.old.asked.items }
         ensures room { self.new.room ≡ self.old.room }

@@ -14,15 +14,11 @@ impl<P: Performs + Drop> Shard<P> {
     ghost use Rattle.r6_shard.specs.Counted.{PassesNone};
     ghost use Rattle.r6_shard.specs.Refusing.{Lasts};
     ghost use Rattle.r6_shard.specs.Shards.{GoesOn, SameLedger, Rests};
-    ghost use Rattle.r6_shard.specs.Sound.{StaysSound};
-    ghost use Rattle.r6_shard.specs.Whole.{Remembers};
+    ghost use Rattle.r6_shard.specs.Advances.{Advances};
 
     // Performs what was put out, until nothing more is.
     pub(crate) fn perform_all<R: Wait>(&mut self, rt: &R)
-        ensures course { GoesOn P.tells self.old self.new }
-        ensures lasts { Lasts self.old.core self.new.core }
-        ensures remembers { Remembers self.old.named self.old.saw_out self.new.named self.new.saw_out }
-        ensures sound { StaysSound P.tells P.promised self.old self.new }
+        ensures advances { Advances P.tells P.promised self.old self.new }
         ensures passed { PassesNone self.old.core self.new.core }
         ensures ledger { SameLedger self.old self.new }
         ensures pass { self.new.pass ≡ self.old.pass }
@@ -39,10 +35,7 @@ impl<P: Performs + Drop> Shard<P> {
     pub(crate) fn tell_all<R: Wait>(&mut self, rt: &R, register: &Register)
         requires { IsPassOf register.now self.old.pass }
         ensures pass { IsPassOf register.now self.new.pass }
-        ensures course { GoesOn P.tells self.old self.new }
-        ensures lasts { Lasts self.old.core self.new.core }
-        ensures remembers { Remembers self.old.named self.old.saw_out self.new.named self.new.saw_out }
-        ensures sound { StaysSound P.tells P.promised self.old self.new }
+        ensures advances { Advances P.tells P.promised self.old self.new }
         ensures passed { PassesNone self.old.core self.new.core }
         ensures ledger { SameLedger self.old self.new }
     {
@@ -55,10 +48,7 @@ impl<P: Performs + Drop> Shard<P> {
 
     // Takes the replies that were released.
     pub(crate) fn collect_all<R: Wait>(&mut self, rt: &R)
-        ensures course { GoesOn P.tells self.old self.new }
-        ensures lasts { Lasts self.old.core self.new.core }
-        ensures remembers { Remembers self.old.named self.old.saw_out self.new.named self.new.saw_out }
-        ensures sound { StaysSound P.tells P.promised self.old self.new }
+        ensures advances { Advances P.tells P.promised self.old self.new }
         ensures passed { PassesNone self.old.core self.new.core }
         ensures asked { self.new.asked ≡ self.old.asked }
         ensures room { self.new.room ≡ self.old.room }
@@ -91,10 +81,7 @@ impl<P: Performs + Drop> Shard<P> {
     pub fn rests<R: Wait>(&mut self, rt: &R, register: &Register) -> bool
         requires { IsPassOf register.now self.old.pass }
         ensures pass { IsPassOf register.now self.new.pass }
-        ensures course { GoesOn P.tells self.old self.new }
-        ensures lasts { Lasts self.old.core self.new.core }
-        ensures remembers { Remembers self.old.named self.old.saw_out self.new.named self.new.saw_out }
-        ensures sound { StaysSound P.tells P.promised self.old self.new }
+        ensures advances { Advances P.tells P.promised self.old self.new }
         ensures passed { PassesNone self.old.core self.new.core }
         ensures ledger { SameLedger self.old self.new }
         ensures rests { result ≡ true → Rests self.new }

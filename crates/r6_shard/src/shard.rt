@@ -3,15 +3,14 @@
 ghost use Rattle.std.specs.Prelude.{◌≡◌, ◌+◌, ◌<◌, ◌≤◌, ◌++◌, length, vec_capacity, IfOk, IfErr, false};
 ghost use Rattle.r6_health.specs.Passes.{view_of, IsPassOf};
 ghost use Rattle.r6_health.specs.Histories.{held};
-ghost use Rattle.r6_health.specs.Registers.{attaches_of, state_at};
-ghost use Rattle.r6_health.specs.declared.slots.SlotState.TheVariants.{InSync};
+ghost use Rattle.r6_health.specs.Registers.{attaches_of};
 ghost use Rattle.r6_health.specs.Views.{Answered, made_by};
 ghost use Rattle.r6_world.specs.Worlds.{as_made};
 ghost use Rattle.r6_core.specs.Shards.{world_shard, call_of};
 ghost use Rattle.r6_shard.specs.Kept.{IsKept, named_by};
 ghost use Rattle.r6_shard.specs.Own.{AreOwn, SeesFailure};
 ghost use Rattle.r6_shard.specs.Refusing.{Lasts};
-ghost use Rattle.r6_shard.specs.Whole.{SkipsNone, Remembers};
+ghost use Rattle.r6_shard.specs.Whole.{SkipsNone, AreAllInSync, SawWithPass, Remembers};
 
 use crate::ledger::{Asked, Entry};
 use crate::performs::Performs;
@@ -56,6 +55,7 @@ pub struct Shard<P> {
     pub ghost own: { AreOwn number named (view_of pass).mine },
     pub ghost failure: { SeesFailure core (view_of pass) entries.items },
     pub ghost whole: { SkipsNone core named saw_out },
+    pub ghost saw: { SawWithPass saw_out (view_of pass) },
     pub ghost counted: { core.unanswered + length entries.items ≡ length asked.items },
     pub ghost within: { length asked.items ≤ room },
     pub ghost asked_room: { room ≤ vec_capacity asked },
@@ -108,7 +108,8 @@ fn looked_by(look: Result<(), Refusal>, snapshot: &Snapshot, looked: u32) -> u32
 
 // Whether a slot isn't in sync.
 fn has_out(snapshot: &Snapshot) -> bool
-    ensures { result ≡ false → (slot : _) → slot < 32 → state_at snapshot.now slot ≡ InSync }
+    ensures none { result ≡ false → AreAllInSync snapshot.now }
+    ensures one { AreAllInSync snapshot.now → result ≡ false }
 {
     for slot in 0..MOST_SLOTS {
         match snapshot.slot(slot) {
@@ -121,8 +122,8 @@ fn has_out(snapshot: &Snapshot) -> bool
 
 // Whether one wasn't in sync before, or isn't now.
 fn saw_by(saw_out: bool, snapshot: &Snapshot) -> bool
-    ensures { result ≡ false → (saw_out ≡ false)
-        × ((slot : _) → slot < 32 → state_at snapshot.now slot ≡ InSync) }
+    ensures none { result ≡ false → (saw_out ≡ false) × AreAllInSync snapshot.now }
+    ensures one { saw_out ≡ false → AreAllInSync snapshot.now → result ≡ false }
 {
     saw_out || has_out(snapshot)
 }
@@ -136,6 +137,7 @@ impl<P: Performs + Drop> Shard<P> {
     ghost use Rattle.r6_shard.specs.Kept.{NoneIsOut, NoneIsToTell};
     ghost use Rattle.r6_shard.specs.Counted.{HasPassedRows, PassesMore, PassesNone, rows_of};
     ghost use Rattle.r6_shard.specs.Shards.{GoesOn, SameLedger, Submits, Collects, Begins};
+    ghost use Rattle.r6_shard.specs.Advances.{Advances};
     ghost use Rattle.r6_shard.specs.Sound.{BeginsSound, HasNew, IsSoundIn, StaysSound};
     ghost use Rattle.r6_shard.specs.Naming.{NamesFailures};
 
@@ -236,11 +238,8 @@ impl<P: Performs + Drop> Shard<P> {
 
     /// Performs the command that was put out first, in place, and delivers its completion; whether there was one.
     pub fn perform_next(&mut self) -> bool
-        ensures course { GoesOn P.tells self.old self.new }
-        ensures lasts { Lasts self.old.core self.new.core }
-        ensures remembers { Remembers self.old.named self.old.saw_out self.new.named self.new.saw_out }
+        ensures advances { Advances P.tells P.promised self.old self.new }
         ensures named { NamesFailures P.tells self.old self.new }
-        ensures sound { StaysSound P.tells P.promised self.old self.new }
         ensures passed { PassesNone self.old.core self.new.core }
         ensures ledger { SameLedger self.old self.new }
         ensures pass { self.new.pass ≡ self.old.pass }
@@ -314,11 +313,8 @@ impl<P: Performs + Drop> Shard<P> {
     pub fn tell_next<R: Wait>(&mut self, rt: &R, register: &Register) -> bool
         requires { IsPassOf register.now self.old.pass }
         ensures pass { IsPassOf register.now self.new.pass }
-        ensures course { GoesOn P.tells self.old self.new }
-        ensures lasts { Lasts self.old.core self.new.core }
-        ensures remembers { Remembers self.old.named self.old.saw_out self.new.named self.new.saw_out }
+        ensures advances { Advances P.tells P.promised self.old self.new }
         ensures named { self.new.named ≡ self.old.named }
-        ensures sound { StaysSound P.tells P.promised self.old self.new }
         ensures passed { PassesNone self.old.core self.new.core }
         ensures ledger { SameLedger self.old self.new }
         ensures none { result ≡ false → (world_shard self.new.core ≡ world_shard self.old.core)
@@ -336,11 +332,8 @@ impl<P: Performs + Drop> Shard<P> {
 
     /// Takes the reply that was released first into the ledger; whether there was one.
     pub fn collect(&mut self) -> bool
-        ensures course { GoesOn P.tells self.old self.new }
-        ensures lasts { Lasts self.old.core self.new.core }
-        ensures remembers { Remembers self.old.named self.old.saw_out self.new.named self.new.saw_out }
+        ensures advances { Advances P.tells P.promised self.old self.new }
         ensures named { self.new.named ≡ self.old.named }
-        ensures sound { StaysSound P.tells P.promised self.old self.new }
         ensures passed { PassesNone self.old.core self.new.core }
         ensures ledger { Collects result self.old self.new }
         ensures asked { self.new.asked ≡ self.old.asked }
@@ -365,11 +358,8 @@ impl<P: Performs + Drop> Shard<P> {
     /// # Errors
     /// Those of [`Core::turn`]. Nothing changes.
     pub fn turn(&mut self, task: Task) -> Result<Turn, Refusal>
-        ensures course { GoesOn P.tells self.old self.new }
-        ensures lasts { Lasts self.old.core self.new.core }
-        ensures remembers { Remembers self.old.named self.old.saw_out self.new.named self.new.saw_out }
+        ensures advances { Advances P.tells P.promised self.old self.new }
         ensures named { self.new.named ≡ self.old.named }
-        ensures sound { StaysSound P.tells P.promised self.old self.new }
         ensures passed { IfOk result (λ _. PassesMore (rows_of task) self.old.core self.new.core) }
         ensures ledger { SameLedger self.old self.new }
         ensures pass { self.new.pass ≡ self.old.pass }

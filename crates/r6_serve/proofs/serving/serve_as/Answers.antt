@@ -8,7 +8,7 @@ use Rattle.r6_health.specs.Views.{first_of, newcomer}
 use Rattle.r6_serve.specs.Serves.{Begins, HasAnswered, HasRun}
 use Rattle.r6_serve.proofs.EachShard.{each_of, have_served, less, numbered_still, read_again}
 use Rattle.r6_serve.proofs.Kept.{have_still}
-use Rattle.r6_serve.proofs.Passes.{call_as_they_may, is_shown}
+use Rattle.r6_serve.proofs.Passes.{call_as_they_may, each_saw_with_pass, is_shown}
 use Rattle.r6_runner.specs.Sound.{KeepsPromised}
 use Rattle.r6_serve.specs.Named.{BeginsSound}
 use Rattle.r6_serve.proofs.Named.{are-promised, leave_sound_alone}
@@ -115,3 +115,8 @@ returns-clause-sound g c =
 
 pub returns-clause-unskipped : goal.returns-clause-unskipped
 returns-clause-unskipped g c = λ k d below. (slice_index_or c.settle.new.runners.items k d).unskipped
+
+pub returns-clause-saw : goal.returns-clause-saw
+returns-clause-saw g c =
+    each_saw_with_pass c.in-Ok.register (view_of c.settle.new.pass) (view_of c.read-snapshot.new.pass) c.settle.new.runners.items
+    c.settle.ensures.heard c.read-snapshot.ensures.looks c.read-snapshot.ensures.pass.same_start

@@ -12,3 +12,10 @@ pub returns-clause-sound : goal.returns-clause-sound
 returns-clause-sound g c = λ shape number slot x.
     c.rebuild.ensures.sound shape number slot (c.go_on.ensures.sound shape number slot
     (c.begin_all.ensures.sound shape number slot (c.round.ensures.sound shape number slot x)))
+
+pub returns-clause-course : goal.returns-clause-course
+returns-clause-course g c = λ shape events number numbers geometry snapshot before x.
+    c.rebuild.ensures.course shape events number numbers geometry snapshot before
+    (c.go_on.ensures.course shape events number numbers geometry snapshot before
+    (c.begin_all.ensures.course shape events number numbers geometry snapshot before
+    (c.round.ensures.course shape events number numbers geometry snapshot before x)))

@@ -1,5 +1,6 @@
 use Rattle.std.proofs.Common.{sym, subst, ◌∙◌}
 use Rattle.r6_runner.specs.Counted.{HasCountedAll}
+use Rattle.r6_runner.specs.Runners.{HasDone}
 use Rattle.r6_runner.specs.Waits.{HasAwaited}
 use Rattle.r6_runner.proofs.Done.{self-on}
 use Rattle.r6_runner.specs.Sound.{IsSoundIn}
@@ -49,4 +50,15 @@ returns-clause-sound g c = λ shape number slot x.
       | in-None w ↦ subst (IsSoundIn told promised shape number slot) (sym w.self-is) before
       | in-Some+then-not-begin_next w ↦
           subst (IsSoundIn told promised shape number slot) (sym w.self-is) (w.begin_next.ensures.sound shape number slot before)
+    ]
+
+pub returns-clause-course : goal.returns-clause-course
+returns-clause-course g c = λ shape events number numbers geometry snapshot earlier x.
+    let told = g.D.BlockDevice.told in
+    let before = c.loop.invariant.2.course shape events number numbers geometry snapshot earlier x in
+    elim c.match-next.branch [
+      | in-None w ↦ subst (HasDone told shape events geometry number snapshot earlier numbers) (sym w.self-is) before
+      | in-Some+then-not-begin_next w ↦
+          subst (HasDone told shape events geometry number snapshot earlier numbers) (sym w.self-is)
+          (w.begin_next.ensures.course shape events number numbers geometry snapshot earlier before)
     ]

@@ -1,8 +1,9 @@
-use Rattle.std.proofs.Common.{ap, subst, slice_get}
+use Rattle.std.proofs.Common.{ap, refl, subst, slice_get}
+use Rattle.r6_core.specs.declared.turn.Task.TheVariants as task
 use Rattle.r6_runner.specs.Tasks.{request_of, pass_of}
 use Rattle.r6_runner.specs.Waits.{AreAwaited}
 use Rattle.r6_runner.proofs.Awaiting.{first-known, popped}
-use Rattle.r6_runner.proofs.Done.{served-on}
+use Rattle.r6_runner.proofs.Done.{passing-on, served-on}
 use Rattle.r6_runner.proofs.runner.Runner.begin_next.Goals as goal
 
 pub returns-in-Serve-clause-course : goal.returns-in-Serve-clause-course
@@ -41,3 +42,17 @@ returns-in-Repair-clause-awaited g c = λ events x.
     let rest = c.pop_front.new.self.items in
     c.begin_pass-in-Repair.ensures.awaited events (popped events old.waits old.shard.asked.items d rest
     (subst (AreAwaited events old.waits old.shard.asked.items) c.in-Some.ensures.items x))
+
+pub returns-in-Check-clause-course : goal.returns-in-Check-clause-course
+returns-in-Check-clause-course g c = λ shape events number numbers geometry snapshot before x.
+    let d = c.in-Some.due in
+    passing-on g.D.BlockDevice.told shape events geometry number snapshot before numbers c.args.self.now _ c.begin_pass.new.self d
+    c.pop_front.new.self.items task.Check (ap (request_of d.event) c.in-Check.is) (ap (pass_of d.event) c.in-Check.is) c.begin_pass.ensures.begun
+    (c.may_begin.ensures.none c.if-not-may_begin.false) refl refl refl refl refl c.in-Some.ensures.items x
+
+pub returns-in-Repair-clause-course : goal.returns-in-Repair-clause-course
+returns-in-Repair-clause-course g c = λ shape events number numbers geometry snapshot before x.
+    let d = c.in-Some.due in
+    passing-on g.D.BlockDevice.told shape events geometry number snapshot before numbers c.args.self.now _ c.begin_pass-in-Repair.new.self d
+    c.pop_front.new.self.items task.Repair (ap (request_of d.event) c.in-Repair.is) (ap (pass_of d.event) c.in-Repair.is) c.begin_pass-in-Repair.ensures.begun
+    (c.may_begin.ensures.none c.if-not-may_begin.false) refl refl refl refl refl c.in-Some.ensures.items x

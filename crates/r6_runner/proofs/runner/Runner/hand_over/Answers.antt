@@ -1,4 +1,4 @@
-use Rattle.std.proofs.Common.{inr, refl, length, ap}
+use Rattle.std.proofs.Common.{inl, inr, refl, length, ap}
 use Rattle.r6_world.specs.PlainArray.{block_of}
 use Rattle.r6_frames.specs.Views.{op_of}
 use Rattle.r6_shard.specs.declared.ledger.Asked.{Asked}
@@ -27,6 +27,15 @@ returns-in-Err-clause-awaited g c = λ events known x.
     let old = c.args.self.now in
     alike events old.waits old.waits old.shard.asked.items c.submit.new.self.asked.items old.due.items old.due.items refl
     (ap (λ (y : Shard _). y.asked.items) c.in-Err.ensures.same) refl x
+
+pub invariant_of-self-clause-unskipped : goal.invariant_of-self-clause-unskipped
+invariant_of-self-clause-unskipped g c = λ clean. c.args.self.now.unskipped (c.submit.ensures.remembers clean)
+
+pub returns-in-Ok-clause-served : goal.returns-in-Ok-clause-served
+returns-in-Ok-clause-served g c = record {
+  kept = record { due = refl; passing = refl; passed = refl; handed = refl; room = refl; rows = refl };
+  outcome = inl (_, c.in-Ok.ensures.accepted, c.in-Ok.ensures.right, c.submit.ensures.lasts, refl);
+}
 
 pub returns-in-Err-clause-served : goal.returns-in-Err-clause-served
 returns-in-Err-clause-served g c =

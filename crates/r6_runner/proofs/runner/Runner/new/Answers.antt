@@ -1,6 +1,8 @@
-use Rattle.std.proofs.Common.{[], None, refl}
+use Rattle.std.proofs.Common.{◌-◌, [], None, refl, sym, subst}
 use Rattle.r6_shard.specs.Handing.{parts_tell}
+use Rattle.r6_runner.specs.Counted.{IsCounting, rows_of_shard}
 use Rattle.r6_runner.proofs.Awaiting.{none}
+use Rattle.r6_runner.proofs.Counting.{counting-first}
 use Rattle.r6_runner.proofs.Done.{is-first, is-like}
 use Rattle.r6_shard.proofs.Promises.{begins-sound}
 use Rattle.r6_runner.proofs.runner.Runner.new.Goals as goal
@@ -25,3 +27,14 @@ returns-clause-sound g c = λ slot x.
     let p = c.args.place in
     c.in_ok-shard.ensures.sound slot (begins-sound g.D.BlockDevice.told g.D.BlockDevice.promised p.geometry p.number slot c.args.snapshot.now
     c.args.parts.parts.items x)
+
+pub returns-clause-counted : goal.returns-clause-counted
+returns-clause-counted g c =
+    let p = c.args.place in
+    let rows = rows_of_shard p.geometry p.number in
+    let core = c.in_ok-shard.shard.core in (
+      (λ i. c.shard_rows-rows.ensures.end i - c.shard_rows-rows.ensures.start i),
+      0,
+      0,
+      subst (IsCounting rows 0 0 core None) (sym c.in_ok-passed.ensures.items) (counting-first rows core c.in_ok-shard.ensures.passed),
+    )

@@ -13,7 +13,7 @@ pub returns-clause-course : goal.returns-clause-course
 returns-clause-course g c = λ shape events number numbers geometry snapshot before x.
     let old = c.args.self.now in
     has-gone g.D.BlockDevice.told shape events geometry number snapshot before numbers old.shard c.turn.new.self old.refused.items old.passing
-    old.passed.items old.handed.items old.due.items c.turn.ensures.course c.turn.ensures.lasts c.turn.ensures.ledger.asked x
+    old.passed.items old.handed.items old.due.items c.turn.ensures.advances.course c.turn.ensures.advances.lasts c.turn.ensures.ledger.asked x
 
 pub returns-clause-counted : goal.returns-clause-counted
 returns-clause-counted g c =
@@ -24,7 +24,7 @@ returns-clause-counted g c =
     either_way c.turn.result (λ _. PassesMore (rows_of task.Rebuild) old new) (λ refusal. RefusesTurn old task.Rebuild refusal new)
     (HasPassedRows stopped counted rows new) c.turn.ensures.passed c.turn.ensures.refused
     (λ _ more. none-more old new more stopped counted rows x) (λ refusal refused. passes-same old new refused.same stopped counted rows x))
-    c.turn.ensures.lasts
+    c.turn.ensures.advances.lasts
 
 pub returns-clause-awaited : goal.returns-clause-awaited
 returns-clause-awaited g c = λ events x.

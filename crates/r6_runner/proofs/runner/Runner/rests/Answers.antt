@@ -8,12 +8,12 @@ pub returns-clause-course : goal.returns-clause-course
 returns-clause-course g c = λ shape events number numbers geometry snapshot before x.
     let old = c.args.self.now in
     has-gone g.D.BlockDevice.told shape events geometry number snapshot before numbers old.shard c.rests.new.self old.refused.items old.passing
-    old.passed.items old.handed.items old.due.items c.rests.ensures.course c.rests.ensures.lasts c.rests.ensures.ledger.asked x
+    old.passed.items old.handed.items old.due.items c.rests.ensures.advances.course c.rests.ensures.advances.lasts c.rests.ensures.ledger.asked x
 
 pub returns-clause-counted : goal.returns-clause-counted
 returns-clause-counted g c =
     let old = c.args.self.now in
-    keeps-counted old.rows old.shard.core c.rests.new.self.core old.passing old.passed.items c.rests.ensures.passed c.rests.ensures.lasts
+    keeps-counted old.rows old.shard.core c.rests.new.self.core old.passing old.passed.items c.rests.ensures.passed c.rests.ensures.advances.lasts
 
 pub returns-clause-awaited : goal.returns-clause-awaited
 returns-clause-awaited g c = λ events x.

@@ -1,8 +1,7 @@
 use Rattle.std.proofs.Common.{◌∙◌, sym, subst}
 use Rattle.r6_shard.specs.Counted.{HasPassedRows}
-use Rattle.r6_shard.specs.Sound.{IsSoundIn}
-use Rattle.r6_shard.proofs.Lasting.{lasts_on}
-use Rattle.r6_shard.specs.Whole.{Remembers}
+use Rattle.r6_shard.specs.Advances.{Advances}
+use Rattle.r6_shard.proofs.Advances.{advances-on}
 use Rattle.r6_shard.proofs.shard.Shard.collect_all.Goals as goal
 use Rattle.r6_shard.proofs.shard.Shard.collect_all.Goals.{in-None, in-Some+then-not-collect}
 
@@ -13,11 +12,8 @@ loop-preserved g c =
       tt,
       tt,
       record {
-        course = λ s ops x. now.course s ops (before.course s ops x);
-        lasts = lasts_on c.args.self.now.core c.loop.self.core c.collect.new.self.core before.lasts now.lasts;
+        advances = advances-on g.P.Performs.tells g.P.Performs.promised c.args.self.now c.loop.self c.collect.new.self before.advances now.advances;
         passed = λ stopped counted rows x. now.passed stopped counted rows (before.passed stopped counted rows x);
-        remembers = λ x. before.remembers (now.remembers x);
-        sound = λ shape number slot x. now.sound shape number slot (before.sound shape number slot x);
         asked = now.asked ∙ before.asked;
         room = now.room ∙ before.room;
         pass = now.pass ∙ before.pass;
@@ -32,22 +28,15 @@ returns-clause-passed g c = λ stopped counted rows x.
       | in-Some+then-not-collect w ↦ subst (λ s. HasPassedRows stopped counted rows s.core) (sym w.self-is) (w.collect.ensures.passed stopped counted rows before)
     ]
 
-pub returns-clause-sound : goal.returns-clause-sound
-returns-clause-sound g c = λ shape number slot x.
+pub returns-clause-advances : goal.returns-clause-advances
+returns-clause-advances g c =
     let tells = g.P.Performs.tells in
     let promised = g.P.Performs.promised in
-    let before = c.loop.invariant.2.sound shape number slot x in
-    elim c.match-next.branch [
-      | in-None w ↦ subst (IsSoundIn tells promised shape number slot) (sym w.self-is) before
-      | in-Some+then-not-collect w ↦ subst (IsSoundIn tells promised shape number slot) (sym w.self-is) (w.collect.ensures.sound shape number slot before)
-    ]
-
-pub returns-clause-remembers : goal.returns-clause-remembers
-returns-clause-remembers g c =
     let old = c.args.self.now in
-    let before = c.loop.invariant.2.remembers in
+    let before = c.loop.invariant.2.advances in
     elim c.match-next.branch [
-      | in-None w ↦ subst (λ s. Remembers old.named old.saw_out s.named s.saw_out) (sym w.self-is) before
+      | in-None w ↦ subst (Advances tells promised old) (sym w.self-is) before
       | in-Some+then-not-collect w ↦
-          subst (λ s. Remembers old.named old.saw_out s.named s.saw_out) (sym w.self-is) (λ x. before (w.collect.ensures.remembers x))
+          subst (Advances tells promised old) (sym w.self-is)
+          (advances-on tells promised old c.loop.self w.collect.new.self before w.collect.ensures.advances)
     ]

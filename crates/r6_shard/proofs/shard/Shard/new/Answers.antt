@@ -1,4 +1,4 @@
-use Rattle.std.proofs.Common.{[], false, replicate, sym, subst, arith}
+use Rattle.std.proofs.Common.{[], false, replicate, refl, sym, subst, arith}
 use Rattle.std.proofs.lemmas.List.Elements.{All-nil}
 use Rattle.r6_health.specs.Passes.{view_of}
 use Rattle.r6_shard.specs.Beginnings.{start_of}
@@ -7,6 +7,7 @@ use Rattle.r6_shard.proofs.Beginnings.{begun}
 use Rattle.r6_shard.proofs.Counting.{none-passed}
 use Rattle.r6_shard.proofs.Own.{failure-at-first}
 use Rattle.r6_shard.proofs.Sound.{sound-begun, none-named}
+use Rattle.r6_shard.specs.Whole.{AreAllInSync}
 use Rattle.r6_shard.proofs.Whole.{skips-at-first}
 use Rattle.r6_shard.proofs.shard.Shard.new.Goals as goal
 
@@ -25,10 +26,12 @@ returns-clause-begins g c = λ device array lawful hold.
     let core = c.in-Ok.core in
     let v = view_of c.args.pass in
     let part = g.P.Performs.tells c.args.parts in
+    let named = replicate 32 false in
     let s = start_of place.geometry place.number snapshot device array in
-    subst (λ y. HasCourse s core v 0 part y c.in_ok-entries.entries.items []) (sym c.in_ok-asked.ensures.items)
-    (subst (λ y. HasCourse s core v 0 part [] y []) (sym c.in_ok-entries.ensures.items)
-    (begun place.geometry place.number snapshot device array core v part c.requires.limits c.requires.number lawful hold c.in-Ok.ensures.made c.requires.pass))
+    subst (λ y. HasCourse s core v 0 named part y c.in_ok-entries.entries.items []) (sym c.in_ok-asked.ensures.items)
+    (subst (λ y. HasCourse s core v 0 named part [] y []) (sym c.in_ok-entries.ensures.items)
+    (begun place.geometry place.number snapshot device array core v named part c.requires.limits c.requires.number lawful hold c.in-Ok.ensures.made c.requires.pass
+    (none-named 32)))
 
 pub returns-clause-passed : goal.returns-clause-passed
 returns-clause-passed g c = none-passed c.args.place.geometry c.args.snapshot.now c.args.place.number c.in-Ok.core c.in-Ok.ensures.made
@@ -43,4 +46,9 @@ pub invariant_of-result-clause-whole : goal.invariant_of-result-clause-whole
 invariant_of-result-clause-whole g c =
     let place = c.args.place in
     skips-at-first place.geometry c.args.snapshot.now place.number c.in-Ok.core (replicate 32 false) c.has_out.result
-    (λ none slot below. let few = c.requires.limits in c.has_out.ensures none slot (omega (arith, few.slots_allowed.1, below))) c.in-Ok.ensures.made
+    (λ none slot below. let few = c.requires.limits in c.has_out.ensures.none none slot (omega (arith, few.slots_allowed.1, below))) c.in-Ok.ensures.made
+
+pub invariant_of-result-clause-saw : goal.invariant_of-result-clause-saw
+invariant_of-result-clause-saw g c = λ were.
+    let first = c.requires.pass in
+    c.has_out.ensures.one (subst AreAllInSync first.began (were [] ((view_of c.args.pass).seen, refl)))

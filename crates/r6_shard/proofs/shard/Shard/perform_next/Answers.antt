@@ -9,7 +9,7 @@ use Rattle.r6_shard.proofs.Steps.{none-out}
 use Rattle.r6_shard.proofs.Keeping.{kept-plainly, kept-performing}
 use Rattle.r6_shard.proofs.Courses.{not-refused}
 use Rattle.r6_shard.proofs.Lasting.{lasts_by, lasts_twice}
-use Rattle.r6_shard.proofs.Going.{has-performed, at_err}
+use Rattle.r6_shard.proofs.Going.{has-gone, has-performed, names-by, at_err}
 use Rattle.r6_shard.specs.Own.{AreOwn}
 use Rattle.r6_shard.proofs.Own.{own-named, failure-on}
 use Rattle.r6_shard.specs.Sound.{IsSound}
@@ -72,26 +72,6 @@ invariant_of-self-2-clause-kept g c =
     c.in-Ok.receipt old.number old.named (length old.asked.items) t.2 c.in-Ok.ensures.received.step below c.is_err-failed.result
     c.is_err-failed.ensures.value old.kept)
 
-pub returns-clause-course : goal.returns-clause-course
-returns-clause-course g c = λ s ops x.
-    let tells = g.P.Performs.tells in
-    let old = c.args.self.now in
-    let t = c.in-Some.ensures.step in
-    has-performed s old.core c.take_command.new.self c.deliver.new.self (view_of old.pass) old.looked (tells old.parts) (tells c.perform-completion.new.self)
-    old.asked.items old.entries.items ops c.in-Some.command t.0 t.1 (receipt_of c.in-Ok.receipt) c.perform-completion.result
-    t.2 c.in-Ok.ensures.received.step c.perform-completion.ensures.performed x
-
-pub returns-in_default-clause-lasts : goal.returns-in_default-clause-lasts
-returns-in_default-clause-lasts g c = lasts_by c.args.self.now.core No_command c.take_command.new.self c.in_default.ensures.step
-
-pub returns-clause-lasts : goal.returns-clause-lasts
-returns-clause-lasts g c =
-    let command = c.in-Some.command in
-    let t = c.in-Some.ensures.step in
-    lasts_twice c.args.self.now.core (Take_command command.token (world_command t.0 t.1 command)) c.take_command.new.self
-    (Deliver command.token (completion_of c.perform-completion.result) (receipt_of c.in-Ok.receipt)) c.deliver.new.self t.2
-    c.in-Ok.ensures.received.step
-
 pub returns-in_default-clause-passed : goal.returns-in_default-clause-passed
 returns-in_default-clause-passed g c = passes-none c.args.self.now.core No_command c.take_command.new.self refl c.in_default.ensures.step
 
@@ -102,28 +82,6 @@ returns-clause-passed g c = λ stopped counted rows x.
     passes-none c.take_command.new.self (Deliver command.token (completion_of c.perform-completion.result) (receipt_of c.in-Ok.receipt)) c.deliver.new.self refl
     c.in-Ok.ensures.received.step stopped counted rows
     (passes-none c.args.self.now.core (Take_command command.token (world_command t.0 t.1 command)) c.take_command.new.self refl t.2 stopped counted rows x)
-
-pub returns-in_default-clause-sound : goal.returns-in_default-clause-sound
-returns-in_default-clause-sound g c = λ shape number slot x.
-    let tells = g.P.Performs.tells in
-    let promised = g.P.Performs.promised in
-    let old = c.args.self.now in
-    sound-by (tells old.parts) (promised old.parts) shape number slot old.core No_command c.take_command.new.self old.named (record {})
-    c.in_default.ensures.step x
-
-pub returns-clause-sound : goal.returns-clause-sound
-returns-clause-sound g c = λ shape number slot x.
-    let tells = g.P.Performs.tells in
-    let promised = g.P.Performs.promised in
-    let old = c.args.self.now in
-    let command = c.in-Some.command in
-    let t = c.in-Some.ensures.step in
-    let done = c.perform-completion.ensures in
-    let parts = c.perform-completion.new.self in
-    subst (IsSound (tells parts) (promised parts) shape number slot c.deliver.new.self) (sym c.name.ensures)
-    (sound-performed (tells old.parts) (tells parts) (promised old.parts) (promised parts) shape number slot old.core c.take_command.new.self c.deliver.new.self
-    command t.0 t.1 c.perform-completion.result c.in-Ok.receipt c.is_err-failed.result old.named t.2 c.in-Ok.ensures.received.step
-    c.in-Some.ensures.there done.performed done.sound done.promised c.is_err-failed.ensures.value x)
 
 pub returns-clause-named : goal.returns-clause-named
 returns-clause-named g c =
@@ -163,10 +121,50 @@ invariant_of-self-2-clause-whole g c =
     (skips-performed old.core c.take_command.new.self new command.token (world_command t.0 t.1 command) c.perform-completion.result c.in-Ok.receipt
     c.is_err-failed.result command.slot old.named old.saw_out t.2 c.in-Ok.ensures.received.step below c.is_err-failed.ensures.value old.whole)
 
-pub returns-clause-remembers : goal.returns-clause-remembers
-returns-clause-remembers g c =
+pub returns-in_default-clause-advances : goal.returns-in_default-clause-advances
+returns-in_default-clause-advances g c =
     let old = c.args.self.now in
+    let new = c.take_command.new.self in
+    let tells = g.P.Performs.tells old.parts in
+    let step = c.in_default.ensures.step in
+    record {
+      course = λ s ops x.
+          has-gone s old.core new (view_of old.pass) old.looked old.named tells old.asked.items old.entries.items ops No_command (record {})
+          (λ history. refl) step x;
+      lasts = lasts_by old.core No_command new step;
+      remembers = λ x. x;
+      sound = λ shape number slot x.
+          sound-by tells (g.P.Performs.promised old.parts) shape number slot old.core No_command new old.named (record {}) step x;
+    }
+
+pub returns-clause-advances : goal.returns-clause-advances
+returns-clause-advances g c =
+    let tells = g.P.Performs.tells in
+    let promised = g.P.Performs.promised in
+    let old = c.args.self.now in
+    let mid = c.take_command.new.self in
+    let new = c.deliver.new.self in
+    let parts = c.perform-completion.new.self in
     let command = c.in-Some.command in
+    let completion = c.perform-completion.result in
+    let receipt = c.in-Ok.receipt in
+    let failed = c.is_err-failed in
+    let t = c.in-Some.ensures.step in
+    let done = c.perform-completion.ensures in
+    let delivers = c.in-Ok.ensures.received.step in
     let below : command.slot < length old.named = let some = c.in-Some.ensures.there.slot in let few = old.kept.1 in let many = old.kept.6 in omega arith in
-    subst (λ y. Remembers old.named old.saw_out y old.saw_out) (sym c.name.ensures)
-    (clean-before c.is_err-failed.result c.in-Ok.receipt command.slot old.named old.saw_out below)
+    record {
+      course = λ s ops x.
+          has-performed s old.core mid new (view_of old.pass) old.looked old.named _ (tells old.parts) (tells parts)
+          old.asked.items old.entries.items ops command t.0 t.1 (receipt_of receipt) completion t.2 delivers done.performed
+          (names-by old.named _ failed.result receipt command.slot completion failed.ensures.value c.name.ensures) x;
+      lasts = lasts_twice old.core (Take_command command.token (world_command t.0 t.1 command)) mid
+          (Deliver command.token (completion_of completion) (receipt_of receipt)) new t.2 delivers;
+      remembers = subst (λ y. Remembers old.named old.saw_out y old.saw_out) (sym c.name.ensures)
+          (clean-before failed.result receipt command.slot old.named old.saw_out below);
+      sound = λ shape number slot x.
+          subst (IsSound (tells parts) (promised parts) shape number slot new) (sym c.name.ensures)
+          (sound-performed (tells old.parts) (tells parts) (promised old.parts) (promised parts) shape number slot old.core mid new
+          command t.0 t.1 completion receipt failed.result old.named t.2 delivers
+          c.in-Some.ensures.there done.performed done.sound done.promised failed.ensures.value x);
+    }

@@ -5,6 +5,7 @@ use Rattle.r6_core.specs.Effects.{HasTaskFault, RefusesTurn}
 use Rattle.r6_core.specs.Refusals.{IsFirstFault, turn_faults}
 use Rattle.r6_shard.specs.Kept.{NoneIsOut, NoneIsToTell}
 use Rattle.r6_shard.specs.Counted.{HasPassedRows, PassesMore, rows_of}
+use Rattle.r6_shard.proofs.Advances.{advances-on}
 use Rattle.r6_shard.proofs.Counting.{none-more, passes-same}
 use Rattle.r6_shard.proofs.Going.{either_way, refused_of}
 use Rattle.r6_shard.proofs.shard.Shard.rests.Goals as goal
@@ -44,15 +45,17 @@ returns-clause-passed g c = λ stopped counted rows x.
     (λ _ more. none-more told new more stopped counted rows before)
     (λ refusal refused. passes-same told new refused.same stopped counted rows before)
 
-pub returns-then-tell_next-clause-sound : goal.returns-then-tell_next-clause-sound
-returns-then-tell_next-clause-sound g c = λ shape number slot x. c.tell_next.ensures.sound shape number slot (c.perform_next.ensures.sound shape number slot x)
+pub returns-then-tell_next-clause-advances : goal.returns-then-tell_next-clause-advances
+returns-then-tell_next-clause-advances g c =
+    advances-on g.P.Performs.tells g.P.Performs.promised c.args.self.now c.perform_next.new.self c.tell_next.new.self
+    c.perform_next.ensures.advances c.tell_next.ensures.advances
 
-pub returns-clause-sound : goal.returns-clause-sound
-returns-clause-sound g c = λ shape number slot x.
-    c.turn.ensures.sound shape number slot (c.tell_next.ensures.sound shape number slot (c.perform_next.ensures.sound shape number slot x))
-
-pub returns-then-tell_next-clause-remembers : goal.returns-then-tell_next-clause-remembers
-returns-then-tell_next-clause-remembers g c = λ x. c.perform_next.ensures.remembers (c.tell_next.ensures.remembers x)
-
-pub returns-clause-remembers : goal.returns-clause-remembers
-returns-clause-remembers g c = λ x. c.perform_next.ensures.remembers (c.tell_next.ensures.remembers (c.turn.ensures.remembers x))
+pub returns-clause-advances : goal.returns-clause-advances
+returns-clause-advances g c =
+    let tells = g.P.Performs.tells in
+    let promised = g.P.Performs.promised in
+    let old = c.args.self.now in
+    let told = c.tell_next.new.self in
+    advances-on tells promised old told c.turn.new.self
+    (advances-on tells promised old c.perform_next.new.self told c.perform_next.ensures.advances c.tell_next.ensures.advances)
+    c.turn.ensures.advances

@@ -1,5 +1,6 @@
 use Rattle.std.proofs.Common.{◌≡◌, ◌≤◌, ℕ, ◌+◌, length, refl, sym, ap, subst, ◌∙◌}
 use Rattle.r6_health.specs.Passes.{view_of}
+use Rattle.r6_health.proofs.Histories.{starts_with_itself}
 use Rattle.r6_world.specs.Steps.{Look}
 use Rattle.r6_core.specs.Shards.{CoreView}
 use Rattle.r6_core.specs.Effects.{LooksAt, RefusesLook}
@@ -15,7 +16,7 @@ use Rattle.r6_shard.specs.Own.{SeesFailure}
 use Rattle.r6_shard.proofs.Own.{failure-looked, failure-same}
 use Rattle.r6_shard.specs.Sound.{IsSound}
 use Rattle.r6_shard.proofs.Sound.{sound-looked, sound-same}
-use Rattle.r6_shard.specs.Whole.{SkipsNone}
+use Rattle.r6_shard.specs.Whole.{AreAllInSync, SkipsNone}
 use Rattle.r6_shard.proofs.Whole.{skips-looked, skips-same, seen-whole}
 use Rattle.r6_shard.proofs.shard.Shard.see.Goals as goal
 
@@ -60,16 +61,16 @@ returns-clause-course g c = λ s ops x.
     let attaches : ℕ = snapshot.attaches in
     either_way c.look.result (λ _. LooksAt old.core snapshot new × (c.looked_by-self.result ≡ attaches))
     (λ refusal. RefusesLook old.core refusal new × (c.looked_by-self.result ≡ old.looked))
-    (HasCourse s new w c.looked_by-self.result part old.asked.items old.entries.items ops)
+    (HasCourse s new w c.looked_by-self.result old.named part old.asked.items old.entries.items ops)
     (both_ok c.look.result (λ _. LooksAt old.core snapshot new) (λ _. c.looked_by-self.result ≡ attaches) c.look.ensures.looked c.looked_by-self.ensures.accepted)
     (both_err c.look.result (λ refusal. RefusesLook old.core refusal new) (λ _. c.looked_by-self.result ≡ old.looked) c.look.ensures.refused c.looked_by-self.ensures.refused)
     (λ _ looked.
-    subst (λ z. HasCourse s new w z part old.asked.items old.entries.items ops) (sym looked.1)
-    (has-gone s old.core new w old.looked part old.asked.items old.entries.items ops (Look snapshot) c.requires (λ history. refl)
+    subst (λ z. HasCourse s new w z old.named part old.asked.items old.entries.items ops) (sym looked.1)
+    (has-gone s old.core new w old.looked old.named part old.asked.items old.entries.items ops (Look snapshot) c.requires (λ history. refl)
     looked.0.step x))
     (λ refusal refused.
-    subst (λ z. HasCourse s new w z part old.asked.items old.entries.items ops) (sym refused.1)
-    (subst (λ z. HasCourse s z w old.looked part old.asked.items old.entries.items ops) (sym refused.0.same) x))
+    subst (λ z. HasCourse s new w z old.named part old.asked.items old.entries.items ops) (sym refused.1)
+    (subst (λ z. HasCourse s z w old.looked old.named part old.asked.items old.entries.items ops) (sym refused.0.same) x))
 
 pub returns-clause-lasts : goal.returns-clause-lasts
 returns-clause-lasts g c =
@@ -110,11 +111,18 @@ invariant_of-self-clause-whole g c =
     let snapshot = c.args.snapshot.now in
     let few : old.core.shape.slots ≤ 32 = old.kept.1 in
     let now = c.saw_by-self.result in
-    let sees = seen-whole old.saw_out now snapshot old.core.shape.slots few c.saw_by-self.ensures in
+    let sees = seen-whole old.saw_out now snapshot old.core.shape.slots few c.saw_by-self.ensures.none in
     either_way c.look.result (λ _. LooksAt old.core snapshot new) (λ refusal. RefusesLook old.core refusal new)
     (SkipsNone new old.named now) c.look.ensures.looked c.look.ensures.refused
     (λ _ looked. skips-looked old.core snapshot new old.named old.saw_out now sees looked.step old.whole)
     (λ refusal refused. λ clean. skips-same old.named old.saw_out old.core new refused.same old.whole (clean.0, (sees clean.1).0))
 
+pub invariant_of-self-clause-saw : goal.invariant_of-self-clause-saw
+invariant_of-self-clause-saw g c = λ were.
+    let old = c.args.self.now in
+    let v = view_of old.pass in
+    c.saw_by-self.ensures.one (old.saw were)
+    (subst AreAllInSync (sym c.requires) (were v.seen (starts_with_itself v.seen)))
+
 pub returns-clause-remembers : goal.returns-clause-remembers
-returns-clause-remembers g c = λ x. (x.0, (c.saw_by-self.ensures x.1).0)
+returns-clause-remembers g c = λ x. (x.0, (c.saw_by-self.ensures.none x.1).0)

@@ -1,5 +1,6 @@
 use Rattle.std.proofs.Common.{sym, subst}
 use Rattle.r6_shard.specs.Own.{AreOwn, SeesFailure}
+use Rattle.r6_shard.specs.Whole.{SawWithPass}
 use Rattle.r6_shard.proofs.shard.Shard.split_pass.Goals as goal
 
 pub invariant_of-self-clause-own : goal.invariant_of-self-clause-own
@@ -11,3 +12,8 @@ pub invariant_of-self-clause-failure : goal.invariant_of-self-clause-failure
 invariant_of-self-clause-failure g c =
     let old = c.args.self.now in
     subst (λ v. SeesFailure old.core v old.entries.items) (sym c.split.ensures.same) old.failure
+
+pub invariant_of-self-clause-saw : goal.invariant_of-self-clause-saw
+invariant_of-self-clause-saw g c =
+    let old = c.args.self.now in
+    subst (SawWithPass old.saw_out) (sym c.split.ensures.same) old.saw

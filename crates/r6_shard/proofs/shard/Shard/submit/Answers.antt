@@ -34,6 +34,7 @@ invariant_of-self-in-Err-1 g c =
       own = old.own;
       failure = failure-same old.core c.submit.new.self (view_of old.pass) old.entries.items same old.failure;
       whole = skips-same old.named old.saw_out old.core c.submit.new.self same old.whole;
+      saw = old.saw;
       counted = ap (λ (y : CoreView). y.unanswered + length old.entries.items) same ∙ old.counted;
       within = old.within;
       asked_room = old.asked_room;
@@ -65,8 +66,8 @@ returns-in-Ok-clause-accepted g c =
     ∙ ap (λ (n : ℕ). old.asked.items ++ record { event = c.args.event; block = block_of (op_of op); answered = n } ∷ []) (c.len-answered.ensures ∙ many) in
     record {
       course = λ s ops x.
-          subst (λ z. HasCourse s new v old.looked part z old.entries.items (ops ++ op_of op ∷ [])) (sym asked)
-          (has-submitted s old.core new v old.looked part old.asked.items old.entries.items ops c.args.event (op_of op) id number step x);
+          subst (λ z. HasCourse s new v old.looked old.named part z old.entries.items (ops ++ op_of op ∷ [])) (sym asked)
+          (has-submitted s old.core new v old.looked old.named part old.asked.items old.entries.items ops c.args.event (op_of op) id number step x);
       number = number;
       asked = asked;
       entries = refl;
@@ -109,4 +110,4 @@ invariant_of-self-clause-whole g c =
     skips-by old.named old.saw_out old.core (Submit (op_of c.args.op) c.in-Ok.id.0) c.submit.new.self (λ y. record {}) c.in-Ok.ensures.accepted.step old.whole
 
 pub returns-in-Err-clause-same : goal.returns-in-Err-clause-same
-returns-in-Err-clause-same g c = shard-again c.args.self.now c.submit.new.self (sym c.in-Err.ensures.refused.same) _ _ _ _ _ _ _ _
+returns-in-Err-clause-same g c = shard-again c.args.self.now c.submit.new.self c.args.self.now.parts (sym c.in-Err.ensures.refused.same) refl _ _ _ _ _ _ _ _ _

@@ -9,13 +9,13 @@ use Rattle.r6_core.specs.Shards.{call_of}
 use Rattle.r6_shard.proofs.Counting.{passes-none}
 use Rattle.r6_shard.proofs.Keeping.{kept-plainly, kept-telling}
 use Rattle.r6_shard.proofs.Lasting.{lasts_by, lasts_twice}
-use Rattle.r6_shard.proofs.Going.{has-told, either_way}
+use Rattle.r6_shard.proofs.Going.{has-gone, has-told, either_way}
 use Rattle.r6_shard.specs.Own.{SeesFailure}
 use Rattle.r6_health.proofs.Tells.{seen_after}
 use Rattle.r6_shard.proofs.Own.{own-told, failure-on, failure-later}
 use Rattle.r6_shard.proofs.Sound.{sound-by, sound-twice}
 use Rattle.r6_shard.specs.Whole.{SkipsNone}
-use Rattle.r6_shard.proofs.Whole.{skips-by}
+use Rattle.r6_shard.proofs.Whole.{skips-by, saw-later}
 use Rattle.r6_shard.proofs.shard.Shard.tell_next.Goals as goal
 
 pub invariant_of-self-clause-kept : goal.invariant_of-self-clause-kept
@@ -67,21 +67,13 @@ invariant_of-self-2-clause-failure g c =
     (failure-on old.core (Take_call (call_of call)) mid v entries (record {}) takes old.failure)))
     (λ refusal refused. absurd (refused.unknown (ap (λ (y : Shard). y.untold) takes.1.2)))
 
-pub returns-clause-course : goal.returns-clause-course
-returns-clause-course g c = λ s ops x.
+pub invariant_of-self-2-clause-saw : goal.invariant_of-self-2-clause-saw
+invariant_of-self-2-clause-saw g c =
     let old = c.args.self.now in
-    has-told s old.core c.take_call.new.self c.told.new.self (view_of old.pass) (view_of c.make-answer.new.pass) old.looked (g.P.Performs.tells old.parts)
-    old.asked.items old.entries.items ops old.number c.in-Some.call c.make-answer.result old.kept.0 c.in-Some.ensures.step
-    c.in-Ok.ensures.heard.step c.make-answer.ensures.answered x
-
-pub returns-in_default-clause-lasts : goal.returns-in_default-clause-lasts
-returns-in_default-clause-lasts g c = lasts_by c.args.self.now.core No_call c.take_call.new.self c.in_default.ensures.step
-
-pub returns-clause-lasts : goal.returns-clause-lasts
-returns-clause-lasts g c =
-    let call = call_of c.in-Some.call in
-    lasts_twice c.args.self.now.core (Take_call call) c.take_call.new.self (Told call c.make-answer.result) c.told.new.self
-    c.in-Some.ensures.step c.in-Ok.ensures.heard.step
+    let v = view_of old.pass in
+    let w = view_of c.make-answer.new.pass in
+    saw-later old.saw_out v w (c.make-answer.ensures.pass.same_start ∙ sym c.requires.same_start)
+    (seen_after v w (as_made old.number (call_of c.in-Some.call)) c.make-answer.result c.make-answer.ensures.answered) old.saw
 
 pub returns-in_default-clause-passed : goal.returns-in_default-clause-passed
 returns-in_default-clause-passed g c = passes-none c.args.self.now.core No_call c.take_call.new.self refl c.in_default.ensures.step
@@ -91,22 +83,6 @@ returns-clause-passed g c = λ stopped counted rows x.
     let call = call_of c.in-Some.call in
     passes-none c.take_call.new.self (Told call c.make-answer.result) c.told.new.self refl c.in-Ok.ensures.heard.step stopped counted rows
     (passes-none c.args.self.now.core (Take_call call) c.take_call.new.self refl c.in-Some.ensures.step stopped counted rows x)
-
-pub returns-in_default-clause-sound : goal.returns-in_default-clause-sound
-returns-in_default-clause-sound g c = λ shape number slot x.
-    let tells = g.P.Performs.tells in
-    let promised = g.P.Performs.promised in
-    let old = c.args.self.now in
-    sound-by (tells old.parts) (promised old.parts) shape number slot old.core No_call c.take_call.new.self old.named (record {}) c.in_default.ensures.step x
-
-pub returns-clause-sound : goal.returns-clause-sound
-returns-clause-sound g c = λ shape number slot x.
-    let tells = g.P.Performs.tells in
-    let promised = g.P.Performs.promised in
-    let old = c.args.self.now in
-    let call = call_of c.in-Some.call in
-    sound-twice (tells old.parts) (promised old.parts) shape number slot old.core (Take_call call) c.take_call.new.self (Told call c.make-answer.result)
-    c.told.new.self old.named (record {}) (record {}) c.in-Some.ensures.step c.in-Ok.ensures.heard.step x
 
 pub invariant_of-self-clause-whole : goal.invariant_of-self-clause-whole
 invariant_of-self-clause-whole g c =
@@ -127,3 +103,40 @@ invariant_of-self-2-clause-whole g c =
     skips-by old.named old.saw_out mid (Told (call_of call) answer) new (λ y. record {}) heard.step
     (skips-by old.named old.saw_out old.core (Take_call (call_of call)) mid (λ y. record {}) takes old.whole))
     (λ refusal refused. absurd (refused.unknown (ap (λ (y : Shard). y.untold) takes.1.2)))
+
+pub returns-in_default-clause-advances : goal.returns-in_default-clause-advances
+returns-in_default-clause-advances g c =
+    let old = c.args.self.now in
+    let new = c.take_call.new.self in
+    let tells = g.P.Performs.tells old.parts in
+    let step = c.in_default.ensures.step in
+    record {
+      course = λ s ops x.
+          has-gone s old.core new (view_of old.pass) old.looked old.named tells old.asked.items old.entries.items ops No_call (record {})
+          (λ history. refl) step x;
+      lasts = lasts_by old.core No_call new step;
+      remembers = λ x. x;
+      sound = λ shape number slot x.
+          sound-by tells (g.P.Performs.promised old.parts) shape number slot old.core No_call new old.named (record {}) step x;
+    }
+
+pub returns-clause-advances : goal.returns-clause-advances
+returns-clause-advances g c =
+    let old = c.args.self.now in
+    let mid = c.take_call.new.self in
+    let new = c.told.new.self in
+    let tells = g.P.Performs.tells old.parts in
+    let call = c.in-Some.call in
+    let answer = c.make-answer.result in
+    let takes = c.in-Some.ensures.step in
+    let hears = c.in-Ok.ensures.heard.step in
+    record {
+      course = λ s ops x.
+          has-told s old.core mid new (view_of old.pass) (view_of c.make-answer.new.pass) old.looked old.named tells old.asked.items
+          old.entries.items ops old.number call answer old.kept.0 takes hears c.make-answer.ensures.answered x;
+      lasts = lasts_twice old.core (Take_call (call_of call)) mid (Told (call_of call) answer) new takes hears;
+      remembers = λ x. x;
+      sound = λ shape number slot x.
+          sound-twice tells (g.P.Performs.promised old.parts) shape number slot old.core (Take_call (call_of call)) mid
+          (Told (call_of call) answer) new old.named (record {}) (record {}) takes hears x;
+    }

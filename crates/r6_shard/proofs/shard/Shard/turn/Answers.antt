@@ -57,31 +57,6 @@ invariant_of-self-clause-failure g c =
     failure-on old.core p.0 new v old.entries.items (plain-sees p.0 p.2) p.5 old.failure)
     (λ refusal refused. failure-same old.core new v old.entries.items refused.same old.failure)
 
-pub returns-clause-course : goal.returns-clause-course
-returns-clause-course g c = λ s ops x.
-    let old = c.args.self.now in
-    let new = c.turn.new.self in
-    let task = c.args.task in
-    let part = g.P.Performs.tells old.parts in
-    let v = view_of old.pass in
-    either_way c.turn.result (λ turn. Turns old.core task turn new) (λ refusal. RefusesTurn old.core task refusal new)
-    (HasCourse s new v old.looked part old.asked.items old.entries.items ops) c.turn.ensures.turned c.turn.ensures.refused
-    (λ turn t.
-    let p = turned old.core task turn new t.taken in
-    subst (λ y. HasCourse s new v y part old.asked.items old.entries.items ops) (p.4 old.looked)
-    (has-gone s old.core new v old.looked part old.asked.items old.entries.items ops p.0 (p.2 (held v.start v.seen)) p.3 p.5 x))
-    (λ refusal refused. subst (λ z. HasCourse s z v old.looked part old.asked.items old.entries.items ops) (sym refused.same) x)
-
-pub returns-clause-lasts : goal.returns-clause-lasts
-returns-clause-lasts g c =
-    let old = c.args.self.now.core in
-    let new = c.turn.new.self in
-    let task = c.args.task in
-    either_way c.turn.result (λ turn. Turns old task turn new) (λ refusal. RefusesTurn old task refusal new) (Lasts old new)
-    c.turn.ensures.turned c.turn.ensures.refused
-    (λ turn t. lasts_turned old task turn new t.taken)
-    (λ refusal refused. lasts_same old new refused.same)
-
 pub returns-clause-passed : goal.returns-clause-passed
 returns-clause-passed g c =
     let old = c.args.self.now.core in
@@ -92,20 +67,6 @@ returns-clause-passed g c =
       | Ok turn ↦ λ t. more turn t
       | Err refusal ↦ λ t. t
     ] c.turn.ensures.turned
-
-pub returns-clause-sound : goal.returns-clause-sound
-returns-clause-sound g c = λ shape number slot x.
-    let tells = g.P.Performs.tells in
-    let promised = g.P.Performs.promised in
-    let old = c.args.self.now in
-    let new = c.turn.new.self in
-    let task = c.args.task in
-    either_way c.turn.result (λ turn. Turns old.core task turn new) (λ refusal. RefusesTurn old.core task refusal new)
-    (IsSound (tells old.parts) (promised old.parts) shape number slot new old.named) c.turn.ensures.turned c.turn.ensures.refused
-    (λ turn t.
-    let p = turned old.core task turn new t.taken in
-    sound-by (tells old.parts) (promised old.parts) shape number slot old.core p.0 new old.named (turned-no-look old.core task turn new t.taken) p.5 x)
-    (λ refusal refused. sound-same (tells old.parts) (promised old.parts) shape number slot old.core new old.named refused.same x)
 
 pub invariant_of-self-clause-whole : goal.invariant_of-self-clause-whole
 invariant_of-self-clause-whole g c =
@@ -118,3 +79,34 @@ invariant_of-self-clause-whole g c =
     let p = turned old.core task turn new t.taken in
     skips-by old.named old.saw_out old.core p.0 new (λ y. turned-calm old.core task turn new t.taken old.core.shape.slots) p.5 old.whole)
     (λ refusal refused. skips-same old.named old.saw_out old.core new refused.same old.whole)
+
+pub returns-clause-advances : goal.returns-clause-advances
+returns-clause-advances g c =
+    let old = c.args.self.now in
+    let new = c.turn.new.self in
+    let task = c.args.task in
+    let part = g.P.Performs.tells old.parts in
+    let promised = g.P.Performs.promised old.parts in
+    let v = view_of old.pass in
+    record {
+      course = λ s ops x.
+          either_way c.turn.result (λ turn. Turns old.core task turn new) (λ refusal. RefusesTurn old.core task refusal new)
+          (HasCourse s new v old.looked old.named part old.asked.items old.entries.items ops) c.turn.ensures.turned c.turn.ensures.refused
+          (λ turn t.
+          let p = turned old.core task turn new t.taken in
+          subst (λ y. HasCourse s new v y old.named part old.asked.items old.entries.items ops) (p.4 old.looked)
+          (has-gone s old.core new v old.looked old.named part old.asked.items old.entries.items ops p.0 (p.2 (held v.start v.seen)) p.3 p.5 x))
+          (λ refusal refused. subst (λ z. HasCourse s z v old.looked old.named part old.asked.items old.entries.items ops) (sym refused.same) x);
+      lasts = either_way c.turn.result (λ turn. Turns old.core task turn new) (λ refusal. RefusesTurn old.core task refusal new)
+          (Lasts old.core new) c.turn.ensures.turned c.turn.ensures.refused
+          (λ turn t. lasts_turned old.core task turn new t.taken)
+          (λ refusal refused. lasts_same old.core new refused.same);
+      remembers = λ x. x;
+      sound = λ shape number slot x.
+          either_way c.turn.result (λ turn. Turns old.core task turn new) (λ refusal. RefusesTurn old.core task refusal new)
+          (IsSound part promised shape number slot new old.named) c.turn.ensures.turned c.turn.ensures.refused
+          (λ turn t.
+          let p = turned old.core task turn new t.taken in
+          sound-by part promised shape number slot old.core p.0 new old.named (turned-no-look old.core task turn new t.taken) p.5 x)
+          (λ refusal refused. sound-same part promised shape number slot old.core new old.named refused.same x);
+    }

@@ -1,0 +1,17 @@
+-- What a shard keeps it keeps along several calls.
+use Rattle.std.proofs.Common.{ℕ, Option}
+use Rattle.r6_dev.specs.History.{Telling}
+use Rattle.r6_dev.specs.Promises.{Promise}
+use Rattle.r6_shard.specs.declared.shard.Shard.{Shard}
+use Rattle.r6_shard.specs.Advances.{Advances}
+use Rattle.r6_shard.proofs.Lasting.{lasts_on}
+
+module _ {P : Type 0} (tells : P → ℕ → ℕ → Option Telling) (promised : P → ℕ → ℕ → Promise) (old mid new : Shard P) where
+  pub advances-on : Advances tells promised old mid → Advances tells promised mid new → Advances tells promised old new
+  advances-on x y =
+      record {
+        course = λ s ops z. y.course s ops (x.course s ops z);
+        lasts = lasts_on old.core mid.core new.core x.lasts y.lasts;
+        remembers = λ z. x.remembers (y.remembers z);
+        sound = λ shape number slot z. y.sound shape number slot (x.sound shape number slot z);
+      }
