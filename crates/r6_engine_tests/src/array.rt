@@ -6,6 +6,7 @@ use r6_dev::{BlockDevice, Fault, Faulty, MemoryDevice};
 use r6_kernels::Buffer;
 use r6_layout::{Geometry, GeometryError};
 use std::alloc::{AllocError, Global};
+use std::ops::Range;
 use std::test::Fail;
 
 pub(crate) const SLOTS: usize = 4;
@@ -18,13 +19,8 @@ const BLOCK: usize = 16;
 /// A device of zeros, or of what was written, that may fail.
 pub(crate) type Part = Faulty<MemoryDevice>;
 
-/// A block that has this byte throughout.
-#[derive(Clone, Copy)]
-pub(crate) struct Filled {
-    pub(crate) row: u64,
-    pub(crate) slot: usize,
-    pub(crate) byte: u8,
-}
+/// A row and a slot, whose block has this byte throughout.
+pub(crate) type Filled = (u64, usize, u8);
 
 /// The device of a slot that fails at the command for this row: at this one alone, or, if it is gone, from it on.
 #[derive(Clone, Copy)]
@@ -61,9 +57,56 @@ pub(crate) fn block_of(alloc: Global, byte: u8) -> Result<Buffer, AllocError> {
     Ok(block)
 }
 
+fn is_in(row: u64, rows: &Range<u64>) -> bool {
+    rows.start <= row && row < rows.end
+}
+
 impl Array<'_> {
     pub(crate) fn geometry(&self) -> Result<Geometry, GeometryError> {
         Geometry::new(SLOTS, 1, BLOCK, ROWS, self.shards)
+    }
+
+    /// Writes the blocks of a slot that stand in these rows.
+    fn fill(
+        &self,
+        alloc: Global,
+        device: &mut MemoryDevice,
+        rows: &Range<u64>,
+        slot: usize,
+    ) -> Result<(), Fail> {
+        for (row, of, byte) in self.filled {
+            if *of == slot && is_in(*row, rows) {
+                device.write(*row, &block_of(alloc, *byte)?)?;
+            }
+        }
+        Ok(())
+    }
+
+    /// The commands of a slot's part with these rows that alone fail.
+    fn failing(
+        &self,
+        alloc: Global,
+        rows: &Range<u64>,
+        slot: usize,
+    ) -> Result<Vec<u64>, AllocError> {
+        let mut commands = Vec::new(alloc);
+        for broken in self.broken {
+            if broken.slot == slot && !broken.is_gone && is_in(broken.row, rows) {
+                commands.push(broken.row.saturating_sub(rows.start))?;
+            }
+        }
+        Ok(commands)
+    }
+
+    /// The command of a slot's part with these rows from which on it is gone.
+    fn gone_from(&self, rows: &Range<u64>, slot: usize) -> Option<u64> {
+        let mut command = None;
+        for broken in self.broken {
+            if broken.slot == slot && broken.is_gone && is_in(broken.row, rows) {
+                command = Some(broken.row.saturating_sub(rows.start));
+            }
+        }
+        command
     }
 
     /// The part of a shard and a slot.
@@ -77,23 +120,10 @@ impl Array<'_> {
         requires { shard < geometry.now.shards }
     {
         let rows = geometry.shard_rows(shard);
+        let gone_from = self.gone_from(&rows, slot);
+        let failing = self.failing(alloc, &rows, slot)?;
         let mut device = MemoryDevice::new(alloc, rows.start..rows.end, geometry.block())?;
-        for block in self.filled {
-            if block.slot == slot && rows.start <= block.row && block.row < rows.end {
-                device.write(block.row, &block_of(alloc, block.byte)?)?;
-            }
-        }
-        let (mut failing, mut gone_from) = (Vec::new(alloc), None);
-        for broken in self.broken {
-            if broken.slot == slot && rows.start <= broken.row && broken.row < rows.end {
-                let command = broken.row - rows.start;
-                if broken.is_gone {
-                    gone_from = Some(command);
-                } else {
-                    failing.push(command)?;
-                }
-            }
-        }
+        self.fill(alloc, &mut device, &rows, slot)?;
         Ok(Faulty::new(device, failing, gone_from))
     }
 

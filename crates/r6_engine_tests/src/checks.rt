@@ -1,6 +1,6 @@
 //! Every row of an array, classified.
 
-use crate::array::{Array, Broken, Filled, ROWS, SLOTS, zeros};
+use crate::array::{Array, Broken, Part, ROWS, SLOTS, zeros};
 use r6_dev::Fault;
 use r6_engine::{Counts, Report, RowFault, Unwatched, Watch, WrongRow, check_all, verify};
 use r6_recover::RowClass;
@@ -20,10 +20,15 @@ fn checked<R: Threads + Wait + Sync>(
     Ok(check_all(rt, alloc, &geometry, parts.as_mut_slice())?)
 }
 
-fn verified<R: Threads + Sync>(rt: &R, alloc: Global, array: &Array<'_>) -> Result<Report, Fail> {
+fn verified<R: Threads + Sync, W: Watch>(
+    rt: &R,
+    alloc: Global,
+    array: &Array<'_>,
+    watch: &mut W,
+) -> Result<Report, Fail> {
     let geometry = array.geometry()?;
     let mut parts = array.parts(alloc, &geometry)?;
-    Ok(verify(rt, alloc, &geometry, parts.as_mut_slice(), &mut Unwatched)?)
+    Ok(verify(rt, alloc, &geometry, parts.as_mut_slice(), watch)?)
 }
 
 /// Both passes have to report this.
@@ -33,8 +38,8 @@ fn reports<R: Abort + Threads + Wait + Sync>(
     array: &Array<'_>,
     wanted: &Report,
 ) -> Result<(), Fail> {
-    assert_eq!(rt; checked(rt, alloc, array)?, *wanted);
-    assert_eq!(rt; verified(rt, alloc, array)?, *wanted);
+    assert!(rt; checked(rt, alloc, array)? == *wanted);
+    assert!(rt; verified(rt, alloc, array, &mut Unwatched)? == *wanted);
     Ok(())
 }
 
@@ -78,11 +83,7 @@ fn a_wrong_block_is_named_by_its_place(rt: HostRuntime) -> Result<(), Fail> {
         (3, 3, RowClass::WrongData(1)),
     ];
     for (row, slot, class) in places {
-        let filled = [Filled {
-            row: *row,
-            slot: *slot,
-            byte: 1,
-        }];
+        let filled = [(*row, *slot, 1)];
         for shards in &[1usize, 2, 4] {
             let array = Array {
                 filled: &filled,
@@ -103,11 +104,6 @@ fn a_wrong_block_is_named_by_its_place(rt: HostRuntime) -> Result<(), Fail> {
 // Both data blocks of row 1 are wrong, then P of row 2 and Q of row 3. Of row 1 P misses 03, Q 01 + 02 * 02 = 05.
 #[test]
 fn each_row_is_counted_by_its_class(rt: HostRuntime) -> Result<(), Fail> {
-    let filled = [(1, 0, 1), (1, 1, 2), (2, 1, 7), (3, 1, 7)].map(|(row, slot, byte)| Filled {
-        row,
-        slot,
-        byte,
-    });
     let counts = Counts {
         consistent: 1,
         many: 1,
@@ -117,15 +113,11 @@ fn each_row_is_counted_by_its_class(rt: HostRuntime) -> Result<(), Fail> {
     };
     for shards in &[1usize, 3] {
         let array = Array {
-            filled: &filled,
+            filled: &[(1, 0, 1), (1, 1, 2), (2, 1, 7), (3, 1, 7)],
             ..zeros(*shards)
         };
-        reports(
-            &rt,
-            rt.alloc(),
-            &array,
-            &with_wrong(1, RowClass::Many, counts),
-        )?;
+        let wanted = with_wrong(1, RowClass::Many, counts);
+        reports(&rt, rt.alloc(), &array, &wanted)?;
     }
     Ok(())
 }
@@ -189,38 +181,67 @@ fn a_fault_at_any_command_ends_the_check_at_its_row(rt: HostRuntime) -> Result<(
 // fault.
 #[test]
 fn nothing_behind_a_fault_of_another_shard_is_told(rt: HostRuntime) -> Result<(), Fail> {
-    let filled = [Filled {
-        row: 3,
-        slot: 0,
-        byte: 1,
-    }];
-    let is_gone = false;
-    let both = [(1, 1), (2, 0)].map(|(row, slot)| Broken { slot, row, is_gone });
-    for broken in [both.as_slice(), &both[..1]] {
+    let both = &[
+        Broken {
+            slot: 1,
+            row: 1,
+            is_gone: false,
+        },
+        Broken {
+            slot: 0,
+            row: 2,
+            is_gone: false,
+        },
+    ];
+    for broken in &[&both[..], &both[..1]] {
         let array = Array {
-            filled: &filled,
-            broken,
+            filled: &[(3, 0, 1)],
+            broken: *broken,
             ..zeros(2)
         };
-        let fault = Some(RowFault {
-            row: 1,
-            slot: 1,
-            fault: Fault::ReadFault,
-        });
-        reports(
-            &rt,
-            rt.alloc(),
-            &array,
-            &Report {
-                fault,
-                ..consistent(1)
-            },
-        )?;
+        let wanted = Report {
+            fault: Some(RowFault {
+                row: 1,
+                slot: 1,
+                fault: Fault::ReadFault,
+            }),
+            ..consistent(1)
+        };
+        reports(&rt, rt.alloc(), &array, &wanted)?;
     }
     Ok(())
 }
 
-// Of two that fail in one row the lower slot is named. Those behind it aren't told to read that row.
+/// Whether the parts of slots up to this one were told to read row 2, and the others were not.
+fn are_read_up_to(parts: &[Option<Part>], slot: usize) -> bool {
+    for (other, part) in parts.iter().enumerate() {
+        let told = if other <= slot { 3 } else { 2 };
+        if !matches!(part, Some(part) if part.next == told) {
+            return false;
+        }
+    }
+    true
+}
+
+/// Whether a check of an array ends in row 2 at this slot, and those behind it aren't told to read that row.
+fn ends_at<R: Threads + Wait + Sync>(
+    rt: &R,
+    alloc: Global,
+    array: &Array<'_>,
+    slot: usize,
+) -> Result<bool, Fail> {
+    let geometry = array.geometry()?;
+    let mut parts = array.parts(alloc, &geometry)?;
+    let report = check_all(rt, alloc, &geometry, parts.as_mut_slice())?;
+    let fault = RowFault {
+        row: 2,
+        slot,
+        fault: Fault::ReadFault,
+    };
+    Ok(report.fault == Some(fault) && are_read_up_to(parts.as_slice(), slot))
+}
+
+// Of two that fail in one row the lower slot is named.
 #[test]
 fn a_row_is_read_by_slot(rt: HostRuntime) -> Result<(), Fail> {
     for (lower, upper) in &[(0usize, 1usize), (0, 3), (1, 2), (2, 3)] {
@@ -233,17 +254,7 @@ fn a_row_is_read_by_slot(rt: HostRuntime) -> Result<(), Fail> {
             broken: &broken,
             ..zeros(1)
         };
-        let geometry = array.geometry()?;
-        let mut parts = array.parts(rt.alloc(), &geometry)?;
-        let report = check_all(&rt, rt.alloc(), &geometry, parts.as_mut_slice())?;
-        assert_eq!(rt;
-            report.fault.map(|fault| (fault.row, fault.slot)),
-            Some((2, *lower))
-        );
-        for (slot, part) in parts.iter().enumerate() {
-            let told = part.as_ref().map(|part| part.next);
-            assert_eq!(rt; told, Some(if slot <= *lower { 3 } else { 2 }));
-        }
+        assert!(rt; ends_at(&rt, rt.alloc(), &array, *lower)?);
     }
     Ok(())
 }
@@ -267,14 +278,11 @@ impl Watch for Heard {
 
 #[test]
 fn a_watch_hears_of_a_pass_and_of_its_end(rt: HostRuntime) -> Result<(), Fail> {
-    let array = zeros(1);
-    let geometry = array.geometry()?;
-    let mut parts = array.parts(rt.alloc(), &geometry)?;
     let mut heard = Heard {
         passed: 0,
         ended: 0,
     };
-    verify(&rt, rt.alloc(), &geometry, parts.as_mut_slice(), &mut heard)?;
-    assert_eq!(rt; (heard.passed, heard.ended), (1, 1));
+    verified(&rt, rt.alloc(), &zeros(1), &mut heard)?;
+    assert!(rt; heard.passed == 1 && heard.ended == 1);
     Ok(())
 }

@@ -11,7 +11,6 @@ use r6_kernels::Buffer;
 use r6_layout::Geometry;
 use r6_recover::RowClass;
 use std::fs::File;
-use std::process::Abort;
 use std::rt::Files;
 use std::sync::Wait;
 use std::test::Fail;
@@ -44,23 +43,36 @@ fn remove(rt: &HostRuntime, paths: &[String]) {
 }
 
 /// Writes a file of so many bytes, each of this value.
-fn fill(rt: &HostRuntime, path: &str, count: usize, byte: u8) -> Result<(), Fail> {
+fn fill<R: Files + AllocGlobal>(rt: &R, path: &str, count: usize, byte: u8) -> Result<(), Fail> {
     let bytes = vec![in rt.alloc(); byte; count]?;
     fs::write(rt, path, bytes.as_slice())?;
     Ok(())
 }
 
-/// A file has to have so many bytes, each of this value.
-fn has<R: Abort + Files + AllocGlobal>(
-    rt: &R,
-    path: &str,
-    count: usize,
-    byte: u8,
-) -> Result<(), Fail> {
-    let bytes = fs::read(rt, path)?;
-    let wanted = vec![in rt.alloc(); byte; count]?;
-    assert_eq!(rt; bytes.as_slice(), wanted.as_slice(), "{path}");
-    Ok(())
+/// The path of a slot's device.
+fn path_of(paths: &[String], slot: usize) -> Result<&str, Fail> {
+    match paths.get(slot) {
+        Some(path) => Ok(path.as_str()),
+        None => Err(Fail::from("no path")),
+    }
+}
+
+/// Whether a file has so many bytes, each of this value.
+fn has<R: Files + AllocGlobal>(rt: &R, path: &str, count: usize, byte: u8) -> bool {
+    match fs::read(rt, path) {
+        Ok(bytes) => bytes.len() == count && bytes.as_slice().iter().all(|b| *b == byte),
+        Err(_) => false,
+    }
+}
+
+/// Whether all files have the bytes of a device, each of this value.
+fn all_have<R: Files + AllocGlobal>(rt: &R, paths: &[String], byte: u8) -> bool {
+    for path in paths {
+        if !has(rt, path.as_str(), BYTES, byte) {
+            return false;
+        }
+    }
+    true
 }
 
 fn geometry_of(shards: usize) -> Result<Geometry, Fail> {
@@ -104,71 +116,89 @@ fn is_found<R: Files<File = File> + AllocGlobal + Threads + Wait + Sync>(
 }
 
 /// Writes a file of zeros, but for its first byte.
-fn fill_but_for_the_first(rt: &HostRuntime, path: &str) -> Result<(), Fail> {
+fn fill_but_for_the_first<R: Files + AllocGlobal>(rt: &R, path: &str) -> Result<(), Fail> {
     let mut bytes = [0u8; BYTES];
     bytes[0] = 1;
     fs::write(rt, path, bytes.as_slice())?;
     Ok(())
 }
 
-#[test]
-fn made_files_hold_zeros_and_are_consistent(rt: HostRuntime) -> Result<(), Fail> {
-    let paths = paths_of(&rt, "made")?;
-    create_files(&rt, &geometry_of(1)?, paths.as_slice())?;
-    let mut wanted = Report {
-        counts: Counts {
-            consistent: 4,
-            ..Counts::new()
-        },
-        first: None,
-        fault: None,
-    };
-    for path in &paths {
-        has(&rt, path.as_str(), BYTES, 0)?;
-    }
-    assert!(rt; is_found(&rt, paths.as_slice(), &wanted)?);
-    fill_but_for_the_first(&rt, paths.get(1).ok_or("no path")?.as_str())?;
-    wanted.counts.consistent = 3;
-    wanted.counts.wrong_data = 1;
-    wanted.first = Some(WrongRow {
+const CONSISTENT: Report = Report {
+    counts: Counts {
+        consistent: 4,
+        wrong_p: 0,
+        wrong_q: 0,
+        wrong_data: 0,
+        many: 0,
+        skipped: 0,
+    },
+    first: None,
+    fault: None,
+};
+
+/// The first byte of slot 1 is wrong.
+const WRONG: Report = Report {
+    counts: Counts {
+        consistent: 3,
+        wrong_data: 1,
+        wrong_p: 0,
+        wrong_q: 0,
+        many: 0,
+        skipped: 0,
+    },
+    first: Some(WrongRow {
         row: 0,
         class: RowClass::WrongData(0),
-    });
-    assert!(rt; is_found(&rt, paths.as_slice(), &wanted)?);
-    remove(&rt, paths.as_slice());
-    Ok(())
+    }),
+    fault: None,
+};
+
+/// Whether made files hold zeros and are consistent, until a byte changes.
+fn are_made<R: Files<File = File> + AllocGlobal + Threads + Wait + Sync>(
+    rt: &R,
+    paths: &[String],
+) -> Result<bool, Fail> {
+    create_files(rt, &geometry_of(1)?, paths)?;
+    if !all_have(rt, paths, 0) || !is_found(rt, paths, &CONSISTENT)? {
+        return Ok(false);
+    }
+    fill_but_for_the_first(rt, path_of(paths, 1)?)?;
+    is_found(rt, paths, &WRONG)
 }
 
-// The others are made before it and stay, or aren't made.
+/// Whether files aren't made for this slot's path.
+fn are_refused_at(rt: &HostRuntime, paths: &[String], slot: usize) -> Result<bool, Fail> {
+    let fault = Fault::WriteFault;
+    Ok(create_files(rt, &geometry_of(1)?, paths) == Err(EngineError::Device { slot, fault }))
+}
+
+/// Whether a file that is there isn't overwritten. The others are made before it and stay, or aren't made.
+fn is_not_overwritten(rt: &HostRuntime, paths: &[String]) -> Result<bool, Fail> {
+    let there = path_of(paths, 2)?;
+    fill(rt, there, 5, 7)?;
+    Ok(
+        are_refused_at(rt, paths, 2)?
+            && has(rt, there, 5, 7)
+            && fs::metadata(rt, path_of(paths, 0)?).is_ok()
+            && fs::metadata(rt, path_of(paths, 1)?).is_ok()
+            && fs::metadata(rt, path_of(paths, 3)?).is_err(),
+    )
+}
+
 #[test]
-fn a_file_that_is_there_is_not_overwritten(rt: HostRuntime) -> Result<(), Fail> {
-    let paths = paths_of(&rt, "there")?;
-    let there = paths.get(2).ok_or("no path")?.as_str();
-    fill(&rt, there, 5, 7)?;
-    let made = create_files(&rt, &geometry_of(1)?, paths.as_slice());
-    let refused = EngineError::Device {
-        slot: 2,
-        fault: Fault::WriteFault,
-    };
-    assert_eq!(rt; made, Err(refused));
-    has(&rt, there, 5, 7)?;
-    for (slot, path) in paths.iter().enumerate() {
-        assert_eq!(rt; fs::metadata(&rt, path.as_str()).is_ok(), slot < 3);
-    }
+fn files_are_made(rt: HostRuntime) -> Result<(), Fail> {
+    let paths = paths_of(&rt, "made")?;
+    assert!(rt; are_made(&rt, paths.as_slice())?);
+    remove(&rt, paths.as_slice());
+    assert!(rt; is_not_overwritten(&rt, paths.as_slice())?);
     remove(&rt, paths.as_slice());
     Ok(())
 }
 
 #[test]
 fn a_file_that_cannot_be_made_is_refused(rt: HostRuntime) -> Result<(), Fail> {
-    let mut paths = Vec::new(rt.alloc());
-    paths.push(String::from_str(rt.alloc(), "/dev/null/array")?)?;
-    let made = create_files(&rt, &geometry_of(1)?, paths.as_slice());
-    let refused = EngineError::Device {
-        slot: 0,
-        fault: Fault::WriteFault,
-    };
-    assert_eq!(rt; made, Err(refused));
+    let path = String::from_str(rt.alloc(), "/dev/null/array")?;
+    assert!(rt; are_refused_at(&rt, &[path], 0)?);
     Ok(())
 }
 
@@ -197,65 +227,87 @@ fn are_refused(
     refused == Some(named) && opened(rt, geometry, paths, &[slot]).is_ok()
 }
 
-/// Each file has to be as it was made, that of a slot with another length.
-fn are_unchanged<R: Abort + Files + AllocGlobal>(
-    rt: &R,
-    paths: &[String],
-    slot: usize,
-    length: Option<usize>,
-) -> Result<(), Fail> {
+/// Whether a slot's file is as it was made with another length.
+fn is_unchanged(rt: &HostRuntime, path: &str, length: Option<usize>) -> bool {
+    match length {
+        Some(count) => has(rt, path, count, 7),
+        None => fs::metadata(rt, path).is_err(),
+    }
+}
+
+/// Whether each file is as it was made, that of a slot with another length.
+fn are_unchanged(rt: &HostRuntime, paths: &[String], slot: usize, length: Option<usize>) -> bool {
     for (other, path) in paths.iter().enumerate() {
-        match length {
-            Some(count) if other == slot => has(rt, path.as_str(), count, 7)?,
-            None if other == slot => assert!(rt; fs::metadata(rt, path.as_str()).is_err()),
-            _ => has(rt, path.as_str(), BYTES, 7)?,
+        let length = if other == slot { length } else { Some(BYTES) };
+        if !is_unchanged(rt, path.as_str(), length) {
+            return false;
         }
     }
-    Ok(())
+    true
 }
+
+/// Whether a slot's file of another length is refused by this fault, and none is changed.
+fn is_refused_and_kept(
+    rt: &HostRuntime,
+    paths: &[String],
+    slot: u32,
+    length: Option<usize>,
+    fault: Fault,
+) -> Result<bool, Fail> {
+    for path in paths {
+        fill(rt, path.as_str(), BYTES, 7)?;
+    }
+    change(rt, path_of(paths, slot as usize)?, length)?;
+    let is_refused = are_refused(rt, &geometry_of(2)?, paths, slot, fault);
+    Ok(is_refused && are_unchanged(rt, paths, slot as usize, length))
+}
+
+const LENGTHS: &[(Option<usize>, Fault)] = &[
+    (Some(0), Fault::Length),
+    (Some(63), Fault::Length),
+    (Some(65), Fault::Length),
+    (None, Fault::Gone),
+];
 
 #[test]
 fn files_of_another_length_are_refused_and_not_changed(rt: HostRuntime) -> Result<(), Fail> {
-    let lengths = &[
-        (Some(0usize), Fault::Length),
-        (Some(63), Fault::Length),
-        (Some(65), Fault::Length),
-        (None, Fault::Gone),
-    ];
     let paths = paths_of(&rt, "length")?;
-    let geometry = geometry_of(2)?;
-    for slot in 0..SLOTS {
-        for (length, fault) in lengths {
-            for path in &paths {
-                fill(&rt, path.as_str(), BYTES, 7)?;
-            }
-            change(&rt, paths.get(slot).ok_or("no path")?.as_str(), *length)?;
-            assert!(rt; are_refused(&rt, &geometry, paths.as_slice(), slot as u32, *fault));
-            are_unchanged(&rt, paths.as_slice(), slot, *length)?;
+    for slot in 0..SLOTS as u32 {
+        for (length, fault) in LENGTHS {
+            assert!(rt; is_refused_and_kept(&rt, paths.as_slice(), slot, *length, *fault)?);
         }
     }
     remove(&rt, paths.as_slice());
     Ok(())
 }
 
-// The file of slot 2 loses its last 20 bytes, of rows 2 and 3, once it is open.
-#[test]
-fn a_short_read_is_a_fault(rt: HostRuntime) -> Result<(), Fail> {
-    let paths = paths_of(&rt, "short")?;
-    let geometry = geometry_of(2)?;
-    create_files(&rt, &geometry, paths.as_slice())?;
-    let mut parts = opened(&rt, &geometry, paths.as_slice(), &[])?;
-    fill(&rt, paths.get(2).ok_or("no path")?.as_str(), BYTES - 20, 0)?;
-    let report = check_all(&rt, rt.alloc(), &geometry, parts.as_mut_slice())?;
+/// Whether a check of these parts meets a fault in row 2 of slot 2, and no other.
+fn meets_a_fault<R: Files<File = File> + AllocGlobal + Threads + Wait + Sync>(
+    rt: &R,
+    geometry: &Geometry,
+    parts: &mut [Option<FileDevice<File>>],
+) -> Result<bool, Fail>
+    requires { length parts.old ≡ geometry.now.shards * geometry.now.slots }
+{
+    let report = check_all(rt, rt.alloc(), geometry, parts)?;
     let fault = RowFault {
         row: 2,
         slot: 2,
         fault: Fault::ReadFault,
     };
-    assert_eq!(rt; report.fault, Some(fault));
-    assert_eq!(rt; report.counts.consistent, 2);
-    remove(&rt, paths.as_slice());
-    Ok(())
+    Ok(report.fault == Some(fault) && report.counts.consistent == 2)
+}
+
+/// Whether the file of slot 2 loses its last 20 bytes, of rows 2 and 3, once it is open, and that is a fault.
+fn is_short<R: Files<File = File> + AllocGlobal + Threads + Wait + Sync>(
+    rt: &R,
+    paths: &[String],
+) -> Result<bool, Fail> {
+    let geometry = geometry_of(2)?;
+    create_files(rt, &geometry, paths)?;
+    let mut parts = opened(rt, &geometry, paths, &[])?;
+    fill(rt, path_of(paths, 2)?, BYTES - 20, 0)?;
+    meets_a_fault(rt, &geometry, parts.as_mut_slice())
 }
 
 /// A file's device with the rows of one shard.
@@ -311,44 +363,91 @@ fn rebuilt(
     Ok(rebuild_all(rt.alloc(), geometry, parts, 1, targets)?)
 }
 
-// Slot 1 keeps the data blocks 0 and 1, P and Q of rows 0 to 3. Zeros are rebuilt over its bytes of 7.
-#[test]
-fn a_slot_is_rebuilt_onto_its_file(rt: HostRuntime) -> Result<(), Fail> {
-    let paths = paths_of(&rt, "rebuilt")?;
+/// Whether zeros are rebuilt over the bytes of 7 of slot 1, which keeps data blocks 0 and 1, P and Q of rows 0 to 3.
+fn is_rebuilt(rt: &HostRuntime, paths: &[String]) -> Result<bool, Fail> {
     let geometry = geometry_of(2)?;
-    create_files(&rt, &geometry, paths.as_slice())?;
-    let path = paths.get(1).ok_or("no path")?.as_str();
-    fill(&rt, path, BYTES, 7)?;
+    create_files(rt, &geometry, paths)?;
+    let path = path_of(paths, 1)?;
+    fill(rt, path, BYTES, 7)?;
     let all = Rebuilt {
         rows: 4,
         fault: None,
     };
-    assert!(rt; rebuilt(&rt, &geometry, paths.as_slice(), path)? == all);
-    has(&rt, path, BYTES, 0)?;
+    Ok(rebuilt(rt, &geometry, paths, path)? == all && has(rt, path, BYTES, 0))
+}
+
+#[test]
+fn a_short_read_is_a_fault_and_a_slot_is_rebuilt_onto_its_file(
+    rt: HostRuntime,
+) -> Result<(), Fail> {
+    let paths = paths_of(&rt, "read")?;
+    assert!(rt; is_short(&rt, paths.as_slice())?);
+    remove(&rt, paths.as_slice());
+    assert!(rt; is_rebuilt(&rt, paths.as_slice())?);
     remove(&rt, paths.as_slice());
     Ok(())
 }
 
-// A part has its own rows alone, which stand in the file by their numbers in the array.
+/// Whether a part of the second of two shards writes row 3 alone.
+fn is_written(
+    rt: &HostRuntime,
+    geometry: &Geometry,
+    path: &str,
+    block: &Buffer,
+) -> Result<bool, Fail>
+    requires { 1 < geometry.now.shards }
+{
+    let mut part = part_of(rt, geometry, 1, path, Access::ReadWrite)?;
+    Ok(part.write(1, block) == Err(Fault::Length) && part.write(3, block) == Ok(()))
+}
+
+/// Whether such a part reads zeros in row 2, and doesn't write it without the right to.
+fn is_read(
+    rt: &HostRuntime,
+    geometry: &Geometry,
+    path: &str,
+    block: &mut Buffer,
+) -> Result<bool, Fail>
+    requires { 1 < geometry.now.shards }
+{
+    let mut part = part_of(rt, geometry, 1, path, Access::Read)?;
+    Ok(
+        part.write(2, block) == Err(Fault::WriteFault)
+            && part.read(2, block) == Ok(())
+            && block.as_slice() == [0u8; 16].as_slice(),
+    )
+}
+
+/// Whether a file has zeros but for its last row, of 7.
+fn has_last_row(rt: &HostRuntime, path: &str) -> bool {
+    let mut bytes = [0u8; BYTES];
+    bytes[48..].fill(7);
+    match fs::read(rt, path) {
+        Ok(found) => found.as_slice() == bytes.as_slice(),
+        Err(_) => false,
+    }
+}
+
+/// Whether a part has its own rows alone, which stand in the file by their numbers in the array.
+fn stands_by_its_number(rt: &HostRuntime, path: &str) -> Result<bool, Fail> {
+    fill(rt, path, BYTES, 0)?;
+    let geometry = geometry_of(2)?;
+    if geometry.shards() != 2 {
+        return Ok(false);
+    }
+    let mut block = Buffer::new(rt.alloc(), 16)?;
+    block.copy_from_slice(&[7u8; 16]);
+    Ok(
+        is_written(rt, &geometry, path, &block)?
+            && has_last_row(rt, path)
+            && is_read(rt, &geometry, path, &mut block)?,
+    )
+}
+
 #[test]
 fn a_row_stands_in_the_file_by_its_number(rt: HostRuntime) -> Result<(), Fail> {
     let paths = paths_of(&rt, "row")?;
-    let path = paths.get(0).ok_or("no path")?.as_str();
-    fill(&rt, path, BYTES, 0)?;
-    let geometry = geometry_of(2)?;
-    let mut block = Buffer::new(rt.alloc(), 16)?;
-    block.copy_from_slice(&[7u8; 16]);
-    assert!(rt; geometry.shards() == 2);
-    let mut part = part_of(&rt, &geometry, 1, path, Access::ReadWrite)?;
-    assert_eq!(rt; part.write(1, &block), Err(Fault::Length));
-    assert_eq!(rt; part.write(3, &block), Ok(()));
-    let mut bytes = [0u8; BYTES];
-    bytes[48..].fill(7);
-    assert_eq!(rt; fs::read(&rt, path)?.as_slice(), bytes.as_slice());
-    let mut part = part_of(&rt, &geometry, 1, path, Access::Read)?;
-    assert_eq!(rt; part.write(2, &block), Err(Fault::WriteFault));
-    assert_eq!(rt; part.read(2, &mut block), Ok(()));
-    assert_eq!(rt; block.as_slice(), [0u8; 16].as_slice());
+    assert!(rt; stands_by_its_number(&rt, path_of(paths.as_slice(), 0)?)?);
     remove(&rt, paths.as_slice());
     Ok(())
 }

@@ -3,12 +3,14 @@
 ghost use Rattle.std.specs.Prelude.{◌≡◌, ◌*◌, length, IfOk};
 
 use r6_dev::{BlockDevice, Fault, MemoryDevice};
-use r6_engine::check_all;
+use r6_engine::{Report, check_all};
 use r6_kernels::Buffer;
 use r6_layout::Geometry;
 use std::alloc::{AllocError, Global};
+use std::sync::Wait;
 use std::sync::atomic::{AtomicBool, Ordering};
 use std::test::Fail;
+use std::thread::Threads;
 
 // As often a guest looks for the other one.
 const PATIENCE: u64 = 2_000_000_000;
@@ -113,16 +115,24 @@ fn guests<'m>(
     Ok(parts)
 }
 
+// What a check finds where guests meet.
+fn checked<R: Threads + Wait + Sync>(
+    rt: &R,
+    alloc: Global,
+    meeting: &Meeting,
+) -> Result<Report, Fail> {
+    let geometry = Geometry::new(4, 1, 16, 4, 2)?;
+    let mut parts = guests(alloc, &geometry, meeting)?;
+    Ok(check_all(rt, alloc, &geometry, parts.as_mut_slice())?)
+}
+
 #[test]
 fn each_shard_is_checked_in_a_thread_of_its_own(rt: HostRuntime) -> Result<(), Fail> {
-    let geometry = Geometry::new(4, 1, 16, 4, 2)?;
     let meeting = Meeting {
         first: AtomicBool::new(false),
         second: AtomicBool::new(false),
     };
-    let mut parts = guests(rt.alloc(), &geometry, &meeting)?;
-    let report = check_all(&rt, rt.alloc(), &geometry, parts.as_mut_slice())?;
-    assert_eq!(rt; report.fault, None);
-    assert_eq!(rt; report.counts.consistent, 4);
+    let report = checked(&rt, rt.alloc(), &meeting)?;
+    assert!(rt; report.fault == None && report.counts.consistent == 4);
     Ok(())
 }
