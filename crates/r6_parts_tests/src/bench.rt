@@ -13,12 +13,12 @@ use std::test::Fail;
 /// The bytes of a block.
 const BLOCK: usize = 16;
 
-/// What a hold is asked: the index of a data block, and the byte that is written throughout; the position of the
+/// What a hold is asked: the index of a data block; the new blocks, by index the byte throughout; the position of the
 /// target.
 #[derive(Clone, Copy)]
-pub(crate) enum Ask {
+pub(crate) enum Ask<'a> {
     Read(usize),
-    Write(usize, u8),
+    Write(&'a [(usize, u8)]),
     Rebuild(usize),
     Check,
     Repair,
@@ -41,14 +41,14 @@ pub(crate) enum Step {
     IsOver,
     /// How the hold has ended.
     End,
-    /// Commands are put out and performed until none comes; how the hold has ended then.
-    Finish,
     /// Whether all buffers are home.
     IsHome,
+    /// Whether the hold has put a block with this byte throughout at a position.
+    Has(usize, u8),
 }
 
 /// What a step answers.
-#[derive(Clone, Copy, PartialEq, Eq, Debug)]
+#[derive(Clone, Copy, PartialEq, Eq)]
 pub(crate) enum Seen {
     Nothing,
     /// The position.
@@ -62,12 +62,25 @@ pub(crate) enum Seen {
     End(Option<Outcome>),
 }
 
+/// A hold over a row of these bytes, of whose positions these are in sync, and the steps that it has to take. Then its
+/// devices have the bytes `after` but at the lost positions.
+#[derive(Clone, Copy)]
+pub(crate) struct Course<'a> {
+    pub(crate) name: &'a str,
+    pub(crate) ask: Ask<'a>,
+    pub(crate) bytes: &'a [u8],
+    pub(crate) in_sync: &'a [bool],
+    pub(crate) steps: &'a [(Step, Seen)],
+    pub(crate) after: &'a [u8],
+    pub(crate) lost: &'a [usize],
+}
+
 /// A hold, the blocks of its row, and the commands that wait.
 #[derive(Drop)]
 pub(crate) struct Bench {
     pub(crate) hold: Hold,
     pub(crate) devices: Vec<Buffer>,
-    out: Vec<RowCommand>,
+    pub(crate) out: Vec<RowCommand>,
 }
 
 /// The blocks of a row.
@@ -111,21 +124,21 @@ fn batch_of(alloc: Global, new: &[(usize, u8)], count: usize) -> Result<Batch, F
 }
 
 /// The hold of a row, of whose positions these are in sync.
-fn hold_of(alloc: Global, ask: Ask, in_sync: &[bool]) -> Result<Hold, Fail> {
+fn hold_of(alloc: Global, ask: &Ask<'_>, in_sync: &[bool]) -> Result<Hold, Fail> {
     let count = in_sync.len();
     let (index, target) = match ask {
-        Ask::Read(index) | Ask::Write(index, _) => (index, 0),
-        Ask::Rebuild(target) => (0, target),
-        Ask::Check | Ask::Repair => (0, 0),
+        Ask::Read(index) => (*index, 0),
+        Ask::Rebuild(target) => (0, *target),
+        Ask::Write(_) | Ask::Check | Ask::Repair => (0, 0),
     };
     if count < 4 || count > 32 || index >= count - 2 || target >= count {
         return Err(Fail::from("no row"));
     }
     let frame = Frame::new(alloc, count, BLOCK)?;
     let task = match ask {
-        Ask::Read(index) => Task::Read(index),
-        Ask::Write(index, byte) => Task::Write(batch_of(alloc, &[(index, byte)], count)?),
-        Ask::Rebuild(target) => Task::Rebuild(target),
+        Ask::Read(index) => Task::Read(*index),
+        Ask::Write(new) => Task::Write(batch_of(alloc, *new, count)?),
+        Ask::Rebuild(target) => Task::Rebuild(*target),
         Ask::Check => Task::Check,
         Ask::Repair => Task::Repair,
     };
@@ -165,21 +178,15 @@ fn perform(command: RowCommand, devices: &mut Vec<Buffer>) -> (usize, Buffer) {
     }
 }
 
-/// A row of these bytes, of whose positions these are in sync, has to take this course. Then its devices have the
-/// bytes `after` but at the lost positions.
-pub(crate) fn plays<R: Abort>(
-    rt: &R,
-    alloc: Global,
-    ask: Ask,
-    bytes: &[u8],
-    in_sync: &[bool],
-    course: &[(Step, Seen)],
-    after: &[u8],
-    lost: &[usize],
-) -> Result<(), Fail> {
-    let mut bench = Bench::new(alloc, ask, bytes, in_sync)?;
-    bench.play(rt, course)?;
-    assert!(rt; has_bytes(&bench.devices, after, lost));
+/// A hold has to take this course.
+pub(crate) fn plays<R: Abort>(rt: &R, alloc: Global, course: &Course<'_>) -> Result<(), Fail> {
+    let mut bench = Bench::new(alloc, &course.ask, course.bytes, course.in_sync)?;
+    bench.play(rt, course.name, course.steps)?;
+    assert!(rt;
+        has_bytes(&bench.devices, course.after, course.lost),
+        "after {}",
+        course.name
+    );
     Ok(())
 }
 
@@ -187,7 +194,7 @@ impl Bench {
     /// A row of these bytes, of whose positions these are in sync.
     pub(crate) fn new(
         alloc: Global,
-        ask: Ask,
+        ask: &Ask<'_>,
         bytes: &[u8],
         in_sync: &[bool],
     ) -> Result<Bench, Fail> {
@@ -198,53 +205,30 @@ impl Bench {
         })
     }
 
-    /// The same, where these blocks are written as one.
-    pub(crate) fn writing(
-        alloc: Global,
-        new: &[(usize, u8)],
-        bytes: &[u8],
-        in_sync: &[bool],
-    ) -> Result<Bench, Fail> {
-        let count = in_sync.len();
-        if count < 4 || count > 32 {
-            return Err(Fail::from("no row"));
-        }
-        let frame = Frame::new(alloc, count, BLOCK)?;
-        let task = Task::Write(batch_of(alloc, new, count)?);
-        Ok(Bench {
-            hold: Hold::begin(frame, task, in_sync),
-            devices: row_of(alloc, bytes)?,
-            out: Vec::new(alloc),
-        })
-    }
-
-    /// Plays a course: each step has to answer so.
+    /// Plays a course of this name: each step has to answer so.
     pub(crate) fn play<R: Abort>(
         &mut self,
         rt: &R,
-        course: &[(Step, Seen)],
+        name: &str,
+        steps: &[(Step, Seen)],
     ) -> Result<(), AllocError> {
-        for (index, (step, seen)) in course.iter().enumerate() {
-            let found = self.seen(*step)?;
-            assert_eq!(rt; found, *seen, "at step {index}");
+        for (index, (step, seen)) in steps.iter().enumerate() {
+            assert!(rt; self.seen(step)? == *seen, "step {index} of {name}");
         }
         Ok(())
     }
 
-    fn seen(&mut self, step: Step) -> Result<Seen, AllocError> {
+    fn seen(&mut self, step: &Step) -> Result<Seen, AllocError> {
         Ok(match step {
             Step::Next => self.next()?,
             Step::NextAll => self.next_all()?,
-            Step::Answer(position) => self.answer_out(position),
-            Step::Drive(most) => Seen::Commands(self.drive(most)),
-            Step::Lose(position) => self.lose(position),
+            Step::Answer(position) => self.answer_out(*position),
+            Step::Drive(most) => Seen::Commands(self.drive(*most)),
+            Step::Lose(position) => self.lose(*position),
             Step::IsOver => Seen::Is(self.outcome() == Some(Outcome::Done)),
             Step::End => Seen::End(self.outcome()),
-            Step::Finish => {
-                self.drive(9);
-                Seen::End(self.outcome())
-            }
             Step::IsHome => Seen::Is(self.is_home()),
+            Step::Has(position, byte) => Seen::Is(self.has_block(*position, *byte)),
         })
     }
 
@@ -262,7 +246,7 @@ impl Bench {
         self.hold.is_home()
     }
 
-    fn next(&mut self) -> Result<Seen, AllocError> {
+    pub(crate) fn next(&mut self) -> Result<Seen, AllocError> {
         let Some(command) = self.next_command() else {
             return Ok(Seen::Nothing);
         };
@@ -323,6 +307,27 @@ impl Bench {
         } else {
             Seen::Nothing
         }
+    }
+
+    /// Whether the hold ends so if these positions are lost after so many commands, all buffers are home then, and the
+    /// devices have these bytes but at those positions.
+    pub(crate) fn survives(
+        &mut self,
+        commands: usize,
+        lost: &[usize],
+        after: &[u8],
+        outcome: Outcome,
+    ) -> bool {
+        if self.drive(commands) != commands {
+            return false;
+        }
+        for position in lost {
+            if self.lose(*position) != Seen::Lost {
+                return false;
+            }
+        }
+        self.drive(9);
+        self.outcome() == Some(outcome) && self.is_home() && has_bytes(&self.devices, after, lost)
     }
 
     /// Whether the hold has put a block with this byte throughout at a position.

@@ -1,6 +1,6 @@
 //! Checks and repairs of a row, driven over blocks in memory.
 
-use crate::bench::{Ask, Seen, Step, plays};
+use crate::bench::{Ask, Course, Seen, Step, plays};
 use r6_recover::RowClass;
 use r6_stripe::Outcome;
 use std::alloc::Global;
@@ -10,29 +10,144 @@ use std::test::Fail;
 /// A full row of four positions: P is the sum of the data, and Q is 01 + x 80 = 01 + 1d.
 const ROW: [u8; 4] = [0x01, 0x80, 0x81, 0x1c];
 
+/// A row whose first data block is wrong.
+const WRONG: [u8; 4] = [0x01, 0x80, 0x80, 0x1d];
+
+const CLASSED: Outcome = Outcome::Classed(RowClass::WrongData(0));
+
+pub(crate) const COURSES: &[Course<'static>] = &[
+    // All four reads are out when a position is lost: the check is over when the other three are answered.
+    Course {
+        name: "a check that is cut short waits for its reads",
+        ask: Ask::Check,
+        bytes: &ROW,
+        in_sync: &[true; 4],
+        steps: &[
+            (Step::NextAll, Seen::Commands(4)),
+            (Step::Lose(1), Seen::Lost),
+            (Step::Answer(0), Seen::Home),
+            (Step::Answer(1), Seen::Home),
+            (Step::Answer(2), Seen::Home),
+            (Step::End, Seen::End(None)),
+            (Step::Answer(3), Seen::Home),
+            (Step::Next, Seen::Nothing),
+            (Step::End, Seen::End(Some(Outcome::GivenUp))),
+            (Step::IsHome, Seen::Is(true)),
+        ],
+        after: &ROW,
+        lost: &[],
+    },
+    Course {
+        name: "a repair's loss before any read",
+        ask: Ask::Repair,
+        bytes: &WRONG,
+        in_sync: &[true; 4],
+        steps: &[
+            (Step::Drive(0), Seen::Commands(0)),
+            (Step::End, Seen::End(None)),
+            (Step::Lose(3), Seen::Lost),
+            (Step::Drive(9), Seen::Commands(0)),
+            (Step::End, Seen::End(Some(Outcome::GivenUp))),
+            (Step::IsHome, Seen::Is(true)),
+        ],
+        after: &WRONG,
+        lost: &[3],
+    },
+    Course {
+        name: "a repair's loss of a block that was read",
+        ask: Ask::Repair,
+        bytes: &WRONG,
+        in_sync: &[true; 4],
+        steps: &[
+            (Step::Drive(2), Seen::Commands(2)),
+            (Step::End, Seen::End(None)),
+            (Step::Lose(0), Seen::Lost),
+            (Step::Drive(9), Seen::Commands(0)),
+            (Step::End, Seen::End(Some(Outcome::GivenUp))),
+            (Step::IsHome, Seen::Is(true)),
+        ],
+        after: &WRONG,
+        lost: &[0],
+    },
+    Course {
+        name: "a repair's loss of a block that was not read",
+        ask: Ask::Repair,
+        bytes: &WRONG,
+        in_sync: &[true; 4],
+        steps: &[
+            (Step::Drive(2), Seen::Commands(2)),
+            (Step::End, Seen::End(None)),
+            (Step::Lose(3), Seen::Lost),
+            (Step::Drive(9), Seen::Commands(0)),
+            (Step::End, Seen::End(Some(Outcome::GivenUp))),
+            (Step::IsHome, Seen::Is(true)),
+        ],
+        after: &WRONG,
+        lost: &[3],
+    },
+    Course {
+        name: "a repair's loss of data after the reads",
+        ask: Ask::Repair,
+        bytes: &WRONG,
+        in_sync: &[true; 4],
+        steps: &[
+            (Step::Drive(4), Seen::Commands(4)),
+            (Step::End, Seen::End(None)),
+            (Step::Lose(0), Seen::Lost),
+            (Step::Drive(9), Seen::Commands(2)),
+            (Step::End, Seen::End(Some(CLASSED))),
+            (Step::IsHome, Seen::Is(true)),
+        ],
+        after: &ROW,
+        lost: &[0],
+    },
+    Course {
+        name: "a repair's loss of P after the reads",
+        ask: Ask::Repair,
+        bytes: &WRONG,
+        in_sync: &[true; 4],
+        steps: &[
+            (Step::Drive(4), Seen::Commands(4)),
+            (Step::End, Seen::End(None)),
+            (Step::Lose(2), Seen::Lost),
+            (Step::Drive(9), Seen::Commands(1)),
+            (Step::End, Seen::End(Some(CLASSED))),
+            (Step::IsHome, Seen::Is(true)),
+        ],
+        after: &ROW,
+        lost: &[2],
+    },
+];
+
 /// A hold over the row with these P and Q puts out so many commands and ends with this class. Then these bytes stand
 /// there.
 fn classes<R: Abort>(
     rt: &R,
     alloc: Global,
-    ask: Ask,
-    p: u8,
-    q: u8,
+    ask: Ask<'_>,
+    bytes: &[u8],
     commands: usize,
     class: RowClass,
     after: &[u8],
 ) -> Result<(), Fail> {
-    let course = [
-        (Step::Drive(9), Seen::Commands(commands)),
-        (Step::End, Seen::End(Some(Outcome::Classed(class)))),
-    ];
-    let bytes = [ROW[0], ROW[1], p, q];
-    plays(rt, alloc, ask, &bytes, &[true; 4], &course, after, &[])
+    let course = Course {
+        name: "a check or repair",
+        ask,
+        bytes,
+        in_sync: &[true; 4],
+        steps: &[
+            (Step::Drive(9), Seen::Commands(commands)),
+            (Step::End, Seen::End(Some(Outcome::Classed(class)))),
+        ],
+        after,
+        lost: &[],
+    };
+    plays(rt, alloc, &course)
 }
 
 /// P and Q with the class of the row that they make, and how many of them a repair writes: what they differ by is 0 or
 /// 1 in the place of P, and that times g^z in the place of Q where data block z is wrong.
-const CLASSES: [(u8, u8, RowClass, usize); 5] = [
+const CLASSES: &[(u8, u8, RowClass, usize)] = &[
     (0x81, 0x1c, RowClass::Consistent, 0),
     (0x80, 0x1c, RowClass::WrongP, 1),
     (0x81, 0x1d, RowClass::WrongQ, 1),
@@ -41,79 +156,21 @@ const CLASSES: [(u8, u8, RowClass, usize); 5] = [
 ];
 
 #[test]
-fn a_check_finds_the_class_and_writes_nothing(rt: HostRuntime) -> Result<(), Fail> {
-    for (p, q, class, _) in CLASSES {
-        let bytes = [ROW[0], ROW[1], p, q];
-        classes(&rt, rt.alloc(), Ask::Check, p, q, 4, class, &bytes)?;
-    }
-    Ok(())
-}
-
-#[test]
-fn a_repair_writes_the_parities_that_differ(rt: HostRuntime) -> Result<(), Fail> {
+fn a_check_writes_nothing_and_a_repair_the_parities_that_differ(
+    rt: HostRuntime,
+) -> Result<(), Fail> {
     for (p, q, class, wrong) in CLASSES {
-        classes(&rt, rt.alloc(), Ask::Repair, p, q, 4 + wrong, class, &ROW)?;
-    }
-    Ok(())
-}
-
-// A position is lost before any read, between two reads, and when all are answered: the class is WrongData(0).
-#[test]
-fn a_loss_while_reading_cuts_short(rt: HostRuntime) -> Result<(), Fail> {
-    let wrong = [ROW[0], ROW[1], 0x80, 0x1d];
-    let class = Outcome::Classed(RowClass::WrongData(0));
-    for (reads, lost, writes, end, after) in [
-        (0usize, 3usize, 0usize, Outcome::GivenUp, wrong),
-        (2, 0, 0, Outcome::GivenUp, wrong),
-        (2, 3, 0, Outcome::GivenUp, wrong),
-        (4, 0, 2, class, ROW),
-        (4, 2, 1, class, ROW),
-    ] {
-        let course = [
-            (Step::Drive(reads), Seen::Commands(reads)),
-            (Step::End, Seen::End(None)),
-            (Step::Lose(lost), Seen::Lost),
-            (Step::Drive(9), Seen::Commands(writes)),
-            (Step::End, Seen::End(Some(end))),
-            (Step::IsHome, Seen::Is(true)),
-        ];
-        plays(
+        let bytes = [ROW[0], ROW[1], *p, *q];
+        classes(&rt, rt.alloc(), Ask::Check, &bytes, 4, *class, &bytes)?;
+        classes(
             &rt,
             rt.alloc(),
             Ask::Repair,
-            &wrong,
-            &[true; 4],
-            &course,
-            &after,
-            &[lost],
+            &bytes,
+            4 + *wrong,
+            *class,
+            &ROW,
         )?;
     }
     Ok(())
-}
-
-// All four reads are out when a position is lost: the check is over when the other three are answered.
-#[test]
-fn a_check_that_is_cut_short_waits_for_its_reads(rt: HostRuntime) -> Result<(), Fail> {
-    let course = [
-        (Step::NextAll, Seen::Commands(4)),
-        (Step::Lose(1), Seen::Lost),
-        (Step::Answer(0), Seen::Home),
-        (Step::Answer(1), Seen::Home),
-        (Step::Answer(2), Seen::Home),
-        (Step::End, Seen::End(None)),
-        (Step::Answer(3), Seen::Home),
-        (Step::Next, Seen::Nothing),
-        (Step::End, Seen::End(Some(Outcome::GivenUp))),
-        (Step::IsHome, Seen::Is(true)),
-    ];
-    plays(
-        &rt,
-        rt.alloc(),
-        Ask::Check,
-        &ROW,
-        &[true; 4],
-        &course,
-        &ROW,
-        &[],
-    )
 }

@@ -38,32 +38,19 @@ fn a_block_stands_at_its_offset_in_the_row_of_its_chunk(rt: HostRuntime) -> Resu
 #[test]
 fn the_first_limit_that_is_not_kept_is_named(rt: HostRuntime) {
     let cases = &[
-        ((3, 1, 16, 4, 1), GeometryError::Slots),
-        ((33, 1, 16, 4, 1), GeometryError::Slots),
-        ((4, 129, 16, 129, 1), GeometryError::Chunk),
-        ((4, 1, 24, 4, 1), GeometryError::Block),
-        ((4, 2, 16, 5, 1), GeometryError::Rows),
-        ((4, 1, 16, 0, 1), GeometryError::Rows),
-        ((4, 1, 16, 32, 17), GeometryError::Shards),
-        ((4, 1, 16, 4, 5), GeometryError::Shards),
-        ((3, 1, 24, 4, 1), GeometryError::Slots),
+        ((3, 1, 16, 4, 1), GeometryError::Slots, 1),
+        ((33, 1, 16, 4, 1), GeometryError::Slots, 1),
+        ((4, 129, 16, 129, 1), GeometryError::Chunk, 2),
+        ((4, 1, 24, 4, 1), GeometryError::Block, 3),
+        ((4, 2, 16, 5, 1), GeometryError::Rows, 4),
+        ((4, 1, 16, 0, 1), GeometryError::Rows, 4),
+        ((4, 1, 16, 32, 17), GeometryError::Shards, 5),
+        ((4, 1, 16, 4, 5), GeometryError::Shards, 5),
+        ((3, 1, 24, 4, 1), GeometryError::Slots, 1),
     ];
-    for ((slots, chunk, block, rows, shards), error) in cases {
-        assert!(rt; Geometry::new(*slots, *chunk, *block, *rows, *shards) == Err(*error));
-    }
-}
-
-#[test]
-fn errors_have_the_numbers_of_their_arguments(rt: HostRuntime) {
-    let errors = &[
-        (GeometryError::Slots, 1),
-        (GeometryError::Chunk, 2),
-        (GeometryError::Block, 3),
-        (GeometryError::Rows, 4),
-        (GeometryError::Shards, 5),
-    ];
-    for (error, number) in errors {
-        assert!(rt; error.number() == *number);
+    for ((slots, chunk, block, rows, shards), error, number) in cases {
+        let refused = Geometry::new(*slots, *chunk, *block, *rows, *shards);
+        assert!(rt; refused == Err(*error) && error.number() == *number);
     }
 }
 

@@ -26,8 +26,6 @@ mod holds;
 #[cfg(test)]
 mod kernels;
 #[cfg(test)]
-mod lanes;
-#[cfg(test)]
 mod layouts;
 #[cfg(test)]
 mod losses;

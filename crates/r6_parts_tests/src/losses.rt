@@ -1,10 +1,8 @@
 //! Holds that lose positions at every moment, and go on by recovery.
 
-ghost use Rattle.std.specs.Prelude.{◌≤◌};
-
-use crate::bench::{Ask, Bench, Seen, Step, has_bytes, position_of};
+use crate::bench::{Ask, Bench, Seen, has_bytes, position_of};
 use crate::blocks::filled;
-use crate::holds::{CHANGED, DATA, full_row};
+use crate::holds::{EIGHT, EIGHT_CHANGED, FOUR, FOUR_CHANGED, SECOND, SIX, SIX_CHANGED};
 use r6_kernels::Buffer;
 use r6_stripe::{Outcome, RowCommand};
 use std::alloc::{AllocError, Global};
@@ -32,6 +30,14 @@ enum Answers {
     LateIfLost,
 }
 
+/// A read or a write of data block 1 of a row of at most eight positions, which has the bytes `after` then.
+#[derive(Clone, Copy)]
+struct Work<'a> {
+    ask: Ask<'a>,
+    bytes: &'a [u8],
+    after: &'a [u8],
+}
+
 /// What stands at a position that is lost is of no account.
 fn spoil(
     alloc: Global,
@@ -47,73 +53,53 @@ fn spoil(
     Ok(())
 }
 
+/// The positions of this step are lost.
+fn lose(bench: &mut Bench, losses: &[Loss], step: usize) {
+    for loss in losses {
+        if loss.step == step {
+            bench.lose(loss.position);
+        }
+    }
+}
+
+/// Whether the device of a command answers it only after the end.
+fn is_late(command: &RowCommand, losses: &[Loss], answers: &Answers) -> bool {
+    let position = position_of(command);
+    *answers == Answers::LateIfLost && losses.iter().any(|loss| loss.position == position)
+}
+
 /// Drives a hold to its end. What is left are the commands that are answered late.
 fn run(
     alloc: Global,
     bench: &mut Bench,
     losses: &[Loss],
-    answers: Answers,
-) -> Result<Vec<RowCommand>, AllocError> {
-    let mut out: Vec<RowCommand> = Vec::new(alloc);
-    let mut late = Vec::new(alloc);
+    answers: &Answers,
+    late: &mut Vec<RowCommand>,
+) -> Result<(), AllocError> {
     for step in 1..48usize {
         spoil(alloc, &mut bench.devices, losses, step)?;
-        for loss in losses {
-            if loss.step == step {
-                bench.lose(loss.position);
-            }
-        }
-        if let Some(command) = bench.next_command() {
-            out.push(command)?;
-            if answers != Answers::AtOnce {
-                continue;
-            }
-        }
-        let Some(command) = out.pop() else {
-            if step > LAST_STEP {
-                break;
-            }
+        lose(bench, losses, step);
+        if bench.next()? != Seen::Nothing && *answers != Answers::AtOnce {
             continue;
-        };
-        let position = position_of(&command);
-        let is_lost = losses.iter().any(|loss| loss.position == position);
-        if is_lost && answers == Answers::LateIfLost {
-            late.push(command)?;
-        } else {
-            bench.answer(command);
+        }
+        match bench.out.pop() {
+            Some(command) if is_late(&command, losses, answers) => late.push(command)?,
+            Some(command) => {
+                bench.answer(command);
+            }
+            None if step > LAST_STEP => break,
+            None => {}
         }
     }
-    Ok(late)
+    Ok(())
 }
 
 /// Whether the hold has ended and done its task: a read has its block, and a write changed all positions that aren't
 /// lost.
-fn is_done(bench: &Bench, writes: bool, row: &[u8], lost: &[usize]) -> bool {
+fn is_done(bench: &Bench, work: &Work<'_>, lost: &[usize]) -> bool {
     bench.outcome() == Some(Outcome::Done)
-        && has_bytes(&bench.devices, row, lost)
-        && (writes || bench.has_block(1, DATA[1]))
-}
-
-/// A read or a write of 5a at data block 1 of a row, with these losses before it begins.
-fn begun(alloc: Global, count: usize, writes: bool, losses: &[Loss]) -> Result<Bench, Fail>
-    requires at_least { 4 ≤ count }
-    requires at_most { count ≤ 8 }
-{
-    let mut in_sync = [true; 8];
-    for loss in losses {
-        if loss.step == 0 && loss.position < in_sync.len() {
-            in_sync[loss.position] = false;
-        }
-    }
-    let ask = if writes {
-        Ask::Write(1, 0x5a)
-    } else {
-        Ask::Read(1)
-    };
-    let before = full_row(alloc, &DATA[..count - 2])?;
-    let mut bench = Bench::new(alloc, ask, before.as_slice(), &in_sync[..count])?;
-    spoil(alloc, &mut bench.devices, losses, 0)?;
-    Ok(bench)
+        && has_bytes(&bench.devices, work.after, lost)
+        && (matches!(&work.ask, Ask::Write(_)) || bench.has_block(1, 0x80))
 }
 
 /// The devices of these commands perform them.
@@ -127,66 +113,35 @@ fn answer_all(bench: &mut Bench, commands: Vec<RowCommand>) {
 fn does_its_task(
     alloc: Global,
     bench: &mut Bench,
-    writes: bool,
+    work: &Work<'_>,
     losses: &[Loss; 2],
-    answers: Answers,
-    after: &[u8],
+    answers: &Answers,
 ) -> Result<bool, AllocError> {
-    let late = run(alloc, bench, losses, answers)?;
+    spoil(alloc, &mut bench.devices, losses, 0)?;
+    let mut late = Vec::new(alloc);
+    run(alloc, bench, losses, answers, &mut late)?;
     let lost = [losses[0].position, losses[1].position];
-    let was_done = is_done(bench, writes, after, &lost);
+    let was_done = is_done(bench, work, &lost);
     answer_all(bench, late);
-    Ok(was_done && is_done(bench, writes, after, &lost) && bench.is_home())
+    Ok(was_done && is_done(bench, work, &lost) && bench.is_home())
 }
 
 /// Whether a hold does its task, whatever the two losses.
 fn survives(
     alloc: Global,
-    count: usize,
-    writes: bool,
-    losses: [Loss; 2],
-    answers: Answers,
-) -> Result<bool, Fail>
-    requires at_least { 4 ≤ count }
-    requires at_most { count ≤ 8 }
-{
-    let after = if writes { CHANGED } else { DATA };
-    let after = full_row(alloc, &after[..count - 2])?;
-    let mut bench = begun(alloc, count, writes, &losses)?;
-    Ok(does_its_task(
-        alloc,
-        &mut bench,
-        writes,
-        &losses,
-        answers,
-        after.as_slice(),
-    )?)
-}
-
-/// A hold of a row of so many positions has to survive any two losses; they may be the same.
-fn any_two_are_survived<R: Abort>(
-    rt: &R,
-    alloc: Global,
-    count: usize,
-    writes: bool,
-    answers: Answers,
-) -> Result<(), Fail>
-    requires at_least { 4 ≤ count }
-    requires at_most { count ≤ 8 }
-{
-    for first in 0..count {
-        for second in first..count {
-            for moment in 0..35usize {
-                let losses = losses_at(first, second, moment);
-                let is_survived = survives(alloc, count, writes, losses, answers)?;
-                assert!(rt;
-                    is_survived,
-                    "{first} and {second} of {count} lost, {moment}"
-                );
-            }
+    work: &Work<'_>,
+    losses: &[Loss; 2],
+    answers: &Answers,
+) -> Result<bool, Fail> {
+    let mut in_sync = [true; 8];
+    for loss in losses {
+        if loss.step == 0 && loss.position < in_sync.len() {
+            in_sync[loss.position] = false;
         }
     }
-    Ok(())
+    let in_sync = &in_sync[..work.bytes.len().min(8)];
+    let mut bench = Bench::new(alloc, &work.ask, work.bytes, in_sync)?;
+    Ok(does_its_task(alloc, &mut bench, work, losses, answers)?)
 }
 
 /// The losses of these positions, each at every step in turn.
@@ -203,61 +158,66 @@ fn losses_at(first: usize, second: usize, moment: usize) -> [Loss; 2] {
     ]
 }
 
-#[test]
-fn any_two_losses_are_survived(rt: HostRuntime) -> Result<(), Fail> {
-    for count in [4usize, 6, 8] {
-        for answers in [Answers::AtOnce, Answers::LastFirst, Answers::LateIfLost] {
-            any_two_are_survived(&rt, rt.alloc(), count, false, answers)?;
-            any_two_are_survived(&rt, rt.alloc(), count, true, answers)?;
+/// A hold has to survive any two losses; they may be the same.
+fn any_two_are_survived<R: Abort>(
+    rt: &R,
+    alloc: Global,
+    work: &Work<'_>,
+    answers: &Answers,
+) -> Result<(), Fail> {
+    let count = work.bytes.len();
+    for first in 0..count {
+        for second in first..count {
+            for moment in 0..35usize {
+                assert!(rt;
+                    survives(alloc, work, &losses_at(first, second, moment), answers)?,
+                    "{first} and {second} of {count} lost, {moment}"
+                );
+            }
         }
     }
     Ok(())
 }
 
-// Position 1 is lost, and four blocks of data are restored from four other positions.
-#[test]
-fn a_read_recovers_from_as_many_as_there_are_data(rt: HostRuntime) -> Result<(), Fail> {
-    let loss = Loss {
-        position: 1,
-        step: 0,
-    };
-    let mut bench = begun(rt.alloc(), 6, false, &[loss])?;
-    bench.play(
-        &rt,
-        &[
-            (Step::Next, Seen::Read(0)),
-            (Step::Next, Seen::Read(2)),
-            (Step::Next, Seen::Read(3)),
-            (Step::Next, Seen::Read(4)),
-            (Step::Next, Seen::Nothing),
-            (Step::Answer(0), Seen::Home),
-            (Step::Answer(2), Seen::Home),
-            (Step::Answer(3), Seen::Home),
-            (Step::IsOver, Seen::Is(false)),
-            (Step::Answer(4), Seen::Home),
-            (Step::Next, Seen::Nothing),
-            (Step::IsOver, Seen::Is(true)),
-        ],
-    )?;
-    Ok(())
-}
-
-/// Whether a hold of a row with three losses is never over, and writes nothing.
-fn is_given_up(alloc: Global, ask: Ask, bytes: &[u8]) -> Result<bool, Fail> {
-    let in_sync = [false, false, true, true, true, false];
-    let mut bench = Bench::new(alloc, ask, bytes, &in_sync)?;
-    Ok(
-        bench.drive(9) == 3
-            && bench.outcome() != Some(Outcome::Done)
-            && has_bytes(&bench.devices, bytes, &[]),
-    )
-}
+const WORKS: &[Work<'static>] = &[
+    Work {
+        ask: Ask::Read(1),
+        bytes: &FOUR,
+        after: &FOUR,
+    },
+    Work {
+        ask: SECOND,
+        bytes: &FOUR,
+        after: &FOUR_CHANGED,
+    },
+    Work {
+        ask: Ask::Read(1),
+        bytes: &SIX,
+        after: &SIX,
+    },
+    Work {
+        ask: SECOND,
+        bytes: &SIX,
+        after: &SIX_CHANGED,
+    },
+    Work {
+        ask: Ask::Read(1),
+        bytes: &EIGHT,
+        after: &EIGHT,
+    },
+    Work {
+        ask: SECOND,
+        bytes: &EIGHT,
+        after: &EIGHT_CHANGED,
+    },
+];
 
 #[test]
-fn three_losses_are_not_survived(rt: HostRuntime) -> Result<(), Fail> {
-    let before = full_row(rt.alloc(), &DATA[..4])?;
-    for ask in [Ask::Read(1), Ask::Write(1, 0x5a)] {
-        assert!(rt; is_given_up(rt.alloc(), ask, before.as_slice())?);
+fn any_two_losses_are_survived(rt: HostRuntime) -> Result<(), Fail> {
+    for work in WORKS {
+        for answers in &[Answers::AtOnce, Answers::LastFirst, Answers::LateIfLost] {
+            any_two_are_survived(&rt, rt.alloc(), work, answers)?;
+        }
     }
     Ok(())
 }

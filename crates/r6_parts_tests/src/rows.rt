@@ -1,6 +1,6 @@
-//! Worked rows, of blocks of one byte.
+//! Worked rows.
 
-use crate::blocks::{filled, is_filled};
+use crate::blocks::{FiveBlocks, filled, five, is_filled};
 use r6_kernels::Buffer;
 use r6_recover::{
     Known, RowBuf, RowClass, TooManyLost, classify, repair_parity, restore, restore_from_p_into,
@@ -9,22 +9,22 @@ use r6_recover::{
 use std::alloc::Global;
 use std::test::Fail;
 
-/// A row of these bytes.
-fn row_of(alloc: Global, bytes: &[u8]) -> Result<RowBuf, Fail> {
-    if bytes.len() < 4 || bytes.len() > 32 {
+/// A row of these blocks, which are so long, one after another.
+fn row_of(alloc: Global, len: usize, bytes: &[u8]) -> Result<RowBuf, Fail> {
+    if len == 0 || bytes.len() / len < 4 || bytes.len() / len > 32 {
         return Err(Fail::from("no row"));
     }
-    let mut row = RowBuf::new(alloc, bytes.len(), 1)?;
-    for position in 0..bytes.len() {
-        fill(&mut row, position, bytes[position]);
+    let mut row = RowBuf::new(alloc, bytes.len() / len, len)?;
+    for (position, block) in bytes.chunks_exact(len).enumerate() {
+        set(&mut row, position, block);
     }
     Ok(row)
 }
 
-/// A block of one byte takes over this one.
-fn fill(row: &mut RowBuf, position: usize, byte: u8) {
-    if position < row.positions() && row.block(0).len() == 1 {
-        row.set_block(position, &[byte]);
+/// Takes over the bytes of a block, where they fit.
+pub(crate) fn set(row: &mut RowBuf, position: usize, bytes: &[u8]) {
+    if position < row.positions() && row.block(0).len() == bytes.len() {
+        row.set_block(position, bytes);
     }
 }
 
@@ -34,7 +34,7 @@ fn is_row(row: &RowBuf, bytes: &[u8]) -> bool {
         return false;
     }
     for position in 0..bytes.len() {
-        if row.block(position).as_slice() != [bytes[position]].as_slice() {
+        if !is_filled(row.block(position), bytes[position]) {
             return false;
         }
     }
@@ -52,124 +52,136 @@ fn known_at(positions: &[usize]) -> Known {
     known
 }
 
-/// Whether a row becomes the other one where these positions are known.
-fn restores(alloc: Global, row: &[u8], known: &[usize], full: &[u8]) -> Result<bool, Fail> {
-    let mut row = row_of(alloc, row)?;
-    Ok(restore(&mut row, known_at(known)).is_ok() && is_row(&row, full))
+/// Whether a row is restored so, and becomes the other one, where these positions are known.
+fn restores(
+    alloc: Global,
+    row: &[u8],
+    known: &[usize],
+    restored: &Result<(), TooManyLost>,
+    after: &[u8],
+) -> Result<bool, Fail> {
+    let mut row = row_of(alloc, 1, row)?;
+    Ok(restore(&mut row, known_at(known)) == *restored && is_row(&row, after))
 }
 
 #[test]
-fn both_of_two_data_blocks(rt: HostRuntime) -> Result<(), Fail> {
-    let row = &[0x00, 0x00, 0x81, 0x1c];
-    assert!(rt; restores(rt.alloc(), row, &[2, 3], &[0x01, 0x80, 0x81, 0x1c])?);
-    Ok(())
-}
-
-#[test]
-fn a_data_block_and_p(rt: HostRuntime) -> Result<(), Fail> {
-    let row = &[0x01, 0x00, 0x00, 0x03];
-    assert!(rt; restores(rt.alloc(), row, &[0, 3], &[0x01, 0x01, 0x00, 0x03])?);
+fn up_to_two_blocks_are_restored(rt: HostRuntime) -> Result<(), Fail> {
+    let cases: &[(&[u8], &[usize], Result<(), TooManyLost>, &[u8])] = &[
+        // both of two data blocks
+        (
+            &[0x00, 0x00, 0x81, 0x1c],
+            &[2, 3],
+            Ok(()),
+            &[0x01, 0x80, 0x81, 0x1c],
+        ),
+        // a data block and P
+        (
+            &[0x01, 0x00, 0x00, 0x03],
+            &[0, 3],
+            Ok(()),
+            &[0x01, 0x01, 0x00, 0x03],
+        ),
+        // two of four data blocks
+        (
+            &[0x01, 0x00, 0x03, 0x00, 0x04, 0x29],
+            &[0, 2, 4, 5],
+            Ok(()),
+            &[0x01, 0x02, 0x03, 0x04, 0x04, 0x29],
+        ),
+        // three are too many
+        (
+            &[0x05, 0x07, 0x00, 0x00],
+            &[1],
+            Err(TooManyLost),
+            &[0x05, 0x07, 0x00, 0x00],
+        ),
+    ];
+    for (row, known, restored, after) in cases {
+        assert!(rt;
+            restores(rt.alloc(), *row, *known, restored, *after)?,
+            "known: {known:?}"
+        );
+    }
     let known = known_at(&[0, 3]);
     assert!(rt; known.contains(3) && !known.contains(2));
     Ok(())
 }
 
-#[test]
-fn two_of_four_data_blocks(rt: HostRuntime) -> Result<(), Fail> {
-    let row = &[0x01, 0x00, 0x03, 0x00, 0x04, 0x29];
-    let full = &[0x01, 0x02, 0x03, 0x04, 0x04, 0x29];
-    assert!(rt; restores(rt.alloc(), row, &[0, 2, 4, 5], full)?);
-    Ok(())
+/// Whether a block of 05 takes the place of the first one of a row, which is zeros.
+fn is_exchanged(row: &mut RowBuf, block: &mut Buffer) -> bool {
+    if row.positions() != 4 || row.block(0).len() != block.len() {
+        return false;
+    }
+    row.swap_block(0, block);
+    is_row(row, &[0x05, 0x00, 0x00, 0x00]) && is_filled(block, 0x00)
 }
 
 #[test]
-fn three_are_too_many(rt: HostRuntime) -> Result<(), Fail> {
-    let bytes = &[0x05, 0x07, 0x00, 0x00];
-    let mut row = row_of(rt.alloc(), bytes)?;
-    assert!(rt; restore(&mut row, known_at(&[1])) == Err(TooManyLost) && is_row(&row, bytes));
-    Ok(())
-}
-
-#[test]
-fn parity_is_repaired(rt: HostRuntime) -> Result<(), Fail> {
-    let mut row = row_of(rt.alloc(), &[0x01, 0x02, 0x03, 0x04, 0x00, 0xff])?;
+fn a_block_is_exchanged_and_parity_is_repaired(rt: HostRuntime) -> Result<(), Fail> {
+    let mut block = filled(rt.alloc(), 1, 0x05)?;
+    let mut row = row_of(rt.alloc(), 1, &[0x00, 0x00, 0x00, 0x00])?;
+    assert!(rt; is_exchanged(&mut row, &mut block));
+    let mut row = row_of(rt.alloc(), 1, &[0x01, 0x02, 0x03, 0x04, 0x00, 0xff])?;
     repair_parity(&mut row);
     assert!(rt; is_row(&row, &[0x01, 0x02, 0x03, 0x04, 0x04, 0x29]));
     Ok(())
 }
 
-#[test]
-fn a_block_is_exchanged(rt: HostRuntime) -> Result<(), Fail> {
-    let mut row = RowBuf::new(rt.alloc(), 4, 1)?;
-    let mut block = filled(rt.alloc(), 1, 0x05)?;
-    row.swap_block(0, &mut block);
-    assert!(rt; is_row(&row, &[0x05, 0x00, 0x00, 0x00]) && is_filled(&block, 0x00));
-    Ok(())
-}
-
-#[test]
-fn two_lost_blocks_whose_buffers_are_away(rt: HostRuntime) -> Result<(), Fail> {
-    let (p, q) = (filled(rt.alloc(), 1, 0x81)?, filled(rt.alloc(), 1, 0x1c)?);
-    let mut first = Buffer::new(rt.alloc(), 1)?;
-    let mut second = Buffer::new(rt.alloc(), 1)?;
-    let row = [Buffer::empty(rt.alloc()), Buffer::empty(rt.alloc()), p, q];
-    restore_two_into(&row, 0, 1, &mut first, &mut second);
-    assert!(rt; is_filled(&first, 0x01) && is_filled(&second, 0x80));
-    Ok(())
-}
-
-#[test]
-fn a_lost_block_beside_q_whose_buffers_are_away(rt: HostRuntime) -> Result<(), Fail> {
-    let (data, p) = (filled(rt.alloc(), 1, 0x80)?, filled(rt.alloc(), 1, 0x81)?);
-    let mut block = Buffer::new(rt.alloc(), 1)?;
-    let row = [
-        Buffer::empty(rt.alloc()),
-        data,
+/// Whether data 01 and 80 come back from P and Q, whose own buffers are away.
+fn two_come_back(alloc: Global) -> Result<bool, Fail> {
+    let FiveBlocks {
+        mut a,
+        mut b,
         p,
-        Buffer::empty(rt.alloc()),
-    ];
-    restore_from_p_into(&row, 0, &mut block);
-    assert!(rt; is_filled(&block, 0x01));
-    Ok(())
+        q,
+        ..
+    } = five(alloc, 1, [0x00, 0x00, 0x00, 0x81, 0x1c])?;
+    let row = [Buffer::empty(alloc), Buffer::empty(alloc), p, q];
+    restore_two_into(&row, 0, 1, &mut a, &mut b);
+    Ok(is_filled(&a, 0x01) && is_filled(&b, 0x80))
+}
+
+/// Whether the first of data 01 and 80 comes back from the second and P.
+fn the_first_comes_back(alloc: Global) -> Result<bool, Fail> {
+    let FiveBlocks { mut a, b, p, .. } = five(alloc, 1, [0x00, 0x80, 0x00, 0x81, 0x00])?;
+    let row = [Buffer::empty(alloc), b, p, Buffer::empty(alloc)];
+    restore_from_p_into(&row, 0, &mut a);
+    Ok(is_filled(&a, 0x01))
+}
+
+/// Whether the second of data 01 and 80 comes back from the first and Q.
+fn the_second_comes_back(alloc: Global) -> Result<bool, Fail> {
+    let FiveBlocks { a, mut b, q, .. } = five(alloc, 1, [0x01, 0x00, 0x00, 0x00, 0x1c])?;
+    let row = [a, Buffer::empty(alloc), Buffer::empty(alloc), q];
+    restore_from_q_into(&row, 1, &mut b);
+    Ok(is_filled(&b, 0x80))
 }
 
 #[test]
-fn a_lost_block_beside_p_whose_buffers_are_away(rt: HostRuntime) -> Result<(), Fail> {
-    let (data, q) = (filled(rt.alloc(), 1, 0x01)?, filled(rt.alloc(), 1, 0x1c)?);
-    let mut block = Buffer::new(rt.alloc(), 1)?;
-    let row = [
-        data,
-        Buffer::empty(rt.alloc()),
-        Buffer::empty(rt.alloc()),
-        q,
-    ];
-    restore_from_q_into(&row, 1, &mut block);
-    assert!(rt; is_filled(&block, 0x80));
+fn lost_blocks_come_back_whose_buffers_are_away(rt: HostRuntime) -> Result<(), Fail> {
+    assert!(rt; two_come_back(rt.alloc())?);
+    assert!(rt; the_first_comes_back(rt.alloc())? && the_second_comes_back(rt.alloc())?);
     Ok(())
 }
 
-// The row has zeros but for P and Q.
+// The rows have zeros but for P and Q. In the last one each byte has another place.
 #[test]
 fn classes(rt: HostRuntime) -> Result<(), Fail> {
-    let cases = &[
-        (0x00, 0x00, RowClass::Consistent),
-        (0x05, 0x0a, RowClass::WrongData(1)),
-        (0x05, 0x00, RowClass::WrongP),
-        (0x00, 0x05, RowClass::WrongQ),
-        (0x01, 0x10, RowClass::Many),
+    let cases: &[(usize, &[u8], RowClass)] = &[
+        (1, &[0, 0, 0, 0, 0x00, 0x00], RowClass::Consistent),
+        (1, &[0, 0, 0, 0, 0x05, 0x0a], RowClass::WrongData(1)),
+        (1, &[0, 0, 0, 0, 0x05, 0x00], RowClass::WrongP),
+        (1, &[0, 0, 0, 0, 0x00, 0x05], RowClass::WrongQ),
+        (1, &[0, 0, 0, 0, 0x01, 0x10], RowClass::Many),
+        (
+            2,
+            &[0, 0, 0, 0, 0, 0, 0, 0, 0x01, 0x01, 0x02, 0x04],
+            RowClass::Many,
+        ),
     ];
-    for (p, q, class) in cases {
-        let row = row_of(rt.alloc(), &[0x00, 0x00, 0x00, 0x00, *p, *q])?;
+    for (len, bytes, class) in cases {
+        let row = row_of(rt.alloc(), *len, *bytes)?;
         assert!(rt; classify(&row) == *class);
     }
-    Ok(())
-}
-
-#[test]
-fn another_place_in_each_byte(rt: HostRuntime) -> Result<(), Fail> {
-    let mut row = RowBuf::new(rt.alloc(), 6, 2)?;
-    row.set_block(4, &[0x01, 0x01]);
-    row.set_block(5, &[0x02, 0x04]);
-    assert!(rt; classify(&row) == RowClass::Many);
     Ok(())
 }

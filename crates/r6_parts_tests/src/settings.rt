@@ -2,7 +2,6 @@
 
 use r6_settings::{Config, Key, SettingsFault, settings};
 use std::alloc::Global;
-use std::test::Fail;
 
 const FOUR_SLOTS: &str = "slots = 4\nchunk = 1\nblock = 16\nrows = 4\nshards = 2\n";
 
@@ -37,18 +36,17 @@ fn lacks_devices(alloc: Global, text: &str) -> bool {
     matches!(&used, Err(SettingsFault::Value(Key::Devices))) && settings(alloc, text, false).is_ok()
 }
 
+/// Texts that lack devices.
+const LACKING: &[&str] = &[
+    FOUR_SLOTS,
+    "slots = 4\nchunk = 1\nblock = 16\nrows = 4\nshards = 2\ndevices = 4\n",
+    "slots = 4\nchunk = 1\nblock = 16\nrows = 4\nshards = 2\ndevices = [\"a\", \"b\", \"c\"]\n",
+    "slots = 4\nchunk = 1\nblock = 16\nrows = 4\nshards = 2\ndevices = [\"a\", \"b\", \"c\", 4]\n",
+];
+
 #[test]
-fn asks_for_devices_where_they_are_used(rt: HostRuntime) -> Result<(), Fail> {
-    let alloc = rt.alloc();
-    let lines = &[
-        "",
-        "devices = 4\n",
-        "devices = [\"a\", \"b\", \"c\"]\n",
-        "devices = [\"a\", \"b\", \"c\", 4]\n",
-    ];
-    for line in lines {
-        let text = format!(in alloc; "{FOUR_SLOTS}{line}")?;
-        assert!(rt; lacks_devices(alloc, text.as_str()), "at {line:?}");
+fn asks_for_devices_where_they_are_used(rt: HostRuntime) {
+    for text in LACKING {
+        assert!(rt; lacks_devices(rt.alloc(), *text), "at {text:?}");
     }
-    Ok(())
 }

@@ -35,24 +35,34 @@ fn answer(table: &mut Table<u32>, step: Step) -> Result<u64, u64> {
     }
 }
 
+const STEPS: &[(Step, Result<u64, u64>)] = &[
+    (Step::Put(10), Ok(0)),
+    (Step::Put(11), Ok(1)),
+    (Step::Put(12), Err(12)),
+    (Step::Remove(0), Ok(10)),
+    (Step::Remove(0), Err(0)),
+    (Step::Put(12), Ok(2)),
+    (Step::Replace(1, 13), Ok(11)),
+    (Step::Replace(0, 14), Err(14)),
+    (Step::Get(1), Ok(13)),
+];
+
+/// Whether the steps are answered so, and two entries are left.
+fn plays(table: &mut Table<u32>) -> bool {
+    for (step, answered) in STEPS {
+        if answer(table, *step) != *answered {
+            return false;
+        }
+    }
+    (table.len(), table.capacity(), table.next()) == (2, 2, 3)
+}
+
 #[test]
 fn numbers_rise_and_are_never_given_twice(rt: HostRuntime) -> Result<(), Fail> {
     let mut table = Table::with_capacity(rt.alloc(), 2)?;
-    let steps = &[
-        (Step::Put(10), Ok(0)),
-        (Step::Put(11), Ok(1)),
-        (Step::Put(12), Err(12)),
-        (Step::Remove(0), Ok(10)),
-        (Step::Remove(0), Err(0)),
-        (Step::Put(12), Ok(2)),
-        (Step::Replace(1, 13), Ok(11)),
-        (Step::Replace(0, 14), Err(14)),
-        (Step::Get(1), Ok(13)),
-    ];
-    for (step, answered) in steps {
-        assert!(rt; answer(&mut table, *step) == *answered);
-    }
-    assert_eq!(rt; (table.len(), table.capacity(), table.next()), (2, 2, 3));
+    assert!(rt; plays(&mut table));
+    let mut table = Table::with_capacity(rt.alloc(), 3)?;
+    assert!(rt; stays(&mut table) && !table.is_empty());
     Ok(())
 }
 
@@ -67,12 +77,7 @@ fn is_passed_through(table: &mut Table<u32>) -> bool {
     true
 }
 
-#[test]
-fn one_entry_stays_while_many_come_and_go(rt: HostRuntime) -> Result<(), Fail> {
-    let mut table = Table::with_capacity(rt.alloc(), 3)?;
-    let is_kept = put(&mut table, 7) == Some(0)
-        && is_passed_through(&mut table)
-        && table.get(0).copied() == Some(7);
-    assert!(rt; is_kept && !table.is_empty());
-    Ok(())
+/// Whether one entry stays while many come and go.
+fn stays(table: &mut Table<u32>) -> bool {
+    put(table, 7) == Some(0) && is_passed_through(table) && table.get(0).copied() == Some(7)
 }

@@ -29,6 +29,16 @@ fn churn<R: Wait>(
     Ok(given)
 }
 
+/// The generations that either was given.
+fn both(
+    one: Result<Vec<u32>, AllocError>,
+    other: Result<Vec<u32>, AllocError>,
+) -> Result<Vec<u32>, AllocError> {
+    let mut all = one?;
+    all.extend_from_slice(other?.as_slice())?;
+    Ok(all)
+}
+
 /// Two threads share each of two slots.
 fn churn_both<R: Threads + Wait + Sync>(
     rt: &R,
@@ -46,9 +56,7 @@ fn churn_both<R: Threads + Wait + Sync>(
         move || churn(rt, alloc, register, one, slot),
         move || churn(rt, alloc, register, other, slot),
     );
-    let mut all = a?;
-    all.extend_from_slice(&b?)?;
-    Ok(all)
+    both(a, b)
 }
 
 fn churn_all<R: Threads + Wait + Sync>(
@@ -71,9 +79,7 @@ fn churn_all<R: Threads + Wait + Sync>(
             requires { IsPassOf register.now third × IsPassOf register.now fourth }
         { churn_both(rt, alloc, register, third, fourth, 2) },
     );
-    let mut all = a?;
-    all.extend_from_slice(&b?)?;
-    Ok(all)
+    both(a, b)
 }
 
 /// By passes that are split from this one.

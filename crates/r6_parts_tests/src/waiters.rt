@@ -3,7 +3,6 @@
 ghost use Rattle.std.specs.Prelude.{◌/◌, Some};
 
 use r6_waiters::{KeyOf, Waiters};
-use std::process::Abort;
 use std::test::Fail;
 
 /// The tens of a number are its key.
@@ -38,47 +37,45 @@ enum Step {
 }
 
 /// The entry that came, was shown or went out; `Some(0)` for entries that were moved.
-fn answer(line: &mut Line, step: Step) -> Option<u32> {
+fn answer(line: &mut Line, step: &Step) -> Option<u32> {
     match step {
-        Step::Push(cause, value) if cause < line.causes() => {
-            line.push(cause, value).ok()?;
-            Some(value)
+        Step::Push(cause, value) if *cause < line.causes() => {
+            line.push(*cause, *value).ok()?;
+            Some(*value)
         }
-        Step::Oldest(cause) if cause < line.causes() => line.oldest(cause).copied(),
-        Step::Pop(cause) if cause < line.causes() => line.pop_oldest(cause),
+        Step::Oldest(cause) if *cause < line.causes() => line.oldest(*cause).copied(),
+        Step::Pop(cause) if *cause < line.causes() => line.pop_oldest(*cause),
         Step::PopAny => line.pop_any(),
-        Step::Take(key) => line.take(key, [1, 9]),
-        Step::MoveOldest(from, to) if from < line.causes() && to < line.causes() => {
-            if line.move_oldest(from, to) {
-                Some(0)
-            } else {
-                None
-            }
+        Step::Take(key) => line.take(*key, [1, 9]),
+        Step::MoveOldest(from, to) if *from < line.causes() && *to < line.causes() => {
+            line.move_oldest(*from, *to).then_some(0)
         }
-        Step::MoveAll(from, to) if from < line.causes() && to < line.causes() => {
-            line.move_all(from, to);
+        Step::MoveAll(from, to) if *from < line.causes() && *to < line.causes() => {
+            line.move_all(*from, *to);
             Some(0)
         }
-        Step::Gather(cause) if cause < line.causes() => {
-            line.gather(cause);
+        Step::Gather(cause) if *cause < line.causes() => {
+            line.gather(*cause);
             Some(0)
         }
         _ => None,
     }
 }
 
-/// Each step has to answer so.
-fn play<R: Abort>(rt: &R, line: &mut Line, steps: &[(Step, Option<u32>)]) {
-    for (index, (step, answered)) in steps.iter().enumerate() {
-        let found = answer(line, *step);
-        assert!(rt; found == *answered, "at step {index}: {found:?}");
+/// Whether each step answers so.
+fn plays(line: &mut Line, steps: &[(Step, Option<u32>)]) -> bool {
+    for (step, answered) in steps {
+        if answer(line, step) != *answered {
+            return false;
+        }
     }
+    true
 }
 
-#[test]
-fn an_entry_that_moves_keeps_its_age(rt: HostRuntime) -> Result<(), Fail> {
-    let mut line = Line::with_capacity(rt.alloc(), 4, 3)?;
-    let steps = &[
+/// Steps of lines with room for four entries and three causes, which are empty then.
+const COURSES: &[&[(Step, Option<u32>)]] = &[
+    // an entry that moves keeps its age
+    &[
         (Step::Push(0, 10), Some(10)),
         (Step::Push(1, 11), Some(11)),
         (Step::Push(0, 12), Some(12)),
@@ -98,16 +95,9 @@ fn an_entry_that_moves_keeps_its_age(rt: HostRuntime) -> Result<(), Fail> {
         (Step::Pop(1), Some(12)),
         (Step::Pop(1), Some(13)),
         (Step::Pop(1), Some(15)),
-    ];
-    play(&rt, &mut line, steps);
-    assert_eq!(rt; (line.len(), line.capacity(), line.causes()), (0, 4, 3));
-    Ok(())
-}
-
-#[test]
-fn all_go_out_by_age_whatever_they_wait_for(rt: HostRuntime) -> Result<(), Fail> {
-    let mut line = Line::with_capacity(rt.alloc(), 4, 3)?;
-    let steps = &[
+    ],
+    // all go out by age whatever they wait for
+    &[
         (Step::PopAny, None),
         (Step::Push(2, 5), Some(5)),
         (Step::Push(0, 6), Some(6)),
@@ -120,16 +110,9 @@ fn all_go_out_by_age_whatever_they_wait_for(rt: HostRuntime) -> Result<(), Fail>
         (Step::Pop(0), Some(7)),
         (Step::Pop(0), Some(8)),
         (Step::PopAny, None),
-    ];
-    play(&rt, &mut line, steps);
-    assert!(rt; line.is_empty() && line.oldest_cause().is_none());
-    Ok(())
-}
-
-#[test]
-fn the_oldest_with_a_key_goes_out_whatever_it_waits_for(rt: HostRuntime) -> Result<(), Fail> {
-    let mut line = Line::with_capacity(rt.alloc(), 4, 3)?;
-    let steps = &[
+    ],
+    // the oldest with a key goes out whatever it waits for
+    &[
         (Step::Push(0, 21), Some(21)),
         (Step::Push(1, 661), Some(661)),
         (Step::Push(2, 22), Some(22)),
@@ -144,17 +127,30 @@ fn the_oldest_with_a_key_goes_out_whatever_it_waits_for(rt: HostRuntime) -> Resu
         (Step::Take(2), Some(23)),
         (Step::Take(2), Some(24)),
         (Step::Take(2), None),
-    ];
-    play(&rt, &mut line, steps);
-    assert!(rt; line.is_empty());
+    ],
+];
+
+#[test]
+fn entries_go_out_by_age(rt: HostRuntime) -> Result<(), Fail> {
+    for steps in COURSES {
+        let mut line = Line::with_capacity(rt.alloc(), 4, 3)?;
+        assert!(rt; plays(&mut line, *steps) && is_empty(&line));
+    }
     Ok(())
+}
+
+/// Whether a line of four entries and three causes is empty.
+fn is_empty(line: &Line) -> bool {
+    line.is_empty()
+        && line.oldest_cause().is_none()
+        && (line.len(), line.capacity(), line.causes()) == (0, 4, 3)
 }
 
 /// Whether entries that come for cause 0 are taken by their keys, while others stay.
 fn are_taken_by_key(line: &mut Line) -> bool {
     for round in 0..30_u32 {
-        if answer(line, Step::Push(0, round)) != Some(round)
-            || answer(line, Step::Take((round / 10) as u64)) != Some(round)
+        if answer(line, &Step::Push(0, round)) != Some(round)
+            || answer(line, &Step::Take((round / 10) as u64)) != Some(round)
         {
             return false;
         }
@@ -162,18 +158,14 @@ fn are_taken_by_key(line: &mut Line) -> bool {
     true
 }
 
-#[test]
-fn keys_stay_through_sweeps(rt: HostRuntime) -> Result<(), Fail> {
-    let mut line = Line::with_capacity(rt.alloc(), 4, 2)?;
+/// Whether two entries keep their keys while others are taken.
+fn keeps_keys(line: &mut Line) -> bool {
     let first = &[
         (Step::Push(1, 991), Some(991)),
         (Step::Push(1, 992), Some(992)),
     ];
-    play(&rt, &mut line, first);
-    assert!(rt; are_taken_by_key(&mut line));
     let last = &[(Step::Take(99), Some(991)), (Step::Take(99), Some(992))];
-    play(&rt, &mut line, last);
-    Ok(())
+    plays(line, first) && are_taken_by_key(line) && plays(line, last)
 }
 
 /// Whether entries that come for cause 0 go out in their order, two behind the last, while others stay. In a line with
@@ -185,8 +177,8 @@ fn is_passed_through(line: &mut Line) -> bool {
             11 => 3,
             _ => round - 2,
         };
-        if answer(line, Step::Push(0, round)) != Some(round)
-            || answer(line, Step::Pop(0)) != Some(out)
+        if answer(line, &Step::Push(0, round)) != Some(round)
+            || answer(line, &Step::Pop(0)) != Some(out)
         {
             return false;
         }
@@ -194,16 +186,13 @@ fn is_passed_through(line: &mut Line) -> bool {
     true
 }
 
-#[test]
-fn ages_stay_through_sweeps(rt: HostRuntime) -> Result<(), Fail> {
-    let mut line = Line::with_capacity(rt.alloc(), 4, 2)?;
+/// Whether entries keep their ages while others pass through.
+fn keeps_ages(line: &mut Line) -> bool {
     let first = &[
         (Step::Push(0, 1), Some(1)),
         (Step::Push(1, 2), Some(2)),
         (Step::Push(0, 3), Some(3)),
     ];
-    play(&rt, &mut line, first);
-    assert!(rt; is_passed_through(&mut line));
     let last = &[
         (Step::MoveOldest(1, 0), Some(0)),
         (Step::Pop(0), Some(2)),
@@ -212,14 +201,13 @@ fn ages_stay_through_sweeps(rt: HostRuntime) -> Result<(), Fail> {
         (Step::Pop(1), Some(39)),
         (Step::PopAny, None),
     ];
-    play(&rt, &mut line, last);
-    Ok(())
+    plays(line, first) && is_passed_through(line) && plays(line, last)
 }
 
 /// Whether that many entries come, for cause 0 and 1 by turns.
 fn have_come(line: &mut Line, first: u32, end: u32) -> bool {
     for value in first..end {
-        if answer(line, Step::Push((value % 2) as usize, value)) != Some(value) {
+        if answer(line, &Step::Push((value % 2) as usize, value)) != Some(value) {
             return false;
         }
     }
@@ -229,7 +217,7 @@ fn have_come(line: &mut Line, first: u32, end: u32) -> bool {
 /// Whether those entries go out of cause 1.
 fn have_gone(line: &mut Line, first: u32, end: u32) -> bool {
     for value in first..end {
-        if answer(line, Step::Pop(1)) != Some(value) {
+        if answer(line, &Step::Pop(1)) != Some(value) {
             return false;
         }
     }
@@ -239,20 +227,24 @@ fn have_gone(line: &mut Line, first: u32, end: u32) -> bool {
 /// Whether a line with room for a hundred entries is full of them, and they go out by age, whatever moves.
 fn is_passed_by_many(line: &mut Line) -> bool {
     have_come(line, 0, 100)
-        && answer(line, Step::Push(0, 100)) == None
-        && answer(line, Step::MoveAll(0, 1)) == Some(0)
+        && answer(line, &Step::Push(0, 100)) == None
+        && answer(line, &Step::MoveAll(0, 1)) == Some(0)
         && have_gone(line, 0, 90)
         && have_come(line, 100, 190)
-        && answer(line, Step::MoveAll(0, 1)) == Some(0)
+        && answer(line, &Step::MoveAll(0, 1)) == Some(0)
         && have_gone(line, 90, 150)
         && have_come(line, 190, 250)
-        && answer(line, Step::Gather(1)) == Some(0)
+        && answer(line, &Step::Gather(1)) == Some(0)
         && have_gone(line, 150, 250)
         && line.is_empty()
 }
 
 #[test]
-fn more_wait_than_a_word_has_bits(rt: HostRuntime) -> Result<(), Fail> {
+fn keys_and_ages_stay_through_sweeps(rt: HostRuntime) -> Result<(), Fail> {
+    let mut line = Line::with_capacity(rt.alloc(), 4, 2)?;
+    assert!(rt; keeps_keys(&mut line));
+    let mut line = Line::with_capacity(rt.alloc(), 4, 2)?;
+    assert!(rt; keeps_ages(&mut line));
     let mut line = Line::with_capacity(rt.alloc(), 100, 2)?;
     assert!(rt; is_passed_by_many(&mut line));
     Ok(())

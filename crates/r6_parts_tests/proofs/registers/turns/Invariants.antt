@@ -1,5 +1,5 @@
 use Rattle.r6_health.specs.Passes.{IsPassOf}
-use Rattle.r6_parts_tests.proofs.registers.one_thread_never_meets_contention.Given as goal
+use Rattle.r6_parts_tests.proofs.registers.turns.Given as goal
 
 abbrev pub invariant-loop-turn : goal.invariant-loop-turn
 invariant-loop-turn g l = IsPassOf l.register l.pass
