@@ -35,15 +35,28 @@ fn have_same_blocks(
     some: &mut Vec<MemoryDevice>,
     others: &mut Vec<MemoryDevice>,
 ) -> Result<bool, Failed> {
-    let mut block = Buffer::new(alloc, BLOCK)?;
-    let mut other = Buffer::new(alloc, BLOCK)?;
+    let mut blocks = (Buffer::new(alloc, BLOCK)?, Buffer::new(alloc, BLOCK)?);
     for slot in 0..some.len() {
-        for row in 0..rows {
-            some.get_mut(slot).ok_or(Failed)?.read(row, &mut block)?;
-            others.get_mut(slot).ok_or(Failed)?.read(row, &mut other)?;
-            if block.as_slice() != other.as_slice() {
-                return Ok(false);
-            }
+        let device = some.get_mut(slot).ok_or(Failed)?;
+        let other = others.get_mut(slot).ok_or(Failed)?;
+        if !has_same_blocks(rows, device, other, &mut blocks)? {
+            return Ok(false);
+        }
+    }
+    Ok(true)
+}
+
+fn has_same_blocks(
+    rows: u64,
+    device: &mut MemoryDevice,
+    other: &mut MemoryDevice,
+    blocks: &mut (Buffer, Buffer),
+) -> Result<bool, Failed> {
+    for row in 0..rows {
+        device.read(row, &mut blocks.0)?;
+        other.read(row, &mut blocks.1)?;
+        if blocks.0.as_slice() != blocks.1.as_slice() {
+            return Ok(false);
         }
     }
     Ok(true)

@@ -1,6 +1,7 @@
 //! The copies and the parities of requests, without a core.
 
 ghost use Rattle.std.specs.Prelude.{◌≡◌, ◌<◌, length, IfOk};
+ghost use Rattle.std.specs.List.{All};
 ghost use Rattle.r6_alone.specs.Rows.{IsSized};
 
 use crate::array::{BLOCK, Failed, Rows, Work, buffers_of, devices_of};
@@ -13,28 +14,40 @@ use std::collections::VecDeque;
 
 /// Does the rounds of requests, and answers the devices as they are then.
 pub(crate) fn alone(alloc: Global, work: &Work) -> Result<Vec<MemoryDevice>, Failed> {
+    let mut devices = devices_of(alloc, &work.geometry()?)?;
+    work_on(alloc, work, &mut devices)?;
+    Ok(devices)
+}
+
+fn work_on(alloc: Global, work: &Work, devices: &mut Vec<MemoryDevice>) -> Result<(), Failed> {
     let geometry = work.geometry()?;
-    let mut devices = devices_of(alloc, &geometry)?;
-    let mut buffers = buffers_of(alloc, BLOCK, work.width)?;
     let places = places_of(alloc, &geometry, work)?;
+    let mut buffers = buffers_of(alloc, BLOCK, work.width)?;
     let mut room = Row::new(alloc, geometry.data_slots())?;
     if work.writes && matches!(work.rows, Rows::Whole) {
-        write_rows(
-            &mut room,
-            &mut devices,
-            &Place::of(&geometry, 0),
-            &mut buffers,
-            work,
-        )?;
-        return Ok(devices);
+        let place = Place::of(&geometry, 0);
+        return write_rows(&mut room, devices, &place, &mut buffers, work);
     }
+    answer_rounds(&mut room, devices, places.as_slice(), &mut buffers, work)
+}
+
+fn answer_rounds(
+    room: &mut Row,
+    devices: &mut Vec<MemoryDevice>,
+    places: &[Place],
+    buffers: &mut VecDeque<Buffer>,
+    work: &Work,
+) -> Result<(), Failed>
+    requires sized { IsSized room.old }
+    requires buffers { All (λ block. length block ≡ BLOCK) buffers.old.items }
+{
     for _ in 0..work.rounds {
         for (number, place) in places.iter().enumerate() {
             let buffer = buffers.get_mut(number).ok_or(Failed)?;
-            answer(&mut room, &mut devices, place, buffer, work)?;
+            answer(room, devices, place, buffer, work)?;
         }
     }
-    Ok(devices)
+    Ok(())
 }
 
 // Writes the row as often as there are blocks for it. Fewer than the row has at the end are left.

@@ -9,6 +9,7 @@ ghost use Rattle.std.specs.Prelude.{◌≡◌, ◌≤◌};
 mod agree;
 mod alone;
 mod array;
+mod calls;
 mod deliver;
 mod rebuild;
 mod rebuild_alone;

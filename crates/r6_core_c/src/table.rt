@@ -14,12 +14,16 @@ pub(crate) fn rounds_of(
     rounds: u64,
 ) -> Result<(), Failed> {
     let mut table = Table::with_capacity(alloc, capacity as usize)?;
+    turn(&mut table, entries, rounds)
+}
+
+fn turn(table: &mut Table<u64>, entries: u32, rounds: u64) -> Result<(), Failed> {
     for entry in 0..u64::from(entries) {
-        push(&mut table, entry)?;
+        push(table, entry)?;
     }
     for round in 0..rounds {
         let entry = table.remove(round).ok_or(Failed)?;
-        push(&mut table, entry)?;
+        push(table, entry)?;
     }
     Ok(())
 }

@@ -1,7 +1,7 @@
 use Rattle.std.proofs.Common.{◌≡◌, length}
 use Rattle.std.specs.List.{All}
 use Rattle.r6_alone.specs.Rows.{IsSized}
-use Rattle.r6_core_c.proofs.alone.alone.Given as goal
+use Rattle.r6_core_c.proofs.alone.answer_rounds.Given as goal
 
 abbrev pub invariant-loop-number : goal.invariant-loop-number
 invariant-loop-number l =
