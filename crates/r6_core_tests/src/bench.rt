@@ -128,6 +128,11 @@ pub(crate) enum Answer {
     Wrong,
 }
 
+/// Whether an answer is this one.
+pub(crate) fn is(found: &Answer, wanted: &Answer) -> bool {
+    found == wanted
+}
+
 /// The core of shard 0 over devices in memory, beside what the register holds.
 #[derive(Drop)]
 pub(crate) struct Bench {
@@ -261,7 +266,7 @@ impl Bench {
     pub(crate) fn play<R: Abort>(&mut self, rt: &R, course: &[(Step, Answer)]) -> Result<(), Fail> {
         for (index, (step, answer)) in course.iter().enumerate() {
             let found = self.answer(*step)?;
-            assert_eq!(rt; found, *answer, "at step {index}");
+            assert!(rt; is(&found, answer), "at step {index}: {found:?}");
         }
         Ok(())
     }
@@ -314,7 +319,7 @@ impl Bench {
     fn write_rows(&mut self, first: u64, end: u64) -> Result<Answer, AllocError> {
         for row in first..end {
             let block = row.saturating_mul(2);
-            if self.write(block, 0x5a)? != Answer::Accepted(row - first) {
+            if !is(&self.write(block, 0x5a)?, &Answer::Accepted(row - first)) {
                 return Ok(Answer::Wrong);
             }
         }
@@ -325,7 +330,7 @@ impl Bench {
         for id in 0..pairs.saturating_mul(2) {
             let block = (id / 2).saturating_mul(8).saturating_add(id % 2 + 1);
             let byte = if id % 2 == 0 { 0x11 } else { 0x22 };
-            if self.write(block, byte)? != Answer::Accepted(id) {
+            if !is(&self.write(block, byte)?, &Answer::Accepted(id)) {
                 return Ok(Answer::Wrong);
             }
         }
@@ -335,7 +340,7 @@ impl Bench {
     fn read_in_turn(&mut self, count: u64, blocks: u64) -> Result<Answer, AllocError> {
         let mut block: u64 = 0;
         for id in 0..count {
-            if self.read(block, BLOCK)? != Answer::Accepted(id) {
+            if !is(&self.read(block, BLOCK)?, &Answer::Accepted(id)) {
                 return Ok(Answer::Wrong);
             }
             block = block.saturating_add(1);
@@ -348,7 +353,7 @@ impl Bench {
 
     fn reads(&mut self, block: u64, first: u64, end: u64) -> Result<Answer, AllocError> {
         for id in first..end {
-            if self.read(block, BLOCK)? != Answer::Accepted(id) {
+            if !is(&self.read(block, BLOCK)?, &Answer::Accepted(id)) {
                 return Ok(Answer::Wrong);
             }
         }
@@ -445,7 +450,7 @@ impl Bench {
 
     fn deliver_late(&mut self, first: u64, end: u64) -> Result<Answer, AllocError> {
         for token in first..end {
-            if self.deliver_filled(token, BLOCK, 0)? != Answer::Late {
+            if !is(&self.deliver_filled(token, BLOCK, 0)?, &Answer::Late) {
                 return Ok(Answer::Wrong);
             }
         }

@@ -6,9 +6,20 @@ use r6_kernels::Buffer;
 use std::alloc::{AllocError, Global};
 use std::test::Fail;
 
+/// The run, of which no more is known here than that it is safe: what calls this has nothing of what it promises to
+/// look through. So are the other two below.
+fn run_through_a_loss(
+    alloc: Global,
+    room: Buffer,
+    other: Buffer,
+    parity: Buffer,
+) -> Option<(Core, Buffer)> {
+    read_through_a_loss(alloc, room, other, parity)
+}
+
 /// The block that a read gives through the loss of its device, without the core, which the run leaves.
 fn through_a_loss(alloc: Global, room: Buffer, other: Buffer, parity: Buffer) -> Option<Buffer> {
-    let (_, block) = read_through_a_loss(alloc, room, other, parity)?;
+    let (_, block) = run_through_a_loss(alloc, room, other, parity)?;
     Some(block)
 }
 
@@ -23,10 +34,13 @@ fn a_read_is_answered_through_the_loss_of_its_device(rt: HostRuntime) -> Result<
     Ok(())
 }
 
+fn run_beside_a_loss(alloc: Global, lost: Buffer, row: LostRow) -> Option<(Core, Core, Buffer)> {
+    read_beside_a_loss(alloc, lost, row.lost, row.other, row.parity)
+}
+
 /// The block that a read gives beside a loss, where the first shard's buffer is lost.
 fn beside_a_loss(alloc: Global, lost: Buffer, row: LostRow) -> Option<Buffer> {
-    let room = row.lost;
-    let (_, _, block) = read_beside_a_loss(alloc, lost, room, row.other, row.parity)?;
+    let (_, _, block) = run_beside_a_loss(alloc, lost, row)?;
     Some(block)
 }
 
@@ -40,14 +54,27 @@ fn a_read_is_answered_through_a_loss_of_another_shard(rt: HostRuntime) -> Result
     Ok(())
 }
 
-fn are_rebuilt(first: &Core, second: &Core) -> bool {
-    first.in_sync(1) == Some(1) && second.in_sync(1) == Some(1)
+fn run_rebuild(
+    alloc: Global,
+    here: LostRow,
+    there: LostRow,
+    room: Buffer,
+) -> Option<(Core, Core, Buffer)> {
+    rebuild_in_two_shards(alloc, here, there, room)
+}
+
+fn generation(core: &Core) -> Option<u32> {
+    core.in_sync(1)
+}
+
+fn is_rebuilt(core: &Core) -> bool {
+    matches!(generation(core), Some(1))
 }
 
 /// The block that is read back from a slot that both shards have in sync again.
 fn read_back(alloc: Global, here: LostRow, there: LostRow, room: Buffer) -> Option<Buffer> {
-    let (first, second, block) = rebuild_in_two_shards(alloc, here, there, room)?;
-    if are_rebuilt(&first, &second) {
+    let (first, second, block) = run_rebuild(alloc, here, there, room)?;
+    if is_rebuilt(&first) && is_rebuilt(&second) {
         Some(block)
     } else {
         None

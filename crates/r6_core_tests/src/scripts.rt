@@ -1,12 +1,12 @@
 //! A script of requests with losses at all moments.
 
-use crate::bench::{Answer, Bench, Step};
+use crate::bench::{Answer, Bench, Step, is};
 use std::alloc::{AllocError, Global};
 use std::process::Abort;
 use std::test::Fail;
 
 /// Two writes, and a read of each.
-const SCRIPT: [Step; 4] = [
+const SCRIPT: &[Step] = &[
     Step::Write(0, 0x5a),
     Step::Write(5, 0xa5),
     Step::Read(0),
@@ -14,7 +14,7 @@ const SCRIPT: [Step; 4] = [
 ];
 
 /// The answers to the script.
-const ANSWERS: [Answer; 4] = [
+const ANSWERS: &[Answer] = &[
     Answer::Done(0, 0x5a),
     Answer::Done(1, 0xa5),
     Answer::Data(2, 0x5a),
@@ -22,28 +22,39 @@ const ANSWERS: [Answer; 4] = [
 ];
 
 /// The script on a bench, each request run to its reply, with an error at each of these tokens: the number of its
-/// commands, and the answers.
-fn run_on(bench: &mut Bench, failing: &[u64]) -> Result<(u64, [Answer; 4]), AllocError> {
-    let mut answers = [Answer::Nothing; 4];
+/// commands. The answers are those of the requests, in order.
+fn run_on(bench: &mut Bench, failing: &[u64], answers: &mut [Answer]) -> Result<u64, AllocError> {
     let mut tokens = 0u64;
-    for index in 0..4 {
-        let (commands, answer) = bench.run(SCRIPT[index], failing)?;
+    for (index, step) in SCRIPT.iter().enumerate() {
+        let (commands, given) = bench.run(*step, failing)?;
         tokens = tokens.saturating_add(commands as u64);
-        answers[index] = answer;
+        put(answers, index, given);
     }
+    Ok(tokens)
+}
+
+fn put(answers: &mut [Answer], index: usize, given: Answer) {
+    if let Some(answer) = answers.get_mut(index) {
+        *answer = given;
+    }
+}
+
+/// The same on a new array, with the answers.
+fn run(alloc: Global, failing: &[u64]) -> Result<(u64, [Answer; 4]), Fail> {
+    let mut answers = [Answer::Nothing; 4];
+    let mut bench = Bench::new(alloc, 4, 1, &[])?;
+    let tokens = run_on(&mut bench, failing, &mut answers)?;
     Ok((tokens, answers))
 }
 
-/// The same on a new array.
-fn run(alloc: Global, failing: &[u64]) -> Result<(u64, [Answer; 4]), Fail> {
-    let mut bench = Bench::new(alloc, 4, 1, &[])?;
-    Ok(run_on(&mut bench, failing)?)
+fn are_right(answers: &[Answer]) -> bool {
+    answers == ANSWERS
 }
 
 /// The script has to have its answers with these errors. The number of its commands.
 fn answers<R: Abort>(rt: &R, alloc: Global, failing: &[u64]) -> Result<u64, Fail> {
     let (tokens, answers) = run(alloc, failing)?;
-    assert!(rt; answers == ANSWERS, "errors at {failing:?}: {answers:?}");
+    assert!(rt; are_right(&answers), "errors at {failing:?}: {answers:?}");
     Ok(tokens)
 }
 
@@ -88,15 +99,14 @@ fn with_three_errors_each_answer_is_right_or_failed(rt: HostRuntime) -> Result<(
 }
 
 /// Whether each is the script's answer, until one has failed, and each behind that one is refused.
-fn are_right_or_failed(answers: &[Answer; 4]) -> bool {
+fn are_right_or_failed(answers: &[Answer]) -> bool {
     let mut has_failed = false;
-    for index in 0..4 {
-        let answer = answers[index];
-        let is_failed = answer == Answer::Failed(index as u64);
+    for (index, (answer, wanted)) in answers.iter().zip(ANSWERS.iter()).enumerate() {
+        let is_failed = is(answer, &Answer::Failed(index as u64));
         let is_right = if has_failed {
-            answer == Answer::Refused(5)
+            is(answer, &Answer::Refused(5))
         } else {
-            is_failed || answer == ANSWERS[index]
+            is_failed || is(answer, wanted)
         };
         if !is_right {
             return false;
@@ -116,7 +126,7 @@ fn is_right_losing(alloc: Global, slot: usize, at: u64) -> Result<bool, Fail> {
 fn are_right_losing(bench: &mut Bench, slot: usize, at: u64) -> Result<bool, AllocError> {
     let written = bench.run_losing(Step::Write(0, 0x5a), slot, at)?;
     let read = bench.run_losing(Step::Read(0), slot, at)?;
-    Ok(written == Answer::Done(0, 0x5a) && read == Answer::Data(1, 0x5a))
+    Ok(is(&written, &Answer::Done(0, 0x5a)) && is(&read, &Answer::Data(1, 0x5a)))
 }
 
 #[test]

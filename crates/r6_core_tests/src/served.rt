@@ -3,6 +3,7 @@
 ghost use Rattle.r6_health.specs.Passes.{IsPassOf};
 
 use crate::caller::serve;
+use crate::registers::register_of;
 use r6_core::{Core, Op, OpId, Reply};
 use r6_dev::MemoryDevice;
 use r6_health::{Pass, Register, Snapshot};
@@ -72,12 +73,21 @@ fn are_served_without_slot_1<R: Wait>(
     are_read_without_slot_1(rt, alloc, core, &mut devices, register, pass)
 }
 
+fn core_of(alloc: Global) -> Result<Core, Fail> {
+    let geometry = Geometry::new(4, 1, 16, 4, 1)?;
+    Ok(Core::new(alloc, geometry, 0, 1, &Snapshot::start(&geometry, 0))?)
+}
+
+/// The same with a new register.
+fn are_served<R: Wait>(rt: &R, alloc: Global, core: &mut Core) -> Result<bool, Fail> {
+    let (register, mut pass) = register_of(rt, alloc)?;
+    Ok(are_served_without_slot_1(rt, alloc, core, &register, &mut pass)?)
+}
+
 // Block 0 stands in slot 1, whose device is lost at the first command.
 #[test]
 fn requests_are_served_without_a_device(rt: HostRuntime) -> Result<(), Fail> {
-    let geometry = Geometry::new(4, 1, 16, 4, 1)?;
-    let mut core = Core::new(rt.alloc(), geometry, 0, 1, &Snapshot::start(&geometry, 0))?;
-    let (register, mut pass) = Register::new(&rt, rt.alloc(), &geometry, 0)?;
-    assert!(rt; are_served_without_slot_1(&rt, rt.alloc(), &mut core, &register, &mut pass)?);
+    let mut core = core_of(rt.alloc())?;
+    assert!(rt; are_served(&rt, rt.alloc(), &mut core)?);
     Ok(())
 }

@@ -1,9 +1,9 @@
 //! Cores that begin with slots lost, or that look at a slot under rebuild.
 
 use crate::bench::{Answer, Bench, Step, play};
+use crate::registers::rebuilding;
 use r6_core::{Task, Turn};
-use r6_health::{Answer as RegisterAnswer, Register, ShardSet, SlotState, Snapshot};
-use r6_layout::Geometry;
+use r6_health::{ShardSet, SlotState, Snapshot};
 use std::alloc::Global;
 use std::process::Abort;
 use std::sync::Wait;
@@ -42,15 +42,6 @@ fn a_core_begins_with_two_slots_lost(rt: HostRuntime) -> Result<(), Fail> {
         (Step::Reply, Answer::Data(2, 0)),
     ];
     play(&rt, rt.alloc(), 4, 1, &[1, 2], course)
-}
-
-/// What a register holds when a device is attached in place of that of slot 1.
-fn rebuilding<R: Wait + Abort>(rt: &R, alloc: Global) -> Result<Snapshot, Fail> {
-    let geometry = Geometry::new(4, 1, 16, 4, 1)?;
-    let (register, mut pass) = Register::new(rt, alloc, &geometry, 0)?;
-    assert!(rt; register.fail(rt, &mut pass, 1) == Ok(RegisterAnswer::Degraded));
-    assert!(rt; register.attach(rt, &mut pass, 1) == Ok(1));
-    Ok(register.read(rt, &mut pass))
 }
 
 /// Whether no shard has reported slot 1 as rebuilt.
