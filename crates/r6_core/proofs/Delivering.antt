@@ -215,12 +215,10 @@ module _ (s : State) (frame : ℕ) (e : Ended) (fs : Frames) (done : Buffer Requ
       ended_together frame (ended_outcome e) (requests_ended e) (requests_of s) (requests_of new)
       (record {
         rest = others;
-        elsewhere = others_elsewhere;
-        answered = all_answered e;
         was = subst (λ es. IsPermutation es (own ++ others)) (sym old_requests) (to_front (w ++ a) own (b ++ (d ++ p)));
         now = subst (λ es. IsPermutation es (over ++ others)) (sym new_requests) (IsPermutation-append_comm others over);
       })
-      sound.requests.distinct
+      others_elsewhere (all_answered e) sound.requests.distinct
 
 -- ---- the rows that are held when a hold ends
 

@@ -1,13 +1,9 @@
 -- Requests end together: they go from those of a frame to those that are finished.
-use Rattle.std.proofs.Common.{◌≡◌, ◌≢◌, ℕ, Bool, true, false, cond, List, [], ◌∷◌, ◌++◌, length, map, refl, sym, ap, subst, ◌∙◌, Option, Some, None, IsPermutation, arith}
+use Rattle.std.proofs.Common.{◌≡◌, ◌≢◌, ℕ, Bool, true, false, cond, List, [], ◌∷◌, ◌++◌, map, refl, sym, ap, ◌∙◌, Option, Some, None}
 use Rattle.std.specs.Prelude.{nat_eq}
-use mathlib.Core.Path.{fun_ext}
-use Rattle.std.specs.Cmp.{nat_eq_equiv}
 use Rattle.std.specs.List.{IsDistinct, AllByRecursion}
 use Rattle.std.specs.Map.{keys_of}
 use Rattle.std.proofs.lemmas.Bool.{ne_eqb, eq-eqb}
-use Rattle.std.proofs.lemmas.List.Sorted.{IsPermutation-sym, IsPermutation-map, length_permutation}
-use Rattle.std.proofs.lemmas.Map.Keys.{IsDistinct-IsPermutation}
 use Rattle.r6_world.specs.PlainArray as world
 use Rattle.r6_world.specs.Tasks.{Outcome}
 use Rattle.r6_world.specs.ShardStates as shards
@@ -18,8 +14,7 @@ use Rattle.r6_frames.specs.Views.{op_of}
 use Rattle.r6_frames.specs.Calls.{entry_of, IsElsewhere}
 use Rattle.r6_frames.proofs.Lists.{Entries, table, looked_up}
 use Rattle.r6_core.specs.Shards.{answer_of, finished_request}
-use Rattle.r6_core.proofs.Lined.{all_permuted}
-use Rattle.r6_core.proofs.Together.{table_permuted}
+use Rattle.r6_core.proofs.ChangedTogether.{AreChanged, ChangeTogether, changed_together}
 
 -- what the outcome answers the request stands in its buffer
 abbrev pub IsAnsweredBy : Outcome → Request → Type 0
@@ -53,66 +48,15 @@ module _ (frame : ℕ) (outcome : Outcome) (rest : Entries shards.Request) (else
         | false ↦ finished_at rs q all.1
       ]
 
-same_keys : (frame : ℕ) (rest : Entries shards.Request) (rs : List Request) → keys_of (map (finished_request false) rs ++ rest) ≡ keys_of (map (entry_of frame) rs ++ rest)
-same_keys frame rest [] = refl
-same_keys frame rest (r ∷ rs) = ap (λ ks. r.id ∷ ks) (same_keys frame rest rs)
-
-same_length : (frame : ℕ) (rest : Entries shards.Request) (rs : List Request) → length (map (finished_request false) rs ++ rest) ≡ length (map (entry_of frame) rs ++ rest)
-same_length frame rest [] = refl
-same_length frame rest (r ∷ rs) = omega (arith, same_length frame rest rs)
-
 -- ---- the requests when a hold ends
 
 -- those of the frame are finished, and the others stay as they are
-pub record EndTogether (frame : ℕ) (outcome : Outcome) (rs : List Request) (old new : Entries shards.Request) : Type 0 where
-  pub rest : Entries shards.Request
-  pub elsewhere : AllByRecursion (IsElsewhere frame) rest
-  pub answered : AllByRecursion (IsAnsweredBy outcome) rs
-  pub was : IsPermutation old (map (entry_of frame) rs ++ rest)
-  pub now : IsPermutation new (map (finished_request false) rs ++ rest)
+abbrev pub AreEnded : ℕ → Outcome → Entries shards.Request → Entries shards.Request → Type 1
+AreEnded frame outcome old new = AreChanged (λ q. finished frame outcome) old new
 
--- so in the world
-pub record AreEnded (frame : ℕ) (outcome : Outcome) (old new : Entries shards.Request) : Type 1 where
-  pub now : table new ≡ (λ q. finished frame outcome (table old q))
-  pub distinct : IsDistinct nat_eq (keys_of new)
-  pub count : length new ≡ length old
-  pub keeps : (P : ℕ → Type 0) → AllByRecursion P (keys_of old) → AllByRecursion P (keys_of new)
-
-module _ (frame : ℕ) (outcome : Outcome) (rs : List Request) (old new : Entries shards.Request) (end : EndTogether frame outcome rs old new) (distinct : IsDistinct nat_eq (keys_of old)) where
-  abbrev were : Entries shards.Request
-  were = map (entry_of frame) rs ++ end.rest
-
-  abbrev are : Entries shards.Request
-  are = map (finished_request false) rs ++ end.rest
-
-  were_distinct : IsDistinct nat_eq (keys_of were)
-  were_distinct = IsDistinct-IsPermutation nat_eq nat_eq_equiv.symm (keys_of old) (keys_of were) (IsPermutation-map (λ e. e.0) old were end.was) distinct
-
-  are_distinct : IsDistinct nat_eq (keys_of are)
-  are_distinct = subst (IsDistinct nat_eq) (sym (same_keys frame end.rest rs)) were_distinct
-
-  was_back : IsPermutation were old
-  was_back = IsPermutation-sym old were end.was
-
-  now_back : IsPermutation are new
-  now_back = IsPermutation-sym new are end.now
-
-  now_distinct : IsDistinct nat_eq (keys_of new)
-  now_distinct = IsDistinct-IsPermutation nat_eq nat_eq_equiv.symm (keys_of are) (keys_of new) (IsPermutation-map (λ e. e.0) are new now_back) are_distinct
-
-  pub ended_together : AreEnded frame outcome old new
-  ended_together = record {
-    now = fun_ext (λ q.
-        table_permuted new are q end.now now_back now_distinct are_distinct
-        ∙ finished_at frame outcome end.rest end.elsewhere rs q end.answered
-        ∙ ap (finished frame outcome) (sym (table_permuted old were q end.was was_back distinct were_distinct)));
-    distinct = now_distinct;
-    count =
-        let a = length_permutation old were end.was in
-        let b = length_permutation new are end.now in
-        let c = same_length frame end.rest rs in
-        omega (arith, a, b, c);
-    keeps = λ P all.
-        let first = all_permuted P (keys_of old) (keys_of were) (IsPermutation-map (λ e. e.0) old were end.was) all in
-        all_permuted P (keys_of are) (keys_of new) (IsPermutation-map (λ e. e.0) are new now_back) (subst (AllByRecursion P) (sym (same_keys frame end.rest rs)) first);
-  }
+pub ended_together : (frame : ℕ) (outcome : Outcome) (rs : List Request) (old new : Entries shards.Request)
+    → (together : ChangeTogether (entry_of frame) (finished_request false) rs old new) → AllByRecursion (IsElsewhere frame) together.rest → AllByRecursion (IsAnsweredBy outcome) rs
+    → IsDistinct nat_eq (keys_of old) → AreEnded frame outcome old new
+ended_together frame outcome rs old new together elsewhere answered distinct =
+    changed_together (entry_of frame) (finished_request false) (λ r. refl) (λ q. finished frame outcome) rs old new together
+    (λ q. finished_at frame outcome together.rest elsewhere rs q answered) distinct

@@ -40,12 +40,13 @@ use Rattle.r6_core.specs.Shards.{state_of, rest_of, layout_in, requests_in, requ
 use Rattle.r6_core.specs.Turns.{IsWaiting, IsHeldFor, IsTaskOf, Starts}
 use Rattle.r6_core.specs.Inside.{CanHold, IsReadDirectly, IsSound, bound, count_unheld, most_tokens, row_of_request}
 use Rattle.r6_core.proofs.Batched.{starts_scan}
+use Rattle.r6_core.proofs.ChangedTogether.{ChangeTogether}
 use Rattle.r6_core.proofs.Going.{no_rest}
 use Rattle.r6_core.proofs.Passed.{to_front}
 use Rattle.r6_core.proofs.ReadOn.{synced_read}
 use Rattle.r6_core.proofs.RowWrites.{batch_of_writes, writes_for}
 use Rattle.r6_core.proofs.Throughs.{through_in}
-use Rattle.r6_core.proofs.Together.{WentTogether, served_by, together_count, together_distinct, together_held, together_keeps}
+use Rattle.r6_core.proofs.Together.{AreHeld, held_together, served_by}
 
 -- ---- what the row may be held for
 
@@ -200,7 +201,7 @@ module _ (s : State) (request : Request) (others : List Request) (task : Task) (
   reads_same = is.drives.3 ∙ is.begins.shard.3
 
   -- the requests go from those that wait to those that rows are held for
-  pub went_together : WentTogether (requests_of s) (requests_of begun_state) frame served
+  went_together : ChangeTogether waiting_request (entry_of frame) served (requests_of s) (requests_of begun_state)
   went_together =
       let to = is.begins.requests in
       let tail : Entries shards.Request = replied_requests s.frames.saw_failed s.released s.replies.items in
@@ -224,13 +225,16 @@ module _ (s : State) (request : Request) (others : List Request) (task : Task) (
       }
 
   module _ (sound : IsSound s) where
+    requests : AreHeld frame served (requests_of s) (requests_of begun_state)
+    requests = held_together frame served (requests_of s) (requests_of begun_state) went_together sound.requests.distinct
+
     begun_mid : shard_with (rest_of begun_state) mid ≡ after (layout_in s) (state_of s) (Start frame row task)
     begun_mid =
         let l = layout_in s in
         let first : Option Hold = Some (begun l (state_of s).slot row task) in
         is.begins.shard.2 (rest_of begun_state)
         ∙ ap (λ (request : ℕ → Option shards.Request). record (shard_with (record (rest_of s) { request = request }) s.frames) { frame = put (frame_of s.frames) frame first })
-        (together_held (requests_of s) (requests_of begun_state) frame served went_together sound.requests.distinct)
+        requests.now
         ∙ sym (start_after l (state_of s) frame row task served is.serves.is_request is.serves.serves)
 
     held_for : IsHeldFor (layout_in s) s.frames.shard (state_of s) request others (state_of begun_state)
@@ -262,13 +266,13 @@ module _ (s : State) (request : Request) (others : List Request) (task : Task) (
 
     -- each request has its number once, below those that are to come; and there are as many
     pub begun_distinct : IsDistinct nat_eq (keys_of (requests_of begun_state))
-    begun_distinct = together_distinct (requests_of s) (requests_of begun_state) frame served went_together sound.requests.distinct
+    begun_distinct = requests.distinct
 
     pub begun_numbered : AllByRecursion (λ id. id < s.accepted) (keys_of (requests_of begun_state))
-    begun_numbered = together_keeps (requests_of s) (requests_of begun_state) frame served went_together sound.requests.distinct (λ id. id < s.accepted) sound.requests.numbered
+    begun_numbered = requests.keeps (λ id. id < s.accepted) sound.requests.numbered
 
     pub begun_counted : length (requests_of begun_state) ≡ s.unanswered
-    begun_counted = together_count (requests_of s) (requests_of begun_state) frame served went_together sound.requests.distinct ∙ sound.requests.counted
+    begun_counted = requests.count ∙ sound.requests.counted
 
   -- fewer wait
   fewer_wait : suc (length rest + length (read_requests s.frames)) ≤ count_unheld s

@@ -7,6 +7,7 @@ pub mod BatchStarts
 pub mod Batched
 pub mod CallRoom
 pub mod Callers
+pub mod ChangedTogether
 pub mod Commands
 pub mod CountedRows
 pub mod Completing

@@ -5,12 +5,11 @@ use Rattle.std.specs.Prelude.{nat_eq, option_map, IsPermutation}
 use Rattle.std.specs.List.{IsDistinct, AllByRecursion}
 use Rattle.std.specs.List.Sorted.{IsNonDecreasingBy}
 use Rattle.std.specs.Map.{keys_of}
-use Rattle.std.specs.Cmp.{nat_eq_equiv}
 use Rattle.std.proofs.lemmas.Bool.{eq-eqb}
 use Rattle.circular_buffer.specs.Buffer.{Buffer}
-use Rattle.std.proofs.lemmas.List.{drop-append-le, length-map, map-append, take-append-drop, take-append-le}
-use Rattle.std.proofs.lemmas.List.Sorted.{IsNonDecreasingBy-drop, IsPermutation-sym, IsPermutation-trans, IsPermutation-append_comm, IsPermutation-append_right, IsPermutation-map, length_permutation}
-use Rattle.std.proofs.lemmas.Map.Keys.{IsDistinct-head, IsDistinct-tail, IsDistinct-IsPermutation}
+use Rattle.std.proofs.lemmas.List.{drop-append-le, map-append, take-append-drop, take-append-le}
+use Rattle.std.proofs.lemmas.List.Sorted.{IsNonDecreasingBy-drop, IsPermutation-refl, IsPermutation-trans, IsPermutation-append_comm, IsPermutation-append_right, IsPermutation-map, length_permutation}
+use Rattle.std.proofs.lemmas.Map.Keys.{IsDistinct-head, IsDistinct-tail}
 use Rattle.r6_world.specs.PlainArray as world
 use Rattle.r6_world.specs.PlainArray.{ArrayFailed}
 use Rattle.r6_world.specs.ShardStates as shards
@@ -35,9 +34,9 @@ use Rattle.r6_world.specs.ShardStates.{limit}
 use Rattle.r6_core.specs.Refusals.{most_unanswered}
 use Rattle.r6_core.specs.Order.{IsRising, FailsAll}
 use Rattle.r6_core.specs.Inside.{AreBounded, AreOwnRows, HandsBack, IsReadOn, IsSound, IsSettled, Gathers, count_unheld, Seen, held_op, numbered_op, unreplied, count_untold}
+use Rattle.r6_core.proofs.ChangedTogether.{AreChanged, all_changed}
 use Rattle.r6_core.proofs.Rooms.{rooms_still}
 use Rattle.r6_core.proofs.Lined.{all_permuted}
-use Rattle.r6_core.proofs.Together.{table_permuted}
 use Rattle.r6_core.proofs.CountedRows.{counted_kept, no_rows_counted, rows_of_holds, same_or_fewer}
 use Rattle.r6_core.proofs.Kept.{own_rows_kept, requests_kept, sizes_kept}
 use Rattle.r6_core.proofs.SlotsKept.{calls_same}
@@ -264,29 +263,19 @@ module _ (s : State) (mid : State) (sorted : Buffer Request) (sound : IsSound s)
       (IsPermutation-append_right r (map fails (f ++ u)) (map fails (map numbered_op (drop mid.released sorted.items))) (IsPermutation-map fails (f ++ u) (map numbered_op (drop mid.released sorted.items)) ops))) in
       subst (λ es. IsPermutation es now) (sym (all_fail s none)) all
 
-  whole_keys : IsPermutation (keys_of (requests_of s)) (keys_of now)
-  whole_keys = subst (λ ks. IsPermutation ks (keys_of now)) (keys_failed (requests_of s)) (IsPermutation-map (λ e. e.0) (map failed (requests_of s)) now whole)
-
-  was_distinct : IsDistinct nat_eq (keys_of (map failed (requests_of s)))
-  was_distinct = subst (IsDistinct nat_eq) (sym (keys_failed (requests_of s))) sound.requests.distinct
-
-  now_distinct : IsDistinct nat_eq (keys_of now)
-  now_distinct = IsDistinct-IsPermutation nat_eq nat_eq_equiv.symm (keys_of (requests_of s)) (keys_of now) whole_keys sound.requests.distinct
+  requests_fail : AreChanged (λ q. failed_request) (requests_of s) now
+  requests_fail =
+      let old = requests_of s in
+      all_changed (λ q. failed_request) old old (map failed old) now (IsPermutation-refl old) (keys_failed old) (table_failed old) whole sound.requests.distinct
 
   tables : table (requests_of new) ≡ (λ q. failed_request (table (requests_of s) q))
-  tables = fun_ext same_at
-    where
-      same_at : (q : ℕ) → table (requests_of new) q ≡ failed_request (table (requests_of s) q)
-      same_at q =
-          ap (λ (es : Entries shards.Request). table es q) new_requests
-          ∙ sym (table_permuted (map failed (requests_of s)) now q whole (IsPermutation-sym (map failed (requests_of s)) now whole) was_distinct now_distinct)
-          ∙ table_failed (requests_of s) q
+  tables = ap (λ (es : Entries shards.Request). table es) new_requests ∙ requests_fail.now
 
   pub failed_order : Seen FailsAll s new
   failed_order =
       let last = drop mid.released sorted.items in
       let own : IsDistinct nat_eq (keys_of (replied_requests true 0 last)) =
-      distinct_behind (map released_request (take mid.released sorted.items)) (replied_requests true 0 last) (subst (λ (es : Entries shards.Request). IsDistinct nat_eq (keys_of es)) (sym (replied_failed mid.released sorted.items)) now_distinct) in
+      distinct_behind (map released_request (take mid.released sorted.items)) (replied_requests true 0 last) (subst (λ (es : Entries shards.Request). IsDistinct nat_eq (keys_of es)) (sym (replied_failed mid.released sorted.items)) requests_fail.distinct) in
       (rising last up (subst (IsDistinct nat_eq) (keys_replied true 0 last) own), still_released, gathers.none_waiting)
 
   pub gathered_state : state_of new ≡ record (state_of s) { frame = λ f. None; request = λ q. failed_request ((state_of s).request q) }
@@ -310,12 +299,12 @@ module _ (s : State) (mid : State) (sorted : Buffer Request) (sound : IsSound s)
         sound = record {
           frames = gathers.frames;
           requests = record {
-            distinct = subst (λ (es : Entries shards.Request). IsDistinct nat_eq (keys_of es)) (sym new_requests) now_distinct;
+            distinct = subst (λ (es : Entries shards.Request). IsDistinct nat_eq (keys_of es)) (sym new_requests) requests_fail.distinct;
             numbered =
                 let P : ℕ → Type 0 = λ id. id < mid.accepted in
                 let first = subst (λ (n : ℕ). AllByRecursion (λ id. id < n) (keys_of (requests_of s))) (sym gathers.rest.0) sound.requests.numbered in
-                subst (λ (es : Entries shards.Request). AllByRecursion P (keys_of es)) (sym new_requests) (all_permuted P (keys_of (requests_of s)) (keys_of now) whole_keys first);
-            counted = ap length new_requests ∙ length_permutation (map failed (requests_of s)) now whole ∙ length-map (requests_of s) failed ∙ sound.requests.counted ∙ sym gathers.rest.1;
+                subst (λ (es : Entries shards.Request). AllByRecursion P (keys_of es)) (sym new_requests) (requests_fail.keeps P first);
+            counted = ap length new_requests ∙ requests_fail.count ∙ sound.requests.counted ∙ sym gathers.rest.1;
             few = subst (λ (n : ℕ). n ≤ most_unanswered) (sym gathers.rest.1) sound.requests.few;
             waiting = subst (λ (rs : List Request). AllByRecursion (IsRequestOf mid.frames) rs) (sym gathers.none_waiting) tt;
             sized =

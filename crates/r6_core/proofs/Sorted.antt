@@ -1,15 +1,12 @@
 -- Replies that stand by number: the shard is the same.
-use Rattle.std.proofs.Common.{◌≡◌, ℕ, Bool, ◌<◌, ◌≤◌, List, [], ◌∷◌, ◌++◌, map, take, drop, sym, ap, subst, ◌∙◌, Option, length, arith, append_assoc}
-use mathlib.Core.Path.{fun_ext}
+use Rattle.std.proofs.Common.{◌≡◌, ℕ, Bool, ◌<◌, ◌≤◌, List, [], ◌∷◌, ◌++◌, map, take, drop, refl, sym, ap, subst, ◌∙◌, Option, length, arith, append_assoc}
 use Rattle.std.specs.Prelude.{nat_eq, IsPermutation}
 use Rattle.std.specs.List.{IsDistinct}
 use Rattle.std.specs.List.Sorted.{IsNonDecreasingBy}
 use Rattle.std.specs.Map.{keys_of}
-use Rattle.std.specs.Cmp.{nat_eq_equiv}
 use Rattle.circular_buffer.specs.Buffer.{Buffer}
 use Rattle.std.proofs.lemmas.List.{take-append-drop, length-take-le}
-use Rattle.std.proofs.lemmas.List.Sorted.{IsPermutation-sym, IsPermutation-append_right, IsPermutation-map, length_permutation}
-use Rattle.std.proofs.lemmas.Map.Keys.{IsDistinct-IsPermutation}
+use Rattle.std.proofs.lemmas.List.Sorted.{IsPermutation-refl, IsPermutation-append_right, IsPermutation-map, length_permutation}
 use Rattle.r6_world.specs.ShardStates as shards
 use Rattle.r6_frames.specs.declared.op.Request.{Request}
 use Rattle.r6_frames.specs.Calls.{HasOneBlock}
@@ -19,10 +16,10 @@ use Rattle.r6_core.specs.declared.state.State.{State}
 use Rattle.r6_core.specs.Shards.{rest_of, state_of, requests_of, waiting_request, finished_request, framed_requests, replied_requests, waiting_of}
 use Rattle.r6_core.specs.Order.{IsRising}
 use Rattle.r6_core.specs.Inside.{IsSound}
+use Rattle.r6_core.proofs.ChangedTogether.{AreChanged, all_changed}
 use Rattle.r6_core.proofs.Replied.{keys_replied, more_replied}
 use Rattle.r6_core.proofs.Lined.{all_permuted}
 use Rattle.r6_core.proofs.SeenFailure.{distinct_behind, rising}
-use Rattle.r6_core.proofs.Together.{table_permuted}
 
 pub rising_few : (rs : List Request) → length rs ≤ 1 → IsRising rs
 rising_few [] few = tt
@@ -83,21 +80,18 @@ module _ (s : State) (from : ℕ) (sorted : Buffer Request) (sound : IsSound s) 
       (IsPermutation-append_right kept (map (finished_request seen) (drop from s.replies.items)) (map (finished_request seen) (drop from sorted.items))
       (IsPermutation-map (finished_request seen) (drop from s.replies.items) (drop from sorted.items) same)))
 
-  all_keys : IsPermutation (keys_of (requests_of s)) (keys_of (requests_of by_number))
-  all_keys = IsPermutation-map (λ e. e.0) (requests_of s) (requests_of by_number) all
-
-  distinct : IsDistinct nat_eq (keys_of (requests_of by_number))
-  distinct = IsDistinct-IsPermutation nat_eq nat_eq_equiv.symm (keys_of (requests_of s)) (keys_of (requests_of by_number)) all_keys sound.requests.distinct
+  requests_stay : AreChanged (λ q request. request) (requests_of s) (requests_of by_number)
+  requests_stay =
+      let old = requests_of s in
+      all_changed (λ q request. request) old old old (requests_of by_number) (IsPermutation-refl old) refl (λ q. refl) all sound.requests.distinct
 
   pub same_state : state_of by_number ≡ state_of s
-  same_state =
-      ap (λ (request : ℕ → Option shards.Request). shard_with (record (rest_of s) { request = request }) s.frames)
-      (fun_ext (λ q. sym (table_permuted (requests_of s) (requests_of by_number) q all (IsPermutation-sym (requests_of s) (requests_of by_number) all) sound.requests.distinct distinct)))
+  same_state = ap (λ (request : ℕ → Option shards.Request). shard_with (record (rest_of s) { request = request }) s.frames) requests_stay.now
 
   pub sorted_rising : IsRising (drop from sorted.items)
   sorted_rising =
       let last = drop from sorted.items in
-      let own : IsDistinct nat_eq (keys_of (replied_requests seen 0 last)) = distinct_behind kept (replied_requests seen 0 last) (subst (λ es. IsDistinct nat_eq (keys_of es)) now distinct) in
+      let own : IsDistinct nat_eq (keys_of (replied_requests seen 0 last)) = distinct_behind kept (replied_requests seen 0 last) (subst (λ es. IsDistinct nat_eq (keys_of es)) now requests_stay.distinct) in
       rising last up (subst (IsDistinct nat_eq) (keys_replied seen 0 last) own)
 
   pub sorted_sound : IsSound by_number
@@ -106,9 +100,9 @@ module _ (s : State) (from : ℕ) (sorted : Buffer Request) (sound : IsSound s) 
       record {
         frames = sound.frames;
         requests = record {
-          distinct = distinct;
-          numbered = all_permuted (λ id. id < s.accepted) (keys_of (requests_of s)) (keys_of (requests_of by_number)) all_keys sound.requests.numbered;
-          counted = length_permutation (requests_of s) (requests_of by_number) all ∙ sound.requests.counted;
+          distinct = requests_stay.distinct;
+          numbered = requests_stay.keeps (λ id. id < s.accepted) sound.requests.numbered;
+          counted = requests_stay.count ∙ sound.requests.counted;
           few = sound.requests.few;
           waiting = sound.requests.waiting;
           sized = all_permuted (HasOneBlock s.frames.geometry) s.replies.items sorted.items queue sound.requests.sized;
