@@ -49,51 +49,42 @@ requests_of_end (ended.Rebuilt target row) = refl
 requests_of_end (ended.GivenUp target) = refl
 
 -- whether it is a check or repair, whether it is any of what a shard does by itself, and whether it is writes
+abbrev pub weights : Task → ℕ × ℕ × ℕ
+weights (ReadFor id block) = (0, 0, 0)
+weights (WriteFor writes) = (0, 0, 1)
+weights (Rebuild slot generation) = (0, 1, 0)
+weights Check = (1, 1, 0)
+weights Repair = (1, 1, 0)
+
 abbrev pub scrub_weight : Task → ℕ
-scrub_weight (ReadFor id block) = 0
-scrub_weight (WriteFor writes) = 0
-scrub_weight (Rebuild slot generation) = 0
-scrub_weight Check = 1
-scrub_weight Repair = 1
+scrub_weight task = (weights task).0
 
 abbrev pub turn_weight : Task → ℕ
-turn_weight (ReadFor id block) = 0
-turn_weight (WriteFor writes) = 0
-turn_weight (Rebuild slot generation) = 1
-turn_weight Check = 1
-turn_weight Repair = 1
+turn_weight task = (weights task).1
 
 abbrev pub write_weight : Task → ℕ
-write_weight (ReadFor id block) = 0
-write_weight (WriteFor writes) = 1
-write_weight (Rebuild slot generation) = 0
-write_weight Check = 0
-write_weight Repair = 0
+write_weight task = (weights task).2
+
+all_weigh : (row : ℕ) (j : Job) (kind : Kind)
+    → (one_if is_scrub (Some (row, j)), one_if is_turn (Some (row, j)), one_if is_written (Some (row, j))) ≡ weights (task_by j kind)
+all_weigh row (job.Read served buffer) kind = refl
+all_weigh row (job.Write served) kind = refl
+all_weigh row (job.Scrub scrub.Check) kind = refl
+all_weigh row (job.Scrub scrub.Repair) kind = refl
+all_weigh row (job.Rebuild target) kind = refl
 
 -- a test of what a row is held for counts as this weight of its task
 abbrev pub Weighs : (test : Job → Bool) (weight : Task → ℕ) → Type 0
 Weighs test weight = (row : ℕ) (j : Job) (kind : Kind) → one_if test (Some (row, j)) ≡ weight (task_by j kind)
 
 pub scrubs_weigh : Weighs is_scrub scrub_weight
-scrubs_weigh row (job.Read served buffer) kind = refl
-scrubs_weigh row (job.Write served) kind = refl
-scrubs_weigh row (job.Scrub scrub.Check) kind = refl
-scrubs_weigh row (job.Scrub scrub.Repair) kind = refl
-scrubs_weigh row (job.Rebuild target) kind = refl
+scrubs_weigh row j kind = ap (λ (ws : ℕ × ℕ × ℕ). ws.0) (all_weigh row j kind)
 
 pub turns_weigh : Weighs is_turn turn_weight
-turns_weigh row (job.Read served buffer) kind = refl
-turns_weigh row (job.Write served) kind = refl
-turns_weigh row (job.Scrub scrub.Check) kind = refl
-turns_weigh row (job.Scrub scrub.Repair) kind = refl
-turns_weigh row (job.Rebuild target) kind = refl
+turns_weigh row j kind = ap (λ (ws : ℕ × ℕ × ℕ). ws.1) (all_weigh row j kind)
 
 pub writes_weigh : Weighs is_written write_weight
-writes_weigh row (job.Read served buffer) kind = refl
-writes_weigh row (job.Write served) kind = refl
-writes_weigh row (job.Scrub scrub.Check) kind = refl
-writes_weigh row (job.Scrub scrub.Repair) kind = refl
-writes_weigh row (job.Rebuild target) kind = refl
+writes_weigh row j kind = ap (λ (ws : ℕ × ℕ × ℕ). ws.2) (all_weigh row j kind)
 
 -- ---- the rows that are counted
 
