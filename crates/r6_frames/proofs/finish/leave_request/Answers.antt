@@ -33,3 +33,24 @@ returns-in-Some-Write-Write-clause-owner c =
     let mine = subst (λ (what : Job). IsJob c.requires.held.0 c.args.held.row what (kind_in c.args.held)) w.is-1 held.job in
     let side = back_side_by_side c.requires.held.0 c.args.held.row w.served (kind_in c.args.held) w.batch.blocks mine same in
     subst (λ (writes : List Entry). IsEndedOf c.args.held (ended.Wrote writes)) (sym c.from_parts-writes.ensures) (ended_writes c.args.held w.served w.batch.blocks side w.is-1 same)
+
+pub with_block-buffer-requires-clause-size : goal.with_block-buffer-requires-clause-size
+with_block-buffer-requires-clause-size c =
+    let held = c.requires.held.3 in
+    let job = subst (λ (what : Job). IsJob c.requires.held.0 c.args.held.row what (kind_in c.args.held)) c.in-Some-Read-Read.is-1 held.job in
+    job.2.length_is ∙ sym held.size ∙ ap (λ (h : Held). h.planned.hold.size) (sym c.take_task.ensures.closed)
+
+pub returns-in-Some-Read-Read-clause-owner : goal.returns-in-Some-Read-Read-clause-owner
+returns-in-Some-Read-Read-clause-owner c =
+    let held = c.requires.held.3 in
+    let job = subst (λ (what : Job). IsJob c.requires.held.0 c.args.held.row what (kind_in c.args.held)) c.in-Some-Read-Read.is-1 held.job in
+    (c.in-Some-Read-Read.buffer, c.in-Some-Read-Read.is-1, c.with_block-buffer.ensures.size ∙ job.2.length_is ∙ sym held.size)
+
+pub returns-in-Some-Read-Read-clause-hold : goal.returns-in-Some-Read-Read-clause-hold
+returns-in-Some-Read-Read-clause-hold c = c.take_task.ensures.closed
+
+pub returns-in-Some-Write-Write-clause-told : goal.returns-in-Some-Write-Write-clause-told
+returns-in-Some-Write-Write-clause-told c = λ may over. let same : Kind.Write c.in-Some-Write-Write.batch.blocks ≡ kind_in c.args.held = search in (ap (outcome_of c.args.held.hold.planned.hold) same, tt)
+
+pub returns-in-Some-Write-Write-clause-hold : goal.returns-in-Some-Write-Write-clause-hold
+returns-in-Some-Write-Write-clause-hold c = c.take_task.ensures.closed

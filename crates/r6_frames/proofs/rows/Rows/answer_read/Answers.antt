@@ -1,4 +1,6 @@
-use Rattle.std.proofs.Common.{◌≡◌, ◌-◌, List, set, Some, None, sym, ap, subst, ◌∙◌}
+use Rattle.r6_frames.specs.declared.command.Outstanding.{Outstanding}
+use Rattle.r6_world.specs.ShardStates.{frames}
+use Rattle.std.proofs.Common.{refl, ◌≡◌, ◌-◌, List, set, Some, None, sym, ap, subst, ◌∙◌, ◌≤◌}
 use Rattle.std.proofs.lemmas.List.{set-set}
 use Rattle.r6_frames.specs.declared.directs.Direct.{Direct}
 use Rattle.r6_frames.specs.FramesState.{FramesState}
@@ -57,3 +59,25 @@ returns-clause-frees c =
     let number = c.in-Some.command.frame - 64 in
     let directs = ap (λ (x : FramesState). x.directs) (sym (left c)) in
     (number, frees_direct fs (record fs { commands = commands_in c.remove.new.self; directs = c.bring_back.new.self }) number _ directs)
+
+pub unreachable-requires : goal.unreachable-requires
+unreachable-requires c = c.in_default.not-Some c.requires.awaited.0 (c.remove.ensures.entry ∙ c.requires.awaited.1)
+
+pub overflow_sub-number : goal.overflow_sub-number
+overflow_sub-number c =
+    let read = c.requires.read in
+    let both : Some read.0 ≡ Some c.in-Some.command = sym read.1 ∙ sym c.remove.ensures.entry ∙ c.in-Some.is in
+    let same : read.0 ≡ c.in-Some.command = cc in
+    subst (λ (command : Outstanding). frames ≤ command.frame) same read.2
+
+pub returns-clause-room : goal.returns-clause-room
+returns-clause-room c = record { buffer_room = c.requires.room.buffer_room; shapes = c.requires.room.shapes; command_room = ap (λ t. t.0) c.remove.ensures.rest ∙ c.requires.room.command_room; free = c.requires.room.free }
+
+pub returns-clause-holds : goal.returns-clause-holds
+returns-clause-holds c = refl
+
+pub returns-clause-same : goal.returns-clause-same
+returns-clause-same c = (refl, refl)
+
+pub returns-clause-next : goal.returns-clause-next
+returns-clause-next c = ap (λ t. t.1.0) c.remove.ensures.rest

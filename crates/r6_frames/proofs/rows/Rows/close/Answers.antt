@@ -10,9 +10,11 @@ use Rattle.r6_frames.specs.declared.frames.FrameUse.{FrameUse}
 use Rattle.r6_frames.specs.declared.frames.FrameUse.TheVariants.{Free, Held as HeldIn}
 use Rattle.r6_world.specs.ShardStates.{frames}
 use Rattle.r6_frames.specs.Uses.{IsForRow, spared}
-use Rattle.r6_frames.specs.Views.{row_in, hold_at}
+use Rattle.r6_frames.specs.Views.{row_in, use_at, hold_at}
 use Rattle.r6_frames.specs.Calls.{IsHeldFrame}
-use Rattle.r6_frames.proofs.Held.{held_within}
+use Rattle.r6_stripe.specs.Steps.{Held as StripeHold}
+use Rattle.r6_frames.proofs.Held.{held_within, hold_at_own, use_at_other, use_held}
+use Rattle.r6_frames.proofs.HeldRows.{use_found}
 use Rattle.r6_frames.proofs.Finishing.{some-held, HasLeft, leaves, left_shapes, sound_after, gives_up_after, ends_after, marks_after, owed_after}
 use Rattle.r6_frames.specs.Pool.{AreFree}
 use Rattle.r6_frames.proofs.FreeFrames.{free_put}
@@ -25,12 +27,29 @@ taken fs frame read out h held here same is =
     let items = fs.held in
     ap row_in (sym (get_or_read_under items frame (length items) read Free here (held_within items frame held.0 held.1) refl) ∙ sym same ∙ is)
 
+pub index_mut-requires : goal.index_mut-requires
+index_mut-requires c =
+    let held = c.args.self.now.held in
+    omega (arith, held_within held.items c.args.frame c.requires.held.0 c.requires.held.1, held.ok.0)
+
+pub unreachable-requires : goal.unreachable-requires
+unreachable-requires c =
+    let items = c.args.self.now.held.items in
+    let h = c.requires.held.0 in
+    let is = c.requires.held.1 in
+    let read = c.index_mut in
+    let found = use_found items c.args.frame read.result.now c.replace.result (held_within items c.args.frame h is) read.ensures.value (sym c.replace.ensures.value) in
+    c.in_default.not-Held h (sym found ∙ use_held items c.args.frame h is)
+
 pub leave-ended-requires : goal.leave-ended-requires
 leave-ended-requires c =
     let fs = view_of c.args.self.now in
     let read = c.index_mut in
     let here = taken fs c.args.frame read.result.now c.replace.result c.in-Held.held c.requires.held read.ensures.value c.replace.ensures.value c.in-Held.is in
     (fs.geometry, fs.shard, fs.slots, c.requires.sound.frames.rows c.args.frame c.in-Held.held here)
+
+pub retire-left-requires-clause-ended : goal.retire-left-requires-clause-ended
+retire-left-requires-clause-ended c = ap (λ (hold : StripeHold). hold.planned.hold.kind) c.leave-ended.ensures.hold
 
 pub retire-left-requires-clause-room : goal.retire-left-requires-clause-room
 retire-left-requires-clause-room c =
@@ -47,6 +66,12 @@ put-requires-clause-there c =
     let items = c.args.self.now.held.items in
     let held = c.requires.held in
     omega (arith, held_within items c.args.frame held.0 held.1, length-set items c.args.frame c.replace.new.dest)
+
+pub put-requires-clause-few : goal.put-requires-clause-few
+put-requires-clause-few c =
+    let held = c.requires.held in
+    let count = c.requires.sound.frames.count in
+    omega (arith, held_within c.args.self.now.held.items c.args.frame held.0 held.1, count)
 
 row_left : (c : goal.After-put) → hold_at c.args.self.now.held.items c.args.frame ≡ Some c.in-Held.held
 row_left c =
@@ -102,3 +127,22 @@ returns-clause-marks c =
 
 pub returns-clause-owed : goal.returns-clause-owed
 returns-clause-owed c = (owed_after (view_of c.args.self.now) c.args.frame c.in-Held.held c.requires.sound (row_left c) _ (left c), refl)
+
+pub returns-clause-same : goal.returns-clause-same
+returns-clause-same c = (refl, refl)
+
+pub returns-clause-others : goal.returns-clause-others
+returns-clause-others c = λ other ne.
+    let items = c.args.self.now.held.items in
+    let end = left c in
+    ap (λ (held : List FrameUse). use_at held other) end.items ∙ use_at_other items c.args.frame end.left other ne
+
+pub returns-clause-directs : goal.returns-clause-directs
+returns-clause-directs c = refl
+
+pub returns-clause-none : goal.returns-clause-none
+returns-clause-none c =
+    let items = c.args.self.now.held.items in
+    let end = left c in
+    let below = held_within items c.args.frame c.requires.held.0 c.requires.held.1 in
+    ap (λ (held : List FrameUse). hold_at held c.args.frame) end.items ∙ hold_at_own items c.args.frame end.left below ∙ end.is_left.none

@@ -62,3 +62,18 @@ returns-clause-requests c = c.put_out.ensures.requests ∙ c.loop.invariant.0.re
 pub returns-clause-out : goal.returns-clause-out
 returns-clause-out c =
     over_never (view_of c.args.self.now) c.args.frame (view_of c.loop.self) (view_of c.put_out.new.self) c.put_out.result c.loop.invariant.0 c.loop-test.false c.put_out.ensures.first c.put_out.ensures.still
+
+pub returns-clause-sound : goal.returns-clause-sound
+returns-clause-sound c = c.put_out.ensures.sound
+
+pub returns-clause-room : goal.returns-clause-room
+returns-clause-room c = c.put_out.ensures.room
+
+pub returns-clause-live : goal.returns-clause-live
+returns-clause-live c = c.put_out.ensures.live
+
+pub returns-clause-driven : goal.returns-clause-driven
+returns-clause-driven c = c.put_out.ensures.driven c.loop-test.false
+
+pub returns-clause-held : goal.returns-clause-held
+returns-clause-held c = c.put_out.ensures.held

@@ -43,3 +43,29 @@ pub returns-clause-readers : goal.returns-clause-readers
 returns-clause-readers c =
     let fs = view_of c.args.self.now in
     fewer_readers fs (record fs { directs = c.take_read.new.self }) c.in_ok-number.number _ refl c.take_read.ensures.left
+
+pub unreachable-requires : goal.unreachable-requires
+unreachable-requires c =
+    let fs = view_of c.args.self.now in
+    let Tells : Option ℕ → Type 0 = λ number. MatchOption number (NoneStopped fs) (λ number. (r : DirectRead) × IsFirstStopped fs number r) in
+    let first = subst Tells c.in_ok-number.was c.first_stopped.ensures in
+    c.in_default.not-Some first.0 (c.take_read.ensures.read ∙ first.1.0.0)
+
+pub take_read-requires : goal.take_read-requires
+take_read-requires c =
+    let fs = view_of c.args.self.now in
+    let Tells : Option ℕ → Type 0 = λ number. MatchOption number (NoneStopped fs) (λ number. (r : DirectRead) × IsFirstStopped fs number r) in
+    let first = subst Tells c.in_ok-number.was c.first_stopped.ensures in
+    read_within fs.directs c.in_ok-number.number first.0 first.1.0.0
+
+pub returns-clause-room : goal.returns-clause-room
+returns-clause-room c = c.requires.room
+
+pub returns-clause-holds : goal.returns-clause-holds
+returns-clause-holds c = refl
+
+pub returns-clause-same : goal.returns-clause-same
+returns-clause-same c = (refl, refl)
+
+pub returns-clause-commands : goal.returns-clause-commands
+returns-clause-commands c = (refl, refl)

@@ -1,4 +1,7 @@
-use Rattle.std.proofs.Common.{List, sym, ap, ◌∙◌}
+use Rattle.r6_frames.specs.FramesState.{Commands}
+use Rattle.r6_layout.specs.Shape.{Shape}
+use Rattle.std.specs.FinMap as map
+use Rattle.std.proofs.Common.{List, sym, ap, ◌∙◌, ℕ, ◌<◌, subst}
 use Rattle.r6_frames.specs.declared.directs.Direct.{Direct}
 use Rattle.r6_frames.specs.Directs.{direct_at}
 use Rattle.r6_frames.specs.Inside.{view_of}
@@ -19,3 +22,37 @@ returns-clause-rows c = λ frame. rows_kept (hold_at c.take_out.new.self.held.it
 
 pub returns-clause-readers : goal.returns-clause-readers
 returns-clause-readers c = λ number. c.come_home.ensures.readers number ∙ ap (λ (ds : List Direct). (direct_at ds number).read) c.take_out.ensures.directs
+
+pub take_out-requires-clause-sound : goal.take_out-requires-clause-sound
+take_out-requires-clause-sound c = c.requires.sound
+
+pub take_out-requires-clause-room : goal.take_out-requires-clause-room
+take_out-requires-clause-room c = c.requires.room
+
+pub come_home-requires-clause-sound : goal.come_home-requires-clause-sound
+come_home-requires-clause-sound c = c.take_out.ensures.sound
+
+pub come_home-requires-clause-room : goal.come_home-requires-clause-room
+come_home-requires-clause-room c = c.take_out.ensures.room
+
+pub come_home-requires-clause-awaited : goal.come_home-requires-clause-awaited
+come_home-requires-clause-awaited c =
+    let same = c.take_out.ensures.commands in
+    (c.in-Some.command.now, ap (λ (commands : Commands). map.get commands.entries c.args.token) same.0 ∙ sym c.in-Some.ensures, subst (λ (n : ℕ). c.args.token < n) (sym same.1) c.requires.awaited.2)
+
+pub come_home-requires-clause-size : goal.come_home-requires-clause-size
+come_home-requires-clause-size c = c.requires.size ∙ ap (λ (shape : Shape). shape.block) (sym c.take_out.ensures.takes.0)
+
+pub returns-clause-sound : goal.returns-clause-sound
+returns-clause-sound c = c.come_home.ensures.sound
+
+pub returns-clause-room : goal.returns-clause-room
+returns-clause-room c = c.come_home.ensures.room
+
+pub returns-clause-owed : goal.returns-clause-owed
+returns-clause-owed c =
+    let home = c.come_home.ensures.owed in
+    (home.0 ∙ c.take_out.ensures.owed, home.1 ∙ ap (λ (commands : Commands). commands.next) c.take_out.ensures.commands.0)
+
+pub returns-clause-requests : goal.returns-clause-requests
+returns-clause-requests c = c.come_home.ensures.requests ∙ c.take_out.ensures.requests

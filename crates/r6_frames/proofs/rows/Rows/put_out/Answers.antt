@@ -1,3 +1,5 @@
+use Rattle.r6_frames.specs.declared.frames.FrameUse.TheVariants.{Held as HeldIn}
+use Rattle.std.proofs.lemmas.Bool.{false≢true}
 use Rattle.std.proofs.Common.{◌≡◌, ◌+◌, ◌%◌, refl, sym, ap, subst, ◌∙◌, Option, Some, None, arith}
 use Rattle.r6_stripe.specs.Steps.{PutsOut}
 use Rattle.r6_stripe.specs.declared.command.RowCommand.{RowCommand}
@@ -5,8 +7,8 @@ use Rattle.r6_tables.specs.Table.{next_of}
 use Rattle.r6_frames.specs.Inside.{view_of, commands_in}
 use Rattle.r6_frames.specs.Views.{hold_at, row_command}
 use Rattle.r6_frames.specs.Sound.{IsHeld}
-use Rattle.r6_frames.proofs.Held.{rows_stay}
-use Rattle.r6_frames.proofs.HeldRows.{row_found}
+use Rattle.r6_frames.proofs.Held.{rows_stay, held_within, use_at_other, use_held}
+use Rattle.r6_frames.proofs.HeldRows.{row_found, use_found}
 use Rattle.r6_frames.proofs.SlotsInTurn.{IsSlotAt, slot_of_row, slot_below, some_slots}
 use Rattle.r6_frames.proofs.CommandComes.{pushed, new_command}
 use Rattle.r6_frames.proofs.NothingOut.{none_held, none_sound, none_drives, none_driven, none_owed, none_requests, none_first, none_still}
@@ -182,3 +184,46 @@ pub returns-clause-still : goal.returns-clause-still
 returns-clause-still c =
     λ _. some_out (view_of c.args.self.now) c.args.frame c.in-Held.held c.parts-position.result.0 c.right_of-slot.result c.in-Some-generation.generation c.parts-position.result.1 c.parts-position.result.2 c.next_command.new.self (commands_in c.push.new.self) (found c) c.requires.sound c.requires.live (puts c)
     (turned c).within (turned c).value (turned c).inverse (sym c.generation.ensures ∙ c.in-Some-generation.is) (ap commands_in c.push.ensures.entry)
+
+pub index_mut-requires : goal.index_mut-requires
+index_mut-requires c =
+    let held = c.args.self.now.held in
+    omega (arith, held_within held.items c.args.frame c.requires.held.0 c.requires.held.1, held.ok.0)
+
+pub unreachable-requires : goal.unreachable-requires
+unreachable-requires c =
+    let items = c.args.self.now.held.items in
+    let h = c.requires.held.0 in
+    let is = c.requires.held.1 in
+    let read = c.index_mut.result.now in
+    c.in_default.not-Held h (sym (use_found items c.args.frame read read (held_within items c.args.frame h is) c.index_mut.ensures.value refl) ∙ use_held items c.args.frame h is)
+
+pub returns-in_default-next-clause-live : goal.returns-in_default-next-clause-live
+returns-in_default-next-clause-live c = c.requires.live
+
+pub returns-in_default-next-clause-others : goal.returns-in_default-next-clause-others
+returns-in_default-next-clause-others c = λ other ne. use_at_other c.args.self.now.held.items c.args.frame (HeldIn (record c.in-Held.held { hold = c.next_command.new.self })) other ne
+
+pub returns-in_default-next-clause-directs : goal.returns-in_default-next-clause-directs
+returns-in_default-next-clause-directs c = refl
+
+pub returns-in_default-next-clause-less : goal.returns-in_default-next-clause-less
+returns-in_default-next-clause-less c = λ some. absurd (false≢true some)
+
+pub returns-in_default-next-clause-out : goal.returns-in_default-next-clause-out
+returns-in_default-next-clause-out c = λ some. absurd (false≢true some)
+
+pub returns-clause-live : goal.returns-clause-live
+returns-clause-live c = c.requires.live
+
+pub returns-clause-driven : goal.returns-clause-driven
+returns-clause-driven c = λ none. absurd (false≢true (sym none))
+
+pub returns-clause-others : goal.returns-clause-others
+returns-clause-others c = λ other ne. use_at_other c.args.self.now.held.items c.args.frame (HeldIn (record c.in-Held.held { hold = c.next_command.new.self })) other ne
+
+pub returns-clause-directs : goal.returns-clause-directs
+returns-clause-directs c = refl
+
+pub returns-clause-first : goal.returns-clause-first
+returns-clause-first c = λ owes none. absurd (false≢true (sym none))
