@@ -31,3 +31,17 @@ returns-else-position-m-clause-renewed c =
     c.parity-else-position-m.ensures.q ∙ ap (q_of (length c.args.apart.now)) (data_before blocks c.split_at_mut-others.result.0.now position parity front) in
     ap (λ (xs : List (List ℕ)). xs ++ set c.split_at_mut-others.result.1.now 0 c.parity-else-position-m.new.q) front
     ∙ q_stands (length c.args.apart.now) blocks c.split_at_mut-others.result.1.now position c.parity-else-position-m.new.q c.requires.many within c.split_at_mut-others.ensures.back last block
+
+pub overflow_sub-m : goal.overflow_sub-m
+overflow_sub-m c = c.requires.many
+
+pub split_at_mut-others-requires : goal.split_at_mut-others-requires
+split_at_mut-others-requires c =
+    let within = c.requires.within in
+    omega arith
+
+pub returns-then-position-m-clause-apart_length : goal.returns-then-position-m-clause-apart_length
+returns-then-position-m-clause-apart_length c = c.parity.ensures.q_length
+
+pub returns-else-position-m-clause-apart_length : goal.returns-else-position-m-clause-apart_length
+returns-else-position-m-clause-apart_length c = c.parity-else-position-m.ensures.p_length

@@ -71,3 +71,12 @@ returns-then-has_read_whole-clause-classed c =
       class_says (hold_of s) s.blocks.items r (c.requires.sound.wide ∙ sym wide) (omega (arith, c.requires.sound.wide, c.requires.sound.four_or_more)) (long at) (size at) (known_blocks s c.requires.sound.wide (each at))
           (subst (λ (row : List (List ℕ)). HasClass row r) c.deref.ensures.value c.class_of.ensures),
     )
+
+pub class_of-requires-clause-count : goal.class_of-requires-clause-count
+class_of-requires-clause-count c = omega (arith, c.requires.sound.four_or_more, c.requires.sound.wide, ap length c.deref.ensures.value)
+
+pub returns-then-has_read_whole-clause-held : goal.returns-then-has_read_whole-clause-held
+returns-then-has_read_whole-clause-held c = refl
+
+pub returns-then-has_read_whole-clause-prepared : goal.returns-then-has_read_whole-clause-prepared
+returns-then-has_read_whole-clause-prepared c = refl
