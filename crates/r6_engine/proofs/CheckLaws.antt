@@ -147,3 +147,9 @@ pub fails_since : (shape : Shape) (old now : Parts) (row rows count : ℕ) (faul
 fails_since shape old now row rows count None read within fails = fails
 fails_since shape old now row rows count (Some fault) read within fails =
     (omega (arith, fails.0, within), read_fails_since shape old now (row + rows) fault read fails.1)
+
+-- no batch ends with a fault behind the last row
+pub none_fails : (shape : Shape) (parts : Parts) (end : ℕ) (fault : Option SlotFault) → shape.rows ≤ end
+    → IfSome fault (λ it. (end < shape.rows) × ReadFails shape parts end it) → fault ≡ None
+none_fails shape parts end None past fails = refl
+none_fails shape parts end (Some fault) past fails = absurd (omega (arith, past, fails.0))

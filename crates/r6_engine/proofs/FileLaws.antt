@@ -1,12 +1,12 @@
 -- Parts that are opened, one after another.
 use Rattle.std.proofs.Common.{◌≡◌, ℕ, ◌+◌, ◌*◌, ◌%◌, ◌<◌, ◌≤◌, false, List, [], ◌∷◌, ◌++◌, length, get_or, is_some, not, option_map, Option, Some, None, refl, sym, ap, subst, ◌∙◌, arith, ⊎_elim}
 use Rattle.std.proofs.lemmas.Bool.{cases_lt}
-use Rattle.std.proofs.lemmas.List.{length-append, get_or_append_left}
-use Rattle.std.proofs.lemmas.Nat.{mod-mul-add, mul-add-lt}
+use Rattle.std.proofs.lemmas.List.{length-append, get_or_append_left, get_or_default}
+use Rattle.std.proofs.lemmas.Nat.{mod-mul-add, mul-add-lt, mul-le}
 use Rattle.std.proofs.Math.Nat.{mul_comm}
 use Rattle.std.proofs.Math.Seq.{get_or-append_seam}
 use Rattle.r6_dev.specs.History.{Telling}
-use Rattle.r6_layout.specs.Shape.{Shape}
+use Rattle.r6_layout.specs.Shape.{Shape, IsShape}
 use Rattle.r6_dev.specs.OpenErrors.{IsOpenError}
 use Rattle.r6_dev.specs.declared.file.OpenError.TheVariants as refused
 use Rattle.r6_engine.specs.Errors.{IsOpeningFault, IsSlotFault}
@@ -47,6 +47,28 @@ is_some_told told (Some device) = refl
 pub number_below : (shape : Shape) (shard slot : ℕ) → shard < shape.shards → slot < shape.slots → part_number shape shard slot < shape.shards * shape.slots
 number_below shape shard slot in_shards in_slots =
     subst (λ (n : ℕ). part_number shape shard slot < n) (mul_comm shape.slots shape.shards) (mul-add-lt shard shape.slots slot shape.shards in_shards in_slots)
+
+-- the number as it is computed, from the count of the slots that was asked for
+pub number_within : (shape : Shape) (shard slot slots : ℕ) → slots ≡ shape.slots → shard < shape.shards → slot < shape.slots
+    → shard * slots + slot < shape.shards * shape.slots
+number_within shape shard slot slots same in_shards in_slots =
+    subst (λ (n : ℕ). shard * n + slot < shape.shards * shape.slots) (sym same) (number_below shape shard slot in_shards in_slots)
+
+pub number_fits : (shape : Shape) (shard slot slots : ℕ) → IsShape shape → slots ≡ shape.slots → shard < shape.shards → slot < shape.slots
+    → shard * slots + slot < 512
+number_fits shape shard slot slots is same in_shards in_slots =
+    omega (
+      arith,
+      number_within shape shard slot slots same in_shards in_slots,
+      mul-le shape.shards shape.slots 16 32 is.shards_allowed.1 is.slots_allowed.1,
+    )
+
+-- the part with a number is there exactly if the one that was looked at is
+pub part_told : {D : Type 0} (told : D → Telling) (parts : List (Option D)) (at number : ℕ) (part : Option D) → at ≡ number → number < length parts
+    → part ≡ get_or parts at part → is_some (parts_of told parts number) ≡ is_some part
+part_told told parts at number part same below is =
+    is_some_told told (get_or parts number None) ∙ ap is_some (get_or_default parts number None part below)
+    ∙ sym (ap (λ (n : ℕ). is_some (get_or parts n part)) same) ∙ ap is_some (sym is)
 
 pub opened_all : {D : Type 0} (shape : Shape) (lost : List ℕ) (parts : List (Option D))
     → Opened shape.slots lost (shape.shards * shape.slots) parts → AreThoseNotLost shape lost (parts_of tells_nothing parts)

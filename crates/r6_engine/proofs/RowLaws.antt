@@ -1,15 +1,16 @@
 -- One row of an array, read slot by slot.
-use Rattle.std.proofs.Common.{◌≡◌, ◌≢◌, ℕ, ◌+◌, ◌<◌, ◌≤◌, Bool, true, false, List, [], length, get_or, set, is_some, refl, sym, ap, subst, ◌∙◌, arith, ⊎_elim, replicate}
+use Rattle.std.proofs.Common.{◌≡◌, ◌≢◌, ℕ, ◌+◌, ◌<◌, ◌≤◌, Bool, true, false, List, [], length, get_or, set, is_some, Option, Some, None, refl, sym, ap, subst, ◌∙◌, arith, ⊎_elim, replicate}
 use Rattle.std.proofs.lemmas.Bool.{cases_eq, cases_lt, false≢true}
-use Rattle.std.proofs.lemmas.List.{get_or-set_same, get_or-set_other, get_or-replicate, get_or_past, length-set, length-replicate}
-use Rattle.r6_dev.specs.History.{Block}
+use Rattle.std.proofs.lemmas.List.{get_or-set_same, get_or-set_other, get_or-replicate, get_or_past, length-set, length-replicate, set-get_or}
+use Rattle.std.specs.Prelude.{option_map}
+use Rattle.r6_dev.specs.History.{Answers, Block, Reads, Telling}
 use Rattle.r6_layout.specs.Shape.{Shape, IsShape}
 use Rattle.r6_layout.specs.Layout.{OwnsRow, shard_of, slot_at, position_at, first_row}
 use Rattle.r6_layout.proofs.Roles.{slot_at-lt, position_at-lt, position_at-slot_at, slot_at-position_at}
 use Rattle.r6_layout.proofs.Shards.{OwnsRow-shard_of}
 use Rattle.r6_recover.specs.Known.{IsKnown}
 use Rattle.r6_recover.specs.Rows.{block_at}
-use Rattle.r6_engine.specs.Parts.{Parts, Devices, TellsRows, AllTell, OnlyRead, PartRead, part_number}
+use Rattle.r6_engine.specs.Parts.{Parts, Devices, TellsRows, AllTell, OnlyRead, PartRead, part_number, parts_of}
 use Rattle.r6_engine.specs.Rows.{AreThere, IsRow, ReadFails, SlotRead, RowRead, marked}
 use Rattle.r6_engine.specs.declared.row.SlotFault.{SlotFault}
 
@@ -21,6 +22,60 @@ only_read_both old between new first second = record {
   tells = λ number from end blocks tell. second.tells number from end blocks (first.tells number from end blocks tell);
   there = λ number. second.there number ∙ first.there number;
 }
+
+-- ---- one part
+
+tells_still : (old new : Telling) (row : ℕ) (block : Block) (first end : ℕ) (blocks : ℕ → Block) → Answers old (Reads row block) new
+    → TellsRows first end blocks (Some old) → TellsRows first end blocks (Some new)
+tells_still None new row block first end blocks answers tells = absurd tells
+tells_still (Some told) new row block first end blocks answers tells = subst (λ (t : Telling). TellsRows first end blocks (Some t)) (sym answers.1) tells
+
+tells_block : (old new : Telling) (row : ℕ) (block : Block) (first end : ℕ) (blocks : ℕ → Block) → Answers old (Reads row block) new
+    → first ≤ row → row < end → TellsRows first end blocks (Some old) → block ≡ blocks row
+tells_block None new row block first end blocks answers from below tells = absurd tells
+tells_block (Some told) new row block first end blocks answers from below tells = answers.0 ∙ tells row from below
+
+-- a part that is there answered a read
+pub part_read : {D : Type 0} (told : D → Telling) (parts : List (Option D)) (number row : ℕ) (block : Block) (device next : D)
+    → number < length parts → get_or parts number None ≡ Some device → Answers (told device) (Reads row block) (told next)
+    → PartRead (parts_of told parts) (parts_of told (set parts number (Some next))) number row true block
+part_read told parts number row block device next within is answers =
+    let old : Parts = parts_of told parts in
+    let new : Parts = parts_of told (set parts number (Some next)) in
+    let was : old number ≡ Some (told device) = ap (option_map told) is in
+    let now : new number ≡ Some (told next) = ap (option_map told) (get_or-set_same parts number (Some next) None within) in
+    let other : (n : ℕ) → n ≢ number → new n ≡ old n = λ n apart. ap (option_map told) (get_or-set_other parts number n (Some next) None apart) in
+    record {
+      only_read = record {
+        tells = λ n first end blocks tells.
+            ⊎_elim
+            (λ (here : n ≡ number).
+            subst (λ (k : ℕ). TellsRows first end blocks (new k)) (sym here)
+            (subst (TellsRows first end blocks) (sym now)
+            (tells_still (told device) (told next) row block first end blocks answers
+            (subst (TellsRows first end blocks) was (subst (λ (k : ℕ). TellsRows first end blocks (old k)) here tells)))))
+            (λ (apart : n ≢ number). subst (TellsRows first end blocks) (sym (other n apart)) tells)
+            (cases_eq n number);
+        there = λ n.
+            ⊎_elim
+            (λ (here : n ≡ number). ap (λ (k : ℕ). is_some (new k)) here ∙ ap is_some now ∙ sym (ap is_some was) ∙ sym (ap (λ (k : ℕ). is_some (old k)) here))
+            (λ (apart : n ≢ number). ap is_some (other n apart))
+            (cases_eq n number);
+      };
+      gives = λ _ first end blocks from below tells. tells_block (told device) (told next) row block first end blocks answers from below (subst (TellsRows first end blocks) was tells);
+      is_there = sym (ap is_some was);
+    }
+
+-- a part that isn't there is left as it is
+pub part_absent : {D : Type 0} (told : D → Telling) (parts : List (Option D)) (number row : ℕ) (block : Block) (part : Option D)
+    → get_or parts number None ≡ None → PartRead (parts_of told parts) (parts_of told (set parts number (get_or parts number part))) number row false block
+part_absent told parts number row block part none =
+    let read : OnlyRead (parts_of told parts) (parts_of told parts) = only_read_none (parts_of told parts) in
+    record {
+      only_read = subst (λ after. OnlyRead (parts_of told parts) (parts_of told after)) (sym (set-get_or parts number part)) read;
+      gives = λ yes'. absurd (false≢true yes');
+      is_there = sym (ap is_some (ap (option_map told) none));
+    }
 
 pub all_tell_still : (shape : Shape) (old new : Parts) (device : Devices) → OnlyRead old new → AllTell shape old device → AllTell shape new device
 all_tell_still shape old new device read tell =

@@ -1,5 +1,5 @@
 -- The rows of a shard, checked as rows of an array of one shard.
-use Rattle.std.proofs.Common.{◌≡◌, ℕ, ◌+◌, ◌-◌, ◌*◌, ◌<◌, ◌≤◌, List, [], ◌∷◌, ◌++◌, length, get_or, is_some, Option, Some, None, refl, sym, ap, subst, ◌∙◌, arith, ⊎_elim, add-one, add-zero, zero-add, map, drop, lit≤}
+use Rattle.std.proofs.Common.{◌≡◌, ℕ, ◌+◌, ◌-◌, ◌*◌, ◌<◌, ◌≤◌, List, [], ◌∷◌, ◌++◌, length, get_or, is_some, Option, Some, None, refl, sym, ap, subst, ◌∙◌, arith, ⊎_elim, add-one, add-zero, zero-add, map, drop, take, lit≤}
 use Rattle.std.proofs.Math.Nat.{suc-mul, zero-mul}
 use Rattle.std.proofs.lemmas.Bool.{cases_lt}
 use Rattle.std.proofs.lemmas.List.{drop_more, get_or_append_left, get_or-append_right, length-append, length-map}
@@ -21,6 +21,7 @@ use Rattle.r6_engine.specs.declared.report.Report.{Report}
 use Rattle.r6_engine.specs.declared.report.RowFault.{RowFault}
 use Rattle.r6_engine.specs.declared.row.SlotFault.{SlotFault}
 use Rattle.r6_engine.specs.declared.shard_check.ShardCheck.{ShardCheck}
+use Rattle.r6_engine.proofs.CheckLaws.{written}
 use Rattle.r6_engine.proofs.PartLaws.{AreFaultless, AreReports, are_joined, faultless}
 use Rattle.r6_engine.proofs.ReportLaws.{Checked, none_checked}
 use Rattle.r6_engine.proofs.RowLaws.{only_read_none}
@@ -291,6 +292,22 @@ first_fits parts checks rest first count all is own =
     let both = ap (λ l. length (flat_map own_parts l)) is in
     let long = length-append first.parts.items (flat_map own_parts rest) in
     omega (arith, all, both, long, own)
+
+-- the parts of the first check and those of the others, exchanged
+pub exchanged_lent : {D : Type 0} (parts own others given : List (Option D)) (items : List (Option D)) (count : ℕ) (rest : List (ShardCheck D))
+    → parts ≡ own ++ others → given ≡ own → count ≡ length given → flat_map own_parts rest ≡ others
+    → take count (given ++ drop (length given) items) ++ flat_map own_parts rest ≡ parts
+exchanged_lent parts own others given items count rest cut lent all behind =
+    ap (λ l. l ++ flat_map own_parts rest) (written given (drop (length given) items) count all)
+    ∙ ap (λ l. l ++ flat_map own_parts rest) lent ∙ ap (λ l. own ++ l) behind ∙ sym cut
+
+pub no_checks : {D : Type 0} (checks : List (ShardCheck D)) → length checks ≡ 0 → checks ≡ []
+no_checks [] none = refl
+no_checks (check ∷ checks) none = absurd (omega (arith, none))
+
+pub no_parts_left : {D : Type 0} (parts : List (Option D)) → length parts ≡ 0 → parts ≡ []
+no_parts_left [] none = refl
+no_parts_left (part ∷ parts) none = absurd (omega (arith, none))
 
 -- ---- what was read
 

@@ -1,12 +1,30 @@
-use Rattle.std.proofs.Common.{◌≡◌, ℕ, ◌+◌, ◌<◌, List, length, get_or, drop, sym, ap, subst, ◌∙◌, arith}
+use Rattle.std.proofs.Common.{◌≡◌, ℕ, ◌+◌, ◌<◌, List, Option, Some, length, get_or, drop, sym, ap, subst, ◌∙◌, arith}
 use Rattle.r6_engine.specs.Parts.{OnlyRead, parts_of}
-use Rattle.r6_engine.specs.Reports.{noted}
-use Rattle.r6_engine.specs.RowChecks.{AreClassified, HasRoom}
+use Rattle.std.specs.Prelude.{IfSome}
+use Rattle.r6_engine.specs.Reports.{IsReport, noted}
+use Rattle.r6_engine.specs.Rows.{ReadFails}
+use Rattle.r6_engine.specs.RowChecks.{AllFit, AreClassified, HasRoom}
+use Rattle.r6_engine.specs.declared.row.SlotFault.{SlotFault}
 use Rattle.r6_engine.specs.declared.row_check.RowCheck.{RowCheck}
-use Rattle.r6_engine.proofs.CheckLaws.{IsInFront, all_fit_classified, checked_in_batch, fails_since, in_front, in_front_since, written}
-use Rattle.r6_engine.proofs.ReportLaws.{Checked, none_checked}
+use Rattle.r6_engine.proofs.CheckLaws.{IsInFront, all_fit_classified, checked_in_batch, fails_since, in_front, in_front_since, none_fails, written}
+use Rattle.r6_engine.proofs.ReportLaws.{Checked, none_checked, report_at_end, report_at_fault}
 use Rattle.r6_engine.proofs.RowLaws.{only_read_both, only_read_none}
 use Rattle.r6_engine.proofs.check.verify_rows.Goals as goal
+
+pub count_of_rows-count-requires : goal.count_of_rows-count-requires
+count_of_rows-count-requires g c = record {
+  within = omega arith;
+  some = omega (arith, c.len.ensures, c.requires.front.some, c.args.front.ok.0);
+}
+
+pub read_batch-read-requires : goal.read_batch-read-requires
+read_batch-read-requires g c = record {
+  parts = c.requires.parts;
+  within = c.count_of_rows-count.ensures.within;
+  bounded = omega (arith, c.rows-rows.ensures.limits.rows_allowed.1);
+  places = omega (arith, c.count_of_rows-count.ensures.room, c.len.ensures, c.as_mut_slice.ensures.len);
+  room = subst (AllFit c.args.geometry.now) (sym c.as_mut_slice.ensures.value) c.requires.front.room;
+}
 
 pub loop-row-init : goal.loop-row-init
 loop-row-init g c =
@@ -31,6 +49,49 @@ loop-row-init g c =
       only_read = read.only_read;
       checked = subst (Checked shape started 0) (sym c.new-report.ensures) (none_checked shape started);
     }
+
+pub overflow_add-end : goal.overflow_add-end
+overflow_add-end g c = omega (arith, c.loop-row.invariant.within, c.rows-rows.ensures.limits.rows_allowed.1)
+
+pub count_behind-count-requires : goal.count_behind-count-requires
+count_behind-count-requires g c = record {
+  within = c.loop-row.invariant.within;
+  some = omega (arith, c.len-in-loop-row.ensures, c.loop-row.invariant.behind.some, c.loop-row.behind.ok.0);
+}
+
+pub classify_and_read-next-requires : goal.classify_and_read-next-requires
+classify_and_read-next-requires g c =
+    let behind = c.as_mut_slice-in-loop-row-2.ensures in (
+      c.type_bounds.sync-R,
+      (
+        c.loop-row.auto.parts ∙ c.read_batch-read.auto.parts ∙ c.requires.parts,
+        (
+          c.count_behind-count.ensures.within,
+          (
+            omega (arith, c.rows-rows.ensures.limits.rows_allowed.1),
+            (
+              omega (arith, c.count_behind-count.ensures.room, c.len-in-loop-row.ensures, behind.len),
+              subst (AllFit c.args.geometry.now) (sym behind.value) c.loop-row.invariant.behind.room,
+            ),
+          ),
+        ),
+      ),
+    )
+
+pub loop-index-init : goal.loop-index-init
+loop-index-init g c =
+    let same : c.loop-row.row ≡ c.loop-row.row + 0 = omega arith in
+    subst (λ (n : ℕ). Checked c.args.geometry.now (parts_of g.D.BlockDevice.told c.args.parts.now) n c.loop-row.report) same c.loop-row.invariant.checked
+
+pub overflow_add-row : goal.overflow_add-row
+overflow_add-row g c = omega (arith, c.loop-index-test.true, c.loop-row.invariant.within, c.rows-rows.ensures.limits.rows_allowed.1)
+
+pub index-requires : goal.index-requires
+index-requires g c = omega (arith, c.loop-index-test.true, c.loop-row.invariant.front.places, c.loop-row.front.ok.0)
+
+pub note-requires : goal.note-requires
+note-requires g c =
+    omega (arith, c.loop-index.invariant.each_once, c.loop-index-test.true, c.loop-row.invariant.within, c.rows-rows.ensures.limits.rows_allowed.1)
 
 pub loop-index-preserved : goal.loop-index-preserved
 loop-index-preserved g c =
@@ -96,4 +157,32 @@ loop-row-preserved g c =
           unread c.count_behind-count.ensures.within read.fails;
       only_read = λ none. only_read_both started now next unread (read.only_read none);
       checked = subst (λ (n : ℕ). Checked shape started (c.loop-row.row + n) c.loop-index.report) count c.loop-index.invariant;
+    }
+
+pub returns-in-Some : goal.returns-in-Some
+returns-in-Some g c =
+    let shape = c.args.geometry.now in
+    let started = parts_of g.D.BlockDevice.told c.args.parts.now in
+    let report = c.loop-index.report in
+    let end : ℕ = c.loop-row.row + c.loop-row.read.rows in
+    let count : c.loop-index.index ≡ c.loop-row.read.rows = omega (arith, c.loop-index-test.false, c.loop-index.auto.index-end) in
+    let checked = subst (λ (n : ℕ). Checked shape started (c.loop-row.row + n) report) count c.loop-index.invariant in
+    let fails = subst (λ (fault : Option SlotFault). IfSome fault (λ it. (end < shape.rows) × ReadFails shape started end it)) c.in-Some.is c.loop-row.invariant.fails in
+    record {
+      report = subst (λ (it : SlotFault). IsReport shape started (record report { fault = Some (record { row = end; slot = it.slot; fault = it.fault }) }))
+          (sym c.in-Some.field-0-is) (report_at_fault shape started end c.in-Some.field-0 report checked fails.0 fails.1);
+      kept = λ none. absurd cc;
+    }
+
+pub returns : goal.returns
+returns g c =
+    let shape = c.args.geometry.now in
+    let started = parts_of g.D.BlockDevice.told c.args.parts.now in
+    let so_far = c.loop-row.invariant in
+    let report = c.loop-row.report in
+    let read = c.loop-row.read in
+    let all : c.loop-row.row ≡ shape.rows = omega (arith, c.loop-row-test.false, so_far.within, c.rows-rows.ensures.value) in
+    record {
+      report = report_at_end shape started report (subst (λ (n : ℕ). Checked shape started n report) all so_far.checked);
+      kept = λ _. so_far.only_read (none_fails shape started (c.loop-row.row + read.rows) read.fault (omega (arith, all)) so_far.fails);
     }
