@@ -1,12 +1,12 @@
 -- Requests in a line, each with what it waits for.
-use Rattle.std.proofs.Common.{◌≡◌, ◌≢◌, ◌⊎◌, inl, inr, ℕ, Bool, true, false, List, [], ◌∷◌, ◌++◌, drop, length, map, refl, sym, ap, subst, ◌∙◌, Some, None, IsPermutation, arith}
-use Rattle.std.specs.Prelude.{◌==◌, ◌||◌, if◌then◌else◌, option_map}
+use Rattle.std.proofs.Common.{◌≡◌, ◌≢◌, ◌⊎◌, inl, inr, ℕ, Bool, true, false, List, [], ◌∷◌, ◌++◌, length, map, refl, sym, ap, subst, ◌∙◌, Some, None, IsPermutation, arith}
+use Rattle.std.specs.Prelude.{◌==◌, ◌||◌, if◌then◌else◌}
 use Rattle.std.specs.List.{AllByRecursion}
 use Rattle.std.proofs.lemmas.Bool.{eq-eqb, ne_eqb, cases_eq}
 use Rattle.std.proofs.lemmas.List.{map-append}
 use Rattle.std.proofs.lemmas.List.Elements.{All-from_recursion, recursion_from_All}
 use Rattle.std.proofs.lemmas.List.Sorted.{All-permutation}
-use Rattle.r6_waiters.specs.Line.{Entries, Line, capacity_of, causes_of, first_of, oldest_of, older_of, without_oldest, oldest_moved, all_moved, gathered}
+use Rattle.r6_waiters.specs.Line.{Entries, Line, capacity_of, causes_of, oldest_of, older_of, without_oldest, oldest_moved, all_moved, gathered}
 
 -- ---- one of two numbers
 
@@ -78,15 +78,6 @@ module _ {X : Type 0} where
   -- as many can wait, for as many causes
   abbrev pub SameRoom : Line X → Line X → Type 0
   SameRoom old new = (capacity_of new ≡ capacity_of old) × (causes_of new ≡ causes_of old)
-
-  -- the oldest of all is the first
-  pub values_first : (es : Entries X) (x : X) → option_map (λ entry. entry.1) (first_of es) ≡ Some x → values es ≡ x ∷ values (drop 1 es)
-  values_first [] x is = absurd (cc is)
-  values_first ((c, y) ∷ es) x is = let same : y ≡ x = cc in ap (λ z. z ∷ values es) same
-
-  pub values_none : (es : Entries X) → option_map (λ entry. entry.1) (first_of es) ≡ None → values es ≡ []
-  values_none [] is = refl
-  values_none ((c, y) ∷ es) is = absurd (cc is)
 
   -- ---- where all wait for one cause
 

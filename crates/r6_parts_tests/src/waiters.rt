@@ -26,7 +26,6 @@ enum Step {
     Push(usize, u32),
     Oldest(usize),
     Pop(usize),
-    PopAny,
     /// The oldest with the key.
     Take(u64),
     /// The oldest of the first cause waits for the second.
@@ -45,7 +44,6 @@ fn answer(line: &mut Line, step: &Step) -> Option<u32> {
         }
         Step::Oldest(cause) if *cause < line.causes() => line.oldest(*cause).copied(),
         Step::Pop(cause) if *cause < line.causes() => line.pop_oldest(*cause),
-        Step::PopAny => line.pop_any(),
         Step::Take(key) => line.take(*key, [1, 9]),
         Step::MoveOldest(from, to) if *from < line.causes() && *to < line.causes() => {
             line.move_oldest(*from, *to).then_some(0)
@@ -98,18 +96,18 @@ const COURSES: &[&[(Step, Option<u32>)]] = &[
     ],
     // all go out by age whatever they wait for
     &[
-        (Step::PopAny, None),
+        (Step::Pop(2), None),
         (Step::Push(2, 5), Some(5)),
         (Step::Push(0, 6), Some(6)),
         (Step::Push(1, 7), Some(7)),
         (Step::Push(2, 8), Some(8)),
-        (Step::PopAny, Some(5)),
-        (Step::PopAny, Some(6)),
         (Step::Gather(0), Some(0)),
         (Step::Pop(2), None),
+        (Step::Pop(0), Some(5)),
+        (Step::Pop(0), Some(6)),
         (Step::Pop(0), Some(7)),
         (Step::Pop(0), Some(8)),
-        (Step::PopAny, None),
+        (Step::Pop(0), None),
     ],
     // the oldest with a key goes out whatever it waits for
     &[
@@ -141,9 +139,7 @@ fn entries_go_out_by_age(rt: HostRuntime) -> Result<(), Fail> {
 
 /// Whether a line of four entries and three causes is empty.
 fn is_empty(line: &Line) -> bool {
-    line.is_empty()
-        && line.oldest_cause().is_none()
-        && (line.len(), line.capacity(), line.causes()) == (0, 4, 3)
+    line.is_empty() && (line.len(), line.capacity(), line.causes()) == (0, 4, 3)
 }
 
 /// Whether entries that come for cause 0 are taken by their keys, while others stay.
@@ -199,7 +195,8 @@ fn keeps_ages(line: &mut Line) -> bool {
         (Step::MoveAll(0, 1), Some(0)),
         (Step::Pop(1), Some(38)),
         (Step::Pop(1), Some(39)),
-        (Step::PopAny, None),
+        (Step::Gather(0), Some(0)),
+        (Step::Pop(0), None),
     ];
     plays(line, first) && is_passed_through(line) && plays(line, last)
 }
@@ -224,7 +221,8 @@ fn have_gone(line: &mut Line, first: u32, end: u32) -> bool {
     true
 }
 
-/// Whether a line with room for a hundred entries is full of them, and they go out by age, whatever moves.
+/// Whether a line with room for a hundred entries is full of them, and they go out by age, whatever moves, or by key.
+/// When it makes room there is nothing in the first 150 of its places.
 fn is_passed_by_many(line: &mut Line) -> bool {
     have_come(line, 0, 100)
         && answer(line, &Step::Push(0, 100)) == None
@@ -235,7 +233,9 @@ fn is_passed_by_many(line: &mut Line) -> bool {
         && have_gone(line, 90, 150)
         && have_come(line, 190, 250)
         && answer(line, &Step::Gather(1)) == Some(0)
-        && have_gone(line, 150, 250)
+        && answer(line, &Step::Take(20)) == Some(200)
+        && have_gone(line, 150, 200)
+        && have_gone(line, 201, 250)
         && line.is_empty()
 }
 

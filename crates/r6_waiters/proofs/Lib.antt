@@ -1,5 +1,5 @@
 pub mod ByKey
-pub mod First
+pub mod Dropped
 pub mod Gathered
 pub mod Lines
 pub mod Marks

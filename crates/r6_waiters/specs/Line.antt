@@ -71,11 +71,6 @@ abbrev pub gathered : {X : Type 0} → ℕ → Entries X → Entries X
 gathered cause [] = []
 gathered cause (entry ∷ entries) = (cause, entry.1) ∷ gathered cause entries
 
--- the oldest entry of all
-abbrev pub first_of : {X : Type 0} → Entries X → Option (ℕ × X)
-first_of [] = None
-first_of (entry ∷ entries) = Some entry
-
 -- each entry waits for a cause below this one
 abbrev pub AreBelow : {X : Type 0} → ℕ → Entries X → Type 0
 AreBelow causes [] = Unit {0}

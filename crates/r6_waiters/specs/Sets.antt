@@ -43,9 +43,3 @@ HaveRoom sets limit = (cause : ℕ) → cause < length sets → limit ≤ 64 * l
 -- the sets are as many as others, and each has as much room
 abbrev pub AreAsWide : List (List ℕ) → List (List ℕ) → Type 0
 AreAsWide sets others = (length others ≡ length sets) × ((cause : ℕ) → length (slice_index_or others cause []) ≡ length (slice_index_or sets cause []))
-
--- of the sets of the first causes: the lowest position that one has, and its cause
-abbrev pub IsFirstBelow : List (List ℕ) → ℕ → Option (ℕ × ℕ) → Type 0
-IsFirstBelow sets causes None = (cause position : ℕ) → cause < causes → is_marked sets cause position ≡ false
-IsFirstBelow sets causes (Some (lowest, first)) = (is_marked sets first lowest ≡ true) × (first < causes)
-    × ((cause position : ℕ) → cause < causes → position < lowest → is_marked sets cause position ≡ false)

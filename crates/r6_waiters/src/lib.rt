@@ -1,6 +1,7 @@
 //! Entries that wait, in lines that take all their memory when they are made.
 #![tactic(auto)]
 
+mod front;
 mod keyed;
 mod positions;
 mod waiters;

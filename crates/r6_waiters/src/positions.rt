@@ -102,6 +102,21 @@ impl Positions {
         }
     }
 
+    /// Moves the positions down by those of so many words, and takes those that are below out.
+    pub(crate) fn move_down(&mut self, words: usize)
+        requires { words ≤ length self.old }
+        ensures has { (i : ℕ) → has self.new i ≡ has self.old (64 * words + i) }
+        ensures room { length self.new ≡ length self.old }
+    {
+        let left = self.words.len() - words;
+        for index in 0..left {
+            self.words[index] = self.words[index + words];
+        }
+        for index in left..self.words.len() {
+            self.words[index] = 0;
+        }
+    }
+
     /// Puts the positions of the other set in, which is empty then.
     pub(crate) fn take_all(&mut self, other: &mut Positions)
         requires { length other.old ≡ length self.old }

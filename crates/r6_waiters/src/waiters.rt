@@ -3,9 +3,10 @@
 ghost use Rattle.std.specs.Prelude.{◌≡◌, ◌+◌, ◌*◌, ◌<◌, ◌≤◌, ◌^◌, ◌/◌, ◌==◌, ◌&&◌, ◌++◌, ◌∷◌, [], ℕ, true, false, nat_lt, length, replicate, slice_set, if◌then◌else◌, IsTrue, IfOk, IfErr, OnOk, IfSome, MatchOption, option_copied, option_map, None, is_some, drop, vec_capacity, ◌↔◌};
 ghost use Rattle.std.specs.List.{filter};
 ghost use Rattle.r6_waiters.specs.Positions.{has, HasNone};
-ghost use Rattle.r6_waiters.specs.Sets.{place_at, is_marked, cause_at, waiting, IsMarked, HaveRoom, AreAsWide, IsFirstBelow};
+ghost use Rattle.r6_waiters.specs.Sets.{place_at, is_marked, cause_at, waiting, IsMarked, HaveRoom, AreAsWide};
 ghost use Rattle.r6_waiters.specs.Keys.{AreClassed};
 
+use crate::front::{drop_front, empty_words};
 use crate::keyed::{CLASSES, KeyOf, append, find, mark_keys, set_for, take};
 use crate::positions::Positions;
 use std::alloc::{AllocError, Global};
@@ -47,7 +48,7 @@ impl<V, K: KeyOf<V>> Model for Waiters<V, K> {
 }
 
 impl<V: Drop, K: KeyOf<V>> Waiters<V, K> {
-    ghost use Rattle.r6_waiters.specs.Line.{capacity_of, causes_of, entries_of, with_entries, oldest_of, older_of, without_oldest, oldest_keyed, without_oldest_keyed, oldest_moved, all_moved, gathered, first_of, AreBelow};
+    ghost use Rattle.r6_waiters.specs.Line.{capacity_of, causes_of, entries_of, with_entries, oldest_of, older_of, without_oldest, oldest_keyed, without_oldest_keyed, oldest_moved, all_moved, gathered, AreBelow};
 
     /// An empty line with room for `capacity` entries, which wait for causes below `causes`.
     ///
@@ -172,24 +173,6 @@ impl<V: Drop, K: KeyOf<V>> Waiters<V, K> {
         take::<V, K>(&mut self.places, &mut self.keyed, found)
     }
 
-    /// The cause that the oldest entry of all waits for. This takes time for each cause.
-    pub fn oldest_cause(&self) -> Option<usize>
-        ensures cause { result ≡ option_map (λ entry. entry.0) (first_of (entries_of self.now)) }
-        ensures within { IfSome result (λ cause. cause < causes_of self.now) }
-    {
-        Some(first_marked(&self.sets)?.1)
-    }
-
-    /// Takes the oldest entry of all out, whatever it waits for. This takes time for each cause: where all entries
-    /// are to go, [`Waiters::gather`] them first.
-    pub fn pop_any(&mut self) -> Option<V>
-        ensures value { result ≡ option_map (λ entry. entry.1) (first_of (entries_of self.old)) }
-        ensures rest { self.new ≡ with_entries self.old (drop 1 (entries_of self.old)) }
-    {
-        let cause = self.oldest_cause()?;
-        self.pop_oldest(cause)
-    }
-
     /// Lets the oldest entry that waits for one cause wait for another, at its age, and answers whether there was one.
     pub fn move_oldest(&mut self, from: usize, to: usize) -> bool
         requires from { from < causes_of self.old }
@@ -276,37 +259,6 @@ fn holds(sets: &[Positions], cause: usize, position: usize) -> bool
     }
 }
 
-// The lowest position in any set, and its cause.
-fn first_marked(sets: &[Positions]) -> Option<(usize, usize)>
-    ensures { IsFirstBelow sets.now (length sets.now) result }
-{
-    let mut first = None;
-    for cause in 0..sets.len() {
-        first = first_with(sets, first, cause);
-    }
-    first
-}
-
-// The lowest position in the sets of the earlier causes and in this one's.
-fn first_with(
-    sets: &[Positions],
-    first: Option<(usize, usize)>,
-    cause: usize,
-) -> Option<(usize, usize)>
-    requires within { cause < length sets.now }
-    requires earlier { IsFirstBelow sets.now cause first }
-    ensures { IsFirstBelow sets.now (cause + 1) result }
-{
-    let position = match sets[cause].lowest() {
-        Some(position) => position,
-        None => return first,
-    };
-    match first {
-        Some((lowest, earlier)) if lowest < position => Some((lowest, earlier)),
-        _ => Some((position, cause)),
-    }
-}
-
 // Sees to it that there are fewer places than the limit.
 fn make_room<V: Drop, K: KeyOf<V>>(
     places: &mut Vec<(usize, Option<V>)>,
@@ -319,6 +271,7 @@ fn make_room<V: Drop, K: KeyOf<V>>(
     requires wide { HaveRoom sets.old.items (length places.old.items) }
     requires as_wide { HaveRoom keyed.old.items (length places.old.items) }
     requires few { length (waiting (cause_at sets.old.items) places.old.items) < limit }
+    requires within { length places.old.items ≤ limit }
     ensures marked { IsMarked sets.new.items places.new.items (cause_at sets.new.items) }
     ensures classed { AreClassed K.key_of keyed.new.items places.new.items }
     ensures same { waiting (cause_at sets.new.items) places.new.items
@@ -329,6 +282,39 @@ fn make_room<V: Drop, K: KeyOf<V>>(
     ensures keyed { AreAsWide keyed.old.items keyed.new.items }
 {
     if places.len() >= limit {
+        free_places::<V, K>(places, sets, keyed, limit);
+    }
+}
+
+// Lets go of empty places. Where more than a quarter of them comes before the first entry, as in a line that goes in the
+// order of its age, nothing but these goes.
+#[cold]
+#[inline(never)]
+fn free_places<V: Drop, K: KeyOf<V>>(
+    places: &mut Vec<(usize, Option<V>)>,
+    sets: &mut [Positions],
+    keyed: &mut [Positions],
+    limit: usize,
+)
+    requires marked { IsMarked sets.old places.old.items (cause_at sets.old) }
+    requires classed { AreClassed K.key_of keyed.old places.old.items }
+    requires wide { HaveRoom sets.old (length places.old.items) }
+    requires as_wide { HaveRoom keyed.old (length places.old.items) }
+    requires few { length (waiting (cause_at sets.old) places.old.items) < limit }
+    requires full { length places.old.items ≡ limit }
+    ensures marked { IsMarked sets.new places.new.items (cause_at sets.new) }
+    ensures classed { AreClassed K.key_of keyed.new places.new.items }
+    ensures same { waiting (cause_at sets.new) places.new.items
+        ≡ waiting (cause_at sets.old) places.old.items }
+    ensures room { length places.new.items < limit }
+    ensures capacity { vec_capacity places.new ≡ vec_capacity places.old }
+    ensures sets { AreAsWide sets.old sets.new }
+    ensures keyed { AreAsWide keyed.old keyed.new }
+{
+    let words = empty_words(places);
+    if words > limit / 256 {
+        drop_front::<V, K>(places, sets, keyed, words);
+    } else {
         sweep(places, sets);
         mark_keys::<V, K>(places, keyed);
     }
