@@ -27,7 +27,7 @@ use Rattle.r6_core.specs.declared.refusal.Receipt.{Receipt}
 use Rattle.r6_core.specs.Shards.{CoreView, Step, world_shard, completion_of, receipt_of}
 use Rattle.r6_core.specs.Effects.{IsMade, Receives}
 use Rattle.r6_core.specs.Runs.{Happening, Call, Perform, Tell, Outside, Moment, in_world, moment_of, cores_after, MayHappen, CoresRun, AreMade, IsShard, AreShards, StayShards}
-use Rattle.r6_core.specs.Courses.{events_in, events_of, cores_behind, HasRun, Fails, Reads, Writes, Tells, FindsLoss, ReadsAround, RunsThroughLoss, two_shards, both, RunsBesideLoss}
+use Rattle.r6_core.specs.Courses.{events_in, events_of, cores_behind, HasRun, Fails, Reads, Writes, Tells, FindsLoss, Restores, ReadsAround, RunsThroughLoss, two_shards, both, AreBothMade, RunsBesideLoss}
 use Rattle.r6_core.proofs.Runs.{are_runs}
 use Rattle.r6_core.proofs.Unperformed.{unperformed}
 
@@ -367,7 +367,7 @@ alone old new = record { own = refl; others = λ m below ne. absurd (omega (arit
 declared-small : answer_to small (starting 0) (DeclareLost 1 0) ≡ Ok Degraded
 declared-small = refl
 
-pub through_loss : IsShape smallest → (c0 c1 c2 c3 c4 c5 c6 c7 : CoreView) (other parity block : Block) → IsMade smallest (starting 0) 0 c0
+through_loss : IsShape smallest → (c0 c1 c2 c3 c4 c5 c6 c7 : CoreView) (other parity block : Block) → IsMade smallest (starting 0) 0 c0
     → Step c0 (Submit (Read 0) 0) c1 → Fails c1 c2 → Tells (LossOf 1 0) Degraded c2 c3 → Reads 2 0 0 other c3 c4 → Reads 3 0 0 parity c4 c5
     → Step c5 (Look (without (starting 0) 1)) c6 → Step c6 (Take_reply 0 (Data block)) c7 → RunsThroughLoss other parity block c7
 through_loss limits c0 c1 c2 c3 c4 c5 c6 c7 other parity block made submitted f declared second third looked replied = record {
@@ -392,6 +392,12 @@ through_loss limits c0 c1 c2 c3 c4 c5 c6 c7 other parity block made submitted f 
         ends smallest limits Ours Comes below device array lawful device _ (λ m. c7) _ x7 (without (starting 0) 1) register,
       );
 }
+
+pub by_one : IsShape smallest → (a b c : CoreView) (other parity block : Block) (register : Snapshot) → IsMade smallest (starting 0) 0 a → register ≡ without (starting 0) 1
+    → FindsLoss a b → Restores 2 3 0 register other parity block b c → RunsThroughLoss other parity block c
+by_one limits a b c other parity block register made is found at =
+    through_loss limits a found.asking found.failing b at.half at.whole at.seeing c other parity block made found.asked found.failed found.declared at.first at.second
+    (subst (λ (r : Snapshot). Step at.whole (Look r) at.seeing) is at.looked) at.replied
 
 -- ---- two cores
 
@@ -449,10 +455,10 @@ beside_loss limits a0 a1 a2 a3 b0 b1 b2 b3 b4 b5 b6 other parity block first sec
       );
 }
 
-pub by_both : IsShape two_shards → (a b c d : CoreView) (other parity block : Block) (register : Snapshot)
-    → IsMade two_shards (starting 0) 0 a → IsMade two_shards (starting 0) 1 c → register ≡ without (starting 0) 1
-    → FindsLoss a b → ReadsAround register other parity block c d → RunsBesideLoss other parity block b d
-by_both limits a b c d other parity block register first second is found around =
-    beside_loss limits a found.asking found.failing b c around.looking around.asking around.half around.whole around.seeing d other parity block first second
-    found.asked found.failed found.declared (subst (λ (r : Snapshot). Step c (Look r) around.looking) is around.saw) around.asked around.first around.second
-    (subst (λ (r : Snapshot). Step around.whole (Look r) around.seeing) is around.looked) around.replied
+pub by_both : (a b c d : CoreView) (other parity block : Block) (start register : Snapshot)
+    → AreBothMade start a c → register ≡ without (starting 0) 1 → FindsLoss a b → ReadsAround register other parity block c d → RunsBesideLoss other parity block b d
+by_both a b c d other parity block start register made is found around =
+    let at = around.restored in
+    beside_loss made.limits a found.asking found.failing b c around.looking around.asking at.half at.whole at.seeing d other parity block made.here made.there
+    found.asked found.failed found.declared (subst (λ (r : Snapshot). Step c (Look r) around.looking) is around.saw) around.asked at.first at.second
+    (subst (λ (r : Snapshot). Step at.whole (Look r) at.seeing) is at.looked) at.replied

@@ -23,8 +23,8 @@ use Rattle.r6_core.specs.declared.rebuild_course.LostRow.{LostRow}
 use Rattle.r6_core.specs.Shards.{CoreView, Step}
 use Rattle.r6_core.specs.Effects.{IsMade}
 use Rattle.r6_core.specs.Runs.{AreMade, IsShard}
-use Rattle.r6_core.specs.Courses.{of_core, HasRun, Reads, Writes, Tells, two_shards, both}
-use Rattle.r6_core.specs.RebuildCourses.{RebuildsRow, Replaces, RebuildsBoth, ReadsBack, Turned, rebuild_events, with_lost, with_new, half_rebuilt, rebuilt, RunsThroughRebuild}
+use Rattle.r6_core.specs.Courses.{of_core, HasRun, Reads, Writes, Tells, two_shards, both, AreBothMade}
+use Rattle.r6_core.specs.RebuildCourses.{RebuildsRow, Replaces, RebuildsBoth, ReadsBack, RebuildsAndReads, Turned, rebuild_events, with_lost, with_new, half_rebuilt, rebuilt, RunsThroughRebuild}
 use Rattle.r6_core.proofs.Courses.{append-assoc, with_block, Becomes, Leads, Onward, calls, reads, writes, tells, comes, put-first, put-then, starts, ends, first_goes, second_goes, made-both}
 
 -- what a call that is not refused ensures of its answer
@@ -215,16 +215,20 @@ through_rebuild limits a0 a1 a2 a3 a4 a5 a6 a7 a8 b0 b1 b2 b3 b4 here there bloc
     }
 
 -- what the functions of the course ensure, at the registers that they have
-pub by_parts : IsShape two_shards → (a0 a1 a2 a3 b0 b1 b2 : CoreView) (here there : LostRow) (block : Block) (start attached whole : Snapshot)
-    → IsMade two_shards (starting 0) 0 a0 → IsMade two_shards (starting 0) 1 b0 → start ≡ starting 0
-    → Replaces start attached a0 b0 a1 b1 → RebuildsBoth attached here there whole a1 b1 a2 b2 → ReadsBack whole here.lost block a2 a3
-    → RunsThroughRebuild here there block a3 b2
-by_parts limits a0 a1 a2 a3 b0 b1 b2 here there block start attached whole first second is replaced rebuilds back =
-    let lost : replaced.lost ≡ with_lost = replaced.lost_is ∙ ap (λ r. after 2 r (Fail 1)) is in
-    let new : attached ≡ with_new = replaced.attached_is ∙ ap (λ r. after 2 r (Attach 1)) lost in
+pub by_parts : (a0 a3 b0 b2 : CoreView) (here there : LostRow) (block : Block) (start : Snapshot) → AreBothMade start a0 b0
+    → RebuildsAndReads start here there block a0 b0 a3 b2 → RunsThroughRebuild here there block a3 b2
+by_parts a0 a3 b0 b2 here there block start made parts =
+    let replaced = parts.replaced in
+    let rebuilds = parts.rebuilds in
+    let back = parts.back in
+    let a1 = parts.here in
+    let b1 = parts.there in
+    let a2 = parts.asked in
+    let lost : replaced.lost ≡ with_lost = replaced.lost_is ∙ ap (λ r. after 2 r (Fail 1)) made.register_is in
+    let new : parts.attached ≡ with_new = replaced.attached_is ∙ ap (λ r. after 2 r (Attach 1)) lost in
     let half : rebuilds.half ≡ half_rebuilt = rebuilds.half_is ∙ ap (λ r. after 2 r (ReportRebuilt 0 1 1)) new in
-    let last : whole ≡ rebuilt = rebuilds.rebuilt_is ∙ ap (λ r. after 2 r (ReportRebuilt 1 1 1)) half in
-    through_rebuild limits a0 replaced.here a1 rebuilds.here a2 back.asking back.reading back.seeing a3 b0 replaced.there b1 rebuilds.there b2 here there block first second
+    let last : parts.whole ≡ rebuilt = rebuilds.rebuilt_is ∙ ap (λ r. after 2 r (ReportRebuilt 1 1 1)) half in
+    through_rebuild made.limits a0 replaced.here a1 rebuilds.here a2 back.asking back.reading back.seeing a3 b0 replaced.there b1 rebuilds.there b2 here there block made.here made.there
     (shows lost a0 replaced.here replaced.looked.here) (shows lost b0 replaced.there replaced.looked.there)
     (shows new replaced.here a1 replaced.looked_again.here) (shows new replaced.there b1 replaced.looked_again.there)
     rebuilds.one_rebuilt rebuilds.two_rebuilt

@@ -14,6 +14,7 @@ use Rattle.r6_world.specs.Worlds.{Devices, started}
 use Rattle.r6_world.specs.Claims.{IsLawfulStart}
 use Rattle.r6_world.specs.Laws.{IsOfOutside}
 use Rattle.r6_world.specs.Witness.{smallest, small, after_all}
+use Rattle.r6_core.specs.Effects.{IsMade}
 use Rattle.r6_core.specs.Shards.{CoreView, Step}
 use Rattle.r6_core.specs.Runs.{Happening, Call, Perform, Tell, Outside, Moment, moment_of, cores_after, AreMade, IsShard, CoresRun}
 
@@ -92,6 +93,25 @@ pub record Tells (call : shards.Call) (answer : RegisterAnswer) (old new : CoreV
   pub taken : Step old (Take_call call) middle
   pub told : Step middle (steps.Told call (Ok answer)) new
 
+-- the loss of slot 1 is found by a read of block 0, and declared
+pub record FindsLoss (old new : CoreView) : Type 0 where
+  pub asking : CoreView
+  pub asked : Step old (Submit (Read 0) 0) asking
+  pub failing : CoreView
+  pub failed : Fails asking failing
+  pub declared : Tells (LossOf 1 0) Degraded failing new
+
+-- the block of a lost slot is restored from those of two others of its row, and answered after a look
+pub record Restores (one another row : ℕ) (register : Snapshot) (other parity block : Block) (old new : CoreView)
+    : Type 0 where
+  pub half : CoreView
+  pub first : Reads one 0 row other old half
+  pub whole : CoreView
+  pub second : Reads another 0 row parity half whole
+  pub seeing : CoreView
+  pub looked : Step whole (Look register) seeing
+  pub replied : Step seeing (Take_reply 0 (Data block)) new
+
 -- ---- one core
 
 -- A read of block 0 of the smallest array, whose device fails: its block stands on slot 1, the other data block of the
@@ -121,13 +141,12 @@ abbrev pub both : (first second : CoreView) → ℕ → CoreView
 both first second zero = first
 both first second (suc n) = second
 
--- the loss of slot 1 is found by a read of block 0, and declared
-pub record FindsLoss (old new : CoreView) : Type 0 where
-  pub asking : CoreView
-  pub asked : Step old (Submit (Read 0) 0) asking
-  pub failing : CoreView
-  pub failed : Fails asking failing
-  pub declared : Tells (LossOf 1 0) Degraded failing new
+-- two cores were made at the register of this array with no slot lost
+pub record AreBothMade (register : Snapshot) (first second : CoreView) : Type 0 where
+  pub limits : IsShape two_shards
+  pub register_is : register ≡ starting 0
+  pub here : IsMade two_shards (starting 0) 0 first
+  pub there : IsMade two_shards (starting 0) 1 second
 
 -- the loss is seen, and block 3 read by the two others of its row
 pub record ReadsAround (register : Snapshot) (other parity block : Block) (old new : CoreView) : Type 0 where
@@ -135,13 +154,7 @@ pub record ReadsAround (register : Snapshot) (other parity block : Block) (old n
   pub saw : Step old (Look register) looking
   pub asking : CoreView
   pub asked : Step looking (Submit (Read 3) 0) asking
-  pub half : CoreView
-  pub first : Reads 0 0 1 other asking half
-  pub whole : CoreView
-  pub second : Reads 2 0 1 parity half whole
-  pub seeing : CoreView
-  pub looked : Step whole (Look register) seeing
-  pub replied : Step seeing (Take_reply 0 (Data block)) new
+  pub restored : Restores 0 2 1 register other parity block asking new
 
 -- Two cores at one register. The first reads block 0, whose device answers an error on slot 1, and declares the loss.
 -- The second sees it at a look. Block 3 stands on the lost slot, in the second's row, whose other data block is on

@@ -74,6 +74,18 @@ pub record ReadsBack (register : Snapshot) (restored block : Block) (old new : C
   pub looked : Step reading (Look register) seeing
   pub replied : Step seeing (Take_reply 0 (Data block)) new
 
+-- the slot is replaced, both rebuild their rows, and block 0 is read
+pub record RebuildsAndReads (register : Snapshot) (one two : LostRow) (block : Block)
+    (first second first' second' : CoreView) : Type 0 where
+  pub attached : Snapshot
+  pub here : CoreView
+  pub there : CoreView
+  pub replaced : Replaces register attached first second here there
+  pub whole : Snapshot
+  pub asked : CoreView
+  pub rebuilds : RebuildsBoth attached one two whole here there asked second'
+  pub back : ReadsBack whole one.lost block asked first'
+
 -- a rebuild's turn, and the commands of its row
 pub record Turned : Type 0 where
   pub slot : ℕ

@@ -5,7 +5,7 @@ ghost use Rattle.r6_world.specs.PlainArray.{Read, Data};
 ghost use Rattle.r6_world.specs.Registers.{Degraded};
 ghost use Rattle.r6_world.specs.ShardStates.{LossOf};
 ghost use Rattle.r6_world.specs.Steps.{Submit, Take_reply};
-ghost use Rattle.r6_core.specs.Courses.{Fails, Reads, Tells, FindsLoss, ReadsAround, RunsThroughLoss, RunsBesideLoss};
+ghost use Rattle.r6_core.specs.Courses.{Fails, Reads, Tells, FindsLoss, Restores, ReadsAround, AreBothMade, RunsThroughLoss, RunsBesideLoss};
 ghost use Rattle.r6_core.specs.Shards.{Step};
 
 use crate::call::Call;
@@ -36,13 +36,8 @@ pub fn read_through_a_loss(
     let geometry = Geometry::new(4, 1, 16, 1, 1).ok()?;
     let register = Snapshot::start(&geometry, 0);
     let mut core = Core::new(alloc, geometry, 0, 1, &register).ok()?;
-    submit_read(&mut core, 0, room)?;
-    fail_command(&mut core)?;
-    declare_loss(&mut core)?;
-    answer_read(&mut core, 2, 0, 0, other)?;
-    answer_read(&mut core, 3, 0, 0, parity)?;
-    core.look(&register.lose(1)).ok()?;
-    let block = take_block(&mut core)?;
+    find_loss(&mut core, room)?;
+    let block = restore(&mut core, 2, 3, 0, &register.lose(1), other, parity)?;
     Some((core, block))
 }
 
@@ -63,13 +58,21 @@ pub fn read_beside_a_loss(
 ) -> Option<(Core, Core, Buffer)>
     ensures run { IfSome result (λ r. RunsBesideLoss other parity r.2 r.0 r.1) }
 {
-    let geometry = Geometry::new(4, 1, 16, 2, 2).ok()?;
-    let register = Snapshot::start(&geometry, 0);
-    let mut first = Core::new(alloc, geometry, 0, 1, &register).ok()?;
-    let mut second = Core::new(alloc, geometry, 1, 1, &register).ok()?;
+    let (mut first, mut second, register) = two_cores(alloc)?;
     find_loss(&mut first, lost)?;
     let block = read_around(&mut second, &register.lose(1), room, other, parity)?;
     Some((first, second, block))
+}
+
+// The cores of the smallest array of two shards, and the register that they were made at.
+pub(crate) fn two_cores(alloc: Global) -> Option<(Core, Core, Snapshot)>
+    ensures { IfSome result (λ r. AreBothMade r.2 r.0 r.1) }
+{
+    let geometry = Geometry::new(4, 1, 16, 2, 2).ok()?;
+    let register = Snapshot::start(&geometry, 0);
+    let first = Core::new(alloc, geometry, 0, 1, &register).ok()?;
+    let second = Core::new(alloc, geometry, 1, 1, &register).ok()?;
+    Some((first, second, register))
 }
 
 // The core is handed a read of block 0, whose command is answered by an error, and the loss is declared.
@@ -93,8 +96,25 @@ fn read_around(
 {
     core.look(register).ok()?;
     submit_read(core, 3, room)?;
-    answer_read(core, 0, 0, 1, other)?;
-    answer_read(core, 2, 0, 1, parity)?;
+    restore(core, 0, 2, 1, register, other, parity)
+}
+
+// The core restores a block of this row from those of two slots, which are answered with these, and its reply is taken
+// after a look.
+fn restore(
+    core: &mut Core,
+    one: usize,
+    another: usize,
+    row: u64,
+    register: &Snapshot,
+    other: Buffer,
+    parity: Buffer,
+) -> Option<Buffer>
+    ensures { IfSome result (λ block.
+        Restores one another row register.now other parity block core.old core.new) }
+{
+    answer_read(core, one, 0, row, other)?;
+    answer_read(core, another, 0, row, parity)?;
     core.look(register).ok()?;
     take_block(core)
 }

@@ -4,17 +4,16 @@ ghost use Rattle.std.specs.Prelude.{◌≡◌, IfSome};
 ghost use Rattle.r6_health.specs.Registers.{after};
 ghost use Rattle.r6_world.specs.ShardStates.{RebuildOf};
 ghost use Rattle.r6_core.specs.Courses.{Writes, Tells};
-ghost use Rattle.r6_core.specs.RebuildCourses.{TakesUp, RebuildsRow, BothLook, Replaces, RebuildsBoth, ReadsBack, RunsThroughRebuild};
+ghost use Rattle.r6_core.specs.RebuildCourses.{TakesUp, RebuildsRow, BothLook, Replaces, RebuildsBoth, ReadsBack, RebuildsAndReads, RunsThroughRebuild};
 
 use crate::call::Call;
-use crate::course::{answer_read, submit_read, take_block};
+use crate::course::{answer_read, submit_read, take_block, two_cores};
 use crate::refusal::Receipt;
 use crate::shard_core::Core;
 use crate::turn::{Task, Turn};
 use r6_frames::CommandKind;
 use r6_health::{Answer, Call as RegisterCall, Snapshot};
 use r6_kernels::Buffer;
-use r6_layout::Geometry;
 use std::alloc::Global;
 
 /// The blocks of a row of four slots, one of whose data blocks stood on the slot that failed.
@@ -46,14 +45,26 @@ pub fn rebuild_in_two_shards(
 ) -> Option<(Core, Core, Buffer)>
     ensures run { IfSome result (λ r. RunsThroughRebuild here there r.2 r.0 r.1) }
 {
-    let geometry = Geometry::new(4, 1, 16, 2, 2).ok()?;
-    let register = Snapshot::start(&geometry, 0);
-    let mut first = Core::new(alloc, geometry, 0, 1, &register).ok()?;
-    let mut second = Core::new(alloc, geometry, 1, 1, &register).ok()?;
-    let attached = replace(&mut first, &mut second, &register)?;
-    let (rebuilt, restored) = rebuild_both(&mut first, &mut second, &attached, here, there)?;
-    let block = read_back(&mut first, &rebuilt, room, restored)?;
+    let (mut first, mut second, register) = two_cores(alloc)?;
+    let block = rebuild(&mut first, &mut second, &register, here, there, room)?;
     Some((first, second, block))
+}
+
+// The slot is replaced, both cores rebuild their rows, and the first reads block 0.
+fn rebuild(
+    first: &mut Core,
+    second: &mut Core,
+    register: &Snapshot,
+    here: LostRow,
+    there: LostRow,
+    room: Buffer,
+) -> Option<Buffer>
+    ensures { IfSome result (λ block.
+        RebuildsAndReads register.now here there block first.old second.old first.new second.new) }
+{
+    let attached = replace(first, second, register)?;
+    let (rebuilt, restored) = rebuild_both(first, second, &attached, here, there)?;
+    read_back(first, &rebuilt, room, restored)
 }
 
 // Slot 1 is failed at the register and a new device attached, and both cores look at it each time.

@@ -2,11 +2,9 @@ use Rattle.std.proofs.Common.{◌≡◌, ◌∙◌, sym, ap, subst}
 use Rattle.r6_layout.specs.Shape.{Shape, IsShape}
 use Rattle.r6_health.specs.Registers.{starting, without}
 use Rattle.r6_world.specs.Registers.{Snapshot}
-use Rattle.r6_world.specs.Steps.{Look}
 use Rattle.r6_world.specs.Witness.{smallest}
-use Rattle.r6_core.specs.Shards.{Step}
-use Rattle.r6_core.specs.Effects.{IsMade, LooksAt}
-use Rattle.r6_core.proofs.Courses.{of_ok, made_at, through_loss}
+use Rattle.r6_core.specs.Effects.{IsMade}
+use Rattle.r6_core.proofs.Courses.{of_ok, made_at, by_one}
 use Rattle.r6_core.proofs.course.read_through_a_loss.Goals as goal
 
 pub returns : goal.returns
@@ -19,14 +17,8 @@ returns c =
     let lost : c.lose.result ≡ without (starting 0) 1 = c.lose.ensures ∙ ap (λ (r : Snapshot). without r 1) start in
     let first = c.in_ok-core.core in
     let made : IsMade geometry c.start-register.result 0 first = of_ok c.new-2.result (IsMade geometry c.start-register.result 0) first (sym c.ok-2.ensures.value ∙ c.in_ok-core.was) c.new-2.ensures.made in
-    let looked : Step c.answer_read-2.new.core (Look c.lose.result) c.look.new.self =
-    (of_ok c.look.result (λ done. LooksAt c.answer_read-2.new.core c.lose.result c.look.new.self) c.in_ok-ok.field-0
-    (sym c.ok-3.ensures.value ∙ c.in_ok-ok.was) c.look.ensures.looked).step in
     record {
-      run = through_loss limits first c.submit_read.new.core c.fail_command.new.core c.declare_loss.new.core c.answer_read.new.core c.answer_read-2.new.core c.look.new.self c.take_block.new.core
-          c.args.other c.args.parity c.in_ok-block.block
+      run = by_one limits first c.find_loss.new.core c.restore.new.core c.args.other c.args.parity c.in_ok-block.block c.lose.result
           (made_at geometry smallest c.start-register.result 0 first is start made)
-          c.in_ok-submit_read.ensures c.in_ok-fail_command.ensures c.in_ok-declare_loss.ensures c.in_ok-answer_read.ensures c.in_ok-answer_read-2.ensures
-          (subst (λ (r : Snapshot). Step c.answer_read-2.new.core (Look r) c.look.new.self) lost looked)
-          c.in_ok-block.ensures;
+          lost c.in_ok-find_loss.ensures c.in_ok-block.ensures;
     }
