@@ -71,7 +71,8 @@ pub record IsLedger {P : Type 0} (tells : P → ℕ → ℕ → Option Telling) 
     (shard : Shard P) : Type 0 where
   pub history : List Mark
   pub told : Tells shard.asked.items shard.entries.items ops history
-  pub explained : HasLedger s (stand_of shard.core (view_of shard.pass) shard.looked shard.named (tells shard.parts) history)
+  pub explained : HasLedger s
+      (stand_of shard.core (view_of shard.pass) shard.looked shard.named (tells shard.parts) history)
   pub failure : (id : ℕ) → IsIn (Replied id ArrayFailed) history → (world_shard shard.core).saw_failed ≡ true
   pub seen : (world_shard shard.core).saw_failed ≡ true → (seen_by (view_of shard.pass)).failed ≡ true
   pub idle : Rests shard → IsLive s.layout (world_shard shard.core) → (row : ℕ) → IsIdle (world_shard shard.core) row
