@@ -49,3 +49,9 @@ returns-in-Held-clause-room c = refl
 
 pub returns-in-Returning-clause-room : goal.returns-in-Returning-clause-room
 returns-in-Returning-clause-room c = c.retire.ensures.room
+
+pub done-requires-in-Returning-clause-away : goal.done-requires-in-Returning-clause-away
+done-requires-in-Returning-clause-away c = (subst (λ (used : FrameUse). AwaitsBuffer used c.args.position c.args.buffer) c.in-Returning.is c.requires.away).0
+
+pub done-requires-in-Returning-clause-size : goal.done-requires-in-Returning-clause-size
+done-requires-in-Returning-clause-size c = (subst (λ (used : FrameUse). AwaitsBuffer used c.args.position c.args.buffer) c.in-Returning.is c.requires.away).1

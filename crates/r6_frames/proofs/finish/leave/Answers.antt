@@ -111,3 +111,30 @@ returns-in-Rebuild-clause-told c =
     let e = c.leave_rebuild.ensures.end in
     let rebuilds = subst (λ (what : Job). IsJob c.requires.0 held.row what (kind_in held)) c.in-Rebuild.is c.requires.3.job in
     subst (TellsEnd held.hold) (sym e.1) (rebuild_told held.hold _ held.row c.in-Rebuild.target e.0 rebuilds.1 e.2)
+
+pub leave_scrub-requires : goal.leave_scrub-requires
+leave_scrub-requires c =
+    subst (λ (what : Job). IsJob c.requires.0 c.args.held.row what (kind_in c.args.held)) c.in-Scrub.is c.requires.3.job
+
+pub leave_rebuild-requires : goal.leave_rebuild-requires
+leave_rebuild-requires c =
+    let held = c.args.held in
+    (_, (subst (λ (what : Job). IsJob c.requires.0 held.row what (kind_in held)) c.in-Rebuild.is c.requires.3.job).1)
+
+pub returns-in-Scrub-clause-hold : goal.returns-in-Scrub-clause-hold
+returns-in-Scrub-clause-hold c = c.leave_scrub.ensures.hold
+
+pub returns-in-Rebuild-clause-hold : goal.returns-in-Rebuild-clause-hold
+returns-in-Rebuild-clause-hold c = c.leave_rebuild.ensures.hold
+
+pub returns-in-Read-clause-owner : goal.returns-in-Read-clause-owner
+returns-in-Read-clause-owner c = c.leave_request.ensures.owner
+
+pub returns-in-Read-clause-told : goal.returns-in-Read-clause-told
+returns-in-Read-clause-told c = c.leave_request.ensures.told
+
+pub returns-in-Read-clause-hold : goal.returns-in-Read-clause-hold
+returns-in-Read-clause-hold c = c.leave_request.ensures.hold
+
+pub leave_request-requires-clause-held : goal.leave_request-requires-clause-held
+leave_request-requires-clause-held c = c.requires

@@ -1,3 +1,4 @@
+use Rattle.r6_stripe.specs.BatchLists.{AreDistinct}
 use Rattle.std.proofs.Common.{◌≡◌, List, sym, ◌∙◌, ap, subst}
 use Rattle.r6_stripe.specs.Holds.{Kind, Owes, Outcome, Reading, cell_at}
 use Rattle.r6_stripe.specs.Plans.{known_block, outcome_of}
@@ -8,7 +9,7 @@ use Rattle.r6_frames.specs.declared.finish.Ended.TheVariants as ended
 use Rattle.r6_frames.specs.Calls.{IsEndedOf}
 use Rattle.r6_frames.specs.Sound.{IsJob}
 use Rattle.r6_frames.specs.Views.{kind_in}
-use Rattle.r6_frames.specs.Writes.{Entry}
+use Rattle.r6_frames.specs.Writes.{Entry, blocks_in}
 use Rattle.r6_frames.proofs.Batches.{back_side_by_side, ended_writes}
 use Rattle.r6_frames.proofs.finish.leave_request.Goals as goal
 
@@ -54,3 +55,16 @@ returns-in-Some-Write-Write-clause-told c = λ may over. let same : Kind.Write c
 
 pub returns-in-Some-Write-Write-clause-hold : goal.returns-in-Some-Write-Write-clause-hold
 returns-in-Some-Write-Write-clause-hold c = c.take_task.ensures.closed
+
+pub from_parts-writes-requires : goal.from_parts-writes-requires
+from_parts-writes-requires c =
+    let w = c.in-Some-Write-Write in
+    let held = c.requires.held.3 in
+    let same : Kind.Write w.batch.blocks ≡ kind_in c.args.held = search in
+    let mine = subst (λ (what : Job). IsJob c.requires.held.0 c.args.held.row what (kind_in c.args.held)) w.is-1 held.job in
+    let both : Kind.Write w.batch.blocks ≡ Kind.Write (blocks_in mine.0) = same ∙ mine.2 in
+    let blocks : w.batch.blocks ≡ blocks_in mine.0 = cc in
+    record {
+      side_by_side = back_side_by_side c.requires.held.0 c.args.held.row w.served (kind_in c.args.held) w.batch.blocks mine same;
+      distinct = subst AreDistinct (sym blocks) mine.4;
+    }
