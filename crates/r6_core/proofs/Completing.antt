@@ -1,5 +1,5 @@
 -- A completion is taken, or comes late; with what starts behind it, it is one step of the shard.
-use Rattle.std.proofs.Common.{◌≡◌, ℕ, true, List, [], drop, refl, sym, ap, subst, ◌∙◌, Option, Some, None, Result, Ok, Err, IfOk, arith, append-nil}
+use Rattle.std.proofs.Common.{◌≡◌, ◌≢◌, inl, inr, length, ℕ, true, List, [], drop, refl, sym, ap, subst, ◌∙◌, Option, Some, None, Result, Ok, Err, IfOk, arith, append-nil}
 use Rattle.std.specs.Prelude.{option_map}
 use Rattle.r6_layout.specs.Shape.{Shape}
 use Rattle.r6_stripe.specs.Plans.{Planned, next}
@@ -22,7 +22,8 @@ use Rattle.r6_frames.specs.Sound as held
 use Rattle.r6_core.specs.declared.refusal.DeviceFault.{DeviceFault}
 use Rattle.r6_core.specs.declared.refusal.Receipt.{Receipt}
 use Rattle.r6_core.specs.declared.state.State.{State}
-use Rattle.r6_core.specs.Shards.{Step, completion_of, state_of, rest_of, layout_in, core_of, receipt_of, waiting_of, requests_in}
+use Rattle.std.proofs.lemmas.Bool.{cases_lt}
+use Rattle.r6_core.specs.Shards.{Step, buffer_in, completion_of, state_of, rest_of, layout_in, core_of, receipt_of, waiting_of, requests_in}
 use Rattle.r6_core.specs.Order.{FinishesBy, HaveTurns, HaveTurnsBehind, SameReplies, KeepsFrames}
 use Rattle.r6_core.specs.Inside.{ReadAgainFor, SameFrames, IsSettled, Seen, TakesThrough}
 use Rattle.r6_core.proofs.Throughs.{through_in, through_none}
@@ -30,6 +31,17 @@ use Rattle.r6_core.proofs.Scanned.{turns_in}
 use Rattle.r6_core.proofs.CountedRows.{rows_of_holds}
 use Rattle.r6_core.proofs.Going.{no_rest, Goes, SlotsStay, goes_still, gone_state, gone_sound, reading_kept}
 use Rattle.r6_core.proofs.Answering.{live_still}
+
+-- a completion that isn't refused for its length has the right one
+pub sized : (completion : Result (List ℕ) DeviceFault) (size : ℕ) → (length (buffer_in completion) ≢ size → ⊥) → length (buffer_in completion) ≡ size
+sized completion size same =
+    elim (cases_lt (length (buffer_in completion)) size) [
+      | inl less ↦ absurd (same (λ is. omega (arith, less, is)))
+      | inr more ↦ elim (cases_lt size (length (buffer_in completion))) [
+        | inl less ↦ absurd (same (λ is. omega (arith, less, is)))
+        | inr most ↦ omega (arith, more, most)
+      ]
+    ]
 
 -- ---- a completion that comes late
 

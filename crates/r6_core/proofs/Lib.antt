@@ -50,8 +50,6 @@ pub mod Rooms
 pub mod RowJoined
 pub mod RowWrites
 pub mod Runs
-pub mod Courses
-pub mod RebuildCourses
 pub mod Scanned
 pub mod Scrubs
 pub mod SeenFailure

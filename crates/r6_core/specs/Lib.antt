@@ -7,8 +7,6 @@ pub mod Order
 pub mod Effects
 pub mod Inside
 pub mod Runs
-pub mod Courses
-pub mod RebuildCourses
 pub use Rattle.r6_frames.specs.Views
 pub use Rattle.r6_frames.specs.Calls
 pub use Rattle.r6_frames.specs.Owed

@@ -3,13 +3,11 @@
 
 mod call;
 mod counts;
-mod course;
 mod deliver;
 mod hold;
 mod laws;
 mod look;
 mod rebuild;
-mod rebuild_course;
 mod refusal;
 mod reply;
 mod scan;
@@ -21,10 +19,8 @@ mod written;
 
 pub use call::Call;
 pub use counts::Counts;
-pub use course::{read_beside_a_loss, read_through_a_loss};
 pub use laws::{array_law, counts_law, counts_of_one_core};
 pub use r6_frames::{Command, CommandKind, Op};
-pub use rebuild_course::{LostRow, rebuild_in_two_shards};
 pub use refusal::{CoreError, DeviceFault, FaultKind, Receipt, Refusal, Refused};
 pub use reply::{OpId, Reply};
 pub use shard_core::Core;

@@ -1,7 +1,8 @@
 //! The runs of one core and of two through the loss of a device, and of two that rebuild.
 
 use crate::bench::{byte_of, filled};
-use r6_core::{Core, LostRow, read_beside_a_loss, read_through_a_loss, rebuild_in_two_shards};
+use r6_core::Core;
+use r6_core_runs::{LostRow, read_beside_a_loss, read_through_a_loss, rebuild_in_two_shards};
 use r6_kernels::Buffer;
 use std::alloc::{AllocError, Global};
 use std::test::Fail;

@@ -1,0 +1,2 @@
+pub mod LossRuns
+pub mod RebuildRuns
