@@ -1,5 +1,5 @@
 -- What is left once the places before the first entry are gone.
-use Rattle.std.proofs.Common.{◌≡◌, ℕ, zero, suc, ◌+◌, ◌<◌, Bool, true, false, List, [], ◌∷◌, length, drop, refl, sym, ap, subst, ◌∙◌, Option, Some, None, is_some, arith}
+use Rattle.std.proofs.Common.{◌≡◌, ℕ, zero, suc, ◌+◌, ◌<◌, Bool, false, List, [], ◌∷◌, length, drop, refl, sym, ap, subst, ◌∙◌, Option, Some, None, is_some, arith}
 use Rattle.std.specs.Prelude.{◌==◌, ◌&&◌}
 use Rattle.std.proofs.lemmas.List.{get_or-drop}
 use Rattle.r6_waiters.specs.Keys.{class_in, class_at, AreClassed}

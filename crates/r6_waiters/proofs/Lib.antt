@@ -1,10 +1,12 @@
 pub mod ByKey
 pub mod Dropped
+pub mod Found
 pub mod Gathered
 pub mod Lines
 pub mod Marks
 pub mod Named
 pub mod Older
+pub mod Rooms
 pub mod Stepped
 pub mod Swept
 pub mod Words

@@ -1,10 +1,11 @@
-use Rattle.std.proofs.Common.{◌≡◌, ◌<◌, ◌≤◌, ◌∙◌, [], length, vec_capacity, is_some, set, sym, ap, subst, arith, rules}
+use Rattle.std.proofs.Common.{◌≡◌, ◌<◌, ◌∙◌, [], length, is_some, set, sym, ap, subst, arith}
 use Rattle.std.proofs.lemmas.List.{get_or_read}
 use Rattle.r6_waiters.specs.Line.{causes_of, entries_of, with_entries, oldest_of, oldest_moved}
 use Rattle.r6_waiters.specs.Sets.{cause_at, waiting}
 use Rattle.r6_waiters.proofs.Lines.{IsOldest, oldest-found, oldest-none, moved-none, length-moved}
 use Rattle.r6_waiters.proofs.Marks.{there-within, wide-set}
 use Rattle.r6_waiters.proofs.Stepped.{Stepped, oldest-in, none-in, stepped-moved}
+use Rattle.r6_waiters.specs.Positions.{has}
 use Rattle.r6_waiters.proofs.waiters.Waiters.move_oldest.Goals as goal
 
 pub insert-requires : goal.insert-requires
@@ -21,8 +22,7 @@ insert-requires g c =
     let old = c.index_mut-in-Some.result.now in
     let long : length old ≡ length c.self.inside.spare = ap length (get_or_read mid c.args.to old within c.index_mut-in-Some.ensures.value []) ∙ as_wide.1 c.args.to ∙ c.self.invariant.equal c.args.to to_within in
     let inside = there-within places position oldest.there in
-    let small : length places ≤ vec_capacity c.self.inside.places = search rules in
-    omega (arith, long, inside, small, c.self.invariant.room, c.self.invariant.wide)
+    omega (arith, long, inside, c.self.inside.places.ok.0, c.self.inside.places.ok.1, c.self.invariant.room, c.self.invariant.wide)
 
 -- the oldest entry of the cause stands at the position
 oldest_at : (g : _) (c : goal.After-self-in-Some-1 g) → IsOldest (cause_at c.self.inside.sets.items) c.self.inside.places.items c.args.from c.in-Some.position
@@ -85,3 +85,17 @@ returns-in-None-clause-moved g c =
     let none = none-in sets places c.args.from c.index.result.now c.self.invariant.marked within c.index.ensures c.in-None.ensures in
     let none_waits = sym (ap (λ v. oldest_of c.args.from (entries_of v)) c.self.view_is) ∙ oldest-none (cause_at sets) places c.args.from none in
     sym (ap (λ es. with_entries c.args.self.now es) (moved-none c.args.from c.args.to (entries_of c.args.self.now) none_waits))
+
+pub index-requires : goal.index-requires
+index-requires g c = subst (λ n. c.args.from < n) (sym c.self.inside.sets.ok.0) (subst (λ v. c.args.from < causes_of v) (sym c.self.view_is) c.requires.from)
+
+pub index_mut-requires : goal.index_mut-requires
+index_mut-requires g c = subst (λ n. c.args.from < n) (sym c.self.inside.sets.ok.0) (subst (λ v. c.args.from < causes_of v) (sym c.self.view_is) c.requires.from)
+
+pub remove-requires : goal.remove-requires
+remove-requires g c =
+    let sets = c.self.inside.sets.items in
+    let within : c.args.from < length sets = subst (λ v. c.args.from < causes_of v) (sym c.self.view_is) c.requires.from in
+    let now = get_or_read sets c.args.from c.index_mut.result.now within c.index_mut.ensures.value [] in
+    let read = get_or_read sets c.args.from c.index.result.now within c.index.ensures [] in
+    ap (λ l. has l c.in-Some.position) (now ∙ sym read) ∙ c.in-Some.ensures.0

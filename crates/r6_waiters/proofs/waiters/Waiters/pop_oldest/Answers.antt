@@ -1,4 +1,4 @@
-use Rattle.std.proofs.Common.{◌≡◌, ◌<◌, ◌∙◌, None, [], length, set, sym, ap, subst, arith, rules}
+use Rattle.std.proofs.Common.{◌≡◌, ◌<◌, ◌∙◌, None, [], length, set, sym, ap, subst, arith}
 use Rattle.std.specs.Prelude.{slice_index_or}
 use Rattle.r6_waiters.specs.Keys.{AreClassed}
 use Rattle.r6_waiters.specs.Line.{causes_of, entries_of, with_entries, oldest_of, without_oldest}
@@ -6,6 +6,8 @@ use Rattle.r6_waiters.specs.Sets.{place_at, cause_at, waiting}
 use Rattle.r6_waiters.proofs.Lines.{IsOldest, oldest-found, oldest-none, without-none, length-taken, waiting-taken}
 use Rattle.r6_waiters.proofs.Stepped.{Stepped, oldest-in, none-in, stepped-taken}
 use Rattle.r6_waiters.proofs.Swept.{lent_whole}
+use Rattle.std.proofs.lemmas.List.{get_or_read}
+use Rattle.r6_waiters.specs.Positions.{has}
 use Rattle.r6_waiters.proofs.waiters.Waiters.pop_oldest.Goals as goal
 
 -- none waits for the cause
@@ -68,7 +70,7 @@ invariant_of-self g c =
     let after = stepped g c in
     let fewer = length-taken (cause_at sets) places c.args.cause c.in_ok-position.position (place_at places c.in_ok-position.position).0 (oldest_at g c) in
     let lent : length c.take.new.keyed ≡ length c.self.inside.keyed.items = c.take.ensures.sets.0 ∙ ap length c.deref_mut.ensures.value in
-    let whole = lent_whole _ c.take.new.keyed c.self.inside.keyed.items lent (search rules) in
+    let whole = lent_whole _ c.take.new.keyed c.self.inside.keyed.items lent c.self.inside.keyed.ok.0 in
     record {
       countable = c.self.invariant.countable;
       room = c.take.ensures.capacity ∙ c.self.invariant.room;
@@ -97,3 +99,20 @@ returns-clause-rest g c =
     ap (λ n. (c.self.inside.capacity, (n, waiting (cause_at (set c.self.inside.sets.items c.args.cause c.remove.new.self)) c.take.new.places.items))) after.wide.0
     ∙ ap (λ es. (c.self.inside.capacity, (length c.self.inside.sets.items, es))) after.waits
     ∙ ap (λ v. with_entries v (without_oldest c.args.cause (entries_of v))) c.self.view_is
+
+pub index-requires : goal.index-requires
+index-requires g c = subst (λ n. c.args.cause < n) (sym c.self.inside.sets.ok.0) (subst (λ v. c.args.cause < causes_of v) (sym c.self.view_is) c.requires)
+
+pub index_mut-requires : goal.index_mut-requires
+index_mut-requires g c = subst (λ n. c.args.cause < n) (sym c.self.inside.sets.ok.0) (subst (λ v. c.args.cause < causes_of v) (sym c.self.view_is) c.requires)
+
+pub remove-requires : goal.remove-requires
+remove-requires g c =
+    let sets = c.self.inside.sets.items in
+    let within : c.args.cause < length sets = subst (λ v. c.args.cause < causes_of v) (sym c.self.view_is) c.requires in
+    let now = get_or_read sets c.args.cause c.index_mut.result.now within c.index_mut.ensures.value [] in
+    let read = get_or_read sets c.args.cause c.index.result.now within c.index.ensures [] in
+    ap (λ l. has l c.in_ok-position.position) (now ∙ sym read) ∙ c.in_ok-position.ensures.0
+
+pub take-requires-clause-classed : goal.take-requires-clause-classed
+take-requires-clause-classed g c = subst (λ l. AreClassed g.K.KeyOf.key_of l c.self.inside.places.items) (sym c.deref_mut.ensures.value) c.self.invariant.classed

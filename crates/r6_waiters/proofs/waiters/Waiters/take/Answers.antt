@@ -1,4 +1,4 @@
-use Rattle.std.proofs.Common.{◌≡◌, ◌<◌, ◌∙◌, true, [], length, set, sym, ap, subst, refl, arith, rules}
+use Rattle.std.proofs.Common.{◌≡◌, ◌<◌, ◌∙◌, true, [], length, set, sym, ap, subst, refl, arith}
 use Rattle.std.specs.Prelude.{slice_index_or}
 use Rattle.std.proofs.lemmas.List.{get_or_read}
 use Rattle.r6_waiters.specs.Keys.{AreClassed, is_keyed, HasNoneKeyed, IsFirstKeyed}
@@ -97,7 +97,7 @@ invariant_of-self g c =
     let after = stepped g c in
     let k = (place_at places c.in_ok-found.found).0 in
     let lent : length c.take.new.keyed ≡ length c.self.inside.keyed.items = c.take.ensures.sets.0 ∙ ap length c.deref_mut.ensures.value in
-    let whole = lent_whole _ c.take.new.keyed c.self.inside.keyed.items lent (search rules) in
+    let whole = lent_whole _ c.take.new.keyed c.self.inside.keyed.items lent c.self.inside.keyed.ok.0 in
     record {
       countable = c.self.invariant.countable;
       room = c.take.ensures.capacity ∙ c.self.invariant.room;
@@ -126,3 +126,14 @@ returns-clause-rest g c =
     ap (λ n. (c.self.inside.capacity, (n, waiting (cause_at (set c.self.inside.sets.items c.in_ok-cause.cause c.remove.new.self)) c.take.new.places.items))) after.wide.0
     ∙ ap (λ es. (c.self.inside.capacity, (length c.self.inside.sets.items, es))) after.waits
     ∙ ap (λ v. with_entries v (without_oldest_keyed g.K.KeyOf.key_of c.args.key (entries_of v))) c.self.view_is
+
+pub index-set-requires : goal.index-set-requires
+index-set-requires g c = subst (λ n. c.set_for.result < n) (sym (c.self.inside.keyed.ok.0 ∙ c.self.invariant.classed.many)) c.set_for.ensures.within
+
+pub take-requires-clause-classed : goal.take-requires-clause-classed
+take-requires-clause-classed g c = subst (λ l. AreClassed g.K.KeyOf.key_of l c.self.inside.places.items) (sym c.deref_mut.ensures.value) c.self.invariant.classed
+
+pub take-requires-clause-there : goal.take-requires-clause-there
+take-requires-clause-there g c =
+    let first = subst (λ ps. IsFirstKeyed g.K.KeyOf.key_of c.args.key ps c.in_ok-found.found) c.deref.ensures.value c.in_ok-found.ensures in
+    keyed-there g.K.KeyOf.key_of c.args.key c.self.inside.places.items c.in_ok-found.found first.0

@@ -45,3 +45,24 @@ invariant_of-result g c =
           (classed-none key_of keyed_now (ap length keyed ∙ length-replicate classes row) none);
       counted = sym (ap (λ ps. length (waiting (cause_at c.in_ok-empty_sets.field-0.items) ps)) places);
     }
+
+pub overflow_add-capacity : goal.overflow_add-capacity
+overflow_add-capacity g c = omega (arith, c.requires.countable)
+
+pub overflow_add-capacity-2 : goal.overflow_add-capacity-2
+overflow_add-capacity-2 g c = omega (arith, c.requires.countable)
+
+pub overflow_add-capacity-3 : goal.overflow_add-capacity-3
+overflow_add-capacity-3 g c = omega (arith, c.requires.countable)
+
+pub overflow_add-capacity-4 : goal.overflow_add-capacity-4
+overflow_add-capacity-4 g c = omega (arith, c.requires.countable)
+
+pub empty_sets-requires : goal.empty_sets-requires
+empty_sets-requires g c = c.requires.countable
+
+pub empty_sets-requires-2 : goal.empty_sets-requires-2
+empty_sets-requires-2 g c = c.requires.countable
+
+pub with_room-requires : goal.with_room-requires
+with_room-requires g c = c.requires.countable
