@@ -15,8 +15,7 @@ returns-then-matches_key g c =
     let places = c.args.places.now in
     let position = c.in-Some.position in
     let inside = c.requires.within position c.in-Some.ensures.1 in
-    let read = get_or_read places position (get_or places position c.index-places-position.result) inside (ap (λ p. get_or places position p) c.index-places-position.is) (0, None) in
-    (
+    let read = get_or_read places position (get_or places position c.index-places-position.result) inside (ap (λ p. get_or places position p) c.index-places-position.is) (0, None) in (
       ap (λ p. has_key g.K.KeyOf.key_of c.args.key p.1) (sym read) ∙ sym c.if-matches_key.ensures,
       none-before g.K.KeyOf.key_of c.args.key places c.args.set.now c.loop-position.from position c.requires.all c.in-Some.ensures c.loop-position.invariant.none,
     )
