@@ -16,6 +16,9 @@ room-in start sets old cause limit p room wide within is below =
 pub room-less : (sets : List (List ℕ)) (many few : ℕ) → HaveRoom sets many → few ≤ many → HaveRoom sets few
 room-less sets many few room fewer cause within = omega (arith, room cause within, fewer)
 
+pub up-to : (i n : ℕ) → i < n → i ≤ n
+up-to i n below = omega (arith, below)
+
 -- the cause that stands at a place
 pub cause-within : {X : Type 0} (places : Places X) (sets : List (List ℕ)) (place : ℕ × Option X) (p many : ℕ) → ((i : ℕ) → i < length places → (place_at places i).0 < many) → p < length places → place ≡ get_or places p place → length sets ≡ many → place.0 < length sets
 cause-within {X} places sets place p many causes inside at long =

@@ -1,7 +1,8 @@
-use Rattle.std.proofs.Common.{◌∙◌, None, get_or, sym, ap, arith}
+use Rattle.std.proofs.Common.{◌∙◌, None, get_or, sym, ap, arith, length}
 use Rattle.std.proofs.lemmas.List.{get_or_read}
 use Rattle.r6_waiters.specs.Keys.{has_key}
 use Rattle.r6_waiters.proofs.Found.{none-before, none-left, none-more}
+use Rattle.r6_waiters.proofs.Rooms.{up-to}
 use Rattle.r6_waiters.proofs.keyed.find.Goals as goal
 
 pub loop-position-init : goal.loop-position-init
@@ -41,3 +42,9 @@ loop-position-preserved g c =
 
 pub returns : goal.returns
 returns g c = none-left g.K.KeyOf.key_of c.args.key c.args.places.now c.args.set.now c.loop-position.from c.requires.all c.in_default.ensures c.loop-position.invariant.none
+
+pub offset_bounds-places-position : goal.offset_bounds-places-position
+offset_bounds-places-position g c = up-to c.in-Some.position (length c.args.places.now) (c.requires.within c.in-Some.position c.in-Some.ensures.1)
+
+pub overflow_add-from : goal.overflow_add-from
+overflow_add-from g c = let inside = c.requires.within c.in-Some.position c.in-Some.ensures.1 in omega (arith, inside)

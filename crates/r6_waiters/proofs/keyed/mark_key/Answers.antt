@@ -19,3 +19,6 @@ returns-in-Some-clause-sets g c =
     let class = c.set_for-class.result in
     let within = subst (λ n. class < n) (sym c.requires.many) c.set_for-class.ensures.within in
     wide-set keyed c.insert.new.self (get_or keyed class c.index-keyed-class.result) class within (ap (λ l. get_or keyed class l) c.index-keyed-class.is) c.insert.ensures.room
+
+pub offset_bounds-keyed-class : goal.offset_bounds-keyed-class
+offset_bounds-keyed-class g c = omega (arith, c.set_for-class.ensures.within)

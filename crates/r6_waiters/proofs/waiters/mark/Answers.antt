@@ -45,3 +45,8 @@ insert-requires g c =
 
 pub returns-clause-sets : goal.returns-clause-sets
 returns-clause-sets g c = c.loop-position.invariant.sets
+
+pub offset_bounds-sets-place : goal.offset_bounds-sets-place
+offset_bounds-sets-place g c =
+    let within = cause-within c.args.places.now c.loop-position.sets c.index-places-position.result c.loop-position.position (length c.args.sets.now) c.requires.causes c.loop-position-test.true c.index-places-position.is c.loop-position.invariant.sets.0 in
+    omega (arith, within)

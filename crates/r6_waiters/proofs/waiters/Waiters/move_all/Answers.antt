@@ -60,3 +60,9 @@ returns g c =
     ap (λ n. (c.self.inside.capacity, (n, waiting (cause_at (set (set c.self.inside.sets.items c.args.from c.swap.new.y) c.args.to c.take_all.new.self)) c.self.inside.places.items))) after.wide.0
     ∙ ap (λ es. (c.self.inside.capacity, (length c.self.inside.sets.items, es))) after.waits
     ∙ ap (λ v. with_entries v (all_moved c.args.from c.args.to (entries_of v))) c.self.view_is
+
+pub index_mut-requires : goal.index_mut-requires
+index_mut-requires g c = subst (λ n. c.args.from < n) (sym c.self.inside.sets.ok.0) (subst (λ v. c.args.from < causes_of v) (sym c.self.view_is) c.requires.from)
+
+pub index_mut-requires-2 : goal.index_mut-requires-2
+index_mut-requires-2 g c = subst (λ n. c.args.to < n) (sym c.self.inside.sets.ok.0) (subst (λ v. c.args.to < causes_of v) (sym c.self.view_is) c.requires.to)

@@ -99,3 +99,6 @@ remove-requires g c =
     let now = get_or_read sets c.args.from c.index_mut.result.now within c.index_mut.ensures.value [] in
     let read = get_or_read sets c.args.from c.index.result.now within c.index.ensures [] in
     ap (λ l. has l c.in-Some.position) (now ∙ sym read) ∙ c.in-Some.ensures.0
+
+pub index_mut-requires-in-Some : goal.index_mut-requires-in-Some
+index_mut-requires-in-Some g c = subst (λ n. c.args.to < n) (sym c.self.inside.sets.ok.0) (subst (λ v. c.args.to < causes_of v) (sym c.self.view_is) c.requires.to)

@@ -66,3 +66,11 @@ empty_sets-requires-2 g c = c.requires.countable
 
 pub with_room-requires : goal.with_room-requires
 with_room-requires g c = c.requires.countable
+
+pub returns : goal.returns
+returns g c =
+    let capacity = c.args.capacity in
+    let sets = c.in_ok-empty_sets.field-0.items in
+    let row : List ℕ = replicate ((capacity + capacity) / 64 + 1) 0 in
+    ap (λ ps. (capacity, (length sets, waiting (cause_at sets) ps))) c.in_ok-with_capacity.ensures.items
+    ∙ ap (λ n. (capacity, (n, []))) (ap length c.in_ok-empty_sets.ensures ∙ length-replicate c.args.causes row)
