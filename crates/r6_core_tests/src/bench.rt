@@ -21,6 +21,8 @@ const SLOTS: usize = 4;
 /// The bytes of a block.
 const BLOCK: usize = 16;
 
+const NO_ERRORS: Trouble<'static> = Trouble::Errors(&[]);
+
 /// What the register says of a call.
 pub(crate) type Told = Result<RegisterAnswer, RegisterRefusal>;
 
@@ -29,19 +31,10 @@ pub(crate) type Told = Result<RegisterAnswer, RegisterRefusal>;
 pub(crate) enum Step {
     /// A request to write this byte throughout a block.
     Write(u64, u8),
-    /// Requests to write 5a throughout the first block of each row, from the first row to before the second; they are
-    /// to have the numbers from 0 on.
-    WriteRows(u64, u64),
-    /// So many times two requests: to write 11 throughout the second block of every fourth row, and 22 throughout the
-    /// first block of the row behind it. They are to have the numbers from 0 on.
-    WritePairs(u64),
     /// A request to read a block.
     Read(u64),
-    /// Requests to read a block, which are to have the numbers from the second on, to before the third.
-    Reads(u64, u64, u64),
-    /// So many requests to read a block, of this many blocks one after another, and again from the first; they are to
-    /// have the numbers from 0 on.
-    ReadInTurn(u64, u64),
+    /// Requests that are to have the numbers from the first to before the second.
+    Submit(Requests, u64, u64),
     /// The same, into a buffer of this length.
     ReadInto(u64, usize),
     /// The next command is taken.
@@ -84,8 +77,22 @@ pub(crate) enum Step {
     Stored(usize, u64),
 }
 
+/// What many requests ask for, one after another.
+#[derive(Clone, Copy)]
+pub(crate) enum Requests {
+    /// To write 5a throughout the first block of each row, from this row on.
+    WriteRows(u64),
+    /// By turns to write 11 throughout the second block of every fourth row, and 22 throughout the first block of the
+    /// row behind it.
+    WritePairs,
+    /// To read this block.
+    Read(u64),
+    /// To read the first eight blocks, again and again.
+    ReadEight,
+}
+
 /// What a step answers.
-#[derive(Clone, Copy, PartialEq, Eq, Debug)]
+#[derive(Clone, Copy, PartialEq, Eq)]
 pub(crate) enum Answer {
     /// The number of the request.
     Accepted(u64),
@@ -131,6 +138,26 @@ pub(crate) enum Answer {
 /// Whether an answer is this one.
 pub(crate) fn is(found: &Answer, wanted: &Answer) -> bool {
     found == wanted
+}
+
+/// What goes wrong while commands are answered.
+#[derive(Clone, Copy)]
+pub(crate) enum Trouble<'a> {
+    /// The commands of these tokens have an error.
+    Errors(&'a [u64]),
+    /// Before the command of the token is answered, a look finds the slot lost.
+    Loss(usize, u64),
+}
+
+/// An array with so many rows and shards, at whose start these slots are lost, and the steps that it has to take, each
+/// with its answer.
+#[derive(Clone, Copy)]
+pub(crate) struct Course<'a> {
+    pub(crate) name: &'a str,
+    pub(crate) rows: u64,
+    pub(crate) shards: usize,
+    pub(crate) lost: &'a [usize],
+    pub(crate) steps: &'a [(Step, Answer)],
 }
 
 /// The core of shard 0 over devices in memory, beside what the register holds.
@@ -218,32 +245,30 @@ pub(crate) fn register_without(geometry: &Geometry, lost: &[usize]) -> Snapshot 
     register
 }
 
-/// Plays a course on a new array, which is made as [`Bench::new`] says: each step has to answer so.
-pub(crate) fn play<R: Abort>(
-    rt: &R,
-    alloc: Global,
-    rows: u64,
-    shards: usize,
-    lost: &[usize],
-    course: &[(Step, Answer)],
-) -> Result<(), Fail> {
-    let mut bench = Bench::new(alloc, rows, shards, lost)?;
-    bench.play(rt, course)
+/// Plays a course on a new array: each step has to answer so.
+pub(crate) fn play<R: Abort>(rt: &R, alloc: Global, course: &Course<'_>) -> Result<(), Fail> {
+    let mut bench = Bench::new(alloc, course.rows, course.shards, course.lost, 1)?;
+    Ok(bench.play(rt, course.name, course.steps)?)
+}
+
+/// The block of the request that comes so many behind the first, and the byte that it writes there.
+fn request_at(requests: Requests, index: u64) -> (u64, Option<u8>) {
+    match requests {
+        Requests::WriteRows(row) => (row.saturating_add(index).saturating_mul(2), Some(0x5a)),
+        Requests::WritePairs => {
+            let row_pair = (index / 2).saturating_mul(8);
+            let byte = if index % 2 == 0 { 0x11 } else { 0x22 };
+            (row_pair.saturating_add(index % 2 + 1), Some(byte))
+        }
+        Requests::Read(block) => (block, None),
+        Requests::ReadEight => (index % 8, None),
+    }
 }
 
 impl Bench {
-    /// An array of four slots, chunks of one block and blocks of 16 bytes, at whose start these slots are lost.
+    /// An array of four slots, chunks of one block and blocks of 16 bytes, at whose start these slots are lost. So many
+    /// of its rows may be rebuilt at one time.
     pub(crate) fn new(
-        alloc: Global,
-        rows: u64,
-        shards: usize,
-        lost: &[usize],
-    ) -> Result<Bench, Fail> {
-        Bench::with_window(alloc, rows, shards, lost, 1)
-    }
-
-    /// The same, of whose rows so many may be rebuilt at one time.
-    pub(crate) fn with_window(
         alloc: Global,
         rows: u64,
         shards: usize,
@@ -262,11 +287,15 @@ impl Bench {
         })
     }
 
-    /// Plays a course: each step has to answer so.
-    pub(crate) fn play<R: Abort>(&mut self, rt: &R, course: &[(Step, Answer)]) -> Result<(), Fail> {
-        for (index, (step, answer)) in course.iter().enumerate() {
-            let found = self.answer(*step)?;
-            assert!(rt; is(&found, answer), "at step {index}: {found:?}");
+    /// Plays the course of this name: each step has to answer so.
+    pub(crate) fn play<R: Abort>(
+        &mut self,
+        rt: &R,
+        name: &str,
+        steps: &[(Step, Answer)],
+    ) -> Result<(), AllocError> {
+        for (index, (step, answer)) in steps.iter().enumerate() {
+            assert!(rt; is(&self.answer(*step)?, answer), "step {index} of {name}");
         }
         Ok(())
     }
@@ -274,20 +303,17 @@ impl Bench {
     /// What a step answers.
     fn answer(&mut self, step: Step) -> Result<Answer, AllocError> {
         Ok(match step {
-            Step::Write(block, byte) => self.write(block, byte)?,
-            Step::WriteRows(first, end) => self.write_rows(first, end)?,
-            Step::WritePairs(pairs) => self.write_pairs(pairs)?,
-            Step::Read(block) => self.read(block, BLOCK)?,
-            Step::Reads(block, first, end) => self.reads(block, first, end)?,
-            Step::ReadInTurn(count, blocks) => self.read_in_turn(count, blocks)?,
-            Step::ReadInto(block, len) => self.read(block, len)?,
+            Step::Write(block, byte) => self.request(block, BLOCK, Some(byte))?,
+            Step::Read(block) => self.request(block, BLOCK, None)?,
+            Step::ReadInto(block, len) => self.request(block, len, None)?,
+            Step::Submit(requests, first, end) => self.request_all(requests, first, end)?,
             Step::Take => self.take()?,
             Step::TakeAll => self.take_all()?,
             Step::Do(token) => self.answer_taken(token, true),
             Step::Fail(token) => self.answer_taken(token, false),
             Step::Deliver(token, len, byte) => self.deliver_filled(token, len, byte)?,
             Step::DeliverLate(first, end) => self.deliver_late(first, end)?,
-            Step::Drive(most) => self.drive(most, &[]),
+            Step::Drive(most) => self.drive(most, &NO_ERRORS),
             Step::TakeCall => self.take_call(),
             Step::Tell(slot, told) => self.tell(Call::DeclareLost(slot, 0), told),
             Step::TellAll => self.tell_all(),
@@ -297,7 +323,7 @@ impl Bench {
             Step::InSync(slot) => Answer::Generation(self.core.in_sync(slot)),
             Step::Turn(task) => self.turn(task),
             Step::Pass(task) => match self.turn(task) {
-                Answer::Turned(Turn::Started) => self.drive(9, &[]),
+                Answer::Turned(Turn::Started) => self.drive(9, &NO_ERRORS),
                 answer => answer,
             },
             Step::Counts => Answer::Counted(self.core.counts()),
@@ -306,54 +332,24 @@ impl Bench {
         })
     }
 
-    fn write(&mut self, block: u64, byte: u8) -> Result<Answer, AllocError> {
-        let buffer = filled(self.alloc, BLOCK, byte)?;
-        Ok(self.submit(Op::Write(block, buffer)))
+    /// A request to write this byte throughout a block; or to read it, into a buffer of this length.
+    fn request(&mut self, block: u64, len: usize, byte: Option<u8>) -> Result<Answer, AllocError> {
+        let op = match byte {
+            Some(byte) => Op::Write(block, filled(self.alloc, len, byte)?),
+            None => Op::Read(block, Buffer::new(self.alloc, len)?),
+        };
+        Ok(self.submit(op))
     }
 
-    fn read(&mut self, block: u64, len: usize) -> Result<Answer, AllocError> {
-        let buffer = Buffer::new(self.alloc, len)?;
-        Ok(self.submit(Op::Read(block, buffer)))
-    }
-
-    fn write_rows(&mut self, first: u64, end: u64) -> Result<Answer, AllocError> {
-        for row in first..end {
-            let block = row.saturating_mul(2);
-            if !is(&self.write(block, 0x5a)?, &Answer::Accepted(row - first)) {
-                return Ok(Answer::Wrong);
-            }
-        }
-        Ok(Answer::AllAccepted)
-    }
-
-    fn write_pairs(&mut self, pairs: u64) -> Result<Answer, AllocError> {
-        for id in 0..pairs.saturating_mul(2) {
-            let block = (id / 2).saturating_mul(8).saturating_add(id % 2 + 1);
-            let byte = if id % 2 == 0 { 0x11 } else { 0x22 };
-            if !is(&self.write(block, byte)?, &Answer::Accepted(id)) {
-                return Ok(Answer::Wrong);
-            }
-        }
-        Ok(Answer::AllAccepted)
-    }
-
-    fn read_in_turn(&mut self, count: u64, blocks: u64) -> Result<Answer, AllocError> {
-        let mut block: u64 = 0;
-        for id in 0..count {
-            if !is(&self.read(block, BLOCK)?, &Answer::Accepted(id)) {
-                return Ok(Answer::Wrong);
-            }
-            block = block.saturating_add(1);
-            if block >= blocks {
-                block = 0;
-            }
-        }
-        Ok(Answer::AllAccepted)
-    }
-
-    fn reads(&mut self, block: u64, first: u64, end: u64) -> Result<Answer, AllocError> {
+    fn request_all(
+        &mut self,
+        requests: Requests,
+        first: u64,
+        end: u64,
+    ) -> Result<Answer, AllocError> {
         for id in first..end {
-            if !is(&self.read(block, BLOCK)?, &Answer::Accepted(id)) {
+            let (block, byte) = request_at(requests, id - first);
+            if !is(&self.request(block, BLOCK, byte)?, &Answer::Accepted(id)) {
                 return Ok(Answer::Wrong);
             }
         }
@@ -457,14 +453,14 @@ impl Bench {
         Ok(Answer::AllLate)
     }
 
-    /// Takes and answers commands until there is none, so many at the most, with an error at each of these tokens.
-    fn drive(&mut self, most: usize, failing: &[u64]) -> Answer {
+    /// Takes and answers commands until there is none, so many at the most.
+    fn drive(&mut self, most: usize, trouble: &Trouble<'_>) -> Answer {
         let (mut taken, mut late): (usize, usize) = (0, 0);
         for _ in 0..most {
             let Some(command) = self.core.take_command() else {
                 break;
             };
-            let is_good = !failing.contains(&command.token);
+            let is_good = self.is_good(command.token, trouble);
             match self.complete(command, is_good) {
                 Answer::Taken => taken = taken.saturating_add(1),
                 Answer::Late => late = late.saturating_add(1),
@@ -474,30 +470,18 @@ impl Bench {
         Answer::Driven(taken, late)
     }
 
-    /// Likewise, but before the command of this token is answered, a look finds the slot lost.
-    fn drive_losing(&mut self, most: usize, slot: usize, at: u64) {
-        for _ in 0..most {
-            if let Some(command) = self.core.take_command() {
-                if command.token == at {
-                    self.lose(slot);
+    /// Whether the device of a command performs it. A slot may be lost before.
+    fn is_good(&mut self, token: u64, trouble: &Trouble<'_>) -> bool {
+        match trouble {
+            Trouble::Errors(tokens) => !tokens.contains(&token),
+            Trouble::Loss(slot, at) => {
+                if token == *at {
+                    self.lose(*slot);
                     self.look();
                 }
-                self.complete(command, true);
+                true
             }
         }
-    }
-
-    /// A request is run to its reply, and before the command of this token is answered, a look finds the slot lost.
-    pub(crate) fn run_losing(
-        &mut self,
-        request: Step,
-        slot: usize,
-        at: u64,
-    ) -> Result<Answer, AllocError> {
-        self.answer(request)?;
-        self.drive_losing(9, slot, at);
-        self.look();
-        Ok(self.take_reply())
     }
 
     fn take_call(&mut self) -> Answer {
@@ -593,22 +577,21 @@ impl Bench {
         }
     }
 
-    /// A request is run to its reply, with an error at each of these tokens: the number of its commands, and the
-    /// answer.
+    /// A request is run to its reply: the number of its commands, and the answer.
     pub(crate) fn run(
         &mut self,
         request: Step,
-        failing: &[u64],
-    ) -> Result<(usize, Answer), AllocError> {
+        trouble: &Trouble<'_>,
+    ) -> Result<(u64, Answer), AllocError> {
         let answer = self.answer(request)?;
         let Answer::Accepted(_) = answer else {
             return Ok((0, answer));
         };
-        let Answer::Driven(taken, late) = self.drive(99, failing) else {
+        let Answer::Driven(taken, late) = self.drive(99, trouble) else {
             return Ok((0, Answer::Wrong));
         };
         self.tell_all();
         self.look();
-        Ok((taken.saturating_add(late), self.take_reply()))
+        Ok((taken.saturating_add(late) as u64, self.take_reply()))
     }
 }

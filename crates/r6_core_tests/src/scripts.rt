@@ -1,6 +1,6 @@
 //! A script of requests with losses at all moments.
 
-use crate::bench::{Answer, Bench, Step, is};
+use crate::bench::{Answer, Bench, Step, Trouble, is};
 use std::alloc::{AllocError, Global};
 use std::process::Abort;
 use std::test::Fail;
@@ -14,48 +14,52 @@ const SCRIPT: &[Step] = &[
 ];
 
 /// The answers to the script.
-const ANSWERS: &[Answer] = &[
+const ANSWERS: [Answer; 4] = [
     Answer::Done(0, 0x5a),
     Answer::Done(1, 0xa5),
     Answer::Data(2, 0x5a),
     Answer::Data(3, 0xa5),
 ];
 
-/// The script on a bench, each request run to its reply, with an error at each of these tokens: the number of its
-/// commands. The answers are those of the requests, in order.
-fn run_on(bench: &mut Bench, failing: &[u64], answers: &mut [Answer]) -> Result<u64, AllocError> {
-    let mut tokens = 0u64;
-    for (index, step) in SCRIPT.iter().enumerate() {
-        let (commands, given) = bench.run(*step, failing)?;
-        tokens = tokens.saturating_add(commands as u64);
-        put(answers, index, given);
+/// What was given for a script: the number of its commands, and the answers of its requests, in order.
+#[derive(Clone, Copy)]
+struct Played {
+    tokens: u64,
+    answers: [Answer; 4],
+}
+
+/// A script on a bench, each request run to its reply.
+fn run_on(bench: &mut Bench, script: &[Step], trouble: &Trouble<'_>) -> Result<Played, AllocError> {
+    let mut played = Played {
+        tokens: 0,
+        answers: [Answer::Nothing; 4],
+    };
+    for (index, step) in script.iter().enumerate() {
+        let (commands, given) = bench.run(*step, trouble)?;
+        played.tokens = played.tokens.saturating_add(commands);
+        if index < 4 {
+            played.answers[index] = given;
+        }
     }
-    Ok(tokens)
+    Ok(played)
 }
 
-fn put(answers: &mut [Answer], index: usize, given: Answer) {
-    if let Some(answer) = answers.get_mut(index) {
-        *answer = given;
-    }
+/// The same on a new array.
+fn run(alloc: Global, script: &[Step], trouble: &Trouble<'_>) -> Result<Played, Fail> {
+    let mut bench = Bench::new(alloc, 4, 1, &[], 1)?;
+    Ok(run_on(&mut bench, script, trouble)?)
 }
 
-/// The same on a new array, with the answers.
-fn run(alloc: Global, failing: &[u64]) -> Result<(u64, [Answer; 4]), Fail> {
-    let mut answers = [Answer::Nothing; 4];
-    let mut bench = Bench::new(alloc, 4, 1, &[])?;
-    let tokens = run_on(&mut bench, failing, &mut answers)?;
-    Ok((tokens, answers))
-}
-
-fn are_right(answers: &[Answer]) -> bool {
-    answers == ANSWERS
+/// What the script gives with errors at these tokens.
+fn failing(alloc: Global, tokens: &[u64]) -> Result<Played, Fail> {
+    run(alloc, SCRIPT, &Trouble::Errors(tokens))
 }
 
 /// The script has to have its answers with these errors. The number of its commands.
-fn answers<R: Abort>(rt: &R, alloc: Global, failing: &[u64]) -> Result<u64, Fail> {
-    let (tokens, answers) = run(alloc, failing)?;
-    assert!(rt; are_right(&answers), "errors at {failing:?}: {answers:?}");
-    Ok(tokens)
+fn answers<R: Abort>(rt: &R, alloc: Global, tokens: &[u64]) -> Result<u64, Fail> {
+    let played = failing(alloc, tokens)?;
+    assert!(rt; played.answers == ANSWERS, "errors at {tokens:?}");
+    Ok(played.tokens)
 }
 
 #[test]
@@ -70,27 +74,16 @@ fn one_or_two_errors_at_any_tokens_change_no_answer(rt: HostRuntime) -> Result<(
     Ok(())
 }
 
-/// The number of the script's commands with these errors.
-fn tokens_of(alloc: Global, failing: &[u64]) -> Result<u64, Fail> {
-    let (tokens, _) = run(alloc, failing)?;
-    Ok(tokens)
-}
-
-/// Whether each answer of the script is right or failed with these errors.
-fn is_right_or_failed(alloc: Global, failing: &[u64]) -> Result<bool, Fail> {
-    let (_, answers) = run(alloc, failing)?;
-    Ok(are_right_or_failed(&answers))
-}
-
 #[test]
 fn with_three_errors_each_answer_is_right_or_failed(rt: HostRuntime) -> Result<(), Fail> {
     for first in 0..10u64 {
-        for second in first + 1..tokens_of(rt.alloc(), &[first])? {
-            for third in second + 1..tokens_of(rt.alloc(), &[first, second])? {
-                let failing = [first, second, third];
+        for second in first + 1..failing(rt.alloc(), &[first])?.tokens {
+            for third in second + 1..failing(rt.alloc(), &[first, second])?.tokens {
+                let tokens = [first, second, third];
+                let played = failing(rt.alloc(), &tokens)?;
                 assert!(rt;
-                    is_right_or_failed(rt.alloc(), &failing)?,
-                    "errors at {failing:?}"
+                    are_right_or_failed(&played.answers),
+                    "errors at {tokens:?}"
                 );
             }
         }
@@ -99,14 +92,14 @@ fn with_three_errors_each_answer_is_right_or_failed(rt: HostRuntime) -> Result<(
 }
 
 /// Whether each is the script's answer, until one has failed, and each behind that one is refused.
-fn are_right_or_failed(answers: &[Answer]) -> bool {
+fn are_right_or_failed(answers: &[Answer; 4]) -> bool {
     let mut has_failed = false;
-    for (index, (answer, wanted)) in answers.iter().zip(ANSWERS.iter()).enumerate() {
-        let is_failed = is(answer, &Answer::Failed(index as u64));
+    for index in 0..4usize {
+        let is_failed = is(&answers[index], &Answer::Failed(index as u64));
         let is_right = if has_failed {
-            is(answer, &Answer::Refused(5))
+            is(&answers[index], &Answer::Refused(5))
         } else {
-            is_failed || is(answer, wanted)
+            is_failed || is(&answers[index], &ANSWERS[index])
         };
         if !is_right {
             return false;
@@ -116,27 +109,22 @@ fn are_right_or_failed(answers: &[Answer]) -> bool {
     true
 }
 
-/// Whether a write and a read of it, each run to its reply, have their answers. A look finds the slot lost when the
-/// command of this token is out.
-fn is_right_losing(alloc: Global, slot: usize, at: u64) -> Result<bool, Fail> {
-    let mut bench = Bench::new(alloc, 4, 1, &[])?;
-    Ok(are_right_losing(&mut bench, slot, at)?)
-}
+/// A write, and a read of it.
+const WRITE_AND_READ: &[Step] = &[Step::Write(0, 0x5a), Step::Read(0)];
 
-fn are_right_losing(bench: &mut Bench, slot: usize, at: u64) -> Result<bool, AllocError> {
-    let written = bench.run_losing(Step::Write(0, 0x5a), slot, at)?;
-    let read = bench.run_losing(Step::Read(0), slot, at)?;
-    Ok(is(&written, &Answer::Done(0, 0x5a)) && is(&read, &Answer::Data(1, 0x5a)))
-}
+const WRITTEN_AND_READ: [Answer; 4] = [
+    Answer::Done(0, 0x5a),
+    Answer::Data(1, 0x5a),
+    Answer::Nothing,
+    Answer::Nothing,
+];
 
 #[test]
 fn a_slot_that_a_look_finds_lost_changes_no_answer(rt: HostRuntime) -> Result<(), Fail> {
     for slot in 0..4usize {
         for at in 0..5u64 {
-            assert!(rt;
-                is_right_losing(rt.alloc(), slot, at)?,
-                "slot {slot} at {at}"
-            );
+            let played = run(rt.alloc(), WRITE_AND_READ, &Trouble::Loss(slot, at))?;
+            assert!(rt; played.answers == WRITTEN_AND_READ, "slot {slot} at {at}");
         }
     }
     Ok(())
