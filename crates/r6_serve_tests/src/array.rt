@@ -2,20 +2,13 @@
 
 ghost use Rattle.std.specs.Prelude.{◌≡◌, ◌<◌, IfOk, length};
 
-use crate::steps::filled;
+use crate::blocks::{BLOCK, ROWS, SLOTS, filled};
 use r6_dev::{BlockDevice, MemoryDevice};
 use r6_kernels::Buffer;
 use r6_layout::Geometry;
 use r6_runner::Runner;
 use r6_shard::{Part, Parts, Shard};
 use std::alloc::{AllocError, Global};
-
-/// The bytes of a block.
-pub(crate) const BLOCK: usize = 16;
-
-pub(crate) const SLOTS: usize = 4;
-
-pub(crate) const ROWS: usize = 4;
 
 // A part of a device for a shard, with this byte throughout.
 fn part_of(

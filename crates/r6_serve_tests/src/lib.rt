@@ -1,13 +1,33 @@
-//! Tests of arrays that are served, each shard in a thread of its own.
+//! Tests of shards and of what runs them: a shard, the lists by which it is handed its events, a shard that takes them,
+//! threads, and arrays that are served.
 #![tactic(auto)]
 
 #[cfg(test)]
-mod array;
+mod answers;
 #[cfg(test)]
-mod bench;
+mod array;
+mod asks;
+#[cfg(test)]
+mod blocks;
+#[cfg(test)]
+mod guests;
+#[cfg(test)]
+mod lists;
 #[cfg(test)]
 mod meeting;
 #[cfg(test)]
+mod runner_bench;
+#[cfg(test)]
+mod runners;
+#[cfg(test)]
+mod serve_bench;
+#[cfg(test)]
 mod served;
 #[cfg(test)]
+mod shard_bench;
+#[cfg(test)]
+mod shards;
+#[cfg(test)]
 mod steps;
+#[cfg(test)]
+mod threads;

@@ -1,51 +1,15 @@
-//! Two devices of two shards meet, each at its first command, so that one thread for both shards would never end well.
+//! Where two threads look for one another.
 
-ghost use Rattle.std.specs.Prelude.{◌≡◌, IfOk, length};
-ghost use Rattle.r6_layout.specs.Shape.{IsShape};
+use std::sync::atomic::{AtomicBool, Ordering};
 
-use crate::bench::answer_to;
-use crate::steps::{Answer, Ask, filled};
-use r6_core::Op;
-use r6_dev::{BlockDevice, Fault, MemoryDevice};
-use r6_feed::Event;
-use r6_kernels::Buffer;
-use r6_layout::Geometry;
-use r6_serve::{Config, Served, serve};
-use r6_shard::{Part, Parts};
-use r6_threads::Refused;
-use std::alloc::{AllocError, Global};
-use std::sync::Wait;
-use std::sync::atomic::{AtomicBool, AtomicU64, Ordering};
-use std::test::Fail;
-use std::thread::Threads;
+/// Whether the first and the second of two threads are here.
+#[derive(Drop)]
+pub(crate) struct Meeting {
+    here: [AtomicBool; 2],
+}
 
-// As often a guest looks for the other one.
+// As often one looks for the other.
 const PATIENCE: u64 = 2_000_000_000;
-
-// Where two guests look for one another.
-#[derive(Drop)]
-struct Meeting {
-    first: AtomicBool,
-    second: AtomicBool,
-    // All commands of all devices.
-    commands: AtomicU64,
-}
-
-#[derive(Clone, Copy, PartialEq, Eq)]
-enum Role {
-    First,
-    Second,
-    // It meets nobody, or has met.
-    Other,
-}
-
-// A device that tells no blocks. It is gone if it doesn't meet whom it is to meet.
-#[derive(Drop)]
-struct Guest<'m> {
-    meeting: &'m Meeting,
-    role: Role,
-    zeros: MemoryDevice,
-}
 
 fn look(flag: &AtomicBool) -> bool {
     for _ in 0..PATIENCE {
@@ -56,144 +20,22 @@ fn look(flag: &AtomicBool) -> bool {
     false
 }
 
-// Says that one is here, and looks for the other.
-fn meet(own: &AtomicBool, other: &AtomicBool) -> bool {
-    own.store(true, Ordering::SeqCst);
-    look(other)
-}
+impl Meeting {
+    pub(crate) fn new() -> Meeting {
+        Meeting {
+            here: [AtomicBool::new(false), AtomicBool::new(false)],
+        }
+    }
 
-impl Guest<'_> {
-    fn come(&mut self) -> Result<(), Fault> {
-        let Meeting {
-            first,
-            second,
-            commands,
-        } = self.meeting;
-        commands.fetch_add(1, Ordering::SeqCst);
-        let met = match self.role {
-            Role::First => meet(first, second),
-            Role::Second => meet(second, first),
-            Role::Other => true,
+    /// Says that one is here, and looks for the other; whether it came.
+    pub(crate) fn meet(&self, is_second: bool) -> bool {
+        let [first, second] = &self.here;
+        let (own, other) = if is_second {
+            (second, first)
+        } else {
+            (first, second)
         };
-        self.role = Role::Other;
-        if met { Ok(()) } else { Err(Fault::Gone) }
+        own.store(true, Ordering::SeqCst);
+        look(other)
     }
-}
-
-impl BlockDevice for Guest<'_> {
-    ghost use Rattle.std.specs.Prelude.{None};
-    ghost use Rattle.r6_dev.specs.Promises.{no_promise};
-
-    ghost told = { λ _. None };
-
-    ghost promised = { λ _. no_promise };
-
-    fn read(&mut self, row: u64, buffer: &mut Buffer) -> Result<(), Fault> {
-        match self.come() {
-            Ok(()) => self.zeros.read(row, buffer),
-            Err(_) => Err(Fault::Gone),
-        }
-    }
-
-    fn write(&mut self, row: u64, buffer: &Buffer) -> Result<(), Fault> {
-        match self.come() {
-            Ok(()) => self.zeros.write(row, buffer),
-            Err(_) => Err(Fault::Gone),
-        }
-    }
-}
-
-// A write of block 0 first reads slot 2 of shard 0, and one of block 4 slot 0 of shard 1.
-fn role_of(shard: usize, slot: usize) -> Role {
-    match (shard, slot) {
-        (0, 2) => Role::First,
-        (1, 0) => Role::Second,
-        _ => Role::Other,
-    }
-}
-
-fn parts_of_shard<'m>(
-    alloc: Global,
-    geometry: &Geometry,
-    shard: usize,
-    meeting: &'m Meeting,
-) -> Result<Parts<Guest<'m>>, AllocError> {
-    let mut parts = Vec::with_capacity(alloc, geometry.slots())?;
-    for slot in 0..geometry.slots() {
-        let device = Guest {
-            meeting,
-            role: role_of(shard, slot),
-            zeros: MemoryDevice::new(alloc, 0..geometry.rows(), geometry.block())?,
-        };
-        parts.push(Part {
-            slot,
-            generation: 0,
-            device,
-        })?;
-    }
-    Ok(Parts { parts })
-}
-
-fn parts_of<'m>(
-    alloc: Global,
-    geometry: &Geometry,
-    meeting: &'m Meeting,
-) -> Result<Vec<Parts<Guest<'m>>>, AllocError>
-    ensures { IfOk result (λ parts. length parts.items ≡ geometry.now.shards) }
-{
-    let mut parts = Vec::with_capacity(alloc, geometry.shards())?;
-    for shard in 0..geometry.shards() {
-        parts.push(parts_of_shard(alloc, geometry, shard, meeting)?)?;
-    }
-    Ok(parts)
-}
-
-// Blocks 0 and 4 are written.
-fn serve_guests<'m, R: Threads + Wait + Sync>(
-    rt: &R,
-    alloc: Global,
-    geometry: &Geometry,
-    meeting: &'m Meeting,
-) -> Result<Served<Guest<'m>>, Refused>
-    requires { IsShape geometry.now }
-{
-    let config = Config {
-        geometry: *geometry,
-        window: 1,
-        lost: 0,
-    };
-    let parts = parts_of(alloc, geometry, meeting)?;
-    let mut events = Vec::with_capacity(alloc, 2)?;
-    events.push_reserved(Event::Request(Op::Write(0, filled(alloc, 0x5a)?)));
-    events.push_reserved(Event::Request(Op::Write(4, filled(alloc, 0x5a)?)));
-    serve(rt, alloc, config, parts, events)
-}
-
-// Whether both writes were done, and no command failed.
-fn have_met(served: &Served<Guest<'_>>) -> bool {
-    answer_to(served, Ask::Write(0, 0x5a), 0) == Answer::Done
-        && answer_to(served, Ask::Write(4, 0x5a), 1) == Answer::Done
-        && served
-            .runners
-            .iter()
-            .all(|runner| runner.shard.named == [false; 32])
-}
-
-// Where memory or a thread is wanting, no device was told anything.
-#[test]
-fn each_shard_has_a_thread_of_its_own(rt: HostRuntime) -> Result<(), Fail> {
-    let geometry = Geometry::new(4, 1, 16, 4, 2)?;
-    let meeting = Meeting {
-        first: AtomicBool::new(false),
-        second: AtomicBool::new(false),
-        commands: AtomicU64::new(0),
-    };
-    match serve_guests(&rt, rt.alloc(), &geometry, &meeting) {
-        Ok(served) => assert!(rt; have_met(&served)),
-        Err(refused) => {
-            assert_eq!(rt; meeting.commands.load(Ordering::SeqCst), 0);
-            return Err(Fail::from(refused));
-        }
-    }
-    Ok(())
 }

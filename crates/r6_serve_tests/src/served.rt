@@ -1,43 +1,48 @@
 //! Arrays that are served. Block 0 stands in slot 1, in row 0.
 
-use crate::array::{Found, Held, SLOTS, find};
-use crate::bench::{first_other, play};
-use crate::steps::{Answer, Ask, Step};
+use crate::answers::Answer;
+use crate::array::{Found, Held, find};
+use crate::blocks::SLOTS;
+use crate::serve_bench::{check_steps, play};
+use crate::steps::{Ask, Step};
+use r6_dev::MemoryDevice;
 use r6_feed::Outcome;
 use r6_health::{Answer as Told, Refusal, Snapshot};
+use r6_runner::Runner;
+use r6_serve::Served;
+use std::alloc::{AllocError, Global};
+use std::process::Abort;
 use std::test::Fail;
 
-// Each shard of 1, 2 and 4.
-const SHARDS: [usize; 3] = [1, 2, 4];
+// How many shards the arrays have.
+const SHARDS: &[usize] = &[1, 2, 4];
 
 const WAIT: Step = (Ask::Wait, Answer::Nothing);
 
 // Rows that are all consistent.
 const CONSISTENT: Answer = Answer::Rows([4, 0, 0, 0, 0, 0, 0]);
 
-fn lost(slot: usize, told: Told) -> Step {
-    (
-        Ask::Fail(slot),
-        Answer::Outcome(Outcome::Failed(slot, Ok(told))),
-    )
-}
+const SLOT_1_LOST: Step = (
+    Ask::Fail(1),
+    Answer::Outcome(Outcome::Failed(1, Ok(Told::Degraded))),
+);
 
 #[test]
 fn a_block_is_read_after_its_slot_is_lost(rt: HostRuntime) -> Result<(), Fail> {
-    let steps = [
+    let steps = &[
         (Ask::Write(0, 0x5a), Answer::Done),
         WAIT,
         (Ask::Read(0), Answer::Data(0x5a)),
         WAIT,
-        lost(1, Told::Degraded),
+        SLOT_1_LOST,
         WAIT,
         (Ask::Read(0), Answer::Data(0x5a)),
         WAIT,
         (Ask::Check, Answer::Rows([0, 0, 0, 0, 0, 4, 0])),
     ];
     for shards in SHARDS {
-        let served = play(&rt, rt.alloc(), shards, false, &steps)?;
-        assert_eq!(rt; first_other(&served, &steps), None, "{shards} shards");
+        let served = play(&rt, rt.alloc(), *shards, false, steps)?;
+        check_steps(&rt, &served, steps);
         assert!(rt; served.snapshot.slot(1).is_lost() && !served.snapshot.failed());
     }
     Ok(())
@@ -45,14 +50,14 @@ fn a_block_is_read_after_its_slot_is_lost(rt: HostRuntime) -> Result<(), Fail> {
 
 #[test]
 fn a_wrong_block_is_found_and_repaired(rt: HostRuntime) -> Result<(), Fail> {
-    let steps = [
+    let steps = &[
         (Ask::Check, Answer::Rows([3, 0, 0, 1, 0, 0, 0])),
         (Ask::Repair, Answer::Rows([3, 0, 0, 1, 0, 0, 1])),
         (Ask::Check, CONSISTENT),
     ];
     for shards in SHARDS {
-        let served = play(&rt, rt.alloc(), shards, true, &steps)?;
-        assert_eq!(rt; first_other(&served, &steps), None, "{shards} shards");
+        let served = play(&rt, rt.alloc(), *shards, true, steps)?;
+        check_steps(&rt, &served, steps);
     }
     Ok(())
 }
@@ -62,16 +67,28 @@ fn is_whole(snapshot: &Snapshot) -> bool {
     (0..SLOTS).all(|slot| !snapshot.slot(slot).is_out())
 }
 
+// All blocks stand where they are to stand, and the device came back that had 0x11 throughout.
+fn check_held<R: Abort>(
+    rt: &R,
+    alloc: Global,
+    runners: Vec<Runner<MemoryDevice>>,
+    held: &Held,
+) -> Result<(), AllocError> {
+    let found = find(alloc, runners, held, 0x11)?;
+    assert!(rt; found == Found { right: 16, back: 4 });
+    Ok(())
+}
+
 #[test]
 fn a_new_device_is_rebuilt(rt: HostRuntime) -> Result<(), Fail> {
-    let steps = [
+    let steps = &[
         (Ask::Write(0, 0x5a), Answer::Done),
         (Ask::Write(3, 0xa5), Answer::Done),
         (
             Ask::Attach(1, 0x11),
             Answer::Outcome(Outcome::Attached(1, Err(Refusal::NotLost))),
         ),
-        lost(1, Told::Degraded),
+        SLOT_1_LOST,
         (
             Ask::Attach(1, 0x22),
             Answer::Outcome(Outcome::Attached(1, Ok(1))),
@@ -94,24 +111,29 @@ fn a_new_device_is_rebuilt(rt: HostRuntime) -> Result<(), Fail> {
         ],
     };
     for shards in SHARDS {
-        let served = play(&rt, rt.alloc(), shards, false, &steps)?;
-        assert_eq!(rt; first_other(&served, &steps), None, "{shards} shards");
+        let served = play(&rt, rt.alloc(), *shards, false, steps)?;
+        check_steps(&rt, &served, steps);
         assert!(rt; is_whole(&served.snapshot));
-        let found = find(rt.alloc(), served.runners, &held, 0x11)?;
-        assert_eq!(rt; found, Found { right: 16, back: 4 }, "{shards} shards");
+        check_held(&rt, rt.alloc(), served.runners, &held)?;
     }
     Ok(())
 }
 
 #[test]
 fn a_third_loss_fails_the_array(rt: HostRuntime) -> Result<(), Fail> {
-    let steps = [
+    let steps = &[
         (Ask::Write(0, 0x5a), Answer::Done),
         (Ask::Read(8), Answer::Outcome(Outcome::OutOfRange)),
         WAIT,
-        lost(0, Told::Degraded),
-        lost(1, Told::Degraded),
-        lost(2, Told::Failed),
+        (
+            Ask::Fail(0),
+            Answer::Outcome(Outcome::Failed(0, Ok(Told::Degraded))),
+        ),
+        SLOT_1_LOST,
+        (
+            Ask::Fail(2),
+            Answer::Outcome(Outcome::Failed(2, Ok(Told::Failed))),
+        ),
         (Ask::Read(0), Answer::ArrayFailed),
         (Ask::Write(4, 1), Answer::ArrayFailed),
         (
@@ -120,20 +142,29 @@ fn a_third_loss_fails_the_array(rt: HostRuntime) -> Result<(), Fail> {
         ),
         (Ask::Check, Answer::Rows([0; 7])),
     ];
-    let served = play(&rt, rt.alloc(), 2, false, &steps)?;
-    assert_eq!(rt; first_other(&served, &steps), None);
+    let served = play(&rt, rt.alloc(), 2, false, steps)?;
+    check_steps(&rt, &served, steps);
     assert!(rt; served.snapshot.failed());
+    Ok(())
+}
+
+fn check_none<R: Abort>(rt: &R, served: &Served<MemoryDevice>) {
+    assert!(rt; served.answers.is_empty() && is_whole(&served.snapshot));
+    assert!(rt; served.runners.len() == 4);
+}
+
+#[test]
+fn no_event_is_served(rt: HostRuntime) -> Result<(), Fail> {
+    let served = play(&rt, rt.alloc(), 4, false, &[])?;
+    check_none(&rt, &served);
     Ok(())
 }
 
 // More than a list has room for.
 #[test]
-fn many_requests_or_none_are_served(rt: HostRuntime) -> Result<(), Fail> {
-    let reads = [(Ask::Read(5), Answer::Data(0)); 600];
-    let served = play(&rt, rt.alloc(), 2, false, &reads)?;
-    assert_eq!(rt; first_other(&served, &reads), None);
-    let served = play(&rt, rt.alloc(), 4, false, &[])?;
-    assert!(rt; served.answers.is_empty() && is_whole(&served.snapshot));
-    assert_eq!(rt; served.runners.len(), 4);
+fn many_requests_are_served(rt: HostRuntime) -> Result<(), Fail> {
+    let reads = &[(Ask::Read(5), Answer::Data(0)); 600];
+    let served = play(&rt, rt.alloc(), 2, false, reads)?;
+    check_steps(&rt, &served, reads);
     Ok(())
 }

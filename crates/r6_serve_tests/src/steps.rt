@@ -1,12 +1,14 @@
 //! What the events of a test ask, and what each is to be answered.
 
-ghost use Rattle.std.specs.Prelude.{◌≡◌, IfOk, length};
+ghost use Rattle.std.specs.Prelude.{IfOk};
 ghost use Rattle.r6_feed.specs.Events.{IsWhole, AreWhole};
 
-use crate::array::{BLOCK, device_of};
+use crate::answers::Answer;
+use crate::array::device_of;
+use crate::blocks::{BLOCK, filled};
 use r6_core::{Counts, Op};
 use r6_dev::MemoryDevice;
-use r6_feed::{Event, Outcome};
+use r6_feed::Event;
 use r6_kernels::Buffer;
 use r6_layout::Geometry;
 use std::alloc::{AllocError, Global};
@@ -27,27 +29,6 @@ pub(crate) enum Ask {
     Repair,
 }
 
-/// What an event is answered.
-#[derive(Clone, Copy, PartialEq, Eq, Debug)]
-pub(crate) enum Answer {
-    /// A read: a block with this byte throughout.
-    Data(u8),
-    /// A read: a block with several bytes.
-    Mixed,
-    Done,
-    /// That the array has failed, or refused for that.
-    ArrayFailed,
-    /// Refused, by this number.
-    Refused(u8),
-    /// By no shard.
-    Outcome(Outcome),
-    /// A check or repair: the rows that are consistent, have a wrong P, Q or block of data, or many, were skipped, and
-    /// were repaired.
-    Rows([u64; 7]),
-    /// It was not.
-    Nothing,
-}
-
 /// What an event asks, and what it is to be answered.
 pub(crate) type Step = (Ask, Answer);
 
@@ -62,15 +43,6 @@ pub(crate) fn rows_of(counts: &Counts) -> [u64; 7] {
         counts.skipped,
         counts.repaired,
     ]
-}
-
-/// A block with this byte throughout.
-pub(crate) fn filled(alloc: Global, byte: u8) -> Result<Buffer, AllocError>
-    ensures { IfOk result (λ block. length block ≡ 16) }
-{
-    let mut block = Buffer::new(alloc, BLOCK)?;
-    block.copy_from_slice(&[byte; BLOCK]);
-    Ok(block)
 }
 
 fn event_of(alloc: Global, geometry: &Geometry, ask: Ask) -> Result<Event<MemoryDevice>, AllocError>

@@ -1,0 +1,82 @@
+//! What the events of a test are answered.
+
+use r6_core::{Refusal, Reply};
+use r6_feed::Outcome;
+use r6_kernels::Buffer;
+use r6_shard::Entry;
+use std::process::Abort;
+
+/// What an event is answered.
+#[derive(Clone, Copy, PartialEq, Eq, Debug)]
+pub(crate) enum Answer {
+    /// A read: a block with this byte throughout.
+    Data(u8),
+    /// A read: a block with several bytes.
+    Mixed,
+    Done,
+    /// That the array has failed.
+    ArrayFailed,
+    /// Refused, by this number.
+    Refused(u8),
+    /// By no shard.
+    Outcome(Outcome),
+    /// A check or repair: the rows that are consistent, have a wrong P, Q or block of data, or many, were skipped, and
+    /// were repaired.
+    Rows([u64; 7]),
+    /// It was not.
+    Nothing,
+}
+
+fn read_of(block: &Buffer) -> Answer {
+    let bytes = block.as_slice();
+    match bytes.first() {
+        Some(byte) if bytes.iter().all(|other| *other == *byte) => Answer::Data(*byte),
+        _ => Answer::Mixed,
+    }
+}
+
+fn answer_of(reply: &Reply) -> Answer {
+    match reply {
+        Reply::Data(block) => read_of(block),
+        Reply::Done(_) => Answer::Done,
+        Reply::ArrayFailed(_) => Answer::ArrayFailed,
+    }
+}
+
+/// What a shard answered to an event, by its ledger and its refusals.
+pub(crate) fn answer_in(entries: &[Entry], refused: &[(u64, Refusal)], event: u64) -> Answer {
+    if let Some((_, refusal)) = refused.iter().find(|(refused, _)| *refused == event) {
+        return Answer::Refused(refusal.number());
+    }
+    match entries.iter().find(|entry| entry.event == event) {
+        Some(entry) => answer_of(&entry.reply),
+        None => Answer::Nothing,
+    }
+}
+
+/// Asserts that an event was answered so.
+pub(crate) fn check<R: Abort>(rt: &R, event: u64, found: &Answer, wanted: &Answer) {
+    assert!(rt; found == wanted, "event {event}: {found:?}");
+}
+
+/// Asserts that a shard answered so to the events from 0 on, and to no others.
+pub(crate) fn check_all<R: Abort>(
+    rt: &R,
+    entries: &[Entry],
+    refused: &[(u64, Refusal)],
+    wanted: &[Answer],
+) {
+    let mut answered: usize = 0;
+    for (event, answer) in wanted.iter().enumerate() {
+        check(
+            rt,
+            event as u64,
+            &answer_in(entries, refused, event as u64),
+            answer,
+        );
+        if *answer != Answer::Nothing {
+            answered = answered.wrapping_add(1);
+        }
+    }
+    assert!(rt; entries.len().saturating_add(refused.len()) == answered);
+}

@@ -1,0 +1,399 @@
+//! The shards of an array of zeros, over devices in memory and beside its register, from the array's beginning on.
+
+ghost use Rattle.std.specs.Prelude.{◌≡◌, ◌<◌, length, IfOk};
+ghost use Rattle.r6_layout.specs.Shape.{IsShape};
+ghost use Rattle.r6_health.specs.Passes.{view_of, IsPassOf};
+ghost use Rattle.r6_health.specs.Registers.{starting};
+ghost use Rattle.r6_shard.specs.Beginnings.{IsFirstPass};
+
+use crate::answers::{Answer, answer_in, check, check_all};
+use crate::blocks::{BLOCK, ROWS, SLOTS, filled};
+use r6_core::{Op, Refused};
+use r6_dev::MemoryDevice;
+use r6_health::{Pass, Register, Snapshot};
+use r6_kernels::Buffer;
+use r6_layout::Geometry;
+use r6_shard::{Asking, Job, Part, PartRefusal, Parts, Place, Served, Shard, serve};
+use std::alloc::{AllocError, Global};
+use std::collections::VecDeque;
+use std::process::Abort;
+use std::sync::Wait;
+use std::test::Fail;
+
+/// The rows of each slot's device.
+pub(crate) type DeviceRows = [u64; SLOTS];
+
+pub(crate) const ALL_ROWS: DeviceRows = [4; SLOTS];
+
+/// The device of slot 1 has no rows: its first command fails.
+pub(crate) const WITHOUT_SLOT_1: DeviceRows = [4, 0, 4, 4];
+
+/// What a request asks.
+#[derive(Clone, Copy)]
+pub(crate) enum Request {
+    /// To write this byte throughout a block.
+    Write(u64, u8),
+    /// To read a block.
+    Read(u64),
+    /// The same, into a buffer of this length.
+    ReadInto(u64, usize),
+}
+
+/// What became of a part that was handed in.
+#[derive(Clone, Copy, PartialEq, Eq)]
+pub(crate) enum Handed {
+    /// It is the first of its generation.
+    First,
+    /// An earlier one came back.
+    Later,
+    /// The part of this generation came back.
+    Refused(PartRefusal, u32),
+}
+
+/// A turn in the course of a shard.
+#[derive(Clone, Copy)]
+pub(crate) enum Turn {
+    /// A request is handed in, and answered so once the shard has nothing left to do.
+    Asks(Request, Answer),
+    /// A part of this generation with so many rows is handed in for slot 1.
+    Hands(u32, u64, Handed),
+    /// Slot 1 gets its first new device.
+    Attaches,
+    /// The shard goes on until nothing is left to do.
+    Runs,
+    /// Slot 1 is lost.
+    IsLost,
+    /// Slot 1 is in sync.
+    IsInSync,
+    /// No command of the shard failed.
+    HasNamedNone,
+}
+
+/// What a shard does from its beginning on.
+#[derive(Clone, Copy)]
+pub(crate) enum Course<'c> {
+    InTurn(&'c [Turn]),
+    /// These requests are handed in together, and are answered so. Slot 1 is lost then if its device has no rows, and
+    /// no other slot.
+    AtOnce(&'c [Request], &'c [Answer]),
+}
+
+type MemoryShard = Shard<Parts<MemoryDevice>>;
+
+fn op_of(alloc: Global, request: Request) -> Result<Op, AllocError> {
+    match request {
+        Request::Write(block, byte) => Ok(Op::Write(block, filled(alloc, byte)?)),
+        Request::Read(block) => Ok(Op::Read(block, Buffer::new(alloc, BLOCK)?)),
+        Request::ReadInto(block, len) => Ok(Op::Read(block, Buffer::new(alloc, len)?)),
+    }
+}
+
+// The requests, of events with the numbers from 0 on.
+fn askings_of(alloc: Global, requests: &[Request]) -> Result<VecDeque<Asking>, AllocError> {
+    let mut askings = VecDeque::new(alloc);
+    for (event, request) in requests.iter().enumerate() {
+        let op = op_of(alloc, *request)?;
+        askings.push_back(Asking {
+            event: event as u64,
+            op,
+        })?;
+    }
+    Ok(askings)
+}
+
+// A device of zeros with so many rows, which a slot has after so many attaches.
+fn part_of(
+    alloc: Global,
+    slot: usize,
+    generation: u32,
+    rows: u64,
+) -> Result<Part<MemoryDevice>, AllocError> {
+    let device = MemoryDevice::new(alloc, 0..rows, BLOCK)?;
+    Ok(Part {
+        slot,
+        generation,
+        device,
+    })
+}
+
+/// A device of zeros for each slot, with so many rows, and room for a part more.
+pub(crate) fn parts_of(
+    alloc: Global,
+    rows: &DeviceRows,
+) -> Result<Parts<MemoryDevice>, AllocError> {
+    let mut parts = Vec::with_capacity(alloc, SLOTS + 1)?;
+    for slot in 0..SLOTS {
+        parts.push(part_of(alloc, slot, 0, rows[slot])?)?;
+    }
+    Ok(Parts { parts })
+}
+
+// Hands a request in; the number of its refusal, if it is refused.
+fn submit(shard: &mut MemoryShard, event: u64, op: Op) -> Option<u8>
+    requires { length shard.old.asked.items < shard.old.room }
+    ensures { shard.new.pass ≡ shard.old.pass }
+{
+    match shard.submit(event, op) {
+        Ok(_) => None,
+        Err(Refused { refusal, back: _ }) => Some(refusal.number()),
+    }
+}
+
+fn run<R: Wait>(rt: &R, shard: &mut MemoryShard, register: &Register)
+    requires { IsPassOf register.now shard.old.pass }
+    ensures { IsPassOf register.now shard.new.pass }
+{
+    shard.run(rt, register);
+}
+
+// What a request is answered, once nothing is left to do.
+fn answer<R: Wait>(
+    rt: &R,
+    shard: &mut MemoryShard,
+    register: &Register,
+    event: u64,
+    op: Op,
+) -> Answer
+    requires { IsPassOf register.now shard.old.pass }
+    ensures { IsPassOf register.now shard.new.pass }
+{
+    if !shard.has_room() {
+        return Answer::Nothing;
+    }
+    let refused = submit(shard, event, op);
+    run(rt, shard, register);
+    match refused {
+        Some(number) => Answer::Refused(number),
+        None => answer_in(shard.entries.as_slice(), &[], event),
+    }
+}
+
+// What becomes of a part. The shard's pass stays what it was.
+fn hand_in(shard: &mut MemoryShard, part: Part<MemoryDevice>) -> Handed
+    ensures { shard.new.pass ≡ shard.old.pass }
+{
+    match shard.hand_in(part) {
+        Ok(None) => Handed::First,
+        Ok(Some(_)) => Handed::Later,
+        Err(refused) => Handed::Refused(refused.refusal, refused.part.generation),
+    }
+}
+
+// Slot 1 gets a new device; whether it is the array's first.
+fn attach<R: Wait>(rt: &R, register: &Register, caller: &mut Pass) -> bool
+    requires { IsPassOf register.now caller.old }
+    ensures { IsPassOf register.now caller.new }
+{
+    matches!(register.attach(rt, caller, 1), Ok(1))
+}
+
+// Whether slot 1 is lost, and whether it is lost or rebuilt.
+fn look<R: Wait>(rt: &R, register: &Register, caller: &mut Pass) -> (bool, bool)
+    requires { IsPassOf register.now caller.old }
+    ensures { IsPassOf register.now caller.new }
+{
+    let slot = register.read(rt, caller).slot(1);
+    (slot.is_lost(), slot.is_out())
+}
+
+// Whether a turn goes as it says.
+fn goes<R: Wait + Abort>(
+    rt: &R,
+    alloc: Global,
+    shard: &mut MemoryShard,
+    register: &Register,
+    caller: &mut Pass,
+    event: u64,
+    turn: Turn,
+) -> Result<bool, AllocError>
+    requires shard { IsPassOf register.now shard.old.pass }
+    requires caller { IsPassOf register.now caller.old }
+    ensures shard { IsPassOf register.now shard.new.pass }
+    ensures caller { IsPassOf register.now caller.new }
+{
+    match turn {
+        Turn::Asks(request, wanted) => {
+            let op = op_of(alloc, request)?;
+            let found = answer(rt, shard, register, event, op);
+            check(rt, event, &found, &wanted);
+        }
+        Turn::Hands(generation, rows, wanted) => {
+            let part = part_of(alloc, 1, generation, rows)?;
+            return Ok(hand_in(shard, part) == wanted);
+        }
+        Turn::Attaches => return Ok(attach(rt, register, caller)),
+        Turn::Runs => run(rt, shard, register),
+        Turn::IsLost => return Ok(look(rt, register, caller).0),
+        Turn::IsInSync => return Ok(!look(rt, register, caller).1),
+        Turn::HasNamedNone => return Ok(shard.named == [false; 32]),
+    }
+    Ok(true)
+}
+
+// Each turn has to go as it says.
+fn go_all<R: Wait + Abort>(
+    rt: &R,
+    alloc: Global,
+    shard: &mut MemoryShard,
+    register: &Register,
+    caller: &mut Pass,
+    turns: &[Turn],
+) -> Result<(), AllocError>
+    requires shard { IsPassOf register.now shard.old.pass }
+    requires caller { IsPassOf register.now caller.old }
+    ensures { IsPassOf register.now caller.new }
+{
+    for (number, turn) in turns.iter().enumerate() {
+        let went = goes(rt, alloc, shard, register, caller, number as u64, *turn)?;
+        assert!(rt; went, "turn {number}");
+    }
+    Ok(())
+}
+
+fn play_in_turn<R: Wait + Abort>(
+    rt: &R,
+    alloc: Global,
+    place: Place,
+    register: &Register,
+    pass: Pass,
+    caller: &mut Pass,
+    rows: &DeviceRows,
+    turns: &[Turn],
+) -> Result<(), AllocError>
+    requires limits { IsShape place.geometry }
+    requires number { place.number < place.geometry.shards }
+    requires window { place.window ≡ 1 }
+    requires pass { IsPassOf register.now pass }
+    requires first { IsFirstPass place.geometry (starting 0) (view_of pass) }
+    requires caller { IsPassOf register.now caller.old }
+    ensures { IsPassOf register.now caller.new }
+{
+    let snapshot = Snapshot::start(&place.geometry, 0);
+    let parts = parts_of(alloc, rows)?;
+    let mut shard = Shard::new(alloc, place, &snapshot, pass, parts, turns.len())?;
+    go_all(rt, alloc, &mut shard, register, caller, turns)
+}
+
+// The requests are served, from the beginning of the shard to its end.
+fn serve_all<R: Wait>(
+    rt: &R,
+    alloc: Global,
+    register: &Register,
+    job: Job<Parts<MemoryDevice>>,
+) -> Result<Served<Parts<MemoryDevice>>, AllocError>
+    requires limits { IsShape job.place.geometry }
+    requires number { job.place.number < job.place.geometry.shards }
+    requires window { job.place.window ≡ 1 }
+    requires pass { IsPassOf register.now job.pass }
+    requires first { IsFirstPass job.place.geometry (starting 0) (view_of job.pass) }
+{
+    let snapshot = Snapshot::start(&job.place.geometry, 0);
+    serve(rt, alloc, &snapshot, register, job)
+}
+
+fn play_at_once<R: Wait + Abort>(
+    rt: &R,
+    alloc: Global,
+    place: Place,
+    register: &Register,
+    pass: Pass,
+    rows: &DeviceRows,
+    requests: &[Request],
+    wanted: &[Answer],
+) -> Result<(), AllocError>
+    requires limits { IsShape place.geometry }
+    requires number { place.number < place.geometry.shards }
+    requires window { place.window ≡ 1 }
+    requires pass { IsPassOf register.now pass }
+    requires first { IsFirstPass place.geometry (starting 0) (view_of pass) }
+{
+    let parts = parts_of(alloc, rows)?;
+    let askings = askings_of(alloc, requests)?;
+    let job = Job {
+        place,
+        pass,
+        parts,
+        askings,
+    };
+    let ended = serve_all(rt, alloc, register, job)?;
+    check_all(
+        rt,
+        ended.shard.entries.as_slice(),
+        ended.refused.as_slice(),
+        wanted,
+    );
+    check_named(rt, &ended.shard, rows[1] == 0);
+    Ok(())
+}
+
+// No slot was named, but slot 1 if it is lost.
+fn check_named<R: Abort>(rt: &R, shard: &MemoryShard, is_lost: bool) {
+    let mut named = [false; 32];
+    named[1] = is_lost;
+    assert!(rt; shard.named == named);
+}
+
+// A shard of an array that begins plays its course.
+fn play_course<R: Wait + Abort>(
+    rt: &R,
+    alloc: Global,
+    place: Place,
+    register: &Register,
+    pass: Pass,
+    caller: &mut Pass,
+    rows: &DeviceRows,
+    course: Course,
+) -> Result<(), AllocError>
+    requires limits { IsShape place.geometry }
+    requires number { place.number < place.geometry.shards }
+    requires window { place.window ≡ 1 }
+    requires pass { IsPassOf register.now pass }
+    requires first { IsFirstPass place.geometry (starting 0) (view_of pass) }
+    requires caller { IsPassOf register.now caller.old }
+    ensures { IsPassOf register.now caller.new }
+{
+    match course {
+        Course::InTurn(turns) => {
+            play_in_turn(rt, alloc, place, register, pass, caller, rows, turns)
+        }
+        Course::AtOnce(requests, wanted) => {
+            play_at_once(rt, alloc, place, register, pass, rows, requests, wanted)?;
+            assert!(rt; look(rt, register, caller).0 == (rows[1] == 0));
+            Ok(())
+        }
+    }
+}
+
+/// The shards of an array play these courses, one after the other, each over devices of its own with so many rows.
+#[tactic(auto, using(crate::proofs::Passes::first_pass, crate::proofs::Passes::split_pass))]
+pub(crate) fn play<R: Wait + Abort>(
+    rt: &R,
+    alloc: Global,
+    courses: &[(DeviceRows, Course)],
+) -> Result<(), Fail> {
+    let geometry = Geometry::new(SLOTS, 1, BLOCK, ROWS as u64, courses.len())?;
+    let (register, mut first) = Register::new(rt, alloc, &geometry, 0)?;
+    let mut caller = register.split(&mut first);
+    for number in 0..geometry.shards() {
+        let Some((rows, course)) = courses.get(number) else {
+            break;
+        };
+        let pass = register.split(&mut first);
+        let place = Place {
+            geometry,
+            number,
+            window: 1,
+        };
+        play_course(
+            rt,
+            alloc,
+            place,
+            &register,
+            pass,
+            &mut caller,
+            rows,
+            *course,
+        )?;
+    }
+    Ok(())
+}

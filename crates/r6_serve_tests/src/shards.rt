@@ -1,0 +1,115 @@
+//! What shards do of their requests and parts. Block 0 stands in slot 1, in row 0.
+
+use crate::answers::Answer;
+use crate::shard_bench::{ALL_ROWS, Course, Handed, Request, Turn, WITHOUT_SLOT_1, play};
+use r6_shard::PartRefusal;
+use std::test::Fail;
+
+#[test]
+fn what_was_written_is_read(rt: HostRuntime) -> Result<(), Fail> {
+    let turns = &[
+        Turn::Asks(Request::Write(0, 7), Answer::Done),
+        Turn::Asks(Request::Write(3, 9), Answer::Done),
+        Turn::Asks(Request::Read(0), Answer::Data(7)),
+        Turn::Asks(Request::Read(3), Answer::Data(9)),
+        Turn::Asks(Request::Read(1), Answer::Data(0)),
+        Turn::HasNamedNone,
+    ];
+    play(&rt, rt.alloc(), &[(ALL_ROWS, Course::InTurn(turns))])
+}
+
+#[test]
+fn a_failed_device_is_named_and_read_by_parity(rt: HostRuntime) -> Result<(), Fail> {
+    let requests = &[Request::Write(0, 7), Request::Read(0), Request::Read(1)];
+    let wanted = &[Answer::Done, Answer::Data(7), Answer::Data(0)];
+    play(
+        &rt,
+        rt.alloc(),
+        &[(WITHOUT_SLOT_1, Course::AtOnce(requests, wanted))],
+    )
+}
+
+// The first command of each request is put out when it is handed in, and those are performed in this order: the reads
+// come before what the writes write.
+#[test]
+fn reads_beside_writes_give_what_the_devices_have(rt: HostRuntime) -> Result<(), Fail> {
+    let requests = &[
+        Request::Write(0, 7),
+        Request::Write(3, 9),
+        Request::Read(0),
+        Request::Read(3),
+    ];
+    let wanted = &[Answer::Done, Answer::Done, Answer::Data(0), Answer::Data(0)];
+    play(
+        &rt,
+        rt.alloc(),
+        &[(ALL_ROWS, Course::AtOnce(requests, wanted))],
+    )
+}
+
+// Only 256 requests may be open at one time.
+#[test]
+fn more_requests_are_served_than_may_be_open(rt: HostRuntime) -> Result<(), Fail> {
+    let mut requests = [Request::Read(5); 300];
+    requests[0] = Request::Write(0, 3);
+    requests[299] = Request::Read(0);
+    let mut wanted = [Answer::Data(0); 300];
+    wanted[0] = Answer::Done;
+    wanted[299] = Answer::Data(3);
+    play(
+        &rt,
+        rt.alloc(),
+        &[(ALL_ROWS, Course::AtOnce(&requests, &wanted))],
+    )
+}
+
+#[test]
+fn a_request_of_another_length_is_refused(rt: HostRuntime) -> Result<(), Fail> {
+    let requests = &[
+        Request::Write(0, 7),
+        Request::ReadInto(0, 15),
+        Request::Write(1, 9),
+    ];
+    let wanted = &[Answer::Done, Answer::Refused(3), Answer::Done];
+    play(
+        &rt,
+        rt.alloc(),
+        &[(ALL_ROWS, Course::AtOnce(requests, wanted))],
+    )
+}
+
+// Shard 0 has blocks 0 to 3, and shard 1 blocks 4 to 7. What the one loses, the other answers without.
+#[test]
+fn two_shards_have_one_register(rt: HostRuntime) -> Result<(), Fail> {
+    let requests = &[Request::Write(0, 7), Request::Read(0)];
+    let wanted = &[Answer::Done, Answer::Data(7)];
+    let turns = &[
+        Turn::Asks(Request::Write(4, 8), Answer::Done),
+        Turn::Asks(Request::Read(4), Answer::Data(8)),
+        Turn::Asks(Request::Read(0), Answer::Refused(2)),
+        Turn::HasNamedNone,
+        Turn::IsLost,
+    ];
+    let first = (WITHOUT_SLOT_1, Course::AtOnce(requests, wanted));
+    let second = (ALL_ROWS, Course::InTurn(turns));
+    play(&rt, rt.alloc(), &[first, second])
+}
+
+// Of two parts for one generation the later is rebuilt, here one with rows; the earlier has none.
+#[test]
+fn the_later_part_of_an_attach_is_rebuilt_and_read(rt: HostRuntime) -> Result<(), Fail> {
+    let turns = &[
+        Turn::Asks(Request::Write(0, 7), Answer::Done),
+        Turn::Hands(1, 0, Handed::First),
+        Turn::IsLost,
+        Turn::Attaches,
+        Turn::Hands(1, 4, Handed::Later),
+        Turn::Runs,
+        Turn::IsInSync,
+        Turn::Asks(Request::Read(0), Answer::Data(7)),
+        Turn::IsInSync,
+        Turn::Hands(1, 4, Handed::Refused(PartRefusal::Looked, 1)),
+        Turn::Hands(2, 4, Handed::Refused(PartRefusal::NoRoom, 2)),
+    ];
+    play(&rt, rt.alloc(), &[(WITHOUT_SLOT_1, Course::InTurn(turns))])
+}
