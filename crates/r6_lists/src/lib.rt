@@ -20,6 +20,3 @@ pub use producer::Producer;
 pub use settlement::Settlement;
 pub use stage::Stage;
 pub use work::Work;
-
-#[cfg(test)]
-mod tests;

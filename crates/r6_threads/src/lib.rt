@@ -9,6 +9,3 @@ mod work;
 
 pub use run::{Refused, Unbegun, run_all, run_or_return};
 pub use work::Work;
-
-#[cfg(test)]
-mod tests;
