@@ -25,8 +25,21 @@ pub(crate) type DeviceRows = [u64; SLOTS];
 
 pub(crate) const ALL_ROWS: DeviceRows = [4; SLOTS];
 
-/// The device of slot 1 has no rows: its first command fails.
-pub(crate) const WITHOUT_SLOT_1: DeviceRows = [4, 0, 4, 4];
+/// Which devices a shard has.
+#[derive(Clone, Copy)]
+pub(crate) enum Devices {
+    /// Each has all rows.
+    Whole,
+    /// That of slot 1 has no rows: its first command fails.
+    WithoutSlot1,
+}
+
+fn rows_of(devices: Devices) -> DeviceRows {
+    match devices {
+        Devices::Whole => ALL_ROWS,
+        Devices::WithoutSlot1 => [4, 0, 4, 4],
+    }
+}
 
 /// What a request asks.
 #[derive(Clone, Copy)]
@@ -364,20 +377,21 @@ fn play_course<R: Wait + Abort>(
     }
 }
 
-/// The shards of an array play these courses, one after the other, each over devices of its own with so many rows.
+/// The shards of an array play these courses, one after the other, each over devices of its own.
 #[tactic(auto, using(crate::proofs::Passes::first_pass, crate::proofs::Passes::split_pass))]
 pub(crate) fn play<R: Wait + Abort>(
     rt: &R,
     alloc: Global,
-    courses: &[(DeviceRows, Course)],
+    courses: &[(Devices, Course)],
 ) -> Result<(), Fail> {
     let geometry = Geometry::new(SLOTS, 1, BLOCK, ROWS as u64, courses.len())?;
     let (register, mut first) = Register::new(rt, alloc, &geometry, 0)?;
     let mut caller = register.split(&mut first);
     for number in 0..geometry.shards() {
-        let Some((rows, course)) = courses.get(number) else {
+        let Some((devices, course)) = courses.get(number) else {
             break;
         };
+        let rows = rows_of(*devices);
         let pass = register.split(&mut first);
         let place = Place {
             geometry,
@@ -391,7 +405,7 @@ pub(crate) fn play<R: Wait + Abort>(
             &register,
             pass,
             &mut caller,
-            rows,
+            &rows,
             *course,
         )?;
     }

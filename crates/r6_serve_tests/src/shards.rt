@@ -1,7 +1,7 @@
 //! What shards do of their requests and parts. Block 0 stands in slot 1, in row 0.
 
 use crate::answers::Answer;
-use crate::shard_bench::{ALL_ROWS, Course, Handed, Request, Turn, WITHOUT_SLOT_1, play};
+use crate::shard_bench::{Course, Devices, Handed, Request, Turn, play};
 use r6_shard::PartRefusal;
 use std::test::Fail;
 
@@ -15,7 +15,7 @@ fn what_was_written_is_read(rt: HostRuntime) -> Result<(), Fail> {
         Turn::Asks(Request::Read(1), Answer::Data(0)),
         Turn::HasNamedNone,
     ];
-    play(&rt, rt.alloc(), &[(ALL_ROWS, Course::InTurn(turns))])
+    play(&rt, rt.alloc(), &[(Devices::Whole, Course::InTurn(turns))])
 }
 
 #[test]
@@ -25,7 +25,7 @@ fn a_failed_device_is_named_and_read_by_parity(rt: HostRuntime) -> Result<(), Fa
     play(
         &rt,
         rt.alloc(),
-        &[(WITHOUT_SLOT_1, Course::AtOnce(requests, wanted))],
+        &[(Devices::WithoutSlot1, Course::AtOnce(requests, wanted))],
     )
 }
 
@@ -43,7 +43,7 @@ fn reads_beside_writes_give_what_the_devices_have(rt: HostRuntime) -> Result<(),
     play(
         &rt,
         rt.alloc(),
-        &[(ALL_ROWS, Course::AtOnce(requests, wanted))],
+        &[(Devices::Whole, Course::AtOnce(requests, wanted))],
     )
 }
 
@@ -59,7 +59,7 @@ fn more_requests_are_served_than_may_be_open(rt: HostRuntime) -> Result<(), Fail
     play(
         &rt,
         rt.alloc(),
-        &[(ALL_ROWS, Course::AtOnce(&requests, &wanted))],
+        &[(Devices::Whole, Course::AtOnce(&requests, &wanted))],
     )
 }
 
@@ -74,7 +74,7 @@ fn a_request_of_another_length_is_refused(rt: HostRuntime) -> Result<(), Fail> {
     play(
         &rt,
         rt.alloc(),
-        &[(ALL_ROWS, Course::AtOnce(requests, wanted))],
+        &[(Devices::Whole, Course::AtOnce(requests, wanted))],
     )
 }
 
@@ -90,8 +90,8 @@ fn two_shards_have_one_register(rt: HostRuntime) -> Result<(), Fail> {
         Turn::HasNamedNone,
         Turn::IsLost,
     ];
-    let first = (WITHOUT_SLOT_1, Course::AtOnce(requests, wanted));
-    let second = (ALL_ROWS, Course::InTurn(turns));
+    let first = (Devices::WithoutSlot1, Course::AtOnce(requests, wanted));
+    let second = (Devices::Whole, Course::InTurn(turns));
     play(&rt, rt.alloc(), &[first, second])
 }
 
@@ -111,5 +111,9 @@ fn the_later_part_of_an_attach_is_rebuilt_and_read(rt: HostRuntime) -> Result<()
         Turn::Hands(1, 4, Handed::Refused(PartRefusal::Looked, 1)),
         Turn::Hands(2, 4, Handed::Refused(PartRefusal::NoRoom, 2)),
     ];
-    play(&rt, rt.alloc(), &[(WITHOUT_SLOT_1, Course::InTurn(turns))])
+    play(
+        &rt,
+        rt.alloc(),
+        &[(Devices::WithoutSlot1, Course::InTurn(turns))],
+    )
 }

@@ -49,7 +49,7 @@ pub come_home-requires-clause-abandoned : goal.come_home-requires-clause-abandon
 come_home-requires-clause-abandoned c = c.is_abandoned.ensures.0 c.if-is_abandoned.true
 
 pub come_home-requires-clause-size : goal.come_home-requires-clause-size
-come_home-requires-clause-size c = 
+come_home-requires-clause-size c =
     let size = sized c.args.completion c.args.self.now.frames.geometry.block c.requires.right.1.0 in
     elim c.match-completion.branch [
       | in-Ok w ↦ ap length (w.buffer-is ∙ sym (ap buffer_in w.in-Ok.is)) ∙ size
@@ -90,7 +90,7 @@ pub returns-in-Ok-completion-clause-order : goal.returns-in-Ok-completion-clause
 returns-in-Ok-completion-clause-order c = subst (λ (x : Result (List ℕ) DeviceFault). Seen (FinishesBy x) c.args.self.now c.answer.new.self) (sym c.in-Ok-completion.is) c.answer.ensures.order
 
 pub returns-in-Ok-completion-clause-others : goal.returns-in-Ok-completion-clause-others
-returns-in-Ok-completion-clause-others c = 
+returns-in-Ok-completion-clause-others c =
     if_ok_all c.args.completion ((frame : ℕ) × KeepsOthers c.args.self.now.frames frame c.answer.new.self.frames) c.answer.ensures.others
 
 pub returns-in-Err-completion-clause-takes : goal.returns-in-Err-completion-clause-takes
@@ -100,7 +100,7 @@ pub returns-in-Err-completion-clause-again : goal.returns-in-Err-completion-clau
 returns-in-Err-completion-clause-again c = subst (λ (x : Result (List ℕ) DeviceFault). ReadAgainFor x c.args.self.now c.lose.new.self) (sym c.in-Err-completion.is) c.lose.ensures.again
 
 pub returns-in-Err-completion-clause-others : goal.returns-in-Err-completion-clause-others
-returns-in-Err-completion-clause-others c = 
+returns-in-Err-completion-clause-others c =
     subst (λ (x : Result (List ℕ) DeviceFault). IfOk x (λ _. (frame : ℕ) × KeepsOthers c.args.self.now.frames frame c.lose.new.self.frames)) (sym c.in-Err-completion.is) tt
 
 pub returns-in-Err-completion-clause-order : goal.returns-in-Err-completion-clause-order
