@@ -16,6 +16,7 @@ pub mod register;
 mod rule;
 pub mod slots;
 pub mod snapshot;
+mod steps;
 mod words;
 
 pub use call::{Answer, Call};

@@ -6,10 +6,11 @@
 ghost use Rattle.std.specs.Prelude.{◌≡◌, ◌≤◌, ◌<◌, ◌^◌, count_ones, IfOk, ◌++◌};
 
 use crate::call::{Answer, Call};
-use crate::cell::{self, Cell};
+use crate::cell;
 use crate::pass::Pass;
 use crate::refusal::{Refusal, RegisterError};
 use crate::snapshot::Snapshot;
+use crate::steps::Cell;
 use crate::words::{WORDS, next_turn, pack, unpack};
 use r6_layout::Geometry;
 use std::alloc::Global;
