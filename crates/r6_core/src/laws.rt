@@ -37,9 +37,8 @@ ghost use Rattle.r6_core.specs.Runs.{RunsOfCores, RunsOfOneCore, ArrayOfCores, C
 /// `one_core`, `shard_of_cores`: the run of one core alone, beside a register that anyone calls, is a run of the world
 /// too, and its answers and rows are so as well: the thread of a core need know nothing of the other shards.
 ///
-/// That there are such runs, [`read_through_a_loss`](crate::read_through_a_loss) shows of one core,
-/// [`read_beside_a_loss`](crate::read_beside_a_loss) of the cores of two shards, and
-/// [`rebuild_in_two_shards`](crate::rebuild_in_two_shards) of two that rebuild.
+/// That there are such runs, `read_through_a_loss` of `r6_core_runs` shows of one core, `read_beside_a_loss` of the
+/// cores of two shards, and `rebuild_in_two_shards` of two that rebuild.
 pub fn array_law()
     ensures array { ArrayLaw }
     ensures quiet { QuietLaw }
