@@ -25,7 +25,7 @@ use std::marker::Model;
 ///
 /// It is passive: its caller submits requests, takes commands and performs them on devices, delivers their
 /// completions, takes calls and makes them at the register, looks at the register and takes replies, in any order. No
-/// call but [`Core::new`] takes memory.
+/// call but [`Core::new`] is handed an allocator.
 ///
 /// No call asks for more than its conditions. The laws of what blocks hold ([`array_law`](crate::array_law)) suppose a
 /// little order: a call is taken, made and told with no event of this core between, and a look follows the reading of
