@@ -34,10 +34,6 @@ awaited fs token there =
       ]
     ] refl
 
--- and whether two numbers are equal
-pub equal_unless : (a b : ℕ) → ((a ≡ b → ⊥) → ⊥) → a ≡ b
-equal_unless a b there = elim (cases_eq a b) [ inl e ↦ e | inr ne ↦ absurd (there ne) ]
-
 -- a frame that has what it had
 pub rested_kept : (old new : Frames) (frame : ℕ) → hold_at new.held frame ≡ hold_at old.held frame → IsDriven old frame × (IsOver old frame → ⊥) → IsDriven new frame × (IsOver new frame → ⊥)
 rested_kept old new frame same rested = (λ h is. rested.0 h (sym same ∙ is), λ over. rested.1 (over.0, sym same ∙ over.1, over.2))

@@ -1,5 +1,5 @@
 -- A row is held for a request that waits, and with a write for those that wait for its other blocks: what the shard is then.
-use Rattle.std.proofs.Common.{◌≡◌, ◌≢◌, inr, ℕ, suc, ◌+◌, ◌*◌, ◌^◌, ◌<◌, ◌≤◌, ◌||◌, Bool, true, false, List, [], ◌∷◌, ◌++◌, length, map, refl, sym, ap, subst, ◌∙◌, Option, Some, IsPermutation, All, arith, append_assoc, length-append}
+use Rattle.std.proofs.Common.{◌≡◌, ◌≢◌, inr, ℕ, suc, ◌+◌, ◌*◌, ◌<◌, ◌≤◌, ◌||◌, Bool, true, false, List, [], ◌∷◌, ◌++◌, length, map, refl, sym, ap, subst, ◌∙◌, Option, Some, IsPermutation, All, arith, append_assoc, length-append}
 use mathlib.Core.Path.{fun_ext}
 use Rattle.std.specs.Prelude.{nat_eq, if◌then◌else◌}
 use Rattle.std.specs.List.{IsDistinct, AllByRecursion}
@@ -38,7 +38,7 @@ use Rattle.r6_waiters.specs.Line.{Line}
 use Rattle.r6_core.specs.declared.state.State.{State}
 use Rattle.r6_core.specs.Shards.{state_of, rest_of, layout_in, requests_in, requests_of, waiting_request, replied_requests, waiting_of}
 use Rattle.r6_core.specs.Turns.{IsWaiting, IsHeldFor, IsTaskOf, Starts}
-use Rattle.r6_core.specs.Inside.{CanHold, IsReadDirectly, IsSound, bound, count_unheld, most_tokens, row_of_request}
+use Rattle.r6_core.specs.Inside.{CanHold, IsReadDirectly, IsSound, bound, count_unheld, row_of_request}
 use Rattle.r6_core.proofs.Batched.{starts_scan}
 use Rattle.r6_core.proofs.ChangedTogether.{ChangeTogether}
 use Rattle.r6_core.proofs.Going.{no_rest}
@@ -164,18 +164,6 @@ module _ (old : Frames) (frame row : ℕ) (task : Task) (served : List Request) 
 
   pub begun_tokens : mid.commands.next ≡ old.commands.next
   begun_tokens = ap (λ (x : Shard). x.tokens) (begins.shard.2 no_rest)
-
--- the tokens suffice for what may come
-pub begun_numbers : (s : State) (mid : Frames) → IsSound s → 1 ≤ length (waiting_of s) → mid.commands.next ≡ s.frames.commands.next
-    → owed mid ≡ owed s.frames + 2 * s.frames.geometry.slots → mid.commands.next + owed mid < 2 ^ 63
-begun_numbers s mid sound some tokens owes =
-    let slots = s.frames.geometry.slots in
-    let one : 1 ≤ count_unheld s = omega (arith, some) in
-    let each : 2 * slots * 1 ≤ 2 * slots * count_unheld s = mul-le-mul_left (2 * slots) one in
-    few s.frames.commands.next mid.commands.next (owed s.frames) (owed mid) (2 * slots) (2 * slots * count_unheld s) tokens owes (omega (arith, each)) sound.tokens
-  where
-    few : (n0 n1 o0 o1 each all : ℕ) → n1 ≡ n0 → o1 ≡ o0 + each → each ≤ all → n0 + o0 + all ≤ most_tokens → n1 + o1 < 2 ^ 63
-    few n0 n1 o0 o1 each all a b c d = omega arith
 
 -- ---- the whole start: the row is held, and the hold puts out what comes first
 

@@ -57,7 +57,6 @@ pub mod Settling
 pub mod SlotsKept
 pub mod Sorted
 pub mod Starting
-pub mod Taking
 pub mod Throughs
 pub mod Together
 pub mod Turning

@@ -9,7 +9,6 @@ use Rattle.r6_layout.specs.Shape.{blocks}
 use Rattle.r6_layout.specs.Layout.{index_of, row_of, shard_of, slot_at}
 use Rattle.r6_layout.specs.declared.place.Place.{Place}
 use Rattle.r6_stripe.specs.Plans.{is_in_sync}
-use Rattle.r6_world.proofs.Geometries.{layouts}
 use Rattle.r6_world.specs.PlainArray as world
 use Rattle.r6_world.specs.PlainArray.{block_of}
 use Rattle.r6_world.specs.Layouts.{Layout}
@@ -213,17 +212,6 @@ synced_of fs block buffer place at synced =
 
 pub own_op : (fs : Frames) (request : Entered) → IsRequestOf fs request → IsOpOf fs request.op
 own_op fs request own = record { there = own.there; own = own.own }
-
--- its slot is one of the array's
-pub place_within : (fs : Frames) (o : Op) (place : Place) → held.IsSound fs → IsOpOf fs o → IsPlaceOf fs.geometry o place → place.slot < 32
-place_within fs o place sound own at =
-    let all = layouts fs.geometry sound.shape in
-    let placed = all.placed (block_of (op_of o)) own.there in
-    let index = placed.1 in
-    let wide = all.wide in
-    let below = (all.back (row_of fs.geometry (block_of (op_of o))) (index_of fs.geometry (block_of (op_of o))) placed.0 (omega arith)).0 in
-    let slot = slot_of_place fs o place at in
-    omega (arith, below, slot, sound.shape.slots_allowed.1)
 
 module _ (fs : Frames) (request : Entered) (block : ℕ) (buffer : List ℕ) (is : request.op ≡ op.Read block buffer) where
   pub readable : IsRequestOf fs request → IsReadable fs (record { id = request.id; block = block }) buffer

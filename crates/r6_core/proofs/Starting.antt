@@ -1,7 +1,6 @@
 -- One of the requests that wait starts in a free frame.
-use Rattle.std.proofs.Common.{◌≡◌, ℕ, ◌+◌, ◌≤◌, List, ◌∷◌, ◌++◌, length, map, sym, ap, subst, ◌∙◌, Some, None, arith, length-append}
+use Rattle.std.proofs.Common.{◌≡◌, ℕ, ◌+◌, List, ◌∷◌, ◌++◌, length, sym, ap, subst, ◌∙◌, Some, None, arith, length-append}
 use Rattle.std.specs.List.{AllByRecursion}
-use Rattle.std.proofs.lemmas.List.{length-map}
 use Rattle.r6_world.specs.Tasks.{Hold}
 use Rattle.r6_world.specs.ShardStates.{NotHeld}
 use Rattle.r6_world.specs.Changes.{Change, Ask, Prepare, Send}
@@ -11,9 +10,9 @@ use Rattle.r6_frames.specs.declared.frames.Frames.{Frames}
 use Rattle.r6_core.specs.declared.state.State.{State}
 use Rattle.r6_frames.specs.Views.{hold_at, row_in, Rest, shard_with}
 use Rattle.r6_frames.specs.Calls.{PutsOut, IsFreeFrame, NotHeldBy, IsRequestOf}
-use Rattle.r6_core.specs.Shards.{waiting_request, requests_in, waiting_of}
+use Rattle.r6_core.specs.Shards.{requests_in, waiting_of}
 use Rattle.r6_core.specs.declared.scan.Room.{Room}
-use Rattle.r6_core.specs.Inside.{CanStart, IsFirstToStart, IsSettled, IsSound}
+use Rattle.r6_core.specs.Inside.{CanStart, IsFirstToStart, IsSettled}
 use Rattle.r6_waiters.specs.Line.{Line, capacity_of, causes_of, entries_of, oldest_of, with_entries, without_oldest}
 use Rattle.r6_core.proofs.Lined.{split_of, split_oldest, split_without, values, values_both, values_split}
 use Rattle.r6_core.proofs.Passed.{all-middle}
@@ -95,10 +94,3 @@ pub first_there : (s : State) (cause : ℕ) (with : Room) → IsFirstToStart s c
 first_there s cause with first none =
     let both : None ≡ Some first.request = sym none ∙ ap (oldest_of cause) first.entries ∙ split_oldest cause first.before first.request first.behind first.oldest in
     cc both
-
--- as many may wait as there is room for
-pub waiting_fits : (s : State) → IsSound s → length (waiting_of s) ≤ (capacity_of s.waiting)
-waiting_fits s sound =
-    let all = length-append (map waiting_request (waiting_of s)) (others s) in
-    let many = length-map (waiting_of s) waiting_request in
-    omega (arith, all, many, sound.requests.counted, sound.requests.few, sound.room.waiting)

@@ -48,10 +48,6 @@ unwrapped false x = refl
 
 -- ---- two runs, one behind the other
 
-map-append : (a b : List Moment) → map moment_of (a ++ b) ≡ map moment_of a ++ map moment_of b
-map-append [] b = refl
-map-append (m ∷ a) b = ap (λ x. moment_of m ∷ x) (map-append a b)
-
 pub append-assoc : (a b c : List (ℕ × Event)) → (a ++ b) ++ c ≡ a ++ (b ++ c)
 append-assoc [] b c = refl
 append-assoc (e ∷ a) b c = ap (λ x. e ∷ x) (append-assoc a b c)

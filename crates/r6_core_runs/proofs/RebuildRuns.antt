@@ -1,7 +1,5 @@
 -- A run of cores that rebuild goes on, row by row.
-use Rattle.std.proofs.Common.{◌≡◌, ℕ, ◌<◌, List, [], ◌∷◌, ◌++◌, refl, sym, ap, ◌∙◌, subst, arith, Result, Ok, Err, Some}
-use Rattle.std.specs.Prelude.{MatchResult}
-use Rattle.std.specs.Result.{result_ok}
+use Rattle.std.proofs.Common.{◌≡◌, ℕ, ◌<◌, List, [], ◌∷◌, ◌++◌, refl, sym, ap, ◌∙◌, subst, arith, Ok}
 use Rattle.r6_layout.specs.Shape.{Shape, IsShape}
 use Rattle.r6_health.specs.Registers.{starting, after}
 use Rattle.r6_world.specs.Tables.{put}
@@ -18,7 +16,7 @@ use Rattle.r6_world.specs.Steps.{Event, Submit, Deliver, Good, Taken, Look, Turn
 use Rattle.r6_world.specs.Worlds.{World, Devices, MayCome, as_made, started}
 use Rattle.r6_world.specs.Claims.{IsLawfulStart}
 use Rattle.r6_world.specs.Laws.{IsOfOutside}
-use Rattle.r6_world.proofs.Tables.{put-same, None-not_Some, Some-inj}
+use Rattle.r6_world.proofs.Tables.{put-same}
 use Rattle.r6_core_runs.specs.declared.rebuilds.LostRow.{LostRow}
 use Rattle.r6_core.specs.Shards.{CoreView, Step}
 use Rattle.r6_core.specs.Effects.{IsMade}
@@ -26,11 +24,6 @@ use Rattle.r6_core.specs.Runs.{AreMade, IsShard}
 use Rattle.r6_core_runs.specs.Losses.{of_core, HasRun, Reads, Writes, Tells, two_shards, both, AreBothMade}
 use Rattle.r6_core_runs.specs.Rebuilds.{RebuildsRow, Replaces, RebuildsBoth, ReadsBack, RebuildsAndReads, Turned, rebuild_events, with_lost, with_new, half_rebuilt, rebuilt, RunsThroughRebuild}
 use Rattle.r6_core_runs.proofs.LossRuns.{append-assoc, with_block, Becomes, Leads, Onward, calls, reads, writes, tells, comes, put-first, put-then, starts, ends, first_goes, second_goes, made-both}
-
--- what a call that is not refused ensures of its answer
-pub of_match : {A E : Type 0} (r : Result A E) (P : A → Type 0) (Q : E → Type 0) (a : A) → result_ok r ≡ Some a → MatchResult r P Q → P a
-of_match (Ok x) P Q a e p = subst P (Some-inj x a e) p
-of_match (Err x) P Q a e p = absurd (None-not_Some a e)
 
 abbrev turned_by : {one another row : ℕ} {blocks : LostRow} {answer : RegisterAnswer} {old new : CoreView} → RebuildsRow one another row blocks answer old new → Turned
 turned_by r =

@@ -1,9 +1,9 @@
 -- Rows that are read and classified.
-use Rattle.std.proofs.Common.{◌≡◌, ◌≢◌, ℕ, ◌+◌, ◌<◌, ◌≤◌, Bool, true, false, List, [], ◌∷◌, ◌++◌, length, get_or, set, take, is_some, Option, Some, None, refl, sym, ap, subst, ◌∙◌, arith, ⊎_elim}
+use Rattle.std.proofs.Common.{◌≡◌, ◌≢◌, ℕ, ◌+◌, ◌<◌, ◌≤◌, Bool, true, false, List, ◌++◌, length, get_or, set, take, is_some, Option, Some, None, refl, sym, ap, subst, ◌∙◌, arith, ⊎_elim}
 use Rattle.std.specs.Prelude.{IfSome}
-use Rattle.std.proofs.lemmas.Bool.{cases_eq, cases_lt, false≢true}
-use Rattle.std.proofs.lemmas.List.{get_or-set_same, get_or-set_other, length-append, length-set, get_or_append_left}
-use Rattle.std.proofs.Math.Seq.{get_or-append_seam, take-append_seam}
+use Rattle.std.proofs.lemmas.Bool.{cases_eq, false≢true}
+use Rattle.std.proofs.lemmas.List.{get_or-set_same, get_or-set_other, length-set}
+use Rattle.std.proofs.Math.Seq.{take-append_seam}
 use Rattle.r6_layout.specs.Shape.{Shape}
 use Rattle.r6_layout.specs.Layout.{shard_of}
 use Rattle.r6_engine.specs.Parts.{Parts, OnlyRead, part_number}
@@ -56,17 +56,6 @@ pub found : (shape : Shape) (parts : Parts) (row : ℕ) (before after : RowCheck
 found shape parts row before after read classified = found_as shape parts row before after before.is_whole refl read classified
 
 -- ---- many rows
-
-pub all_fit_push : (shape : Shape) (batch : List RowCheck) (check : RowCheck) → AllFit shape batch → Fits shape check.reader → AllFit shape (batch ++ check ∷ [])
-all_fit_push shape batch check all fits k other within =
-    let long = length-append batch (check ∷ []) in
-    ⊎_elim
-    (λ (before : k < length batch).
-    subst (λ (it : RowCheck). Fits shape it.reader) (sym (get_or_append_left batch (check ∷ []) other k before)) (all k other before))
-    (λ (past : length batch ≤ k).
-    let here : k ≡ length batch = omega (arith, within, past, long) in
-    subst (λ (it : RowCheck). Fits shape it.reader) (sym (ap (λ n. get_or (batch ++ check ∷ []) n other) here ∙ get_or-append_seam batch check [] other)) fits)
-    (cases_lt k (length batch))
 
 pub all_fit_set : (shape : Shape) (batch : List RowCheck) (index : ℕ) (check : RowCheck) → AllFit shape batch → index < length batch → Fits shape check.reader → AllFit shape (set batch index check)
 all_fit_set shape batch index check all in_batch fits k other within =

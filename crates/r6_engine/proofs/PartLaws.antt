@@ -14,7 +14,6 @@ use Rattle.r6_engine.specs.declared.report.Counts.{Counts}
 use Rattle.r6_engine.specs.declared.report.Report.{Report}
 use Rattle.r6_engine.specs.declared.report.RowFault.{RowFault}
 use Rattle.r6_engine.specs.declared.report.WrongRow.{WrongRow}
-use Rattle.r6_engine.specs.declared.row.SlotFault.{SlotFault}
 use Rattle.r6_engine.proofs.ReportLaws.{Checked, alike, checked_next, report_at_end, report_at_fault, total_with}
 
 -- ---- rows, noted one after another
@@ -40,14 +39,6 @@ noted_push report row (first ∷ findings) finding =
 fault_stays : (report : Report) (row : ℕ) (findings : List Finding) → (noted_all report row findings).fault ≡ report.fault
 fault_stays report row [] = refl
 fault_stays report row (first ∷ findings) = fault_stays (noted report row first) (row + 1) findings
-
-total_noted : (report : Report) (row : ℕ) (findings : List Finding)
-    → total (noted_all report row findings).counts ≡ total report.counts + length findings
-total_noted report row [] = sym (add-zero (total report.counts))
-total_noted report row (first ∷ findings) =
-    let one = total_with report.counts first in
-    let more = total_noted (noted report row first) (row + 1) findings in
-    omega (arith, one, more)
 
 -- the rows from the first on, before this one, were gone over without a fault
 pub record Noted (shape : Shape) (parts : Parts) (first row : ℕ) (report : Report) : Type 0 where
@@ -95,17 +86,6 @@ part_at_end shape parts first end report so_far =
       is = ap (λ (r : Report). record r { fault = report.fault }) so_far.is;
       fault = subst (λ fault. IfSome fault (λ it. (it.row < end) × ReadFails shape parts it.row (record { slot = it.slot; fault = it.fault }))) (sym none) tt;
     }
-
-pub part_at_fault : (shape : Shape) (parts : Parts) (first end row : ℕ) (fault : SlotFault) (report : Report)
-    → Noted shape parts first row report → row < end → ReadFails shape parts row fault
-    → IsPartReport shape parts first end (record report { fault = Some (record { row = row; slot = fault.slot; fault = fault.fault }) })
-part_at_fault shape parts first end row fault report so_far within fails = record {
-  findings = so_far.findings;
-  are_found = so_far.are_found;
-  count = so_far.count;
-  is = ap (λ (r : Report). record r { fault = Some (record { row = row; slot = fault.slot; fault = fault.fault }) }) so_far.is;
-  fault = (within, fails);
-}
 
 -- ---- reports, joined
 

@@ -5,8 +5,6 @@ use Rattle.std.proofs.lemmas.Bool.{cases_eq, cases_lt, false≢true}
 use Rattle.std.proofs.lemmas.Bool.Decides.{nat_tests}
 use Rattle.std.proofs.lemmas.List.{get_or_past}
 use Rattle.r6_dev.specs.History.{Block, Blocks, put}
-use Rattle.r6_dev.specs.declared.fault.Fault.{Fault}
-use Rattle.r6_dev.specs.declared.fault.Fault.TheVariants.{ReadFault}
 use Rattle.r6_layout.specs.Shape.{Shape, IsShape, data_slots}
 use Rattle.r6_layout.specs.Layout.{OwnsRow, shard_of, position_at}
 use Rattle.r6_layout.proofs.Roles.{position_at-slot_at}
@@ -131,9 +129,6 @@ rebuilt_at_fault shape target begin' now next targets before after row fault so_
 
 -- ---- the target's own part isn't there
 
-pub absent_still : (shape : Shape) (target : ℕ) (old now : Parts) → OnlyRead old now → IsAbsent shape target old → IsAbsent shape target now
-absent_still shape target old now read is = λ shard within. read.there (part_number shape shard target) ∙ is shard within
-
 -- a part that failed is of another slot
 pub source_fails : (shape : Shape) (target row : ℕ) (old new : Parts) (fault : SlotFault) → IsShape shape → row < shape.rows
     → IsAbsent shape target old → ReadFails shape old row fault → RebuildFails shape target old new fault
@@ -147,13 +142,3 @@ source_fails shape target row old new fault is within away fails =
       of_target = λ same. absurd (apart same);
       only_read = λ same. absurd (apart same);
     }
-
--- the target itself failed
-pub target_fails : (shape : Shape) (target : ℕ) (old new : Parts) (fault : Fault) → target < shape.slots → OnlyRead old new → fault ≢ ReadFault
-    → RebuildFails shape target old new (record { slot = target; fault = fault })
-target_fails shape target old new fault within read other = record {
-  within = within;
-  of_source = λ apart. absurd (apart refl);
-  of_target = λ _. other;
-  only_read = λ _. read;
-}

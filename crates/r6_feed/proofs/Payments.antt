@@ -181,14 +181,6 @@ below_other shard number other not =
     let same : nat_lt other shard ≡ nat_lt other (shard + 1) = grind (arith, nat_tests, not) in
     ap (λ b. if b then number + 1 else number) same
 
-pub none_yet : {P : Type 0} (left : P → ℕ) (producers : List P) (shape : Shape) (events : List Event) (number : ℕ)
-    → HasLeft left producers shape events (λ s. number) → HasLeft left producers shape events (next_below 0 number)
-none_yet left producers shape events number has =
-    nothing_paid left producers shape events (λ s. number) (next_below 0 number) has
-    (λ other below.
-    let not : nat_lt other 0 ≡ false = grind (arith, nat_tests) in
-    ap (λ b. length (tasks_from shape other events (if b then number + 1 else number))) (sym not))
-
 pub handed_next : {P : Type 0} (left : P → ℕ) (producers : List P) (shape : Shape) (events : List Event)
     (shard number : ℕ) (event : Event) (duty : Duty) (p p' : P)
     → HasLeft left producers shape events (next_below shard number) → shard < length producers
@@ -199,20 +191,6 @@ handed_next left producers shape events shard number event duty p p' has below i
     (below_one shard number) (below_next shard number) (slice_get_within events number event at)
     (duty_is shape shard events number event duty at due) less
     (λ other not. ap (λ n. length (tasks_from shape other events n)) (below_other shard number other not))
-
-pub all_handed : {P : Type 0} (lists left : P → ℕ) (shape : Shape) (events : List Event) (number : ℕ) (producers : List P)
-    (shard : ℕ) → length producers ≡ shape.shards → shard ≡ shape.shards → AreOpen lists producers
-    → HasLeft left producers shape events (next_below shard number)
-    → IsAt lists left shape events (number + 1) producers
-all_handed lists left shape events number producers shard shards last opened has =
-    record {
-      shards = shards;
-      open_yet = opened;
-      has_left = nothing_paid left producers shape events (next_below shard number) (λ s. number + 1) has
-          (λ other below.
-          let yes : nat_lt other shard ≡ true = grind (arith, nat_tests, below, shards, last) in
-          ap (λ b. length (tasks_from shape other events (if b then number + 1 else number))) yes);
-    }
 
 -- as the front of a list that is as long
 pub at_front : {P : Type 0} (lists left : P → ℕ) (shape : Shape) (events : List Event) (number : ℕ) (producers rest : List P)

@@ -136,9 +136,6 @@ module _ (shape : Shape) (row : ℕ) (served : List Served) (kind : Kind) (block
   pub back_side_by_side : length served ≡ length blocks
   back_side_by_side = ap length mine.1 ∙ served_long mine.0 ∙ sym (blocks_long mine.0) ∙ ap length (sym blocks_are)
 
-  pub back_distinct : AreDistinct blocks
-  back_distinct = subst AreDistinct (sym blocks_are) mine.4
-
 -- and whose writes they are
 pub ended_writes : (h : HeldRow) (served : List Served) (blocks : List (ℕ × Block)) → length served ≡ length blocks → h.job ≡ job.Write served → Kind.Write blocks ≡ kind_in h → IsEndedOf h (ended.Wrote (entries_of served blocks))
 ended_writes h served blocks long is_job same = (is_job ∙ ap job.Write (sym (served_back served blocks long)), sym same ∙ ap Kind.Write (sym (blocks_back served blocks long)))

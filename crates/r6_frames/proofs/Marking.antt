@@ -98,17 +98,6 @@ module _ (end : ℕ) (r : Rebuilt) (next : AreNext end r) where
         | inr not_ahead ↦ let back = at_most other one not_ahead below in absurd (omega arith)
       ]
 
-  -- none is far behind the end
-  pub near : (number : ℕ) → number < 8 → next_row r number ≤ end + number
-  near zero below = omega (arith, next.upto)
-  near (suc number) below =
-      let rest = near number (omega arith) in
-      let same : next_row r (suc number) ≡ next_row r (number + 1) = ap (next_row r) (omega arith) in
-      elim (next.behind number (omega arith)) [
-        | inl within ↦ omega arith
-        | inr step ↦ omega arith
-      ]
-
 -- ---- the row is rebuilt
 
 -- what the code makes of the rows that are rebuilt next

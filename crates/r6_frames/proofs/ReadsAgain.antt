@@ -3,7 +3,7 @@ use Rattle.std.proofs.Common.{◌≡◌, ℕ, zero, suc, ◌<◌, ◌≤◌, Boo
 use Rattle.std.specs.Prelude.{not, nat_eq, nat_lt, option_map}
 use Rattle.std.specs.FinMap as map
 use Rattle.std.proofs.lemmas.Bool.{eqb-true, ltb-true, lt-ltb}
-use Rattle.r6_world.specs.Changes.{is_going_on, read_stage, read_on}
+use Rattle.r6_world.specs.Changes.{is_going_on, read_stage}
 use Rattle.r6_world.specs.ShardStates as shards
 use Rattle.r6_world.specs.ShardStates.{Stage, Waiting, Held, Reading, Finished, Released, Request, Command}
 use Rattle.r6_frames.specs.declared.directs.Direct.{Direct}
@@ -24,10 +24,6 @@ same_stage f g same (Held frame) = refl
 same_stage f g same (Reading token) = ap (λ b. cond b (Reading token) Waiting) (same token)
 same_stage f g same (Finished reply) = refl
 same_stage f g same (Released reply) = refl
-
-pub same_on : (f g : ℕ → Option Command) → ((t : ℕ) → is_going_on (f t) ≡ is_going_on (g t)) → (o : Option Request) → read_on f o ≡ read_on g o
-same_on f g same None = refl
-same_on f g same (Some r) = ap (λ stage. Some (record { op = r.op; stage = stage })) (same_stage f g same r.stage)
 
 -- ---- commands are abandoned
 

@@ -13,10 +13,6 @@ use Rattle.r6_layout.proofs.Rotation.{mod_unique, position_in-slot_in}
 pub some_slots : {shape : Shape} → IsShape shape → 0 < shape.slots
 some_slots limits = let least = limits.slots_allowed.0 in omega arith
 
--- past the end by at most one turn
-pub past_turn : (n x y : ℕ) → y < n → x ≡ y + n → x % n ≡ y
-past_turn n x y below is = mod_unique n x y 0 1 below (omega (arith, is))
-
 -- steps are added up
 turn_on : (n a b : ℕ) → 0 < n → (a % n + b) % n ≡ (a + b) % n
 turn_on n a b some =

@@ -1,6 +1,6 @@
 -- A loop that writes f k at each place k of a list, from the first on.
-use Rattle.std.proofs.Common.{◌≡◌, ◌≢◌, ℕ, zero, suc, ◌+◌, ◌<◌, ◌≤◌, List, [], ◌∷◌, length, get_or, set, bit_xor, refl, sym, ◌∙◌, arith, below_more}
-use Rattle.std.proofs.lemmas.List.{get_or-set_other, get_or-set_same, ext_get_or}
+use Rattle.std.proofs.Common.{◌≡◌, ℕ, zero, suc, ◌<◌, ◌≤◌, List, [], ◌∷◌, length, get_or, bit_xor, refl, sym, ◌∙◌, arith}
+use Rattle.std.proofs.lemmas.List.{ext_get_or}
 use Rattle.r6_field.specs.Field.{product}
 use Rattle.r6_kernels.specs.Blocks.{block_sum, scale}
 use Rattle.r6_kernels.proofs.BlockLaws.{length-block_sum, length-scale}
@@ -9,17 +9,6 @@ use Rattle.r6_kernels.proofs.BlockLaws.{length-block_sum, length-scale}
 pub record IsWrittenBelow (f : ℕ → ℕ) (before now : List ℕ) (i : ℕ) : Type 0 where
   pub written : (k : ℕ) → k < i → get_or now k 0 ≡ f k
   pub others : (k : ℕ) → i ≤ k → get_or now k 0 ≡ get_or before k 0
-
-pub IsWrittenBelow-none : (f : ℕ → ℕ) (before : List ℕ) → IsWrittenBelow f before before 0
-IsWrittenBelow-none f before = record { written = λ k h. absurd (omega arith); others = λ k h. refl }
-
-pub IsWrittenBelow-more : (f : ℕ → ℕ) (before now : List ℕ) (i v : ℕ) → i < length now → v ≡ f i → IsWrittenBelow f before now i → IsWrittenBelow f before (set now i v) (i + 1)
-IsWrittenBelow-more f before now i v within is so_far = record {
-  written = below_more (λ k. get_or (set now i v) k 0 ≡ f k) i
-      (λ k h. let ne : k ≢ i = omega arith in get_or-set_other now i k v 0 ne ∙ so_far.written k h)
-      (get_or-set_same now i v 0 within ∙ is);
-  others = λ k h. let ne : k ≢ i = omega arith in get_or-set_other now i k v 0 ne ∙ so_far.others k (omega arith);
-}
 
 -- at the end the list is the one that has f k at each place k
 pub same_from_written : (f : ℕ → ℕ) (before now result : List ℕ) (i : ℕ) → length now ≤ i → length now ≡ length result → ((k : ℕ) → k < length result → get_or result k 0 ≡ f k) → IsWrittenBelow f before now i → now ≡ result

@@ -92,12 +92,6 @@ module _ (row : List (List ℕ)) (count : 2 ≤ length row) (long : All (λ bloc
   pub IsZero-q : ((k : ℕ) → k < block_length row → get_or (q_difference row) k 0 ≡ 0) → IsZero (q_difference row)
   IsZero-q each = All-from_get_or (λ byte. byte ≡ 0) (q_difference row) 0 (λ i h. each i (omega (arith, length-q_difference)))
 
-  pub not_IsZero-p : (k : ℕ) → k < block_length row → get_or (p_difference row) k 0 ≢ 0 → IsZero (p_difference row) → ⊥
-  not_IsZero-p k h ne all = ne (all k 0 (omega (arith, length-p_difference)))
-
-  pub not_IsZero-q : (k : ℕ) → k < block_length row → get_or (q_difference row) k 0 ≢ 0 → IsZero (q_difference row) → ⊥
-  not_IsZero-q k h ne all = ne (all k 0 (omega (arith, length-q_difference)))
-
   pub IsWrongAt-each : (z : ℕ) → ((k : ℕ) → k < block_length row → get_or (q_difference row) k 0 ≡ product (power generator z) (get_or (p_difference row) k 0)) → IsWrongAt row z
   IsWrongAt-each z each =
       let multiple_long : length (scale (power generator z) (p_difference row)) ≡ block_length row = length-scale (power generator z) (p_difference row) ∙ length-p_difference in

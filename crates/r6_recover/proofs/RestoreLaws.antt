@@ -5,22 +5,12 @@ use Rattle.std.proofs.lemmas.Bool.{cases_eq}
 use Rattle.std.proofs.lemmas.List.{get_or-set_other, get_or-set_same, length-set, length-take-le, get_or-take, ext_get_or}
 use Rattle.std.proofs.lemmas.List.Elements.{All-set}
 use Rattle.r6_field.specs.Field.{power, generator}
-use Rattle.r6_kernels.specs.Blocks.{zeros, block_sum, scale, p_of, q_of, without, AreLongBut}
+use Rattle.r6_kernels.specs.Blocks.{zeros, block_sum, scale, p_of, q_of, without}
 use Rattle.r6_recover.specs.Rows.{block_at, IsFullRow, AgreeBut}
 use Rattle.r6_recover.specs.Factors.{AreFactors}
 use Rattle.r6_recover.specs.Restores.{IsRestored, RestoresBlock, Restores}
 use Rattle.r6_recover.proofs.RecoveryLaws.{block_from_p, block_from_q, block_from_both, second_from_p, p_from_block}
 use Rattle.r6_recover.proofs.RowLaws.{length-row_data, All-row_data, block_at-p, block_at-q, same_without}
-
--- ---- blocks that may be away
-
-pub AreLongBut-take : (len x y m : ℕ) (row : List (List ℕ)) → m ≤ length row → AreLongBut len x y row → AreLongBut len x y (take m row)
-AreLongBut-take len x y m row within long position h nx ny =
-    let count : length (take m row) ≡ m = length-take-le m row within in
-    ap length (get_or-take m row position [] (omega arith)) ∙ long position (omega arith) nx ny
-
-pub AreLongBut-all : (len x y : ℕ) (row : List (List ℕ)) → All (λ block. length block ≡ len) row → AreLongBut len x y row
-AreLongBut-all len x y row long position h nx ny = long position [] h
 
 -- ---- a row with one block written
 
@@ -153,17 +143,6 @@ Restores-then m len x y z old mid new one two = record {
       (λ (e : k ≡ y). subst (λ (j : ℕ). block_at new j ≡ block_at full j) (sym e) (two.restored full is (λ j nj _. mid_agrees j nj)))
       (λ (ny : k ≡ y → ⊥). two.kept k ny ∙ mid_agrees k ny)
       (cases_eq k y);
-}
-
-pub Restores-one : (m len x y : ℕ) (old new : List (List ℕ)) → RestoresBlock m len x y old new → Restores m len x x old new
-Restores-one m len x y old new one = record {
-  count = one.count;
-  long = one.long;
-  kept = λ k nx _. one.kept k nx;
-  restored = λ full is agree k. ⊎_elim
-      (λ (e : k ≡ x). subst (λ (j : ℕ). block_at new j ≡ block_at full j) (sym e) (one.restored full is (λ j nx _. agree j nx nx)))
-      (λ (nx : k ≡ x → ⊥). one.kept k nx ∙ agree k nx nx)
-      (cases_eq k x);
 }
 
 -- ---- a row with two blocks written

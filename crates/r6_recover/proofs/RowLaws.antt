@@ -64,10 +64,6 @@ module _ (m len : ℕ) (data' : List (List ℕ)) (count : length data' ≡ m) wh
     };
   }
 
--- and just one
-pub same_row_from_data : (m len : ℕ) (row : List (List ℕ)) (data' : List (List ℕ)) → IsFullRow m len row → take m row ≡ data' → row ≡ row_of len data'
-same_row_from_data m len row data' is same = full_row-eq m len row is ∙ ap (row_of len) same
-
 -- ---- a full row meets both equations, and a row that does is full
 
 module _ (m len : ℕ) (row : List (List ℕ)) where

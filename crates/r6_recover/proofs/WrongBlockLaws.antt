@@ -49,9 +49,6 @@ zero_from_scale len k block below is none =
 -- ---- the differences of a row that is given by its parts
 
 module _ (m len : ℕ) (data' : List (List ℕ)) (p q : List ℕ) (count : length data' ≡ m) (all : All (IsBlock len) data') (p_is : IsBlock len p) (q_is : IsBlock len q) where
-  row : List (List ℕ)
-  row = data' ++ p ∷ q ∷ []
-
   row_count : length (data' ++ p ∷ q ∷ []) ≡ m + 2
   row_count = length-append data' (p ∷ q ∷ []) ∙ ap (λ (n : ℕ). n + 2) count
 
@@ -84,9 +81,6 @@ module _ (m len : ℕ) (data' : List (List ℕ)) (p q : List ℕ) (count : lengt
 -- ---- one block replaced
 
 module _ (m len : ℕ) (full : List (List ℕ)) (block : List ℕ) (few : m ≤ 255) (is : IsFullRow m len full) (block_is : IsBlock len block) where
-  d : List (List ℕ)
-  d = take m full
-
   d_count : length (take m full) ≡ m
   d_count = length-row_data m len full is
 

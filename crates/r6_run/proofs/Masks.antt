@@ -81,16 +81,6 @@ mask_few lost slots few =
     let all = count_lost lost 0 slots in
     omega (arith, ones, all, few)
 
--- the slot before those that were counted is counted too
-pub mask_next : (lost : List ℕ) (slots passed mask next : ℕ) (bit : Bool) → passed < slots → mask ≡ mask_from lost (slots - passed) passed
-    → bit ≡ is_lost lost (slots - 1 - passed) → next ≡ 2 * mask + cond bit 1 0 → next ≡ mask_from lost (slots - (passed + 1)) (passed + 1)
-mask_next lost slots passed mask next bit within before is sum =
-    let here : slots - 1 - passed ≡ slots - (passed + 1) = omega (arith, within) in
-    let there : slots - passed ≡ slots - (passed + 1) + 1 = omega (arith, within) in
-    sum ∙ ap (λ m. 2 * m + cond bit 1 0) (before ∙ ap (λ slot. mask_from lost slot passed) there)
-    ∙ ap (λ b. 2 * mask_from lost (slots - (passed + 1) + 1) passed + cond b 1 0) (is ∙ ap (is_lost lost) here)
-    ∙ ap (mask_from lost (slots - (passed + 1))) {x = suc passed} {y = passed + 1} (omega arith)
-
 -- it fits 32 bits
 pub mask_fits : (lost : List ℕ) (slot count : ℕ) → count < 32 → 2 * mask_from lost slot count + 1 < 2 ^ 32
 mask_fits lost slot count few =

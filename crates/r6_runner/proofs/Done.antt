@@ -239,31 +239,6 @@ has-passing told shape events geometry number snapshot before numbers shard refu
 
 -- ---- what is under way goes on
 
--- a check or repair is over
-pub has-passed : {D : Type 0} (told : D → Telling) (shape : Shape) (events : List Event) (geometry : Shape) (number : ℕ) (snapshot : Snapshot)
-    (before : ℕ → ℕ → Option Telling) (numbers : List ℕ) (shard : Shard (Parts D)) (refused : List (ℕ × Refusal))
-    (passing : Passing) (passed : List Passed) (handed : List Handed) (due : List Due) (p : Passed)
-    → p.event ≡ passing.event → p.task ≡ passing.task
-    → IsDone told shape events geometry number snapshot before numbers shard refused (Some passing) passed handed due
-    → IsDone told shape events geometry number snapshot before numbers shard refused None (passed ++ p ∷ []) handed due
-has-passed told shape events geometry number snapshot before numbers shard refused passing passed handed due p event task x =
-    let pair = passed_of in
-    record {
-      shape_is = x.shape_is;
-      place = x.place;
-      begun = x.begun;
-      ops = x.ops;
-      requests = x.requests;
-      served = x.served;
-      passes = x.passes
-          ∙ sym (append_assoc (map pair passed) ((passing.event, passing.task) ∷ []) (due_passes due))
-          ∙ ap (λ (k : ℕ). (map pair passed ++ (k, passing.task) ∷ []) ++ due_passes due) (sym event)
-          ∙ ap (λ (k : Pass). (map pair passed ++ (p.event, k) ∷ []) ++ due_passes due) (sym task)
-          ∙ ap (λ y. y ++ due_passes due) (sym (map-append pair passed (p ∷ [])));
-      parts = x.parts;
-      comes = x.comes;
-    }
-
 -- it goes on
 pub same-passing : {D : Type 0} (told : D → Telling) (shape : Shape) (events : List Event) (geometry : Shape) (number : ℕ) (snapshot : Snapshot)
     (before : ℕ → ℕ → Option Telling) (numbers : List ℕ) (shard : Shard (Parts D)) (refused : List (ℕ × Refusal))

@@ -2,11 +2,6 @@
 use Rattle.std.proofs.Common.{arith, ◌≡◌, ◌∙◌, ℕ, ◌<◌, List, [], ◌∷◌, ◌++◌, length, map, ap, refl, below_more, slice_index_or}
 use Rattle.std.proofs.Math.Seq.{get_or-append_seam}
 use Rattle.std.proofs.lemmas.List.{get_or_append_left, length-append}
-use Rattle.r6_layout.specs.Shape.{Shape}
-use Rattle.r6_health.specs.declared.history.View.{View}
-use Rattle.r6_health.specs.Views.{newcomer}
-use Rattle.r6_world.specs.Registers.{Snapshot}
-use Rattle.r6_shard.specs.Beginnings.{IsFirstPass}
 use Rattle.r6_serve.specs.Serves.{AreNumbered}
 
 -- one thread more, of the next shard
@@ -17,17 +12,6 @@ one_more number threads thread before is k d below =
     (λ i low. ap number (get_or_append_left threads (thread ∷ []) d i low) ∙ before i d low)
     (ap number (get_or-append_seam threads thread [] d) ∙ is) k
     (let long = length-append threads (thread ∷ []) in omega (arith, below, long))
-
--- a pass that is split from one that has seen nothing has seen nothing
-pub first_split : (geometry : Shape) (snapshot : Snapshot) (v w : View) → IsFirstPass geometry snapshot v → w ≡ newcomer v
-    → IsFirstPass geometry snapshot w
-first_split geometry snapshot v w first is = record {
-  slots = ap (λ (u : View). u.start.slots) is ∙ first.slots;
-  shards = ap (λ (u : View). u.start.shards) is ∙ first.shards;
-  began = ap (λ (u : View). u.start.snapshot) is ∙ first.began;
-  seen = ap (λ (u : View). u.seen) is ∙ first.seen;
-  mine = ap (λ (u : View). u.mine) is;
-}
 
 -- fewer threads than shards are there yet
 pub fewer : (threads yielded parts shards : ℕ) → threads ≡ yielded → yielded < parts → parts ≡ shards → threads < shards

@@ -1,15 +1,15 @@
 -- What the entries and the values of a table say of its document.
-use Rattle.std.proofs.Common.{◌≡◌, ◌≤◌, ℕ, suc, false, not, List, [], ◌∷◌, ◌++◌, Option, Some, None, option_map, length, String, Global, string_bytes, refl, ap, arith, append_assoc}
+use Rattle.std.proofs.Common.{◌≡◌, ◌≤◌, ℕ, suc, false, not, List, [], ◌∷◌, Option, Some, None, option_map, length, String, Global, string_bytes, refl, ap, arith}
 use Rattle.std.proofs.lemmas.Bool.Decides.{nat_tests}
 use Rattle.std.specs.List.{list_any}
 use Rattle.std.specs.Map.{keys_of}
 use Rattle.std.specs.Prelude.{option_and_then}
 use Rattle.toml.proofs.Views.{Entry}
-use Rattle.toml.specs.Data.{Data, Items, item, as_str}
+use Rattle.toml.specs.Data.{Data}
 use Rattle.toml.specs.View.{view, items_view, members_view}
 use Rattle.toml.specs.declared.value.Value.{Value}
 use Rattle.r6_settings.specs.Keys.{is_key}
-use Rattle.r6_settings.specs.Settings.{Text, each_of, has_unknown_key, may_be_lost, where_it}
+use Rattle.r6_settings.specs.Settings.{each_of, has_unknown_key, may_be_lost, where_it}
 
 -- an unknown key is one of the map's keys
 pub list_any-unknown : (es : List Entry) → list_any (λ (key : String Global). not (is_key (string_bytes key))) (keys_of es) ≡ has_unknown_key (members_view es)
@@ -39,16 +39,3 @@ too_long (Some xs) n h long =
 -- more than two slots may not be lost
 pub too_many_lost : (says : Data → Option ℕ) (vs : List Value) → 3 ≤ length vs → where_it may_be_lost (each_of says (items_view vs)) ≡ None
 too_many_lost says vs long = too_long (each_of says (items_view vs)) (length vs) (length_each says vs) long
-
-text_first : (done : List Text) (text : Text) (rest : Option (List Text)) → option_map (λ r. done ++ r) (option_map (λ xs. text ∷ xs) rest) ≡ option_map (λ r. (done ++ text ∷ []) ++ r) rest
-text_first done text None = refl
-text_first done text (Some xs) = rw (append_assoc done (text ∷ []) xs)
-
--- a text after those that were read
-pub text_read : (done : List Text) (text : Text) (d : Data) (rest : Items) → as_str d ≡ Some text
-    → option_map (λ r. done ++ r) (each_of as_str (item d rest)) ≡ option_map (λ r. (done ++ text ∷ []) ++ r) (each_of as_str rest)
-text_read done text d rest is = rw is (text_first done text (each_of as_str rest))
-
--- a value that is no text
-pub no_text : (done : List Text) (d : Data) (rest : Items) → as_str d ≡ None → option_map (λ r. done ++ r) (each_of as_str (item d rest)) ≡ None
-no_text done d rest is = rw is

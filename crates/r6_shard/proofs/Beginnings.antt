@@ -1,5 +1,5 @@
 -- A shard's course begins.
-use Rattle.std.proofs.Common.{◌≡◌, ℕ, ◌<◌, ◌≤◌, List, [], length, Bool, false, inl, inr, refl, sym, ap, subst, ◌∙◌, Option}
+use Rattle.std.proofs.Common.{◌≡◌, ℕ, ◌<◌, List, [], Bool, false, refl, sym, ap, ◌∙◌, Option}
 use Rattle.r6_dev.specs.History.{Telling}
 use Rattle.r6_layout.specs.Shape.{Shape, IsShape}
 use Rattle.r6_health.specs.declared.history.View.{View}
@@ -7,17 +7,14 @@ use Rattle.r6_health.specs.Histories.{held}
 use Rattle.r6_world.specs.PlainArray.{Array}
 use Rattle.r6_world.specs.Geometries.{layout_of}
 use Rattle.r6_world.specs.Registers.{Snapshot}
-use Rattle.r6_world.specs.ShardStates.{Shard}
 use Rattle.r6_world.specs.Worlds.{Devices}
 use Rattle.r6_world.specs.Claims.{IsLawfulStart}
 use Rattle.r6_world.proofs.Geometries.{layouts}
-use Rattle.r6_world.proofs.Tables.{None-not_Some}
 use Rattle.r6_core.specs.Shards.{CoreView}
 use Rattle.r6_core.specs.Effects.{IsMade}
 use Rattle.r6_course.specs.Courses.{is_named}
 use Rattle.r6_course.proofs.Calls.{courses_begin}
 use Rattle.r6_shard.specs.Beginnings.{IsFirstPass, start_of, Hold}
-use Rattle.r6_shard.specs.Kept.{AreNumbered, NoneIsTaken, NoneIsUntold, AreNamed, IsKept}
 use Rattle.r6_shard.specs.Courses.{HasCourse}
 
 pub begun : (geometry : Shape) (number : ℕ) (snapshot : Snapshot) (device : Devices) (array : Array) (core : CoreView) (v : View)
@@ -48,15 +45,3 @@ begun geometry number snapshot device array core v named part limits below lawfu
         };
       };
     }
-
-pub kept-at-start : (geometry : Shape) (number : ℕ) (snapshot : Snapshot) (core : CoreView) (named : List Bool) → IsShape geometry
-    → IsMade geometry snapshot number core → length named ≡ 32 → IsKept core number named 0
-kept-at-start geometry number snapshot core named limits made many = (
-  sym made.number,
-  subst (λ y. y ≤ 32) (ap (λ y. y.slots) (sym made.geometry)) limits.slots_allowed.1,
-  subst (λ (y : Shard). AreNumbered y 0) (sym made.start) (refl, λ id request e. absurd (None-not_Some request e)),
-  subst NoneIsTaken (sym made.start) (λ token c e. absurd (None-not_Some c e)),
-  subst NoneIsUntold (sym made.start) refl,
-  subst (λ (y : Shard). AreNamed y named) (sym made.start) (λ slot generation i. elim i [ inl none ↦ absurd none | inr e ↦ absurd (None-not_Some _ e) ]),
-  many,
-)

@@ -2,9 +2,6 @@
 use Rattle.std.proofs.Common.{ℕ, zero, suc, List, [], ◌∷◌, ◌++◌, length, subst, sym, arith}
 use Rattle.r6_simulate.specs.Devices.{IsAt}
 
-pub each_of_none : {A : Type 0} (P : ℕ → A → Type 0) (place : ℕ) (item : A) → IsAt [] place item → P place item
-each_of_none P place item there = absurd (omega (arith, there.0))
-
 pub each_more : {A : Type 0} (P : ℕ → A → Type 0) (items : List A) (more : A) → ((place : ℕ) (item : A) → IsAt items place item → P place item)
     → P (length items) more → (place : ℕ) (item : A) → IsAt (items ++ more ∷ []) place item → P place item
 each_more P [] more each last zero item there = subst (P 0) (sym there.1) last

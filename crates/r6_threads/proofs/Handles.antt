@@ -1,8 +1,8 @@
 -- The pieces of work of threads that were started, from the last piece of work on, and that are joined (this project's own).
-use Rattle.std.proofs.Common.{◌≡◌, Bool, true, false, List, [], ◌∷◌, ◌++◌, Option, Some, refl, sym, ap, subst, ◌∙◌, map}
+use Rattle.std.proofs.Common.{◌≡◌, Bool, true, false, List, [], ◌∷◌, ◌++◌, Option, Some, sym, ap, ◌∙◌, map}
 use Rattle.std.specs.List.{AllZip}
 use Rattle.std.specs.Option.{option_to_list}
-use Rattle.std.proofs.lemmas.List.{append_assoc, append-nil, reverse-append}
+use Rattle.std.proofs.lemmas.List.{append_assoc, reverse-append}
 use Rattle.std.proofs.lemmas.Slice.Zip.{all_zipped_more}
 use Rattle.r6_threads.specs.Works.{HasEnded, in_order}
 
@@ -39,9 +39,6 @@ pub record IsJoined {W : Type 0} (done : W → W → Type 0) (all works left : L
   pub is : all ≡ taken ++ left
   pub each : AllZip done taken works
 
-pub join_none : {W : Type 0} (done : W → W → Type 0) (all works : List W) → works ≡ [] → IsJoined done all works all
-join_none done all works none = record { taken = []; is = refl; each = subst (AllZip done []) (sym none) tt }
-
 pub join_one : {W H : Type 0} (done : W → W → Type 0) (work : H → W) (all works : List W) (handles rest : List H) (handle : H) (one : W)
     → IsJoined done all works (in_order work handles) → handles ≡ rest ++ handle ∷ [] → done (work handle) one
     → IsJoined done all (works ++ one ∷ []) (in_order work rest)
@@ -52,11 +49,6 @@ join_one done work all works handles rest handle one so_far last is = record {
   each = all_zipped_more done so_far.taken works (work handle) one so_far.each is;
 }
 
-pub join_end : {W H : Type 0} (done : W → W → Type 0) (work : H → W) (all works : List W) (handles : List H)
-    → IsJoined done all works (in_order work handles) → handles ≡ [] → AllZip done all works
-join_end done work all works handles so_far none =
-    subst (λ l. AllZip done l works) (sym (so_far.is ∙ ap (λ l. so_far.taken ++ in_order work l) none ∙ append-nil so_far.taken)) so_far.each
-
 -- one more comes back as it was
 pub back_one : {W H : Type 0} (work : H → W) (all works : List W) (handles rest : List H) (handle : H) (one : W)
     → all ≡ works ++ in_order work handles → handles ≡ rest ++ handle ∷ [] → one ≡ work handle
@@ -64,7 +56,3 @@ pub back_one : {W H : Type 0} (work : H → W) (all works : List W) (handles res
 back_one work all works handles rest handle one so_far last is =
     so_far ∙ ap (λ l. works ++ in_order work l) last ∙ ap (λ l. works ++ l) (in_order_last work rest handle)
     ∙ ap (λ w. works ++ w ∷ in_order work rest) (sym is) ∙ sym (append_assoc works (one ∷ []) (in_order work rest))
-
-pub back_end : {W H : Type 0} (work : H → W) (all works : List W) (handles : List H)
-    → all ≡ works ++ in_order work handles → handles ≡ [] → works ≡ all
-back_end work all works handles so_far none = sym (so_far ∙ ap (λ l. works ++ in_order work l) none ∙ append-nil works)

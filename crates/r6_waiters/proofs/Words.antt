@@ -7,7 +7,7 @@ use Rattle.std.proofs.lemmas.List.{get_or-set_same, get_or-set_other, get_or_pas
 use Rattle.std.proofs.lemmas.List.Sums.{sum_by-set}
 use Rattle.std.proofs.lemmas.Nat.{and_le_l}
 use Rattle.std.proofs.lemmas.Nat.Bits.{bit_at_and, bit_at_mask_below, bit_at_mask_inside, ones_shl, bit_at_or, bit_at-lt, bit_at-zero, bit_at_set_same, bit_at_set_other, bit_at_clear_same, bit_at_clear_other, bit_at-trailing_zeros}
-use Rattle.r6_waiters.specs.Positions.{has, HasNone, IsLowest, HasNoneFrom, IsLowestFrom}
+use Rattle.r6_waiters.specs.Positions.{has, HasNone, IsLowest, IsLowestFrom}
 
 abbrev pub is_set : ℕ → ℕ → Bool
 is_set word i = bit_at word i == 1
@@ -177,23 +177,12 @@ part-from word index from i here within =
           ∙ sym (ap (λ (b : Bool). b && is_set word i) (le-leb from (64 * index + i) (omega (arith, here))))
     ]
 
-pub part-all : (word index from i : ℕ) → (index ≡ from / 64 → ⊥) → from / 64 ≤ index → is_set word i ≡ (nat_le from (64 * index + i) && is_set word i)
-part-all word index from i other past = sym (ap (λ (b : Bool). b && is_set word i) (le-leb from (64 * index + i) (omega arith)))
-
 at_part : (words : List ℕ) (index from word part q : ℕ) → word ≡ get_or words index 0 → ((i : ℕ) → i < 64 → is_set part i ≡ (nat_le from (64 * index + i) && is_set word i)) → from ≤ q → q / 64 ≡ index
     → has words q ≡ is_set part (q % 64)
 at_part words index from word part q is bits past here =
     ap (λ (n : ℕ). is_set (get_or words n 0) (q % 64)) here
     ∙ ap (λ (n : ℕ). is_set n (q % 64)) (sym is)
     ∙ sym (bits (q % 64) (omega arith) ∙ ap (λ (b : Bool). b && is_set word (q % 64)) (le-leb from (64 * index + q % 64) (omega arith)))
-
-pub none_from-more : (words : List ℕ) (index from word part : ℕ) → word ≡ get_or words index 0 → ((i : ℕ) → i < 64 → is_set part i ≡ (nat_le from (64 * index + i) && is_set word i)) → part ≡ 0
-    → ((q : ℕ) → from ≤ q → q / 64 < index → has words q ≡ false) → (q : ℕ) → from ≤ q → q / 64 < index + 1 → has words q ≡ false
-none_from-more words index from word part is bits none before q past below =
-    elim (cases_eq (q / 64) index) [
-      | inl here ↦ at_part words index from word part q is bits past here ∙ ap (λ (n : ℕ). is_set n (q % 64)) none ∙ ap (λ (n : ℕ). n == 1) (bit_at-zero (q % 64))
-      | inr other ↦ before q past (omega arith)
-    ]
 
 pub lowest_from-found : (words : List ℕ) (index from word part : ℕ) → word ≡ get_or words index 0 → ((i : ℕ) → i < 64 → is_set part i ≡ (nat_le from (64 * index + i) && is_set word i)) → (part ≡ 0 → ⊥) → part < 2 ^ 64
     → ((q : ℕ) → from ≤ q → q / 64 < index → has words q ≡ false) → IsLowestFrom words from (64 * index + trailing_zeros w64 part)
@@ -213,10 +202,3 @@ lowest_from-found words index from word part is bits some small before =
             | inr other ↦ before lower above (omega (arith, bound))
           ],
     )
-
-pub none_from-end : (words : List ℕ) (index from : ℕ) → length words ≤ index → ((q : ℕ) → from ≤ q → q / 64 < index → has words q ≡ false) → HasNoneFrom words from
-none_from-end words index from all before q past =
-    elim (cases_lt (q / 64) (length words)) [
-      | inl within ↦ before q past (omega arith)
-      | inr over ↦ ap (λ (n : ℕ). is_set n (q % 64)) (get_or_past words (q / 64) 0 over) ∙ ap (λ (n : ℕ). n == 1) (bit_at-zero (q % 64))
-    ]

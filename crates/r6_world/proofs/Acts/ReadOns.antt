@@ -19,10 +19,6 @@ read-cases command (Some r) op stage e =
     let p = same_stage r.op op (read_stage command r.stage) stage e in
     (r.stage, ap (λ x. Some (request_at x r.stage)) p.0, p.1)
 
-waiting_or_reading : (b : Bool) (token : ℕ) → (cond b (Reading token) Waiting ≡ Reading token) ⊎ (cond b (Reading token) Waiting ≡ Waiting)
-waiting_or_reading true token = inl refl
-waiting_or_reading false token = inr refl
-
 pub stage-cases : (command : ℕ → Option Command) (before : Stage) → (read_stage command before ≡ before) ⊎ ((token : ℕ) × (before ≡ Reading token) × (is_going_on (command token) ≡ false) × (read_stage command before ≡ Waiting))
 stage-cases command Waiting = inl refl
 stage-cases command (Held f) = inl refl
@@ -38,9 +34,6 @@ waiting-not-released reply e = cc
 
 waiting-not-held : (f : ℕ) → Waiting ≡ Held f → ⊥
 waiting-not-held f e = cc
-
-waiting-not-finished : (reply : Reply) → Waiting ≡ Finished reply → ⊥
-waiting-not-finished reply e = cc
 
 waiting-not-reading : (t : ℕ) → Waiting ≡ Reading t → ⊥
 waiting-not-reading t e = cc
@@ -59,14 +52,6 @@ read-held command o op f e =
     elim (stage-cases command p.0) [
       | inl same ↦ p.1 ∙ ap (λ s. Some (request_at op s)) (sym same ∙ p.2)
       | inr q ↦ absurd (waiting-not-held f (sym q.3 ∙ p.2))
-    ]
-
-pub read-finished : (command : ℕ → Option Command) (o : Option Request) (op : Op) (reply : Reply) → read_on command o ≡ Some (request_at op (Finished reply)) → o ≡ Some (request_at op (Finished reply))
-read-finished command o op reply e =
-    let p = read-cases command o op (Finished reply) e in
-    elim (stage-cases command p.0) [
-      | inl same ↦ p.1 ∙ ap (λ s. Some (request_at op s)) (sym same ∙ p.2)
-      | inr q ↦ absurd (waiting-not-finished reply (sym q.3 ∙ p.2))
     ]
 
 -- what is read directly still has its command
@@ -239,7 +224,3 @@ kept-or-none (Some a) (Some b) answer = at a.stage refl b.stage
     at (Held f) e y = inl refl
     at (Finished reply) e y = inl refl
     at (Released reply) e y = inl refl
-
--- where none is read directly, none changes
-pub read-same : (command : ℕ → Option Command) (o : Option Request) → ((op : Op) (t : ℕ) → o ≡ Some (request_at op (Reading t)) → ⊥) → read_on command o ≡ o
-read-same command o none = elim (reads-on command o) [ inl same ↦ same | inr q ↦ absurd (none q.0 q.1 q.2) ]

@@ -24,40 +24,6 @@ use Rattle.r6_world.proofs.Uses.{Uses, generation_of, stands-in-or-out}
 use Rattle.r6_world.proofs.Rows.SeenRows.{Devices, Unheld, block_seen, Stands, Moves, HeldRow, IdleRow, Rows, same-slot, sight-used, idle-used}
 
 module _ (l : Layout) (is : IsLayout l) (n : ℕ) where
-  -- the array changed in rows of other shards
-  pub elsewhere : (device : Devices) (gave : ℕ → Option Block) (frame : ℕ → Option Hold) (command : ℕ → Option Command) (slots : ℕ → SlotState) (tokens : ℕ) (array array' : Array)
-      → Rows l n device gave frame command slots tokens array → ((row : ℕ) → IsRowOf l n row → SameRow l array array' row)
-      → Rows l n device gave frame command slots tokens array'
-  elsewhere device gave frame command slots tokens array array' r same =
-      record {
-        idle = λ row there unheld.
-            let x = r.idle row there unheld in
-            (x.0, subst (Seen (found l slots row) (block_seen l device slots row) x.0) (row-same l is array array' row there.0 (same row there)) x.1);
-        held = λ f h e. held-array device gave command slots array array' f h (r.held f h e) (same h.row (r.held f h e).in_shard);
-        alone = r.alone;
-        framed = r.framed;
-        gone = r.gone;
-        given_token = r.given_token;
-        unused = r.unused;
-      }
-    where
-      held-array : (device : Devices) (gave : ℕ → Option Block) (command : ℕ → Option Command) (slots : ℕ → SlotState) (array array' : Array) (f : ℕ) (h : Hold) → HeldRow l n device gave command slots array f h
-          → SameRow l array array' h.row → HeldRow l n device gave command slots array' f h
-      held-array device gave command slots array array' f h x same =
-          record {
-            in_shard = x.in_shard;
-            is_kind = x.is_kind;
-            size_is = x.size_is;
-            wide = x.wide;
-            rebuilds = x.rebuilds;
-            low = x.low;
-            stands = x.stands;
-            out = x.out;
-            seen = subst (Seen h.course (block_seen l device slots h.row) x.out) (row-same l is array array' h.row x.in_shard.0 same) x.seen;
-            commands = x.commands;
-            single = x.single;
-          }
-
   -- devices changed where the shard uses none
   pub devices_elsewhere : (device device' : Devices) (gave : ℕ → Option Block) (frame : ℕ → Option Hold) (command : ℕ → Option Command) (slots : ℕ → SlotState) (tokens : ℕ) (array : Array)
       → Rows l n device gave frame command slots tokens array → ((slot g row : ℕ) → IsRowOf l n row → Uses (slots slot) g → device' slot g row ≡ device slot g row)
