@@ -87,7 +87,16 @@ WaitingHaveTurns old new = HaveTurns (core_of old) (state_of old) (waiting_of ol
 
 abbrev pub none_counted : Counts
 none_counted =
-    record { consistent = 0; wrong_p = 0; wrong_q = 0; wrong_data = 0; many = 0; skipped = 0; repaired = 0; rebuilt = 0 }
+    record {
+      consistent = 0;
+      wrong_p = 0;
+      wrong_q = 0;
+      wrong_data = 0;
+      many = 0;
+      skipped = 0;
+      repaired = 0;
+      rebuilt = 0;
+    }
 
 -- the rows that were found and done; those that were passed over are the others
 abbrev pub rows_found : Counts → ℕ
@@ -501,8 +510,8 @@ StartsWith with cause old request new =
     × IsLike old.frames new.frames × TakesRoom with old.frames request new.frames
 
 -- The writes that a hold serves: the request, and of those in the line the ones that start with it, which have left it
-pub record ServeTogether (fs : Frames) (request : Request) (line : Entries Request) (writes : List Entry) (now : Entries Request)
-    : Type 0 where
+pub record ServeTogether (fs : Frames) (request : Request) (line : Entries Request) (writes : List Entry)
+    (now : Entries Request) : Type 0 where
   pub joined :
       IsPermutation
       (request ∷ joined (wanted_with (layout_of fs.geometry) request.op) (map (λ entry. entry.1) line))
@@ -531,7 +540,8 @@ JoinedBy (Some near) old request writes now =
     × (now ≡ with_entries old.waiting (entries_of now))
 
 -- what the row of the request is held for, and those whose row it is
-abbrev pub IsForAll : (near : Option (List ℕ)) → State → Request → Op → (now : Line Request) → Task → (served : List Request) → Type 0
+abbrev pub IsForAll : (near : Option (List ℕ)) → State → Request → Op → (now : Line Request) → Task
+    → (served : List Request) → Type 0
 IsForAll near old request (op.Read block buffer) now task served =
     (task ≡ ReadFor request.id block) × (served ≡ request ∷ []) × (now ≡ old.waiting)
 IsForAll near old request (op.Write block buffer) now task served =
@@ -572,7 +582,8 @@ pub record HoldsFor (near : Option (List ℕ)) (frame : ℕ) (old : State) (requ
   pub rest : new ≡ record mid { frames = new.frames }
 
 -- the oldest write of the block in the line was put in at the index, and waits no more
-pub record JoinsOne (block index : ℕ) (old : State) (writes : List Entry) (new : State) (more : List Entry) : Type 0 where
+pub record JoinsOne (block index : ℕ) (old : State) (writes : List Entry) (new : State) (more : List Entry)
+    : Type 0 where
   pub waiting : new.waiting
       ≡ with_entries old.waiting (without_oldest_keyed key_of block (entries_of old.waiting))
   pub put : MatchOption (oldest_keyed key_of block (entries_of old.waiting)) (more ≡ writes)

@@ -100,8 +100,8 @@ pub record Reached (s : Start) (w : World) (history : List Mark) : Type 0 where
   pub marks : history_of [] moments ≡ history
 
 -- where a shard stands: its core, the register as its pass saw it last, the attaches that its core saw when it looked
--- last, the slots that it names as failed, what its parts tell by slot and generation (none: no part is there), and what
--- its users saw
+-- last, the slots that it names as failed, what its parts tell by slot and generation (none: no part is there), and
+-- what its users saw
 pub record Stand : Type 0 where
   pub shard : Shard
   pub register : Snapshot

@@ -111,7 +111,13 @@ kind_in h = h.hold.planned.hold.kind
 
 abbrev pub hold_of : HeldRow → Hold
 hold_of h =
-    record { row = h.row; task = task_by h.job (kind_in h); course = h.hold.planned.hold; plan = h.hold.planned.plan; class = h.hold.class }
+    record {
+      row = h.row;
+      task = task_by h.job (kind_in h);
+      course = h.hold.planned.hold;
+      plan = h.hold.planned.plan;
+      class = h.hold.class;
+    }
 
 -- the row with what it is held for
 abbrev pub held_for : HeldRow → ℕ × Job
@@ -195,7 +201,15 @@ given_transfer command.Write block = Store block
 -- the command in the frame that was not taken yet
 abbrev pub world_command : ℕ → Bool → Command → shards.Command
 world_command frame abandoned c =
-    record { frame = frame; slot = c.slot; generation = c.generation; row = c.row; transfer = given_transfer c.kind c.buffer; taken = false; abandoned = abandoned }
+    record {
+      frame = frame;
+      slot = c.slot;
+      generation = c.generation;
+      row = c.row;
+      transfer = given_transfer c.kind c.buffer;
+      taken = false;
+      abandoned = abandoned;
+    }
 
 abbrev pub outstanding : FramesState → ℕ → Option Outstanding
 outstanding fs token = finite.get fs.commands.entries token

@@ -11,9 +11,10 @@ use Rattle.r6_shard.specs.Histories.{asked_in, replied_in, answered_before, numb
 use Rattle.r6_shard.specs.declared.ledger.Asked.{Asked as Accepted}
 use Rattle.r6_shard.specs.declared.ledger.Entry.{Entry}
 
--- where a core stands with its parts and the slots that are named, beside a register that its pass has seen so far and of
--- which it looked at so many attaches
-abbrev pub stand_of : CoreView → View → (looked : ℕ) → (named : List Bool) → (ℕ → ℕ → Option Telling) → List Mark → Stand
+-- where a core stands with its parts and the slots that are named, beside a register that its pass has seen so far and
+-- of which it looked at so many attaches
+abbrev pub stand_of : CoreView → View → (looked : ℕ) → (named : List Bool) → (ℕ → ℕ → Option Telling) → List Mark
+    → Stand
 stand_of core v looked named part history =
     record {
       shard = world_shard core;

@@ -14,7 +14,8 @@ pub record IsLine {V K : Type 0} (key_of : V → Option ℕ) (line : Inside V K)
   pub countable : line.capacity + line.capacity + 64 < 2 ^ 64
   pub room : vec_capacity line.places ≡ line.capacity + line.capacity
   pub wide : line.capacity + line.capacity ≤ 64 * length line.spare
-  pub equal : (cause : ℕ) → cause < length line.sets.items → length (slice_index_or line.sets.items cause []) ≡ length line.spare
+  pub equal : (cause : ℕ) → cause < length line.sets.items
+      → length (slice_index_or line.sets.items cause []) ≡ length line.spare
   pub as_wide : (class : ℕ) → class < classes → length (slice_index_or line.keyed.items class []) ≡ length line.spare
   pub spare : HasNone line.spare
   pub marked : IsMarked line.sets.items line.places.items (cause_at line.sets.items)

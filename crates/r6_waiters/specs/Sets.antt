@@ -33,7 +33,8 @@ waiting cause_of (place ∷ places) = with_entry (cause_of 0) place.1 (waiting (
 
 -- an entry's position is in the set of its cause, and in no other; no other position is in a set
 pub record IsMarked {X : Type 0} (sets : List (List ℕ)) (places : Places X) (cause_of : ℕ → ℕ) : Type 0 where
-  pub marks : (cause position : ℕ) → is_marked sets cause position ≡ (is_there places position && (cause_of position == cause))
+  pub marks : (cause position : ℕ)
+      → is_marked sets cause position ≡ (is_there places position && (cause_of position == cause))
   pub within : (position : ℕ) → is_there places position ≡ true → cause_of position < length sets
 
 -- each set has room for the positions below a limit
@@ -42,4 +43,6 @@ HaveRoom sets limit = (cause : ℕ) → cause < length sets → limit ≤ 64 * l
 
 -- the sets are as many as others, and each has as much room
 abbrev pub AreAsWide : List (List ℕ) → List (List ℕ) → Type 0
-AreAsWide sets others = (length others ≡ length sets) × ((cause : ℕ) → length (slice_index_or others cause []) ≡ length (slice_index_or sets cause []))
+AreAsWide sets others =
+    (length others ≡ length sets)
+    × ((cause : ℕ) → length (slice_index_or others cause []) ≡ length (slice_index_or sets cause []))

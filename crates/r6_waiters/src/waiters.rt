@@ -286,8 +286,8 @@ fn make_room<V: Drop, K: KeyOf<V>>(
     }
 }
 
-// Lets go of empty places. Where more than a quarter of them comes before the first entry, as in a line that goes in the
-// order of its age, nothing but these goes.
+// Lets go of empty places. Where more than a quarter of them comes before the first entry, as in a line that goes in
+// the order of its age, nothing but these goes.
 #[cold]
 #[inline(never)]
 fn free_places<V: Drop, K: KeyOf<V>>(

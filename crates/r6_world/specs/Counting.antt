@@ -1,6 +1,6 @@
--- What the counts of a shard say of a run (md(4): a check reads the rows in turn and counts those that don't agree; this
--- project's own: which counts there are). A step leads from state to state by a list of small changes; so does a run, and
--- which checks and repairs ended in it, and which rows were marked built, stands in that list.
+-- What the counts of a shard say of a run (md(4): a check reads the rows in turn and counts those that don't agree;
+-- this project's own: which counts there are). A step leads from state to state by a list of small changes; so does a
+-- run, and which checks and repairs ended in it, and which rows were marked built, stands in that list.
 use Rattle.std.specs.Prelude.{◌≡◌, ℕ, ◌+◌, ◌<◌, ◌≤◌, List, [], ◌∷◌, ◌++◌, length, All, Bool, true, false, if◌then◌else◌, not, ◌==◌, ◌&&◌, Option, Some, None, count_by}
 use Rattle.r6_recover.specs.declared.class.RowClass.{RowClass}
 use Rattle.r6_recover.specs.declared.class.RowClass.TheVariants.{Consistent, WrongP, WrongQ, WrongData, Many}
@@ -230,14 +230,14 @@ passes (Turn_started task) = if is_check task then 1 else 0
 passes (Turn_skipped task row) = 1
 passes event = 0
 
--- a shard is at rest, with its own holds, and has passed so many rows; in one that stopped, or saw the failure, holds of
--- checks stay or are dropped
+-- a shard is at rest, with its own holds, and has passed so many rows; in one that stopped, or saw the failure, holds
+-- of checks stay or are dropped
 abbrev pub HasPassed : Layout → (n : ℕ) → (rows : ℕ) → Shard → Type 0
 HasPassed l n rows s = HasOwnHolds l s × AtRest l n s × (IsLive l s → gone_over s ≡ rows)
 
--- A shard begins so, and has passed none; each call keeps it so, and passes a row where it is a turn of a check or repair,
--- and else none. With no command out a live shard holds no row for a check or repair, so that all rows are counted; a
--- shard that was stopped stays so; and no count ever falls
+-- A shard begins so, and has passed none; each call keeps it so, and passes a row where it is a turn of a check or
+-- repair, and else none. With no command out a live shard holds no row for a check or repair, so that all rows are
+-- counted; a shard that was stopped stays so; and no count ever falls
 abbrev pub CallCountsLaw : Type 0
 CallCountsLaw =
     ((l : Layout) (n : ℕ) (r : Snapshot) → HasPassed l n 0 (shard_at_start l r n))

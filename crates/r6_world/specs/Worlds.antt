@@ -43,7 +43,16 @@ shard_at_start l r n =
       saw_failed = false;
       check_row = l.first_row n;
       repair_row = l.first_row n;
-      counts = record { consistent = 0; wrong_p = 0; wrong_q = 0; wrong_data = 0; many = 0; skipped = 0; repaired = 0; rebuilt = 0 };
+      counts = record {
+        consistent = 0;
+        wrong_p = 0;
+        wrong_q = 0;
+        wrong_data = 0;
+        many = 0;
+        skipped = 0;
+        repaired = 0;
+        rebuilt = 0;
+      };
     }
 
 abbrev pub started : Layout → Snapshot → Devices → World
