@@ -78,9 +78,12 @@ impl State {
     fn take(&mut self, token: u64, completion: Result<Buffer, DeviceFault>) -> (Receipt, Freed)
         requires core { IsCore self.old }
         requires right { HasNone (HasFault self.old token completion) deliver_faults }
+
         ensures settled { IsSettled self.new }
         ensures freed { HasFreed result.1 self.new }
         ensures takes { TakesThrough self.old token (completion_of completion) (receipt_of result.0) self.new }
+
+        // what waits again, and which requests are finished
         ensures keeps { KeepsShard self.old self.new }
         ensures again { ReadAgainFor completion self.old self.new }
         ensures order { Seen (FinishesBy completion) self.old self.new }
@@ -109,9 +112,12 @@ impl State {
         requires awaited { IsAwaited self.old.frames token }
         requires wanted { IsAbandoned self.old.frames token → ⊥ }
         requires size { length buffer ≡ self.old.frames.geometry.block }
+
         ensures settled { IsSettled self.new }
         ensures freed { HasFreed result self.new }
         ensures takes { TakesThrough self.old token (Good buffer) Taken self.new }
+
+        // what waits, and which requests are finished
         ensures keeps { KeepsWaiting self.old self.new }
         ensures order { Seen MayFinish self.old self.new }
         ensures others { (frame : ℕ) × KeepsOthers self.old.frames frame self.new.frames }
@@ -135,9 +141,12 @@ impl State {
         requires wanted { IsAbandoned self.old.frames token → ⊥ }
         requires read { IsOfRead self.old.frames token }
         requires size { length buffer ≡ self.old.frames.geometry.block }
+
         ensures settled { IsSettled self.new }
         ensures freed { HasBuffer self.new }
         ensures takes { TakesThrough self.old token (Good buffer) Taken self.new }
+
+        // what waits, and which requests are finished
         ensures keeps { KeepsWaiting self.old self.new }
         ensures order { Seen MayFinish self.old self.new }
         ensures holds { KeepsHolds self.old.frames self.new.frames }
@@ -153,8 +162,11 @@ impl State {
         requires awaited { IsAwaited self.old.frames token }
         requires wanted { IsAbandoned self.old.frames token → ⊥ }
         requires size { length buffer ≡ self.old.frames.geometry.block }
+
         ensures core { IsSettled self.new }
         ensures takes { TakesThrough self.old token Error Taken self.new }
+
+        // what waits again, and which requests are finished
         ensures keeps { KeepsShard self.old self.new }
         ensures again { ReadAgain self.old self.new }
         ensures order { Seen Finishes self.old self.new }
@@ -243,9 +255,13 @@ impl State {
         requires may { MayMark self.old.frames (Ended.Rebuilt target row) }
         requires room { length self.old.calls.items < self.old.calls.capacity }
         requires counts { rows_counted self.old.counts < 2 ^ 63 }
+
+        // the row is marked
         ensures sound { held.IsSound self.new.frames }
         ensures live { AreLive self.new.frames }
         ensures marked { IsMarked self.old target row self.new }
+
+        // and nothing else changes but calls and counts
         ensures holds { KeepsHolds self.old.frames self.new.frames }
         ensures commands { self.new.frames.commands ≡ self.old.frames.commands }
         ensures same { self.new ≡ record self.old {
@@ -269,12 +285,15 @@ impl State {
         requires room { length self.old.replies.items + length (requests_ended ended) ≤ self.old.replies.capacity }
         requires place { HasPlace ended self.old.rooms }
         requires counts { rows_counted self.old.counts < 2 ^ 63 }
+
         ensures plain { IsPlainEnd ended }
         ensures same { self.new ≡ record self.old {
           replies = buffer (self.old.replies.items ++ requests_ended ended) self.old.replies.capacity;
           counts = self.new.counts;
           rooms = self.new.rooms;
         } }
+
+        // its room is free again, and it is counted
         ensures rooms { FreesRoom ended self.old.rooms self.new.rooms }
         ensures counted { counts_of self.new.counts
             ≡ counted (counts_of self.old.counts) (ended_task ended) (ended_outcome ended) }

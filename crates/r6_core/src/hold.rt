@@ -30,11 +30,16 @@ impl State {
     )
         requires sound { held.IsSound self.old.frames }
         requires rooms { HaveRooms self.old.rooms.items self.old.frames }
+
+        // those that wait, and the request with its place
         requires request { IsRequestOf self.old.frames request }
         requires waiting { AllByRecursion (λ entry. IsRequestOf self.old.frames entry.1) (entries_of self.old.waiting) }
         requires place { IsPlaceOf self.old.frames.geometry request.op place }
+
+        // the row may be held
         requires can { CanHold self.old.frames (row_of_request self.old.frames request) frame }
         requires numbers { last_token self.old.frames + 2 * self.old.frames.geometry.slots < 2 ^ 63 }
+
         ensures { HoldsFor near frame self.old request self.new }
     {
         self.begin(frame, request, place, near);
@@ -76,11 +81,17 @@ impl State {
         requires shape { IsShape self.old.frames.geometry }
         requires some { 0 < length self.old.rooms.items }
         requires rooms { AllByRecursion (λ writes. writes ≡ []) self.old.rooms.items }
+
+        // those that wait, and the request with its place
         requires request { IsRequestOf self.old.frames (record { id = served.id; op = op.Write served.block buffer }) }
         requires waiting { AllByRecursion (λ entry. IsRequestOf self.old.frames entry.1) (entries_of self.old.waiting) }
         requires place { IsPlaceOf self.old.frames.geometry (op.Write served.block buffer) place.now }
+
+        // the write, and those that join it
         ensures writes { JoinedBy near self.old (record { id = served.id; op = op.Write served.block buffer })
             result self.new.waiting }
+
+        // one room is used, and nothing else changes
         ensures fewer { length self.new.rooms.items + 1 ≡ length self.old.rooms.items }
         ensures rooms { AllByRecursion (λ writes. writes ≡ []) self.new.rooms.items }
         ensures space { vec_capacity self.new.rooms ≡ vec_capacity self.old.rooms }

@@ -146,9 +146,12 @@ impl State {
     fn release(&mut self)
         requires core { IsSettled self.old }
         requires unfailed { self.old.frames.saw_failed ≡ false }
+
         ensures core { IsSettled self.new }
         ensures released { state_of self.new ≡ after (layout_in self.old) (state_of self.old) Release }
         ensures order { Seen ReleasesFinished self.old self.new }
+
+        // nothing else changes
         ensures unanswered { self.new.unanswered ≡ self.old.unanswered }
         ensures same { (self.new.frames ≡ self.old.frames) × SameCalls self.old self.new }
         ensures waiting { self.new.waiting ≡ self.old.waiting }

@@ -33,6 +33,7 @@ impl State {
     pub(crate) fn rebuild(&mut self, window: usize) -> Result<Turn, Refusal>
         requires core { IsCore self.old }
         requires window { window ≤ 8 }
+
         ensures core { IsCore self.new }
         ensures started { IfOk result (λ turn. (turn ≡ Turn.Started)
             × Rebuilds window (core_with window self.old) (core_with window self.new)) }
@@ -40,6 +41,8 @@ impl State {
         ensures refused { IfErr result (λ refusal.
             (self.new ≡ self.old)
             × IsFirstFault (HasRebuildFault (core_with window self.old) window) turn_faults refusal) }
+
+        // requests stay
         ensures kept { Seen KeepsRequests self.old self.new }
         ensures unanswered { self.new.unanswered ≡ self.old.unanswered }
     {
@@ -53,9 +56,13 @@ impl State {
     pub(crate) fn frame_for_rebuild(&self, window: usize) -> Result<NextRebuild, Refusal>
         requires core { IsCore self.now }
         requires window { window ≤ 8 }
+
+        // whether it is refused
         ensures right { IfOk result (λ _. HasNone (HasRebuildFault (core_with window self.now) window) turn_faults) }
         ensures refused { IfErr result
             (IsFirstFault (HasRebuildFault (core_with window self.now) window) turn_faults) }
+
+        // the next row, and a frame for it
         ensures next { IfOk result (λ next.
             IsNextRebuild (core_with window self.now) window next.target.slot next.target.generation next.row) }
         ensures on { IfOk result (λ next. IsNextOn self.now.frames next.target next.row) }
@@ -121,15 +128,21 @@ impl State {
         requires core { IsCore self.old }
         requires slot { target.slot < self.old.frames.geometry.slots }
         requires row { IsRowOf (layout_in self.old) self.old.frames.shard row }
+
+        // the row is next, and may be held
         requires next { IsNextOn self.old.frames target row }
         requires can { CanHold self.old.frames row frame }
         requires tokens { self.old.frames.commands.next < limit }
+
+        // it is held, and what its hold puts out is out
         ensures core { IsCore self.new }
         ensures allowed { Allowed (layout_in self.old) self.old.frames.shard (state_of self.old)
             (Start frame row (rebuild_task target)) }
         ensures leads { Through (layout_in self.old) self.old.frames.shard Scans
             (after (layout_in self.old) (state_of self.old) (Start frame row (rebuild_task target)))
             (state_of self.new) }
+
+        // the shard stays the shard that it is, and requests stay
         ensures same { SameFrames self.old self.new }
         ensures kept { Seen KeepsRequests self.old self.new }
         ensures unanswered { self.new.unanswered ≡ self.old.unanswered }

@@ -123,6 +123,7 @@ impl State {
         requires live { AreLive self.old.frames }
         requires few { self.old.frames.commands.next < limit }
         requires freed { HasBuffer self.old }
+
         ensures core { IsCore self.new }
         ensures leads { Leads Scans self.old self.new }
         ensures turns { WaitingHaveTurns self.old self.new }
@@ -230,9 +231,12 @@ impl State {
         requires settled { IsSettled self.old }
         requires cause { cause < causes }
         requires first { IsFirstToStart self.old cause room }
+
         ensures settled { IsSettled self.new }
         ensures leads { Leads Scans self.old self.new }
         ensures live { AreLive self.new.frames }
+
+        // the oldest is out of the line, and has started
         ensures left { LeavesLine self.old cause self.new }
         ensures starts { IfSome (oldest_of cause (entries_of self.old.waiting)) (λ request.
             StartsWith room cause self.old request self.new) }
@@ -253,9 +257,13 @@ impl State {
         requires request { IsRequestOf self.old.frames request }
         requires place { IsPlaceOf self.old.frames.geometry request.op place }
         requires can { CanRead self.old.frames request number }
+
+        // its command is put out
         ensures sound { held.IsSound self.new.frames }
         ensures live { AreLive self.new.frames }
         ensures reads { ReadsDirectly self.old.frames number (served_of request) self.new.frames }
+
+        // holds and slots stay, and a direct read is used
         ensures holds { KeepsHolds self.old.frames self.new.frames }
         ensures slots { KeepsSlots self.old.frames self.new.frames }
         ensures taken { TakesDirect self.old.frames number self.new.frames }

@@ -157,14 +157,20 @@ impl State {
         requires right { HasNone (HasSubmitFault (core_of self.old) op) submit_faults }
         requires sized { IsBlock (length (buffer_of op)) (buffer_of op) }
         requires place { IsPlaceOf self.old.frames.geometry op place }
+
+        // it is taken
         ensures core { IsCore self.new }
         ensures id { result ≡ self.old.accepted }
         ensures allowed { Allowed (layout_in self.old) self.old.frames.shard (state_of self.old) (Accept (op_of op)) }
+
+        // and starts, or waits behind all others
         ensures leads { Through (layout_in self.old) self.old.frames.shard Scans
             (after (layout_in self.old) (state_of self.old) (Accept (op_of op))) (state_of self.new) }
         ensures turns { HaveTurns (core_of self.old)
             (after (layout_in self.old) (state_of self.old) (Accept (op_of op)))
             (waiting_of self.old ++ (record { id = result; op = op }) ∷ []) (core_of self.new) }
+
+        // the shard stays the shard that it is, and calls and replies stay
         ensures same { SameFrames self.old self.new }
         ensures calls { SameCalls self.old self.new }
         ensures order { Seen SameReplies self.old self.new }
@@ -203,6 +209,7 @@ impl State {
     /// Takes the reply that was released first. Once the array has failed, those that it answers so follow.
     pub(crate) fn take_reply(&mut self) -> Option<(OpId, Reply)>
         requires { IsCore self.old }
+
         ensures core { IsCore self.new }
         ensures step { MatchOption result
             (Step (core_of self.old) No_reply (core_of self.new))
@@ -210,8 +217,12 @@ impl State {
         ensures first { MatchOption result
             (HasNoReply (core_of self.old) × (self.new ≡ self.old))
             (λ r. TakesFirst (core_of self.old) (r.0).0 r.1 (core_of self.new)) }
+
+        // its buffer comes back
         ensures buffer { IfSome result (λ r. BringsBack ((state_of self.old).request (r.0).0) r.1) }
         ensures sized { IfSome result (λ r. length (buffer_back r.1) ≡ self.old.frames.geometry.block) }
+
+        // and one less is unanswered
         ensures unanswered { IfSome result (λ _. self.new.unanswered + 1 ≡ self.old.unanswered) }
         ensures waiting { self.new.waiting ≡ self.old.waiting }
         ensures same { SameCalls self.old self.new }

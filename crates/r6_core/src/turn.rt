@@ -97,12 +97,16 @@ impl State {
         requires taken_up { IsTakenUp self.old scrub frame }
         requires tokens { self.old.frames.commands.next < limit }
         requires skipped { self.old.counts.skipped < limit }
+
+        // the row is held, and what its hold puts out is out
         ensures core { IsCore self.new }
         ensures allowed { Allowed (layout_in self.old) self.old.frames.shard (state_of self.old)
             (Start frame (next_row scrub self.old) (scrub_task scrub)) }
         ensures leads { Through (layout_in self.old) self.old.frames.shard Scans
             (after (layout_in self.old) (state_of self.old) (Start frame (next_row scrub self.old) (scrub_task scrub)))
             (state_of self.new) }
+
+        // the shard stays the shard that it is, and requests stay
         ensures same { SameFrames self.old self.new }
         ensures kept { Seen KeepsRequests self.old self.new }
         ensures unanswered { self.new.unanswered ≡ self.old.unanswered }
@@ -118,11 +122,15 @@ impl State {
         requires core { IsCore self.old }
         requires passed_over { IsPassedOver self.old scrub }
         requires skipped { self.old.counts.skipped < limit }
+
+        // the row is passed over
         ensures core { IsCore self.new }
         ensures allowed { Allowed (layout_in self.old) self.old.frames.shard (state_of self.old)
             (Skip_turn (scrub_task scrub) (next_row scrub self.old)) }
         ensures skips { state_of self.new
             ≡ after (layout_in self.old) (state_of self.old) (Skip_turn (scrub_task scrub) (next_row scrub self.old)) }
+
+        // the shard stays the shard that it is, and requests stay
         ensures same { SameFrames self.old self.new }
         ensures kept { Seen KeepsRequests self.old self.new }
         ensures unanswered { self.new.unanswered ≡ self.old.unanswered }

@@ -15,9 +15,13 @@ ghost use Rattle.r6_course.specs.Witness.{WitnessLaw};
 pub fn courses_go_on()
     ensures begins { CoursesBegin }
     ensures calls { CallsGoOn }
+
+    // what comes to the shard
     ensures performing { PerformingGoesOn }
     ensures failure { FailureGoesOn }
     ensures others { OthersGoOn }
+
+    // parts
     ensures telling { TellingGoesOn }
     ensures handing { HandingGoesOn }
     ensures letting { LettingGoesOn }

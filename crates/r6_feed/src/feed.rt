@@ -76,6 +76,7 @@ impl<L: Events> Feed<L> {
         requires whole { AreWhole L.shape.shards events.items }
         requires promised { ArePromised D.promised L.shape L.sound events.items }
         requires pass { IsPassOf shards.now.register.now self.old.pass }
+
         ensures number { self.new.number ≡ length L.events }
         ensures pass { IsPassOf shards.now.register.now self.new.pass }
         ensures told { TellsOn (view_of self.old.pass) self.old.answers.items
@@ -127,11 +128,17 @@ impl<L: Events> Feed<L> {
         requires events { events_of D.told events.items ≡ L.events }
         requires whole { AreWhole L.shape.shards events.items }
         requires promised { ArePromised D.promised L.shape L.sound events.items }
+
         requires pass { IsPassOf shards.now.register.now self.pass }
+
         ensures pass { IsPassOf shards.now.register.now result.0 }
+
+        // what it answered
         ensures asked { map asked_in result.1.items ≡ asked_before L.shape L.events (length L.events) }
         ensures own { (view_of result.0).mine ≡ calls_of result.1.items }
         ensures settled { All (λ answer. is_unsettled answer.outcome ≡ false) result.1.items }
+
+        // what its pass saw
         ensures told { WereTold (view_of self.pass) result.1.items (view_of result.0) }
         ensures later { IsLater (view_of self.pass) (view_of result.0) }
     {

@@ -307,13 +307,19 @@ impl Rows {
         requires sound { IsSound (view_of self.old) }
         requires room { HasRoom self.old }
         requires live { AreLive (view_of self.old) }
+
+        // The row may be held in the frame.
         requires free { IsFreeFrame (view_of self.old) frame }
         requires may { MayHold (view_of self.old) row job task }
         requires first { first ≡ layout.slot_at self.old.geometry row 0 }
         requires unheld { NotHeldBy (view_of self.old) row }
+
+        // The row is held.
         ensures sound { IsSound (view_of self.new) }
         ensures room { HasRoom self.new }
         ensures holds { Holds (view_of self.old) frame (begun_row (view_of self.old) row job task) (view_of self.new) }
+
+        // It owes what it may put out.
         ensures owed { owed (view_of self.new) ≡ owed (view_of self.old) + 2 * self.old.geometry.slots }
         ensures owes { OwesCommands (view_of self.new) frame }
     {

@@ -41,10 +41,15 @@ pub fn restore_from_q_into(blocks: &[Buffer], x: usize, target: &mut Buffer)
 pub(crate) fn restore_with_p_into(blocks: &[Buffer], x: usize, target: &mut Buffer, p: &mut Buffer)
     requires within { x + 2 < length blocks.now }
     requires few { length blocks.now ≤ 32 }
+
+    // lengths
     requires long { AreLongBut (length target.old) x (length blocks.now - 2) blocks.now }
     requires same { length p.old ≡ length target.old }
+
     ensures target { let m = length blocks.now - 2 in IsRestored m (length target.old) x m blocks.now target.new }
     ensures p { let m = length blocks.now - 2 in IsRestored m (length target.old) m x blocks.now p.new }
+
+    // lengths stay
     ensures same_length { length target.new ≡ length target.old }
     ensures p_length { length p.new ≡ length p.old }
 {
@@ -63,10 +68,15 @@ pub fn restore_two_into(
     requires before { x < y }
     requires within { y + 2 < length blocks.now }
     requires few { length blocks.now ≤ 32 }
+
+    // lengths
     requires long { AreLongBut (length first.old) x y blocks.now }
     requires same { length second.old ≡ length first.old }
+
     ensures first { IsRestored (length blocks.now - 2) (length first.old) x y blocks.now first.new }
     ensures second { IsRestored (length blocks.now - 2) (length first.old) y x blocks.now second.new }
+
+    // lengths stay
     ensures first_length { length first.new ≡ length first.old }
     ensures second_length { length second.new ≡ length second.old }
 {
@@ -86,9 +96,12 @@ pub fn restore_missing_into(
 )
     requires count { 2 ≤ length blocks.now }
     requires few { length blocks.now ≤ 32 }
+
+    // what is missing, and lengths
     requires missing { MayMiss (length blocks.now) missing }
     requires long { AreLongButMissing (length first.old) missing blocks.now }
     requires same { length second.old ≡ length first.old }
+
     ensures restored { AreRestored missing (length blocks.now - 2) (length first.old) blocks.now first.new second.new }
     ensures first_length { length first.new ≡ length first.old }
     ensures second_length { length second.new ≡ length second.old }

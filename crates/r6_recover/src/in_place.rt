@@ -85,8 +85,11 @@ pub(crate) fn restore_two(
     requires before { x < y }
     requires within { y + 2 < length blocks.old }
     requires few { length blocks.old ≤ 32 }
+
+    // lengths
     requires long { All (λ block. length block ≡ length sum.old) blocks.old }
     requires same { length weighted.old ≡ length sum.old }
+
     ensures restores { Restores (length blocks.old - 2) (length sum.old) x y blocks.old blocks.new }
     ensures sum_length { length sum.new ≡ length sum.old }
     ensures weighted_length { length weighted.new ≡ length weighted.old }
@@ -101,8 +104,11 @@ pub(crate) fn restore_one(blocks: &mut [Buffer], x: usize, sum: &mut Buffer, wei
     requires within { x < length blocks.old }
     requires count { 2 ≤ length blocks.old }
     requires few { length blocks.old ≤ 32 }
+
+    // lengths
     requires long { All (λ block. length block ≡ length sum.old) blocks.old }
     requires same { length weighted.old ≡ length sum.old }
+
     ensures restores { Restores (length blocks.old - 2) (length sum.old) x x blocks.old blocks.new }
     ensures sum_length { length sum.new ≡ length sum.old }
     ensures weighted_length { length weighted.new ≡ length weighted.old }
@@ -128,8 +134,11 @@ pub fn restore_pair(
     requires before { x < y }
     requires within { y < length blocks.old }
     requires few { length blocks.old ≤ 32 }
+
+    // lengths
     requires long { All (λ block. length block ≡ length sum.old) blocks.old }
     requires same { length weighted.old ≡ length sum.old }
+
     ensures restores { Restores (length blocks.old - 2) (length sum.old) x y blocks.old blocks.new }
     ensures sum_length { length sum.new ≡ length sum.old }
     ensures weighted_length { length weighted.new ≡ length weighted.old }

@@ -25,7 +25,9 @@ impl<D: BlockDevice + Drop> Runner<D> {
         requires room { taken_by self.old < self.old.room }
         requires few { self.old.shard.core.unanswered < most_unanswered }
         requires follows { MayFollow waits self.old }
+
         ensures served { IsServed D.told event op self.old self.new }
+
         ensures counted { StaysCounted self.old self.new }
         ensures sound { KeepsSound D.told D.promised self.old self.new }
         ensures place { self.new.shard.core.shard ≡ self.old.shard.core.shard }

@@ -34,9 +34,13 @@ impl<D: BlockDevice + Drop> Runner<D> {
         requires limits { IsShape place.geometry }
         requires number { place.number < place.geometry.shards }
         requires window { (1 ≤ place.window) × (place.window ≤ 8) }
+
+        // the register as it began
         requires no_attach { snapshot.now.attaches ≡ 0 }
         requires unfailed { snapshot.now.failed ≡ false }
         requires pass { IsFirstPass place.geometry snapshot.now (view_of pass) }
+
+        // what it is to do begins
         ensures begins { IfOk result (λ runner. (shape : _) (events : _)
             → HasDone D.told shape events place.geometry place.number snapshot.now (parts_tell D.told parts)
             [] runner) }
@@ -45,6 +49,8 @@ impl<D: BlockDevice + Drop> Runner<D> {
             → StartsSound D.promised place.geometry place.number snapshot.now slot parts.parts.items
             → IsSoundIn D.told D.promised place.geometry place.number slot runner) }
         ensures awaited { IfOk result (λ runner. (events : _) → HasAwaited events runner) }
+
+        // what it was made of
         ensures pass { IfOk result (λ runner. runner.shard.pass ≡ pass) }
         ensures place { IfOk result (λ runner. runner.shard.core.shard ≡ place.number) }
         ensures room { IfOk result (λ runner. (runner.room ≡ room) × (taken_by runner ≡ 0)) }

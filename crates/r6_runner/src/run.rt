@@ -31,13 +31,18 @@ impl<D: BlockDevice + Drop> Runner<D> {
     fn rests<R: Wait>(&mut self, rt: &R, register: &Register) -> bool
         requires { IsPassOf register.now self.old.shard.pass }
         ensures pass { IsPassOf register.now self.new.shard.pass }
+
+        // its course goes on
         ensures course { GoesOnSame D.told self.old self.new }
         ensures sound { KeepsSound D.told D.promised self.old self.new }
         ensures counted { KeepsCounted self.old self.new }
         ensures awaited { KeepsAwaited self.old self.new }
+
+        // and nothing more is taken
         ensures count { taken_by self.new ≡ taken_by self.old }
         ensures room { self.new.room ≡ self.old.room }
         ensures place { self.new.shard.core.shard ≡ self.old.shard.core.shard }
+
         ensures over { result ≡ true → IsOver self.new }
     {
         if !self.due.is_empty() || self.passing.is_some() {
@@ -50,10 +55,14 @@ impl<D: BlockDevice + Drop> Runner<D> {
     fn round<R: Wait>(&mut self, rt: &R, register: &Register)
         requires { IsPassOf register.now self.old.shard.pass }
         ensures pass { IsPassOf register.now self.new.shard.pass }
+
+        // its course goes on
         ensures course { GoesOnSame D.told self.old self.new }
         ensures sound { KeepsSound D.told D.promised self.old self.new }
         ensures counted { CountsAll self.old self.new }
         ensures awaited { KeepsAwaited self.old self.new }
+
+        // and nothing more is taken
         ensures count { taken_by self.new ≡ taken_by self.old }
         ensures room { self.new.room ≡ self.old.room }
         ensures place { self.new.shard.core.shard ≡ self.old.shard.core.shard }
@@ -64,10 +73,14 @@ impl<D: BlockDevice + Drop> Runner<D> {
     // Takes up the next row that is to be rebuilt, if there is one.
     fn rebuild(&mut self)
         ensures pass { self.new.shard.pass ≡ self.old.shard.pass }
+
+        // its course goes on
         ensures course { GoesOnSame D.told self.old self.new }
         ensures sound { KeepsSound D.told D.promised self.old self.new }
         ensures counted { KeepsCounted self.old self.new }
         ensures awaited { KeepsAwaited self.old self.new }
+
+        // and nothing more is taken
         ensures count { taken_by self.new ≡ taken_by self.old }
         ensures room { self.new.room ≡ self.old.room }
         ensures place { self.new.shard.core.shard ≡ self.old.shard.core.shard }
@@ -80,10 +93,14 @@ impl<D: BlockDevice + Drop> Runner<D> {
     fn advance<R: Wait>(&mut self, rt: &R, register: &Register)
         requires { IsPassOf register.now self.old.shard.pass }
         ensures pass { IsPassOf register.now self.new.shard.pass }
+
+        // its course goes on
         ensures course { GoesOnSame D.told self.old self.new }
         ensures sound { KeepsSound D.told D.promised self.old self.new }
         ensures counted { KeepsCounted self.old self.new }
         ensures awaited { KeepsAwaited self.old self.new }
+
+        // and nothing more is taken
         ensures count { taken_by self.new ≡ taken_by self.old }
         ensures room { self.new.room ≡ self.old.room }
         ensures place { self.new.shard.core.shard ≡ self.old.shard.core.shard }
@@ -98,13 +115,18 @@ impl<D: BlockDevice + Drop> Runner<D> {
     fn go_round<R: Wait>(&mut self, rt: &R, register: &Register) -> bool
         requires { IsPassOf register.now self.old.shard.pass }
         ensures pass { IsPassOf register.now self.new.shard.pass }
+
+        // its course goes on
         ensures course { GoesOnSame D.told self.old self.new }
         ensures sound { KeepsSound D.told D.promised self.old self.new }
         ensures counted { KeepsCounted self.old self.new }
         ensures awaited { KeepsAwaited self.old self.new }
+
+        // and nothing more is taken
         ensures count { taken_by self.new ≡ taken_by self.old }
         ensures room { self.new.room ≡ self.old.room }
         ensures place { self.new.shard.core.shard ≡ self.old.shard.core.shard }
+
         ensures over { result ≡ true → IsOver self.new }
     {
         self.advance(rt, register);
@@ -125,12 +147,16 @@ impl<L: Events, D: BlockDevice + Drop> Taking<L, D> {
     // Takes the oldest item of the list; whether there was one.
     fn take_one<R: Wait>(&mut self, rt: &R, list: &Mutex<List<L, D>>) -> bool
         requires { self.old.consumer.finished ≡ false }
+
+        // its course goes on with what was taken
         ensures course { GoesOn D.told L.shape L.events self.old.consumer.shard self.old.consumer.numbers.items
             self.new.consumer.numbers.items self.old.runner self.new.runner }
         ensures counted { KeepsCounted self.old.runner self.new.runner }
         ensures awaited { HasAwaited L.events self.old.runner → HasAwaited L.events self.new.runner }
         ensures sound { KeepsPromised D.told D.promised L.shape L.sound self.old.consumer.shard
             self.old.runner self.new.runner }
+
+        // its shard and its list stay
         ensures same { KeepsSelf self.old.runner self.new.runner }
         ensures shard { self.new.consumer.shard ≡ self.old.consumer.shard }
         ensures open { self.new.consumer.finished ≡ false }
@@ -203,14 +229,19 @@ impl<L: Events, D: BlockDevice + Drop> Taking<L, D> {
     ) -> bool
         requires { IsPassOf register.now self.old.runner.shard.pass }
         ensures pass { IsPassOf register.now self.new.runner.shard.pass }
+
+        // its course goes on with what was taken
         ensures course { GoesOn D.told L.shape L.events self.old.consumer.shard self.old.consumer.numbers.items
             self.new.consumer.numbers.items self.old.runner self.new.runner }
         ensures counted { KeepsCounted self.old.runner self.new.runner }
         ensures awaited { HasAwaited L.events self.old.runner → HasAwaited L.events self.new.runner }
         ensures sound { KeepsPromised D.told D.promised L.shape L.sound self.old.consumer.shard
             self.old.runner self.new.runner }
+
+        // its shard stays
         ensures shard { self.new.consumer.shard ≡ self.old.consumer.shard }
         ensures place { self.new.runner.shard.core.shard ≡ self.old.runner.shard.core.shard }
+
         ensures over { result ≡ true → IsOver self.new.runner × (self.new.consumer.finished ≡ true) }
     {
         let asked = rest.asked();
@@ -233,6 +264,8 @@ impl<L: Events, D: BlockDevice + Drop> Taking<L, D> {
     )
         requires { IsPassOf register.now self.old.runner.shard.pass }
         ensures pass { IsPassOf register.now self.new.runner.shard.pass }
+
+        // all that was taken is done
         ensures course { GoesOn D.told L.shape L.events self.old.consumer.shard self.old.consumer.numbers.items
             self.new.consumer.numbers.items self.old.runner self.new.runner }
         ensures counted { (rows : _) → HasCounted rows self.old.runner
@@ -240,8 +273,12 @@ impl<L: Events, D: BlockDevice + Drop> Taking<L, D> {
         ensures awaited { HasAwaited L.events self.old.runner → HasAwaited L.events self.new.runner }
         ensures sound { KeepsPromised D.told D.promised L.shape L.sound self.old.consumer.shard
             self.old.runner self.new.runner }
+
+        // its shard stays
         ensures shard { self.new.consumer.shard ≡ self.old.consumer.shard }
         ensures place { self.new.runner.shard.core.shard ≡ self.old.runner.shard.core.shard }
+
+        // the list was finished, and nothing is left to do
         ensures finished { self.new.consumer.finished ≡ true }
         ensures over { IsOver self.new.runner }
     {

@@ -87,11 +87,16 @@ pub(crate) fn taking_of<L: Events, D: BlockDevice + Drop>(
     requires window { (1 ≤ place.window) × (place.window ≤ 8) }
     requires no_attach { start.now.attaches ≡ 0 }
     requires unfailed { start.now.failed ≡ false }
+
     requires pass { IsFirstPass place.geometry start.now (view_of pass) }
+
+    // the shard has nothing behind it, and is sound where its parts are
     ensures begins { IfOk result (λ taking. Begins D.told L.shape L.events start.now parts taking.consumer.shard
         taking.consumer.numbers.items taking.runner) }
     ensures sound { IfOk result (λ taking. BeginsSound D.told D.promised L.shape start.now parts taking.consumer.shard
         taking.runner) }
+
+    // it is that of the place, with the pass that was handed in
     ensures number { IfOk result (λ taking. taking.consumer.shard ≡ place.number) }
     ensures pass { IfOk result (λ taking. taking.runner.shard.pass ≡ pass) }
 {
@@ -138,14 +143,21 @@ pub(crate) fn takings_of<L: Events, D: BlockDevice + Drop>(
     requires events { events_of D.told events.now ≡ L.events }
     requires whole { length parts.items ≡ L.shape.shards }
     requires parts { (L.shape.shards ≤ share.old.parts) × (share.old.amount ≡ 0) }
+
+    // the array as its threads begin
     requires limits { IsShape L.shape }
     requires window { (1 ≤ opening.now.window) × (opening.now.window ≤ 8) }
     requires no_attach { opening.now.start.now.attaches ≡ 0 }
     requires unfailed { opening.now.start.now.failed ≡ false }
+
+    // the pass from which each shard's is split
     requires pass { IsPassOf opening.now.register.now first.old }
     requires first { IsFirstPass L.shape opening.now.start.now (view_of first.old) }
+
     ensures pass { IsPassOf opening.now.register.now first.new }
     ensures same { view_of first.new ≡ view_of first.old }
+
+    // one shard for each part, in their order, as it begins
     ensures begins { IfOk result (λ takings. AllZip (λ parts taking. Begins D.told L.shape L.events
         opening.now.start.now parts taking.consumer.shard taking.consumer.numbers.items taking.runner)
         parts.items takings.items) }
@@ -154,6 +166,8 @@ pub(crate) fn takings_of<L: Events, D: BlockDevice + Drop>(
     ensures numbered { IfOk result (λ takings. AreNumbered (λ taking. taking.consumer.shard) takings.items) }
     ensures passes { IfOk result (λ takings.
         All (λ taking. IsPassOf opening.now.register.now taking.runner.shard.pass) takings.items) }
+
+    // so many parts less are left to share
     ensures parts { OnOk result (share.new.parts + L.shape.shards ≡ share.old.parts) }
     ensures amount { OnOk result (share.new.amount ≡ 0) }
 {

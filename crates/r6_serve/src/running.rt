@@ -51,11 +51,15 @@ where
     R: Threads + Wait + Sync,
     requires ready { All (λ taking. IsPassOf station.now.shards.register.now taking.runner.shard.pass
         × (taking.consumer.shard < L.shape.shards)) takings.items }
+
+    // the events that are handed out
     requires begins { feed.number ≡ 0 }
     requires events { events_of D.told events.items ≡ L.events }
     requires whole { AreWhole L.shape.shards events.items }
     requires promised { ArePromised D.promised L.shape L.sound events.items }
     requires pass { IsPassOf station.now.shards.register.now feed.pass }
+
+    // they were handed out and answered, and each shard has run
     ensures pass { IfOk result (λ r. IsPassOf station.now.shards.register.now r.0.0) }
     ensures answered { IfOk result (λ r.
         HasAnswered L.shape L.events (view_of feed.pass) r.0.1.items (view_of r.0.0)) }

@@ -71,14 +71,19 @@ where
     requires blank { (blank.name ≡ L.name) × (blank.parts ≡ L.parts) × (L.parts ≡ 3 * L.shape.shards) }
     requires shape { config.geometry ≡ L.shape }
     requires events { events_of D.told events.items ≡ L.events }
+
+    // the array and its parts
     requires limits { IsShape L.shape }
     requires window { (1 ≤ config.window) × (config.window ≤ 8) }
     requires slots { config.lost < 2 ^ L.shape.slots }
     requires few { count_ones config.lost ≤ 2 }
     requires parts { length parts.items ≡ L.shape.shards }
     requires whole { AreWhole L.shape.shards events.items }
+
     requires sound { (shard : ℕ) (slot : ℕ)
         → L.sound shard slot ↔ AttachesFailNone D.promised L.shape shard slot events.items }
+
+    // what was done and answered
     ensures served { IfOk result (λ served.
         HaveServed D.told L.shape L.events (starting config.lost) parts.items served.runners.items) }
     ensures answered { IfOk result (λ served. HasAnswered L.shape L.events
@@ -87,8 +92,12 @@ where
     ensures snapshot { IfOk result (λ served.
         served.snapshot ≡ held (view_of served.pass).start (view_of served.pass).seen) }
     ensures calls { IfOk result (λ served. CallAsTheyMay served.runners.items) }
+
+    // slots whose parts fail none are left alone
     ensures sound { IfOk result (λ served. LeaveSoundAlone D.promised L.shape (starting config.lost) parts.items
         events.items served.runners.items) }
+
+    // what the shards skipped and saw
     ensures unskipped { IfOk result (λ served. EachSkipsNone served.runners.items) }
     ensures saw { IfOk result (λ served. EachSawWithPass (view_of served.pass) served.runners.items) }
     ensures failure { IfOk result (λ served. All (IsShown served.snapshot) served.runners.items) }
@@ -168,6 +177,8 @@ where
     requires few { count_ones config.lost ≤ 2 }
     requires parts { length parts.items ≡ config.geometry.shards }
     requires whole { AreWhole config.geometry.shards events.items }
+
+    // what was done and answered
     ensures served { IfOk result (λ served. HaveServed D.told config.geometry (events_of D.told events.items)
         (starting config.lost) parts.items served.runners.items) }
     ensures answered { IfOk result (λ served. HasAnswered config.geometry (events_of D.told events.items)
@@ -176,8 +187,12 @@ where
     ensures snapshot { IfOk result (λ served.
         served.snapshot ≡ held (view_of served.pass).start (view_of served.pass).seen) }
     ensures calls { IfOk result (λ served. CallAsTheyMay served.runners.items) }
+
+    // slots whose parts fail none are left alone
     ensures sound { IfOk result (λ served. LeaveSoundAlone D.promised config.geometry (starting config.lost) parts.items
         events.items served.runners.items) }
+
+    // what the shards skipped and saw
     ensures unskipped { IfOk result (λ served. EachSkipsNone served.runners.items) }
     ensures saw { IfOk result (λ served. EachSawWithPass (view_of served.pass) served.runners.items) }
     ensures failure { IfOk result (λ served. All (IsShown served.snapshot) served.runners.items) }

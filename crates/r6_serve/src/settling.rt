@@ -45,17 +45,25 @@ pub(crate) fn settle<L: Events, D: BlockDevice + Drop>(
 )
     requires pass { IsPassOf register.now pass.old }
     requires passes { All (λ taking. IsPassOf register.now taking.runner.shard.pass) takings.items }
+
+    // one of each shard, in their order, each at the end of its list
     requires shards { length takings.items ≡ L.shape.shards }
     requires numbered { AreNumbered (λ taking. taking.consumer.shard) takings.items }
     requires finished { All (λ taking. taking.consumer.finished ≡ true) takings.items }
+
+    // room for each, and the parts and the count of the ledger
     requires empty { (settlement.taken.items ≡ []) × (L.shape.shards ≤ vec_capacity settlement.taken) }
     requires room { (runners.old.items ≡ []) × (L.shape.shards ≤ vec_capacity runners.old) }
     requires parts { L.parts ≡ 3 * L.shape.shards }
     requires counted { book.old.total ≡ all_tasks L.shape L.events }
+
+    // the pass has heard what the others saw
     ensures pass { IsPassOf register.now pass.new }
     ensures back { TakesBack (view_of pass.old) (view_of pass.new) }
     ensures runners { AllZip (λ taking runner. KeepsAll D.told taking.runner runner) takings.items runners.new.items }
     ensures heard { All (IsHeard register.now (view_of pass.new)) runners.new.items }
+
+    // each task was taken, once
     ensures taken { (shard : _) (taking : _) → slice_get takings.items shard ≡ Some taking
         → taking.consumer.numbers.items ≡ numbers_of (tasks_of L.shape shard L.events) }
 {

@@ -209,6 +209,8 @@ fn play<L: Events, R: Wait>(
     requires shape { L.shape ≡ place.geometry }
     requires events { L.events ≡ events_of asks.now }
     requires none_promised { (shard : ℕ) (slot : ℕ) → L.sound shard slot → ⊥ }
+
+    // the shard and its pass
     requires limits { IsShape place.geometry }
     requires number { (place.number ≡ 0) × (0 < place.geometry.shards) }
     requires window { place.window ≡ 1 }

@@ -106,8 +106,10 @@ pub fn serve<P: Performs + Drop, R: Wait>(
     requires window { (1 ≤ job.place.window) × (job.place.window ≤ 8) }
     requires no_attach { snapshot.now.attaches ≡ 0 }
     requires unfailed { snapshot.now.failed ≡ false }
+
     requires pass { IsPassOf register.now job.pass }
     requires first { IsFirstPass job.place.geometry snapshot.now (view_of job.pass) }
+
     ensures pass { IfOk result (λ served. IsPassOf register.now served.shard.pass) }
     ensures served { IfOk result (λ served.
         Serves P.tells job.place.geometry job.place.number snapshot.now (P.tells job.parts) job.askings.items

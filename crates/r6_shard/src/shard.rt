@@ -159,14 +159,20 @@ impl<P: Performs + Drop> Shard<P> {
         requires limits { IsShape place.geometry }
         requires number { place.number < place.geometry.shards }
         requires window { (1 ≤ place.window) × (place.window ≤ 8) }
+
+        // the register as it began
         requires no_attach { snapshot.now.attaches ≡ 0 }
         requires unfailed { snapshot.now.failed ≡ false }
         requires pass { IsFirstPass place.geometry snapshot.now (view_of pass) }
+
+        // its course begins
         ensures begins { IfOk result (Begins P.tells place.geometry place.number snapshot.now) }
         ensures passed { IfOk result (λ shard. HasPassedRows false 0 0 shard.core) }
         ensures sound { IfOk result (λ shard. (slot : _)
             → BeginsSound (P.tells parts) (P.promised parts) place.geometry place.number snapshot.now slot
             → IsSoundIn P.tells P.promised place.geometry place.number slot shard) }
+
+        // what it was made of
         ensures parts { IfOk result (λ shard. shard.parts ≡ parts) }
         ensures pass { IfOk result (λ shard. shard.pass ≡ pass) }
         ensures empty { IfOk result (λ shard. shard.asked.items ≡ []) }
@@ -211,10 +217,14 @@ impl<P: Performs + Drop> Shard<P> {
     /// Those of [`Core::submit`], with the request back. Nothing changes.
     pub fn submit(&mut self, event: u64, op: Op) -> Result<OpId, Refused<Op>>
         requires room { length self.old.asked.items < self.old.room }
+
+        // taken, or refused with nothing changed
         ensures accepted { IfOk result (λ id. Submits P.tells event op self.old id.0 self.new) }
         ensures right { IfOk result (λ _. HasNone (HasSubmitFault self.old.core op) submit_faults) }
         ensures refused { IfErr result (λ r. RefusesOp self.old.core op r.refusal r.back self.new.core) }
         ensures same { IfErr result (λ _. self.new ≡ self.old) }
+
+        // in both cases
         ensures lasts { Lasts self.old.core self.new.core }
         ensures remembers { Remembers self.old.named self.old.saw_out self.new.named self.new.saw_out }
         ensures named { self.new.named ≡ self.old.named }
@@ -276,14 +286,19 @@ impl<P: Performs + Drop> Shard<P> {
     // What the register holds.
     pub(crate) fn read<R: Wait>(&mut self, rt: &R, register: &Register) -> Snapshot
         requires { IsPassOf register.now self.old.pass }
+
+        // its course goes on
         ensures pass { IsPassOf register.now self.new.pass }
         ensures course { GoesOn P.tells self.old self.new }
+
+        // and nothing changes but what its pass has seen
         ensures core { self.new.core ≡ self.old.core }
         ensures remembers { Remembers self.old.named self.old.saw_out self.new.named self.new.saw_out }
         ensures named { self.new.named ≡ self.old.named }
         ensures sound { StaysSound P.tells P.promised self.old self.new }
         ensures parts { self.new.parts ≡ self.old.parts }
         ensures ledger { SameLedger self.old self.new }
+
         ensures snapshot { result ≡ held (view_of self.new.pass).start (view_of self.new.pass).seen }
     {
         register.read(rt, &mut self.pass)
@@ -292,6 +307,8 @@ impl<P: Performs + Drop> Shard<P> {
     // The core looks at what the register held when it was read last, once every call was told.
     pub(crate) fn see(&mut self, snapshot: &Snapshot)
         requires { snapshot.now ≡ held (view_of self.old.pass).start (view_of self.old.pass).seen }
+
+        // its course goes on
         ensures course { GoesOn P.tells self.old self.new }
         ensures lasts { Lasts self.old.core self.new.core }
         ensures remembers { Remembers self.old.named self.old.saw_out self.new.named self.new.saw_out }
@@ -300,6 +317,8 @@ impl<P: Performs + Drop> Shard<P> {
             → (slot < shape.slots → HasNew (P.tells self.old.parts) snapshot.now slot)
             → IsSoundIn P.tells P.promised shape number slot self.old
             → IsSoundIn P.tells P.promised shape number slot self.new }
+
+        // and no row is passed, and the ledger stays
         ensures passed { PassesNone self.old.core self.new.core }
         ensures ledger { SameLedger self.old self.new }
         ensures pass { self.new.pass ≡ self.old.pass }

@@ -29,13 +29,19 @@ pub(crate) fn drop_front<V: Drop, K: KeyOf<V>>(
 )
     requires marked { IsMarked sets.old places.old.items (cause_at sets.old) }
     requires classed { AreClassed K.key_of keyed.old places.old.items }
+
+    // room in the sets, and empty places in front
     requires wide { HaveRoom sets.old (length places.old.items) }
     requires as_wide { HaveRoom keyed.old (length places.old.items) }
     requires empty { (i : ℕ) → i < 64 * words → is_there places.old.items i ≡ false }
     requires within { 64 * words ≤ length places.old.items }
+
+    // the entries stay as they were
     ensures marked { IsMarked sets.new places.new.items (cause_at sets.new) }
     ensures classed { AreClassed K.key_of keyed.new places.new.items }
     ensures same { waiting (cause_at sets.new) places.new.items ≡ waiting (cause_at sets.old) places.old.items }
+
+    // places are fewer, and rooms stay
     ensures fewer { length places.new.items + 64 * words ≡ length places.old.items }
     ensures capacity { vec_capacity places.new ≡ vec_capacity places.old }
     ensures sets { AreAsWide sets.old sets.new }

@@ -268,14 +268,20 @@ fn make_room<V: Drop, K: KeyOf<V>>(
 )
     requires marked { IsMarked sets.old.items places.old.items (cause_at sets.old.items) }
     requires classed { AreClassed K.key_of keyed.old.items places.old.items }
+
+    // room in the sets, and fewer entries than the limit
     requires wide { HaveRoom sets.old.items (length places.old.items) }
     requires as_wide { HaveRoom keyed.old.items (length places.old.items) }
     requires few { length (waiting (cause_at sets.old.items) places.old.items) < limit }
     requires within { length places.old.items ≤ limit }
+
+    // the entries stay as they were
     ensures marked { IsMarked sets.new.items places.new.items (cause_at sets.new.items) }
     ensures classed { AreClassed K.key_of keyed.new.items places.new.items }
     ensures same { waiting (cause_at sets.new.items) places.new.items
         ≡ waiting (cause_at sets.old.items) places.old.items }
+
+    // a place is free, and rooms stay
     ensures room { length places.new.items < limit }
     ensures capacity { vec_capacity places.new ≡ vec_capacity places.old }
     ensures sets { AreAsWide sets.old.items sets.new.items }
@@ -298,14 +304,20 @@ fn free_places<V: Drop, K: KeyOf<V>>(
 )
     requires marked { IsMarked sets.old places.old.items (cause_at sets.old) }
     requires classed { AreClassed K.key_of keyed.old places.old.items }
+
+    // room in the sets, and fewer entries than the limit
     requires wide { HaveRoom sets.old (length places.old.items) }
     requires as_wide { HaveRoom keyed.old (length places.old.items) }
     requires few { length (waiting (cause_at sets.old) places.old.items) < limit }
     requires full { length places.old.items ≡ limit }
+
+    // the entries stay as they were
     ensures marked { IsMarked sets.new places.new.items (cause_at sets.new) }
     ensures classed { AreClassed K.key_of keyed.new places.new.items }
     ensures same { waiting (cause_at sets.new) places.new.items
         ≡ waiting (cause_at sets.old) places.old.items }
+
+    // a place is free, and rooms stay
     ensures room { length places.new.items < limit }
     ensures capacity { vec_capacity places.new ≡ vec_capacity places.old }
     ensures sets { AreAsWide sets.old sets.new }
