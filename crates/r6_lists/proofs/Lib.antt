@@ -2,5 +2,6 @@ pub mod Elements
 pub mod Rising
 pub mod Settled
 pub mod Sharing
+pub mod Stock
 pub mod Tasks
 pub mod Totals

@@ -1,5 +1,5 @@
 -- What a shard is handed, by number.
-use Rattle.std.proofs.Common.{◌≡◌, ℕ, ◌<◌, ◌≤◌, List, [], ◌∷◌, ◌++◌, length, filter, All, if◌then◌else◌, Option, Some, None, Bool, true, false, cond, is_some, unwrap_or, option_map, option_and_then, slice_get, inl, inr, refl, sym, ◌∙◌, ap, arith}
+use Rattle.std.proofs.Common.{◌≡◌, ℕ, ◌<◌, ◌≤◌, List, [], ◌∷◌, ◌++◌, length, filter, All, if◌then◌else◌, Option, Some, None, Bool, true, false, cond, is_some, unwrap_or, option_map, option_and_then, slice_get, inl, inr, refl, sym, ◌∙◌, ap, subst, arith}
 use Rattle.std.specs.List.{range_with_len, filter_map, cons_option}
 use Rattle.std.proofs.lemmas.Bool.{cases_lt}
 use Rattle.std.proofs.lemmas.List.{length_push, length-map}
@@ -75,6 +75,12 @@ taken_pushed shape shard events numbers number taken has behind = record {
   rising = pushed numbers number taken.rising behind;
   own = all_pushed (λ n. has_task shape shard events n ≡ true) numbers _ number refl taken.own has;
 }
+
+pub taken_more : (shape : Shape) (shard : ℕ) (events : List Event) (numbers more : List ℕ) (number : ℕ)
+    → more ≡ numbers ++ number ∷ [] → AreTaken shape shard events numbers → has_task shape shard events number ≡ true
+    → IsBehind numbers number → AreTaken shape shard events more
+taken_more shape shard events numbers more number is taken has behind =
+    subst (λ all. AreTaken shape shard events all) (sym is) (taken_pushed shape shard events numbers number taken has behind)
 
 -- and there is room for it
 pub has_room : (shape : Shape) (shard : ℕ) (events : List Event) (numbers : List ℕ) (number : ℕ)

@@ -58,7 +58,6 @@ impl<L: Events> Consumer<L> {
     }
 
     // Keeps the number of an item that was taken, with what it counts in the stock of its list.
-    #[tactic(auto, using(crate::proofs::Tasks::has_room, crate::proofs::Tasks::taken_pushed))]
     pub(crate) fn keep(&mut self, number: u64, stock: &mut Share<L>)
         requires open { self.old.finished ≡ false }
         requires own { has_task L.shape self.old.shard L.events number ≡ true }

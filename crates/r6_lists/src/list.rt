@@ -69,7 +69,7 @@ impl<L: Events, D: BlockDevice + Drop> List<L, D> {
         ensures list { (self.new.shard ≡ self.old.shard) × (self.new.stage ≡ self.old.stage) }
         ensures lists { producer.new.lists ≡ producer.old.lists }
     {
-        if self.shard != item.shard || self.stage != Stage::Open {
+        if !self.is_open_to(&item) {
             return Err(item);
         }
         match self.items.try_push_back(item) {
@@ -79,6 +79,13 @@ impl<L: Events, D: BlockDevice + Drop> List<L, D> {
             }
             Err(item) => Err(item),
         }
+    }
+
+    // Whether the item is of the list's shard, and the list open.
+    fn is_open_to(&self, item: &Item<L, D>) -> bool
+        ensures { IsTrue result ↔ ((self.now.shard ≡ item.now.shard) × (self.now.stage ≡ Open)) }
+    {
+        self.shard == item.shard && self.stage == Stage::Open
     }
 
     /// Says that nothing more is put in; answers whether the list was open. If it wasn't, nothing changes.
@@ -114,13 +121,25 @@ impl<L: Events, D: BlockDevice + Drop> List<L, D> {
         ensures consumer { (consumer.new.shard ≡ consumer.old.shard) × (consumer.new.finished ≡ false) }
         ensures none { IfNone result ((self.new ≡ self.old) × (consumer.new ≡ consumer.old)) }
     {
-        let number = self.items.front()?.number;
-        if self.shard != consumer.shard || !consumer.is_behind(number) {
+        if !self.has_next_of(consumer) {
             return None;
         }
-        let item = self.items.pop_front()?;
+        let Some(item) = self.items.pop_front() else {
+            unreachable!()
+        };
         consumer.keep(item.number, &mut self.stock);
         Some(item)
+    }
+
+    // Whether the oldest item is the next of the consumer.
+    fn has_next_of(&self, consumer: &Consumer<L>) -> bool
+        ensures { IsTrue result ↔ IsSomeAnd (slice_get self.now.items.items 0) (λ item.
+            (self.now.shard ≡ consumer.now.shard) × IsBehind consumer.now.numbers.items item.number) }
+    {
+        match self.items.front() {
+            Some(item) => self.shard == consumer.shard && consumer.is_behind(item.number),
+            None => false,
+        }
     }
 
     /// Finishes a list that was ended and of which all was taken, if it is that of the consumer's shard, and answers
