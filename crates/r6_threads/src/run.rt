@@ -1,6 +1,6 @@
 //! All pieces of work are done, each in a thread of its own.
 
-ghost use Rattle.std.specs.Prelude.{◌≡◌, ◌≤◌, ◌+◌, ◌++◌, [], All, IfErr, IfOk, OnOk, length, vec_capacity, true, false};
+ghost use Rattle.std.specs.Prelude.{◌≡◌, ◌≤◌, ◌+◌, ◌++◌, [], All, IfErr, IfOk, IfSome, is_some, length, vec_capacity, true, false};
 ghost use Rattle.std.specs.List.{AllZip};
 ghost use Rattle.r6_threads.specs.Works.{in_order};
 
@@ -37,8 +37,8 @@ pub struct Unbegun<W> {
 
 type Handle<'s, S, W> = PromisedHandle<Ended<'s, W>, Promised<'s, S, W>>;
 
-// Starts a thread for each piece of work, from the last one on. Where one can't be made it is decided that none
-// begins; its work, and that of those before it, is left.
+// Starts a thread for each piece of work, from the last one on, and decides whether they begin: where one can't be made,
+// none does, and its work, and that of those before it, is left.
 fn start_all<'s, E, S: Sync + 's, W: Work<S> + Send + 's, R: Wait + Sync + 's>(
     scope: &Scope<'s, E>,
     rt: &'s R,
@@ -46,7 +46,7 @@ fn start_all<'s, E, S: Sync + 's, W: Work<S> + Send + 's, R: Wait + Sync + 's>(
     station: &'s S,
     works: &mut Vec<W>,
     handles: &mut Vec<Handle<'s, S, W>>,
-) -> Result<(), OnceToken<'s, bool>>
+) -> OnceToken<'s, bool>
     requires ready { All (W.ready station.now) works.old.items }
     requires room { (handles.old.items ≡ []) × (length works.old.items ≤ vec_capacity handles.old) }
     ensures gate { All (λ handle. handle.promise.gate.now ≡ gate.now) handles.new.items }
@@ -54,19 +54,28 @@ fn start_all<'s, E, S: Sync + 's, W: Work<S> + Send + 's, R: Wait + Sync + 's>(
     ensures works { works.old.items
         ≡ works.new.items ++ in_order (λ handle. handle.promise.work.value) handles.new.items }
     ensures capacity { vec_capacity works.new ≡ vec_capacity works.old }
-    ensures all { OnOk result (works.new.items ≡ []) }
-    ensures decision { IfErr result (λ token. (token.of ≡ gate.now.id) × (token.value ≡ false)) }
+    ensures all { result.value ≡ true → works.new.items ≡ [] }
+    ensures decision { result.of ≡ gate.now.id }
 {
     while let Some(work) = works.pop() {
         match start(scope, rt, gate, station, work) {
             Ok(handle) => handles.push_reserved(handle),
             Err(Ended { decision, work }) => {
                 works.push_reserved(work);
-                return Err(decision);
+                return decision;
             }
         }
     }
-    Ok(())
+    decide(rt, gate, true)
+}
+
+// What `f` answers, if it is decided that the threads begin.
+fn answer_if<T, F: FnOnce() -> T + Drop>(begins: bool, f: F) -> Option<T>
+    requires { F.pre f }
+    ensures begun { is_some result ≡ begins }
+    ensures answer { IfSome result (λ answer. F.post f answer) }
+{
+    if begins { Some(f()) } else { None }
 }
 
 // Joins the threads, in the order of their work, which is put behind that which is left.
@@ -134,15 +143,12 @@ pub fn run_or_return<
                 let reason = Refused::NoMemory;
                 return Err(Unbegun { reason, works });
             };
-            match start_all(scope, rt, gate, station, &mut works, &mut handles) {
-                Ok(()) => {
-                    let decision = decide(rt, gate, true);
-                    let answer = f();
-                    join_all(rt, gate, &decision, station, handles, &mut works);
-                    Ok((answer, works))
-                }
-                Err(decision) => {
-                    join_all(rt, gate, &decision, station, handles, &mut works);
+            let decision = start_all(scope, rt, gate, station, &mut works, &mut handles);
+            let answer = answer_if(*gate.value(&decision), f);
+            join_all(rt, gate, &decision, station, handles, &mut works);
+            match answer {
+                Some(answer) => Ok((answer, works)),
+                None => {
                     let reason = Refused::ThreadRefused;
                     Err(Unbegun { reason, works })
                 }
