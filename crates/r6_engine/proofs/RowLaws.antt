@@ -11,7 +11,8 @@ use Rattle.r6_layout.proofs.Shards.{OwnsRow-shard_of}
 use Rattle.r6_recover.specs.Known.{IsKnown}
 use Rattle.r6_recover.specs.Rows.{block_at}
 use Rattle.r6_engine.specs.Parts.{Parts, Devices, TellsRows, AllTell, OnlyRead, PartRead, part_number, parts_of}
-use Rattle.r6_engine.specs.Rows.{AreThere, IsRow, ReadFails, SlotRead, RowRead, marked}
+use Rattle.r6_engine.specs.Rows.{AreThere, Fits, IsRow, ReadFails, SlotRead, RowRead, marked}
+use Rattle.r6_engine.specs.declared.row.RowReader.{RowReader}
 use Rattle.r6_engine.specs.declared.row.SlotFault.{SlotFault}
 
 pub only_read_none : (parts : Parts) → OnlyRead parts parts
@@ -110,6 +111,25 @@ slot_read shape old new row slot number position before after block is within in
       others = λ other apart.
           subst (λ (blocks : List Block). block_at blocks other ≡ block_at before other) (sym set_is)
           (get_or-set_other before position other block [] (λ same. apart (same ∙ place)));
+    }
+
+-- a block of the row was exchanged for one of the same length
+pub fits_swapped : (shape : Shape) (before after : RowReader) (position : ℕ) (block : Block) → Fits shape before
+    → position < shape.slots → length block ≡ shape.block → after.blocks ≡ set before.blocks position block
+    → after.block ≡ block_at before.blocks position → Fits shape after
+fits_swapped shape before after position block fits within long row other =
+    let in_row : position < length before.blocks = subst (λ (n : ℕ). position < n) (sym fits.count) within in
+    record {
+      count = ap length row ∙ length-set before.blocks position block ∙ fits.count;
+      long = λ k below.
+          subst (λ (blocks : List Block). length (block_at blocks k) ≡ shape.block) (sym row)
+          (⊎_elim
+          (λ (here : k ≡ position).
+          ap (λ (n : ℕ). length (block_at (set before.blocks position block) n)) here
+          ∙ ap length (get_or-set_same before.blocks position block [] in_row) ∙ long)
+          (λ (apart : k ≢ position). ap length (get_or-set_other before.blocks position k block [] apart) ∙ fits.long k below)
+          (cases_eq k position));
+      block = ap length other ∙ fits.long position within;
     }
 
 -- the slots below the count were read

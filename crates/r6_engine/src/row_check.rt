@@ -33,7 +33,6 @@ impl RowCheck {
     }
 
     /// Reads the blocks of a row, by slot. Of a row of which some part isn't there nothing is read.
-    #[tactic(auto, using(crate::proofs::CheckLaws::read_absent))]
     pub(crate) fn read<D: BlockDevice>(
         &mut self,
         geometry: &Geometry,

@@ -2,14 +2,21 @@ use Rattle.std.proofs.Common.{◌≡◌, ◌*◌, ◌<◌, ◌^◌, length, map,
 use Rattle.std.proofs.lemmas.List.Elements.{All-same}
 use Rattle.std.proofs.lemmas.Slice.Zip.{AllZip-long}
 use Rattle.std.specs.List.{All, AllZip, flat_map}
+use Rattle.r6_engine.specs.Errors.{IsRefusal, of_refusal}
 use Rattle.r6_engine.specs.Parts.{OnlyRead, parts_of}
 use Rattle.r6_engine.specs.PartReports.{joined_all}
 use Rattle.r6_engine.specs.Reports.{IsReport, no_report, total}
 use Rattle.r6_engine.specs.ShardChecks.{Begins, HasChecked, HasOtherParts, own_parts, report_of}
 use Rattle.r6_engine.proofs.CheckLaws.{written}
 use Rattle.r6_engine.proofs.PartLaws.{total_fits}
+use Rattle.r6_threads.specs.declared.run.Refused.{Refused}
+use Rattle.r6_threads.specs.declared.run.Refused.TheVariants as threads
 use Rattle.r6_engine.proofs.ShardLaws.{all_begin, all_checked, all_have_places, all_kept, length_of_all, length_still, same_reports}
 use Rattle.r6_engine.proofs.check.check_all.Goals as goal
+
+refused : (reason : Refused) → IsRefusal (of_refusal reason)
+refused threads.NoMemory = tt
+refused threads.ThreadRefused = tt
 
 pub exchange-requires : goal.exchange-requires
 exchange-requires g c =
@@ -121,3 +128,24 @@ returns-in-Ok-clause-kept g c =
     subst (λ l. OnlyRead (parts_of told lent) (parts_of told l)) (sym given)
     (all_kept told c.alone-alone.result lent begun ended c.exchange.ensures.lent checked
     (sym (ap (λ r. r.fault) (c.join_reports.ensures ∙ ap (joined_all no_report) same)) ∙ none))
+
+pub returns-in-Err : goal.returns-in-Err
+returns-in-Err g c =
+    let empty = c.in_ok-checks.checks.items in
+    let begun = c.exchange.new.checks in
+    let others = subst (λ l. AllZip HasOtherParts l begun) c.as_mut_slice.ensures.value c.exchange.ensures.others in
+    let all : c.in_ok-checks.checks.len ≡ length begun = c.in_ok-checks.checks.ok.0 ∙ sym (AllZip-long HasOtherParts empty begun others) in
+    let back = c.in-Err.ensures.back ∙ written begun (drop (length begun) empty) c.in_ok-checks.checks.len all in
+    record {
+      report = tt;
+      kept = tt;
+      err = subst IsRefusal (sym c.into.ensures) (refused c.in-Err.field-0.reason);
+      unread = c.exchange-in-Err.ensures.back ∙ ap (flat_map own_parts) (c.as_mut_slice-in-Err.ensures.value ∙ back)
+          ∙ c.exchange.ensures.lent;
+    }
+
+pub returns-in-Ok-clause-err : goal.returns-in-Ok-clause-err
+returns-in-Ok-clause-err g c = tt
+
+pub returns-in-Ok-clause-unread : goal.returns-in-Ok-clause-unread
+returns-in-Ok-clause-unread g c = tt

@@ -1,10 +1,10 @@
-use Rattle.std.proofs.Common.{◌≡◌, ℕ, ◌+◌, sym, subst, arith}
+use Rattle.std.proofs.Common.{◌≡◌, ℕ, ◌+◌, ◌∙◌, sym, subst, arith}
 use Rattle.r6_engine.specs.Parts.{parts_of}
 use Rattle.r6_engine.specs.Rows.{Fits}
 use Rattle.r6_engine.proofs.CheckLaws.{found}
-use Rattle.r6_engine.proofs.PartLaws.{Noted, noted_next, none_noted, part_at_end}
+use Rattle.r6_engine.proofs.PartLaws.{Noted, noted_next, none_noted, part_at_end, part_at_fault}
 use Rattle.r6_engine.proofs.ReportLaws.{finding_since}
-use Rattle.r6_engine.proofs.RowLaws.{only_read_both, only_read_none}
+use Rattle.r6_engine.proofs.RowLaws.{only_read_both, only_read_none, read_fails_since}
 use Rattle.r6_engine.proofs.shard_check.check_rows.Goals as goal
 
 pub loop-row-init : goal.loop-row-init
@@ -42,3 +42,28 @@ returns-clause-report g c =
     omega (arith, c.loop-row-test.false, c.loop-row.auto.row-end c.requires.rows.0) in
     part_at_end shape started c.args.first c.args.end c.loop-row.report
     (subst (λ (r : ℕ). Noted shape started c.args.first r c.loop-row.report) ends c.loop-row.invariant.noted)
+
+pub read-requires : goal.read-requires
+read-requires g c = record {
+  row_within = omega (arith, c.loop-row-test.true, c.requires.rows.1);
+  parts = c.loop-row.auto.parts ∙ c.requires.parts;
+  room = c.loop-row.invariant.room;
+}
+
+pub returns-in-Err : goal.returns-in-Err
+returns-in-Err g c =
+    let shape = c.args.geometry.now in
+    let told = g.D.BlockDevice.told in
+    let started = parts_of told c.args.parts.now in
+    let row = c.loop-row.row in
+    let fault = c.in-Err.field-0 in
+    record {
+      report = part_at_fault shape started c.args.first c.args.end row fault c.loop-row.report c.loop-row.invariant.noted
+          c.loop-row-test.true
+          (read_fails_since shape started (parts_of told c.loop-row.parts) row fault c.loop-row.invariant.only_read
+          c.in-Err.ensures.fails);
+      kept = λ none. absurd (cc);
+    }
+
+pub returns-clause-kept : goal.returns-clause-kept
+returns-clause-kept g c = λ _. c.loop-row.invariant.only_read

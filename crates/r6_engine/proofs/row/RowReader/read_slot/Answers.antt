@@ -5,7 +5,7 @@ use Rattle.r6_layout.specs.Layout.{shard_of}
 use Rattle.r6_engine.specs.Parts.{PartRead, parts_of, part_number}
 use Rattle.r6_engine.specs.Rows.{SlotRead}
 use Rattle.r6_engine.proofs.FileLaws.{is_some_told, number_fits, number_within}
-use Rattle.r6_engine.proofs.RowLaws.{slot_read}
+use Rattle.r6_engine.proofs.RowLaws.{fits_swapped, slot_read}
 use Rattle.r6_engine.proofs.row.RowReader.read_slot.Goals as goal
 
 pub overflow_mul-number : goal.overflow_mul-number
@@ -99,3 +99,12 @@ returns-then-there-clause-read g c =
     at c.position_at-position.ensures.value
     c.swap_block.ensures.row
     (subst (λ (there : Bool). PartRead old new number row there block) c.if-there.true c.in_ok-there.ensures.read))
+
+pub returns-then-there-clause-room : goal.returns-then-there-clause-room
+returns-then-there-clause-room g c =
+    fits_swapped c.args.geometry.now c.args.self.now _ c.position_at-position.result c.read_part.new.block c.requires.room
+    c.position_at-position.ensures.within (c.read_part.ensures.same_length ∙ c.requires.room.block) c.swap_block.ensures.row
+    c.swap_block.ensures.block
+
+pub returns-then-there-clause-fails : goal.returns-then-there-clause-fails
+returns-then-there-clause-fails g c = tt
