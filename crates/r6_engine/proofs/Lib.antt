@@ -5,3 +5,4 @@ mod FileLaws
 mod CheckLaws
 mod PartLaws
 mod ShardLaws
+mod TargetLaws
