@@ -13,7 +13,10 @@ use Rattle.r6_stripe.specs.Plans.{count_where, is_unread}
 use Rattle.r6_world.specs.Tables.{put}
 use Rattle.r6_world.specs.PlainArray.{block_of}
 use Rattle.r6_world.specs.ShardStates.{Request, Waiting, frames}
-use Rattle.r6_world.specs.Changes.{Accept, after}
+use Rattle.r6_world.specs.Changes.{Accept, Allowed, IsSized, after}
+use Rattle.r6_world.specs.Geometries.{layout_of}
+use Rattle.r6_frames.specs.declared.op.Op.TheVariants as op
+use Rattle.r6_frames.specs.declared.frames.Frames.{Frames}
 use Rattle.r6_frames.specs.declared.op.Op.{Op}
 use Rattle.r6_frames.specs.declared.op.Request.{Request as Entered}
 use Rattle.r6_frames.specs.declared.frames.HeldRow.{HeldRow}
@@ -191,3 +194,18 @@ accepted_state s cause o sound =
     ap (λ rs. shard_with (record (rest_of s) { accepted = s.accepted + 1; request = table (map waiting_request rs ++ others s) }) s.frames) (pushed_requests s cause (record { id = s.accepted; op = o }))
     ∙ (let more = accepted s (record { id = s.accepted; op = o }) sound.requests refl in
     ap (λ (requests : ℕ → Option Request). record (state_of s) { accepted = s.accepted + 1; request = requests }) more.now)
+
+-- so that it may be accepted
+pub may_accept : (s : State) (o : Op) → HasNone (HasSubmitFault (core_of s) o) submit_faults → IsBlock (length (buffer_of o)) (buffer_of o)
+    → Allowed (layout_in s) s.frames.shard (state_of s) (Accept (op_of o))
+may_accept s o right sized =
+    let r = request_of s o right sized s.accepted in
+    (r.there, sized_op s.frames o r.sized, r.own, not_true s.frames.saw_failed right.1.1.1.0)
+  where
+    sized_op : (fs : Frames) (o : Op) → IsBlock fs.geometry.block (buffer_of o) → IsSized (layout_of fs.geometry) (op_of o)
+    sized_op fs (op.Read block buffer) is = record {}
+    sized_op fs (op.Write block buffer) is = is
+
+    not_true : (b : Bool) → (b ≡ true → ⊥) → b ≡ false
+    not_true true never = absurd (never refl)
+    not_true false never = refl

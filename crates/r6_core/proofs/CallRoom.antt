@@ -7,7 +7,8 @@ use Rattle.r6_world.specs.Tables.{count_below}
 use Rattle.r6_frames.specs.Slots.{states_of}
 use Rattle.r6_core.specs.declared.state.State.{State}
 use Rattle.r6_frames.specs.declared.frames.Frames.{Frames}
-use Rattle.r6_core.specs.Inside.{IsSound, most_calls, count_untold, is_missing, is_settled}
+use Rattle.circular_buffer.specs.Buffer.{Buffer}
+use Rattle.r6_core.specs.Inside.{IsCore, IsSound, most_calls, count_untold, is_missing, is_settled}
 
 pub count_below-le : (test : ℕ → Bool) (n : ℕ) → count_below test n ≤ n
 count_below-le test zero = omega arith
@@ -32,3 +33,27 @@ calls_fit s sound =
 pub one_untold : (same : Call → Call → Bool) (untold : Option Call) (call : Call) → option_eq same untold (Some call) ≡ true → count_untold untold ≡ 1
 one_untold same None call is = absurd (cc)
 one_untold same (Some other) call is = refl
+
+-- a core with other calls to be made, for which there is room
+pub core_with_calls : (s : State) (calls : Buffer Call) (untold : Option Call) → IsCore s → calls.capacity ≡ 64
+    → length calls.items + count_untold untold ≤ most_calls s.frames → IsCore (record s { calls = calls; untold = untold })
+core_with_calls s calls untold core capacity few =
+    let sound = core.settled.sound in
+    let r = sound.requests in
+    let room = sound.room in
+    record {
+      settled = record {
+        sound = record {
+          frames = sound.frames;
+          requests = record { distinct = r.distinct; numbered = r.numbered; counted = r.counted; few = r.few; waiting = r.waiting; sized = r.sized; marked = r.marked };
+          room = record { rooms = room.rooms; space = room.space; waiting = room.waiting; causes = room.causes; replies = room.replies; calls = capacity; few_calls = few };
+          tokens = sound.tokens;
+          accepted = sound.accepted;
+          counted = sound.counted;
+          next_rows = sound.next_rows;
+        };
+        reading = core.settled.reading;
+        rested = core.settled.rested;
+      };
+      waits = core.waits;
+    }

@@ -45,7 +45,7 @@ next_own shape shard row lawful own ne =
 
 -- ---- a check or repair may begin
 
-next_own_row : (s : State) (scrub : Scrub) → IsSound s → IsRowOf (layout_in s) s.frames.shard (next_row scrub s)
+pub next_own_row : (s : State) (scrub : Scrub) → IsSound s → IsRowOf (layout_in s) s.frames.shard (next_row scrub s)
 next_own_row s scrub.Check sound = sound.next_rows.0
 next_own_row s scrub.Repair sound = sound.next_rows.1
 

@@ -1,4 +1,4 @@
-use Rattle.std.proofs.Common.{◌+◌, ◌++◌, ◌∷◌, [], ap, length, sym, subst, length-append, arith}
+use Rattle.std.proofs.Common.{◌+◌, ◌<◌, ◌++◌, ◌∷◌, [], ℕ, ap, length, refl, sym, subst, ◌∙◌, length-append, arith}
 use Rattle.r6_waiters.specs.Line.{Line, entries_of}
 use Rattle.r6_world.specs.Steps.{Through, Scans}
 use Rattle.r6_world.specs.Changes.{Accept, after}
@@ -8,11 +8,13 @@ use Rattle.r6_core.specs.Shards.{state_of, layout_in, core_of, waiting_of}
 use Rattle.r6_core.specs.Order.{HaveTurns}
 use Rattle.r6_core.specs.declared.state.State.{State}
 use Rattle.r6_core.specs.Inside.{CanBegin, IsCore, anything}
-use Rattle.r6_core.proofs.Accepting.{request_of}
+use Rattle.r6_core.proofs.Accepting.{request_of, may_accept}
 use Rattle.r6_core.proofs.ReadStarts.{IsReadStart, own_op}
 use Rattle.r6_core.proofs.Entering.{entering, entering_items, others_left, reads_core, reads_leads, reads_turns, entered, waiting_settled, waits_core, waits_turns, waits_leads}
 use Rattle.r6_core.proofs.HeldFor.{entries_own, one_more_hold}
 use Rattle.r6_core.proofs.Accepted.{accepted_core, accepted_leads, accepted_turns}
+use Rattle.std.specs.Prelude.{List, drop, take}
+use Rattle.r6_world.specs.Changes.{Allowed}
 use Rattle.r6_core.proofs.state.State.accept.Goals as goal
 
 -- ---- what it starts with
@@ -114,3 +116,93 @@ returns-in-Ok-Direct-clause-turns c =
     let r = entered s c.args.op c.requires.core c.requires.right c.requires.sized in
     subst (λ (x : State). HaveTurns (core_of s) (after (layout_in s) (state_of s) (Accept (op_of c.args.op))) (waiting_of s ++ r ∷ []) (core_of x)) (sym c.read.ensures.same)
     (reads_turns s c.args.op c.requires.core c.requires.right c.requires.sized _ _ (read_start c))
+
+pub overflow_add-self : goal.overflow_add-self
+overflow_add-self c = omega (arith, c.requires.core.settled.sound.accepted)
+
+pub overflow_add-self-2 : goal.overflow_add-self-2
+overflow_add-self-2 c = omega (arith, c.requires.core.settled.sound.requests.few)
+
+pub room_for-requires-clause-sound : goal.room_for-requires-clause-sound
+room_for-requires-clause-sound c = c.requires.core.settled.sound.frames
+
+pub room_for-requires-clause-place : goal.room_for-requires-clause-place
+room_for-requires-clause-place c = c.requires.place
+
+pub read-requires-clause-place : goal.read-requires-clause-place
+read-requires-clause-place c = c.requires.place
+
+pub hold-requires-clause-place : goal.hold-requires-clause-place
+hold-requires-clause-place c = c.requires.place
+
+pub push-requires : goal.push-requires
+push-requires c = subst (λ (n : ℕ). c.in-Err.cause < n) (sym c.requires.core.settled.sound.room.causes) c.in-Err.ensures.0
+
+pub returns-in-Ok-Direct-clause-id : goal.returns-in-Ok-Direct-clause-id
+returns-in-Ok-Direct-clause-id c = refl
+
+pub returns-in-Ok-Direct-clause-allowed : goal.returns-in-Ok-Direct-clause-allowed
+returns-in-Ok-Direct-clause-allowed c = may_accept c.args.self.now c.args.op c.requires.right c.requires.sized
+
+pub returns-in-Ok-Direct-clause-calls : goal.returns-in-Ok-Direct-clause-calls
+returns-in-Ok-Direct-clause-calls c =
+    let same = c.read.ensures.same in
+    (ap (λ (x : State). x.calls) same, ap (λ (x : State). x.untold) same)
+
+pub returns-in-Ok-Direct-clause-order : goal.returns-in-Ok-Direct-clause-order
+returns-in-Ok-Direct-clause-order c =
+    let same = c.read.ensures.same in
+    (ap (λ (x : State). drop x.released x.replies.items) same, ap (λ (x : State). take x.released x.replies.items) same)
+
+pub returns-in-Ok-Direct-clause-unanswered : goal.returns-in-Ok-Direct-clause-unanswered
+returns-in-Ok-Direct-clause-unanswered c =
+    let same = c.read.ensures.same in
+    ap (λ (x : State). x.unanswered) same
+
+pub returns-in-Ok-Frame-clause-id : goal.returns-in-Ok-Frame-clause-id
+returns-in-Ok-Frame-clause-id c = refl
+
+pub returns-in-Ok-Frame-clause-allowed : goal.returns-in-Ok-Frame-clause-allowed
+returns-in-Ok-Frame-clause-allowed c = may_accept c.args.self.now c.args.op c.requires.right c.requires.sized
+
+pub returns-in-Ok-Frame-clause-calls : goal.returns-in-Ok-Frame-clause-calls
+returns-in-Ok-Frame-clause-calls c =
+    let same = c.hold.ensures.rest ∙ ap (λ (x : State). record x { frames = c.hold.new.self.frames }) c.hold.ensures.begins.rest in
+    (ap (λ (x : State). x.calls) same, ap (λ (x : State). x.untold) same)
+
+pub returns-in-Ok-Frame-clause-order : goal.returns-in-Ok-Frame-clause-order
+returns-in-Ok-Frame-clause-order c =
+    let same = c.hold.ensures.rest ∙ ap (λ (x : State). record x { frames = c.hold.new.self.frames }) c.hold.ensures.begins.rest in
+    (ap (λ (x : State). drop x.released x.replies.items) same, ap (λ (x : State). take x.released x.replies.items) same)
+
+pub returns-in-Ok-Frame-clause-unanswered : goal.returns-in-Ok-Frame-clause-unanswered
+returns-in-Ok-Frame-clause-unanswered c =
+    let same = c.hold.ensures.rest ∙ ap (λ (x : State). record x { frames = c.hold.new.self.frames }) c.hold.ensures.begins.rest in
+    ap (λ (x : State). x.unanswered) same
+
+pub returns-in-Ok-clause-id : goal.returns-in-Ok-clause-id
+returns-in-Ok-clause-id c = refl
+
+pub returns-in-Ok-clause-allowed : goal.returns-in-Ok-clause-allowed
+returns-in-Ok-clause-allowed c = may_accept c.args.self.now c.args.op c.requires.right c.requires.sized
+
+pub returns-in-Ok-clause-same : goal.returns-in-Ok-clause-same
+returns-in-Ok-clause-same c = (refl, refl)
+
+pub returns-in-Ok-clause-calls : goal.returns-in-Ok-clause-calls
+returns-in-Ok-clause-calls c = (refl, refl)
+
+pub returns-in-Ok-clause-order : goal.returns-in-Ok-clause-order
+returns-in-Ok-clause-order c = (refl, refl)
+
+pub returns-in-Ok-clause-unanswered : goal.returns-in-Ok-clause-unanswered
+returns-in-Ok-clause-unanswered c = refl
+
+pub returns-in-Ok-Direct-clause-same : goal.returns-in-Ok-Direct-clause-same
+returns-in-Ok-Direct-clause-same c = c.read.ensures.reads.same
+
+pub returns-in-Ok-Frame-clause-same : goal.returns-in-Ok-Frame-clause-same
+returns-in-Ok-Frame-clause-same c =
+    let begun = c.hold.ensures.begins.begins.shard in
+    let drives = c.hold.ensures.drives in
+    (drives.0 ∙ begun.0, drives.1 ∙ begun.1)

@@ -96,3 +96,57 @@ returns-clause-others c = (
 
 pub returns-then-is_read-clause-others : goal.returns-then-is_read-clause-others
 returns-then-is_read-clause-others c = (0, λ other ne. ap (λ held. use_at held other) c.give.ensures.holds)
+
+pub give-requires-clause-core : goal.give-requires-clause-core
+give-requires-clause-core c = c.requires.core
+
+pub give-requires-clause-awaited : goal.give-requires-clause-awaited
+give-requires-clause-awaited c = c.requires.awaited
+
+pub give-requires-clause-wanted : goal.give-requires-clause-wanted
+give-requires-clause-wanted c = c.requires.wanted
+
+pub give-requires-clause-size : goal.give-requires-clause-size
+give-requires-clause-size c = c.requires.size
+
+pub returns-then-is_read-clause-settled : goal.returns-then-is_read-clause-settled
+returns-then-is_read-clause-settled c = c.give.ensures.settled
+
+pub returns-then-is_read-clause-freed : goal.returns-then-is_read-clause-freed
+returns-then-is_read-clause-freed c = c.give.ensures.freed
+
+pub returns-then-is_read-clause-takes : goal.returns-then-is_read-clause-takes
+returns-then-is_read-clause-takes c = c.give.ensures.takes
+
+pub returns-then-is_read-clause-keeps : goal.returns-then-is_read-clause-keeps
+returns-then-is_read-clause-keeps c = c.give.ensures.keeps
+
+pub returns-then-is_read-clause-order : goal.returns-then-is_read-clause-order
+returns-then-is_read-clause-order c = c.give.ensures.order
+
+pub answer-frame-requires-clause-awaited : goal.answer-frame-requires-clause-awaited
+answer-frame-requires-clause-awaited c = c.requires.awaited
+
+pub answer-frame-requires-clause-wanted : goal.answer-frame-requires-clause-wanted
+answer-frame-requires-clause-wanted c = c.requires.wanted
+
+pub answer-frame-requires-clause-size : goal.answer-frame-requires-clause-size
+answer-frame-requires-clause-size c = c.requires.size
+
+pub drive-requires-clause-live : goal.drive-requires-clause-live
+drive-requires-clause-live c = c.answer-frame.ensures.live
+
+pub drive-requires-clause-held : goal.drive-requires-clause-held
+drive-requires-clause-held c = c.answer-frame.ensures.held
+
+pub finish-freed-requires-clause-live : goal.finish-freed-requires-clause-live
+finish-freed-requires-clause-live c = c.drive.ensures.live
+
+pub finish-freed-requires-clause-held : goal.finish-freed-requires-clause-held
+finish-freed-requires-clause-held c = c.drive.ensures.held
+
+pub finish-freed-requires-clause-driven : goal.finish-freed-requires-clause-driven
+finish-freed-requires-clause-driven c = c.drive.ensures.driven
+
+pub sort_finished-requires-clause-sound : goal.sort_finished-requires-clause-sound
+sort_finished-requires-clause-sound c = c.finish-freed.ensures.sound

@@ -8,7 +8,12 @@ use Rattle.r6_frames.specs.Owed.{owed}
 use Rattle.r6_core.specs.declared.state.State.{State}
 use Rattle.r6_core.specs.Inside.{IsCore, next_row}
 use Rattle.r6_core.proofs.HeldTurns.{IsTurnTaken, begun_turn, turn_numbers, turned_core, turned_leads}
-use Rattle.r6_core.proofs.Turning.{begins_next, scrub_allowed, turn_is}
+use Rattle.r6_core.proofs.Turning.{begins_next, next_own_row, scrub_allowed, turn_is}
+use Rattle.std.specs.Prelude.{drop, take}
+use Rattle.r6_world.specs.Layouts.{IsRowOf}
+use Rattle.r6_frames.specs.Views.{AreLive}
+use Rattle.r6_frames.specs.Calls.{AreAllInSync, IsFreeFrame, NotHeldBy}
+use Rattle.r6_core.specs.Shards.{waiting_of}
 use Rattle.r6_core.proofs.state.State.begin_turn.Goals as goal
 
 pub drive-requires-clause-held : goal.drive-requires-clause-held
@@ -67,3 +72,45 @@ returns-clause-leads c =
     let start = Start c.args.frame (next_row scrub s) (scrub_task scrub) in
     subst (λ (x : State). Through (layout_in s) s.frames.shard Scans (after (layout_in s) (state_of s) start) (state_of (record x { frames = c.drive.new.self }))) (sym c.pass.ensures.same)
     (turned_leads s (scrub_task scrub) c.args.frame (next_row scrub s) c.pass.new.self.check_row c.pass.new.self.repair_row c.begin_scrub.new.self c.drive.new.self (turn c))
+
+pub pass-requires : goal.pass-requires
+pass-requires c = c.requires.core.settled.sound
+
+pub begin_scrub-requires-clause-live : goal.begin_scrub-requires-clause-live
+begin_scrub-requires-clause-live c = subst (λ (x : State). AreLive x.frames) (sym c.pass.ensures.same) c.requires.taken_up.1.0
+
+pub begin_scrub-requires-clause-free : goal.begin_scrub-requires-clause-free
+begin_scrub-requires-clause-free c = subst (λ (x : State). IsFreeFrame x.frames c.args.frame) (sym c.pass.ensures.same) c.requires.taken_up.1.1
+
+pub begin_scrub-requires-clause-row : goal.begin_scrub-requires-clause-row
+begin_scrub-requires-clause-row c =
+    let s = c.args.self.now in
+    subst (λ (x : State). IsRowOf (layout_in x) x.frames.shard c.next_row-row.result) (sym c.pass.ensures.same)
+    (subst (IsRowOf (layout_in s) s.frames.shard) (sym c.next_row-row.ensures) (next_own_row s c.args.scrub c.requires.core.settled.sound))
+
+pub begin_scrub-requires-clause-whole : goal.begin_scrub-requires-clause-whole
+begin_scrub-requires-clause-whole c =
+    subst (λ (x : State). AreAllInSync x.frames c.next_row-row.result) (sym c.pass.ensures.same)
+    (subst (AreAllInSync c.args.self.now.frames) (sym c.next_row-row.ensures) c.requires.taken_up.0)
+
+pub begin_scrub-requires-clause-unheld : goal.begin_scrub-requires-clause-unheld
+begin_scrub-requires-clause-unheld c =
+    subst (λ (x : State). NotHeldBy x.frames c.next_row-row.result) (sym c.pass.ensures.same)
+    (subst (NotHeldBy c.args.self.now.frames) (sym c.next_row-row.ensures) c.requires.taken_up.1.2)
+
+pub returns-clause-same : goal.returns-clause-same
+returns-clause-same c =
+    let pass = c.pass.ensures.same in
+    let begun = c.begin_scrub.ensures.begins.shard in
+    let drives = c.drive.ensures.drives in
+    (drives.0 ∙ begun.0 ∙ ap (λ (x : State). x.frames.geometry) pass, drives.1 ∙ begun.1 ∙ ap (λ (x : State). x.frames.shard) pass)
+
+pub returns-clause-kept : goal.returns-clause-kept
+returns-clause-kept c =
+    let pass = c.pass.ensures.same in (
+      ((ap (λ (x : State). drop x.released x.replies.items) pass, ap (λ (x : State). take x.released x.replies.items) pass), ap (λ (x : State). x.unanswered) pass),
+      ap (λ (x : State). waiting_of x) pass,
+    )
+
+pub returns-clause-unanswered : goal.returns-clause-unanswered
+returns-clause-unanswered c = ap (λ (x : State). x.unanswered) c.pass.ensures.same

@@ -146,3 +146,59 @@ returns-in-None-clause-leads c =
 
 pub returns-in-None-clause-more : goal.returns-in-None-clause-more
 returns-in-None-clause-more c = ([], (0, tt), sym (append-nil c.args.self.now.replies.items))
+
+pub finish-requires-clause-live : goal.finish-requires-clause-live
+finish-requires-clause-live c = c.requires.live
+
+pub finish-requires-clause-held : goal.finish-requires-clause-held
+finish-requires-clause-held c = c.requires.held
+
+pub finish-requires-clause-driven : goal.finish-requires-clause-driven
+finish-requires-clause-driven c = c.requires.driven
+
+pub mark_rebuilt-requires-clause-live : goal.mark_rebuilt-requires-clause-live
+mark_rebuilt-requires-clause-live c = c.in-Some-Rebuilt.ensures.live
+
+pub mark_rebuilt-requires-clause-may : goal.mark_rebuilt-requires-clause-may
+mark_rebuilt-requires-clause-may c = subst (MayMark c.finish.new.self) c.in-Some-Rebuilt.field-0-is c.in-Some-Rebuilt.ensures.marks
+
+pub mark_rebuilt-requires-clause-counts : goal.mark_rebuilt-requires-clause-counts
+mark_rebuilt-requires-clause-counts c = let sound = c.requires.sound in omega (arith, sound.counted.found, sound.counted.skipped, sound.tokens)
+
+pub returns-in-Some-Rebuilt-clause-live : goal.returns-in-Some-Rebuilt-clause-live
+returns-in-Some-Rebuilt-clause-live c = c.mark_rebuilt.ensures.live
+
+pub returns-in-Some-Rebuilt-clause-released : goal.returns-in-Some-Rebuilt-clause-released
+returns-in-Some-Rebuilt-clause-released c = ap (λ (x : State). x.released) c.mark_rebuilt.ensures.same
+
+pub returns-in-Some-Rebuilt-clause-freed : goal.returns-in-Some-Rebuilt-clause-freed
+returns-in-Some-Rebuilt-clause-freed c = tt
+
+pub returns-in-None-clause-sound : goal.returns-in-None-clause-sound
+returns-in-None-clause-sound c = subst (λ (fs : Frames). IsSound (record c.args.self.now { frames = fs })) (sym c.in-None.ensures.ends.1) c.requires.sound
+
+pub returns-in-None-clause-live : goal.returns-in-None-clause-live
+returns-in-None-clause-live c = c.in-None.ensures.live
+
+pub returns-in-None-clause-rests : goal.returns-in-None-clause-rests
+returns-in-None-clause-rests c =
+    let ends = c.in-None.ensures.ends in
+    subst (λ (fs : Frames). IsRestedFrame (record c.args.self.now { frames = fs }) c.args.frame) (sym ends.1) (c.requires.driven, ends.0)
+
+pub returns-in-None-clause-others : goal.returns-in-None-clause-others
+returns-in-None-clause-others c = c.in-None.ensures.others
+
+pub returns-in-None-clause-keeps : goal.returns-in-None-clause-keeps
+returns-in-None-clause-keeps c = let same = c.in-None.ensures.ends.1 in ((ap (λ (fs : Frames). fs.geometry) same, ap (λ (fs : Frames). fs.shard) same), refl, refl)
+
+pub returns-in-None-clause-reads : goal.returns-in-None-clause-reads
+returns-in-None-clause-reads c = ap (λ (fs : Frames). read_requests fs) c.in-None.ensures.ends.1
+
+pub returns-in-None-clause-released : goal.returns-in-None-clause-released
+returns-in-None-clause-released c = refl
+
+pub returns-in-None-clause-ends : goal.returns-in-None-clause-ends
+returns-in-None-clause-ends c = λ h is over. absurd (c.in-None.ensures.ends.0 over)
+
+pub returns-in-None-clause-freed : goal.returns-in-None-clause-freed
+returns-in-None-clause-freed c = ap (λ (fs : Frames). record c.args.self.now { frames = fs }) c.in-None.ensures.ends.1

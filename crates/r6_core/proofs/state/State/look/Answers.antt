@@ -202,3 +202,75 @@ returns-clause-unanswered c =
       | then-went_out w ↦ unanswered ∙ ap (λ (x : State). x.unanswered) w.self-is ∙ w.settle.ensures.keeps.2 ∙ c.adopt-went_out.ensures.keeps.1
       | else-went_out w ↦ unanswered ∙ ap (λ (x : State). x.unanswered) w.self-is ∙ c.adopt-went_out.ensures.keeps.1
     ]
+
+pub returns-then-not-is_empty-clause-core : goal.returns-then-not-is_empty-clause-core
+returns-then-not-is_empty-clause-core c = c.requires
+
+pub returns-then-not-is_empty-clause-step : goal.returns-then-not-is_empty-clause-step
+returns-then-not-is_empty-clause-step c = tt
+
+pub returns-then-not-is_empty-clause-told : goal.returns-then-not-is_empty-clause-told
+returns-then-not-is_empty-clause-told c = tt
+
+pub returns-then-not-is_empty-clause-order : goal.returns-then-not-is_empty-clause-order
+returns-then-not-is_empty-clause-order c = tt
+
+pub returns-then-not-is_empty-clause-unanswered : goal.returns-then-not-is_empty-clause-unanswered
+returns-then-not-is_empty-clause-unanswered c = refl
+
+pub returns-then-not-is_empty-clause-turns : goal.returns-then-not-is_empty-clause-turns
+returns-then-not-is_empty-clause-turns c = tt
+
+pub adopt-went_out-requires-clause-settled : goal.adopt-went_out-requires-clause-settled
+adopt-went_out-requires-clause-settled c = c.requires.settled
+
+pub adopt-went_out-requires-clause-told : goal.adopt-went_out-requires-clause-told
+adopt-went_out-requires-clause-told c = told_of c.args.self.now (sym c.is_empty.ensures ∙ c.if-not-is_empty.false) (sym c.is_some.ensures ∙ c.if-is_some.false)
+
+pub see_failure-requires : goal.see_failure-requires
+see_failure-requires c = c.adopt-went_out.ensures.sound
+
+pub returns-then-failed-clause-told : goal.returns-then-failed-clause-told
+returns-then-failed-clause-told c = told_of c.args.self.now (sym c.is_empty.ensures ∙ c.if-not-is_empty.false) (sym c.is_some.ensures ∙ c.if-is_some.false)
+
+pub returns-then-failed-clause-refused : goal.returns-then-failed-clause-refused
+returns-then-failed-clause-refused c = tt
+
+pub returns-then-failed-clause-order : goal.returns-then-failed-clause-order
+returns-then-failed-clause-order c =
+    let failed = sym c.failed.ensures ∙ c.if-failed.true in
+    let fails = c.see_failure.ensures.order in (
+      λ e. (fails.0, fails.1 ∙ c.adopt-went_out.ensures.order.1, fails.2),
+      λ e was. absurd (no_both _ failed e),
+      λ e was. absurd (no_both _ failed e),
+    )
+
+pub returns-then-failed-clause-turns : goal.returns-then-failed-clause-turns
+returns-then-failed-clause-turns c = λ e. absurd (no_both _ (sym c.failed.ensures ∙ c.if-failed.true) e)
+
+pub returns-then-failed-clause-unanswered : goal.returns-then-failed-clause-unanswered
+returns-then-failed-clause-unanswered c = c.see_failure.ensures.unanswered ∙ c.adopt-went_out.ensures.keeps.1
+
+pub returns-then-saw_failed-clause-told : goal.returns-then-saw_failed-clause-told
+returns-then-saw_failed-clause-told c = told_of c.args.self.now (sym c.is_empty.ensures ∙ c.if-not-is_empty.false) (sym c.is_some.ensures ∙ c.if-is_some.false)
+
+pub returns-then-saw_failed-clause-refused : goal.returns-then-saw_failed-clause-refused
+returns-then-saw_failed-clause-refused c = tt
+
+pub returns-then-saw_failed-clause-unanswered : goal.returns-then-saw_failed-clause-unanswered
+returns-then-saw_failed-clause-unanswered c = c.adopt-went_out.ensures.keeps.1
+
+pub settle-requires-clause-sound : goal.settle-requires-clause-sound
+settle-requires-clause-sound c = c.adopt-went_out.ensures.sound
+
+pub settle-requires-clause-reading : goal.settle-requires-clause-reading
+settle-requires-clause-reading c = c.adopt-went_out.ensures.reading
+
+pub start_waiting-requires-clause-settled : goal.start_waiting-requires-clause-settled
+start_waiting-requires-clause-settled c = c.release.ensures.core
+
+pub returns-clause-core : goal.returns-clause-core
+returns-clause-core c = c.start_waiting.ensures.core
+
+pub returns-clause-refused : goal.returns-clause-refused
+returns-clause-refused c = tt

@@ -5,3 +5,36 @@ pub returns-clause-step : goal.returns-clause-step
 returns-clause-step c =
     let accept = c.accept.ensures in
     (accept.same, (accept.id, accept.allowed, accept.leads, rests_in c.args.self.now c.accept.new.self accept.same accept.core))
+
+pub returns-in-Err-clause-core : goal.returns-in-Err-clause-core
+returns-in-Err-clause-core c = c.requires
+
+pub returns-in-Err-clause-step : goal.returns-in-Err-clause-step
+returns-in-Err-clause-step c = tt
+
+pub returns-in-Err-clause-right : goal.returns-in-Err-clause-right
+returns-in-Err-clause-right c = tt
+
+pub returns-in-Err-clause-order : goal.returns-in-Err-clause-order
+returns-in-Err-clause-order c = tt
+
+pub returns-in-Err-clause-unanswered : goal.returns-in-Err-clause-unanswered
+returns-in-Err-clause-unanswered c = tt
+
+pub returns-in-Err-clause-turns : goal.returns-in-Err-clause-turns
+returns-in-Err-clause-turns c = tt
+
+pub accept-requires-clause-core : goal.accept-requires-clause-core
+accept-requires-clause-core c = c.requires
+
+pub returns-clause-core : goal.returns-clause-core
+returns-clause-core c = c.accept.ensures.core
+
+pub returns-clause-order : goal.returns-clause-order
+returns-clause-order c = c.accept.ensures.order
+
+pub returns-clause-unanswered : goal.returns-clause-unanswered
+returns-clause-unanswered c = c.accept.ensures.unanswered
+
+pub returns-clause-refused : goal.returns-clause-refused
+returns-clause-refused c = tt

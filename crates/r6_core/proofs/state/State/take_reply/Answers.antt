@@ -1,4 +1,4 @@
-use Rattle.std.proofs.Common.{◌≡◌, [], ◌∷◌, ◌-◌, true, false, ℕ, drop, take, sym, ap, subst, ◌∙◌, arith}
+use Rattle.std.proofs.Common.{◌≡◌, [], ◌∷◌, ◌-◌, true, false, ℕ, drop, take, refl, sym, ap, subst, ◌∙◌, arith}
 use Rattle.std.specs.Prelude.{nat_lt}
 use Rattle.std.proofs.lemmas.Bool.{ltb-false}
 use Rattle.std.proofs.lemmas.List.{drop_all, take_all}
@@ -6,9 +6,10 @@ use Rattle.circular_buffer.specs.Buffer.{Buffer}
 use Rattle.r6_frames.specs.declared.op.Request.{Request}
 use Rattle.r6_world.specs.Steps.{No_reply}
 use Rattle.r6_core.specs.Shards.{Step, reply_of, core_of}
-use Rattle.r6_core.specs.Inside.{IsSettled}
+use Rattle.r6_core.specs.Inside.{IsCore, IsSettled}
 use Rattle.r6_core.proofs.Known.{at_none}
 use Rattle.r6_core.proofs.Replies.{some_popped, none_popped, unpopped, no_reply, marked_by, reply_brings, reply_core, reply_first, reply_step}
+use Rattle.r6_core.specs.Order.{HasNoReply}
 use Rattle.r6_core.proofs.state.State.take_reply.Goals as goal
 use Rattle.r6_core.proofs.state.State.take_reply.Goals.{else-not-is_released-via-then-not-is_released+else-not-saw_failed, else-not-is_released-via-else-not-is_released}
 
@@ -69,3 +70,55 @@ returns-clause-buffer c =
     let s = c.args.self.now in
     let brings = reply_brings s (nat_lt 0 s.released) c.in_ok-request.request c.pop_front.new.self c.requires.settled (is_first c) (marked_by s.released) (has_failed c) in
     rw (c.reply.ensures.0, c.reply.ensures.1) brings
+
+pub returns-then-not-saw_failed-clause-core : goal.returns-then-not-saw_failed-clause-core
+returns-then-not-saw_failed-clause-core c = c.requires
+
+pub returns-then-not-saw_failed-clause-waiting : goal.returns-then-not-saw_failed-clause-waiting
+returns-then-not-saw_failed-clause-waiting c = refl
+
+pub returns-then-not-saw_failed-clause-same : goal.returns-then-not-saw_failed-clause-same
+returns-then-not-saw_failed-clause-same c = (refl, refl)
+
+pub returns-then-not-saw_failed-clause-buffer : goal.returns-then-not-saw_failed-clause-buffer
+returns-then-not-saw_failed-clause-buffer c = tt
+
+pub returns-then-not-saw_failed-clause-sized : goal.returns-then-not-saw_failed-clause-sized
+returns-then-not-saw_failed-clause-sized c = tt
+
+pub returns-then-not-saw_failed-clause-unanswered : goal.returns-then-not-saw_failed-clause-unanswered
+returns-then-not-saw_failed-clause-unanswered c = tt
+
+pub returns-then-not-saw_failed-clause-first : goal.returns-then-not-saw_failed-clause-first
+returns-then-not-saw_failed-clause-first c =
+    let s = c.args.self.now in
+    let none : s.released ≡ 0 = omega (arith, c.if-not-is_released.true) in
+    let unfailed = sym c.saw_failed.ensures ∙ c.if-not-saw_failed.true in
+    ((ap (λ n. take n s.replies.items) none, λ failed. absurd (cc)), refl)
+
+pub returns-in_err-request-clause-core : goal.returns-in_err-request-clause-core
+returns-in_err-request-clause-core c =
+    let s = c.args.self.now in
+    let none = sym c.pop_front.ensures.value ∙ c.in_err-request.was in
+    subst (λ (rest : Buffer Request). IsCore (record s { replies = rest })) (sym (unpopped s.replies c.pop_front.new.self none c.pop_front.ensures.items)) c.requires
+
+pub returns-in_err-request-clause-first : goal.returns-in_err-request-clause-first
+returns-in_err-request-clause-first c =
+    let s = c.args.self.now in
+    let none = sym c.pop_front.ensures.value ∙ c.in_err-request.was in
+    let empty = (none_popped s.replies.items none).0 in
+    at_none _ _ _ c.from_residual.ensures
+    (subst (λ (rest : Buffer Request). HasNoReply (core_of s) × (record s { replies = rest } ≡ s)) (sym (unpopped s.replies c.pop_front.new.self none c.pop_front.ensures.items))
+    ((ap (take s.released) empty ∙ take_all s.released [] (omega arith), λ failed. ap (drop s.released) empty ∙ drop_all s.released [] (omega arith)), refl))
+
+pub returns-in_err-request-clause-waiting : goal.returns-in_err-request-clause-waiting
+returns-in_err-request-clause-waiting c = refl
+
+pub returns-in_err-request-clause-same : goal.returns-in_err-request-clause-same
+returns-in_err-request-clause-same c = (refl, refl)
+
+pub returns-clause-waiting : goal.returns-clause-waiting
+returns-clause-waiting c = refl
+
+pub returns-clause-same : goal.returns-clause-same
+returns-clause-same c = (refl, refl)

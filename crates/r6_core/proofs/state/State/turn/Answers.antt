@@ -1,4 +1,5 @@
 use Rattle.r6_core.proofs.Turning.{passed_over, started}
+use Rattle.std.proofs.Common.{refl}
 use Rattle.r6_core.proofs.state.State.turn.Goals as goal
 
 pub returns-in-Some-clause-step : goal.returns-in-Some-clause-step
@@ -10,3 +11,42 @@ pub returns-in-None-clause-step : goal.returns-in-None-clause-step
 returns-in-None-clause-step c =
     let skip = c.skip_turn.ensures in
     passed_over c.args.self.now c.skip_turn.new.self c.args.scrub skip.same skip.core skip.allowed skip.skips
+
+pub returns-in_err-frame-clause-core : goal.returns-in_err-frame-clause-core
+returns-in_err-frame-clause-core c = c.requires
+
+pub returns-in_err-frame-clause-unanswered : goal.returns-in_err-frame-clause-unanswered
+returns-in_err-frame-clause-unanswered c = refl
+
+pub returns-in_err-frame-clause-kept : goal.returns-in_err-frame-clause-kept
+returns-in_err-frame-clause-kept c = (((refl, refl), refl), refl)
+
+pub begin_turn-requires-clause-core : goal.begin_turn-requires-clause-core
+begin_turn-requires-clause-core c = c.requires
+
+pub skip_turn-requires-clause-core : goal.skip_turn-requires-clause-core
+skip_turn-requires-clause-core c = c.requires
+
+pub returns-in-Some-clause-core : goal.returns-in-Some-clause-core
+returns-in-Some-clause-core c = c.begin_turn.ensures.core
+
+pub returns-in-Some-clause-refused : goal.returns-in-Some-clause-refused
+returns-in-Some-clause-refused c = tt
+
+pub returns-in-Some-clause-kept : goal.returns-in-Some-clause-kept
+returns-in-Some-clause-kept c = c.begin_turn.ensures.kept
+
+pub returns-in-Some-clause-unanswered : goal.returns-in-Some-clause-unanswered
+returns-in-Some-clause-unanswered c = c.begin_turn.ensures.unanswered
+
+pub returns-in-None-clause-core : goal.returns-in-None-clause-core
+returns-in-None-clause-core c = c.skip_turn.ensures.core
+
+pub returns-in-None-clause-refused : goal.returns-in-None-clause-refused
+returns-in-None-clause-refused c = tt
+
+pub returns-in-None-clause-kept : goal.returns-in-None-clause-kept
+returns-in-None-clause-kept c = c.skip_turn.ensures.kept
+
+pub returns-in-None-clause-unanswered : goal.returns-in-None-clause-unanswered
+returns-in-None-clause-unanswered c = c.skip_turn.ensures.unanswered
