@@ -2,6 +2,7 @@
 
 ghost use Rattle.std.specs.Prelude.{◌≡◌, ◌+◌, ◌<◌, ◌++◌, ◌∷◌, [], length, map, MatchOption, IfOk, IfErr, IfSome};
 ghost use Rattle.std.specs.Prelude.{◌≤◌, replicate, vec_capacity};
+ghost use Rattle.circular_buffer.specs.Buffer.{buffer};
 ghost use Rattle.r6_world.specs.ShardStates as shards;
 ghost use Rattle.r6_kernels.specs.Blocks.{IsBlock};
 ghost use Rattle.r6_layout.specs.Shape.{IsShape};
@@ -12,10 +13,10 @@ ghost use Rattle.r6_frames.specs.Calls as frames;
 ghost use Rattle.r6_frames.specs.Calls.{IsPlaceOf};
 ghost use Rattle.r6_frames.specs.Slots.{slot_before, AreUsed};
 ghost use Rattle.r6_core.specs.Shards.{Step, core_of, state_of, layout_in, reply_of, buffer_back, waiting_of};
-ghost use Rattle.r6_core.specs.Refusals.{HasSubmitFault, IsFirstFault, HasNone, submit_faults};
+ghost use Rattle.r6_core.specs.Refusals.{most_unanswered, HasSubmitFault, IsFirstFault, HasNone, submit_faults};
 ghost use Rattle.r6_core.specs.Order.{NoReplies, SameReplies, BringsBack, TakesFirst, HasNoReply, HaveTurns};
 ghost use Rattle.r6_core.specs.Effects.{KeepsRequests, HandsCommand};
-ghost use Rattle.r6_core.specs.Inside.{IsSound, IsCore, IsFresh, SameCalls, SameFrames, Seen, reply_for};
+ghost use Rattle.r6_core.specs.Inside.{causes, IsSound, IsCore, IsFresh, SameCalls, SameFrames, Seen, reply_for};
 
 use crate::call::Call;
 use crate::counts::Counts;
@@ -82,19 +83,22 @@ impl State {
         ensures unanswered { IfOk result (λ s. s.unanswered ≡ 0) }
     {
         let first_row = geometry.shard_rows(shard).start;
+        let lists = new_lists(alloc)?;
+        let frames = Frames::new(alloc, geometry, shard, devices)?;
+        let ((waiting, rooms), (replies, calls)) = lists;
         Ok(State {
             accepted: 0,
             unanswered: 0,
-            waiting: Waiters::with_capacity(alloc, UNANSWERED, CAUSES)?,
-            rooms: new_rooms(alloc)?,
-            replies: HeapCircularBuffer::with_capacity(alloc, UNANSWERED)?,
+            waiting,
+            rooms,
+            replies,
             released: 0,
-            calls: HeapCircularBuffer::with_capacity(alloc, 2 * MOST_SLOTS)?,
+            calls,
             untold: None,
             check_row: first_row,
             repair_row: first_row,
             counts: Counts::none(),
-            frames: Frames::new(alloc, geometry, shard, devices)?,
+            frames,
         })
     }
 
@@ -236,6 +240,44 @@ impl State {
         self.unanswered -= 1;
         Some(reply(request, is_released))
     }
+}
+
+// A line in which no request waits, and room for the writes of a hold in each frame.
+type Line = (Waiters<Request, Written>, Vec<Writes>);
+
+// Room for the replies of all requests, and for the calls.
+type Queues = (HeapCircularBuffer<Request>, HeapCircularBuffer<Call>);
+
+// All lists of a shard with no request.
+fn new_lists(alloc: Global) -> Result<(Line, Queues), AllocError>
+    ensures line { IfOk result (λ r. (r.0).0 ≡ (most_unanswered, (causes, []))) }
+    ensures empty { IfOk result (λ r. ((r.0).1).items ≡ replicate shards.frames []) }
+    ensures space { IfOk result (λ r. shards.frames ≤ vec_capacity (r.0).1) }
+    ensures replies { IfOk result (λ r. (r.1).0 ≡ buffer [] most_unanswered) }
+    ensures calls { IfOk result (λ r. (r.1).1 ≡ buffer [] 64) }
+{
+    let line = new_line(alloc)?;
+    let queues = new_queues(alloc)?;
+    Ok((line, queues))
+}
+
+fn new_line(alloc: Global) -> Result<Line, AllocError>
+    ensures line { IfOk result (λ r. r.0 ≡ (most_unanswered, (causes, []))) }
+    ensures empty { IfOk result (λ r. (r.1).items ≡ replicate shards.frames []) }
+    ensures space { IfOk result (λ r. shards.frames ≤ vec_capacity r.1) }
+{
+    let waiting = Waiters::with_capacity(alloc, UNANSWERED, CAUSES)?;
+    let rooms = new_rooms(alloc)?;
+    Ok((waiting, rooms))
+}
+
+fn new_queues(alloc: Global) -> Result<Queues, AllocError>
+    ensures replies { IfOk result (λ r. r.0 ≡ buffer [] most_unanswered) }
+    ensures calls { IfOk result (λ r. r.1 ≡ buffer [] 64) }
+{
+    let replies = HeapCircularBuffer::with_capacity(alloc, UNANSWERED)?;
+    let calls = HeapCircularBuffer::with_capacity(alloc, 2 * MOST_SLOTS)?;
+    Ok((replies, calls))
 }
 
 // Room for the writes of a hold in each frame.

@@ -13,8 +13,7 @@ use Rattle.r6_core.proofs.ReadStarts.{IsReadStart, own_op}
 use Rattle.r6_core.proofs.Entering.{entering, entering_items, others_left, reads_core, reads_leads, reads_turns, entered, waiting_settled, waits_core, waits_turns, waits_leads}
 use Rattle.r6_core.proofs.HeldFor.{entries_own, one_more_hold}
 use Rattle.r6_core.proofs.Accepted.{accepted_core, accepted_leads, accepted_turns}
-use Rattle.std.specs.Prelude.{List, drop, take}
-use Rattle.r6_world.specs.Changes.{Allowed}
+use Rattle.std.specs.Prelude.{drop, take}
 use Rattle.r6_core.proofs.state.State.accept.Goals as goal
 
 -- ---- what it starts with
