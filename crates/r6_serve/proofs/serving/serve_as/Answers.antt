@@ -1,6 +1,9 @@
-use Rattle.std.proofs.Common.{arith, ◌≡◌, ◌∙◌, ap, map, refl, slice_index_or, subst, true}
+use Rattle.std.proofs.Common.{arith, ◌≡◌, ℕ, ◌+◌, ◌∙◌, ap, map, refl, slice_index_or, subst, sym, true}
 use Rattle.std.specs.List.{AllZip}
 use Rattle.std.proofs.lemmas.Slice.Zip.{AllZip-long}
+use Rattle.r6_layout.specs.Shape.{Shape}
+use Rattle.r6_world.specs.Registers.{Snapshot}
+use Rattle.r6_health.specs.declared.history.View.{View}
 use Rattle.r6_health.specs.Histories.{start_losing}
 use Rattle.r6_health.specs.Passes.{IsPassOf, view_of}
 use Rattle.r6_health.specs.Registers.{starting}
@@ -13,6 +16,9 @@ use Rattle.r6_runner.specs.Sound.{KeepsPromised}
 use Rattle.r6_serve.specs.Named.{BeginsSound}
 use Rattle.r6_serve.proofs.Named.{are-promised, leave_sound_alone}
 use Rattle.r6_serve.proofs.serving.serve_as.Goals as goal
+
+from-none : (total before more : ℕ) → total ≡ before + more → before ≡ 0 → total ≡ more
+from-none total before more counted none = omega (arith, counted, none)
 
 pub run_all-requires-clause-ready : goal.run_all-requires-clause-ready
 run_all-requires-clause-ready g c κs within = λ k d below.
@@ -120,3 +126,48 @@ pub returns-clause-saw : goal.returns-clause-saw
 returns-clause-saw g c =
     each_saw_with_pass c.in-Ok.register (view_of c.settle.new.pass) (view_of c.read-snapshot.new.pass) c.settle.new.runners.items
     c.settle.ensures.heard c.read-snapshot.ensures.looks c.read-snapshot.ensures.pass.same_start
+
+pub split-caller-requires : goal.split-caller-requires
+split-caller-requires g c = c.in-Ok.ensures.pass
+
+pub takings_of-requires-clause-shape : goal.takings_of-requires-clause-shape
+takings_of-requires-clause-shape g c = c.requires.shape
+
+pub takings_of-requires-clause-no_attach : goal.takings_of-requires-clause-no_attach
+takings_of-requires-clause-no_attach g c = ap (λ (s : Snapshot). s.attaches) c.start-start.ensures
+
+pub takings_of-requires-clause-unfailed : goal.takings_of-requires-clause-unfailed
+takings_of-requires-clause-unfailed g c = ap (λ (s : Snapshot). s.failed) c.start-start.ensures
+
+pub takings_of-requires-clause-pass : goal.takings_of-requires-clause-pass
+takings_of-requires-clause-pass g c = c.split-caller.ensures.pass
+
+pub takings_of-requires-clause-first : goal.takings_of-requires-clause-first
+takings_of-requires-clause-first g c =
+    let known = c.split-caller.ensures.same ∙ c.in-Ok.ensures.first in
+    record {
+      slots = ap (λ (v : View). v.start.slots) known ∙ ap (λ (s : Shape). s.slots) c.requires.shape;
+      shards = ap (λ (v : View). v.start.shards) known ∙ ap (λ (s : Shape). s.shards) c.requires.shape;
+      began = ap (λ (v : View). v.start.snapshot) known ∙ sym c.start-start.ensures;
+      seen = ap (λ (v : View). v.seen) known;
+      mine = ap (λ (v : View). v.mine) known;
+    }
+
+pub run_all-requires-clause-begins : goal.run_all-requires-clause-begins
+run_all-requires-clause-begins g c κs within = c.in_ok-feed.ensures.begins.0
+
+pub run_all-requires-clause-pass : goal.run_all-requires-clause-pass
+run_all-requires-clause-pass g c κs within =
+    subst (IsPassOf c.in-Ok.register) (sym c.in_ok-feed.ensures.begins.1) c.split-caller.ensures.new
+
+pub settle-requires-clause-pass : goal.settle-requires-clause-pass
+settle-requires-clause-pass g c = c.in_ok-pass.ensures.pass
+
+pub settle-requires-clause-counted : goal.settle-requires-clause-counted
+settle-requires-clause-counted g c = from-none _ _ _ c.in_ok-feed.ensures.counted c.open-book.ensures.total
+
+pub read-snapshot-requires : goal.read-snapshot-requires
+read-snapshot-requires g c = c.settle.ensures.pass
+
+pub returns-clause-snapshot : goal.returns-clause-snapshot
+returns-clause-snapshot g c = c.read-snapshot.ensures.snapshot
