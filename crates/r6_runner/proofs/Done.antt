@@ -116,7 +116,7 @@ pub asked-on : {D : Type 0} (told : D → Telling) (taken : Bool) (part : Part D
 asked-on told true part old new taken = taken.1.ledger.asked
 asked-on told false part old new same = ap (λ (y : Shard _). y.asked.items) same
 
-core-on : {D : Type 0} (told : D → Telling) (taken : Bool) (part : Part D) (old new : Shard (Parts D)) → IsPartTaken taken told part old new
+pub core-on : {D : Type 0} (told : D → Telling) (taken : Bool) (part : Part D) (old new : Shard (Parts D)) → IsPartTaken taken told part old new
     → new.core ≡ old.core
 core-on told true part old new taken = taken.1.core
 core-on told false part old new same = ap (λ (y : Shard _). y.core) same

@@ -4,3 +4,4 @@ pub mod Keeping
 pub mod Sound
 pub mod Counting
 pub mod Awaiting
+pub mod Taken

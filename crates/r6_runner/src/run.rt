@@ -1,6 +1,6 @@
 //! A shard takes what its list has, until all is done.
 
-ghost use Rattle.std.specs.Prelude.{◌≡◌, ◌≤◌, [], length, true, false};
+ghost use Rattle.std.specs.Prelude.{◌≡◌, ◌≤◌, [], length, None, true, false};
 ghost use Rattle.r6_health.specs.Passes.{IsPassOf};
 ghost use Rattle.r6_lists.specs.Events.{tasks_of};
 ghost use Rattle.r6_runner.specs.Counted.{AreCounted, CountsAll, HasCounted, KeepsCounted};
@@ -27,6 +27,13 @@ pub struct Taking<L: Events, D> {
 }
 
 impl<D: BlockDevice + Drop> Runner<D> {
+    // Whether something that was taken is due, or every row is passed over.
+    fn has_more(&self) -> bool
+        ensures { result ≡ false → (self.now.due.items ≡ []) × (self.now.passing ≡ None) }
+    {
+        !self.due.is_empty() || self.passing.is_some()
+    }
+
     // Whether nothing is left to do of what was taken. If a row is to be rebuilt, it is taken up.
     fn rests<R: Wait>(&mut self, rt: &R, register: &Register) -> bool
         requires { IsPassOf register.now self.old.shard.pass }
@@ -45,7 +52,7 @@ impl<D: BlockDevice + Drop> Runner<D> {
 
         ensures over { result ≡ true → IsOver self.new }
     {
-        if !self.due.is_empty() || self.passing.is_some() {
+        if self.has_more() {
             return false;
         }
         self.shard.rests(rt, register)

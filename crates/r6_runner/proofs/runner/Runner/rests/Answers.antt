@@ -19,3 +19,11 @@ pub returns-clause-awaited : goal.returns-clause-awaited
 returns-clause-awaited g c = λ events x.
     let old = c.args.self.now in
     alike events old.waits old.waits old.shard.asked.items c.rests.new.self.asked.items old.due.items old.due.items refl c.rests.ensures.ledger.asked refl x
+
+pub returns-clause-sound : goal.returns-clause-sound
+returns-clause-sound g c = c.rests.ensures.advances.sound
+
+pub returns-clause-over : goal.returns-clause-over
+returns-clause-over g c = λ all.
+    let none = c.has_more.ensures c.if-has_more.false in
+    record { none_due = none.0; no_pass = none.1; rests = c.rests.ensures.rests all }

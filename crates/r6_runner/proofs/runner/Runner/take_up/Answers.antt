@@ -6,6 +6,7 @@ use Rattle.r6_shard.specs.declared.parts.Part.{Part}
 use Rattle.r6_runner.proofs.Awaiting.{put-awaited, handed-awaited}
 use Rattle.r6_runner.proofs.Done.{put-on, handed-on}
 use Rattle.r6_runner.proofs.Keeping.{still-sound}
+use Rattle.r6_runner.proofs.Taken.{put-counted, put-self, put-count, handed-counted, handed-self, handed-count}
 use Rattle.r6_runner.proofs.runner.Runner.take_up.Goals as goal
 
 pub returns-in-Read-clause-course : goal.returns-in-Read-clause-course
@@ -100,3 +101,54 @@ returns-in-Attach-clause-sound g c = λ slot promise x.
     let own = c.in-Attach.slot in
     c.hand_in.ensures.sound g.L.Events.shape i.shard slot
     (λ same. i.promised own c.in-Attach.generation c.in-Attach.device c.in-Attach.is (subst (g.L.Events.sound i.shard) (sym same) promise)) x
+
+pub returns-in-Read-clause-counted : goal.returns-in-Read-clause-counted
+returns-in-Read-clause-counted g c = put-counted c.args.self.now c.put.new.self _ c.put.ensures
+
+pub returns-in-Read-clause-same : goal.returns-in-Read-clause-same
+returns-in-Read-clause-same g c = put-self c.args.self.now c.put.new.self _ c.put.ensures
+
+pub returns-in-Read-clause-count : goal.returns-in-Read-clause-count
+returns-in-Read-clause-count g c = put-count c.args.self.now c.put.new.self _ c.put.ensures
+
+pub returns-in-Write-clause-counted : goal.returns-in-Write-clause-counted
+returns-in-Write-clause-counted g c = put-counted c.args.self.now c.put-in-Write.new.self _ c.put-in-Write.ensures
+
+pub returns-in-Write-clause-same : goal.returns-in-Write-clause-same
+returns-in-Write-clause-same g c = put-self c.args.self.now c.put-in-Write.new.self _ c.put-in-Write.ensures
+
+pub returns-in-Write-clause-count : goal.returns-in-Write-clause-count
+returns-in-Write-clause-count g c = put-count c.args.self.now c.put-in-Write.new.self _ c.put-in-Write.ensures
+
+pub returns-in-Check-clause-counted : goal.returns-in-Check-clause-counted
+returns-in-Check-clause-counted g c = put-counted c.args.self.now c.put-in-Check.new.self _ c.put-in-Check.ensures
+
+pub returns-in-Check-clause-same : goal.returns-in-Check-clause-same
+returns-in-Check-clause-same g c = put-self c.args.self.now c.put-in-Check.new.self _ c.put-in-Check.ensures
+
+pub returns-in-Check-clause-count : goal.returns-in-Check-clause-count
+returns-in-Check-clause-count g c = put-count c.args.self.now c.put-in-Check.new.self _ c.put-in-Check.ensures
+
+pub returns-in-Repair-clause-counted : goal.returns-in-Repair-clause-counted
+returns-in-Repair-clause-counted g c = put-counted c.args.self.now c.put-in-Repair.new.self _ c.put-in-Repair.ensures
+
+pub returns-in-Repair-clause-same : goal.returns-in-Repair-clause-same
+returns-in-Repair-clause-same g c = put-self c.args.self.now c.put-in-Repair.new.self _ c.put-in-Repair.ensures
+
+pub returns-in-Repair-clause-count : goal.returns-in-Repair-clause-count
+returns-in-Repair-clause-count g c = put-count c.args.self.now c.put-in-Repair.new.self _ c.put-in-Repair.ensures
+
+pub returns-in-Attach-clause-counted : goal.returns-in-Attach-clause-counted
+returns-in-Attach-clause-counted g c =
+    let part : Part _ = record { slot = c.in-Attach.slot; generation = c.in-Attach.generation; device = c.in-Attach.device } in
+    handed-counted g.D.BlockDevice.told c.args.self.now c.hand_in.new.self c.args.item.number part c.hand_in.ensures.handed
+
+pub returns-in-Attach-clause-same : goal.returns-in-Attach-clause-same
+returns-in-Attach-clause-same g c =
+    let part : Part _ = record { slot = c.in-Attach.slot; generation = c.in-Attach.generation; device = c.in-Attach.device } in
+    handed-self g.D.BlockDevice.told c.args.self.now c.hand_in.new.self c.args.item.number part c.hand_in.ensures.handed
+
+pub returns-in-Attach-clause-count : goal.returns-in-Attach-clause-count
+returns-in-Attach-clause-count g c =
+    let part : Part _ = record { slot = c.in-Attach.slot; generation = c.in-Attach.generation; device = c.in-Attach.device } in
+    handed-count g.D.BlockDevice.told c.args.self.now c.hand_in.new.self c.args.item.number part c.hand_in.ensures.handed

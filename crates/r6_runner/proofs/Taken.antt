@@ -1,0 +1,80 @@
+-- What else stays where what came by the list is taken up.
+use Rattle.std.proofs.Common.{◌≡◌, ℕ, ◌+◌, ◌∷◌, [], List, length, true, false, Bool, sym, ap, subst, ◌∙◌, arith, Option}
+use Rattle.std.specs.Prelude.{option_to_list}
+use Rattle.std.proofs.lemmas.List.{length-append}
+use Rattle.r6_dev.specs.History.{Telling}
+use Rattle.r6_core.specs.Shards.{CoreView}
+use Rattle.r6_shard.specs.declared.parts.Part.{Part}
+use Rattle.r6_shard.specs.declared.parts.Parts.{Parts}
+use Rattle.r6_shard.specs.declared.shard.Shard.{Shard}
+use Rattle.r6_runner.specs.declared.due.Due.{Due}
+use Rattle.r6_runner.specs.declared.pass.Passing.{Passing}
+use Rattle.r6_runner.specs.declared.pass.Passed.{Passed}
+use Rattle.r6_runner.specs.declared.runner.Handed.{Handed}
+use Rattle.r6_runner.specs.declared.runner.Runner.{Runner}
+use Rattle.r6_runner.specs.Counted.{IsCounting, KeepsCounted}
+use Rattle.r6_runner.specs.Runners.{IsPartTaken, IsPut, IsHandedIn, KeepsSelf, taken_by}
+use Rattle.r6_runner.proofs.Done.{asked-on, core-on}
+
+counted-alike : {D : Type 0} (old new : Runner D) → new.shard.core ≡ old.shard.core → new.passing ≡ old.passing
+    → new.passed.items ≡ old.passed.items → new.rows ≡ old.rows → KeepsCounted old new
+counted-alike old new core passing passed own rows x = (
+  own ∙ x.0,
+  x.1,
+  x.2,
+  subst (λ (y : CoreView). IsCounting rows x.1 x.2 y new.passing new.passed.items) (sym core)
+      (subst (λ (y : Option Passing). IsCounting rows x.1 x.2 old.shard.core y new.passed.items) (sym passing)
+      (subst (λ (y : List Passed). IsCounting rows x.1 x.2 old.shard.core old.passing y) (sym passed) x.3)),
+)
+
+-- ---- one task more is due
+
+pub put-counted : {D : Type 0} (old new : Runner D) (d : Due) → IsPut d old new → KeepsCounted old new
+put-counted old new d h = counted-alike old new (ap (λ (y : Shard _). y.core) h.shard) h.passing h.passed h.rows
+
+pub put-self : {D : Type 0} (old new : Runner D) (d : Due) → IsPut d old new → KeepsSelf old new
+put-self old new d h = record {
+  pass = ap (λ (y : Shard _). y.pass) h.shard;
+  place = ap (λ (y : Shard _). y.core.shard) h.shard;
+  room = h.room;
+}
+
+pub put-count : {D : Type 0} (old new : Runner D) (d : Due) → IsPut d old new → taken_by new ≡ taken_by old + 1
+put-count old new d h =
+    let due = ap length h.due_is ∙ length-append old.due.items (d ∷ []) in
+    let refused = ap length h.refused in
+    let asked = ap (λ (y : Shard _). length y.asked.items) h.shard in
+    let passing = ap (λ (y : Option Passing). length (option_to_list y)) h.passing in
+    let passed = ap length h.passed in
+    let handed = ap length h.handed in omega (arith, due, refused, asked, passing, passed, handed)
+
+-- ---- a part came
+
+pass-on : {D : Type 0} (told : D → Telling) (taken : Bool) (part : Part D) (old new : Shard (Parts D)) → IsPartTaken taken told part old new
+    → new.pass ≡ old.pass
+pass-on told true part old new taken = taken.1.pass
+pass-on told false part old new same = ap (λ (y : Shard _). y.pass) same
+
+pub handed-counted : {D : Type 0} (told : D → Telling) (old new : Runner D) (number : ℕ) (part : Part D) → IsHandedIn told number part old new
+    → KeepsCounted old new
+handed-counted told old new number part h =
+    counted-alike old new (core-on told h.taken part old.shard new.shard h.shard) h.passing h.passed h.rows
+
+pub handed-self : {D : Type 0} (told : D → Telling) (old new : Runner D) (number : ℕ) (part : Part D) → IsHandedIn told number part old new
+    → KeepsSelf old new
+handed-self told old new number part h = record {
+  pass = pass-on told h.taken part old.shard new.shard h.shard;
+  place = ap (λ (y : CoreView). y.shard) (core-on told h.taken part old.shard new.shard h.shard);
+  room = h.room;
+}
+
+pub handed-count : {D : Type 0} (told : D → Telling) (old new : Runner D) (number : ℕ) (part : Part D) → IsHandedIn told number part old new
+    → taken_by new ≡ taken_by old + 1
+handed-count told old new number part h =
+    let more : Handed = record { event = number; slot = part.slot; generation = part.generation; taken = h.taken } in
+    let handed = ap length h.handed ∙ length-append old.handed.items (more ∷ []) in
+    let refused = ap length h.refused in
+    let asked = ap length (asked-on told h.taken part old.shard new.shard h.shard) in
+    let passing = ap (λ (y : Option Passing). length (option_to_list y)) h.passing in
+    let passed = ap length h.passed in
+    let due = ap length h.due in omega (arith, due, refused, asked, passing, passed, handed)
