@@ -118,24 +118,3 @@ fn status<R: Wait + Threads + Files<File = File> + Sync>(rt: &HostRuntime, waits
 fn main(rt: HostRuntime) -> ExitCode {
     ExitCode::from(status(&rt, &rt))
 }
-
-#[cfg(test)]
-mod device_tests;
-#[cfg(test)]
-mod files;
-#[cfg(test)]
-mod run_tests;
-#[cfg(test)]
-mod runs;
-#[cfg(test)]
-mod simulate_losses;
-#[cfg(test)]
-mod simulate_requests;
-#[cfg(test)]
-mod simulate_tests;
-#[cfg(test)]
-mod simulate_turns;
-#[cfg(test)]
-mod tests;
-#[cfg(test)]
-mod transcripts;

@@ -1,6 +1,6 @@
 //! The command `run`, on files.
 
-use crate::device_tests::CONSISTENT;
+use crate::devices::CONSISTENT;
 use crate::files::{CREATED, FOUR_ROWS, RUN, SPARE, Step, play, settings_of};
 use crate::runs::ends_with;
 use std::test::Fail;
