@@ -14,6 +14,7 @@ use Rattle.r6_engine.specs.declared.report.Counts.{Counts}
 use Rattle.r6_engine.specs.declared.report.Report.{Report}
 use Rattle.r6_engine.specs.declared.report.RowFault.{RowFault}
 use Rattle.r6_engine.specs.declared.report.WrongRow.{WrongRow}
+use Rattle.r6_engine.specs.declared.row.SlotFault.{SlotFault}
 use Rattle.r6_engine.proofs.ReportLaws.{Checked, alike, checked_next, report_at_end, report_at_fault, total_with}
 
 -- ---- rows, noted one after another
@@ -86,6 +87,17 @@ part_at_end shape parts first end report so_far =
       is = ap (λ (r : Report). record r { fault = report.fault }) so_far.is;
       fault = subst (λ fault. IfSome fault (λ it. (it.row < end) × ReadFails shape parts it.row (record { slot = it.slot; fault = it.fault }))) (sym none) tt;
     }
+
+pub part_at_fault : (shape : Shape) (parts : Parts) (first end row : ℕ) (fault : SlotFault) (report : Report)
+    → Noted shape parts first row report → row < end → ReadFails shape parts row fault
+    → IsPartReport shape parts first end (record report { fault = Some (record { row = row; slot = fault.slot; fault = fault.fault }) })
+part_at_fault shape parts first end row fault report so_far within fails = record {
+  findings = so_far.findings;
+  are_found = so_far.are_found;
+  count = so_far.count;
+  is = ap (λ (r : Report). record r { fault = Some (record { row = row; slot = fault.slot; fault = fault.fault }) }) so_far.is;
+  fault = (within, fails);
+}
 
 -- ---- reports, joined
 

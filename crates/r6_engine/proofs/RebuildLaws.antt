@@ -5,6 +5,8 @@ use Rattle.std.proofs.lemmas.Bool.{cases_eq, cases_lt, false≢true}
 use Rattle.std.proofs.lemmas.Bool.Decides.{nat_tests}
 use Rattle.std.proofs.lemmas.List.{get_or_past}
 use Rattle.r6_dev.specs.History.{Block, Blocks, put}
+use Rattle.r6_dev.specs.declared.fault.Fault.{Fault}
+use Rattle.r6_dev.specs.declared.fault.Fault.TheVariants.{ReadFault}
 use Rattle.r6_layout.specs.Shape.{Shape, IsShape, data_slots}
 use Rattle.r6_layout.specs.Layout.{OwnsRow, shard_of, position_at}
 use Rattle.r6_layout.proofs.Roles.{position_at-slot_at}
@@ -142,3 +144,13 @@ source_fails shape target row old new fault is within away fails =
       of_target = λ same. absurd (apart same);
       only_read = λ same. absurd (apart same);
     }
+
+-- the target itself failed
+pub target_fails : (shape : Shape) (target : ℕ) (old new : Parts) (fault : Fault) → target < shape.slots → OnlyRead old new → fault ≢ ReadFault
+    → RebuildFails shape target old new (record { slot = target; fault = fault })
+target_fails shape target old new fault within read other = record {
+  within = within;
+  of_source = λ apart. absurd (apart refl);
+  of_target = λ _. other;
+  only_read = λ _. read;
+}
