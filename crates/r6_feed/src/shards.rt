@@ -5,8 +5,7 @@ ghost use Rattle.std.specs.Prelude.{◌≡◌, ◌+◌, ◌<◌, length};
 use r6_dev::BlockDevice;
 use r6_health::Register;
 use r6_layout::Geometry;
-use r6_lists::{Events, Item, List, Producer};
-use r6_runner::Rest;
+use r6_lists::{Events, Item, List, Producer, Rest};
 use std::sync::{Mutex, Wait};
 use std::thread;
 

@@ -6,7 +6,6 @@ mod due;
 mod making;
 mod pass;
 mod passing;
-mod rest;
 mod run;
 mod runner;
 mod splitting;
@@ -14,6 +13,5 @@ mod taking;
 
 pub use due::{Due, Duty};
 pub use pass::{Passed, Passing};
-pub use rest::Rest;
 pub use run::Taking;
 pub use runner::{Handed, Runner};

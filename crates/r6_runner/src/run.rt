@@ -8,12 +8,11 @@ ghost use Rattle.r6_runner.specs.Runners.{GoesOn, GoesOnSame, IsOver, KeepsSelf,
 ghost use Rattle.r6_runner.specs.Sound.{KeepsPromised, KeepsSound};
 ghost use Rattle.r6_runner.specs.Waits.{HasAwaited, KeepsAwaited};
 
-use crate::rest::Rest;
 use crate::runner::Runner;
 use r6_core::Task;
 use r6_dev::BlockDevice;
 use r6_health::Register;
-use r6_lists::{Consumer, Events, List};
+use r6_lists::{Consumer, Events, List, Rest};
 use std::sync::{Mutex, Wait};
 use std::thread;
 

@@ -4,7 +4,7 @@ use crate::answers::Answer;
 use crate::asks::Ask;
 use crate::runner_bench::{Ended, take};
 use r6_core::Task;
-use r6_runner::Rest;
+use r6_lists::Rest;
 use std::process::Abort;
 use std::test::Fail;
 

@@ -33,13 +33,13 @@ impl Rest {
         self.found.load(Ordering::SeqCst) >= number
     }
 
-    // How many times it was asked.
-    pub(crate) fn asked(&self) -> u64 {
+    /// How many times it was asked.
+    pub fn asked(&self) -> u64 {
         self.asked.load(Ordering::SeqCst)
     }
 
-    // The shard rested at a moment behind this time of asking.
-    pub(crate) fn found(&self, number: u64) {
+    /// The shard rested at a moment behind this time of asking.
+    pub fn found(&self, number: u64) {
         self.found.store(number, Ordering::SeqCst);
     }
 }
