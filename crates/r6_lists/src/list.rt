@@ -85,7 +85,14 @@ impl<L: Events, D: BlockDevice + Drop> List<L, D> {
     fn is_open_to(&self, item: &Item<L, D>) -> bool
         ensures { IsTrue result ↔ ((self.now.shard ≡ item.now.shard) × (self.now.stage ≡ Open)) }
     {
-        self.shard == item.shard && self.stage == Stage::Open
+        self.shard == item.shard && self.is_open()
+    }
+
+    // Whether the list was not ended.
+    fn is_open(&self) -> bool
+        ensures { IsTrue result ↔ (self.now.stage ≡ Open) }
+    {
+        self.stage == Stage::Open
     }
 
     /// Says that nothing more is put in; answers whether the list was open. If it wasn't, nothing changes.
@@ -98,7 +105,7 @@ impl<L: Events, D: BlockDevice + Drop> List<L, D> {
         ensures left { producer.new.left ≡ 0 }
         ensures not { result ≡ false → (self.new ≡ self.old) × (producer.new ≡ producer.old) }
     {
-        if self.stage != Stage::Open {
+        if !self.is_open() {
             return false;
         }
         producer.leave(&mut self.stock);
@@ -137,9 +144,16 @@ impl<L: Events, D: BlockDevice + Drop> List<L, D> {
             (self.now.shard ≡ consumer.now.shard) × IsBehind consumer.now.numbers.items item.number) }
     {
         match self.items.front() {
-            Some(item) => self.shard == consumer.shard && consumer.is_behind(item.number),
+            Some(item) => self.is_of(consumer) && consumer.is_behind(item.number),
             None => false,
         }
+    }
+
+    // Whether the list is that of the consumer's shard.
+    fn is_of(&self, consumer: &Consumer<L>) -> bool
+        ensures { IsTrue result ↔ (self.now.shard ≡ consumer.now.shard) }
+    {
+        self.shard == consumer.shard
     }
 
     /// Finishes a list that was ended and of which all was taken, if it is that of the consumer's shard, and answers
@@ -154,7 +168,7 @@ impl<L: Events, D: BlockDevice + Drop> List<L, D> {
             × (consumer.new.numbers ≡ consumer.old.numbers) }
         ensures not { result ≡ false → (self.new ≡ self.old) × (consumer.new ≡ consumer.old) }
     {
-        if self.stage != Stage::Ended || !self.items.is_empty() || self.shard != consumer.shard {
+        if self.stage != Stage::Ended || !self.items.is_empty() || !self.is_of(consumer) {
             return false;
         }
         consumer.finish(&mut self.stock);
