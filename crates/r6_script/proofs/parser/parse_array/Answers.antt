@@ -1,4 +1,4 @@
-use Rattle.std.proofs.Common.{◌≡◌, ◌++◌, ◌∷◌, None, rules, ap, sym, ◌∙◌, codes, decimal}
+use Rattle.std.proofs.Common.{◌++◌, ◌∷◌, ap, sym, ◌∙◌, codes, decimal}
 use Rattle.r6_layout.specs.Shape.{shape_of}
 use Rattle.r6_script.specs.Script.{Text}
 use Rattle.r6_script.proofs.ScriptLemmas.{after_array, from_chunk, from_block, from_rows, from_shards, made_array, numbers_of, peeled, stripped}
@@ -6,8 +6,7 @@ use Rattle.r6_script.proofs.parser.parse_array.Goals as goal
 
 pub returns-in_err-chunk : goal.returns-in_err-chunk
 returns-in_err-chunk c =
-    let none : c.from_residual-in_err-chunk.result ≡ None = search rules in
-    rw none (λ shape is e.
+    rw c.from_residual-in_err-chunk.ensures (λ shape is e.
     let numbers = numbers_of shape is in
     let is_slots = after_array c.in_ok-text.text.now shape (sym (stripped (codes "array ") c.args.line.now c.in_ok-text.text.now _ c.in_ok-text.ensures.cases.1 c.in_ok-text.ensures.cases.2) ∙ e) in
     let is_chunk = (peeled c.in_ok-text.text.now c.in_ok-slots.slots shape.slots c.in_ok-slots.text.now (from_chunk shape) c.in_ok-slots.ensures.0 numbers.slots c.in_ok-slots.ensures.1 is_slots).1 in
@@ -15,8 +14,7 @@ returns-in_err-chunk c =
 
 pub returns-in_err-block : goal.returns-in_err-block
 returns-in_err-block c =
-    let none : c.from_residual-in_err-block.result ≡ None = search rules in
-    rw none (λ shape is e.
+    rw c.from_residual-in_err-block.ensures (λ shape is e.
     let numbers = numbers_of shape is in
     let is_slots = after_array c.in_ok-text.text.now shape (sym (stripped (codes "array ") c.args.line.now c.in_ok-text.text.now _ c.in_ok-text.ensures.cases.1 c.in_ok-text.ensures.cases.2) ∙ e) in
     let is_chunk = (peeled c.in_ok-text.text.now c.in_ok-slots.slots shape.slots c.in_ok-slots.text.now (from_chunk shape) c.in_ok-slots.ensures.0 numbers.slots c.in_ok-slots.ensures.1 is_slots).1 in
@@ -25,8 +23,7 @@ returns-in_err-block c =
 
 pub returns-in_err-rows : goal.returns-in_err-rows
 returns-in_err-rows c =
-    let none : c.from_residual-in_err-rows.result ≡ None = search rules in
-    rw none (λ shape is e.
+    rw c.from_residual-in_err-rows.ensures (λ shape is e.
     let numbers = numbers_of shape is in
     let is_slots = after_array c.in_ok-text.text.now shape (sym (stripped (codes "array ") c.args.line.now c.in_ok-text.text.now _ c.in_ok-text.ensures.cases.1 c.in_ok-text.ensures.cases.2) ∙ e) in
     let is_chunk = (peeled c.in_ok-text.text.now c.in_ok-slots.slots shape.slots c.in_ok-slots.text.now (from_chunk shape) c.in_ok-slots.ensures.0 numbers.slots c.in_ok-slots.ensures.1 is_slots).1 in
@@ -36,8 +33,7 @@ returns-in_err-rows c =
 
 pub returns-in_err-shards : goal.returns-in_err-shards
 returns-in_err-shards c =
-    let none : c.from_residual-in_err-shards.result ≡ None = search rules in
-    rw none (λ shape is e.
+    rw c.from_residual-in_err-shards.ensures (λ shape is e.
     let numbers = numbers_of shape is in
     let is_slots = after_array c.in_ok-text.text.now shape (sym (stripped (codes "array ") c.args.line.now c.in_ok-text.text.now _ c.in_ok-text.ensures.cases.1 c.in_ok-text.ensures.cases.2) ∙ e) in
     let is_chunk = (peeled c.in_ok-text.text.now c.in_ok-slots.slots shape.slots c.in_ok-slots.text.now (from_chunk shape) c.in_ok-slots.ensures.0 numbers.slots c.in_ok-slots.ensures.1 is_slots).1 in
