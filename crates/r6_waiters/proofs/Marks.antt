@@ -268,3 +268,26 @@ marked_other sets words cause c i other = ap (λ (l : List ℕ). has l i) (get_o
 
 pub marked_same : (sets : List (List ℕ)) (words : List ℕ) (cause c i : ℕ) → cause < length sets → c ≡ cause → is_marked (set sets cause words) c i ≡ has words i
 marked_same sets words cause c i within same = rw same (ap (λ (l : List ℕ). has l i) (get_or-set_same sets cause words [] within))
+
+-- one more position in a set that was read
+pub marked-into : (sets : List (List ℕ)) (words old : List ℕ) (cause p : ℕ) → cause < length sets
+    → old ≡ get_or sets cause old → ((i : ℕ) → has words i ≡ (if i == p then true else has old i))
+    → (c i : ℕ) → is_marked (set sets cause words) c i
+    ≡ (if (i == p) && (cause == c) then true else is_marked sets c i)
+marked-into sets words old cause p within is bits c i =
+    let read = get_or_read sets cause old within is [] in
+    let put = λ (j : ℕ). bits j ∙ ap (λ (l : List ℕ). if j == p then true else has l j) read in
+    let both = exchanged (c == cause) (i == p) ∙ ap (λ (b : Bool). (i == p) && b) turned in
+    marked-put sets words cause p true within put c i ∙ ap (λ (b : Bool). if b then true else is_marked sets c i) both
+  where
+    exchanged : (x y : Bool) → (x && y) ≡ (y && x)
+    exchanged true true = refl
+    exchanged true false = refl
+    exchanged false true = refl
+    exchanged false false = refl
+
+    turned : (c == cause) ≡ (cause == c)
+    turned = elim (cases_eq c cause) [
+      | inl same ↦ eq-eqb c cause same ∙ sym (eq-eqb cause c (sym same))
+      | inr other ↦ ne_eqb c cause other ∙ sym (ne_eqb cause c (λ e. other (sym e)))
+    ]
