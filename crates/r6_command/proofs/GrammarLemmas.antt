@@ -30,17 +30,20 @@ help = filled help_rule
 
 -- ---- help is the only option
 
+not_nil : {A : Type 0} {x : A} {xs : List A} → x ∷ xs ≡ [] → ⊥
+not_nil e = cc
+
 help_long : (rules : List Rule) (b : Bool) (v : Option Text) (h : Held) → long_fault rules false (cond b (Some help) None) v h ≡ [] → ⊥
-help_long rules false v h e = cc
+help_long rules false v h e = not_nil e
 help_long rules true None h e =
-    let asked : use_fault false help [] (settled rules h).rows ≡ [] = or_else_next (settle_fault rules false h) _ e in cc
-help_long rules true (Some v) h e = cc
+    let asked : use_fault false help [] (settled rules h).rows ≡ [] = or_else_next (settle_fault rules false h) _ e in not_nil asked
+help_long rules true (Some v) h e = not_nil e
 
 help_short : (rules : List Rule) (b : Bool) (rest : Text) (h : Held) (next : Held → Kinds) → short_fault rules false (cond b (Some help) None) rest h next ≡ [] → ⊥
-help_short rules false rest h next e = cc
+help_short rules false rest h next e = not_nil e
 help_short rules true rest h next e =
     let reacts : react_fault rules false help [] h ≡ [] = or_else_first _ _ e in
-    let asked : use_fault false help [] (settled rules h).rows ≡ [] = or_else_next (settle_fault rules false h) _ reacts in cc
+    let asked : use_fault false help [] (settled rules h).rows ≡ [] = or_else_next (settle_fault rules false h) _ reacts in not_nil asked
 
 one_has_no_option : (name : Text) → NoOption (one_path name)
 one_has_no_option name = record {
@@ -93,14 +96,14 @@ module _ (name : Text) where
   one_full : (path : Text) (words : List Text) → Ends one [] (walk_at [] (Some (first, path ∷ [])) 2 true) words (OneLeft path words)
   unfolding walk_fault
   one_full path [] = λ e f. (refl, refl)
-  one_full path (word ∷ words) = trailing_word one [] [] (Some (first, path ∷ [])) 2 word words (OneLeft path (word ∷ words)) (λ e. cc)
+  one_full path (word ∷ words) = trailing_word one [] [] (Some (first, path ∷ [])) 2 word words (OneLeft path (word ∷ words)) (λ e. absurd (not_nil e))
 
   one_after : (path : Text) (words : List Text) → Ends one [] (walk_at [] (Some (first, path ∷ [])) 2 false) words (OneLeft path (operands words))
   unfolding walk_fault
   one_after path [] = λ e f. (refl, refl)
   one_after path (word ∷ words) = next_word one [] [] (Some (first, path ∷ [])) 2 word words (OneLeft path (operands (word ∷ words))) (one_has_no_option name) refl
       (λ is e f. let r = one_full path words e f in (r.0, past_dashes word words is ∙ r.1))
-      (λ is e. cc)
+      (λ is e. absurd (not_nil e))
 
   -- where nothing is wrong at the end, the paths are the one that was found
   abbrev OnePath : List Text → Walk → Type 0
@@ -108,13 +111,13 @@ module _ (name : Text) where
 
   one_trailing : (words : List Text) → Ends one [] (walk_at [] None 1 true) words (OnePath words)
   unfolding walk_fault defaults_fault
-  one_trailing [] = λ e f. cc
+  one_trailing [] = λ e f. absurd (not_nil f)
   one_trailing (word ∷ words) = trailing_word one [] [] None 1 word words (OnePath (word ∷ words))
       (λ _ e f. let r = one_full word words e f in (word, r.0, ap (λ ws. word ∷ ws) r.1))
 
   one_from : (words : List Text) → Ends one [] (walk_at [] None 1 false) words (OnePath (operands words))
   unfolding walk_fault defaults_fault
-  one_from [] = λ e f. cc
+  one_from [] = λ e f. absurd (not_nil f)
   one_from (word ∷ words) = next_word one [] [] None 1 word words (OnePath (operands (word ∷ words))) (one_has_no_option name) refl
       (λ is e f. let r = one_trailing words e f in (r.0, r.1, past_dashes word words is ∙ r.2))
       (λ is _ e f. let r = one_after word words e f in (word, r.0, no_dashes word words is ∙ ap (λ ws. word ∷ ws) r.1))
@@ -139,14 +142,14 @@ module _ (name : Text) where
   two_full : (path script : Text) (words : List Text) → Ends two [] (with_second path script true) words (BothLeft path script words)
   unfolding walk_fault
   two_full path script [] = λ e f. ((refl, refl), refl)
-  two_full path script (word ∷ words) = trailing_word two [] (with_second path script true).held.rows (with_second path script true).held.pending 3 word words (BothLeft path script (word ∷ words)) (λ e. cc)
+  two_full path script (word ∷ words) = trailing_word two [] (with_second path script true).held.rows (with_second path script true).held.pending 3 word words (BothLeft path script (word ∷ words)) (λ e. absurd (not_nil e))
 
   two_after : (path script : Text) (words : List Text) → Ends two [] (with_second path script false) words (BothLeft path script (operands words))
   unfolding walk_fault
   two_after path script [] = λ e f. ((refl, refl), refl)
   two_after path script (word ∷ words) = next_word two [] (with_second path script false).held.rows (with_second path script false).held.pending 3 word words (BothLeft path script (operands (word ∷ words))) (two_have_no_option name) refl
       (λ is e f. let r = two_full path script words e f in (r.0, past_dashes word words is ∙ r.1))
-      (λ is e. cc)
+      (λ is e. absurd (not_nil e))
 
   -- where nothing is wrong at the end, the paths after the first are the one that was found
   abbrev SecondPath : Text → List Text → Walk → Type 0
@@ -154,13 +157,13 @@ module _ (name : Text) where
 
   second_trailing : (path : Text) (words : List Text) → Ends two [] (with_first path true) words (SecondPath path words)
   unfolding walk_fault defaults_fault
-  second_trailing path [] = λ e f. cc
+  second_trailing path [] = λ e f. absurd (not_nil f)
   second_trailing path (word ∷ words) = trailing_word two [] [] (Some (first, path ∷ [])) 2 word words (SecondPath path (word ∷ words))
       (λ _ e f. let r = two_full path word words e f in (word, r.0, ap (λ ws. word ∷ ws) r.1))
 
   second_from : (path : Text) (words : List Text) → Ends two [] (with_first path false) words (SecondPath path (operands words))
   unfolding walk_fault defaults_fault
-  second_from path [] = λ e f. cc
+  second_from path [] = λ e f. absurd (not_nil f)
   second_from path (word ∷ words) = next_word two [] [] (Some (first, path ∷ [])) 2 word words (SecondPath path (operands (word ∷ words))) (two_have_no_option name) refl
       (λ is e f. let r = second_trailing path words e f in (r.0, r.1, past_dashes word words is ∙ r.2))
       (λ is _ e f. let r = two_after path word words e f in (word, r.0, no_dashes word words is ∙ ap (λ ws. word ∷ ws) r.1))
@@ -171,13 +174,13 @@ module _ (name : Text) where
 
   two_trailing : (words : List Text) → Ends two [] (walk_at [] None 1 true) words (TwoPaths words)
   unfolding walk_fault defaults_fault
-  two_trailing [] = λ e f. cc
+  two_trailing [] = λ e f. absurd (not_nil f)
   two_trailing (word ∷ words) = trailing_word two [] [] None 1 word words (TwoPaths (word ∷ words))
       (λ _ e f. let r = second_trailing word words e f in (word, r.0, r.1, ap (λ ws. word ∷ ws) r.2))
 
   two_from : (words : List Text) → Ends two [] (walk_at [] None 1 false) words (TwoPaths (operands words))
   unfolding walk_fault defaults_fault
-  two_from [] = λ e f. cc
+  two_from [] = λ e f. absurd (not_nil f)
   two_from (word ∷ words) = next_word two [] [] None 1 word words (TwoPaths (operands (word ∷ words))) (two_have_no_option name) refl
       (λ is e f. let r = two_trailing words e f in (r.0, r.1, r.2, past_dashes word words is ∙ r.3))
       (λ is _ e f. let r = second_from word words e f in (word, r.0, r.1, no_dashes word words is ∙ ap (λ ws. word ∷ ws) r.2))
@@ -204,12 +207,12 @@ IsRefused w = top_fault w ≡ [] → ⊥
 
 top_trailing : (words : List Text) → Ends top names (walk_at [] None 1 true) words IsRefused
 unfolding walk_fault defaults_fault
-top_trailing [] = λ e f. cc
-top_trailing (word ∷ words) = trailing_word top names [] None 1 word words IsRefused (λ e. cc)
+top_trailing [] = λ e f. not_nil f
+top_trailing (word ∷ words) = trailing_word top names [] None 1 word words IsRefused (λ e. absurd (not_nil e))
 
 -- a word that names no command is refused
 no_command : (name : Text) (words : List Text) → subcommand_met names idle name ≡ None → Ends top names start (name ∷ words) IsRefused
-no_command name words other = next_word top names [] None 1 name words IsRefused top_has_no_option other (λ _. top_trailing words) (λ is e. cc)
+no_command name words other = next_word top names [] None 1 name words IsRefused top_has_no_option other (λ _. top_trailing words) (λ is e. absurd (not_nil e))
 
 -- the walk stops at a command's name, with the words after it
 abbrev pub stopped_at : Text → List Text → Walk
@@ -314,8 +317,8 @@ by_names name words false false false false false e1 e2 e3 e4 e5 e =
 -- words in which clap finds no fault are a command's, and clap finds what they say
 pub accepted : (words : List Text) → fault_of grammar words ≡ [] → (asked : Asked) × (asked_in (subcommand_of grammar words) ≡ Some asked) × (said words ≡ Some asked)
 unfolding walk_fault defaults_fault
-accepted [] e = cc
-accepted (program ∷ []) e = cc
+accepted [] e = absurd (not_nil e)
+accepted (program ∷ []) e = absurd (not_nil e)
 accepted (program ∷ name ∷ words) e =
     by_names name words (bytes_eq (codes "geometry") name) (bytes_eq (codes "create") name) (bytes_eq (codes "verify") name) (bytes_eq (codes "simulate") name) (bytes_eq (codes "run") name)
     refl refl refl refl refl e

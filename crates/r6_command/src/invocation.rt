@@ -1,10 +1,11 @@
 //! The words of the command line.
-ghost use Rattle.std.specs.Prelude.{◌≡◌, ◌≢◌, Some, IfErr, IfOk, option_map, false};
+ghost use Rattle.std.specs.Prelude.{◌≡◌, ◌≢◌, Some, IfErr, IfOk, codes, option_map, false};
 ghost use Rattle.clap.specs.Words.{app_of, rule_of, subcommand_rows_of};
 ghost use Rattle.clap.specs.declared.builder.command.Command.TheViews.{out-Command as fields_of};
 ghost use Rattle.r6_command.specs.CommandLine.{SaysNoCommand, asked_of, said, texts};
 ghost use Rattle.clap.specs.Values.{kind_of};
 ghost use Rattle.clap.specs.declared.error.kind.ErrorKind.TheVariants.{OutOfMemory};
+ghost use Rattle.r6_command.specs.declared.invocation.Paths.TheVariants.{Config};
 ghost use Rattle.r6_command.specs.Grammar.{Finds, asked_in, grammar, named, path_rule, program, with_command, with_one_path, with_paths, with_two_paths};
 
 use crate::fault::CommandFault;
@@ -131,10 +132,11 @@ fn with_shown<'a>(
     program.subcommand(with_paths(alloc, name, paths)?.about(about))
 }
 
-fn grammar<'a>(alloc: Global) -> Result<Command<'a>, AllocError>
-    ensures { IfOk result (λ made. app_of made ≡ grammar) }
+// The program with the commands that have a settings file and nothing else.
+fn with_settings<'a>(alloc: Global, program: Command<'a>) -> Result<Command<'a>, AllocError>
+    ensures { IfOk result (λ made. app_of made ≡ with_command (with_command (with_command (app_of program.entry)
+        Config (codes "geometry")) Config (codes "create")) Config (codes "verify")) }
 {
-    let program = program(alloc);
     let program = with_shown(
         alloc,
         program,
@@ -149,13 +151,19 @@ fn grammar<'a>(alloc: Global) -> Result<Command<'a>, AllocError>
         Paths::Config,
         "Make the array's device files, of zeros",
     )?;
-    let program = with_shown(
+    with_shown(
         alloc,
         program,
         "verify",
         Paths::Config,
         "Read every row of the device files, and count the rows by class",
-    )?;
+    )
+}
+
+fn grammar<'a>(alloc: Global) -> Result<Command<'a>, AllocError>
+    ensures { IfOk result (λ made. app_of made ≡ grammar) }
+{
+    let program = with_settings(alloc, program(alloc))?;
     let program = with_shown(
         alloc,
         program,
