@@ -132,7 +132,8 @@ impl HoldState {
         match self.task {
             Some(Task::Rebuild(target)) => self.is_lost(target),
             Some(Task::Check | Task::Repair) => self.cut_short,
-            Some(Task::Read(_) | Task::Write(_)) => false,
+            Some(Task::Read(_)) => false,
+            Some(Task::Write(_)) => false,
             None => true,
         }
     }
