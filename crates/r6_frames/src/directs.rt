@@ -114,10 +114,7 @@ impl Rows {
         requires awaited { IsAwaited (view_of self.now) token }
         ensures { IsTrue result ↔ IsOfRead (view_of self.now) token }
     {
-        let Some(command) = self.commands.get(token) else {
-            unreachable!()
-        };
-        command.frame >= FRAMES
+        self.command(token).frame >= FRAMES
     }
 
     pub(crate) fn answer_read(&mut self, token: u64, buffer: Buffer) -> Request

@@ -21,12 +21,12 @@ ghost use Rattle.r6_frames.specs.declared.op.Op.TheVariants as requested;
 ghost use Rattle.r6_frames.specs.Slots.{slot_before, slot_in, AreUsed};
 ghost use Rattle.r6_frames.specs.Inside.{view_of, HasRoom};
 ghost use Rattle.r6_frames.specs.Sound.{IsSound, IsToldLive, MayHold};
-ghost use Rattle.r6_frames.specs.Uses.{begun_row, none_held, IsForRow};
+ghost use Rattle.r6_frames.specs.Uses.{begun_row, IsForRow};
 
 use crate::bits::{lowest, take_lowest, with_bit};
 use crate::command::Outstanding;
 use crate::directs::DIRECTS;
-use crate::frames::{FRAMES, FrameUse, HeldRow, Job, Scrub, Served};
+use crate::frames::{FRAMES, FrameUse, HeldRow, Job, Scrub, Served, free_frames};
 use crate::pool::Pool;
 use crate::rebuilt::Target;
 use crate::slots::{Device, Slot};
@@ -388,17 +388,6 @@ fn spare_frames(alloc: Global, slots: usize, block: usize) -> Result<Vec<Frame>,
         spare.push_reserved(Frame::new(alloc, slots, block)?);
     }
     Ok(spare)
-}
-
-// Frames in which no row is held.
-fn free_frames(alloc: Global) -> Result<Vec<FrameUse>, AllocError>
-    ensures { IfOk result (λ held. held.items ≡ none_held frames) }
-{
-    let mut held = Vec::with_capacity(alloc, FRAMES)?;
-    for _ in 0..FRAMES {
-        held.push_reserved(FrameUse::Free);
-    }
-    Ok(held)
 }
 
 // The frame is used for this in place of what it was used for.

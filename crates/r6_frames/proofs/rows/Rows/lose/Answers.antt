@@ -11,11 +11,11 @@ use Rattle.r6_frames.proofs.Losing.{loses}
 use Rattle.r6_frames.proofs.rows.Rows.lose.Goals as goal
 
 pub take_out-requires-clause-slot : goal.take_out-requires-clause-slot
-take_out-requires-clause-slot c = (c.requires.sound.commands.lawful c.args.token c.in-Some.command.now (sym c.in-Some.ensures)).0
+take_out-requires-clause-slot c = (c.requires.sound.commands.lawful c.args.token c.command-asked.result.now c.command-asked.ensures).0
 
 pub returns-clause-loses : goal.returns-clause-loses
 returns-clause-loses c =
-    loses (view_of c.args.self.now) c.args.token c.in-Some.command.now (view_of c.take_out.new.self) (view_of c.come_home.new.self) (sym c.in-Some.ensures) c.requires.awaited.2 c.requires.wanted c.take_out.ensures.takes c.come_home.ensures.comes
+    loses (view_of c.args.self.now) c.args.token c.command-asked.result.now (view_of c.take_out.new.self) (view_of c.come_home.new.self) c.command-asked.ensures c.requires.awaited.2 c.requires.wanted c.take_out.ensures.takes c.come_home.ensures.comes
 
 pub returns-clause-rows : goal.returns-clause-rows
 returns-clause-rows c = λ frame. rows_kept (hold_at c.take_out.new.self.held.items frame) (hold_at c.come_home.new.self.held.items frame) (c.come_home.ensures.holds frame) ∙ c.take_out.ensures.rows frame
@@ -38,7 +38,7 @@ come_home-requires-clause-room c = c.take_out.ensures.room
 pub come_home-requires-clause-awaited : goal.come_home-requires-clause-awaited
 come_home-requires-clause-awaited c =
     let same = c.take_out.ensures.commands in
-    (c.in-Some.command.now, ap (λ (commands : Commands). map.get commands.entries c.args.token) same.0 ∙ sym c.in-Some.ensures, subst (λ (n : ℕ). c.args.token < n) (sym same.1) c.requires.awaited.2)
+    (c.command-asked.result.now, ap (λ (commands : Commands). map.get commands.entries c.args.token) same.0 ∙ c.command-asked.ensures, subst (λ (n : ℕ). c.args.token < n) (sym same.1) c.requires.awaited.2)
 
 pub come_home-requires-clause-size : goal.come_home-requires-clause-size
 come_home-requires-clause-size c = c.requires.size ∙ ap (λ (shape : Shape). shape.block) (sym c.take_out.ensures.takes.0)

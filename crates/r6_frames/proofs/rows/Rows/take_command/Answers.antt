@@ -1,11 +1,39 @@
-use Rattle.std.proofs.Common.{◌≡◌, ◌<◌, ◌+◌, Some, sym, ap, subst, ◌∙◌, arith}
-use Rattle.std.specs.Prelude.{option_copied}
+use Rattle.std.proofs.Common.{◌≡◌, ◌<◌, ◌+◌, ℕ, List, true, Option, Some, None, refl, sym, ap, subst, ◌∙◌, arith}
+use Rattle.std.specs.Prelude.{IfSome, option_copied, option_map}
+use Rattle.std.proofs.lemmas.Bool.{lt-ltb}
+use Rattle.r6_world.specs.ShardStates as shards
+use Rattle.r6_frames.specs.declared.command.Outstanding.{Outstanding}
+use Rattle.r6_frames.specs.declared.slots.Slot.{Slot}
 use Rattle.r6_frames.specs.Inside.{view_of, commands_in}
-use Rattle.r6_frames.specs.Views.{outstanding}
+use Rattle.r6_frames.specs.Views.{command_of, outstanding}
 use Rattle.r6_frames.specs.Slots.{is_abandoned}
 use Rattle.r6_frames.specs.Sound.{IsSound}
 use Rattle.r6_frames.proofs.Takings.{taken_of, taken_sound, taken_fits, taken_step}
 use Rattle.r6_frames.proofs.rows.Rows.take_command.Goals as goal
+
+-- a command with a lower token than those that weren't taken was taken
+was_taken : (slots : List Slot) (handed token : ℕ) (found : Option Outstanding) (command : shards.Command)
+    → ((one : Outstanding) → found ≡ Some one → token < handed) → option_map (command_of slots handed token) found ≡ Some command
+    → command.taken ≡ true
+was_taken slots handed token None command below is = absurd (cc)
+was_taken slots handed token (Some one) command below is =
+    subst (λ (o : Option shards.Command). IfSome o (λ c. c.taken ≡ true)) is (lt-ltb token handed (below one refl))
+
+pub returns-then-self-next-clause-step : goal.returns-then-self-next-clause-step
+returns-then-self-next-clause-step c =
+    let fs = view_of c.args.self.now in
+    let all : fs.commands.next ≡ fs.handed = sym (c.if-self-next.true ∙ c.next.ensures) in
+    let given = c.requires.sound.commands.given in (
+      refl,
+      refl,
+      λ rest. (
+        λ token command is.
+            was_taken fs.slots fs.handed token (outstanding fs token) command
+            (λ one there. subst (λ (n : ℕ). token < n) all (given token one there)) is,
+        refl,
+      ),
+      refl,
+    )
 
 pub returns-clause-sound : goal.returns-clause-sound
 returns-clause-sound c =

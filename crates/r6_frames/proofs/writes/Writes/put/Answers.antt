@@ -1,7 +1,9 @@
-use Rattle.std.proofs.Common.{◌≡◌, ◌∙◌, List, ℕ, false, length, sym, ap, subst, arith}
+use Rattle.std.proofs.Common.{◌≡◌, ◌∷◌, ◌∙◌, List, ℕ, false, length, sym, ap, subst, arith}
 use Rattle.r6_stripe.specs.Batches.{NewBlocks}
 use Rattle.r6_stripe.specs.BatchLists.{AreDistinct}
 use Rattle.r6_stripe.specs.Plans.{names}
+use Rattle.r6_frames.specs.declared.frames.Served.{Served}
+use Rattle.r6_frames.specs.Writes.{Entry, entries_of}
 use Rattle.r6_frames.proofs.Batches.{blocks_as}
 use Rattle.r6_frames.proofs.writes.Writes.put.Goals as goal
 
@@ -19,3 +21,10 @@ invariant_of-self c =
       side_by_side = omega (arith, ap length c.push.ensures, ap (λ (v : NewBlocks). length v.blocks) c.put.ensures.added, c.self.invariant.side_by_side);
       distinct = subst (λ (v : NewBlocks). AreDistinct v.blocks) (sym c.put.ensures.added) (new, c.self.invariant.distinct);
     }
+
+pub returns : goal.returns
+returns c =
+    let write : Entry = record { served = c.args.served; index = c.args.index; new_data = c.args.buffer } in
+    ap (λ (served : List Served). entries_of served c.put.new.self.blocks) c.push.ensures
+    ∙ ap (λ (batch : NewBlocks). entries_of (c.args.served ∷ c.self.inside.served) batch.blocks) c.put.ensures.added
+    ∙ ap (λ (rest : List Entry). write ∷ rest) c.self.view_is

@@ -1,7 +1,8 @@
-use Rattle.std.proofs.Common.{[], ◌∷◌, ◌++◌, length, ap, ◌∙◌, arith}
+use Rattle.std.proofs.Common.{◌≡◌, [], ◌∷◌, ◌++◌, length, ap, ◌∙◌, arith}
 use Rattle.std.proofs.lemmas.List.{length-replicate, replicate_more}
 use Rattle.r6_frames.specs.declared.frames.FrameUse.TheVariants.{Free}
-use Rattle.r6_frames.proofs.rows.free_frames.Goals as goal
+use Rattle.r6_frames.specs.Uses.{none_held}
+use Rattle.r6_frames.proofs.frames.free_frames.Goals as goal
 
 pub push_reserved-requires : goal.push_reserved-requires
 push_reserved-requires c =
@@ -14,3 +15,8 @@ loop-preserved c = record {
   held = c.push_reserved.ensures.items ∙ ap (λ held. held ++ Free ∷ []) c.loop.invariant.held ∙ replicate_more c.loop.counter Free;
   room = let room = c.loop.invariant.room in let same = c.push_reserved.ensures.capacity in omega arith;
 }
+
+pub returns : goal.returns
+returns c =
+    let all : c.loop.counter ≡ 64 = omega (arith, c.loop.auto.counter-end, c.loop-test.false) in
+    c.loop.invariant.held ∙ ap none_held all
