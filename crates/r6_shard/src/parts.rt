@@ -19,6 +19,17 @@ pub struct Part<D> {
     pub device: D,
 }
 
+impl<D> Part<D> {
+    ghost use Rattle.r6_shard.specs.Parts.{is_of};
+
+    // Whether it is of the device that the slot has with this generation.
+    fn is_of(&self, slot: usize, generation: u32) -> bool
+        ensures { result ≡ is_of slot generation self.now }
+    {
+        self.slot == slot && self.generation == generation
+    }
+}
+
 /// The parts that a shard has, at most one for a slot and generation.
 #[derive(Drop)]
 pub struct Parts<D> {
@@ -71,7 +82,7 @@ impl<D: BlockDevice + Drop> Parts<D> {
     {
         self.parts
             .iter()
-            .position(|part| part.slot == slot && part.generation == generation)
+            .position(|part| part.is_of(slot, generation))
     }
 }
 

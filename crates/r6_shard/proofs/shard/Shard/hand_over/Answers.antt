@@ -33,3 +33,6 @@ returns-in-Err-clause-refused g c =
       course = c.await_turn.ensures.course;
       asked = c.await_turn.ensures.asked;
     })
+
+pub returns-in-Ok-clause-refused : goal.returns-in-Ok-clause-refused
+returns-in-Ok-clause-refused g c = tt

@@ -1,4 +1,4 @@
-use Rattle.std.proofs.Common.{sym, subst}
+use Rattle.std.proofs.Common.{refl, sym, subst}
 use Rattle.r6_shard.specs.Own.{AreOwn, SeesFailure}
 use Rattle.r6_shard.specs.Whole.{SawWithPass}
 use Rattle.r6_shard.proofs.shard.Shard.split_pass.Goals as goal
@@ -17,3 +17,17 @@ pub invariant_of-self-clause-saw : goal.invariant_of-self-clause-saw
 invariant_of-self-clause-saw g c =
     let old = c.args.self.now in
     subst (SawWithPass old.saw_out) (sym c.split.ensures.same) old.saw
+
+pub returns-clause-kept : goal.returns-clause-kept
+returns-clause-kept g c =
+    record {
+      core = refl;
+      parts = refl;
+      view = c.split.ensures.same;
+      asked = refl;
+      entries = refl;
+      room = refl;
+      named = refl;
+      looked = refl;
+      saw_out = refl;
+    }

@@ -110,3 +110,6 @@ returns-clause-advances g c =
           sound-by part promised shape number slot old.core p.0 new old.named (turned-no-look old.core task turn new t.taken) p.5 x)
           (λ refusal refused. sound-same part promised shape number slot old.core new old.named refused.same x);
     }
+
+pub returns-clause-refused : goal.returns-clause-refused
+returns-clause-refused g c = c.turn.ensures.refused
