@@ -36,7 +36,7 @@ impl State {
         ensures unanswered { self.new.unanswered ≡ self.old.unanswered }
         ensures turns { IfOk result (λ _. HaveTurnsAfter (core_of self.old) snapshot.now (core_of self.new)) }
     {
-        if !self.calls.is_empty() || self.untold.is_some() {
+        if !self.is_all_told() {
             return Err(Refusal::UntoldFirst);
         }
         let went_out = self.adopt(snapshot);
@@ -56,6 +56,14 @@ impl State {
         self.release();
         self.start_waiting(freed);
         Ok(())
+    }
+
+    // Whether no call is to be made at the register, and the answer of each is told.
+    fn is_all_told(&self) -> bool
+        ensures yes { result ≡ true → NoCalls self.now }
+        ensures no { result ≡ false → NoCalls self.now → ⊥ }
+    {
+        self.calls.is_empty() && !self.has_untold()
     }
 
     // Takes over what the register has of each slot: whether one went out. Direct reads from those wait again.

@@ -1,7 +1,7 @@
 //! The state of a shard, and what requests do to it.
 
 ghost use Rattle.std.specs.Prelude.{◌≡◌, ◌+◌, ◌<◌, ◌++◌, ◌∷◌, [], length, map, MatchOption, IfOk, IfErr, IfSome};
-ghost use Rattle.std.specs.Prelude.{◌≤◌, replicate, vec_capacity};
+ghost use Rattle.std.specs.Prelude.{◌≤◌, ◌↔◌, replicate, vec_capacity, IsTrue};
 ghost use Rattle.circular_buffer.specs.Buffer.{buffer};
 ghost use Rattle.r6_world.specs.ShardStates as shards;
 ghost use Rattle.r6_kernels.specs.Blocks.{IsBlock};
@@ -14,7 +14,7 @@ ghost use Rattle.r6_frames.specs.Calls.{IsPlaceOf};
 ghost use Rattle.r6_frames.specs.Slots.{slot_before, AreUsed};
 ghost use Rattle.r6_core.specs.Shards.{Step, core_of, state_of, layout_in, reply_of, buffer_back, waiting_of};
 ghost use Rattle.r6_core.specs.Refusals.{most_unanswered, HasSubmitFault, IsFirstFault, HasNone, submit_faults};
-ghost use Rattle.r6_core.specs.Order.{NoReplies, SameReplies, BringsBack, TakesFirst, HasNoReply, HaveTurns};
+ghost use Rattle.r6_core.specs.Order.{NoReplies, SameReplies, BringsBack, TakesFirst, HasNoReply, HaveTurns, reply_to};
 ghost use Rattle.r6_core.specs.Effects.{KeepsRequests, HandsCommand};
 ghost use Rattle.r6_core.specs.Inside.{causes, IsSound, IsCore, IsFresh, SameCalls, SameFrames, Seen, reply_for};
 
@@ -102,6 +102,13 @@ impl State {
         })
     }
 
+    // Whether as many requests are unanswered as may be.
+    fn is_full(&self) -> bool
+        ensures { IsTrue result ↔ (most_unanswered ≤ self.now.unanswered) }
+    {
+        self.unanswered >= UNANSWERED
+    }
+
     // Where the block of a request stands, or why the request is refused.
     fn admit(&self, op: &Op) -> Result<Place, Refusal>
         requires { IsSound self.now }
@@ -124,7 +131,7 @@ impl State {
         if self.frames.tokens() >= LIMIT || self.accepted >= LIMIT {
             return Err(Refusal::Exhausted);
         }
-        if self.unanswered >= UNANSWERED {
+        if self.is_full() {
             return Err(Refusal::Busy);
         }
         Ok(place)
@@ -292,15 +299,25 @@ fn new_rooms(alloc: Global) -> Result<Vec<Writes>, AllocError>
     Ok(rooms)
 }
 
+// The answer to a request.
+fn answer_to(op: Op) -> Reply
+    ensures { result ≡ reply_to op }
+{
+    match op {
+        Op::Read(_, buffer) => Reply::Data(buffer),
+        Op::Write(_, buffer) => Reply::Done(buffer),
+    }
+}
+
 // The reply to the request: its answer, if it is released, and else that the array has failed.
 fn reply(request: Request, is_released: bool) -> (OpId, Reply)
     ensures { (((result.0).0) ≡ request.id) × (result.1 ≡ reply_for is_released request.op) }
 {
     let Request { id, op } = request;
-    let reply = match (op, is_released) {
-        (Op::Read(_, buffer), true) => Reply::Data(buffer),
-        (Op::Write(_, buffer), true) => Reply::Done(buffer),
-        (Op::Read(_, buffer), false) | (Op::Write(_, buffer), false) => Reply::ArrayFailed(buffer),
-    };
-    (OpId(id), reply)
+    if is_released {
+        return (OpId(id), answer_to(op));
+    }
+    match op {
+        Op::Read(_, buffer) | Op::Write(_, buffer) => (OpId(id), Reply::ArrayFailed(buffer)),
+    }
 }

@@ -1,6 +1,6 @@
 //! Calls at the register are taken, and their answers told.
 
-ghost use Rattle.std.specs.Prelude.{◌≡◌, ◌≢◌, IfOk, IfErr, MatchOption, Some};
+ghost use Rattle.std.specs.Prelude.{◌≡◌, ◌≢◌, IfOk, IfErr, MatchOption, Some, is_some};
 ghost use Rattle.r6_world.specs.Steps.{No_call, Told};
 ghost use Rattle.r6_core.specs.Shards.{Step, core_of, call_of};
 ghost use Rattle.r6_core.specs.Effects.{KeepsRequests, HandsCall};
@@ -12,6 +12,13 @@ use crate::state::State;
 use r6_health::{Answer, Refusal as RegisterRefusal};
 
 impl State {
+    // Whether a call was taken whose answer isn't told.
+    pub(crate) fn has_untold(&self) -> bool
+        ensures { result ≡ is_some self.now.untold }
+    {
+        self.untold.is_some()
+    }
+
     /// Takes the call that is to be made next at the register, if the answer of the one before was told.
     pub(crate) fn take_call(&mut self) -> Option<Call>
         requires { IsCore self.old }
@@ -22,7 +29,7 @@ impl State {
         ensures kept { Seen KeepsRequests self.old self.new }
         ensures frames { self.new.frames ≡ self.old.frames }
     {
-        if self.untold.is_some() {
+        if self.has_untold() {
             return None;
         }
         let call = self.calls.pop_front()?;

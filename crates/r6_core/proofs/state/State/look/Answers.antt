@@ -1,6 +1,4 @@
-use Rattle.std.proofs.Common.{◌≡◌, Bool, true, false, Option, Some, None, List, [], ◌++◌, is_some, length, arith, length-append, refl, sym, ap, subst, ◌∙◌}
-use Rattle.std.specs.Prelude.{nat_eq}
-use Rattle.std.proofs.lemmas.Bool.{eqb-true}
+use Rattle.std.proofs.Common.{◌≡◌, Bool, true, false, List, [], ◌++◌, length, arith, length-append, refl, sym, ap, subst, ◌∙◌}
 use Rattle.std.proofs.lemmas.List.{nil_from_length}
 use Rattle.r6_world.specs.Registers.{Snapshot}
 use Rattle.r6_core.specs.Shards.{layout_in, state_of, core_of, waiting_of}
@@ -9,20 +7,13 @@ use Rattle.std.specs.List.{AllByRecursion}
 use Rattle.r6_frames.specs.declared.op.Request.{Request}
 use Rattle.r6_frames.specs.declared.frames.Frames.{Frames}
 use Rattle.r6_frames.specs.Views.{AreLive}
-use Rattle.r6_core.specs.Inside.{HasFreed, IsSettled, NoCalls, ReadAgain, Waits}
+use Rattle.r6_core.specs.Inside.{HasFreed, IsSettled, ReadAgain, Waits}
 use Rattle.r6_core.specs.declared.state.State.{State}
 use Rattle.r6_core.proofs.Looking.{TookOver, HasSettled, HasReleased, settled_some, settled_none, failed_by-takes_over, failed_by-goes_on, looked, looked_failed, looked_stopped, looked_releases, looked_turns, stopped_turns}
 use Rattle.r6_core.proofs.state.State.look.Goals as goal
 use Rattle.r6_core.proofs.state.State.look.Goals.{then-went_out, else-went_out}
 use Rattle.r6_waiters.specs.Line.{Line, entries_of}
 use Rattle.r6_core.proofs.Lined.{all_of_none}
-
-told_of : (s : State) → nat_eq (length s.calls.items) 0 ≡ true → is_some s.untold ≡ false → NoCalls s
-told_of s empty none = (nil_from_length s.calls.items (eqb-true (length s.calls.items) 0 empty), none_of s.untold none)
-  where
-    none_of : {X : Type 0} (o : Option X) → is_some o ≡ false → o ≡ None
-    none_of None e = refl
-    none_of (Some x) e = let no : true ≡ false = e in absurd (cc)
 
 no_both : (b : Bool) → b ≡ true → b ≡ false → ⊥
 no_both b is not = let e : true ≡ false = sym is ∙ not in absurd (cc)
@@ -51,7 +42,7 @@ returns-then-failed-clause-step c =
     let mid = c.adopt-went_out.new.self in
     let fails = c.see_failure.ensures in
     looked_failed c.args.self.now mid c.see_failure.new.self c.args.snapshot.now
-    (record { told = told_of s (sym c.is_empty.ensures ∙ c.if-not-is_empty.false) (sym c.is_some.ensures ∙ c.if-is_some.false); takes = adopt.takes; slots = adopt.slots; same = adopt.keeps.0; order = adopt.order; again = adopt.again })
+    (record { told = c.is_all_told.ensures.yes c.if-not-is_all_told.false; takes = adopt.takes; slots = adopt.slots; same = adopt.keeps.0; order = adopt.order; again = adopt.again })
     (sym c.failed.ensures ∙ c.if-failed.true) fails.same fails.fails
 
 pub returns-then-saw_failed-clause-step : goal.returns-then-saw_failed-clause-step
@@ -60,7 +51,7 @@ returns-then-saw_failed-clause-step c =
     let adopt = c.adopt-went_out.ensures in
     let mid = c.adopt-went_out.new.self in
     looked_stopped c.args.self.now mid c.args.snapshot.now
-    (record { told = told_of s (sym c.is_empty.ensures ∙ c.if-not-is_empty.false) (sym c.is_some.ensures ∙ c.if-is_some.false); takes = adopt.takes; slots = adopt.slots; same = adopt.keeps.0; order = adopt.order; again = adopt.again })
+    (record { told = c.is_all_told.ensures.yes c.if-not-is_all_told.false; takes = adopt.takes; slots = adopt.slots; same = adopt.keeps.0; order = adopt.order; again = adopt.again })
     (sym c.failed.ensures ∙ c.if-failed.false) (sym c.saw_failed.ensures ∙ c.if-saw_failed.true)
 
 pub returns-then-saw_failed-clause-order : goal.returns-then-saw_failed-clause-order
@@ -95,7 +86,7 @@ returns-then-saw_failed-clause-turns c =
     let s = c.args.self.now in
     let mid = c.adopt-went_out.new.self in
     stopped_turns s mid c.args.snapshot.now
-    (record { told = told_of s (sym c.is_empty.ensures ∙ c.if-not-is_empty.false) (sym c.is_some.ensures ∙ c.if-is_some.false); takes = adopt.takes; slots = adopt.slots; same = adopt.keeps.0; order = adopt.order; again = adopt.again })
+    (record { told = c.is_all_told.ensures.yes c.if-not-is_all_told.false; takes = adopt.takes; slots = adopt.slots; same = adopt.keeps.0; order = adopt.order; again = adopt.again })
     adopt.sound (sym c.saw_failed.ensures ∙ c.if-saw_failed.true) (stays s mid c.args.snapshot.now c.adopt-went_out.result adopt.some adopt.none)
     (none_again s mid c.args.snapshot.now c.adopt-went_out.result adopt.again adopt.some adopt.none)
 
@@ -105,7 +96,7 @@ abbrev took : (c : goal.After-start_waiting) → TookOver c.args.self.now c.adop
 took c =
     let adopt = c.adopt-went_out.ensures in
     record {
-      told = told_of c.args.self.now (sym c.is_empty.ensures ∙ c.if-not-is_empty.false) (sym c.is_some.ensures ∙ c.if-is_some.false);
+      told = c.is_all_told.ensures.yes c.if-not-is_all_told.false;
       takes = adopt.takes;
       slots = adopt.slots;
       same = adopt.keeps.0;
@@ -193,7 +184,7 @@ start_waiting-requires-clause-freed c =
     ]
 
 pub returns-clause-told : goal.returns-clause-told
-returns-clause-told c = told_of c.args.self.now (sym c.is_empty.ensures ∙ c.if-not-is_empty.false) (sym c.is_some.ensures ∙ c.if-is_some.false)
+returns-clause-told c = c.is_all_told.ensures.yes c.if-not-is_all_told.false
 
 pub returns-clause-unanswered : goal.returns-clause-unanswered
 returns-clause-unanswered c =
@@ -203,35 +194,38 @@ returns-clause-unanswered c =
       | else-went_out w ↦ unanswered ∙ ap (λ (x : State). x.unanswered) w.self-is ∙ c.adopt-went_out.ensures.keeps.1
     ]
 
-pub returns-then-not-is_empty-clause-core : goal.returns-then-not-is_empty-clause-core
-returns-then-not-is_empty-clause-core c = c.requires
+pub returns-then-not-is_all_told-clause-core : goal.returns-then-not-is_all_told-clause-core
+returns-then-not-is_all_told-clause-core c = c.requires
 
-pub returns-then-not-is_empty-clause-step : goal.returns-then-not-is_empty-clause-step
-returns-then-not-is_empty-clause-step c = tt
+pub returns-then-not-is_all_told-clause-step : goal.returns-then-not-is_all_told-clause-step
+returns-then-not-is_all_told-clause-step c = tt
 
-pub returns-then-not-is_empty-clause-told : goal.returns-then-not-is_empty-clause-told
-returns-then-not-is_empty-clause-told c = tt
+pub returns-then-not-is_all_told-clause-told : goal.returns-then-not-is_all_told-clause-told
+returns-then-not-is_all_told-clause-told c = tt
 
-pub returns-then-not-is_empty-clause-order : goal.returns-then-not-is_empty-clause-order
-returns-then-not-is_empty-clause-order c = tt
+pub returns-then-not-is_all_told-clause-refused : goal.returns-then-not-is_all_told-clause-refused
+returns-then-not-is_all_told-clause-refused c = (refl, refl, c.is_all_told.ensures.no c.if-not-is_all_told.true)
 
-pub returns-then-not-is_empty-clause-unanswered : goal.returns-then-not-is_empty-clause-unanswered
-returns-then-not-is_empty-clause-unanswered c = refl
+pub returns-then-not-is_all_told-clause-order : goal.returns-then-not-is_all_told-clause-order
+returns-then-not-is_all_told-clause-order c = tt
 
-pub returns-then-not-is_empty-clause-turns : goal.returns-then-not-is_empty-clause-turns
-returns-then-not-is_empty-clause-turns c = tt
+pub returns-then-not-is_all_told-clause-unanswered : goal.returns-then-not-is_all_told-clause-unanswered
+returns-then-not-is_all_told-clause-unanswered c = refl
+
+pub returns-then-not-is_all_told-clause-turns : goal.returns-then-not-is_all_told-clause-turns
+returns-then-not-is_all_told-clause-turns c = tt
 
 pub adopt-went_out-requires-clause-settled : goal.adopt-went_out-requires-clause-settled
 adopt-went_out-requires-clause-settled c = c.requires.settled
 
 pub adopt-went_out-requires-clause-told : goal.adopt-went_out-requires-clause-told
-adopt-went_out-requires-clause-told c = told_of c.args.self.now (sym c.is_empty.ensures ∙ c.if-not-is_empty.false) (sym c.is_some.ensures ∙ c.if-is_some.false)
+adopt-went_out-requires-clause-told c = c.is_all_told.ensures.yes c.if-not-is_all_told.false
 
 pub see_failure-requires : goal.see_failure-requires
 see_failure-requires c = c.adopt-went_out.ensures.sound
 
 pub returns-then-failed-clause-told : goal.returns-then-failed-clause-told
-returns-then-failed-clause-told c = told_of c.args.self.now (sym c.is_empty.ensures ∙ c.if-not-is_empty.false) (sym c.is_some.ensures ∙ c.if-is_some.false)
+returns-then-failed-clause-told c = c.is_all_told.ensures.yes c.if-not-is_all_told.false
 
 pub returns-then-failed-clause-refused : goal.returns-then-failed-clause-refused
 returns-then-failed-clause-refused c = tt
@@ -252,7 +246,7 @@ pub returns-then-failed-clause-unanswered : goal.returns-then-failed-clause-unan
 returns-then-failed-clause-unanswered c = c.see_failure.ensures.unanswered ∙ c.adopt-went_out.ensures.keeps.1
 
 pub returns-then-saw_failed-clause-told : goal.returns-then-saw_failed-clause-told
-returns-then-saw_failed-clause-told c = told_of c.args.self.now (sym c.is_empty.ensures ∙ c.if-not-is_empty.false) (sym c.is_some.ensures ∙ c.if-is_some.false)
+returns-then-saw_failed-clause-told c = c.is_all_told.ensures.yes c.if-not-is_all_told.false
 
 pub returns-then-saw_failed-clause-refused : goal.returns-then-saw_failed-clause-refused
 returns-then-saw_failed-clause-refused c = tt

@@ -15,7 +15,7 @@ returns-clause-step c =
     let s = c.args.self.now in
     let first = some_popped s.calls.items c.in_ok-call.call (sym c.pop_front.ensures.value ∙ c.in_ok-call.was) in
     let is = first ∙ ap (λ (b : Buffer _). c.in_ok-call.call ∷ b.items) (sym c.pop_front.ensures.items) in
-    let none : s.untold ≡ None = is_none s.untold (sym c.is_some.ensures ∙ c.if-is_some.false) in
+    let none : s.untold ≡ None = is_none s.untold (sym c.has_untold.ensures ∙ c.if-has_untold.false) in
     ((refl, refl), (map call_of c.pop_front.new.self.items, (ap (map call_of) is, ap (option_map call_of) none), refl))
 
 pub returns-in_err-call-clause-frames : goal.returns-in_err-call-clause-frames
