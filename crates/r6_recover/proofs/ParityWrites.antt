@@ -1,11 +1,11 @@
 -- The last two blocks of a row, written.
-use Rattle.std.proofs.Common.{◌≡◌, ℕ, suc, ◌+◌, ◌-◌, List, [], ◌∷◌, ◌++◌, length, get_or, set, take, drop, refl, ap, ◌∙◌, arith}
+use Rattle.std.proofs.Common.{◌≡◌, ℕ, suc, ◌+◌, ◌-◌, ◌≤◌, List, [], ◌∷◌, ◌++◌, length, get_or, set, take, drop, refl, ap, ◌∙◌, arith}
 use Rattle.std.specs.List.{All}
 use Rattle.std.proofs.lemmas.List.Elements.{All-nil, All-cons, All-append}
 use Rattle.r6_kernels.specs.Blocks.{p_of, q_of, weighted}
 use Rattle.r6_recover.specs.Rows.{row_of}
 use Rattle.r6_recover.proofs.ClassLaws.{length-total, All_long-weighted}
-use Rattle.std.proofs.lemmas.List.{set_split, set-append_right, length-take-le, drop_more, drop_all}
+use Rattle.std.proofs.lemmas.List.{set_split, set-append_right, length-take-le, take-append-le, take_all, drop_more, drop_all}
 
 pub set-last_two : (m : ℕ) (old : List (List ℕ)) (p q : List ℕ) → length old ≡ m + 2 → set (set old m p) (m + 1) q ≡ take m old ++ p ∷ q ∷ []
 set-last_two m old p q count =
@@ -33,3 +33,10 @@ All_long-row_of len data' all =
     (All-cons (λ block. length block ≡ len) (p_of len data') (q_of len data' ∷ []) (length-total len data' all)
     (All-cons (λ block. length block ≡ len) (q_of len data') [] (length-total len (weighted 0 data') (All_long-weighted len 0 data' all))
     (All-nil (λ block. length block ≡ len))))
+
+-- ---- the blocks that a slice of them becomes
+
+pub whole : (n : ℕ) (new rest : List (List ℕ)) → length new ≡ n → take n (new ++ rest) ≡ new
+whole n new rest all =
+    let within : n ≤ length new = omega (arith, all) in
+    take-append-le n new rest within ∙ take_all n new (omega (arith, all))

@@ -1,16 +1,11 @@
 use Rattle.std.proofs.Common.{◌≡◌, ◌↔◌, ◌≤◌, ◌++◌, ℕ, List, length, take, drop, sym, ap, subst, ◌∙◌, arith, OnOk, OnErr, IsErr}
 use Rattle.std.specs.List.{All}
-use Rattle.std.proofs.lemmas.List.{take-append-le, take_all}
 use Rattle.r6_recover.specs.Known.{AreTooMany}
 use Rattle.r6_recover.specs.Restores.{AgreeAtKnown, BecomesFullRow, HaveSameLengths}
+use Rattle.r6_recover.proofs.ParityWrites.{whole}
 use Rattle.r6_recover.proofs.row.restore.Goals as goal
 
 -- ---- the blocks that a slice of them becomes
-
-whole : (n : ℕ) (new rest : List (List ℕ)) → length new ≡ n → take n (new ++ rest) ≡ new
-whole n new rest all =
-    let within : n ≤ length new = omega (arith, all) in
-    take-append-le n new rest within ∙ take_all n new (omega (arith, all))
 
 carried : (P : List (List ℕ) → List (List ℕ) → Type 0) (n : ℕ) (old row new rest : List (List ℕ)) → old ≡ row → length new ≡ n → P old new → P row (take n (new ++ rest))
 carried P n old row new rest same all h = subst (P row) (sym (whole n new rest all)) (subst (λ (blocks : List (List ℕ)). P blocks new) same h)
