@@ -76,13 +76,21 @@ impl SlotState {
     pub fn is_lost(&self) -> bool
         ensures { result ≡ is_lost self.now }
     {
-        matches!(self, SlotState::Lost)
+        match self {
+            SlotState::InSync => false,
+            SlotState::Lost => true,
+            SlotState::Rebuilding(_, _) => false,
+        }
     }
 
     /// True unless the slot is in sync: a rebuilding slot counts as out.
     pub fn is_out(&self) -> bool
         ensures { result ≡ is_out self.now }
     {
-        !matches!(self, SlotState::InSync)
+        match self {
+            SlotState::InSync => false,
+            SlotState::Lost => true,
+            SlotState::Rebuilding(_, _) => true,
+        }
     }
 }
