@@ -20,7 +20,7 @@ const BATCH_BYTES: usize = 1 << 21;
 const BATCH_ROWS: usize = 4096;
 
 /// How far a batch was read.
-#[derive(Clone, Copy, PartialEq, Eq, Debug)]
+#[derive(Clone, Copy)]
 pub(crate) struct BatchRead {
     pub(crate) rows: usize,
     /// The fault that the next row met.

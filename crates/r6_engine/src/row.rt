@@ -20,7 +20,7 @@ pub(crate) struct RowReader {
 }
 
 /// A slot whose part answered a fault.
-#[derive(Clone, Copy, PartialEq, Eq, Debug)]
+#[derive(Clone, Copy)]
 pub(crate) struct SlotFault {
     pub(crate) slot: usize,
     pub(crate) fault: Fault,

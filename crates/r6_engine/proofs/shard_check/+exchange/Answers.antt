@@ -25,7 +25,7 @@ returns-in_default g t c =
     let none = no_checks c.args.checks.now c.in_default.ensures.cases in
     let left = no_parts_left c.args.parts.now (c.requires ∙ ap (λ l. length (flat_map own_parts l)) none) in
     let same = ap (flat_map own_parts) none ∙ sym left in
-    record { count = refl; lent = same; back = sym same; others = rw none tt }
+    record { count = refl {a = length c.args.parts.now}; lent = same; back = sym same; others = rw none tt }
 
 pub returns-in-Some : goal.returns-in-Some
 returns-in-Some g t c =
