@@ -2,7 +2,7 @@
 
 ghost use Rattle.std.specs.Prelude.{◌≡◌, IfErr, IfOk, OnOk};
 ghost use Rattle.std.specs.Io.KnownBytes.{Appends};
-ghost use Rattle.r6_simulate.specs.Plays.{ending_of, HasPlayed, PlaysAndPrints};
+ghost use Rattle.r6_simulate.specs.Plays.{ending_of, HasPlayed, IsFirst, PlaysAndPrints};
 
 use crate::array::Simulation;
 use crate::fault::SimulationFault;
@@ -60,6 +60,26 @@ fn play_and_print<R: Wait, W: Write>(
     print(out, line.as_str())
 }
 
+// Plays the events of a script, in order, against an array as it begins.
+fn play_all<R: Wait, W: Write>(
+    rt: &R,
+    alloc: Global,
+    script: &Script,
+    simulation: &mut Simulation,
+    out: &mut W,
+) -> Result<Ending, SimulationFault>
+    requires { IsFirst script.now.geometry simulation.old }
+    ensures { IfOk result (λ ending.
+        HasPlayed script.now.geometry script.now.events.items (W.contents out.old) ending (W.contents out.new)) }
+{
+    print(out, "array\n")?;
+    let mut line = String::new(alloc);
+    for event in &script.events {
+        play_and_print(rt, simulation, *event, &mut line, out)?;
+    }
+    Ok(Ending::of(&simulation.register.read(rt)))
+}
+
 /// Plays the events of a script, in order, against an array in memory: devices of zeros, all in sync, and one
 /// register. A line for the array and for each event goes to `out`, when the event was played.
 ///
@@ -75,10 +95,5 @@ pub fn simulate<R: Wait, W: Write>(
         HasPlayed script.now.geometry script.now.events.items (W.contents out.old) ending (W.contents out.new)) }
 {
     let mut simulation = Simulation::new(rt, alloc, script.geometry)?;
-    print(out, "array\n")?;
-    let mut line = String::new(alloc);
-    for event in &script.events {
-        play_and_print(rt, &mut simulation, *event, &mut line, out)?;
-    }
-    Ok(Ending::of(&simulation.register.read(rt)))
+    play_all(rt, alloc, script, &mut simulation, out)
 }

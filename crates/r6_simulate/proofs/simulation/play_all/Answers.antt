@@ -5,7 +5,7 @@ use Rattle.r6_script.specs.declared.script.Event.{Event}
 use Rattle.r6_script.specs.declared.script.Event.TheVariants.{Read}
 use Rattle.r6_simulate.specs.Plays.{Course, ending_of}
 use Rattle.r6_simulate.proofs.Courses.{one_more_taken}
-use Rattle.r6_simulate.proofs.simulation.simulate.Goals as goal
+use Rattle.r6_simulate.proofs.simulation.play_all.Goals as goal
 
 pub loop-event-init : goal.loop-event-init
 loop-event-init g c = ([], (refl, refl), Appends-nil _)
@@ -25,11 +25,11 @@ pub returns : goal.returns
 returns g c =
     let i = c.loop-event.invariant in
     record {
-      first = c.in_ok-simulation.simulation;
-      begins = c.in_ok-simulation.ensures;
+      first = c.args.simulation.now;
+      begins = c.requires;
       last = c.loop-event.simulation;
       lines = i.0;
-      course = subst (λ events. Course c.in_ok-simulation.simulation events i.0 c.loop-event.simulation)
+      course = subst (λ events. Course c.args.simulation.now events i.0 c.loop-event.simulation)
           (take_all c.loop-event.event-index c.args.script.now.events.items (subst (λ events. length events ≤ c.loop-event.event-index) c.deref-event-items.ensures.value c.loop-event-test.false)) i.1;
       ends = record {
         register = c.read.new.self;

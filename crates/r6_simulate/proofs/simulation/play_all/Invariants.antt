@@ -1,7 +1,7 @@
 use Rattle.std.proofs.Common.{ℕ, List, take}
 use Rattle.std.specs.Io.KnownBytes.{Appends}
 use Rattle.r6_simulate.specs.Plays.{Course}
-use Rattle.r6_simulate.proofs.simulation.simulate.Given as goal
+use Rattle.r6_simulate.proofs.simulation.play_all.Given as goal
 
 abbrev pub invariant-loop-event : goal.invariant-loop-event
 invariant-loop-event g l =
