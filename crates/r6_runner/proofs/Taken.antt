@@ -1,9 +1,12 @@
 -- What else stays where what came by the list is taken up.
-use Rattle.std.proofs.Common.{◌≡◌, ℕ, ◌+◌, ◌∷◌, [], List, length, true, false, Bool, sym, ap, subst, ◌∙◌, arith, Option}
+use Rattle.std.proofs.Common.{◌≡◌, ℕ, ◌+◌, ◌∷◌, [], List, length, true, false, Bool, sym, ap, subst, ◌∙◌, arith, Option, None, inl, inr}
 use Rattle.std.specs.Prelude.{option_to_list}
 use Rattle.std.proofs.lemmas.List.{length-append}
 use Rattle.r6_dev.specs.History.{Telling}
 use Rattle.r6_core.specs.Shards.{CoreView}
+use Rattle.r6_core.specs.declared.refusal.Refusal.{Refusal}
+use Rattle.r6_core.specs.declared.turn.Task.{Task}
+use Rattle.r6_frames.specs.declared.op.Op.{Op}
 use Rattle.r6_shard.specs.declared.parts.Part.{Part}
 use Rattle.r6_shard.specs.declared.parts.Parts.{Parts}
 use Rattle.r6_shard.specs.declared.shard.Shard.{Shard}
@@ -13,7 +16,7 @@ use Rattle.r6_runner.specs.declared.pass.Passed.{Passed}
 use Rattle.r6_runner.specs.declared.runner.Handed.{Handed}
 use Rattle.r6_runner.specs.declared.runner.Runner.{Runner}
 use Rattle.r6_runner.specs.Counted.{IsCounting, KeepsCounted}
-use Rattle.r6_runner.specs.Runners.{IsPartTaken, IsPut, IsHandedIn, KeepsSelf, taken_by}
+use Rattle.r6_runner.specs.Runners.{IsOutcome, IsPartTaken, IsPassing, IsPut, IsHandedIn, IsServed, KeepsSelf, taken_by}
 use Rattle.r6_runner.proofs.Done.{asked-on, core-on}
 
 counted-alike : {D : Type 0} (old new : Runner D) → new.shard.core ≡ old.shard.core → new.passing ≡ old.passing
@@ -78,3 +81,57 @@ handed-count told old new number part h =
     let passing = ap (λ (y : Option Passing). length (option_to_list y)) h.passing in
     let passed = ap length h.passed in
     let due = ap length h.due in omega (arith, due, refused, asked, passing, passed, handed)
+
+-- ---- a request was handed in
+
+served-pass : {D : Type 0} (told : D → Telling) (event : ℕ) (op : Op) (old new : Shard (Parts D)) (refused refused' : List (ℕ × Refusal))
+    → IsOutcome told event op old new refused refused' → new.pass ≡ old.pass
+served-pass told event op old new refused refused' (inl accepted) = accepted.1.pass
+served-pass told event op old new refused refused' (inr away) = ap (λ (y : Shard _). y.pass) away.1
+
+one-served : {D : Type 0} (told : D → Telling) (event : ℕ) (op : Op) (old new : Shard (Parts D)) (refused refused' : List (ℕ × Refusal))
+    → IsOutcome told event op old new refused refused'
+    → length refused' + length new.asked.items ≡ length refused + length old.asked.items + 1
+one-served told event op old new refused refused' (inl accepted) =
+    let asked = ap length accepted.1.asked ∙ length-append old.asked.items (_ ∷ []) in
+    let same = ap length accepted.4 in omega (arith, asked, same)
+one-served told event op old new refused refused' (inr away) =
+    let asked = ap (λ (y : Shard _). length y.asked.items) away.1 in
+    let more = ap length away.3 ∙ length-append refused (_ ∷ []) in omega (arith, asked, more)
+
+pub served-self : {D : Type 0} (told : D → Telling) (event : ℕ) (op : Op) (old new : Runner D) → IsServed told event op old new
+    → new.shard.core.shard ≡ old.shard.core.shard → KeepsSelf old new
+served-self told event op old new h place = record {
+  pass = served-pass told event op old.shard new.shard old.refused.items new.refused.items h.outcome;
+  place = place;
+  room = h.kept.room;
+}
+
+pub served-count : {D : Type 0} (told : D → Telling) (event : ℕ) (op : Op) (old new : Runner D) → IsServed told event op old new
+    → taken_by new ≡ taken_by old + 1
+served-count told event op old new h =
+    let one = one-served told event op old.shard new.shard old.refused.items new.refused.items h.outcome in
+    let passing = ap (λ (y : Option Passing). length (option_to_list y)) h.kept.passing in
+    let passed = ap length h.kept.passed in
+    let handed = ap length h.kept.handed in
+    let due = ap length h.kept.due in omega (arith, one, passing, passed, handed, due)
+
+-- ---- a check or repair began
+
+pub passing-self : {D : Type 0} (event : ℕ) (task : Task) (old new : Runner D) → IsPassing event task old new → KeepsSelf old new
+passing-self event task old new h = record {
+  pass = ap (λ (y : Shard _). y.pass) h.shard;
+  place = ap (λ (y : Shard _). y.core.shard) h.shard;
+  room = h.room;
+}
+
+pub passing-count : {D : Type 0} (event : ℕ) (task : Task) (old new : Runner D) → IsPassing event task old new → old.passing ≡ None
+    → taken_by new ≡ taken_by old + 1
+passing-count event task old new h none =
+    let before = ap (λ (y : Option Passing). length (option_to_list y)) none in
+    let passing = ap (λ (y : Option Passing). length (option_to_list y)) h.under_way in
+    let refused = ap length h.refused in
+    let asked = ap (λ (y : Shard _). length y.asked.items) h.shard in
+    let passed = ap length h.passed in
+    let handed = ap length h.handed in
+    let due = ap length h.due in omega (arith, before, passing, refused, asked, passed, handed, due)

@@ -1,4 +1,4 @@
-use Rattle.std.proofs.Common.{rules, ◌∙◌}
+use Rattle.std.proofs.Common.{◌∙◌}
 use Rattle.r6_runner.proofs.Counting.{counted-at-end}
 use Rattle.r6_runner.proofs.Done.{goes-then}
 use Rattle.r6_runner.proofs.Sound.{promised-on}
@@ -17,7 +17,7 @@ loop-preserved g c =
       tt,
       tt,
       record {
-        pass = search rules;
+        pass = now.pass;
         course = goes-then g.D.BlockDevice.told g.L.Events.shape g.L.Events.events c.args.self.now.consumer.shard c.loop.self.consumer.shard
             c.args.self.now.consumer.numbers.items c.loop.self.consumer.numbers.items c.go_on.new.self.consumer.numbers.items
             c.args.self.now.runner c.loop.self.runner c.go_on.new.self.runner before.shard before.course now.course;
@@ -25,7 +25,7 @@ loop-preserved g c =
         sound = promised-on g.D.BlockDevice.told g.D.BlockDevice.promised g.L.Events.shape g.L.Events.sound c.args.self.now.consumer.shard c.loop.self.consumer.shard
             c.args.self.now.runner c.loop.self.runner c.go_on.new.self.runner before.shard before.sound now.sound;
         awaited = λ x. now.awaited (before.awaited x);
-        shard = search rules;
+        shard = now.shard ∙ before.shard;
         place = now.place ∙ before.place;
       },
     )
@@ -48,3 +48,15 @@ returns-then-go_on-clause-sound g c =
     let before = c.loop.invariant.2 in
     promised-on g.D.BlockDevice.told g.D.BlockDevice.promised g.L.Events.shape g.L.Events.sound c.args.self.now.consumer.shard c.loop.self.consumer.shard
     c.args.self.now.runner c.loop.self.runner c.go_on.new.self.runner before.shard before.sound c.go_on.ensures.sound
+
+pub returns-then-go_on-clause-pass : goal.returns-then-go_on-clause-pass
+returns-then-go_on-clause-pass g c = c.go_on.ensures.pass
+
+pub returns-then-go_on-clause-shard : goal.returns-then-go_on-clause-shard
+returns-then-go_on-clause-shard g c = c.go_on.ensures.shard ∙ c.loop.invariant.2.shard
+
+pub returns-then-go_on-clause-place : goal.returns-then-go_on-clause-place
+returns-then-go_on-clause-place g c = c.go_on.ensures.place ∙ c.loop.invariant.2.place
+
+pub returns-then-go_on-clause-finished : goal.returns-then-go_on-clause-finished
+returns-then-go_on-clause-finished g c = (c.go_on.ensures.over c.if-go_on.true).1

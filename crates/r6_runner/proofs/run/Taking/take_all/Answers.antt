@@ -1,6 +1,6 @@
-use Rattle.std.proofs.Common.{rules, sym, subst}
+use Rattle.std.proofs.Common.{◌≡◌, ◌∙◌, sym, subst}
 use Rattle.r6_runner.specs.Counted.{HasCounted}
-use Rattle.r6_runner.specs.Runners.{HasDone}
+use Rattle.r6_runner.specs.Runners.{HasDone, KeepsSelf}
 use Rattle.r6_runner.specs.Waits.{HasAwaited}
 use Rattle.r6_runner.proofs.Done.{goes-then}
 use Rattle.r6_runner.specs.Sound.{IsSoundIn}
@@ -52,14 +52,20 @@ loop-preserved g c =
       tt,
       tt,
       record {
-        course = search rules;
+        course = goes-then g.D.BlockDevice.told g.L.Events.shape g.L.Events.events c.args.self.now.consumer.shard c.loop.self.consumer.shard
+            c.args.self.now.consumer.numbers.items c.loop.self.consumer.numbers.items c.take_one.new.self.consumer.numbers.items
+            c.args.self.now.runner c.loop.self.runner c.take_one.new.self.runner before.shard before.course now.course;
         counted = λ rows x. now.counted rows (before.counted rows x);
         sound = promised-on g.D.BlockDevice.told g.D.BlockDevice.promised g.L.Events.shape g.L.Events.sound c.args.self.now.consumer.shard c.loop.self.consumer.shard
             c.args.self.now.runner c.loop.self.runner c.take_one.new.self.runner before.shard before.sound now.sound;
         awaited = λ x. now.awaited (before.awaited x);
-        same = search rules;
-        shard = search rules;
-        open_yet = search rules;
+        same = record {
+          pass = now.same.pass ∙ before.same.pass;
+          place = now.same.place ∙ before.same.place;
+          room = now.same.room ∙ before.same.room;
+        };
+        shard = now.shard ∙ before.shard;
+        open_yet = now.open;
       },
     )
 
@@ -77,4 +83,25 @@ returns-clause-sound g c = λ slot promise x.
           subst (λ s. IsSoundIn told promised shape old.consumer.shard slot s.runner) (sym w.self-is)
           (promised-on told promised shape g.L.Events.sound old.consumer.shard mid.consumer.shard old.runner mid.runner w.take_one.new.self.runner at.shard
           at.sound w.take_one.ensures.sound slot promise x)
+    ]
+
+pub returns-clause-same : goal.returns-clause-same
+returns-clause-same g c =
+    let old = c.args.self.now.runner in
+    let before = c.loop.invariant.2.same in
+    elim c.match-next.branch [
+      | in-None w ↦ subst (λ s. KeepsSelf old s.runner) (sym w.self-is) before
+      | in-Some+then-not-take_one w ↦
+          let now = w.take_one.ensures.same in
+          subst (λ s. KeepsSelf old s.runner) (sym w.self-is)
+          (record { pass = now.pass ∙ before.pass; place = now.place ∙ before.place; room = now.room ∙ before.room })
+    ]
+
+pub returns-clause-shard : goal.returns-clause-shard
+returns-clause-shard g c =
+    let old = c.args.self.now.consumer.shard in
+    let before = c.loop.invariant.2.shard in
+    elim c.match-next.branch [
+      | in-None w ↦ subst (λ s. s.consumer.shard ≡ old) (sym w.self-is) before
+      | in-Some+then-not-take_one w ↦ subst (λ s. s.consumer.shard ≡ old) (sym w.self-is) (w.take_one.ensures.shard ∙ before)
     ]

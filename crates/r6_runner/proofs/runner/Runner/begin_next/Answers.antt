@@ -1,9 +1,10 @@
-use Rattle.std.proofs.Common.{ap, refl, subst, slice_get}
+use Rattle.std.proofs.Common.{ap, arith, length, refl, subst, slice_get}
 use Rattle.r6_core.specs.declared.turn.Task.TheVariants as task
 use Rattle.r6_runner.specs.Tasks.{request_of, pass_of}
 use Rattle.r6_runner.specs.Waits.{AreAwaited}
 use Rattle.r6_runner.proofs.Awaiting.{first-known, popped}
 use Rattle.r6_runner.proofs.Done.{passing-on, served-on}
+use Rattle.r6_runner.proofs.Taken.{passing-count, passing-self, served-count, served-self}
 use Rattle.r6_runner.proofs.runner.Runner.begin_next.Goals as goal
 
 pub returns-in-Serve-clause-course : goal.returns-in-Serve-clause-course
@@ -56,3 +57,53 @@ returns-in-Repair-clause-course g c = λ shape events number numbers geometry sn
     passing-on g.D.BlockDevice.told shape events geometry number snapshot before numbers c.args.self.now _ c.begin_pass-in-Repair.new.self d
     c.pop_front.new.self.items task.Repair (ap (request_of d.event) c.in-Repair.is) (ap (pass_of d.event) c.in-Repair.is) c.begin_pass-in-Repair.ensures.begun
     (c.may_begin.ensures.none c.if-not-may_begin.false) refl refl refl refl refl c.in-Some.ensures.items x
+
+pub returns-in-Serve-clause-counted : goal.returns-in-Serve-clause-counted
+returns-in-Serve-clause-counted g c = c.hand_over.ensures.counted
+
+pub returns-in-Check-clause-counted : goal.returns-in-Check-clause-counted
+returns-in-Check-clause-counted g c = c.begin_pass.ensures.counted
+
+pub returns-in-Repair-clause-counted : goal.returns-in-Repair-clause-counted
+returns-in-Repair-clause-counted g c = c.begin_pass-in-Repair.ensures.counted
+
+pub returns-in-Serve-clause-sound : goal.returns-in-Serve-clause-sound
+returns-in-Serve-clause-sound g c = c.hand_over.ensures.sound
+
+pub returns-in-Check-clause-sound : goal.returns-in-Check-clause-sound
+returns-in-Check-clause-sound g c = c.begin_pass.ensures.sound
+
+pub returns-in-Repair-clause-sound : goal.returns-in-Repair-clause-sound
+returns-in-Repair-clause-sound g c = c.begin_pass-in-Repair.ensures.sound
+
+pub returns-in-Serve-clause-same : goal.returns-in-Serve-clause-same
+returns-in-Serve-clause-same g c =
+    let same = served-self g.D.BlockDevice.told c.in-Some.due.event c.in-Serve.op _ c.hand_over.new.self c.hand_over.ensures.served c.hand_over.ensures.place in
+    record { pass = same.pass; place = same.place; room = same.room }
+
+pub returns-in-Check-clause-same : goal.returns-in-Check-clause-same
+returns-in-Check-clause-same g c =
+    let same = passing-self c.in-Some.due.event task.Check _ c.begin_pass.new.self c.begin_pass.ensures.begun in
+    record { pass = same.pass; place = same.place; room = same.room }
+
+pub returns-in-Repair-clause-same : goal.returns-in-Repair-clause-same
+returns-in-Repair-clause-same g c =
+    let same = passing-self c.in-Some.due.event task.Repair _ c.begin_pass-in-Repair.new.self c.begin_pass-in-Repair.ensures.begun in
+    record { pass = same.pass; place = same.place; room = same.room }
+
+pub returns-in-Serve-clause-count : goal.returns-in-Serve-clause-count
+returns-in-Serve-clause-count g c =
+    let more = served-count g.D.BlockDevice.told c.in-Some.due.event c.in-Serve.op _ c.hand_over.new.self c.hand_over.ensures.served in
+    let due = ap length c.in-Some.ensures.items in omega (arith, more, due)
+
+pub returns-in-Check-clause-count : goal.returns-in-Check-clause-count
+returns-in-Check-clause-count g c =
+    let none = c.may_begin.ensures.none c.if-not-may_begin.false in
+    let more = passing-count c.in-Some.due.event task.Check _ c.begin_pass.new.self c.begin_pass.ensures.begun none in
+    let due = ap length c.in-Some.ensures.items in omega (arith, more, due)
+
+pub returns-in-Repair-clause-count : goal.returns-in-Repair-clause-count
+returns-in-Repair-clause-count g c =
+    let none = c.may_begin.ensures.none c.if-not-may_begin.false in
+    let more = passing-count c.in-Some.due.event task.Repair _ c.begin_pass-in-Repair.new.self c.begin_pass-in-Repair.ensures.begun none in
+    let due = ap length c.in-Some.ensures.items in omega (arith, more, due)

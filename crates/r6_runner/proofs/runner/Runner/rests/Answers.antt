@@ -1,4 +1,6 @@
-use Rattle.std.proofs.Common.{refl}
+use Rattle.std.proofs.Common.{ap, List, refl}
+use Rattle.r6_shard.specs.declared.ledger.Asked.{Asked}
+use Rattle.r6_runner.specs.Tasks.{count_of}
 use Rattle.r6_runner.proofs.Awaiting.{alike}
 use Rattle.r6_runner.proofs.Done.{has-gone}
 use Rattle.r6_runner.proofs.Counting.{keeps-counted}
@@ -27,3 +29,8 @@ pub returns-clause-over : goal.returns-clause-over
 returns-clause-over g c = λ all.
     let none = c.has_more.ensures c.if-has_more.false in
     record { none_due = none.0; no_pass = none.1; rests = c.rests.ensures.rests all }
+
+pub returns-clause-count : goal.returns-clause-count
+returns-clause-count g c =
+    let old = c.args.self.now in
+    ap (λ (asked : List Asked). count_of old.refused.items asked old.passing old.passed.items old.handed.items old.due.items) c.rests.ensures.ledger.asked
