@@ -110,7 +110,8 @@ loop-index-preserved g c =
     let check : RowCheck = c.index.result.now in
     let is : check ≡ get_or after index check =
     c.index.ensures ∙ ap (λ (items : List RowCheck). get_or items index check) (written after (drop (length after) before) c.loop-row.front.len all) in
-    subst (λ report. Checked shape started (c.loop-row.row + (index + 1)) report) (sym c.note.ensures)
+    subst (λ report. Checked shape started (c.loop-row.row + (index + 1)) report) {x = noted report (c.loop-row.row + index) check.finding}
+    (sym c.note.ensures)
     (subst (λ (check : RowCheck). Checked shape started (c.loop-row.row + (index + 1)) (noted report (c.loop-row.row + index) check.finding)) (sym is)
     (checked_in_batch shape started started c.loop-row.row rows index before after report check (only_read_none started) front.are_read classified
     below (omega (arith, below, front.places)) c.loop-index.invariant))

@@ -1,9 +1,17 @@
-use borrow.Author.Count.{below_more}
+use borrow.Author.Count.{below_more, below_none}
 use Rattle.std.proofs.Common.{◌≡◌, ℕ, ◌+◌, ◌*◌, ◌<◌, true, is_some, length, ap, subst, ◌∙◌, arith}
 use Rattle.r6_layout.specs.Layout.{shard_of}
 use Rattle.r6_engine.specs.Parts.{part_number, parts_of}
 use Rattle.r6_engine.proofs.FileLaws.{number_below, number_fits, number_within, part_told}
 use Rattle.r6_engine.proofs.row_check.has_absent.Goals as goal
+
+pub shard_of-requires : goal.shard_of-requires
+shard_of-requires g c = c.requires.row_within
+
+pub loop-slot-init : goal.loop-slot-init
+loop-slot-init g c =
+    let shape = c.args.geometry.now in
+    below_none (λ (slot : ℕ). is_some (parts_of g.D.BlockDevice.told c.args.parts.now (part_number shape (shard_of shape c.args.row) slot)) ≡ true)
 
 pub overflow_mul-first : goal.overflow_mul-first
 overflow_mul-first g c =

@@ -5,7 +5,7 @@ use Rattle.r6_engine.proofs.row_check.RowCheck.classify.Goals.{then-self, else-s
 
 pub returns : goal.returns
 returns c = elim c.if-self.branch [
-  then-self w ↦ record {
+  | then-self w ↦ record {
     reader = refl;
     skipped = λ part. absurd (false≢true (sym part ∙ w.if-self.true));
     found = λ _. (w.classify.result, w.self-is, w.classify.ensures.class);
