@@ -1,7 +1,7 @@
 //! The lines of a run.
 
 ghost use Rattle.std.specs.Prelude.{◌≡◌, ◌<◌, ◌++◌, length, string_bytes, OnOk};
-ghost use Rattle.r6_outcomes.specs.Lines.{event_line, classes_text, found_text, is_degraded, is_wait, lines_text, outcome_text, rest_text, skipped_of, slot_text, state_text};
+ghost use Rattle.r6_outcomes.specs.Lines.{event_line, classes_text, found_text, is_degraded, is_wait, lines_text, outcome_text, rest_text, skipped_of, slot_text, state_text, state_word};
 
 use crate::found::Found;
 use crate::outcome::Outcome;
@@ -130,6 +130,19 @@ fn is_degraded(geometry: &Geometry, snapshot: &Snapshot) -> bool
     degraded
 }
 
+// How the array is.
+fn state_word(geometry: &Geometry, snapshot: &Snapshot) -> &'static str
+    ensures { result.now ≡ state_word geometry.now.slots snapshot.now }
+{
+    if snapshot.failed() {
+        "failed"
+    } else if is_degraded(geometry, snapshot) {
+        "degraded"
+    } else {
+        "good"
+    }
+}
+
 /// Writes which slots are lost, and how the array is.
 ///
 /// # Errors
@@ -145,13 +158,7 @@ pub fn write_state(
     for slot in 0..geometry.slots() {
         write_slot(text, snapshot, slot)?;
     }
-    if snapshot.failed() {
-        writeln!(text, "state failed")
-    } else if is_degraded(geometry, snapshot) {
-        writeln!(text, "state degraded")
-    } else {
-        writeln!(text, "state good")
-    }
+    writeln!(text, "state {}", state_word(geometry, snapshot))
 }
 
 // Bytes that a line has at most, but for the block of a read.

@@ -1,4 +1,4 @@
-use Rattle.std.proofs.Common.{rules, sym, ap, map, ◌∙◌}
+use Rattle.std.proofs.Common.{sym, ap, map, ◌∙◌}
 use Rattle.std.proofs.lemmas.Iterator.Adapters.{YieldsList-from_vec}
 use Rattle.std.proofs.lemmas.Iterator.Consumers.{YieldsList-end}
 use Rattle.r6_outcomes.specs.Outcomes.{said_of_entry, with_all}
@@ -12,7 +12,8 @@ loop-entry-preserved c =
 pub returns : goal.returns
 returns c =
     let end = YieldsList-end
-    (YieldsList-from_vec {s = c.into_iter-entry-iterator.result} c.args.entries.items (search rules) (search rules))
+    (YieldsList-from_vec {s = c.into_iter-entry-iterator.result} c.args.entries.items c.into_iter-entry-iterator.ensures.into_iter_gives.0
+    (c.into_iter-entry-iterator.ensures.into_iter_gives.1 ∙ c.args.entries.ok.0))
     c.loop-entry.yielded c.loop-entry.entry-iterator c.loop-entry.yielded_by c.next.result c.next.new.self c.in-None.is
     c.next.ensures.steps in
     c.loop-entry.invariant.2

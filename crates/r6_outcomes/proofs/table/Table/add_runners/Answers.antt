@@ -1,4 +1,4 @@
-use Rattle.std.proofs.Common.{rules, sym, ap, ◌∙◌}
+use Rattle.std.proofs.Common.{sym, ap, ◌∙◌}
 use Rattle.std.proofs.lemmas.Iterator.Adapters.{YieldsList-from_vec}
 use Rattle.std.proofs.lemmas.Iterator.Consumers.{YieldsList-end}
 use Rattle.r6_outcomes.specs.Outcomes.{said_by, said_by_all, with_all}
@@ -12,7 +12,8 @@ loop-runner-preserved g c =
 pub returns : goal.returns
 returns g c =
     let end = YieldsList-end
-    (YieldsList-from_vec {s = c.into_iter-runner-iterator.result} c.args.runners.items (search rules) (search rules))
+    (YieldsList-from_vec {s = c.into_iter-runner-iterator.result} c.args.runners.items c.into_iter-runner-iterator.ensures.into_iter_gives.0
+    (c.into_iter-runner-iterator.ensures.into_iter_gives.1 ∙ c.args.runners.ok.0))
     c.loop-runner.yielded c.loop-runner.runner-iterator c.loop-runner.yielded_by c.next.result c.next.new.self c.in-None.is
     c.next.ensures.steps in
     c.loop-runner.invariant.2
