@@ -1,6 +1,7 @@
 //! How a shard begins that takes from a list.
 
-ghost use Rattle.std.specs.Prelude.{◌≡◌, ◌<◌, ◌≤◌, [], false, IfOk};
+ghost use Rattle.std.specs.Prelude.{◌≡◌, ◌<◌, ◌≤◌, [], false, vec_capacity, IfOk};
+ghost use Rattle.std.specs.VecDeque.{deque_capacity};
 ghost use Rattle.r6_layout.specs.Shape.{IsShape};
 ghost use Rattle.r6_health.specs.Passes.{view_of};
 ghost use Rattle.r6_shard.specs.Beginnings.{IsFirstPass};
@@ -11,12 +12,41 @@ ghost use Rattle.r6_runner.specs.Runners.{HasDone, taken_by};
 ghost use Rattle.r6_runner.specs.Sound.{IsSoundIn};
 ghost use Rattle.r6_runner.specs.Waits.{HasAwaited};
 
-use crate::runner::Runner;
+use crate::due::Due;
+use crate::pass::Passed;
+use crate::runner::{Handed, Runner};
+use r6_core::Refusal;
 use r6_dev::BlockDevice;
 use r6_health::{Pass, Snapshot};
-use r6_shard::{Parts, Place, Shard};
+use r6_shard::{Part, Parts, Place, Shard};
 use std::alloc::{AllocError, Global};
 use std::collections::VecDeque;
+
+// Room for so many tasks.
+#[derive(Drop)]
+struct Rooms<D> {
+    due: VecDeque<Due>,
+    refused: Vec<(u64, Refusal)>,
+    passed: Vec<Passed>,
+    handed: Vec<Handed>,
+    others: Vec<Part<D>>,
+}
+
+fn rooms_of<D: Drop>(alloc: Global, room: usize) -> Result<Rooms<D>, AllocError>
+    ensures { IfOk result (λ rooms. (rooms.due.items ≡ []) × (room ≤ deque_capacity rooms.due)
+        × (rooms.refused.items ≡ []) × (room ≤ vec_capacity rooms.refused)
+        × (rooms.passed.items ≡ []) × (room ≤ vec_capacity rooms.passed)
+        × (rooms.handed.items ≡ []) × (room ≤ vec_capacity rooms.handed)
+        × (rooms.others.items ≡ []) × (room ≤ vec_capacity rooms.others)) }
+{
+    Ok(Rooms {
+        due: VecDeque::with_capacity(alloc, room)?,
+        refused: Vec::with_capacity(alloc, room)?,
+        passed: Vec::with_capacity(alloc, room)?,
+        handed: Vec::with_capacity(alloc, room)?,
+        others: Vec::with_capacity(alloc, room)?,
+    })
+}
 
 impl<D: BlockDevice + Drop> Runner<D> {
     /// A shard of the array as it begins, with room for so many tasks.
@@ -56,12 +86,15 @@ impl<D: BlockDevice + Drop> Runner<D> {
         ensures room { IfOk result (λ runner. (runner.room ≡ room) × (taken_by runner ≡ 0)) }
     {
         let rows = place.geometry.shard_rows(place.number);
-        let due = VecDeque::with_capacity(alloc, room)?;
-        let refused = Vec::with_capacity(alloc, room)?;
-        let passed = Vec::with_capacity(alloc, room)?;
-        let handed = Vec::with_capacity(alloc, room)?;
-        let others = Vec::with_capacity(alloc, room)?;
+        let rooms = rooms_of(alloc, room)?;
         let shard = Shard::new(alloc, place, snapshot, pass, parts, room)?;
+        let Rooms {
+            due,
+            refused,
+            passed,
+            handed,
+            others,
+        } = rooms;
         Ok(Runner {
             shard,
             due,

@@ -41,3 +41,25 @@ returns-clause-sound g c = λ slot promise x.
     subst (λ n. IsSoundIn told promised shape n slot c.take_up.new.self) same
     (c.take_up.ensures.sound slot (subst (λ n. g.L.Events.sound n slot) (sym same) promise)
     (subst (λ n. IsSoundIn told promised shape n slot c.args.self.now.runner) (sym same) x))
+
+pub invariant_of-self : goal.invariant_of-self
+invariant_of-self g c =
+    let old = c.args.self.now in
+    let same = c.in_default.ensures.none.1 in
+    record {
+      counted = old.counted ∙ sym (ap (λ consumer. length consumer.numbers.items) same);
+      room = subst (λ consumer. length (tasks_of g.L.Events.shape consumer.shard g.L.Events.events) ≤ old.runner.room) (sym same) old.room;
+    }
+
+pub invariant_of-self-2 : goal.invariant_of-self-2
+invariant_of-self-2 g c =
+    let old = c.args.self.now in
+    let new = c.take.new.consumer in
+    let more : length new.numbers.items ≡ length old.consumer.numbers.items + 1 =
+    ap length c.in-Some.ensures.kept ∙ length-append old.consumer.numbers.items (c.in-Some.item.number ∷ []) in
+    let same : length (tasks_of g.L.Events.shape new.shard g.L.Events.events) ≡ length (tasks_of g.L.Events.shape old.consumer.shard g.L.Events.events) =
+    ap (λ (s : ℕ). length (tasks_of g.L.Events.shape s g.L.Events.events)) c.take.ensures.consumer.0 in
+    record {
+      counted = c.take_up.ensures.count ∙ ap (λ (n : ℕ). n + 1) old.counted ∙ sym more;
+      room = omega (arith, same, c.take_up.ensures.same.room, old.room);
+    }

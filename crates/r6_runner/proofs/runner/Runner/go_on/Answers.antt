@@ -1,7 +1,10 @@
-use Rattle.std.proofs.Common.{◌≡◌, All, ap, sym, subst, ◌∙◌}
+use Rattle.std.proofs.Common.{◌≡◌, ◌≤◌, ℕ, All, Option, ap, arith, length, sym, subst, ◌∙◌}
+use Rattle.std.specs.Prelude.{option_to_list}
+use Rattle.std.proofs.lemmas.List.{length_push}
 use Rattle.std.proofs.lemmas.List.Elements.{All-push}
 use Rattle.r6_world.specs.ShardStates.{Counts}
 use Rattle.r6_runner.specs.declared.pass.Passed.{Passed}
+use Rattle.r6_runner.specs.declared.pass.Passing.{Passing}
 use Rattle.r6_core.specs.Shards.{counts_of}
 use Rattle.r6_runner.proofs.Awaiting.{alike}
 use Rattle.r6_runner.proofs.Counting.{over-counted, turned-counted}
@@ -43,3 +46,46 @@ invariant_of-self-then-is_over-clause-unskipped g c = λ clean.
     subst (All (λ (p : Passed). p.after.skipped ≡ 0)) (sym c.push_reserved.ensures.items)
     (All-push (λ (p : Passed). p.after.skipped ≡ 0) old.passed.items q (old.unskipped clean)
     (ap (λ (p : Passed). p.after.skipped) c.over.ensures ∙ ap (λ (k : Counts). k.skipped) c.counts.ensures ∙ (old.shard.whole clean).unskipped))
+
+pub returns-then-is_over-clause-count : goal.returns-then-is_over-clause-count
+returns-then-is_over-clause-count g c =
+    let one = ap (λ (y : Option Passing). length (option_to_list y)) c.in-Some.is in
+    let more = ap length c.push_reserved.ensures.items ∙ length_push c.args.self.now.passed.items c.over.result in
+    omega (arith, one, more)
+
+pub invariant_of-self-then-is_over-clause-within : goal.invariant_of-self-then-is_over-clause-within
+invariant_of-self-then-is_over-clause-within g c =
+    let one = ap (λ (y : Option Passing). length (option_to_list y)) c.in-Some.is in
+    let more = ap length c.push_reserved.ensures.items ∙ length_push c.args.self.now.passed.items c.over.result in
+    omega (arith, one, more, c.args.self.now.within)
+
+pub invariant_of-self-then-is_over-clause-passed_room : goal.invariant_of-self-then-is_over-clause-passed_room
+invariant_of-self-then-is_over-clause-passed_room g c =
+    let old = c.args.self.now in
+    subst (λ (room : ℕ). old.room ≤ room) (sym c.push_reserved.ensures.capacity) old.passed_room
+
+pub returns-else-is_over-clause-count : goal.returns-else-is_over-clause-count
+returns-else-is_over-clause-count g c =
+    let one = ap (λ (y : Option Passing). length (option_to_list y)) c.in-Some.is in
+    let h = c.turn-turned.ensures.course in
+    let refused = ap length h.refused in
+    let asked = ap length h.asked in
+    let passed = ap length h.kept.passed in
+    let handed = ap length h.kept.handed in
+    let due = ap length h.kept.due in omega (arith, one, refused, asked, passed, handed, due)
+
+pub invariant_of-self-else-is_over : goal.invariant_of-self-else-is_over
+invariant_of-self-else-is_over g c =
+    let now = c.turn-turned.new.self in
+    let one = ap (λ (y : Option Passing). length (option_to_list y)) (c.turn-turned.ensures.course.kept.passing ∙ c.in-Some.is) in
+    record {
+      unskipped = now.unskipped;
+      within = omega (arith, one, now.within);
+      others_within = now.others_within;
+      shard_room = now.shard_room;
+      due_room = now.due_room;
+      refused_room = now.refused_room;
+      passed_room = now.passed_room;
+      handed_room = now.handed_room;
+      others_room = now.others_room;
+    }

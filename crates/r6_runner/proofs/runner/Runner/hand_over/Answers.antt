@@ -1,4 +1,5 @@
-use Rattle.std.proofs.Common.{inl, inr, refl, length, ap}
+use Rattle.std.proofs.Common.{inl, inr, refl, length, ap, ◌∙◌, ◌∷◌, [], arith}
+use Rattle.std.proofs.lemmas.List.{length-append}
 use Rattle.r6_world.specs.PlainArray.{block_of}
 use Rattle.r6_frames.specs.Views.{op_of}
 use Rattle.r6_shard.specs.declared.ledger.Asked.{Asked}
@@ -49,3 +50,8 @@ returns-in-Err-clause-served g c =
         c.push_reserved.ensures.items,
       );
     }
+
+pub invariant_of-self-clause-within : goal.invariant_of-self-clause-within
+invariant_of-self-clause-within g c =
+    let asked = ap length c.in-Ok.ensures.accepted.asked ∙ length-append c.args.self.now.shard.asked.items (_ ∷ []) in
+    omega (arith, asked, c.requires.room)

@@ -12,15 +12,15 @@ returns-clause-begins g c = λ shape events.
     let told = g.D.BlockDevice.told in
     let p = c.args.place in
     let shard = c.in_ok-shard.shard in
-    is-like told shape events p.geometry p.number c.args.snapshot.now (parts_tell told c.args.parts) [] shard shard [] c.in_ok-refused.refused.items None None
-    [] c.in_ok-passed.passed.items [] c.in_ok-handed.handed.items [] c.in_ok-due.due.items refl c.in_ok-refused.ensures.items refl
-    c.in_ok-passed.ensures.items c.in_ok-handed.ensures.items c.in_ok-due.ensures.items
+    is-like told shape events p.geometry p.number c.args.snapshot.now (parts_tell told c.args.parts) [] shard shard [] c.in_ok-rooms.rooms.refused.items None None
+    [] c.in_ok-rooms.rooms.passed.items [] c.in_ok-rooms.rooms.handed.items [] c.in_ok-rooms.rooms.due.items refl c.in_ok-rooms.ensures.2 refl
+    c.in_ok-rooms.ensures.4 c.in_ok-rooms.ensures.6 c.in_ok-rooms.ensures.0
     (is-first told shape events p.geometry p.number c.args.snapshot.now c.args.parts shard c.in_ok-shard.ensures.parts c.in_ok-shard.ensures.empty
     c.in_ok-shard.ensures.shape c.in_ok-shard.ensures.place c.in_ok-shard.ensures.begins)
 
 pub returns-clause-awaited : goal.returns-clause-awaited
 returns-clause-awaited g c = λ events.
-    none events 0 c.in_ok-shard.shard.asked.items c.in_ok-due.due.items c.in_ok-shard.ensures.empty c.in_ok-due.ensures.items
+    none events 0 c.in_ok-shard.shard.asked.items c.in_ok-rooms.rooms.due.items c.in_ok-shard.ensures.empty c.in_ok-rooms.ensures.0
 
 pub returns-clause-sound : goal.returns-clause-sound
 returns-clause-sound g c = λ slot x.
@@ -36,5 +36,11 @@ returns-clause-counted g c =
       (λ i. c.shard_rows-rows.ensures.end i - c.shard_rows-rows.ensures.start i),
       0,
       0,
-      subst (IsCounting rows 0 0 core None) (sym c.in_ok-passed.ensures.items) (counting-first rows core c.in_ok-shard.ensures.passed),
+      subst (IsCounting rows 0 0 core None) (sym c.in_ok-rooms.ensures.4) (counting-first rows core c.in_ok-shard.ensures.passed),
     )
+
+pub returns-clause-pass : goal.returns-clause-pass
+returns-clause-pass g c = c.in_ok-shard.ensures.pass
+
+pub returns-clause-place : goal.returns-clause-place
+returns-clause-place g c = c.in_ok-shard.ensures.place

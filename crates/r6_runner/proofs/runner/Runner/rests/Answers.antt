@@ -1,4 +1,4 @@
-use Rattle.std.proofs.Common.{ap, List, refl}
+use Rattle.std.proofs.Common.{◌≤◌, ℕ, List, ap, refl, subst, sym}
 use Rattle.r6_shard.specs.declared.ledger.Asked.{Asked}
 use Rattle.r6_runner.specs.Tasks.{count_of}
 use Rattle.r6_runner.proofs.Awaiting.{alike}
@@ -34,3 +34,23 @@ pub returns-clause-count : goal.returns-clause-count
 returns-clause-count g c =
     let old = c.args.self.now in
     ap (λ (asked : List Asked). count_of old.refused.items asked old.passing old.passed.items old.handed.items old.due.items) c.rests.ensures.ledger.asked
+
+pub returns-clause-pass : goal.returns-clause-pass
+returns-clause-pass g c = c.rests.ensures.pass
+
+pub invariant_of-self : goal.invariant_of-self
+invariant_of-self g c =
+    let old = c.args.self.now in
+    let ledger = c.rests.ensures.ledger in
+    record {
+      unskipped = λ clean. old.unskipped (c.rests.ensures.advances.remembers clean);
+      within = subst (λ (asked : List Asked). count_of old.refused.items asked old.passing old.passed.items old.handed.items old.due.items ≤ old.room)
+          (sym ledger.asked) old.within;
+      others_within = old.others_within;
+      shard_room = subst (λ (room : ℕ). old.room ≤ room) (sym ledger.room) old.shard_room;
+      due_room = old.due_room;
+      refused_room = old.refused_room;
+      passed_room = old.passed_room;
+      handed_room = old.handed_room;
+      others_room = old.others_room;
+    }
