@@ -1,6 +1,7 @@
 //! An array whose shards each run in a thread of their own.
 #![tactic(auto)]
 
+mod beginning;
 mod making;
 mod running;
 mod serving;

@@ -5,22 +5,22 @@ ghost use Rattle.r6_layout.specs.Shape.{IsShape};
 ghost use Rattle.r6_health.specs.Passes.{view_of};
 ghost use Rattle.r6_health.specs.Histories.{start_losing, held};
 ghost use Rattle.r6_health.specs.Registers.{starting};
-ghost use Rattle.r6_health.specs.Views.{first_of, newcomer};
+ghost use Rattle.r6_health.specs.Views.{first_of};
 ghost use Rattle.r6_feed.specs.Events.{events_of, AreWhole};
 ghost use Rattle.r6_serve.specs.Counted.{EachSkipsNone, EachSawWithPass};
 ghost use Rattle.r6_serve.specs.Named.{AttachesFailNone, LeaveSoundAlone};
 ghost use Rattle.r6_serve.specs.Passes.{CallAsTheyMay, IsShown};
 ghost use Rattle.r6_serve.specs.Serves.{HasAnswered, HaveServed};
 
-use crate::making::{Opening, lists_of, rests_of, takings_of};
+use crate::beginning::{Begun, Rooms, begin};
 use crate::running::run_all;
 use crate::settling::settle;
 use crate::worker::Station;
 use r6_dev::BlockDevice;
-use r6_feed::{Event, EventAnswer, Feed, Shards};
-use r6_health::{Pass, Register, Snapshot};
+use r6_feed::{Event, EventAnswer, Shards};
+use r6_health::{Pass, Snapshot};
 use r6_layout::Geometry;
-use r6_lists::{Events, Settlement};
+use r6_lists::Events;
 use r6_runner::Runner;
 use r6_shard::Parts;
 use r6_threads::Refused;
@@ -52,9 +52,6 @@ pub struct Served<D> {
     /// What the register held once all threads had ended.
     pub snapshot: Snapshot,
 }
-
-// As many items as a list has room for.
-const LIST_ROOM: usize = 256;
 
 fn serve_as<L, D, R>(
     rt: &R,
@@ -102,30 +99,21 @@ where
     ensures saw { IfOk result (λ served. EachSawWithPass (view_of served.pass) served.runners.items) }
     ensures failure { IfOk result (λ served. All (IsShown served.snapshot) served.runners.items) }
 {
-    let Config {
-        geometry,
-        window,
-        lost,
-    } = config;
-    let Ok((register, mut first)) = Register::new(rt, alloc, &geometry, lost) else {
-        return Err(Refused::NoMemory);
-    };
-    let start = Snapshot::start(&geometry, lost);
-    let shards = geometry.shards();
-    let (mut book, mut all) = blank.open::<L>();
-    let settlement = Settlement::with_capacity(alloc, shards, all.empty())?;
-    let mut runners = Vec::with_capacity(alloc, shards)?;
-    let lists = lists_of(alloc, shards, LIST_ROOM, &mut all)?;
-    let rests = rests_of(alloc, shards)?;
-    let opening = Opening {
-        geometry: &geometry,
-        window,
-        register: &register,
-        start: &start,
-    };
-    let caller = register.split(&mut first);
-    let takings = takings_of(alloc, &opening, &mut first, parts, &events, &mut all)?;
-    let feed = Feed::new(alloc, &geometry, &events, caller, &mut book, all)?;
+    let geometry = config.geometry;
+    let begun = begin::<L, D, R>(rt, alloc, blank, config, parts, &events)?;
+    let Begun {
+        register,
+        mut book,
+        rooms,
+        takings,
+        feed,
+    } = begun;
+    let Rooms {
+        settlement,
+        mut runners,
+        lists,
+        rests,
+    } = rooms;
     let station = Station {
         shards: Shards {
             geometry: &geometry,

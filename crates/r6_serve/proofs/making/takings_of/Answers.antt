@@ -1,4 +1,4 @@
-use Rattle.std.proofs.Common.{arith, rules, ◌≡◌, ◌∙◌, length, ap, sym, subst}
+use Rattle.std.proofs.Common.{arith, ◌≡◌, ◌∙◌, ◌≤◌, ℕ, length, ap, sym, subst}
 use Rattle.std.specs.List.{AllZip}
 use Rattle.std.proofs.lemmas.Iterator.Adapters.{YieldsList-from_vec}
 use Rattle.std.proofs.lemmas.Iterator.Consumers.{YieldsList-turn, YieldsList-end}
@@ -14,7 +14,8 @@ use Rattle.r6_serve.proofs.making.takings_of.Goals as goal
 pub split_off-part-requires-clause-has_parts : goal.split_off-part-requires-clause-has_parts
 split_off-part-requires-clause-has_parts g c =
     let turn = YieldsList-turn
-    (YieldsList-from_vec {s = c.into_iter-parts-iterator.result} c.args.parts.items (search rules) (search rules))
+    (YieldsList-from_vec {s = c.into_iter-parts-iterator.result} c.args.parts.items c.into_iter-parts-iterator.ensures.into_iter_gives.0
+    (c.into_iter-parts-iterator.ensures.into_iter_gives.1 ∙ c.args.parts.ok.0))
     c.loop-parts.yielded c.loop-parts.parts-iterator c.loop-parts.yielded_by c.next.result c.next.new.self c.in-Some.parts c.in-Some.is
     c.next.ensures.steps in
     let kept = c.loop-parts.invariant.2 in
@@ -26,7 +27,8 @@ split_off-part-requires-clause-has_parts g c =
 pub taking_of-requires-clause-number : goal.taking_of-requires-clause-number
 taking_of-requires-clause-number g c =
     let turn = YieldsList-turn
-    (YieldsList-from_vec {s = c.into_iter-parts-iterator.result} c.args.parts.items (search rules) (search rules))
+    (YieldsList-from_vec {s = c.into_iter-parts-iterator.result} c.args.parts.items c.into_iter-parts-iterator.ensures.into_iter_gives.0
+    (c.into_iter-parts-iterator.ensures.into_iter_gives.1 ∙ c.args.parts.ok.0))
     c.loop-parts.yielded c.loop-parts.parts-iterator c.loop-parts.yielded_by c.next.result c.next.new.self c.in-Some.parts c.in-Some.is
     c.next.ensures.steps in
     let kept = c.loop-parts.invariant.2 in
@@ -38,7 +40,8 @@ taking_of-requires-clause-number g c =
 pub push_reserved-requires : goal.push_reserved-requires
 push_reserved-requires g c =
     let turn = YieldsList-turn
-    (YieldsList-from_vec {s = c.into_iter-parts-iterator.result} c.args.parts.items (search rules) (search rules))
+    (YieldsList-from_vec {s = c.into_iter-parts-iterator.result} c.args.parts.items c.into_iter-parts-iterator.ensures.into_iter_gives.0
+    (c.into_iter-parts-iterator.ensures.into_iter_gives.1 ∙ c.args.parts.ok.0))
     c.loop-parts.yielded c.loop-parts.parts-iterator c.loop-parts.yielded_by c.next.result c.next.new.self c.in-Some.parts c.in-Some.is
     c.next.ensures.steps in
     let kept = c.loop-parts.invariant.2 in
@@ -50,7 +53,7 @@ loop-parts-preserved g c =
     let kept = c.loop-parts.invariant.2 in
     let taking = c.in_ok-taking.taking in
     let before = c.loop-parts.takings.items in
-    let long : c.len-in-loop-parts.result ≡ length before = search rules in
+    let long : c.len-in-loop-parts.result ≡ length before = c.len-in-loop-parts.ensures ∙ c.loop-parts.takings.ok.0 in
     let pushed = c.push_reserved.ensures.items in (
       tt,
       tt,
@@ -67,7 +70,7 @@ loop-parts-preserved g c =
             (c.in_ok-taking.ensures.number ∙ long));
         passes = rw pushed (All-push (λ t. IsPassOf c.args.opening.now.register.now t.runner.shard.pass) before taking kept.passes
             (subst (IsPassOf c.args.opening.now.register.now) (sym c.in_ok-taking.ensures.pass) c.split-pass.ensures.new));
-        room = search rules;
+        room = subst (λ (room : ℕ). length c.args.parts.items ≤ room) (sym c.push_reserved.ensures.capacity) kept.room;
         left = (let more = ap length pushed ∙ length_push before taking in let part = c.split_off-part.ensures.parts_left in
             let left = kept.left in omega (arith, more, part, left));
         none = (let gone = c.split_off-part.ensures.amount_left in let none = kept.none in omega (arith, gone, none));
@@ -77,7 +80,8 @@ loop-parts-preserved g c =
 pub returns-clause-begins : goal.returns-clause-begins
 returns-clause-begins g c =
     let end = YieldsList-end
-    (YieldsList-from_vec {s = c.into_iter-parts-iterator.result} c.args.parts.items (search rules) (search rules))
+    (YieldsList-from_vec {s = c.into_iter-parts-iterator.result} c.args.parts.items c.into_iter-parts-iterator.ensures.into_iter_gives.0
+    (c.into_iter-parts-iterator.ensures.into_iter_gives.1 ∙ c.args.parts.ok.0))
     c.loop-parts.yielded c.loop-parts.parts-iterator c.loop-parts.yielded_by c.next.result c.next.new.self c.in-None.is
     c.next.ensures.steps in
     subst (λ parts. AllZip (λ p t. Begins g.D.BlockDevice.told g.L.Events.shape g.L.Events.events
@@ -87,7 +91,8 @@ returns-clause-begins g c =
 pub returns-clause-sound : goal.returns-clause-sound
 returns-clause-sound g c =
     let end = YieldsList-end
-    (YieldsList-from_vec {s = c.into_iter-parts-iterator.result} c.args.parts.items (search rules) (search rules))
+    (YieldsList-from_vec {s = c.into_iter-parts-iterator.result} c.args.parts.items c.into_iter-parts-iterator.ensures.into_iter_gives.0
+    (c.into_iter-parts-iterator.ensures.into_iter_gives.1 ∙ c.args.parts.ok.0))
     c.loop-parts.yielded c.loop-parts.parts-iterator c.loop-parts.yielded_by c.next.result c.next.new.self c.in-None.is
     c.next.ensures.steps in
     subst (λ parts. AllZip (λ p t. BeginsSound g.D.BlockDevice.told g.D.BlockDevice.promised g.L.Events.shape
@@ -97,7 +102,8 @@ returns-clause-sound g c =
 pub returns-clause-parts : goal.returns-clause-parts
 returns-clause-parts g c =
     let end = YieldsList-end
-    (YieldsList-from_vec {s = c.into_iter-parts-iterator.result} c.args.parts.items (search rules) (search rules))
+    (YieldsList-from_vec {s = c.into_iter-parts-iterator.result} c.args.parts.items c.into_iter-parts-iterator.ensures.into_iter_gives.0
+    (c.into_iter-parts-iterator.ensures.into_iter_gives.1 ∙ c.args.parts.ok.0))
     c.loop-parts.yielded c.loop-parts.parts-iterator c.loop-parts.yielded_by c.next.result c.next.new.self c.in-None.is
     c.next.ensures.steps in
     let kept = c.loop-parts.invariant.2 in
@@ -106,3 +112,36 @@ returns-clause-parts g c =
     let left = kept.left in
     let all = end.1 in
     omega (arith, long, whole, left, all)
+
+pub returns-clause-numbered : goal.returns-clause-numbered
+returns-clause-numbered g c = c.loop-parts.invariant.2.numbered
+
+pub returns-clause-pass : goal.returns-clause-pass
+returns-clause-pass g c = c.loop-parts.invariant.2.pass
+
+pub returns-clause-passes : goal.returns-clause-passes
+returns-clause-passes g c = c.loop-parts.invariant.2.passes
+
+pub returns-clause-same : goal.returns-clause-same
+returns-clause-same g c = c.loop-parts.invariant.2.same
+
+pub returns-clause-amount : goal.returns-clause-amount
+returns-clause-amount g c = c.loop-parts.invariant.2.none
+
+pub taking_of-requires-clause-shape : goal.taking_of-requires-clause-shape
+taking_of-requires-clause-shape g c = c.requires.shape
+
+pub taking_of-requires-clause-window : goal.taking_of-requires-clause-window
+taking_of-requires-clause-window g c = c.requires.window
+
+pub taking_of-requires-clause-no_attach : goal.taking_of-requires-clause-no_attach
+taking_of-requires-clause-no_attach g c = c.requires.no_attach
+
+pub taking_of-requires-clause-unfailed : goal.taking_of-requires-clause-unfailed
+taking_of-requires-clause-unfailed g c = c.requires.unfailed
+
+pub taking_of-requires-clause-part : goal.taking_of-requires-clause-part
+taking_of-requires-clause-part g c = (c.split_off-part.ensures.parts, c.split_off-part.ensures.amount)
+
+pub split_off-part-requires-clause-left_backed : goal.split_off-part-requires-clause-left_backed
+split_off-part-requires-clause-left_backed g c = λ _. sym c.loop-parts.invariant.2.none

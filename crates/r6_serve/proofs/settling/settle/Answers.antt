@@ -1,4 +1,4 @@
-use Rattle.std.proofs.Common.{arith, rules, ◌∙◌, ◌++◌, ◌∷◌, [], length, map, ap, sym, subst, slice_get, option_map}
+use Rattle.std.proofs.Common.{arith, ◌∙◌, ◌≤◌, ◌++◌, ◌∷◌, [], ℕ, length, map, ap, sym, subst, slice_get, option_map}
 use Rattle.std.specs.List.{AllZip}
 use Rattle.std.proofs.lemmas.Iterator.Adapters.{YieldsList-from_vec}
 use Rattle.std.proofs.lemmas.Iterator.Consumers.{YieldsList-turn, YieldsList-end}
@@ -16,7 +16,8 @@ use Rattle.r6_serve.proofs.settling.settle.Goals as goal
 pub add-requires-clause-next : goal.add-requires-clause-next
 add-requires-clause-next g c =
     let turn = YieldsList-turn
-    (YieldsList-from_vec {s = c.into_iter-taking-iterator.result} c.args.takings.items (search rules) (search rules))
+    (YieldsList-from_vec {s = c.into_iter-taking-iterator.result} c.args.takings.items c.into_iter-taking-iterator.ensures.into_iter_gives.0
+    (c.into_iter-taking-iterator.ensures.into_iter_gives.1 ∙ c.args.takings.ok.0))
     c.loop-taking.yielded c.loop-taking.taking-iterator c.loop-taking.yielded_by c.next.result c.next.new.self c.in-Some.taking
     c.in-Some.is c.next.ensures.steps in
     let kept = c.loop-taking.invariant.2 in
@@ -26,7 +27,8 @@ add-requires-clause-next g c =
 pub add-requires-clause-room : goal.add-requires-clause-room
 add-requires-clause-room g c =
     let turn = YieldsList-turn
-    (YieldsList-from_vec {s = c.into_iter-taking-iterator.result} c.args.takings.items (search rules) (search rules))
+    (YieldsList-from_vec {s = c.into_iter-taking-iterator.result} c.args.takings.items c.into_iter-taking-iterator.ensures.into_iter_gives.0
+    (c.into_iter-taking-iterator.ensures.into_iter_gives.1 ∙ c.args.takings.ok.0))
     c.loop-taking.yielded c.loop-taking.taking-iterator c.loop-taking.yielded_by c.next.result c.next.new.self c.in-Some.taking
     c.in-Some.is c.next.ensures.steps in
     let kept = c.loop-taking.invariant.2 in
@@ -38,7 +40,8 @@ add-requires-clause-room g c =
 pub hear-requires-clause-runner : goal.hear-requires-clause-runner
 hear-requires-clause-runner g c =
     let turn = YieldsList-turn
-    (YieldsList-from_vec {s = c.into_iter-taking-iterator.result} c.args.takings.items (search rules) (search rules))
+    (YieldsList-from_vec {s = c.into_iter-taking-iterator.result} c.args.takings.items c.into_iter-taking-iterator.ensures.into_iter_gives.0
+    (c.into_iter-taking-iterator.ensures.into_iter_gives.1 ∙ c.args.takings.ok.0))
     c.loop-taking.yielded c.loop-taking.taking-iterator c.loop-taking.yielded_by c.next.result c.next.new.self c.in-Some.taking
     c.in-Some.is c.next.ensures.steps in
     subst (λ taking. IsPassOf c.args.register.now taking.runner.shard.pass) (sym turn.1)
@@ -47,7 +50,8 @@ hear-requires-clause-runner g c =
 pub push_reserved-requires : goal.push_reserved-requires
 push_reserved-requires g c =
     let turn = YieldsList-turn
-    (YieldsList-from_vec {s = c.into_iter-taking-iterator.result} c.args.takings.items (search rules) (search rules))
+    (YieldsList-from_vec {s = c.into_iter-taking-iterator.result} c.args.takings.items c.into_iter-taking-iterator.ensures.into_iter_gives.0
+    (c.into_iter-taking-iterator.ensures.into_iter_gives.1 ∙ c.args.takings.ok.0))
     c.loop-taking.yielded c.loop-taking.taking-iterator c.loop-taking.yielded_by c.next.result c.next.new.self c.in-Some.taking
     c.in-Some.is c.next.ensures.steps in
     let kept = c.loop-taking.invariant.2 in
@@ -92,15 +96,16 @@ loop-taking-preserved g c =
             c.hear.result kept.runners heard.kept);
         heard = rw pushed (heard_more c.args.register.now old new before taking.runner c.hear.result kept.heard heard.joined
             heard.runner heard.kept.shard.view);
-        room = search rules;
-        runners_room = search rules;
+        room = subst (λ (room : ℕ). g.L.Events.shape.shards ≤ room) (sym c.add.ensures.room) kept.room;
+        runners_room = subst (λ (room : ℕ). g.L.Events.shape.shards ≤ room) (sym c.push_reserved.ensures.capacity) kept.runners_room;
       },
     )
 
 pub settle-requires-clause-shards : goal.settle-requires-clause-shards
 settle-requires-clause-shards g c =
     let end = YieldsList-end
-    (YieldsList-from_vec {s = c.into_iter-taking-iterator.result} c.args.takings.items (search rules) (search rules))
+    (YieldsList-from_vec {s = c.into_iter-taking-iterator.result} c.args.takings.items c.into_iter-taking-iterator.ensures.into_iter_gives.0
+    (c.into_iter-taking-iterator.ensures.into_iter_gives.1 ∙ c.args.takings.ok.0))
     c.loop-taking.yielded c.loop-taking.taking-iterator c.loop-taking.yielded_by c.next.result c.next.new.self c.in-None.is
     c.next.ensures.steps in
     ap length c.loop-taking.invariant.2.taken ∙ length-map c.loop-taking.yielded (λ taking. taking.consumer.numbers) ∙ end.1
@@ -109,7 +114,8 @@ settle-requires-clause-shards g c =
 pub returns-clause-runners : goal.returns-clause-runners
 returns-clause-runners g c =
     let end = YieldsList-end
-    (YieldsList-from_vec {s = c.into_iter-taking-iterator.result} c.args.takings.items (search rules) (search rules))
+    (YieldsList-from_vec {s = c.into_iter-taking-iterator.result} c.args.takings.items c.into_iter-taking-iterator.ensures.into_iter_gives.0
+    (c.into_iter-taking-iterator.ensures.into_iter_gives.1 ∙ c.args.takings.ok.0))
     c.loop-taking.yielded c.loop-taking.taking-iterator c.loop-taking.yielded_by c.next.result c.next.new.self c.in-None.is
     c.next.ensures.steps in
     subst (λ takings. AllZip (λ t r. KeepsAll g.D.BlockDevice.told t.runner r) takings c.loop-taking.runners.items)
@@ -118,7 +124,8 @@ returns-clause-runners g c =
 pub returns-clause-taken : goal.returns-clause-taken
 returns-clause-taken g c shard taking at =
     let end = YieldsList-end
-    (YieldsList-from_vec {s = c.into_iter-taking-iterator.result} c.args.takings.items (search rules) (search rules))
+    (YieldsList-from_vec {s = c.into_iter-taking-iterator.result} c.args.takings.items c.into_iter-taking-iterator.ensures.into_iter_gives.0
+    (c.into_iter-taking-iterator.ensures.into_iter_gives.1 ∙ c.args.takings.ok.0))
     c.loop-taking.yielded c.loop-taking.taking-iterator c.loop-taking.yielded_by c.next.result c.next.new.self c.in-None.is
     c.next.ensures.steps in
     let all = sym (unchanged c.loop-taking.yielded) ∙ end.0 in
