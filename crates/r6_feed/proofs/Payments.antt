@@ -5,7 +5,7 @@ use Rattle.std.proofs.lemmas.Option.{slice_get_within}
 use Rattle.std.proofs.lemmas.List.{get_or-set_same, get_or-set_other, length-set}
 use Rattle.std.proofs.lemmas.Bool.Decides.{nat_tests}
 use Rattle.std.proofs.lemmas.List.Elements.{All-set}
-use Rattle.std.proofs.lemmas.Bool.{cases_eq}
+use Rattle.std.proofs.lemmas.Bool.{cases_eq, lt-ltb}
 use Rattle.std.proofs.Math.Seq.{take-append_seam}
 use Rattle.r6_layout.specs.Shape.{Shape}
 use Rattle.r6_lists.specs.Events.{Event, Duty, duty_of, Task, task, task_at, waits_before}
@@ -99,7 +99,7 @@ pub among : {P : Type 0} (shard : ℕ) (shape : Shape) (producers : List P) → 
     → shard < shape.shards → shard < length producers
 among shard shape producers long below = omega (arith, long, below)
 
-duty_is : (shape : Shape) (shard : ℕ) (events : List Event) (number : ℕ) (event : Event) (duty : Duty)
+pub duty_is : (shape : Shape) (shard : ℕ) (events : List Event) (number : ℕ) (event : Event) (duty : Duty)
     → slice_get events number ≡ Some event → duty_of shape shard event ≡ Some duty
     → task_at shape shard events number ≡ Some (task number (waits_before events number) duty)
 duty_is shape shard events number event duty at is = task_is shape shard events number event (Some duty) at is
@@ -170,6 +170,14 @@ pub below_one : (shard number : ℕ) → next_below shard number shard ≡ numbe
 below_one shard number =
     let not : nat_lt shard shard ≡ false = grind (arith, nat_tests) in
     ap (λ b. if b then number + 1 else number) not
+
+pub none_below : (number other : ℕ) → next_below 0 number other ≡ number
+none_below number other =
+    let not : nat_lt other 0 ≡ false = grind (arith, nat_tests) in
+    ap (λ b. if b then number + 1 else number) not
+
+pub below_all : (shard number other : ℕ) → other < shard → next_below shard number other ≡ number + 1
+below_all shard number other below = ap (λ b. if b then number + 1 else number) (lt-ltb other shard below)
 
 below_next : (shard number : ℕ) → next_below (shard + 1) number shard ≡ number + 1
 below_next shard number =

@@ -11,7 +11,6 @@ use std::sync::Wait;
 use std::thread;
 
 // The slot is lost.
-#[tactic(auto, using(crate::proofs::Told::no_call_yet, crate::proofs::Told::came_between, crate::proofs::Told::answered_since))]
 pub(crate) fn fail<R: Wait>(
     rt: &R,
     register: &Register,
@@ -34,7 +33,6 @@ pub(crate) fn fail<R: Wait>(
 }
 
 // The slot gets a new device.
-#[tactic(auto, using(crate::proofs::Told::no_call_yet, crate::proofs::Told::came_between_attach, crate::proofs::Told::attached_since))]
 pub(crate) fn attach<R: Wait>(
     rt: &R,
     register: &Register,

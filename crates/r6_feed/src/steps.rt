@@ -67,7 +67,6 @@ impl<L: Events> Feed<L> {
     }
 
     // A request.
-    #[tactic(auto, using(crate::proofs::Told::tells_same))]
     pub(crate) fn request<D: BlockDevice + Drop, R: Wait>(
         &mut self,
         rt: &R,

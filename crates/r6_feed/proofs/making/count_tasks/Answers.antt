@@ -1,4 +1,5 @@
 use Rattle.std.proofs.Common.{◌≡◌, ◌∙◌, Some, length, slice_get, option_map, refl, ap, rules}
+use mir.Val.{bool_byte}
 use Rattle.std.proofs.lemmas.Option.{slice_get-map, slice_get_read}
 use Rattle.r6_feed.specs.Events.{event_of, events_of}
 use Rattle.r6_feed.proofs.Counts.{counted, few_tasks}
@@ -21,4 +22,4 @@ loop-event-preserved g c =
     c.loop-event-test.true c.event-item.is) in
     counted c.args.geometry.now c.args.shard (events_of g.D.BlockDevice.told c.args.events.now)
     c.loop-event.event-index _ c.has_part.result at c.has_part.ensures _ _ c.loop-event.invariant
-    (λ is. let one = c.from-count.ensures in search rules) (λ is. let one = c.from-count.ensures in search rules)
+    (λ is. c.from-count.ensures ∙ ap bool_byte is) (λ is. c.from-count.ensures ∙ ap bool_byte is)

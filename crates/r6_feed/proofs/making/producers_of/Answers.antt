@@ -4,7 +4,7 @@ use Rattle.r6_lists.specs.Events.{tasks_of}
 use Rattle.r6_lists.proofs.Elements.{all_pushed}
 use Rattle.r6_feed.specs.Events.{events_of}
 use Rattle.r6_feed.specs.Feeds.{HasLeft}
-use Rattle.r6_feed.proofs.Counts.{one_more, sum_more}
+use Rattle.r6_feed.proofs.Counts.{one_more, sum_more, tasks_below}
 use Rattle.r6_feed.proofs.making.producers_of.Goals as goal
 
 pub loop-shard-preserved : goal.loop-shard-preserved
@@ -32,3 +32,27 @@ loop-shard-preserved g c =
           let before = was.counted in
           omega (arith, sum, book, before, tasks);
     }
+
+pub split_off-part-requires-clause-has_parts : goal.split_off-part-requires-clause-has_parts
+split_off-part-requires-clause-has_parts g c =
+    let shards = ap (λ s. s.shards) c.requires.shape in
+    omega (arith, c.loop-shard.invariant.parts, c.loop-shard-test.true, c.shards-shards.ensures.value, shards)
+
+pub split_off-part-requires-clause-left_backed : goal.split_off-part-requires-clause-left_backed
+split_off-part-requires-clause-left_backed g c = λ _. sym c.loop-shard.invariant.amount
+
+pub returns-clause-left : goal.returns-clause-left
+returns-clause-left g c =
+    let at = c.loop-shard.invariant in
+    let shards = ap (λ s. s.shards) c.requires.shape in
+    let ends : c.loop-shard.shard ≡ g.L.Events.shape.shards =
+    omega (arith, c.loop-shard-test.false, c.loop-shard.auto.shard-end, c.shards-shards.ensures.value, shards) in
+    record { shards = at.many ∙ ends; open_yet = at.open_yet; has_left = at.has_left }
+
+pub returns-clause-counted : goal.returns-clause-counted
+returns-clause-counted g c =
+    let shards = ap (λ s. s.shards) c.requires.shape in
+    let ends : c.loop-shard.shard ≡ g.L.Events.shape.shards =
+    omega (arith, c.loop-shard-test.false, c.loop-shard.auto.shard-end, c.shards-shards.ensures.value, shards) in
+    c.loop-shard.invariant.counted
+    ∙ ap (λ shard. c.args.book.now.total + tasks_below g.L.Events.shape g.L.Events.events shard) ends
