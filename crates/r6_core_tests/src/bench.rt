@@ -1,19 +1,17 @@
 //! A core over devices in memory, which does one step at a time.
 
-ghost use Rattle.std.specs.Prelude.{◌≡◌, length, IfOk};
-ghost use Rattle.r6_layout.specs.Shape.{IsShape};
-
 use r6_core::{
     Call, Command, CommandKind, Core, Counts, DeviceFault, FaultKind, Op, OpId, Receipt, Refused,
     Reply, Task, Turn,
 };
 use r6_dev::{BlockDevice, MemoryDevice};
-use r6_health::{Answer as RegisterAnswer, Refusal as RegisterRefusal, Snapshot};
+use r6_health::{
+    Answer as RegisterAnswer, Call as RegisterCall, Refusal as RegisterRefusal, Snapshot,
+};
 use r6_kernels::Buffer;
 use r6_layout::Geometry;
 use std::alloc::{AllocError, Global};
 use std::process::Abort;
-use std::test::Fail;
 
 /// Four slots, which each array here has.
 const SLOTS: usize = 4;
@@ -21,13 +19,22 @@ const SLOTS: usize = 4;
 /// The bytes of a block.
 const BLOCK: usize = 16;
 
-const NO_ERRORS: Trouble<'static> = Trouble::Errors(&[]);
+/// What no block has throughout.
+const MIXED: u16 = 0x100;
+
+/// A token that no command has here.
+pub(crate) const NO_TOKEN: u64 = 999;
+
+const NO_TROUBLE: Trouble = Trouble {
+    errors: [NO_TOKEN; 3],
+    slot: 0,
+    at: NO_TOKEN,
+};
 
 /// What the register says of a call.
 pub(crate) type Told = Result<RegisterAnswer, RegisterRefusal>;
 
 /// What happens next.
-#[derive(Clone, Copy)]
 pub(crate) enum Step {
     /// A request to write this byte throughout a block.
     Write(u64, u8),
@@ -59,6 +66,8 @@ pub(crate) enum Step {
     TellAll,
     /// The register hears that a slot is lost.
     Lose(usize),
+    /// The register hears that a slot has a new device.
+    Attach(usize),
     /// The core looks at the register.
     Look,
     /// The next reply is taken.
@@ -78,7 +87,6 @@ pub(crate) enum Step {
 }
 
 /// What many requests ask for, one after another.
-#[derive(Clone, Copy)]
 pub(crate) enum Requests {
     /// To write 5a throughout the first block of each row, from this row on.
     WriteRows(u64),
@@ -92,7 +100,7 @@ pub(crate) enum Requests {
 }
 
 /// What a step answers.
-#[derive(Clone, Copy, PartialEq, Eq)]
+#[derive(Clone, Copy, PartialEq)]
 pub(crate) enum Answer {
     /// The number of the request.
     Accepted(u64),
@@ -120,42 +128,39 @@ pub(crate) enum Answer {
     Lost,
     Looked,
     /// The number of the request, and the byte that its buffer has throughout.
-    Done(u64, u8),
-    Data(u64, u8),
+    Done(u64, u16),
+    Data(u64, u16),
     /// The array has failed: the number of the request.
     Failed(u64),
+    /// That of a slot in sync, or of a new device.
     Generation(Option<u32>),
     Turned(Turn),
     Counted(Counts),
     Spoilt,
     /// The byte that the block has throughout.
-    Stored(u8),
+    Stored(u16),
     Nothing,
     /// Nothing that a core may answer.
     Wrong,
 }
 
-/// Whether an answer is this one.
-pub(crate) fn is(found: &Answer, wanted: &Answer) -> bool {
-    found == wanted
-}
-
 /// What goes wrong while commands are answered.
 #[derive(Clone, Copy)]
-pub(crate) enum Trouble<'a> {
+pub(crate) struct Trouble {
     /// The commands of these tokens have an error.
-    Errors(&'a [u64]),
-    /// Before the command of the token is answered, a look finds the slot lost.
-    Loss(usize, u64),
+    pub(crate) errors: [u64; 3],
+    /// This slot is lost, and looked at, before the command of the token is answered.
+    pub(crate) slot: usize,
+    pub(crate) at: u64,
 }
 
-/// An array with so many rows and shards, at whose start these slots are lost, and the steps that it has to take, each
-/// with its answer.
-#[derive(Clone, Copy)]
+/// An array with so many rows and shards, of whose rows so many may be rebuilt at one time, and at whose start these
+/// slots are lost; and the steps that it has to take, each with its answer.
 pub(crate) struct Course<'a> {
     pub(crate) name: &'a str,
     pub(crate) rows: u64,
     pub(crate) shards: usize,
+    pub(crate) window: usize,
     pub(crate) lost: &'a [usize],
     pub(crate) steps: &'a [(Step, Answer)],
 }
@@ -163,52 +168,32 @@ pub(crate) struct Course<'a> {
 /// The core of shard 0 over devices in memory, beside what the register holds.
 #[derive(Drop)]
 pub(crate) struct Bench {
-    alloc: Global,
-    core: Core,
-    devices: Vec<MemoryDevice>,
+    pub(crate) alloc: Global,
+    pub(crate) core: Core,
+    pub(crate) devices: Vec<MemoryDevice>,
     rows: u64,
-    pub(crate) register: Snapshot,
+    register: Snapshot,
     taken: Vec<Command>,
 }
 
-/// A block with one byte throughout.
-pub(crate) fn filled(alloc: Global, len: usize, byte: u8) -> Result<Buffer, AllocError>
-    ensures { IfOk result (λ block. length block ≡ len) }
-{
-    let bytes = vec![in alloc; byte; len]?;
-    let mut block = Buffer::new(alloc, len)?;
+/// A block with one byte throughout. Where memory is wanting it is empty, and what it is for goes wrong.
+pub(crate) fn filled(alloc: Global, len: usize, byte: u8) -> Buffer {
+    let Ok(bytes) = vec![in alloc; byte; len] else {
+        return Buffer::empty(alloc);
+    };
+    let Ok(mut block) = Buffer::new(alloc, len) else {
+        return Buffer::empty(alloc);
+    };
     block.copy_from_slice(bytes.as_slice());
-    Ok(block)
+    block
 }
 
 /// The byte that a block has throughout.
-pub(crate) fn byte_of(block: &Buffer) -> Option<u8> {
-    let byte = *block.as_slice().first()?;
-    if block.len() == BLOCK && block.as_slice().iter().all(|b| *b == byte) {
-        Some(byte)
-    } else {
-        None
+pub(crate) fn byte_of(block: &Buffer) -> u16 {
+    match block.as_slice().first() {
+        Some(byte) if block.as_slice() == [*byte; BLOCK].as_slice() => u16::from(*byte),
+        _ => MIXED,
     }
-}
-
-/// The register after a slot is declared lost, and what it answers.
-fn declare(register: &Snapshot, slot: usize) -> (Told, Snapshot) {
-    if register.failed() {
-        return (Err(RegisterRefusal::ArrayFailed), *register);
-    }
-    if slot >= SLOTS {
-        return (Err(RegisterRefusal::NoSuchSlot), *register);
-    }
-    if register.slot(slot).is_lost() {
-        return (Err(RegisterRefusal::AlreadyLost), *register);
-    }
-    let register = register.lose(slot);
-    let answer = if register.failed() {
-        RegisterAnswer::Failed
-    } else {
-        RegisterAnswer::Degraded
-    };
-    (Ok(answer), register)
 }
 
 /// The devices of an array, of zeros.
@@ -220,39 +205,13 @@ fn devices_of(alloc: Global, rows: u64) -> Result<Vec<MemoryDevice>, AllocError>
     Ok(devices)
 }
 
-/// The core of shard 0 of an array with this register, to which no device was attached.
-fn core_of(
-    alloc: Global,
-    geometry: &Geometry,
-    register: &Snapshot,
-    window: usize,
-) -> Result<Core, Fail>
-    requires { IsShape geometry.now }
-{
-    let may_be = window > 0 && window <= 8 && geometry.shards() > 0;
-    if !may_be || register.failed() || register.attaches() > 0 {
-        return Err(Fail::from("no start"));
-    }
-    Ok(Core::new(alloc, *geometry, 0, window, register)?)
-}
-
-/// The register of an array at whose start these slots are lost.
-pub(crate) fn register_without(geometry: &Geometry, lost: &[usize]) -> Snapshot {
-    let mut register = Snapshot::start(geometry, 0);
-    for slot in lost {
-        register = declare(&register, *slot).1;
-    }
-    register
-}
-
-/// Plays a course on a new array: each step has to answer so.
-pub(crate) fn play<R: Abort>(rt: &R, alloc: Global, course: &Course<'_>) -> Result<(), Fail> {
-    let mut bench = Bench::new(alloc, course.rows, course.shards, course.lost, 1)?;
-    Ok(bench.play(rt, course.name, course.steps)?)
+/// Whether an answer is this one.
+pub(crate) fn is(found: &Answer, wanted: &Answer) -> bool {
+    found == wanted
 }
 
 /// The block of the request that comes so many behind the first, and the byte that it writes there.
-fn request_at(requests: Requests, index: u64) -> (u64, Option<u8>) {
+fn request_at(requests: &Requests, index: u64) -> (u64, Option<u8>) {
     match requests {
         Requests::WriteRows(row) => (row.saturating_add(index).saturating_mul(2), Some(0x5a)),
         Requests::WritePairs => {
@@ -260,104 +219,120 @@ fn request_at(requests: Requests, index: u64) -> (u64, Option<u8>) {
             let byte = if index % 2 == 0 { 0x11 } else { 0x22 };
             (row_pair.saturating_add(index % 2 + 1), Some(byte))
         }
-        Requests::Read(block) => (block, None),
+        Requests::Read(block) => (*block, None),
         Requests::ReadEight => (index % 8, None),
     }
 }
 
+/// The register of an array of four slots at whose start these slots are lost.
+fn register_without(geometry: &Geometry, lost: &[usize]) -> Snapshot {
+    let mut register = Snapshot::start(geometry, 0);
+    for slot in lost {
+        if let Ok((_, next)) = register.apply(SLOTS, 1, RegisterCall::Fail(*slot)) {
+            register = next;
+        }
+    }
+    register
+}
+
+/// A core takes each course from its beginning on.
+pub(crate) fn play_all<R: Abort>(rt: &R, alloc: Global, courses: &[Course<'_>]) {
+    for course in courses {
+        match Bench::new(alloc, course) {
+            Some(mut bench) => bench.play(rt, course),
+            None => panic!(rt; "no start of {}", course.name),
+        }
+    }
+}
+
 impl Bench {
-    /// An array of four slots, chunks of one block and blocks of 16 bytes, at whose start these slots are lost. So many
-    /// of its rows may be rebuilt at one time.
-    pub(crate) fn new(
-        alloc: Global,
-        rows: u64,
-        shards: usize,
-        lost: &[usize],
-        window: usize,
-    ) -> Result<Bench, Fail> {
-        let geometry = Geometry::new(SLOTS, 1, BLOCK, rows, shards)?;
-        let register = register_without(&geometry, lost);
-        Ok(Bench {
+    /// An array of four slots, chunks of one block and blocks of 16 bytes, as the course has it. Of the values that have
+    /// to be dropped the core is made last, so that nothing ends early beside it.
+    pub(crate) fn new(alloc: Global, course: &Course<'_>) -> Option<Bench> {
+        let Ok(geometry) = Geometry::new(SLOTS, 1, BLOCK, course.rows, course.shards) else {
+            return None;
+        };
+        let register = register_without(&geometry, course.lost);
+        let window = course.window;
+        let may_be = window > 0 && window <= 8 && geometry.shards() > 0;
+        if !may_be || register.failed() || register.attaches() > 0 {
+            return None;
+        }
+        let Ok(devices) = devices_of(alloc, course.rows) else {
+            return None;
+        };
+        let Ok(core) = Core::new(alloc, geometry, 0, window, &register) else {
+            return None;
+        };
+        Some(Bench {
             alloc,
-            core: core_of(alloc, &geometry, &register, window)?,
-            devices: devices_of(alloc, rows)?,
-            rows,
+            core,
+            devices,
+            rows: course.rows,
             register,
             taken: Vec::new(alloc),
         })
     }
 
-    /// Plays the course of this name: each step has to answer so.
-    pub(crate) fn play<R: Abort>(
-        &mut self,
-        rt: &R,
-        name: &str,
-        steps: &[(Step, Answer)],
-    ) -> Result<(), AllocError> {
-        for (index, (step, answer)) in steps.iter().enumerate() {
-            assert!(rt; is(&self.answer(*step)?, answer), "step {index} of {name}");
+    /// Takes the steps of a course: each has to answer so.
+    pub(crate) fn play<R: Abort>(&mut self, rt: &R, course: &Course<'_>) {
+        for (index, (step, answer)) in course.steps.iter().enumerate() {
+            assert!(rt;
+                is(&self.answer(step), answer),
+                "step {index} of {}",
+                course.name
+            );
         }
-        Ok(())
     }
 
-    /// What a step answers.
-    fn answer(&mut self, step: Step) -> Result<Answer, AllocError> {
-        Ok(match step {
-            Step::Write(block, byte) => self.request(block, BLOCK, Some(byte))?,
-            Step::Read(block) => self.request(block, BLOCK, None)?,
-            Step::ReadInto(block, len) => self.request(block, len, None)?,
-            Step::Submit(requests, first, end) => self.request_all(requests, first, end)?,
-            Step::Take => self.take()?,
-            Step::TakeAll => self.take_all()?,
-            Step::Do(token) => self.answer_taken(token, true),
-            Step::Fail(token) => self.answer_taken(token, false),
-            Step::Deliver(token, len, byte) => self.deliver_filled(token, len, byte)?,
-            Step::DeliverLate(first, end) => self.deliver_late(first, end)?,
-            Step::Drive(most) => self.drive(most, &NO_ERRORS),
-            Step::TakeCall => self.take_call(),
-            Step::Tell(slot, told) => self.tell(Call::DeclareLost(slot, 0), told),
-            Step::TellAll => self.tell_all(),
-            Step::Lose(slot) => self.lose(slot),
-            Step::Look => self.look(),
+    /// What a step answers. Where memory is wanting, that is wrong.
+    fn answer(&mut self, step: &Step) -> Answer {
+        match step {
+            Step::Write(block, byte) => self.request(*block, BLOCK, Some(*byte)),
+            Step::Read(block) => self.request(*block, BLOCK, None),
+            Step::ReadInto(block, len) => self.request(*block, *len, None),
+            Step::Submit(requests, first, end) => self.request_all(requests, *first, *end),
+            Step::Take => self.take(),
+            Step::TakeAll => self.take_all(),
+            Step::Do(token) => self.answer_taken(*token, true),
+            Step::Fail(token) => self.answer_taken(*token, false),
+            Step::Deliver(token, len, byte) => self.deliver_filled(*token, *len, *byte),
+            Step::DeliverLate(first, end) => self.deliver_late(*first, *end),
+            Step::Drive(most) => self.drive(*most, &NO_TROUBLE),
             Step::Reply => self.take_reply(),
-            Step::InSync(slot) => Answer::Generation(self.core.in_sync(slot)),
-            Step::Turn(task) => self.turn(task),
-            Step::Pass(task) => match self.turn(task) {
-                Answer::Turned(Turn::Started) => self.drive(9, &NO_ERRORS),
+            step => self.answer_beside(step),
+        }
+    }
+
+    /// What a step answers that makes no request and no completion.
+    fn answer_beside(&mut self, step: &Step) -> Answer {
+        match step {
+            Step::TakeCall => self.take_call(),
+            Step::Tell(slot, told) => self.tell(Call::DeclareLost(*slot, 0), *told),
+            Step::TellAll => self.tell_all(),
+            Step::Lose(slot) => self.change(RegisterCall::Fail(*slot)),
+            Step::Attach(slot) => self.change(RegisterCall::Attach(*slot)),
+            Step::Look => self.look(),
+            Step::InSync(slot) => Answer::Generation(self.core.in_sync(*slot)),
+            Step::Turn(task) => self.turn(*task),
+            Step::Pass(task) => match self.turn(*task) {
+                Answer::Turned(Turn::Started) => self.drive(9, &NO_TROUBLE),
                 answer => answer,
             },
             Step::Counts => Answer::Counted(self.core.counts()),
-            Step::Spoil(slot, row, byte) => self.spoil(slot, row, byte)?,
-            Step::Stored(slot, row) => self.stored(slot, row)?,
-        })
-    }
-
-    /// A request to write this byte throughout a block; or to read it, into a buffer of this length.
-    fn request(&mut self, block: u64, len: usize, byte: Option<u8>) -> Result<Answer, AllocError> {
-        let op = match byte {
-            Some(byte) => Op::Write(block, filled(self.alloc, len, byte)?),
-            None => Op::Read(block, Buffer::new(self.alloc, len)?),
-        };
-        Ok(self.submit(op))
-    }
-
-    fn request_all(
-        &mut self,
-        requests: Requests,
-        first: u64,
-        end: u64,
-    ) -> Result<Answer, AllocError> {
-        for id in first..end {
-            let (block, byte) = request_at(requests, id - first);
-            if !is(&self.request(block, BLOCK, byte)?, &Answer::Accepted(id)) {
-                return Ok(Answer::Wrong);
-            }
+            Step::Spoil(slot, row, byte) => self.spoil(*slot, *row, *byte),
+            Step::Stored(slot, row) => self.stored(*slot, *row),
+            _ => Answer::Wrong,
         }
-        Ok(Answer::AllAccepted)
     }
 
-    fn submit(&mut self, op: Op) -> Answer {
-        let (block, len) = (op.block(), op.buffer().len());
+    /// A request to write this byte throughout a block; or to read it, into a buffer of this length. One that is
+    /// refused comes back with its block and its buffer.
+    fn request(&mut self, block: u64, len: usize, byte: Option<u8>) -> Answer {
+        let op = match byte {
+            Some(byte) => Op::Write(block, filled(self.alloc, len, byte)),
+            None => Op::Read(block, filled(self.alloc, len, 0)),
+        };
         match self.core.submit(op) {
             Ok(OpId(id)) => Answer::Accepted(id),
             Err(Refused { refusal, back }) => {
@@ -370,42 +345,60 @@ impl Bench {
         }
     }
 
-    fn take(&mut self) -> Result<Answer, AllocError> {
-        let Some(command) = self.core.take_command() else {
-            return Ok(Answer::Nothing);
-        };
-        let answer = Answer::Command(command.token, command.slot, command.row);
-        self.taken.push(command)?;
-        Ok(answer)
-    }
-
-    fn take_all(&mut self) -> Result<Answer, AllocError> {
-        for count in 0..usize::MAX {
-            if self.take()? == Answer::Nothing {
-                return Ok(Answer::Commands(count));
+    fn request_all(&mut self, requests: &Requests, first: u64, end: u64) -> Answer {
+        for id in first..end {
+            let (block, byte) = request_at(requests, id - first);
+            if !is(&self.request(block, BLOCK, byte), &Answer::Accepted(id)) {
+                return Answer::Wrong;
             }
         }
-        Ok(Answer::Wrong)
+        Answer::AllAccepted
+    }
+
+    fn take(&mut self) -> Answer {
+        let Some(command) = self.core.take_command() else {
+            return Answer::Nothing;
+        };
+        let answer = Answer::Command(command.token, command.slot, command.row);
+        match self.taken.push(command) {
+            Ok(()) => answer,
+            Err(_) => Answer::Wrong,
+        }
+    }
+
+    fn take_all(&mut self) -> Answer {
+        for count in 0..usize::MAX {
+            match self.take() {
+                Answer::Command(_, _, _) => {}
+                Answer::Nothing => return Answer::Commands(count),
+                _ => break,
+            }
+        }
+        Answer::Wrong
     }
 
     /// The device of a command that was taken answers it.
     fn answer_taken(&mut self, token: u64, is_good: bool) -> Answer {
-        match self.taken.iter().position(|command| command.token == token) {
-            Some(index) => {
+        for index in 0..self.taken.len() {
+            if self.taken[index].token == token {
                 let command = self.taken.swap_remove(index);
-                self.complete(command, is_good)
+                return self.complete(command, is_good);
             }
-            None => Answer::Nothing,
         }
+        Answer::Nothing
     }
 
     /// The device of a command performs it, or answers an error, and its completion is delivered.
     fn complete(&mut self, mut command: Command, is_good: bool) -> Answer {
-        if !is_good {
-            return self.fail(command);
+        let kind = FaultKind::Gone;
+        if is_good {
+            self.perform(&mut command);
+            self.deliver(command.token, Ok(command.buffer))
+        } else {
+            self.fail(&mut command);
+            let buffer = command.buffer;
+            self.deliver(command.token, Err(DeviceFault { kind, buffer }))
         }
-        self.perform(&mut command);
-        self.deliver(command.token, Ok(command.buffer))
     }
 
     fn perform(&mut self, command: &mut Command) {
@@ -417,18 +410,16 @@ impl Bench {
         }
     }
 
-    fn fail(&mut self, command: Command) -> Answer {
-        let mut buffer = command.buffer;
-        if buffer.len() == BLOCK {
-            buffer.copy_from_slice(&[0xee; BLOCK]);
+    /// The device of a command has other bytes from now on, and so has the command's buffer.
+    fn fail(&mut self, command: &mut Command) {
+        if command.buffer.len() == BLOCK {
+            command.buffer.copy_from_slice(&[0xee; BLOCK]);
         }
         if let Some(device) = self.devices.get_mut(command.slot) {
             for row in 0..self.rows {
-                let _ = device.write(row, &buffer);
+                let _ = device.write(row, &command.buffer);
             }
         }
-        let kind = FaultKind::Gone;
-        self.deliver(command.token, Err(DeviceFault { kind, buffer }))
     }
 
     fn deliver(&mut self, token: u64, completion: Result<Buffer, DeviceFault>) -> Answer {
@@ -439,22 +430,22 @@ impl Bench {
         }
     }
 
-    fn deliver_filled(&mut self, token: u64, len: usize, byte: u8) -> Result<Answer, AllocError> {
-        let block = filled(self.alloc, len, byte)?;
-        Ok(self.deliver(token, Ok(block)))
+    fn deliver_filled(&mut self, token: u64, len: usize, byte: u8) -> Answer {
+        let block = filled(self.alloc, len, byte);
+        self.deliver(token, Ok(block))
     }
 
-    fn deliver_late(&mut self, first: u64, end: u64) -> Result<Answer, AllocError> {
+    fn deliver_late(&mut self, first: u64, end: u64) -> Answer {
         for token in first..end {
-            if !is(&self.deliver_filled(token, BLOCK, 0)?, &Answer::Late) {
-                return Ok(Answer::Wrong);
-            }
+            let Answer::Late = self.deliver_filled(token, BLOCK, 0) else {
+                return Answer::Wrong;
+            };
         }
-        Ok(Answer::AllLate)
+        Answer::AllLate
     }
 
     /// Takes and answers commands until there is none, so many at the most.
-    fn drive(&mut self, most: usize, trouble: &Trouble<'_>) -> Answer {
+    fn drive(&mut self, most: usize, trouble: &Trouble) -> Answer {
         let (mut taken, mut late): (usize, usize) = (0, 0);
         for _ in 0..most {
             let Some(command) = self.core.take_command() else {
@@ -471,17 +462,13 @@ impl Bench {
     }
 
     /// Whether the device of a command performs it. A slot may be lost before.
-    fn is_good(&mut self, token: u64, trouble: &Trouble<'_>) -> bool {
-        match trouble {
-            Trouble::Errors(tokens) => !tokens.contains(&token),
-            Trouble::Loss(slot, at) => {
-                if token == *at {
-                    self.lose(*slot);
-                    self.look();
-                }
-                true
-            }
+    fn is_good(&mut self, token: u64, trouble: &Trouble) -> bool {
+        if token == trouble.at {
+            self.change(RegisterCall::Fail(trouble.slot));
+            self.look();
         }
+        let [first, second, third] = trouble.errors;
+        token != first && token != second && token != third
     }
 
     fn take_call(&mut self) -> Answer {
@@ -499,28 +486,33 @@ impl Bench {
         }
     }
 
+    /// What the register answers to a call.
+    fn call(&mut self, call: RegisterCall) -> Told {
+        let (answer, register) = self.register.apply(SLOTS, 1, call)?;
+        self.register = register;
+        Ok(answer)
+    }
+
+    fn change(&mut self, call: RegisterCall) -> Answer {
+        match self.call(call) {
+            Ok(RegisterAnswer::Generation(generation)) => Answer::Generation(Some(generation)),
+            Ok(_) => Answer::Lost,
+            Err(refusal) => Answer::Refused(refusal.number()),
+        }
+    }
+
     fn tell_all(&mut self) -> Answer {
         for count in 0..SLOTS {
             let Some(call) = self.core.take_call() else {
                 return Answer::Told(count, self.register.failed());
             };
-            let Call::DeclareLost(slot, _) = call else {
+            let Call::DeclareLost(slot, generation) = call else {
                 return Answer::Wrong;
             };
-            let (told, register) = declare(&self.register, slot);
-            self.register = register;
+            let told = self.call(RegisterCall::DeclareLost(slot, generation));
             self.tell(call, told);
         }
         Answer::Wrong
-    }
-
-    fn lose(&mut self, slot: usize) -> Answer {
-        let (told, register) = declare(&self.register, slot);
-        self.register = register;
-        match told {
-            Ok(_) => Answer::Lost,
-            Err(refusal) => Answer::Refused(refusal.number()),
-        }
     }
 
     fn look(&mut self) -> Answer {
@@ -537,26 +529,25 @@ impl Bench {
         }
     }
 
-    fn spoil(&mut self, slot: usize, row: u64, byte: u8) -> Result<Answer, AllocError> {
-        let block = filled(self.alloc, BLOCK, byte)?;
+    fn spoil(&mut self, slot: usize, row: u64, byte: u8) -> Answer {
+        let block = filled(self.alloc, BLOCK, byte);
         let Some(device) = self.devices.get_mut(slot) else {
-            return Ok(Answer::Wrong);
+            return Answer::Wrong;
         };
-        Ok(
-            device
-                .write(row, &block)
-                .map_or(Answer::Wrong, |()| Answer::Spoilt),
-        )
+        match device.write(row, &block) {
+            Ok(()) => Answer::Spoilt,
+            Err(_) => Answer::Wrong,
+        }
     }
 
-    fn stored(&mut self, slot: usize, row: u64) -> Result<Answer, AllocError> {
-        let mut block = filled(self.alloc, BLOCK, 0)?;
+    fn stored(&mut self, slot: usize, row: u64) -> Answer {
+        let mut block = filled(self.alloc, BLOCK, 0);
         let Some(device) = self.devices.get_mut(slot) else {
-            return Ok(Answer::Wrong);
+            return Answer::Wrong;
         };
         match device.read(row, &mut block) {
-            Ok(()) => Ok(byte_of(&block).map_or(Answer::Wrong, |byte| Answer::Stored(byte))),
-            Err(_) => Ok(Answer::Wrong),
+            Ok(()) => Answer::Stored(byte_of(&block)),
+            Err(_) => Answer::Wrong,
         }
     }
 
@@ -565,33 +556,23 @@ impl Bench {
             return Answer::Nothing;
         };
         match reply {
-            Reply::Done(buffer) => byte_of(&buffer).map_or(
-                Answer::Wrong,
-                |byte| Answer::Done(id, byte),
-            ),
-            Reply::Data(buffer) => byte_of(&buffer).map_or(
-                Answer::Wrong,
-                |byte| Answer::Data(id, byte),
-            ),
+            Reply::Done(buffer) => Answer::Done(id, byte_of(&buffer)),
+            Reply::Data(buffer) => Answer::Data(id, byte_of(&buffer)),
             Reply::ArrayFailed(_) => Answer::Failed(id),
         }
     }
 
     /// A request is run to its reply: the number of its commands, and the answer.
-    pub(crate) fn run(
-        &mut self,
-        request: Step,
-        trouble: &Trouble<'_>,
-    ) -> Result<(u64, Answer), AllocError> {
-        let answer = self.answer(request)?;
+    pub(crate) fn run(&mut self, request: &Step, trouble: &Trouble) -> (u64, Answer) {
+        let answer = self.answer(request);
         let Answer::Accepted(_) = answer else {
-            return Ok((0, answer));
+            return (0, answer);
         };
         let Answer::Driven(taken, late) = self.drive(99, trouble) else {
-            return Ok((0, Answer::Wrong));
+            return (0, Answer::Wrong);
         };
         self.tell_all();
         self.look();
-        Ok((taken.saturating_add(late) as u64, self.take_reply()))
+        (taken.saturating_add(late) as u64, self.take_reply())
     }
 }

@@ -13,8 +13,6 @@ mod losses;
 #[cfg(test)]
 mod reads;
 #[cfg(test)]
-mod registers;
-#[cfg(test)]
 mod requests;
 #[cfg(test)]
 mod scripts;

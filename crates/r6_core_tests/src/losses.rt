@@ -12,6 +12,7 @@ pub(crate) const COURSES: &[Course<'static>] = &[
         name: "a block is read whose device was lost in its write",
         rows: 4,
         shards: 1,
+        window: 1,
         lost: &[],
         steps: &[
             (Step::Write(0, 0x5a), Answer::Accepted(0)),
@@ -40,6 +41,7 @@ pub(crate) const COURSES: &[Course<'static>] = &[
         name: "losses are declared in turn before a look",
         rows: 4,
         shards: 1,
+        window: 1,
         lost: &[],
         steps: &[
             (Step::Read(0), Answer::Accepted(0)),
@@ -80,6 +82,7 @@ pub(crate) const COURSES: &[Course<'static>] = &[
         name: "a third loss fails all that is not answered",
         rows: 4,
         shards: 1,
+        window: 1,
         lost: &[],
         steps: &[
             (Step::Read(4), Answer::Accepted(0)),
@@ -113,6 +116,7 @@ pub(crate) const COURSES: &[Course<'static>] = &[
         name: "late completions bring only their buffers home",
         rows: 4,
         shards: 1,
+        window: 1,
         lost: &[],
         steps: &[
             (Step::Read(0), Answer::Accepted(0)),
@@ -139,6 +143,7 @@ pub(crate) const COURSES: &[Course<'static>] = &[
         name: "what one loss finishes is answered by number",
         rows: 4,
         shards: 1,
+        window: 1,
         lost: &[],
         steps: &[
             (Step::Write(2, 0x33), Answer::Accepted(0)),
@@ -176,6 +181,7 @@ pub(crate) const COURSES: &[Course<'static>] = &[
         name: "holds that hear of one loss go on in the order of their frames",
         rows: 4,
         shards: 1,
+        window: 1,
         lost: &[],
         steps: &[
             (Step::Write(2, 0x11), Answer::Accepted(0)),
@@ -196,6 +202,7 @@ pub(crate) const COURSES: &[Course<'static>] = &[
         name: "a hold that begins takes the lowest free frame",
         rows: 4,
         shards: 1,
+        window: 1,
         lost: &[],
         steps: &[
             (Step::Write(4, 0x11), Answer::Accepted(0)),
@@ -222,6 +229,7 @@ pub(crate) const COURSES: &[Course<'static>] = &[
         name: "frames are free when late buffers are home",
         rows: 132,
         shards: 1,
+        window: 1,
         lost: &[],
         steps: &[
             (

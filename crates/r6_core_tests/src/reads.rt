@@ -14,6 +14,7 @@ pub(crate) const COURSES: &[Course<'static>] = &[
         name: "a read beside a write gives what the device has",
         rows: 4,
         shards: 1,
+        window: 1,
         lost: &[],
         steps: &[
             (Step::Write(0, 0x5a), Answer::Accepted(0)),
@@ -42,6 +43,7 @@ pub(crate) const COURSES: &[Course<'static>] = &[
         name: "reads and checks wait for each other in no row",
         rows: 4,
         shards: 1,
+        window: 1,
         lost: &[],
         steps: &[
             (Step::Read(0), Answer::Accepted(0)),
@@ -63,6 +65,7 @@ pub(crate) const COURSES: &[Course<'static>] = &[
         name: "sixty four reads of one block are under way at once",
         rows: 4,
         shards: 1,
+        window: 1,
         lost: &[],
         steps: &[
             (Step::Spoil(1, 0, 0x5a), Answer::Spoilt),
@@ -81,6 +84,7 @@ pub(crate) const COURSES: &[Course<'static>] = &[
         name: "a read waits for a buffer and holds no row",
         rows: 4,
         shards: 1,
+        window: 1,
         lost: &[],
         steps: &[
             (Step::Submit(Requests::Read(0), 0, 65), Answer::AllAccepted),
@@ -98,6 +102,7 @@ pub(crate) const COURSES: &[Course<'static>] = &[
         name: "a read whose device fails is made again from the others",
         rows: 4,
         shards: 1,
+        window: 1,
         lost: &[],
         steps: &[
             (Step::Write(0, 0x11), Answer::Accepted(0)),
@@ -125,6 +130,7 @@ pub(crate) const COURSES: &[Course<'static>] = &[
         name: "a read whose slot is lost goes behind those that wait",
         rows: 4,
         shards: 1,
+        window: 1,
         lost: &[],
         steps: &[
             (Step::Write(1, 0x11), Answer::Accepted(0)),
@@ -159,6 +165,7 @@ pub(crate) const COURSES: &[Course<'static>] = &[
         name: "reads of one loss wait again in the order of their tokens",
         rows: 4,
         shards: 1,
+        window: 1,
         lost: &[],
         steps: &[
             (Step::Read(0), Answer::Accepted(0)),
@@ -184,6 +191,7 @@ pub(crate) const COURSES: &[Course<'static>] = &[
         name: "reads of one look wait again in the order of their tokens",
         rows: 4,
         shards: 1,
+        window: 1,
         lost: &[],
         steps: &[
             (Step::Read(1), Answer::Accepted(0)),
@@ -207,6 +215,7 @@ pub(crate) const COURSES: &[Course<'static>] = &[
         name: "a buffer is free when the late completion is home",
         rows: 4,
         shards: 1,
+        window: 1,
         lost: &[],
         steps: &[
             (Step::Submit(Requests::Read(0), 0, 64), Answer::AllAccepted),

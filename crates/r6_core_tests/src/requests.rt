@@ -1,8 +1,7 @@
 //! Requests and completions, with no slot lost.
 
-use crate::bench::{Answer, Course, Requests, Step, play};
+use crate::bench::{Answer, Course, Requests, Step, play_all};
 use crate::{losses, reads, scrubs, starts};
-use std::test::Fail;
 
 const COURSES: &[Course<'static>] = &[
     // The array has 8 blocks, of which shard 0 has those of rows 0 and 1.
@@ -10,6 +9,7 @@ const COURSES: &[Course<'static>] = &[
         name: "requests are refused in order",
         rows: 4,
         shards: 2,
+        window: 1,
         lost: &[],
         steps: &[
             (Step::ReadInto(8, 16), Answer::Refused(1)),
@@ -25,6 +25,7 @@ const COURSES: &[Course<'static>] = &[
         name: "the 257th unanswered request is refused",
         rows: 4,
         shards: 1,
+        window: 1,
         lost: &[],
         steps: &[
             (
@@ -44,6 +45,7 @@ const COURSES: &[Course<'static>] = &[
         name: "completions are refused in order",
         rows: 4,
         shards: 1,
+        window: 1,
         lost: &[],
         steps: &[
             (Step::Read(0), Answer::Accepted(0)),
@@ -63,6 +65,7 @@ const COURSES: &[Course<'static>] = &[
         name: "a write and a read of it",
         rows: 4,
         shards: 1,
+        window: 1,
         lost: &[],
         steps: &[
             (Step::Write(0, 0x5a), Answer::Accepted(0)),
@@ -83,6 +86,7 @@ const COURSES: &[Course<'static>] = &[
         name: "rows go on side by side",
         rows: 4,
         shards: 1,
+        window: 1,
         lost: &[],
         steps: &[
             (Step::Write(0, 0x5a), Answer::Accepted(0)),
@@ -106,6 +110,7 @@ const COURSES: &[Course<'static>] = &[
         name: "sixty four rows are held at once",
         rows: 70,
         shards: 1,
+        window: 1,
         lost: &[],
         steps: &[
             (
@@ -131,6 +136,7 @@ const COURSES: &[Course<'static>] = &[
         name: "writes to one row wait for each other",
         rows: 4,
         shards: 1,
+        window: 1,
         lost: &[],
         steps: &[
             (Step::Write(0, 0x11), Answer::Accepted(0)),
@@ -165,6 +171,7 @@ const COURSES: &[Course<'static>] = &[
         name: "a hold takes with it the oldest write of each block",
         rows: 4,
         shards: 1,
+        window: 1,
         lost: &[],
         steps: &[
             (Step::Write(0, 0x11), Answer::Accepted(0)),
@@ -207,6 +214,7 @@ const COURSES: &[Course<'static>] = &[
         name: "requests of holds that end together stand by number",
         rows: 4,
         shards: 1,
+        window: 1,
         lost: &[],
         steps: &[
             (Step::Write(0, 0x11), Answer::Accepted(0)),
@@ -237,18 +245,10 @@ const COURSES: &[Course<'static>] = &[
 ];
 
 #[test]
-fn cores_take_their_courses(rt: HostRuntime) -> Result<(), Fail> {
-    let tables = &[
-        COURSES,
-        losses::COURSES,
-        reads::COURSES,
-        scrubs::COURSES,
-        starts::COURSES,
-    ];
-    for courses in tables {
-        for course in *courses {
-            play(&rt, rt.alloc(), course)?;
-        }
-    }
-    Ok(())
+fn cores_take_their_courses(rt: HostRuntime) {
+    play_all(&rt, rt.alloc(), COURSES);
+    play_all(&rt, rt.alloc(), losses::COURSES);
+    play_all(&rt, rt.alloc(), reads::COURSES);
+    play_all(&rt, rt.alloc(), scrubs::COURSES);
+    play_all(&rt, rt.alloc(), starts::COURSES);
 }

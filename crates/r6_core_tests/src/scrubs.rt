@@ -52,6 +52,7 @@ pub(crate) const COURSES: &[Course<'static>] = &[
         name: "a check counts each class and writes nothing",
         rows: 4,
         shards: 1,
+        window: 1,
         lost: &[],
         steps: &[
             // a wrong D0 is off by as much in P as in Q; one and eight can be no data block's of two
@@ -75,6 +76,7 @@ pub(crate) const COURSES: &[Course<'static>] = &[
         name: "a repair writes the wrong parities and no data",
         rows: 4,
         shards: 1,
+        window: 1,
         lost: &[],
         steps: &[
             // a wrong D0 is off by as much in P as in Q; one and eight can be no data block's of two
@@ -109,6 +111,7 @@ pub(crate) const COURSES: &[Course<'static>] = &[
         name: "a request waits for the row of a check",
         rows: 4,
         shards: 1,
+        window: 1,
         lost: &[],
         steps: &[
             (Step::Turn(Task::Check), STARTED),
@@ -143,6 +146,7 @@ pub(crate) const COURSES: &[Course<'static>] = &[
         name: "a row with a slot out is passed over held or not",
         rows: 4,
         shards: 1,
+        window: 1,
         lost: &[],
         steps: &[
             (Step::Write(0, 0x5a), Answer::Accepted(0)),
@@ -163,6 +167,7 @@ pub(crate) const COURSES: &[Course<'static>] = &[
         name: "a check that loses a position is counted as skipped",
         rows: 4,
         shards: 1,
+        window: 1,
         lost: &[],
         steps: &[
             (Step::Spoil(3, 0, 0x11), Answer::Spoilt),
@@ -183,6 +188,7 @@ pub(crate) const COURSES: &[Course<'static>] = &[
         name: "a repair that loses its parity is counted by its class",
         rows: 4,
         shards: 1,
+        window: 1,
         lost: &[],
         steps: &[
             (Step::Spoil(3, 0, 0x11), Answer::Spoilt),
@@ -205,6 +211,7 @@ pub(crate) const COURSES: &[Course<'static>] = &[
         name: "a stopped shard has nothing to do",
         rows: 4,
         shards: 1,
+        window: 1,
         lost: &[2, 3],
         steps: &[
             (Step::Turn(Task::Check), SKIPPED),
@@ -224,6 +231,7 @@ pub(crate) const COURSES: &[Course<'static>] = &[
         name: "a turn needs a frame",
         rows: 66,
         shards: 1,
+        window: 1,
         lost: &[],
         steps: &[
             (

@@ -1,26 +1,16 @@
 //! Cores that begin with slots lost, or that look at a slot under rebuild.
 
-use crate::bench::{Answer, Bench, Course, Step};
-use crate::registers::rebuilding;
+use crate::bench::{Answer, Course, Step};
 use r6_core::{Task, Turn};
-use r6_health::{ShardSet, SlotState, Snapshot};
-use std::alloc::Global;
-use std::process::Abort;
-use std::sync::Wait;
-use std::test::Fail;
 
 const STARTED: Answer = Answer::Turned(Turn::Started);
-
-/// Whether no shard has reported slot 1 as rebuilt.
-fn is_unreported(register: &Snapshot) -> bool {
-    register.slot(1) == SlotState::Rebuilding(1, ShardSet::empty())
-}
 
 pub(crate) const COURSES: &[Course<'static>] = &[
     Course {
         name: "slots are in sync with generation 0",
         rows: 4,
         shards: 1,
+        window: 1,
         lost: &[],
         steps: &[
             (Step::InSync(0), Answer::Generation(Some(0))),
@@ -34,6 +24,7 @@ pub(crate) const COURSES: &[Course<'static>] = &[
         name: "a core begins with two slots lost",
         rows: 4,
         shards: 1,
+        window: 1,
         lost: &[1, 2],
         steps: &[
             (Step::InSync(0), Answer::Generation(Some(0))),
@@ -52,23 +43,18 @@ pub(crate) const COURSES: &[Course<'static>] = &[
             (Step::Reply, Answer::Data(2, 0)),
         ],
     },
-];
-
-/// The steps of an array whose register has had a device attached in place of that of slot 1. Of its rows so many may
-/// be rebuilt at one time.
-#[derive(Clone, Copy)]
-struct Rebuild<'a> {
-    name: &'a str,
-    window: usize,
-    steps: &'a [(Step, Answer)],
-}
-
-const REBUILDS: &[Rebuild<'static>] = &[
+    // From here on a device is attached at the register in place of that of slot 1.
+    //
     // Its blocks are computed from the others', and nothing is written to it.
-    Rebuild {
+    Course {
         name: "a rebuilding slot counts as out",
+        rows: 4,
+        shards: 1,
         window: 1,
+        lost: &[],
         steps: &[
+            (Step::Lose(1), Answer::Lost),
+            (Step::Attach(1), Answer::Generation(Some(1))),
             (Step::InSync(1), Answer::Generation(Some(0))),
             (Step::Look, Answer::Looked),
             (Step::InSync(1), Answer::Generation(None)),
@@ -94,10 +80,15 @@ const REBUILDS: &[Rebuild<'static>] = &[
     // In rows 0 and 1 slot 1 has D0 and D1, blocks 0 and 3; its new device has other bytes. Row 0 is rebuilt: then the
     // device is asked for the block, and the row isn't held. Row 1 isn't: its block is computed from D0 and P, and the
     // row is held.
-    Rebuild {
+    Course {
         name: "a rebuilding slot is read in rows that are rebuilt",
+        rows: 4,
+        shards: 1,
         window: 1,
+        lost: &[],
         steps: &[
+            (Step::Lose(1), Answer::Lost),
+            (Step::Attach(1), Answer::Generation(Some(1))),
             (Step::Spoil(1, 0, 0xff), Answer::Spoilt),
             (Step::Spoil(1, 1, 0xff), Answer::Spoilt),
             (Step::Look, Answer::Looked),
@@ -131,10 +122,15 @@ const REBUILDS: &[Rebuild<'static>] = &[
     },
     // Two rows of slot 1 are under way, and no third before one of them is rebuilt. In rows 0 to 3 slot 1 has D0, D1, P
     // and Q.
-    Rebuild {
+    Course {
         name: "as many rows are rebuilt at one time as the window says",
+        rows: 4,
+        shards: 1,
         window: 2,
+        lost: &[],
         steps: &[
+            (Step::Lose(1), Answer::Lost),
+            (Step::Attach(1), Answer::Generation(Some(1))),
             (Step::Look, Answer::Looked),
             (Step::Turn(Task::Rebuild), STARTED),
             (Step::Turn(Task::Rebuild), STARTED),
@@ -164,19 +160,3 @@ const REBUILDS: &[Rebuild<'static>] = &[
         ],
     },
 ];
-
-fn play_rebuild<R: Wait + Abort>(rt: &R, alloc: Global, rebuild: &Rebuild<'_>) -> Result<(), Fail> {
-    let register = rebuilding(rt, alloc)?;
-    assert!(rt; is_unreported(&register));
-    let mut bench = Bench::new(alloc, 4, 1, &[], rebuild.window)?;
-    bench.register = register;
-    Ok(bench.play(rt, rebuild.name, rebuild.steps)?)
-}
-
-#[test]
-fn cores_rebuild_a_slot(rt: HostRuntime) -> Result<(), Fail> {
-    for rebuild in REBUILDS {
-        play_rebuild(&rt, rt.alloc(), rebuild)?;
-    }
-    Ok(())
-}
