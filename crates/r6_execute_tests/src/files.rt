@@ -1,6 +1,6 @@
 //! Courses of commands over the files of an array of four slots.
 
-use crate::runs::{Ended, ends, ends_unwritten, ends_with};
+use crate::runs::{Ended, How, Parts, WELL, is_so, lines_end_so};
 use r6_command::Invocation;
 use std::fmt::Write;
 use std::io::Seek;
@@ -8,7 +8,6 @@ use std::os::unix::fs::FileExt;
 use std::process::Abort;
 use std::rt::Files;
 use std::sync::Wait;
-use std::test::Fail;
 use std::thread::Threads;
 use std::{env, fs, process};
 
@@ -36,15 +35,16 @@ pub(crate) const SPARE: usize = 9;
 type Runs<'a> = &'a [(u8, usize)];
 
 /// What happens next.
-#[derive(Clone, Copy)]
 pub(crate) enum Step<'a> {
     /// A command has to end so.
     Create(Ended<'a>),
     Verify(Ended<'a>),
-    /// Likewise `verify`, whose output takes nothing.
-    VerifyUnwritten,
-    /// Likewise `run` with a script, in which `@` stands for the path of the spare file.
+    /// Likewise `verify`, whose outputs serve so.
+    VerifyOn(How, Ended<'a>),
+    /// Likewise `run` with a script, in which `@` stands for the path of the spare file, twice at the most.
     Run(&'a str, Ended<'a>),
+    /// Likewise `run` with each of these lines, between which a bar stands, as the fourth of its script.
+    RunLines(&'a [&'a str], Ended<'a>),
     /// A byte of a file is set.
     Set(usize, u64, u8),
     /// A file gets these bytes and no others.
@@ -59,129 +59,168 @@ pub(crate) enum Step<'a> {
     RemoveAll,
 }
 
-/// The path of a file in one test.
-fn path_of(rt: &HostRuntime, test: &str, file: usize) -> Result<String, Fail> {
-    let name = format!(in rt.alloc(); "raid6-{test}-{}-{file}", process::id(rt.process()))?;
-    let path = env::temp_dir(rt)?.join(rt.alloc(), name.as_str())?;
-    Ok(String::from_str(rt.alloc(), path.as_str())?)
+/// The steps that the commands take over files of their own, with settings of these integers and what else they say.
+pub(crate) struct Course<'a> {
+    pub(crate) name: &'a str,
+    pub(crate) integers: &'a str,
+    pub(crate) more: &'a str,
+    pub(crate) steps: &'a [Step<'a>],
 }
 
-/// Settings for files of one test: their five integers, what else they say, and the paths, at which there is nothing.
-pub(crate) fn settings_of(
-    rt: &HostRuntime,
-    test: &str,
-    integers: &str,
-    more: &str,
-) -> Result<String, Fail> {
-    let mut text = String::from_str(rt.alloc(), integers)?;
-    write!(text, "{more}devices = [")?;
-    for slot in 0..4usize {
-        let path = path_of(rt, test, slot)?;
-        let _ = fs::remove_file(rt, path.as_str());
-        write!(text, "\"{path}\", ")?;
+/// The path of a file of a course. A path that can't be had is empty: no file is there.
+fn path_of(rt: &HostRuntime, name: &str, file: usize) -> String {
+    let mut path = String::new(rt.alloc());
+    if let Ok(folder) = env::temp_dir(rt) {
+        let (folder, id) = (folder.as_str(), process::id(rt.process()));
+        let _ = write!(path, "{folder}/raid6-{name}-{id}-{file}");
     }
-    writeln!(text, "]")?;
-    Ok(text)
+    path
 }
 
-/// Plays a course of a test, whose settings are these integers and what else they say.
-pub(crate) fn play<
+/// Settings for the files of a course, with their paths, at which there is nothing.
+fn settings_of(rt: &HostRuntime, course: &Course<'_>) -> String {
+    let mut text = String::new(rt.alloc());
+    let _ = write!(text, "{}{}devices = [", course.integers, course.more);
+    for slot in 0..4usize {
+        let path = path_of(rt, course.name, slot);
+        let _ = fs::remove_file(rt, path.as_str());
+        let _ = write!(text, "\"{}\", ", path.as_str());
+    }
+    let _ = text.push_str("]\n");
+    text
+}
+
+/// Each course has to go as its steps say.
+pub(crate) fn play_all<
     F: FileExt + Seek + Drop + Send,
     R: Abort + Wait + Threads + Files<File = F> + Sync,
->(
-    rt: &HostRuntime,
-    waits: &R,
-    test: &str,
-    (integers, more): (&str, &str),
-    course: &[Step<'_>],
-) -> Result<(), Fail> {
-    let settings = settings_of(rt, test, integers, more)?;
-    for step in course {
-        perform(rt, waits, test, settings.as_str().as_bytes(), *step)?;
+>(rt: &HostRuntime, waits: &R, courses: &[Course<'_>]) {
+    for course in courses {
+        let settings = settings_of(rt, course);
+        play(rt, waits, course, settings.as_bytes());
     }
-    Ok(())
 }
 
-fn perform<F: FileExt + Seek + Drop + Send, R: Abort + Wait + Threads + Files<File = F> + Sync>(
+fn play<F: FileExt + Seek + Drop + Send, R: Abort + Wait + Threads + Files<File = F> + Sync>(
     rt: &HostRuntime,
     waits: &R,
-    test: &str,
+    course: &Course<'_>,
     settings: &[u8],
-    step: Step<'_>,
-) -> Result<(), Fail> {
-    match step {
-        Step::Create(wanted) => ends(waits, rt.alloc(), &CREATE, settings, wanted),
-        Step::Verify(wanted) => ends(waits, rt.alloc(), &VERIFY, settings, wanted),
-        Step::VerifyUnwritten => ends_unwritten(waits, rt.alloc(), &VERIFY, settings, 0),
-        Step::Run(script, wanted) => run(rt, waits, test, (settings, script), wanted)?,
-        Step::Set(file, offset, byte) => set(rt, test, file, offset, byte)?,
-        Step::Fill(file, runs) => fill(rt, test, file, runs)?,
-        Step::Holds(file, runs) => assert!(waits; holds(rt, test, file, runs)?, "file {file}"),
-        Step::Rename(from, to) => rename(rt, test, from, to)?,
-        Step::Remove(file) => remove(rt, test, file)?,
-        Step::RemoveAll => remove_all(rt, test)?,
+) {
+    for (index, step) in course.steps.iter().enumerate() {
+        assert!(waits;
+            is_done(rt, waits, course.name, settings, step),
+            "step {index} of {}",
+            course.name
+        );
     }
-    Ok(())
 }
 
-fn run<F: FileExt + Seek + Drop + Send, R: Abort + Wait + Threads + Files<File = F> + Sync>(
+fn is_done<F: FileExt + Seek + Drop + Send, R: Abort + Wait + Threads + Files<File = F> + Sync>(
     rt: &HostRuntime,
     waits: &R,
-    test: &str,
-    (settings, script): (&[u8], &str),
-    wanted: Ended<'_>,
-) -> Result<(), Fail> {
-    let path = path_of(rt, test, SPARE)?;
-    let script = script.replace(rt.alloc(), "@", path.as_str())?;
-    let texts = (settings, script.as_str().as_bytes());
-    ends_with(waits, rt.alloc(), &RUN, texts, wanted);
-    Ok(())
+    name: &str,
+    settings: &[u8],
+    step: &Step<'_>,
+) -> bool {
+    let texts: Parts<'_> = [settings, b"", b"", b"", b""];
+    let both = (&texts, &texts);
+    match step {
+        Step::Create(wanted) => is_so(waits, rt.alloc(), &CREATE, both, &WELL, wanted),
+        Step::Verify(wanted) => is_so(waits, rt.alloc(), &VERIFY, both, &WELL, wanted),
+        Step::VerifyOn(how, wanted) => is_so(waits, rt.alloc(), &VERIFY, both, how, wanted),
+        Step::Run(script, wanted) => is_run(rt, waits, name, &texts, script, wanted),
+        Step::RunLines(lines, wanted) => {
+            let around = ("wait\n# one\n\n", "\nread\n");
+            lines_end_so(waits, rt.alloc(), &RUN, &texts, around, lines, wanted);
+            true
+        }
+        step => is_filed(rt, name, step),
+    }
 }
 
-fn set(rt: &HostRuntime, test: &str, file: usize, offset: u64, byte: u8) -> Result<(), Fail> {
+fn is_run<F: FileExt + Seek + Drop + Send, R: Wait + Threads + Files<File = F> + Sync>(
+    rt: &HostRuntime,
+    waits: &R,
+    name: &str,
+    settings: &Parts<'_>,
+    script: &str,
+    wanted: &Ended<'_>,
+) -> bool {
+    let path = path_of(rt, name, SPARE);
+    let script = parts_of(script, path.as_str());
+    is_so(waits, rt.alloc(), &RUN, (settings, &script), &WELL, wanted)
+}
+
+fn parts_of<'a>(script: &'a str, path: &'a str) -> Parts<'a> {
+    let path = path.as_bytes();
+    let Some((first, rest)) = script.split_once('@') else {
+        return [script.as_bytes(), b"", b"", b"", b""];
+    };
+    match rest.split_once('@') {
+        Some((second, third)) => [
+            first.as_bytes(),
+            path,
+            second.as_bytes(),
+            path,
+            third.as_bytes(),
+        ],
+        None => [first.as_bytes(), path, rest.as_bytes(), b"", b""],
+    }
+}
+
+fn is_filed(rt: &HostRuntime, name: &str, step: &Step<'_>) -> bool {
+    match step {
+        Step::Set(file, offset, byte) => set(rt, name, *file, *offset, *byte),
+        Step::Fill(file, runs) => fill(rt, name, *file, runs),
+        Step::Holds(file, runs) => holds(rt, name, *file, runs),
+        Step::Rename(from, to) => rename(rt, name, *from, *to),
+        Step::Remove(file) => remove(rt, name, *file),
+        Step::RemoveAll => {
+            remove(rt, name, 0) && remove(rt, name, 1) && remove(rt, name, 2) && remove(rt, name, 3)
+        }
+        _ => false,
+    }
+}
+
+fn set(rt: &HostRuntime, name: &str, file: usize, offset: u64, byte: u8) -> bool {
+    let path = path_of(rt, name, file);
     let mut how = fs::OpenOptions::new();
     how.write(true);
-    let file = how.open(rt, path_of(rt, test, file)?.as_str())?;
-    file.write_all_at(&[byte], offset)?;
-    Ok(())
+    match how.open(rt, path.as_str()) {
+        Ok(file) => file.write_all_at(&[byte], offset).is_ok(),
+        Err(_) => false,
+    }
 }
 
-fn bytes_of(rt: &HostRuntime, runs: Runs<'_>) -> Result<Vec<u8>, Fail> {
+fn bytes_of(rt: &HostRuntime, runs: Runs<'_>) -> Vec<u8> {
     let mut bytes = Vec::new(rt.alloc());
     for (byte, count) in runs {
         for _ in 0..*count {
-            bytes.push(*byte)?;
+            let _ = bytes.push(*byte);
         }
     }
-    Ok(bytes)
+    bytes
 }
 
-fn fill(rt: &HostRuntime, test: &str, file: usize, runs: Runs<'_>) -> Result<(), Fail> {
-    let bytes = bytes_of(rt, runs)?;
-    fs::write(rt, path_of(rt, test, file)?.as_str(), bytes.as_slice())?;
-    Ok(())
+fn fill(rt: &HostRuntime, name: &str, file: usize, runs: Runs<'_>) -> bool {
+    let (path, bytes) = (path_of(rt, name, file), bytes_of(rt, runs));
+    fs::write(rt, path.as_str(), bytes.as_slice()).is_ok()
 }
 
-fn holds(rt: &HostRuntime, test: &str, file: usize, runs: Runs<'_>) -> Result<bool, Fail> {
-    let wanted = bytes_of(rt, runs)?;
-    let held = fs::read(rt, path_of(rt, test, file)?.as_str())?;
-    Ok(held.as_slice() == wanted.as_slice())
-}
-
-fn rename(rt: &HostRuntime, test: &str, from: usize, to: usize) -> Result<(), Fail> {
-    let (from, to) = (path_of(rt, test, from)?, path_of(rt, test, to)?);
-    fs::rename(rt, from.as_str(), to.as_str())?;
-    Ok(())
-}
-
-fn remove(rt: &HostRuntime, test: &str, file: usize) -> Result<(), Fail> {
-    fs::remove_file(rt, path_of(rt, test, file)?.as_str())?;
-    Ok(())
-}
-
-pub(crate) fn remove_all(rt: &HostRuntime, test: &str) -> Result<(), Fail> {
-    for slot in 0..4usize {
-        remove(rt, test, slot)?;
+fn holds(rt: &HostRuntime, name: &str, file: usize, runs: Runs<'_>) -> bool {
+    let (path, bytes) = (path_of(rt, name, file), bytes_of(rt, runs));
+    match fs::read(rt, path.as_str()) {
+        Ok(held) => held.as_slice() == bytes.as_slice(),
+        Err(_) => false,
     }
-    Ok(())
+}
+
+fn rename(rt: &HostRuntime, name: &str, from: usize, to: usize) -> bool {
+    let (from, to) = (path_of(rt, name, from), path_of(rt, name, to));
+    fs::rename(rt, from.as_str(), to.as_str()).is_ok()
+}
+
+fn remove(rt: &HostRuntime, name: &str, file: usize) -> bool {
+    fs::remove_file(rt, path_of(rt, name, file).as_str()).is_ok()
 }

@@ -7,50 +7,87 @@ use std::io::{self, ErrorKind, Read, Seek, Write};
 use std::os::unix::fs::FileExt;
 use std::process::Abort;
 use std::rt::Files;
-use std::str;
 use std::sync::Wait;
 use std::thread::Threads;
 
 /// What a command prints, what it says of a fault, and its status.
 pub(crate) type Ended<'a> = (&'a str, &'a str, u8);
 
-/// A reader that hands out its text and then fails.
-#[derive(Drop)]
-struct Torn<'a> {
-    text: &'a [u8],
-    kind: ErrorKind,
+/// The parts of a text, which a reader hands out one after another.
+pub(crate) type Parts<'a> = [&'a [u8]; 5];
+
+/// How a command's files and outputs serve.
+#[derive(Clone, Copy)]
+pub(crate) struct How {
+    /// The files end with these bytes behind their texts.
+    pub(crate) end: &'static [u8],
+    /// Then they fail so.
+    pub(crate) fails: Option<ErrorKind>,
+    /// So many bytes the output takes before it refuses, and so many standard error.
+    pub(crate) rooms: (usize, usize),
+    pub(crate) is_terminal: bool,
 }
 
-impl Read for Torn<'_> {
+pub(crate) const WELL: How = How {
+    end: b"",
+    fails: None,
+    rooms: (usize::MAX, usize::MAX),
+    is_terminal: false,
+};
+
+/// A reader that hands out its parts and its end, and then may fail.
+#[derive(Drop)]
+struct Text<'a> {
+    parts: Parts<'a>,
+    end: &'static [u8],
+    fails: Option<ErrorKind>,
+}
+
+impl Read for Text<'_> {
     fn read(&mut self, buf: &mut [u8]) -> io::Result<usize> {
-        if self.text.is_empty() {
-            return Err(io::Error::from(self.kind));
+        for index in 0..5usize {
+            let mut part = self.parts[index];
+            if !part.is_empty() {
+                let count = part.read(buf)?;
+                self.parts[index] = part;
+                return Ok(count);
+            }
         }
-        let mut text = self.text;
-        let count = text.read(buf)?;
-        self.text = text;
-        Ok(count)
+        if !self.end.is_empty() {
+            let mut end = self.end;
+            let count = end.read(buf)?;
+            self.end = end;
+            return Ok(count);
+        }
+        match self.fails {
+            Some(kind) => Err(io::Error::from(kind)),
+            None => Ok(0),
+        }
     }
 }
 
 /// A writer that takes so many bytes and then refuses, a flush too.
 #[derive(Drop)]
-struct Full {
-    room: usize,
+struct Room {
+    left: usize,
+    taken: Vec<u8>,
 }
 
-impl Write for Full {
+impl Write for Room {
     fn write(&mut self, buf: &[u8]) -> io::Result<usize> {
-        if self.room == 0 {
-            return Err(io::Error::from(ErrorKind::StorageFull));
+        self.flush()?;
+        let count = buf.len().min(self.left);
+        match self.taken.extend_from_slice(&buf[..count]) {
+            Ok(()) => {
+                self.left -= count;
+                Ok(count)
+            }
+            Err(_) => Err(io::Error::from(ErrorKind::OutOfMemory)),
         }
-        let count = buf.len().min(self.room);
-        self.room -= count;
-        Ok(count)
     }
 
     fn flush(&mut self) -> io::Result<()> {
-        if self.room == 0 {
+        if self.left == 0 {
             return Err(io::Error::from(ErrorKind::StorageFull));
         }
         Ok(())
@@ -59,83 +96,101 @@ impl Write for Full {
 
 /// The status of a command whose settings and script these are. No more is known of it here, so that what calls this
 /// has nothing of what `execute` promises to look through.
-pub(crate) fn status_of<F, R, S, W, E>(
+fn status_of<F, R>(
     rt: &R,
     alloc: Global,
     invocation: &Invocation<'_>,
-    (mut settings, mut script): (S, S),
-    out: &mut W,
-    err: &mut ErrorOutput<E>,
+    mut settings: Text<'_>,
+    mut script: Text<'_>,
+    out: &mut Room,
+    err: &mut ErrorOutput<Room>,
 ) -> u8
 where
     F: FileExt + Seek + Drop + Send,
     R: Wait + Threads + Files<File = F> + Sync,
-    S: Read + Drop,
-    W: Write,
-    E: Write,
 {
     execute(rt, alloc, invocation, &mut settings, &mut script, out, err)
 }
 
-/// A command whose one file has this text has to end so.
-pub(crate) fn ends<
-    F: FileExt + Seek + Drop + Send,
-    R: Abort + Wait + Threads + Files<File = F> + Sync,
->(rt: &R, alloc: Global, invocation: &Invocation<'_>, text: &[u8], wanted: Ended<'_>) {
-    ends_with(rt, alloc, invocation, (text, text), wanted)
+fn room_of(alloc: Global, left: usize) -> Room {
+    Room {
+        left,
+        taken: Vec::new(alloc),
+    }
 }
 
-/// A command whose settings and script are these has to end so.
-pub(crate) fn ends_with<
-    F: FileExt + Seek + Drop + Send,
-    R: Abort + Wait + Threads + Files<File = F> + Sync,
->(rt: &R, alloc: Global, invocation: &Invocation<'_>, texts: (&[u8], &[u8]), wanted: Ended<'_>) {
-    let text = str::from_utf8(texts.1);
-    let mut out = Vec::new(alloc);
-    let mut err = ErrorOutput::new(Vec::new(alloc), false);
-    let status = status_of(rt, alloc, invocation, texts, &mut out, &mut err);
-    assert_eq!(rt; out.as_slice(), wanted.0.as_bytes(), "at {text:?}");
-    assert_eq!(rt; err.writer.as_slice(), wanted.1.as_bytes(), "at {text:?}");
-    assert_eq!(rt; status, wanted.2, "at {text:?}");
+fn is_taken(room: &Room, wanted: &str) -> bool {
+    room.taken.as_slice() == wanted.as_bytes()
 }
 
-/// A command whose file fails behind this text has to print nothing, and to end so.
-pub(crate) fn ends_unread<
+fn text_of<'a>(parts: &Parts<'a>, how: &How) -> Text<'a> {
+    Text {
+        parts: *parts,
+        end: how.end,
+        fails: how.fails,
+    }
+}
+
+/// Whether a command whose settings and script these are ends so.
+pub(crate) fn is_so<F: FileExt + Seek + Drop + Send, R: Wait + Threads + Files<File = F> + Sync>(
+    rt: &R,
+    alloc: Global,
+    invocation: &Invocation<'_>,
+    (settings, script): (&Parts<'_>, &Parts<'_>),
+    how: &How,
+    wanted: &Ended<'_>,
+) -> bool {
+    let mut out = room_of(alloc, how.rooms.0);
+    let mut err = ErrorOutput::new(room_of(alloc, how.rooms.1), how.is_terminal);
+    let (settings, script) = (text_of(settings, how), text_of(script, how));
+    let status = status_of(rt, alloc, invocation, settings, script, &mut out, &mut err);
+    is_taken(&out, wanted.0) && is_taken(&err.writer, wanted.1) && status == wanted.2
+}
+
+/// A command whose one file has this text is to end so, if the file and the outputs serve so.
+pub(crate) type Case<'a> = (How, &'a str, Ended<'a>);
+
+/// Each case has to end as it says.
+pub(crate) fn end_so<
+    F: FileExt + Seek + Drop + Send,
+    R: Abort + Wait + Threads + Files<File = F> + Sync,
+>(rt: &R, alloc: Global, invocation: &Invocation<'_>, cases: &[Case<'_>]) {
+    for (index, (how, text, wanted)) in cases.iter().enumerate() {
+        let parts = [text.as_bytes(), b"", b"", b"", b""];
+        assert!(rt;
+            is_so(rt, alloc, invocation, (&parts, &parts), how, wanted),
+            "case {index}: {text}"
+        );
+    }
+}
+
+/// A command whose script has one of these lines has to end so, whichever it is. A bar stands between two lines of a
+/// text; what comes before a line, and behind it, stands around them.
+pub(crate) fn lines_end_so<
     F: FileExt + Seek + Drop + Send,
     R: Abort + Wait + Threads + Files<File = F> + Sync,
 >(
     rt: &R,
     alloc: Global,
     invocation: &Invocation<'_>,
-    text: &[u8],
-    kind: ErrorKind,
-    wanted: (&str, u8),
+    settings: &Parts<'_>,
+    (before, behind): (&str, &str),
+    lines: &[&str],
+    wanted: &Ended<'_>,
 ) {
-    let mut out = Vec::new(alloc);
-    let mut err = ErrorOutput::new(Vec::new(alloc), false);
-    let texts = (Torn { text, kind }, Torn { text, kind });
-    let status = status_of(rt, alloc, invocation, texts, &mut out, &mut err);
-    assert!(rt; out.is_empty());
-    assert_eq!(rt; err.writer.as_slice(), wanted.0.as_bytes());
-    assert_eq!(rt; status, wanted.1);
-}
-
-/// A command whose output takes so many bytes has to say so, and to end with 4, where standard error refuses too.
-pub(crate) fn ends_unwritten<
-    F: FileExt + Seek + Drop + Send,
-    R: Abort + Wait + Threads + Files<File = F> + Sync,
->(rt: &R, alloc: Global, invocation: &Invocation<'_>, text: &[u8], room: usize) {
-    let mut out = Full { room };
-    let mut err = ErrorOutput::new(Vec::new(alloc), false);
-    let status = status_of(rt, alloc, invocation, (text, text), &mut out, &mut err);
-    assert_eq!(rt;
-        err.writer.as_slice(),
-        b"output\n".as_slice(),
-        "room {room}"
-    );
-    assert_eq!(rt; status, 4, "room {room}");
-    let mut out = Full { room };
-    let mut err = ErrorOutput::new(Full { room: 0 }, false);
-    let status = status_of(rt, alloc, invocation, (text, text), &mut out, &mut err);
-    assert_eq!(rt; status, 4, "room {room}");
+    for lines in lines {
+        for line in lines.split('|') {
+            let script = [
+                before.as_bytes(),
+                line.as_bytes(),
+                behind.as_bytes(),
+                b"",
+                b"",
+            ];
+            assert!(rt;
+                is_so(rt, alloc, invocation, (settings, &script), &WELL, wanted),
+                "at {line}"
+            );
+        }
+    }
 }

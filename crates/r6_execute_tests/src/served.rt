@@ -1,22 +1,9 @@
 //! The command `run`, on files.
 
 use crate::devices::CONSISTENT;
-use crate::files::{CREATED, FOUR_ROWS, RUN, SPARE, Step, play, settings_of};
-use crate::runs::ends_with;
-use std::test::Fail;
+use crate::files::{CREATED, Course, FOUR_ROWS, SPARE, Step};
 
-/// The integers of settings for one, two and four shards.
-const SHARDS: [&str; 3] = [
-    FOUR_ROWS,
-    "slots = 4\nchunk = 1\nblock = 16\nrows = 4\nshards = 2\n",
-    "slots = 4\nchunk = 1\nblock = 16\nrows = 4\nshards = 4\n",
-];
-
-// A device is lost between a write and a read, and then every row is skipped; a wrong data block is counted, mended by
-// its parities, and counted no more.
-#[test]
-fn one_two_and_four_shards_print_the_same(rt: HostRuntime) -> Result<(), Fail> {
-    let written = "0 done
+const WRITTEN: &str = "0 done
 1 data 5a
 2 degraded
 3 data 5a
@@ -24,51 +11,71 @@ fn one_two_and_four_shards_print_the_same(rt: HostRuntime) -> Result<(), Fail> {
 slot 1 lost
 state degraded
 ";
-    let repaired = "0 consistent 3 wrong_p 0 wrong_q 0 wrong_data 1 many 0 skipped 0 repaired 0
+
+const REPAIRED: &str = "0 consistent 3 wrong_p 0 wrong_q 0 wrong_data 1 many 0 skipped 0 repaired 0
 1 consistent 3 wrong_p 0 wrong_q 0 wrong_data 1 many 0 skipped 0 repaired 1
 2 consistent 4 wrong_p 0 wrong_q 0 wrong_data 0 many 0 skipped 0 repaired 0
 state good
 ";
-    let course = &[
-        Step::Create(CREATED),
-        Step::Run(
-            "write 0 5a\nwait\nread 0\nwait\nfail 1\nwait\nread 0\nwait\ncheck\n",
-            (written, "", 0),
-        ),
-        Step::RemoveAll,
-        Step::Create(CREATED),
-        Step::Set(1, 0, 1),
-        Step::Run("check\nrepair\ncheck\n", (repaired, "", 0)),
-        Step::RemoveAll,
-    ];
-    for integers in &SHARDS {
-        play(&rt, &rt, "shards", (*integers, ""), course)?;
-    }
-    Ok(())
-}
 
-// What is refused, and from the third loss on all is. Slot 4 and block 8 aren't there.
-#[test]
-fn an_event_that_is_refused_says_why(rt: HostRuntime) -> Result<(), Fail> {
-    let course = &[
-        Step::Create(CREATED),
-        Step::Run("# no event\n\n", ("state good\n", "", 0)),
-        Step::RemoveAll,
-        Step::Create(CREATED),
-        Step::Run(
-            "read 8\nfail 4\nfail 18446744073709551615\nread 7",
-            (
-                "0 refused 1 NoSuchBlock\n1 refused 1 NoSuchSlot\n2 refused 1 NoSuchSlot\n3 data 00\nstate good\n",
-                "",
-                0,
+// A device is lost between a write and a read, and then every row is skipped; a wrong data block is counted, mended by
+// its parities, and counted no more.
+const IN_SHARDS: &[Step<'static>] = &[
+    Step::Create(CREATED),
+    Step::Run(
+        "write 0 5a\nwait\nread 0\nwait\nfail 1\nwait\nread 0\nwait\ncheck\n",
+        (WRITTEN, "", 0),
+    ),
+    Step::RemoveAll,
+    Step::Create(CREATED),
+    Step::Set(1, 0, 1),
+    Step::Run("check\nrepair\ncheck\n", (REPAIRED, "", 0)),
+    Step::RemoveAll,
+];
+
+pub(crate) const COURSES: &[Course<'static>] = &[
+    Course {
+        name: "one-two-and-four-shards-print-the-same-1",
+        integers: FOUR_ROWS,
+        more: "",
+        steps: IN_SHARDS,
+    },
+    Course {
+        name: "one-two-and-four-shards-print-the-same-2",
+        integers: "slots = 4\nchunk = 1\nblock = 16\nrows = 4\nshards = 2\n",
+        more: "",
+        steps: IN_SHARDS,
+    },
+    Course {
+        name: "one-two-and-four-shards-print-the-same-4",
+        integers: "slots = 4\nchunk = 1\nblock = 16\nrows = 4\nshards = 4\n",
+        more: "",
+        steps: IN_SHARDS,
+    },
+    // What is refused, and from the third loss on all is. Slot 4 and block 8 aren't there.
+    Course {
+        name: "an-event-that-is-refused-says-why",
+        integers: FOUR_ROWS,
+        more: "",
+        steps: &[
+            Step::Create(CREATED),
+            Step::Run("# no event\n\n", ("state good\n", "", 0)),
+            Step::RemoveAll,
+            Step::Create(CREATED),
+            Step::Run(
+                "read 8\nfail 4\nfail 18446744073709551615\nread 7",
+                (
+                    "0 refused 1 NoSuchBlock\n1 refused 1 NoSuchSlot\n2 refused 1 NoSuchSlot\n3 data 00\nstate good\n",
+                    "",
+                    0,
+                ),
             ),
-        ),
-        Step::RemoveAll,
-        Step::Create(CREATED),
-        Step::Run(
-            "fail 3\nfail 3\nwait\nfail 0\nfail 1\nwait\nwrite 0 5a\nwrite 7 11\nfail 2\ncheck\n",
-            (
-                "0 degraded
+            Step::RemoveAll,
+            Step::Create(CREATED),
+            Step::Run(
+                "fail 3\nfail 3\nwait\nfail 0\nfail 1\nwait\nwrite 0 5a\nwrite 7 11\nfail 2\ncheck\n",
+                (
+                    "0 degraded
 1 refused 2 AlreadyLost
 2 degraded
 3 failed
@@ -81,27 +88,27 @@ slot 1 lost
 slot 3 lost
 state failed
 ",
-                "",
-                1,
+                    "",
+                    1,
+                ),
             ),
-        ),
-        Step::RemoveAll,
-    ];
-    play(&rt, &rt, "refusals", (FOUR_ROWS, ""), course)
-}
-
-// The new device has FF in every byte at first. The one that slot 2 has isn't lost. In the end slot 1 keeps block 0 in
-// row 0, and in the other rows all is zero.
-#[test]
-fn a_new_device_is_rebuilt(rt: HostRuntime) -> Result<(), Fail> {
-    let course = &[
-        Step::Fill(SPARE, &[(0xff, 64)]),
-        Step::Create(CREATED),
-        Step::Set(1, 0, 1),
-        Step::Run(
-            "write 0 5a\nwait\nfail 1\nwait\nattach 1 @\nwait\nread 0\nattach 2 @\nwait\ncheck",
-            (
-                "0 done
+            Step::RemoveAll,
+        ],
+    },
+    // The new device has FF in every byte at first. The one that slot 2 has isn't lost. In the end slot 1 keeps block 0
+    // in row 0, and in the other rows all is zero.
+    Course {
+        name: "a-new-device-is-rebuilt",
+        integers: FOUR_ROWS,
+        more: "",
+        steps: &[
+            Step::Fill(SPARE, &[(0xff, 64)]),
+            Step::Create(CREATED),
+            Step::Set(1, 0, 1),
+            Step::Run(
+                "write 0 5a\nwait\nfail 1\nwait\nattach 1 @\nwait\nread 0\nattach 2 @\nwait\ncheck",
+                (
+                    "0 done
 1 degraded
 2 generation 1
 3 data 5a
@@ -109,64 +116,54 @@ fn a_new_device_is_rebuilt(rt: HostRuntime) -> Result<(), Fail> {
 5 consistent 4 wrong_p 0 wrong_q 0 wrong_data 0 many 0 skipped 0 repaired 0
 state good
 ",
-                "",
-                0,
+                    "",
+                    0,
+                ),
             ),
-        ),
-        Step::Holds(SPARE, &[(0x5a, 16), (0, 48)]),
-        Step::Remove(SPARE),
-        Step::RemoveAll,
-    ];
-    play(&rt, &rt, "attached", (FOUR_ROWS, ""), course)
-}
-
-// Settings come before the script, and the script before the devices; then the devices of the slots before those that
-// are attached. Nothing is printed, and no file is changed: the rows are consistent as before.
-#[test]
-fn what_cannot_be_had_is_named(rt: HostRuntime) -> Result<(), Fail> {
-    let course = &[
-        Step::Create(CREATED),
-        Step::Fill(SPARE, &[(0, 65)]),
-        Step::Run(
-            "write 0 5a\nattach 2 no-such-file\n",
-            ("", "device 2 fault 3\n", 4),
-        ),
-        Step::Run("write 0 5a\nattach 7 @", ("", "device 7 fault 4\n", 4)),
-        Step::Run("write 0 5a\nread 0 \n", ("", "script: line 2\n", 3)),
-        Step::Verify(CONSISTENT),
-        Step::Remove(SPARE),
-        Step::Fill(2, &[(0, 63)]),
-        Step::Run("attach 1 no-such-file\n", ("", "device 2 fault 4\n", 4)),
-        Step::Remove(1),
-        Step::Run("attach 1 no-such-file\n", ("", "device 1 fault 3\n", 4)),
-        Step::Run("read", ("", "script: line 1\n", 3)),
-        Step::Fill(1, &[(0, 64)]),
-        Step::RemoveAll,
-    ];
-    play(&rt, &rt, "unhad", (FOUR_ROWS, ""), course)?;
-    let unset = ("slots = 4".as_bytes(), "read".as_bytes());
-    ends_with(&rt, rt.alloc(), &RUN, unset, ("", "settings: chunk\n", 3));
-    Ok(())
-}
-
-// Each line that isn't in the grammar.
-#[test]
-fn names_the_first_line_that_is_no_event(rt: HostRuntime) -> Result<(), Fail> {
-    let settings = settings_of(&rt, "lines", FOUR_ROWS, "")?;
-    let settings = settings.as_str().as_bytes();
-    // with a bar between two of them
-    let lines = &[
-        "read|read |read 00|read 0 0|read +1|read 18446744073709551616",
-        "write 0|write 0 5A|write 0 5a |write  0 5a|write 01 5a|write 0 5",
-        "wait | wait|Wait|waits|fail|fail x|fail 01|attach 1|attach 1 |attach x y|attach 01 y",
-        "check 1|checks|repair 0|array 4 1 16 4 1|look 0",
-    ];
-    for lines in lines {
-        for line in lines.split('|') {
-            let script = format!(in rt.alloc(); "wait\n# one\n\n{line}\nread\n")?;
-            let texts = (settings, script.as_str().as_bytes());
-            ends_with(&rt, rt.alloc(), &RUN, texts, ("", "script: line 4\n", 3));
-        }
-    }
-    Ok(())
-}
+            Step::Holds(SPARE, &[(0x5a, 16), (0, 48)]),
+            Step::Remove(SPARE),
+            Step::RemoveAll,
+        ],
+    },
+    // Settings come before the script, and the script before the devices; then the devices of the slots before those
+    // that are attached. Nothing is printed, and no file is changed: the rows are consistent as before.
+    Course {
+        name: "what-cannot-be-had-is-named",
+        integers: FOUR_ROWS,
+        more: "",
+        steps: &[
+            Step::Create(CREATED),
+            Step::Fill(SPARE, &[(0, 65)]),
+            Step::Run(
+                "write 0 5a\nattach 2 no-such-file\n",
+                ("", "device 2 fault 3\n", 4),
+            ),
+            Step::Run("write 0 5a\nattach 7 @", ("", "device 7 fault 4\n", 4)),
+            Step::Run("write 0 5a\nread 0 \n", ("", "script: line 2\n", 3)),
+            Step::Verify(CONSISTENT),
+            Step::Remove(SPARE),
+            Step::Fill(2, &[(0, 63)]),
+            Step::Run("attach 1 no-such-file\n", ("", "device 2 fault 4\n", 4)),
+            Step::Remove(1),
+            Step::Run("attach 1 no-such-file\n", ("", "device 1 fault 3\n", 4)),
+            Step::Run("read", ("", "script: line 1\n", 3)),
+            Step::Fill(1, &[(0, 64)]),
+            Step::RemoveAll,
+        ],
+    },
+    // Each line that isn't in the grammar.
+    Course {
+        name: "the-first-line-that-is-no-event-is-named",
+        integers: FOUR_ROWS,
+        more: "",
+        steps: &[Step::RunLines(
+            &[
+                "read|read |read 00|read 0 0|read +1|read 18446744073709551616",
+                "write 0|write 0 5A|write 0 5a |write  0 5a|write 01 5a|write 0 5",
+                "wait | wait|Wait|waits|fail|fail x|fail 01|attach 1|attach 1 |attach x y|attach 01 y",
+                "check 1|checks|repair 0|array 4 1 16 4 1|look 0",
+            ],
+            ("", "script: line 4\n", 3),
+        )],
+    },
+];

@@ -1,9 +1,6 @@
 //! Transcripts of losses: by errors, and by calls of the register.
 
-use crate::transcripts::play_all;
-use std::test::Fail;
-
-const SURVIVED: &str = "== 0
+pub(crate) const SURVIVED: &str = "== 0
 # a write outlives the device that confirmed it
 # The device of block 0 confirms the new block and is failed; P and Q then have it. `examples/loss.script` is this
 # course.
@@ -71,12 +68,7 @@ do 0:6 -> taken
 look 0 -> looked | reply 0:0 done | reply 0:1 data 5a
 ";
 
-#[test]
-fn losses_of_two_are_survived(rt: HostRuntime) -> Result<(), Fail> {
-    play_all(&rt, rt.alloc(), SURVIVED)
-}
-
-const FATAL: &str = "== 1
+pub(crate) const FATAL: &str = "== 1
 # a read beside a write is answered before the array fails
 # Block 0 is read when its own device has written it, and P and Q aren't written. Then three slots fail: the read
 # was answered, and the write is `failed`. `examples/direct_read.script` is this course.
@@ -185,12 +177,7 @@ look 0 -> looked | reply 0:3 failed
 write 0 5a -> refused 5 ArrayFailed
 ";
 
-#[test]
-fn losses_of_three_fail_the_array(rt: HostRuntime) -> Result<(), Fail> {
-    play_all(&rt, rt.alloc(), FATAL)
-}
-
-const CALLS: &str = "== 1
+pub(crate) const CALLS: &str = "== 1
 # completions are late doubled or of no command
 # A read whose slot a look finds lost starts again, and what the lost device answers then is late.
 array 4 1 16 4 1 -> array
@@ -242,8 +229,3 @@ fail 0 -> failed
 fail 3 -> refused 5 ArrayFailed
 attach 0 -> refused 5 ArrayFailed
 ";
-
-#[test]
-fn calls_and_completions_are_refused(rt: HostRuntime) -> Result<(), Fail> {
-    play_all(&rt, rt.alloc(), CALLS)
-}

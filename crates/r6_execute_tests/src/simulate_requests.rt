@@ -1,10 +1,6 @@
 //! Transcripts of requests whose devices answer without an error.
 
-use crate::transcripts::play_all;
-use std::fmt::Write as _;
-use std::test::Fail;
-
-const REQUESTS: &str = "== 0
+pub(crate) const REQUESTS: &str = "== 0
 # a write waits for its last block and is read back
 array 4 1 16 4 1 -> array
 write 0 5a -> op 0:0 | 0:0 read slot 2 gen 0 row 0
@@ -85,12 +81,7 @@ write 18446744073709551615 ff -> refused 1 NoSuchBlock
 read 7 -> op 0:0 | 0:0 read slot 3 gen 0 row 3
 ";
 
-#[test]
-fn requests_are_served(rt: HostRuntime) -> Result<(), Fail> {
-    play_all(&rt, rt.alloc(), REQUESTS)
-}
-
-const COMPLETIONS: &str = "== 0
+pub(crate) const COMPLETIONS: &str = "== 0
 # a command is performed once and answered once
 array 4 1 16 4 1 -> array
 read 0 -> op 0:0 | 0:0 read slot 1 gen 0 row 0
@@ -183,20 +174,3 @@ do 0:1 -> taken
 look 0 -> looked | reply 0:2 done | reply 0:1 data 00
 look 0 -> looked
 ";
-
-#[test]
-fn completions_are_answered_once(rt: HostRuntime) -> Result<(), Fail> {
-    play_all(&rt, rt.alloc(), COMPLETIONS)
-}
-
-#[test]
-fn a_shard_takes_256_requests_at_a_time(rt: HostRuntime) -> Result<(), Fail> {
-    let first =
-        "== 0\narray 4 1 16 4 1 -> array\nwrite 0 5a -> op 0:0 | 0:0 read slot 2 gen 0 row 0\n";
-    let mut text = String::from_str(rt.alloc(), first)?;
-    for id in 1..256 {
-        writeln!(text, "write 0 5a -> op 0:{id}")?;
-    }
-    writeln!(text, "read 1 -> refused 4 Busy")?;
-    play_all(&rt, rt.alloc(), text.as_str())
-}

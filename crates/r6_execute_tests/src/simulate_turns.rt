@@ -1,9 +1,6 @@
 //! Transcripts of turns: checks, repairs and rebuilds.
 
-use crate::transcripts::play_all;
-use std::test::Fail;
-
-const SCRUBS: &str = "== 0
+pub(crate) const SCRUBS: &str = "== 0
 # a check and a repair take their rows in turn
 # Row 2 is read as a whole, and then the write that waits for it has its turn. The repairs have a row of their own.
 array 4 1 16 4 2 -> array
@@ -62,12 +59,7 @@ look 0 -> looked | reply 0:0 failed
 turn 0 repair -> refused 5 ArrayFailed
 ";
 
-#[test]
-fn checks_and_repairs_take_turns(rt: HostRuntime) -> Result<(), Fail> {
-    play_all(&rt, rt.alloc(), SCRUBS)
-}
-
-const REBUILDS: &str = "== 0
+pub(crate) const REBUILDS: &str = "== 0
 # a write goes to rows that are rebuilt
 # Row 0 is rebuilt on slot 1 and row 1 isn't: a write of row 0 writes the new device, one of row 1 leaves it alone.
 # A second new device begins with no row.
@@ -161,8 +153,3 @@ answer 0:4 error -> taken
 tell 0 -> declare_lost 1 2: degraded
 tell 0 -> nothing
 ";
-
-#[test]
-fn slots_are_rebuilt_row_by_row(rt: HostRuntime) -> Result<(), Fail> {
-    play_all(&rt, rt.alloc(), REBUILDS)
-}
