@@ -7,7 +7,7 @@ use r6_shard::Entry;
 use std::process::Abort;
 
 /// What an event is answered.
-#[derive(Clone, Copy, PartialEq, Eq, Debug)]
+#[derive(Clone, Copy, PartialEq)]
 pub(crate) enum Answer {
     /// A read: a block with this byte throughout.
     Data(u8),
@@ -54,14 +54,15 @@ pub(crate) fn answer_in(entries: &[Entry], refused: &[(u64, Refusal)], event: u6
     }
 }
 
-/// Asserts that an event was answered so.
-pub(crate) fn check<R: Abort>(rt: &R, event: u64, found: &Answer, wanted: &Answer) {
-    assert!(rt; found == wanted, "event {event}: {found:?}");
+/// Asserts that an event of the course of this name was answered so.
+pub(crate) fn check<R: Abort>(rt: &R, name: &str, event: u64, found: &Answer, wanted: &Answer) {
+    assert!(rt; found == wanted, "event {event} of {name}");
 }
 
 /// Asserts that a shard answered so to the events from 0 on, and to no others.
 pub(crate) fn check_all<R: Abort>(
     rt: &R,
+    name: &str,
     entries: &[Entry],
     refused: &[(u64, Refusal)],
     wanted: &[Answer],
@@ -70,6 +71,7 @@ pub(crate) fn check_all<R: Abort>(
     for (event, answer) in wanted.iter().enumerate() {
         check(
             rt,
+            name,
             event as u64,
             &answer_in(entries, refused, event as u64),
             answer,
@@ -78,5 +80,8 @@ pub(crate) fn check_all<R: Abort>(
             answered = answered.wrapping_add(1);
         }
     }
-    assert!(rt; entries.len().saturating_add(refused.len()) == answered);
+    assert!(rt;
+        entries.len().saturating_add(refused.len()) == answered,
+        "{name}"
+    );
 }

@@ -133,7 +133,7 @@ fn rows_right(part: &mut Part<MemoryDevice>, room: &mut Buffer, held: &Held) -> 
 }
 
 /// What the parts hold at the end.
-#[derive(Clone, Copy, PartialEq, Eq, Debug)]
+#[derive(Clone, Copy)]
 pub(crate) struct Found {
     /// How many blocks of the array stand where they are to stand.
     pub(crate) right: usize,

@@ -141,17 +141,17 @@ fn serve_guests<'h, R: Threads + Wait + Sync>(
         window: 1,
         lost: 0,
     };
-    let parts = parts_of(alloc, geometry, house)?;
     let mut events = Vec::with_capacity(alloc, 2)?;
     events.push_reserved(Event::Request(Op::Write(0, filled(alloc, 0x5a)?)));
     events.push_reserved(Event::Request(Op::Write(4, filled(alloc, 0x5a)?)));
+    let parts = parts_of(alloc, geometry, house)?;
     serve(rt, alloc, config, parts, events)
 }
 
 // Both writes were done, and no command failed.
 fn check_met<R: Abort>(rt: &R, served: &Served<Guest<'_>>) {
-    check_answer(rt, served, 0, Ask::Write(0, 0x5a), &Answer::Done);
-    check_answer(rt, served, 1, Ask::Write(4, 0x5a), &Answer::Done);
+    check_answer(rt, "guests", served, 0, Ask::Write(0, 0x5a), &Answer::Done);
+    check_answer(rt, "guests", served, 1, Ask::Write(4, 0x5a), &Answer::Done);
     let mut runners = served.runners.iter();
     assert!(rt; runners.all(|runner| runner.shard.named == [false; 32]));
 }

@@ -150,18 +150,18 @@ fn play<L: Events + Send + Sync, R: Threads + Wait + Sync>(
         ∷ [] }
     requires none_promised { (shard : ℕ) (slot : ℕ) → L.sound shard slot → ⊥ }
 {
-    let data = Buffer::new(alloc, 16)?;
-    let near = Buffer::new(alloc, 16)?;
-    let far = Buffer::new(alloc, 16)?;
-    let part = MemoryDevice::new(alloc, 0..2, 16)?;
-    let other_part = MemoryDevice::new(alloc, 2..4, 16)?;
     let mut items = Vec::with_capacity(alloc, 7)?;
+    let data = Buffer::new(alloc, 16)?;
     items.push_reserved(Item::<L, MemoryDevice>::new(0, 0, 0, Work::Write(0, data)));
+    let near = Buffer::new(alloc, 16)?;
     items.push_reserved(Item::new(1, 1, 0, Work::Read(4, near)));
     items.push_reserved(Item::new(0, 2, 0, Work::Check));
     items.push_reserved(Item::new(1, 2, 0, Work::Check));
+    let far = Buffer::new(alloc, 16)?;
     items.push_reserved(Item::new(1, 3, 1, Work::Read(7, far)));
+    let part = MemoryDevice::new(alloc, 0..2, 16)?;
     items.push_reserved(Item::new(0, 4, 1, attach(part)));
+    let other_part = MemoryDevice::new(alloc, 2..4, 16)?;
     items.push_reserved(Item::new(1, 4, 1, attach(other_part)));
     relay(rt, alloc, blank, items)
 }
@@ -176,11 +176,16 @@ fn attach(part: MemoryDevice) -> Work<MemoryDevice>
     }
 }
 
+fn are_theirs(taken: &[Vec<u64>]) -> bool {
+    let [first, second] = taken else {
+        return false;
+    };
+    first.as_slice() == [0, 2, 4].as_slice() && second.as_slice() == [1, 2, 3, 4].as_slice()
+}
+
 #[test]
 fn each_shard_takes_its_own(rt: HostRuntime) -> Result<(), Fail> {
     let taken = play::<Brand, HostRuntime>(&rt, rt.alloc(), Blank::new(6))?;
-    assert_eq!(rt; taken.len(), 2);
-    assert_eq!(rt; taken[0].as_slice(), [0, 2, 4].as_slice());
-    assert_eq!(rt; taken[1].as_slice(), [1, 2, 3, 4].as_slice());
+    assert!(rt; are_theirs(taken.as_slice()));
     Ok(())
 }

@@ -38,9 +38,9 @@ pub(crate) struct Ended {
 
 impl Ended {
     /// Asserts that the events from 0 on were answered so.
-    pub(crate) fn check<R: Abort>(&self, rt: &R, wanted: &[Answer]) {
+    pub(crate) fn check<R: Abort>(&self, rt: &R, name: &str, wanted: &[Answer]) {
         let entries = self.runner.shard.entries.as_slice();
-        check_all(rt, entries, self.runner.refused.as_slice(), wanted);
+        check_all(rt, name, entries, self.runner.refused.as_slice(), wanted);
     }
 }
 
@@ -172,7 +172,7 @@ fn runner_of(
     ensures room { IfOk result (λ runner. (runner.room ≡ room) × (taken_by runner ≡ 0)) }
 {
     let snapshot = Snapshot::start(&place.geometry, 0);
-    let parts = parts_of(alloc, &ALL_ROWS)?;
+    let parts = parts_of(alloc, &ALL_ROWS);
     Runner::new(alloc, place, &snapshot, pass, parts, room)
 }
 
@@ -248,7 +248,7 @@ fn prepare<R: Wait>(
 
 /// The shard takes the events once these slots have failed and these have new devices.
 #[tactic(auto, using(crate::proofs::Passes::first_pass))]
-pub(crate) fn take<R: Wait>(
+pub(crate) fn take<R: Wait + Abort>(
     rt: &R,
     alloc: Global,
     failed: &[usize],
@@ -266,7 +266,9 @@ pub(crate) fn take<R: Wait>(
         window: 1,
     };
     let blank = Blank::new(3);
-    let runner = play::<Brand, R>(rt, alloc, blank, place, &register, first, rest, asks)?;
+    let Ok(runner) = play::<Brand, R>(rt, alloc, blank, place, &register, first, rest, asks) else {
+        panic!(rt; "no memory");
+    };
     let snapshot = register.read(rt, &mut caller);
     Ok(Ended { runner, snapshot })
 }

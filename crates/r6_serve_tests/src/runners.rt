@@ -5,127 +5,178 @@ use crate::asks::Ask;
 use crate::runner_bench::{Ended, take};
 use r6_core::Task;
 use r6_lists::Rest;
+use r6_runner::Passed;
+use std::alloc::Global;
 use std::process::Abort;
+use std::sync::Wait;
 use std::test::Fail;
 
-fn check_order<R: Abort>(rt: &R, ended: &Ended) {
+/// What holds of a shard that has taken its events.
+#[derive(Clone, Copy)]
+enum End<'c> {
+    /// They were answered so.
+    Answered(&'c [Answer]),
+    /// Likewise, in their order.
+    InOrder(&'c [Answer]),
+    /// Likewise, and the array has failed.
+    Failed(&'c [Answer]),
+    /// Likewise, the new device of slot 1 is rebuilt, and the rest is found that was asked for before.
+    Rebuilt(&'c [Answer]),
+    /// Event 1, a check, and event 2, a repair, found all rows consistent.
+    Passed,
+    /// A check left all rows out.
+    LeftOut,
+    /// Event 3 stood behind two that were answered.
+    Behind,
+}
+
+/// The events of a shard, once these slots have failed and these have new devices.
+struct Course<'c> {
+    name: &'c str,
+    failed: &'c [usize],
+    attached: &'c [usize],
+    asks: &'c [Ask],
+    end: End<'c>,
+}
+
+const COURSES: &[Course<'static>] = &[
+    Course {
+        name: "requests are answered in order",
+        failed: &[],
+        attached: &[],
+        asks: &[Ask::Write(0, 7), Ask::Write(3, 9), Ask::Write(0, 8)],
+        end: End::InOrder(&[Answer::Done, Answer::Done, Answer::Done]),
+    },
+    Course {
+        name: "a write is read back",
+        failed: &[],
+        attached: &[],
+        asks: &[Ask::Write(0, 7), Ask::Wait, Ask::Read(0), Ask::Read(1)],
+        end: End::Answered(&[
+            Answer::Done,
+            Answer::Nothing,
+            Answer::Data(7),
+            Answer::Data(0),
+        ]),
+    },
+    // The shard looks at the register before it begins anything.
+    Course {
+        name: "a failed array refuses all",
+        failed: &[0, 1, 2],
+        attached: &[],
+        asks: &[Ask::Write(0, 7), Ask::Read(0)],
+        end: End::Failed(&[Answer::Refused(5), Answer::Refused(5)]),
+    },
+    Course {
+        name: "a check and a repair count rows",
+        failed: &[],
+        attached: &[],
+        asks: &[Ask::Write(0, 7), Ask::Check, Ask::Repair],
+        end: End::Passed,
+    },
+    Course {
+        name: "a check of a failed array leaves its rows out",
+        failed: &[0, 1, 2],
+        attached: &[],
+        asks: &[Ask::Check],
+        end: End::LeftOut,
+    },
+    Course {
+        name: "tasks behind a wait stand behind those before it",
+        failed: &[],
+        attached: &[],
+        asks: &[Ask::Write(0, 7), Ask::Write(1, 9), Ask::Wait, Ask::Read(3)],
+        end: End::Behind,
+    },
+    // A rest is found only behind what was asked, and here only once the new device of slot 1 is rebuilt.
+    Course {
+        name: "a rebuild ends with the rest found",
+        failed: &[1],
+        attached: &[1],
+        asks: &[Ask::Write(0, 7), Ask::Attach(1, 1), Ask::Wait, Ask::Read(0)],
+        end: End::Rebuilt(&[
+            Answer::Done,
+            Answer::Nothing,
+            Answer::Nothing,
+            Answer::Data(7),
+        ]),
+    },
+];
+
+fn are_in_order(ended: &Ended) -> bool {
     let events = ended.runner.shard.entries.iter().map(|entry| entry.event);
-    assert!(rt; events.eq([0, 1, 2]));
+    events.eq([0, 1, 2])
 }
 
-#[test]
-fn requests_are_answered_in_order(rt: HostRuntime) -> Result<(), Fail> {
-    let asks = &[Ask::Write(0, 7), Ask::Write(3, 9), Ask::Write(0, 8)];
-    let ended = take(&rt, rt.alloc(), &[], &[], &Rest::new(), asks)?;
-    ended.check(&rt, &[Answer::Done; 3]);
-    check_order(&rt, &ended);
-    Ok(())
-}
-
-#[test]
-fn a_write_is_read_back(rt: HostRuntime) -> Result<(), Fail> {
-    let asks = &[Ask::Write(0, 7), Ask::Wait, Ask::Read(0), Ask::Read(1)];
-    let wanted = &[
-        Answer::Done,
-        Answer::Nothing,
-        Answer::Data(7),
-        Answer::Data(0),
-    ];
-    let ended = take(&rt, rt.alloc(), &[], &[], &Rest::new(), asks)?;
-    ended.check(&rt, wanted);
-    Ok(())
-}
-
-// The shard looks at the register before it begins anything.
-#[test]
-fn a_failed_array_refuses_all(rt: HostRuntime) -> Result<(), Fail> {
-    let asks = &[Ask::Write(0, 7), Ask::Read(0)];
-    let ended = take(&rt, rt.alloc(), &[0, 1, 2], &[], &Rest::new(), asks)?;
-    ended.check(&rt, &[Answer::Refused(5); 2]);
-    assert!(rt; ended.snapshot.failed());
-    Ok(())
-}
-
-fn check_passed<R: Abort>(rt: &R, ended: &Ended) {
-    let [check, repair] = ended.runner.passed.as_slice() else {
-        assert!(rt; false);
-        return;
+fn have_passed(passed: &[Passed]) -> bool {
+    let [check, repair] = passed else {
+        return false;
     };
-    assert!(rt; (check.event, check.task) == (1, Task::Check));
-    assert!(rt; (repair.event, repair.task) == (2, Task::Repair));
-    assert!(rt; (check.before.consistent, check.after.consistent) == (0, 4));
-    assert!(rt; (repair.after.consistent, repair.after.skipped) == (8, 0));
-    assert!(rt; (check.left_out, repair.left_out) == (0, 0));
+    (check.event, check.task) == (1, Task::Check)
+        && (repair.event, repair.task) == (2, Task::Repair)
+        && (check.before.consistent, check.after.consistent) == (0, 4)
+        && (repair.after.consistent, repair.after.skipped) == (8, 0)
+        && (check.left_out, repair.left_out) == (0, 0)
 }
 
-#[test]
-fn a_check_and_a_repair_count_rows(rt: HostRuntime) -> Result<(), Fail> {
-    let asks = &[Ask::Write(0, 7), Ask::Check, Ask::Repair];
-    let ended = take(&rt, rt.alloc(), &[], &[], &Rest::new(), asks)?;
-    check_passed(&rt, &ended);
-    Ok(())
-}
-
-fn check_left_out<R: Abort>(rt: &R, ended: &Ended) {
-    let [check] = ended.runner.passed.as_slice() else {
-        assert!(rt; false);
-        return;
+fn is_left_out(passed: &[Passed]) -> bool {
+    let [check] = passed else {
+        return false;
     };
-    assert!(rt; check.left_out == 4 && check.before == check.after);
+    check.left_out == 4 && check.before == check.after
 }
 
-#[test]
-fn a_check_of_a_failed_array_leaves_its_rows_out(rt: HostRuntime) -> Result<(), Fail> {
-    let ended = take(
-        &rt,
-        rt.alloc(),
-        &[0, 1, 2],
-        &[],
-        &Rest::new(),
-        &[Ask::Check],
-    )?;
-    check_left_out(&rt, &ended);
-    Ok(())
-}
-
-fn check_answered<R: Abort>(rt: &R, ended: &Ended) {
+fn is_behind(ended: &Ended) -> bool {
     let [_, second, third] = ended.runner.shard.asked.as_slice() else {
-        assert!(rt; false);
-        return;
+        return false;
     };
-    assert!(rt; second.answered == 0);
-    assert!(rt; (third.event, third.answered) == (3, 2));
+    second.answered == 0 && (third.event, third.answered) == (3, 2)
 }
 
-#[test]
-fn tasks_behind_a_wait_stand_behind_those_before_it(rt: HostRuntime) -> Result<(), Fail> {
-    let asks = &[Ask::Write(0, 7), Ask::Write(1, 9), Ask::Wait, Ask::Read(3)];
-    let ended = take(&rt, rt.alloc(), &[], &[], &Rest::new(), asks)?;
-    check_answered(&rt, &ended);
-    Ok(())
+fn is_rebuilt(ended: &Ended) -> bool {
+    !ended.snapshot.slot(1).is_out() && ended.runner.shard.core.counts().rebuilt == 4
 }
 
-fn check_rebuilt<R: Abort>(rt: &R, ended: &Ended) {
-    assert!(rt; !ended.snapshot.slot(1).is_out());
-    assert!(rt; ended.runner.shard.core.counts().rebuilt == 4);
+/// Asserts that a course has ended so.
+fn check_end<R: Abort>(rt: &R, name: &str, ended: &Ended, end: &End<'_>, is_found: bool) {
+    if let End::Answered(wanted)
+    | End::InOrder(wanted)
+    | End::Failed(wanted)
+    | End::Rebuilt(wanted) = end
+    {
+        ended.check(rt, name, *wanted);
+    }
+    let is_so = match end {
+        End::Answered(_) => true,
+        End::InOrder(_) => are_in_order(ended),
+        End::Failed(_) => ended.snapshot.failed(),
+        End::Rebuilt(_) => is_rebuilt(ended) && is_found,
+        End::Passed => have_passed(ended.runner.passed.as_slice()),
+        End::LeftOut => is_left_out(ended.runner.passed.as_slice()),
+        End::Behind => is_behind(ended),
+    };
+    assert!(rt; is_so, "{name}");
 }
 
-// A rest is found only behind what was asked, and here only once the new device of slot 1 is rebuilt.
-#[test]
-fn a_rebuild_ends_with_the_rest_found(rt: HostRuntime) -> Result<(), Fail> {
-    let asks = &[Ask::Write(0, 7), Ask::Attach(1, 1), Ask::Wait, Ask::Read(0)];
-    let wanted = &[
-        Answer::Done,
-        Answer::Nothing,
-        Answer::Nothing,
-        Answer::Data(7),
-    ];
-    let rest = Rest::new();
+/// A course on a new array, beside a rest that is asked for before.
+fn play<R: Wait + Abort>(
+    rt: &R,
+    alloc: Global,
+    course: &Course<'_>,
+    rest: &Rest,
+) -> Result<(), Fail> {
     let number = rest.ask();
     assert!(rt; !rest.is_found(number));
-    let ended = take(&rt, rt.alloc(), &[1], &[1], &rest, asks)?;
-    ended.check(&rt, wanted);
-    check_rebuilt(&rt, &ended);
-    assert!(rt; rest.is_found(number) && !rest.is_found(rest.ask()));
+    let ended = take(rt, alloc, course.failed, course.attached, rest, course.asks)?;
+    let is_found = rest.is_found(number) && !rest.is_found(rest.ask());
+    check_end(rt, course.name, &ended, &course.end, is_found);
+    Ok(())
+}
+
+#[test]
+fn a_shard_takes_its_courses(rt: HostRuntime) -> Result<(), Fail> {
+    for course in COURSES {
+        play(&rt, rt.alloc(), course, &Rest::new())?;
+    }
     Ok(())
 }

@@ -85,17 +85,23 @@ fn answer_to<D>(served: &Served<D>, ask: Ask, event: u64) -> Answer {
 /// Asserts that an event was answered so.
 pub(crate) fn check_answer<D, R: Abort>(
     rt: &R,
+    name: &str,
     served: &Served<D>,
     event: u64,
     ask: Ask,
     wanted: &Answer,
 ) {
-    check(rt, event, &answer_to(served, ask, event), wanted);
+    check(rt, name, event, &answer_to(served, ask, event), wanted);
 }
 
 /// Asserts that each event was answered as its step says.
-pub(crate) fn check_steps<R: Abort>(rt: &R, served: &Served<MemoryDevice>, steps: &[Step]) {
+pub(crate) fn check_steps<R: Abort>(
+    rt: &R,
+    name: &str,
+    served: &Served<MemoryDevice>,
+    steps: &[Step],
+) {
     for (event, (ask, wanted)) in steps.iter().enumerate() {
-        check_answer(rt, served, event as u64, *ask, wanted);
+        check_answer(rt, name, served, event as u64, *ask, wanted);
     }
 }

@@ -101,17 +101,16 @@ fn op_of(alloc: Global, request: Request) -> Result<Op, AllocError> {
     }
 }
 
-// The requests, of events with the numbers from 0 on.
-fn askings_of(alloc: Global, requests: &[Request]) -> Result<VecDeque<Asking>, AllocError> {
+// The requests, of events with the numbers from 0 on. One of which there is no memory isn't there, and isn't answered.
+fn askings_of(alloc: Global, requests: &[Request]) -> VecDeque<Asking> {
     let mut askings = VecDeque::new(alloc);
     for (event, request) in requests.iter().enumerate() {
-        let op = op_of(alloc, *request)?;
-        askings.push_back(Asking {
-            event: event as u64,
-            op,
-        })?;
+        if let Ok(op) = op_of(alloc, *request) {
+            let event = event as u64;
+            let _ = askings.push_back(Asking { event, op });
+        }
     }
-    Ok(askings)
+    askings
 }
 
 // A device of zeros with so many rows, which a slot has after so many attaches.
@@ -129,16 +128,20 @@ fn part_of(
     })
 }
 
-/// A device of zeros for each slot, with so many rows, and room for a part more.
-pub(crate) fn parts_of(
-    alloc: Global,
-    rows: &DeviceRows,
-) -> Result<Parts<MemoryDevice>, AllocError> {
-    let mut parts = Vec::with_capacity(alloc, SLOTS + 1)?;
+/// A device of zeros for each slot, with so many rows, and room for a part more. A device of which there is no memory
+/// isn't there, as one that was lost.
+pub(crate) fn parts_of(alloc: Global, rows: &DeviceRows) -> Parts<MemoryDevice> {
+    let Ok(mut parts) = Vec::with_capacity(alloc, SLOTS + 1) else {
+        return Parts {
+            parts: Vec::new(alloc),
+        };
+    };
     for slot in 0..SLOTS {
-        parts.push(part_of(alloc, slot, 0, rows[slot])?)?;
+        if let Ok(part) = part_of(alloc, slot, 0, rows[slot]) {
+            let _ = parts.push(part);
+        }
     }
-    Ok(Parts { parts })
+    Parts { parts }
 }
 
 // Hands a request in; the number of its refusal, if it is refused.
@@ -218,7 +221,7 @@ fn goes<R: Wait + Abort>(
     caller: &mut Pass,
     event: u64,
     turn: Turn,
-) -> Result<bool, AllocError>
+) -> bool
     requires shard { IsPassOf register.now shard.old.pass }
     requires caller { IsPassOf register.now caller.old }
     ensures shard { IsPassOf register.now shard.new.pass }
@@ -226,21 +229,25 @@ fn goes<R: Wait + Abort>(
 {
     match turn {
         Turn::Asks(request, wanted) => {
-            let op = op_of(alloc, request)?;
+            let Ok(op) = op_of(alloc, request) else {
+                return false;
+            };
             let found = answer(rt, shard, register, event, op);
-            check(rt, event, &found, &wanted);
+            check(rt, "a shard", event, &found, &wanted);
         }
         Turn::Hands(generation, rows, wanted) => {
-            let part = part_of(alloc, 1, generation, rows)?;
-            return Ok(hand_in(shard, part) == wanted);
+            let Ok(part) = part_of(alloc, 1, generation, rows) else {
+                return false;
+            };
+            return hand_in(shard, part) == wanted;
         }
-        Turn::Attaches => return Ok(attach(rt, register, caller)),
+        Turn::Attaches => return attach(rt, register, caller),
         Turn::Runs => run(rt, shard, register),
-        Turn::IsLost => return Ok(look(rt, register, caller).0),
-        Turn::IsInSync => return Ok(!look(rt, register, caller).1),
-        Turn::HasNamedNone => return Ok(shard.named == [false; 32]),
+        Turn::IsLost => return look(rt, register, caller).0,
+        Turn::IsInSync => return !look(rt, register, caller).1,
+        Turn::HasNamedNone => return shard.named == [false; 32],
     }
-    Ok(true)
+    true
 }
 
 // Each turn has to go as it says.
@@ -251,16 +258,15 @@ fn go_all<R: Wait + Abort>(
     register: &Register,
     caller: &mut Pass,
     turns: &[Turn],
-) -> Result<(), AllocError>
+)
     requires shard { IsPassOf register.now shard.old.pass }
     requires caller { IsPassOf register.now caller.old }
     ensures { IsPassOf register.now caller.new }
 {
     for (number, turn) in turns.iter().enumerate() {
-        let went = goes(rt, alloc, shard, register, caller, number as u64, *turn)?;
+        let went = goes(rt, alloc, shard, register, caller, number as u64, *turn);
         assert!(rt; went, "turn {number}");
     }
-    Ok(())
 }
 
 fn play_in_turn<R: Wait + Abort>(
@@ -282,9 +288,10 @@ fn play_in_turn<R: Wait + Abort>(
     ensures { IsPassOf register.now caller.new }
 {
     let snapshot = Snapshot::start(&place.geometry, 0);
-    let parts = parts_of(alloc, rows)?;
+    let parts = parts_of(alloc, rows);
     let mut shard = Shard::new(alloc, place, &snapshot, pass, parts, turns.len())?;
-    go_all(rt, alloc, &mut shard, register, caller, turns)
+    go_all(rt, alloc, &mut shard, register, caller, turns);
+    Ok(())
 }
 
 // The requests are served, from the beginning of the shard to its end.
@@ -320,8 +327,8 @@ fn play_at_once<R: Wait + Abort>(
     requires pass { IsPassOf register.now pass }
     requires first { IsFirstPass place.geometry (starting 0) (view_of pass) }
 {
-    let parts = parts_of(alloc, rows)?;
-    let askings = askings_of(alloc, requests)?;
+    let parts = parts_of(alloc, rows);
+    let askings = askings_of(alloc, requests);
     let job = Job {
         place,
         pass,
@@ -331,6 +338,7 @@ fn play_at_once<R: Wait + Abort>(
     let ended = serve_all(rt, alloc, register, job)?;
     check_all(
         rt,
+        "a shard",
         ended.shard.entries.as_slice(),
         ended.refused.as_slice(),
         wanted,
