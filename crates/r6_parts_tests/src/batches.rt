@@ -1,9 +1,7 @@
 //! Writes of several blocks of a row as one.
 
-use crate::bench::{Ask, Bench, Course, Seen, Step};
+use crate::bench::{Ask, Course, Seen, Step};
 use crate::holds::{EIGHT, SIX};
-use r6_stripe::Outcome;
-use std::test::Fail;
 
 /// A full row of ten positions; [`SIX`] and [`EIGHT`] have the first of its data.
 pub(crate) const TEN: [u8; 10] = [0x01, 0x80, 0x81, 0x1c, 0xff, 0x3e, 0x00, 0x77, 0xaa, 0x1f];
@@ -17,7 +15,7 @@ pub(crate) const TEN_CHANGED: [u8; 10] = [
     0x01, 0x5a, 0x81, 0xc3, 0xff, 0x3e, 0x00, 0x77, 0xaf, 0x00,
 ];
 
-const BOTH: Ask<'static> = Ask::Write(&[(1, 0x5a), (3, 0xc3)]);
+pub(crate) const BOTH: Ask<'static> = Ask::Write(&[(1, 0x5a), (3, 0xc3)]);
 
 pub(crate) const COURSES: &[Course<'static>] = &[
     // With two of four data blocks written it reads the two others, and writes two blocks, P and Q.
@@ -152,19 +150,3 @@ pub(crate) const COURSES: &[Course<'static>] = &[
         lost: &[0],
     },
 ];
-
-// Both positions are lost after so many commands: the others are those of the row after the write.
-#[test]
-fn losses_of_two_leave_the_others_full(rt: HostRuntime) -> Result<(), Fail> {
-    for first in 0..6usize {
-        for second in 0..first {
-            for commands in 0..6usize {
-                let mut bench = Bench::new(rt.alloc(), &BOTH, &SIX, &[true; 6])?;
-                assert!(rt;
-                    bench.survives(commands, &[first, second], &SIX_CHANGED, Outcome::Done)
-                );
-            }
-        }
-    }
-    Ok(())
-}

@@ -3,18 +3,17 @@
 ghost use Rattle.std.specs.Prelude.{◌≡◌, ◌≤◌, ◌<◌, length, true, IfOk};
 ghost use Rattle.r6_stripe.specs.Batches.{AreNewFor};
 
-use crate::blocks::{filled, is_filled};
+use crate::blocks::{blocks_of, grown, is_grown};
 use r6_kernels::Buffer;
 use r6_stripe::{Batch, Frame, Hold, Outcome, RowCommand, Task};
 use std::alloc::{AllocError, Global};
-use std::process::Abort;
 use std::test::Fail;
 
 /// The bytes of a block.
 const BLOCK: usize = 16;
 
-/// What a hold is asked: the index of a data block; the new blocks, by index the byte throughout; the position of the
-/// target.
+/// What a hold is asked: the index of a data block; the new blocks, by index the byte with which each begins; the
+/// position of the target.
 #[derive(Clone, Copy)]
 pub(crate) enum Ask<'a> {
     Read(usize),
@@ -43,7 +42,7 @@ pub(crate) enum Step {
     End,
     /// Whether all buffers are home.
     IsHome,
-    /// Whether the hold has put a block with this byte throughout at a position.
+    /// Whether the hold has put a block that begins with this byte at a position.
     Has(usize, u8),
 }
 
@@ -62,7 +61,7 @@ pub(crate) enum Seen {
     End(Option<Outcome>),
 }
 
-/// A hold over a row of these bytes, of whose positions these are in sync, and the steps that it has to take. Then its
+/// A hold over a row of blocks that begin with these bytes, of whose positions these are in sync, and the steps that it has to take. Then its
 /// devices have the bytes `after` but at the lost positions.
 #[derive(Clone, Copy)]
 pub(crate) struct Course<'a> {
@@ -83,35 +82,26 @@ pub(crate) struct Bench {
     pub(crate) out: Vec<RowCommand>,
 }
 
-/// The blocks of a row.
-pub(crate) fn row_of(alloc: Global, bytes: &[u8]) -> Result<Vec<Buffer>, AllocError> {
-    let mut blocks = Vec::new(alloc);
-    for byte in bytes {
-        blocks.push(filled(alloc, BLOCK, *byte)?)?;
-    }
-    Ok(blocks)
-}
-
-/// Whether each block but those at the lost positions has its byte throughout.
+/// Whether each block but those at the lost positions begins with its byte.
 pub(crate) fn has_bytes(blocks: &Vec<Buffer>, bytes: &[u8], lost: &[usize]) -> bool {
     if blocks.len() != bytes.len() {
         return false;
     }
     for position in 0..blocks.len() {
-        if !lost.contains(&position) && !is_filled(&blocks[position], bytes[position]) {
+        if !lost.contains(&position) && !is_grown(&blocks[position], bytes[position]) {
             return false;
         }
     }
     true
 }
 
-/// New blocks for a row of so many positions: by index the byte of each block throughout.
+/// New blocks for a row of so many positions: by index the byte with which each block begins.
 fn batch_of(alloc: Global, new: &[(usize, u8)], count: usize) -> Result<Batch, Fail>
     ensures { IfOk result (λ batch. AreNewFor count 16 batch.blocks) }
 {
     let mut batch = Batch::new(alloc)?;
     for (index, byte) in new {
-        let block = filled(alloc, BLOCK, *byte)?;
+        let block = grown(alloc, BLOCK, *byte)?;
         if *index >= 30 || *index + 2 >= count || batch.has(*index) {
             return Err(Fail::from("no batch"));
         }
@@ -178,20 +168,22 @@ fn perform(command: RowCommand, devices: &mut Vec<Buffer>) -> (usize, Buffer) {
     }
 }
 
-/// A hold has to take this course.
-pub(crate) fn plays<R: Abort>(rt: &R, alloc: Global, course: &Course<'_>) -> Result<(), Fail> {
+/// How many steps of a course a hold takes, up to the first that isn't answered so; one more, if its devices have the
+/// course's bytes then.
+pub(crate) fn played(alloc: Global, course: &Course<'_>) -> Result<usize, Fail> {
     let mut bench = Bench::new(alloc, &course.ask, course.bytes, course.in_sync)?;
-    bench.play(rt, course.name, course.steps)?;
-    assert!(rt;
-        has_bytes(&bench.devices, course.after, course.lost),
-        "after {}",
-        course.name
-    );
-    Ok(())
+    Ok(bench.play(course)?)
+}
+
+impl Course<'_> {
+    /// What `played` answers if all goes as the course has it.
+    pub(crate) fn end(&self) -> usize {
+        self.steps.len().saturating_add(1)
+    }
 }
 
 impl Bench {
-    /// A row of these bytes, of whose positions these are in sync.
+    /// A row of blocks that begin with these bytes, of whose positions these are in sync.
     pub(crate) fn new(
         alloc: Global,
         ask: &Ask<'_>,
@@ -200,22 +192,22 @@ impl Bench {
     ) -> Result<Bench, Fail> {
         Ok(Bench {
             hold: hold_of(alloc, ask, in_sync)?,
-            devices: row_of(alloc, bytes)?,
+            devices: blocks_of(alloc, BLOCK, bytes)?,
             out: Vec::new(alloc),
         })
     }
 
-    /// Plays a course of this name: each step has to answer so.
-    pub(crate) fn play<R: Abort>(
-        &mut self,
-        rt: &R,
-        name: &str,
-        steps: &[(Step, Seen)],
-    ) -> Result<(), AllocError> {
-        for (index, (step, seen)) in steps.iter().enumerate() {
-            assert!(rt; self.seen(step)? == *seen, "step {index} of {name}");
+    fn play(&mut self, course: &Course<'_>) -> Result<usize, AllocError> {
+        for (index, (step, seen)) in course.steps.iter().enumerate() {
+            if self.seen(step)? != *seen {
+                return Ok(index);
+            }
         }
-        Ok(())
+        Ok(if has_bytes(&self.devices, course.after, course.lost) {
+            course.end()
+        } else {
+            course.steps.len()
+        })
     }
 
     fn seen(&mut self, step: &Step) -> Result<Seen, AllocError> {
@@ -309,34 +301,13 @@ impl Bench {
         }
     }
 
-    /// Whether the hold ends so if these positions are lost after so many commands, all buffers are home then, and the
-    /// devices have these bytes but at those positions.
-    pub(crate) fn survives(
-        &mut self,
-        commands: usize,
-        lost: &[usize],
-        after: &[u8],
-        outcome: Outcome,
-    ) -> bool {
-        if self.drive(commands) != commands {
-            return false;
-        }
-        for position in lost {
-            if self.lose(*position) != Seen::Lost {
-                return false;
-            }
-        }
-        self.drive(9);
-        self.outcome() == Some(outcome) && self.is_home() && has_bytes(&self.devices, after, lost)
-    }
-
-    /// Whether the hold has put a block with this byte throughout at a position.
+    /// Whether the hold has put a block that begins with this byte at a position.
     pub(crate) fn has_block(&self, position: usize, byte: u8) -> bool {
         if position >= self.hold.positions() {
             return false;
         }
         match self.hold.block(position) {
-            Some(block) => is_filled(block, byte),
+            Some(block) => is_grown(block, byte),
             None => false,
         }
     }

@@ -1,34 +1,37 @@
-//! Blocks whose bytes follow a rule.
+//! Blocks in which each byte is x times the one before it. The sums of a row keep that rule: what comes out of such
+//! blocks is known by its first bytes, and a byte at a wrong place is seen.
 
 ghost use Rattle.std.specs.Prelude.{◌≡◌, length, IfOk};
+ghost use Rattle.std.specs.List.{All};
 
 use r6_kernels::Buffer;
 use std::alloc::{AllocError, Global};
 
-/// How a byte follows the one before it: so many times it, and so much more.
-pub(crate) type Rule = (u8, u8);
+/// Lengths around those of a vector and of a step, of which the sums go whole steps and one part.
+pub(crate) const LENGTHS: &[usize] = &[
+    0, 1, 31, 32, 33, 48, 64, 80, 127, 128, 129, 159, 255, 256, 257, 4096,
+];
 
-const SAME: Rule = (1, 0);
-
-/// Five blocks of one length.
-#[derive(Drop)]
-pub(crate) struct FiveBlocks {
-    pub(crate) a: Buffer,
-    pub(crate) b: Buffer,
-    pub(crate) c: Buffer,
-    pub(crate) p: Buffer,
-    pub(crate) q: Buffer,
+/// x times an element, by the field's definition: a carry out of x^7 adds x^8 + x^4 + x^3 + x^2 + 1.
+fn doubled(element: u8) -> u8 {
+    let shifted = u16::from(element) << 1;
+    let reduced = if shifted > 0xff {
+        shifted ^ 0x11d
+    } else {
+        shifted
+    };
+    (reduced & 0xff) as u8
 }
 
-/// A block that begins with a byte, which the others follow.
-pub(crate) fn ruled(alloc: Global, len: usize, first: u8, rule: Rule) -> Result<Buffer, AllocError>
+/// A block of a length that begins with a byte.
+pub(crate) fn grown(alloc: Global, len: usize, first: u8) -> Result<Buffer, AllocError>
     ensures { IfOk result (λ block. length block ≡ len) }
 {
     let mut bytes = vec![in alloc; first; len]?;
     let mut byte = first;
     for place in bytes.iter_mut() {
         *place = byte;
-        byte = byte.wrapping_mul(rule.0).wrapping_add(rule.1);
+        byte = doubled(byte);
     }
     let mut block = Buffer::new(alloc, len)?;
     if bytes.len() == block.len() {
@@ -37,41 +40,25 @@ pub(crate) fn ruled(alloc: Global, len: usize, first: u8, rule: Rule) -> Result<
     Ok(block)
 }
 
-/// A block with one byte throughout.
-pub(crate) fn filled(alloc: Global, len: usize, byte: u8) -> Result<Buffer, AllocError>
-    ensures { IfOk result (λ block. length block ≡ len) }
-{
-    ruled(alloc, len, byte, SAME)
+/// Whether a block begins with a byte.
+pub(crate) fn is_grown(block: &Buffer, first: u8) -> bool {
+    let mut byte = first;
+    for found in block.as_slice() {
+        if *found != byte {
+            return false;
+        }
+        byte = doubled(byte);
+    }
+    true
 }
 
 /// Blocks of a length that begin with these bytes.
-pub(crate) fn five_ruled(
-    alloc: Global,
-    len: usize,
-    firsts: [u8; 5],
-    rule: Rule,
-) -> Result<FiveBlocks, AllocError>
-    ensures { IfOk result (λ five. (length five.a ≡ len) × (length five.b ≡ len) × (length five.c ≡ len)
-        × (length five.p ≡ len) × (length five.q ≡ len)) }
+pub(crate) fn blocks_of(alloc: Global, len: usize, firsts: &[u8]) -> Result<Vec<Buffer>, AllocError>
+    ensures { IfOk result (λ blocks. All (λ block. length block ≡ len) blocks.items) }
 {
-    Ok(FiveBlocks {
-        a: ruled(alloc, len, firsts[0], rule)?,
-        b: ruled(alloc, len, firsts[1], rule)?,
-        c: ruled(alloc, len, firsts[2], rule)?,
-        p: ruled(alloc, len, firsts[3], rule)?,
-        q: ruled(alloc, len, firsts[4], rule)?,
-    })
-}
-
-/// Blocks of a length with these bytes throughout.
-pub(crate) fn five(alloc: Global, len: usize, bytes: [u8; 5]) -> Result<FiveBlocks, AllocError>
-    ensures { IfOk result (λ five. (length five.a ≡ len) × (length five.b ≡ len) × (length five.c ≡ len)
-        × (length five.p ≡ len) × (length five.q ≡ len)) }
-{
-    five_ruled(alloc, len, bytes, SAME)
-}
-
-/// Whether every byte of a block is this one.
-pub(crate) fn is_filled(block: &Buffer, byte: u8) -> bool {
-    block.as_slice().iter().all(|b| *b == byte)
+    let mut blocks = Vec::new(alloc);
+    for first in firsts {
+        blocks.push(grown(alloc, len, *first)?)?;
+    }
+    Ok(blocks)
 }

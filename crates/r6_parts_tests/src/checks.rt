@@ -1,10 +1,10 @@
 //! Checks and repairs of a row, driven over blocks in memory.
 
-use crate::bench::{Ask, Course, Seen, Step, plays};
+use crate::bench::{Ask, Course, Seen, Step, played};
+use crate::must::must;
 use r6_recover::RowClass;
 use r6_stripe::Outcome;
 use std::alloc::Global;
-use std::process::Abort;
 use std::test::Fail;
 
 /// A full row of four positions: P is the sum of the data, and Q is 01 + x 80 = 01 + 1d.
@@ -119,17 +119,25 @@ pub(crate) const COURSES: &[Course<'static>] = &[
     },
 ];
 
-/// A hold over the row with these P and Q puts out so many commands and ends with this class. Then these bytes stand
-/// there.
-fn classes<R: Abort>(
-    rt: &R,
+/// P and Q with the class of the row that they make, and how many of them a repair writes: what they differ by is 0 or
+/// 1 in the place of P, and that times g^z in the place of Q where data block z is wrong.
+const CLASSES: &[(u8, u8, RowClass, usize)] = &[
+    (0x81, 0x1c, RowClass::Consistent, 0),
+    (0x80, 0x1c, RowClass::WrongP, 1),
+    (0x81, 0x1d, RowClass::WrongQ, 1),
+    (0x80, 0x1e, RowClass::WrongData(1), 2),
+    (0x80, 0x10, RowClass::Many, 2),
+];
+
+/// Whether a hold over a row puts out so many commands and ends with this class, and these bytes stand there then.
+fn classes(
     alloc: Global,
     ask: Ask<'_>,
     bytes: &[u8],
     commands: usize,
     class: RowClass,
     after: &[u8],
-) -> Result<(), Fail> {
+) -> Result<bool, Fail> {
     let course = Course {
         name: "a check or repair",
         ask,
@@ -142,18 +150,8 @@ fn classes<R: Abort>(
         after,
         lost: &[],
     };
-    plays(rt, alloc, &course)
+    Ok(played(alloc, &course)? == course.end())
 }
-
-/// P and Q with the class of the row that they make, and how many of them a repair writes: what they differ by is 0 or
-/// 1 in the place of P, and that times g^z in the place of Q where data block z is wrong.
-const CLASSES: &[(u8, u8, RowClass, usize)] = &[
-    (0x81, 0x1c, RowClass::Consistent, 0),
-    (0x80, 0x1c, RowClass::WrongP, 1),
-    (0x81, 0x1d, RowClass::WrongQ, 1),
-    (0x80, 0x1e, RowClass::WrongData(1), 2),
-    (0x80, 0x10, RowClass::Many, 2),
-];
 
 #[test]
 fn a_check_writes_nothing_and_a_repair_the_parities_that_differ(
@@ -161,16 +159,16 @@ fn a_check_writes_nothing_and_a_repair_the_parities_that_differ(
 ) -> Result<(), Fail> {
     for (p, q, class, wrong) in CLASSES {
         let bytes = [ROW[0], ROW[1], *p, *q];
-        classes(&rt, rt.alloc(), Ask::Check, &bytes, 4, *class, &bytes)?;
-        classes(
+        let is_checked = classes(rt.alloc(), Ask::Check, &bytes, 4, *class, &bytes)?;
+        must(&rt, is_checked, "a check of P, Q", *p as usize, *q as usize);
+        let is_repaired = classes(rt.alloc(), Ask::Repair, &bytes, 4 + *wrong, *class, &ROW)?;
+        must(
             &rt,
-            rt.alloc(),
-            Ask::Repair,
-            &bytes,
-            4 + *wrong,
-            *class,
-            &ROW,
-        )?;
+            is_repaired,
+            "a repair of P, Q",
+            *p as usize,
+            *q as usize,
+        );
     }
     Ok(())
 }

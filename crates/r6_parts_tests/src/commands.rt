@@ -1,5 +1,6 @@
 //! Command lines.
 
+use crate::must::must;
 use r6_command::{CommandFault, command};
 use std::alloc::Global;
 use std::test::Fail;
@@ -10,18 +11,6 @@ fn words(alloc: Global, line: &str) -> Result<Vec<String>, Fail> {
         words.push(String::from_str(alloc, word)?)?;
     }
     Ok(words)
-}
-
-/// What a line is read as; or what is printed where it is refused, with the exit status.
-fn said(alloc: Global, line: &str) -> Result<(Option<i32>, String), Fail> {
-    let words = words(alloc, line)?;
-    match command(alloc, words.as_slice()) {
-        Ok(invocation) => Ok((None, format!(in alloc; "{invocation:?}")?)),
-        Err(CommandFault::Refused(error)) => {
-            Ok((Some(error.exit_code()), format!(in alloc; "{error}")?))
-        }
-        Err(CommandFault::Memory) => Err(Fail::from("memory")),
-    }
 }
 
 /// Lines with what they are read as; or, where they are refused, with the exit status and a word of what is printed.
@@ -64,19 +53,35 @@ const LINES: &[(&str, Option<i32>, &str)] = &[
     ("raid6 --help", Some(0), "  run "),
 ];
 
+/// Whether words are read so, or refused with this status.
+fn are_said(
+    alloc: Global,
+    words: &[String],
+    status: &Option<i32>,
+    text: &str,
+) -> Result<bool, Fail> {
+    match command(alloc, words) {
+        Ok(invocation) => {
+            Ok(status.is_none() && format!(in alloc; "{invocation:?}")?.as_str() == text)
+        }
+        Err(CommandFault::Refused(error)) => Ok(
+            Some(error.exit_code()) == *status
+                && format!(in alloc; "{error}")?.as_str().contains(text),
+        ),
+        Err(CommandFault::Memory) => Err(Fail::from("memory")),
+    }
+}
+
 fn is_said(alloc: Global, line: &str, status: &Option<i32>, text: &str) -> Result<bool, Fail> {
-    let (found, printed) = said(alloc, line)?;
-    let is_text = match status {
-        None => printed.as_str() == text,
-        Some(_) => printed.as_str().contains(text),
-    };
-    Ok(found == *status && is_text)
+    let words = words(alloc, line)?;
+    are_said(alloc, words.as_slice(), status, text)
 }
 
 #[test]
 fn reads_or_refuses_words(rt: HostRuntime) -> Result<(), Fail> {
     for (line, status, text) in LINES {
-        assert!(rt; is_said(rt.alloc(), *line, status, *text)?, "at {line}");
+        let is_so = is_said(rt.alloc(), *line, status, *text)?;
+        must(&rt, is_so, *line, 0, 0);
     }
     Ok(())
 }

@@ -1,34 +1,76 @@
-//! A device in memory.
+//! A device in memory, and the caller that copies its rows.
 
-use crate::blocks::{filled, is_filled};
+use crate::blocks::{grown, is_grown};
+use crate::device_caller::copy_rows;
+use crate::must::must;
 use r6_dev::{BlockDevice, Fault, MemoryDevice};
 use r6_kernels::Buffer;
+use std::alloc::{AllocError, Global};
 use std::test::Fail;
 
-#[test]
-fn blocks_are_zeros_until_they_are_written(rt: HostRuntime) -> Result<(), Fail> {
-    let mut device = MemoryDevice::new(rt.alloc(), 4..8, 16)?;
-    let mut block = filled(rt.alloc(), 16, 0x5a)?;
-    assert!(rt; device.write(5, &block) == Ok(()));
-    for row in 4..8 {
-        let byte = if row == 5 { 0x5a } else { 0 };
-        assert!(rt; device.read(row, &mut block) == Ok(()) && is_filled(&block, byte));
+const REFUSED: Result<(), Fault> = Err(Fault::Length);
+
+/// Steps of a device of rows 4 to 7, which are zeros until they are written: whether a block is written or else read, its
+/// row and its bytes, with which of them it begins then, and what is told.
+const STEPS: &[(bool, u64, usize, u8, Result<(), Fault>)] = &[
+    (false, 5, 16, 0x00, Ok(())),
+    (true, 5, 16, 0x5a, Ok(())),
+    (false, 4, 16, 0x00, Ok(())),
+    (false, 5, 16, 0x5a, Ok(())),
+    (false, 6, 16, 0x00, Ok(())),
+    (false, 7, 16, 0x00, Ok(())),
+    (false, 3, 16, 0xee, REFUSED),
+    (true, 3, 16, 0xee, REFUSED),
+    (false, 8, 16, 0xee, REFUSED),
+    (true, 8, 16, 0xee, REFUSED),
+    (false, 4, 15, 0xee, REFUSED),
+    (true, 4, 15, 0xee, REFUSED),
+];
+
+/// What a device tells of a block that is written or else read.
+fn told(
+    device: &mut MemoryDevice,
+    is_write: bool,
+    row: u64,
+    block: &mut Buffer,
+) -> Result<(), Fault> {
+    if is_write {
+        device.write(row, block)
+    } else {
+        device.read(row, block)
     }
-    Ok(())
 }
 
-/// Whether a block of this row is neither read nor written.
-fn is_refused(device: &mut MemoryDevice, row: u64, block: &mut Buffer) -> bool {
-    device.read(row, block) == Err(Fault::Length) && device.write(row, block) == Err(Fault::Length)
+/// Whether a step is answered so. A block that is read begins with ee before.
+fn is_answered(
+    alloc: Global,
+    device: &mut MemoryDevice,
+    step: &(bool, u64, usize, u8, Result<(), Fault>),
+) -> Result<bool, AllocError> {
+    let (is_write, row, len, first, wanted) = *step;
+    let mut block = grown(alloc, len, if is_write { first } else { 0xee })?;
+    Ok(told(device, is_write, row, &mut block) == wanted && is_grown(&block, first))
+}
+
+/// Whether row 5 is copied by a copy that ends at the row that the other device lacks.
+fn is_copied(alloc: Global, device: &mut MemoryDevice) -> Result<bool, Fail> {
+    let mut to = MemoryDevice::new(alloc, 4..7, 16)?;
+    let mut block = grown(alloc, 16, 0xee)?;
+    Ok(
+        copy_rows(device, &mut to, 4..8, &mut block) == Err(Fault::Length)
+            && to.read(5, &mut block) == Ok(())
+            && is_grown(&block, 0x5a),
+    )
 }
 
 #[test]
-fn another_row_and_another_length_are_refused(rt: HostRuntime) -> Result<(), Fail> {
+fn blocks_stand_in_their_rows_and_are_copied(rt: HostRuntime) -> Result<(), Fail> {
     let mut device = MemoryDevice::new(rt.alloc(), 4..8, 16)?;
-    for (row, len) in &[(3, 16), (8, 16), (4, 15)] {
-        let mut block = Buffer::new(rt.alloc(), *len)?;
-        assert!(rt; is_refused(&mut device, *row, &mut block));
+    for (index, step) in STEPS.iter().enumerate() {
+        let is_so = is_answered(rt.alloc(), &mut device, step)?;
+        must(&rt, is_so, "a step of a device", 0, index);
     }
-    assert!(rt; Fault::Length.number() == 4);
+    let is_so = is_copied(rt.alloc(), &mut device)? && Fault::Length.number() == 4;
+    must(&rt, is_so, "a copy", 0, 0);
     Ok(())
 }

@@ -1,10 +1,12 @@
 //! Holds driven over blocks in memory.
 
-use crate::bench::{Ask, Bench, Course, Seen, Step, has_bytes, plays};
-use crate::blocks::is_filled;
+use crate::bench::{Ask, Bench, Course, Seen, Step, played};
+use crate::blocks::is_grown;
+use crate::hold_caller::drive;
+use crate::must::must;
 use crate::{batches, checks, rebuilds};
-use r6_stripe::{Hold, Outcome, Task};
-use std::alloc::{AllocError, Global};
+use r6_stripe::{Batch, Hold, Task};
+use std::alloc::Global;
 use std::process::Abort;
 use std::test::Fail;
 
@@ -23,9 +25,9 @@ pub(crate) const SIX_CHANGED: [u8; 6] = [0x01, 0x5a, 0x81, 0x1c, 0xc6, 0x6b];
 pub(crate) const EIGHT_CHANGED: [u8; 8] = [0x01, 0x5a, 0x81, 0x1c, 0xff, 0x3e, 0x07, 0xb3];
 
 /// The row of zeros after 5a was written as its first data block.
-const WRITTEN: [u8; 4] = [0x5a, 0x00, 0x5a, 0x5a];
+pub(crate) const WRITTEN: [u8; 4] = [0x5a, 0x00, 0x5a, 0x5a];
 
-const FIRST: Ask<'static> = Ask::Write(&[(0, 0x5a)]);
+pub(crate) const FIRST: Ask<'static> = Ask::Write(&[(0, 0x5a)]);
 
 pub(crate) const SECOND: Ask<'static> = Ask::Write(&[(1, 0x5a)]);
 
@@ -240,69 +242,100 @@ const COURSES: &[Course<'static>] = &[
         after: &SIX,
         lost: &[],
     },
+    // All three writes are out when the position is lost.
+    Course {
+        name: "late buffers come home, 0 is lost",
+        ask: FIRST,
+        bytes: &[0; 4],
+        in_sync: &[true; 4],
+        steps: &[
+            (Step::Drive(1), Seen::Commands(1)),
+            (Step::NextAll, Seen::Commands(3)),
+            (Step::Lose(0), Seen::Lost),
+            (Step::IsOver, Seen::Is(false)),
+            (Step::Answer(0), Seen::Home),
+            (Step::Answer(2), Seen::Home),
+            (Step::Answer(3), Seen::Home),
+            (Step::IsOver, Seen::Is(true)),
+            (Step::IsHome, Seen::Is(true)),
+        ],
+        after: &WRITTEN,
+        lost: &[0],
+    },
+    Course {
+        name: "late buffers come home, 1 is lost",
+        ask: FIRST,
+        bytes: &[0; 4],
+        in_sync: &[true; 4],
+        steps: &[
+            (Step::Drive(1), Seen::Commands(1)),
+            (Step::NextAll, Seen::Commands(3)),
+            (Step::Lose(1), Seen::Lost),
+            (Step::IsOver, Seen::Is(false)),
+            (Step::Answer(0), Seen::Home),
+            (Step::Answer(2), Seen::Home),
+            (Step::Answer(3), Seen::Home),
+            (Step::IsOver, Seen::Is(true)),
+            (Step::IsHome, Seen::Is(true)),
+        ],
+        after: &WRITTEN,
+        lost: &[1],
+    },
+    Course {
+        name: "late buffers come home, 2 is lost",
+        ask: FIRST,
+        bytes: &[0; 4],
+        in_sync: &[true; 4],
+        steps: &[
+            (Step::Drive(1), Seen::Commands(1)),
+            (Step::NextAll, Seen::Commands(3)),
+            (Step::Lose(2), Seen::Lost),
+            (Step::IsOver, Seen::Is(false)),
+            (Step::Answer(0), Seen::Home),
+            (Step::Answer(2), Seen::Home),
+            (Step::Answer(3), Seen::Home),
+            (Step::IsOver, Seen::Is(true)),
+            (Step::IsHome, Seen::Is(true)),
+        ],
+        after: &WRITTEN,
+        lost: &[2],
+    },
+    Course {
+        name: "late buffers come home, 3 is lost",
+        ask: FIRST,
+        bytes: &[0; 4],
+        in_sync: &[true; 4],
+        steps: &[
+            (Step::Drive(1), Seen::Commands(1)),
+            (Step::NextAll, Seen::Commands(3)),
+            (Step::Lose(3), Seen::Lost),
+            (Step::IsOver, Seen::Is(false)),
+            (Step::Answer(0), Seen::Home),
+            (Step::Answer(2), Seen::Home),
+            (Step::Answer(3), Seen::Home),
+            (Step::IsOver, Seen::Is(true)),
+            (Step::IsHome, Seen::Is(true)),
+        ],
+        after: &WRITTEN,
+        lost: &[3],
+    },
 ];
+
+/// Holds have to take these courses.
+fn have_to_go<R: Abort>(rt: &R, alloc: Global, courses: &[Course<'_>]) -> Result<(), Fail> {
+    for course in courses {
+        let steps = played(alloc, course)?;
+        must(rt, steps == course.end(), course.name, 0, steps);
+    }
+    Ok(())
+}
 
 #[test]
 fn holds_take_their_courses(rt: HostRuntime) -> Result<(), Fail> {
-    let tables = &[
-        COURSES,
-        batches::COURSES,
-        checks::COURSES,
-        rebuilds::COURSES,
-    ];
-    for courses in tables {
-        for course in *courses {
-            plays(&rt, rt.alloc(), course)?;
-        }
-    }
-    Ok(())
-}
-
-const OUT: &[(Step, Seen)] = &[
-    (Step::Drive(1), Seen::Commands(1)),
-    (Step::NextAll, Seen::Commands(3)),
-];
-
-const HOME: &[(Step, Seen)] = &[
-    (Step::IsOver, Seen::Is(false)),
-    (Step::Answer(0), Seen::Home),
-    (Step::Answer(2), Seen::Home),
-    (Step::Answer(3), Seen::Home),
-    (Step::IsOver, Seen::Is(true)),
-    (Step::IsHome, Seen::Is(true)),
-];
-
-/// Whether a position is lost, and the others are full once the late buffers are home.
-fn come_home<R: Abort>(rt: &R, bench: &mut Bench, lost: usize) -> Result<bool, AllocError> {
-    bench.play(rt, "late buffers go out", OUT)?;
-    let is_lost = bench.lose(lost) == Seen::Lost;
-    bench.play(rt, "late buffers come home", HOME)?;
-    Ok(is_lost && has_bytes(&bench.devices, &WRITTEN, &[lost]))
-}
-
-// All three writes are out when the position is lost.
-#[test]
-fn late_buffers_come_home(rt: HostRuntime) -> Result<(), Fail> {
-    for lost in 0..4usize {
-        let mut bench = Bench::new(rt.alloc(), &FIRST, &[0; 4], &[true; 4])?;
-        assert!(rt; come_home(&rt, &mut bench, lost)?, "{lost} lost");
-    }
-    Ok(())
-}
-
-// The read and some of the writes are performed before the position is lost.
-#[test]
-fn losses_while_writing_leave_the_others_full(rt: HostRuntime) -> Result<(), Fail> {
-    for position in 0..4usize {
-        for commands in 1..5usize {
-            let mut bench = Bench::new(rt.alloc(), &FIRST, &[0; 4], &[true; 4])?;
-            assert!(rt;
-                bench.survives(commands, &[position], &WRITTEN, Outcome::Done),
-                "{position}, {commands}"
-            );
-        }
-    }
-    Ok(())
+    have_to_go(&rt, rt.alloc(), COURSES)?;
+    have_to_go(&rt, rt.alloc(), batches::COURSES)?;
+    have_to_go(&rt, rt.alloc(), checks::COURSES)?;
+    have_to_go(&rt, rt.alloc(), rebuilds::COURSES)
 }
 
 /// The task of a hold that is over; its frame is given back.
@@ -315,83 +348,57 @@ fn end(mut hold: Hold) -> Option<Task> {
     task
 }
 
-/// Whether a write hands back these blocks and no other, the last one first.
-fn hands_back(task: Option<Task>, blocks: &[(usize, u8)]) -> bool {
-    let Some(Task::Write(mut batch)) = task else {
-        return false;
-    };
+/// Whether the last block of a batch is this one, which is taken.
+fn is_taken(batch: &mut Batch, index: usize, byte: u8) -> bool {
+    let is_there = index < 30 && batch.has(index);
+    match batch.take() {
+        Some((at, block)) => is_there && at == index && block.len() == 16 && is_grown(&block, byte),
+        None => false,
+    }
+}
+
+/// Whether a batch has these blocks and no other, the last one first.
+fn hands_back(batch: &mut Batch, blocks: &[(usize, u8)]) -> bool {
     if batch.len() != blocks.len() || batch.has(2) {
         return false;
     }
     for (index, byte) in blocks.iter().rev() {
-        let is_there = batch.has(*index);
-        let Some((at, block)) = batch.take() else {
-            return false;
-        };
-        if !is_there || at != *index || block.len() != 16 || !is_filled(&block, *byte) {
+        if !is_taken(batch, *index, *byte) {
             return false;
         }
     }
     batch.is_empty() && batch.take().is_none()
 }
 
-/// Whether a write of these blocks, which puts out so many commands, hands them back.
-fn come_back(alloc: Global, blocks: &[(usize, u8)], commands: usize) -> Result<bool, Fail> {
+/// Whether a write of these blocks, which puts out four commands, hands them back.
+fn come_back(alloc: Global, blocks: &[(usize, u8)]) -> Result<bool, Fail> {
     let bytes = &[0x77, 0x13, 0x05, 0x99];
     let mut bench = Bench::new(alloc, &Ask::Write(blocks), bytes, &[true; 4])?;
-    Ok(bench.drive(9) == commands && hands_back(end(bench.hold), blocks))
+    if bench.drive(9) != 4 {
+        return Ok(false);
+    }
+    match end(bench.hold) {
+        Some(Task::Write(mut batch)) => Ok(hands_back(&mut batch, blocks)),
+        _ => Ok(false),
+    }
 }
 
 #[test]
 fn blocks_come_back(rt: HostRuntime) -> Result<(), Fail> {
-    assert!(rt; come_back(rt.alloc(), &[(0, 0x5a)], 4)?);
-    assert!(rt; come_back(rt.alloc(), &[(1, 0x80), (0, 0x01)], 4)?);
+    let written: &[&[(usize, u8)]] = &[&[(0, 0x5a)], &[(1, 0x80), (0, 0x01)]];
+    for (row, blocks) in written.iter().enumerate() {
+        let is_so = come_back(rt.alloc(), *blocks)?;
+        must(&rt, is_so, "blocks that come back", row, 0);
+    }
     Ok(())
 }
 
-/// x times an element, by the field's definition: a carry out of x^7 adds x^8 + x^4 + x^3 + x^2 + 1.
-fn doubled(element: u8) -> u8 {
-    let shifted = u16::from(element) << 1;
-    let reduced = if shifted > 0xff {
-        shifted ^ 0x11d
-    } else {
-        shifted
-    };
-    (reduced & 0xff) as u8
-}
-
-/// Whether the last two of these bytes are P and Q of the others.
-fn is_full(bytes: &[u8]) -> bool {
-    if bytes.len() < 2 {
-        return false;
-    }
-    let (data, parities) = bytes.split_at(bytes.len() - 2);
-    let (mut p, mut q) = (0, 0);
-    for byte in data.iter().rev() {
-        p ^= *byte;
-        q = doubled(q) ^ *byte;
-    }
-    parities == [p, q].as_slice()
-}
-
-// P and Q of the bytes 0 and da alone: da, and x times da, 1b4 + 11d.
+// Data 01 and 80 have P 81 and Q 1c. Both data blocks are out, and the first is read.
 #[test]
-fn rows_are_full(rt: HostRuntime) {
-    let rows: &[&[u8]] = &[
-        &FOUR,
-        &SIX,
-        &EIGHT,
-        &FOUR_CHANGED,
-        &SIX_CHANGED,
-        &EIGHT_CHANGED,
-        &WRITTEN,
-        &batches::SIX_CHANGED,
-        &batches::EIGHT_CHANGED,
-        &batches::TEN,
-        &batches::TEN_CHANGED,
-    ];
-    for row in rows {
-        assert!(rt; is_full(*row));
-    }
-    assert!(rt; EIGHT[6] ^ EIGHT_CHANGED[6] == 0xda && EIGHT[7] ^ EIGHT_CHANGED[7] == 0xa9);
+fn a_hold_is_driven_to_its_end(rt: HostRuntime) -> Result<(), Fail> {
+    let (bytes, in_sync) = ([0xee, 0xee, 0x81, 0x1c], [false, false, true, true]);
+    let mut bench = Bench::new(rt.alloc(), &Ask::Read(0), &bytes, &in_sync)?;
+    let is_so = drive(&mut bench.hold, &mut bench.devices) && bench.has_block(0, 0x01);
+    must(&rt, is_so, "a hold that is driven", 0, 0);
+    Ok(())
 }

@@ -1,177 +1,163 @@
-//! Worked values of the kernels, and their sums byte by byte, at lengths around the widths of vectors and of a step.
+//! Worked values of the kernels, at lengths around the widths of vectors and of a step.
 
 ghost use Rattle.std.specs.Prelude.{◌≡◌, length};
+ghost use Rattle.std.specs.List.{All};
 
-use crate::blocks::{FiveBlocks, Rule, five, five_ruled, is_filled};
+use crate::blocks::{LENGTHS, blocks_of, grown, is_grown};
+use crate::must::must;
 use r6_field::{ConstMul, Gf};
 use r6_kernels::{Buffer, delta, double, parity, scale_add, xor_into};
 use std::alloc::{AllocError, Global};
 use std::test::Fail;
 
-/// Lengths around those of a vector and of a step, of which the sums go whole steps and one part.
-const LENGTHS: &[usize] = &[
-    0, 1, 31, 32, 33, 48, 64, 80, 127, 128, 129, 159, 255, 256, 257, 4096,
+/// What is done to a block and another one of its length, P and Q where there are data.
+#[derive(Clone, Copy)]
+enum Sum {
+    /// They become the parity of the data.
+    Parity,
+    /// They go on when the data block of this index was the first of two and becomes the second.
+    Delta(u32),
+    Double,
+    /// So many times the other one is added.
+    AddTimes(u8),
+    Add,
+    Copy,
+    Clear,
+}
+
+/// The bytes with which blocks begin: the data, and the block and the other one before a sum and after it.
+#[derive(Clone, Copy)]
+struct Case {
+    name: &'static str,
+    sum: Sum,
+    data: &'static [u8],
+    before: (u8, u8),
+    after: (u8, u8),
+}
+
+// By the definitions: P is the sum of all Di, and Q of all x^i Di. Twice 80 is 1d, twice 81 is 1f, four times 5a is 75,
+// eight times c2 is 5e, and 53 times c3 is the sum of 1, 2, 10 and 40 times c3, c3 + 9b + ac + 8a.
+const CASES: &[Case] = &[
+    Case {
+        name: "parity of two",
+        sum: Sum::Parity,
+        data: &[0x01, 0x80],
+        before: (0xee, 0xee),
+        after: (0x81, 0x1c),
+    },
+    Case {
+        name: "parity of three",
+        sum: Sum::Parity,
+        data: &[0x01, 0x80, 0x5a],
+        before: (0x00, 0x00),
+        after: (0xdb, 0x69),
+    },
+    Case {
+        name: "parity of none",
+        sum: Sum::Parity,
+        data: &[],
+        before: (0x81, 0x1c),
+        after: (0x00, 0x00),
+    },
+    Case {
+        name: "block 1 was 80 and becomes 01",
+        sum: Sum::Delta(1),
+        data: &[0x80, 0x01],
+        before: (0x81, 0x1c),
+        after: (0x00, 0x03),
+    },
+    Case {
+        name: "block 3 was 01 and becomes c3",
+        sum: Sum::Delta(3),
+        data: &[0x01, 0xc3],
+        before: (0x11, 0x11),
+        after: (0xd3, 0x4f),
+    },
+    Case {
+        name: "doubled",
+        sum: Sum::Double,
+        data: &[],
+        before: (0x80, 0x77),
+        after: (0x1d, 0x77),
+    },
+    Case {
+        name: "1d times 01 is added",
+        sum: Sum::AddTimes(0x1d),
+        data: &[],
+        before: (0x1d, 0x01),
+        after: (0x00, 0x01),
+    },
+    Case {
+        name: "53 times c3 is added",
+        sum: Sum::AddTimes(0x53),
+        data: &[],
+        before: (0x77, 0xc3),
+        after: (0x09, 0xc3),
+    },
+    Case {
+        name: "01 is added",
+        sum: Sum::Add,
+        data: &[],
+        before: (0x00, 0x01),
+        after: (0x01, 0x01),
+    },
+    Case {
+        name: "copied",
+        sum: Sum::Copy,
+        data: &[],
+        before: (0x77, 0x1c),
+        after: (0x1c, 0x1c),
+    },
+    Case {
+        name: "cleared",
+        sum: Sum::Clear,
+        data: &[],
+        before: (0x1c, 0x77),
+        after: (0x00, 0x77),
+    },
 ];
 
-/// Bytes that are all different from those beside them.
-const COUNTED: Rule = (5, 3);
-
-/// Whether data 01 and 80 of a length have P 81 and Q 1c, and no data zeros.
-fn has_parity_of_two(alloc: Global, len: usize) -> Result<bool, AllocError> {
-    let FiveBlocks {
-        a,
-        b,
-        mut p,
-        mut q,
-        ..
-    } = five(alloc, len, [0x01, 0x80, 0x00, 0xee, 0xee])?;
-    let sources = [a, b];
-    parity(&sources, &mut p, &mut q);
-    let is_made = is_filled(&p, 0x81) && is_filled(&q, 0x1c);
-    parity(&[], &mut p, &mut q);
-    Ok(is_made && is_filled(&p, 0x00) && is_filled(&q, 0x00))
-}
-
-/// Whether P and Q go on when block 1 of data was 80 and becomes 01: P loses 81, and Q twice 81, which is 1f.
-fn go_on_with(p: &mut Buffer, q: &mut Buffer, old: &Buffer, new: &Buffer) -> bool
-    requires p { length p.old ≡ length old.now }
-    requires q { length q.old ≡ length old.now }
-    requires same { length new.now ≡ length old.now }
+fn add_up(sum: &Sum, data: &[Buffer], block: &mut Buffer, other: &mut Buffer)
+    requires data { All (λ source. length source ≡ length block.old) data.now }
+    requires same { length other.old ≡ length block.old }
 {
-    delta(p, q, old, new, 1);
-    is_filled(p, 0x00) && is_filled(q, 0x03)
+    match sum {
+        Sum::Parity => parity(data, block, other),
+        Sum::Delta(index) => {
+            if let [old, new] = data {
+                if old.len() == block.len() && new.len() == block.len() {
+                    delta(block, other, old, new, *index);
+                }
+            }
+        }
+        Sum::Double => double(block),
+        Sum::AddTimes(constant) => scale_add(block, other, &ConstMul::new(Gf(*constant))),
+        Sum::Add => xor_into(block, other),
+        Sum::Copy => block.copy_from(other),
+        Sum::Clear => block.clear(),
+    }
 }
 
-/// Whether 80 becomes 1d when it is doubled, zeros with 1d times 01 added, and 01 with 01 added.
-fn take_multiples(block: &mut Buffer, other: &Buffer) -> bool
-    requires { length block.old ≡ length other.now }
-{
-    double(block);
-    let is_doubled = is_filled(block, 0x1d);
-    scale_add(block, other, &ConstMul::new(Gf(0x1d)));
-    let is_scaled = is_filled(block, 0x00);
-    xor_into(block, other);
-    is_doubled && is_scaled && is_filled(block, 0x01)
+/// Whether a sum of blocks of a length comes out so.
+fn comes_out(alloc: Global, len: usize, case: &Case) -> Result<bool, AllocError> {
+    let data = blocks_of(alloc, len, case.data)?;
+    let mut block = grown(alloc, len, case.before.0)?;
+    let mut other = grown(alloc, len, case.before.1)?;
+    add_up(&case.sum, data.as_slice(), &mut block, &mut other);
+    Ok(is_left(&block, len, case.after.0) && is_left(&other, len, case.after.1))
 }
 
-/// Whether a block takes over another one of 1c, and zeros then.
-fn is_copied_and_cleared(block: &mut Buffer, other: &Buffer) -> bool
-    requires { length block.old ≡ length other.now }
-{
-    block.copy_from(other);
-    let is_copied = is_filled(block, 0x1c);
-    block.clear();
-    is_copied && is_filled(block, 0x00) && block.is_empty() == (other.len() == 0)
-}
-
-/// Whether blocks of a length take these values.
-fn take_values(alloc: Global, len: usize) -> Result<bool, AllocError> {
-    let mut blocks = five(alloc, len, [0x01, 0x80, 0x77, 0x81, 0x1c])?;
-    Ok(
-        blocks.a.len() == len
-            && is_copied_and_cleared(&mut blocks.c, &blocks.q)
-            && go_on_with(&mut blocks.p, &mut blocks.q, &blocks.b, &blocks.a)
-            && take_multiples(&mut blocks.b, &blocks.a),
-    )
+fn is_left(block: &Buffer, len: usize, first: u8) -> bool {
+    block.len() == len && block.is_empty() == (len == 0) && is_grown(block, first)
 }
 
 #[test]
-fn blocks_take_worked_values(rt: HostRuntime) -> Result<(), Fail> {
+fn sums_come_out_at_all_lengths(rt: HostRuntime) -> Result<(), Fail> {
     for len in LENGTHS {
-        let alloc = rt.alloc();
-        assert!(rt;
-            has_parity_of_two(alloc, *len)? && take_values(alloc, *len)?,
-            "length {len}"
-        );
-    }
-    assert!(rt; Buffer::empty(rt.alloc()).is_empty());
-    Ok(())
-}
-
-/// The element at a place; 0 past the end.
-fn element_at(block: &Buffer, place: usize) -> Gf {
-    match block.as_slice().get(place) {
-        Some(byte) => Gf(*byte),
-        None => Gf(0),
-    }
-}
-
-/// Whether P and Q are right at each place, element by element.
-fn are_parities(sources: &[Buffer; 3], p: &Buffer, q: &Buffer) -> bool {
-    for place in 0..p.len() {
-        let a = element_at(&sources[0], place);
-        let b = element_at(&sources[1], place);
-        let c = element_at(&sources[2], place);
-        let (of_p, of_q) = (element_at(p, place), element_at(q, place));
-        if of_p != a + b + c || of_q != a + Gf(2) * b + Gf(4) * c {
-            return false;
+        for case in CASES {
+            let is_so = comes_out(rt.alloc(), *len, case)?;
+            must(&rt, is_so, case.name, *len, 0);
         }
-    }
-    true
-}
-
-/// Whether the parity of three blocks of a length is right.
-fn has_parity(alloc: Global, len: usize) -> Result<bool, AllocError> {
-    let FiveBlocks {
-        a,
-        b,
-        c,
-        mut p,
-        mut q,
-    } = five_ruled(alloc, len, [0x01, 0x80, 0x5a, 0x00, 0x00], COUNTED)?;
-    let sources = [a, b, c];
-    parity(&sources, &mut p, &mut q);
-    Ok(are_parities(&sources, &p, &q))
-}
-
-/// Whether a sum is the block before it and so many times another, element by element.
-fn is_sum(sum: &Buffer, before: &Buffer, factor: Gf, added: &Buffer) -> bool {
-    for place in 0..sum.len() {
-        let multiple = factor * element_at(added, place);
-        if element_at(sum, place) != element_at(before, place) + multiple {
-            return false;
-        }
-    }
-    true
-}
-
-/// Whether a multiple of a block of a length is added.
-fn has_sum(alloc: Global, len: usize) -> Result<bool, AllocError> {
-    let factor = Gf(0x53);
-    let mut blocks = five_ruled(alloc, len, [0xc3, 0x77, 0x00, 0x77, 0x00], COUNTED)?;
-    scale_add(&mut blocks.p, &blocks.a, &ConstMul::new(factor));
-    Ok(is_sum(&blocks.p, &blocks.b, factor, &blocks.a))
-}
-
-/// Whether P and Q, which were block c, have changed with data block 3, which was a and is b, element by element.
-fn are_changed(blocks: &FiveBlocks) -> bool {
-    for place in 0..blocks.c.len() {
-        let was = element_at(&blocks.c, place);
-        let change = element_at(&blocks.a, place) + element_at(&blocks.b, place);
-        let (p, q) = (element_at(&blocks.p, place), element_at(&blocks.q, place));
-        if p != was + change || q != was + Gf(8) * change {
-            return false;
-        }
-    }
-    true
-}
-
-/// Whether P and Q of a length go on with a change of data block 3.
-fn go_on(alloc: Global, len: usize) -> Result<bool, AllocError> {
-    let mut blocks = five_ruled(alloc, len, [0x01, 0xc3, 0x11, 0x11, 0x11], COUNTED)?;
-    delta(&mut blocks.p, &mut blocks.q, &blocks.a, &blocks.b, 3);
-    Ok(are_changed(&blocks))
-}
-
-#[test]
-fn sums_are_right_byte_by_byte(rt: HostRuntime) -> Result<(), Fail> {
-    for len in LENGTHS {
-        let alloc = rt.alloc();
-        assert!(rt; has_parity(alloc, *len)?, "parity, length {len}");
-        assert!(rt;
-            has_sum(alloc, *len)? && go_on(alloc, *len)?,
-            "length {len}"
-        );
     }
     Ok(())
 }

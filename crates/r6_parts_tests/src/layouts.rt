@@ -1,43 +1,150 @@
 //! Worked places of a left-symmetric layout.
 
+use crate::must::must;
 use r6_layout::{Geometry, GeometryError, Place, Role};
 use std::test::Fail;
 
+/// What a geometry has to say.
+#[derive(Clone, Copy)]
+enum Fact {
+    /// What a slot keeps in a row.
+    Role(u64, usize, Role),
+    /// Where a block stands.
+    Place(u64, Option<Place>),
+    /// The block of a row and an index.
+    Block(u64, usize, u64),
+    /// The slot of a row and a position.
+    Slot(u64, usize, usize),
+    /// The position of a row and a slot.
+    Position(u64, usize, usize),
+    /// The rows of a shard: the first, and the first behind them.
+    Rows(usize, u64, u64),
+    /// The shard of a row.
+    Shard(u64, usize),
+    /// Slots, slots of data, blocks of a chunk and bytes of a block.
+    Sizes(usize, usize, u64, usize),
+    /// Rows, shards and blocks.
+    Counts(u64, usize, u64),
+}
+
+/// Slots, blocks of a chunk, bytes of a block, rows and shards.
+type Shape = (usize, u64, usize, u64, usize);
+
+const FACTS: &[(Shape, &[Fact])] = &[
+    // parity turns left by one slot a chunk row
+    (
+        (4, 1, 16, 8, 1),
+        &[
+            Fact::Role(0, 0, Role::Q),
+            Fact::Role(0, 1, Role::Data(0)),
+            Fact::Role(0, 2, Role::Data(1)),
+            Fact::Role(0, 3, Role::P),
+            Fact::Role(2, 0, Role::Data(1)),
+            Fact::Role(2, 1, Role::P),
+            Fact::Role(2, 2, Role::Q),
+            Fact::Role(2, 3, Role::Data(0)),
+            Fact::Role(4, 0, Role::Q),
+            Fact::Role(4, 1, Role::Data(0)),
+            Fact::Role(4, 2, Role::Data(1)),
+            Fact::Role(4, 3, Role::P),
+        ],
+    ),
+    // a block stands at its offset in the row of its chunk
+    (
+        (4, 2, 16, 8, 1),
+        &[
+            Fact::Place(
+                5,
+                Some(Place {
+                    shard: 0,
+                    row: 3,
+                    index: 0,
+                    slot: 0,
+                }),
+            ),
+            Fact::Place(16, None),
+            Fact::Block(3, 0, 5),
+            Fact::Slot(3, 0, 0),
+            Fact::Position(3, 0, 0),
+        ],
+    ),
+    // the largest shape
+    (
+        (32, 128, 4096, 16_777_216, 16),
+        &[
+            Fact::Sizes(32, 30, 128, 4096),
+            Fact::Counts(16_777_216, 16, 503_316_480),
+        ],
+    ),
+    // shards begin at their share of the chunk rows, rounded down: of 5, floor(5 / 2) are the first one's
+    (
+        (6, 2, 16, 10, 2),
+        &[
+            Fact::Rows(0, 0, 4),
+            Fact::Rows(1, 4, 10),
+            Fact::Shard(3, 0),
+            Fact::Shard(4, 1),
+        ],
+    ),
+];
+
+/// Whether a geometry says so of a row of its own, and a slot or a position.
+fn is_at(geometry: &Geometry, fact: &Fact) -> bool {
+    match fact {
+        Fact::Role(row, slot, role) if *row < geometry.rows() && *slot < geometry.slots() => {
+            geometry.role(*row, *slot) == *role
+        }
+        Fact::Block(row, index, block)
+            if *row < geometry.rows() && *index < geometry.data_slots() => {
+            geometry.block_of(*row, *index) == *block
+        }
+        Fact::Slot(row, position, slot) if *row < geometry.rows() && *position < geometry.slots() =>
+            { geometry.slot_at(*row, *position) == *slot }
+        Fact::Position(row, slot, position) if *row < geometry.rows() && *slot < geometry.slots() =>
+            { geometry.position_at(*row, *slot) == *position }
+        _ => false,
+    }
+}
+
+fn is_so(geometry: &Geometry, fact: &Fact) -> bool {
+    match fact {
+        Fact::Place(block, place) => geometry.place(*block) == *place,
+        Fact::Rows(shard, start, end) if *shard < geometry.shards() => {
+            let rows = geometry.shard_rows(*shard);
+            (rows.start, rows.end) == (*start, *end)
+        }
+        Fact::Shard(row, shard) if *row < geometry.rows() => geometry.shard_of(*row) == *shard,
+        Fact::Sizes(slots, data, chunk, block) => {
+            (geometry.slots(), geometry.data_slots()) == (*slots, *data)
+                && (geometry.chunk(), geometry.block()) == (*chunk, *block)
+        }
+        Fact::Counts(rows, shards, blocks) => {
+            (geometry.rows(), geometry.shards(), geometry.blocks()) == (*rows, *shards, *blocks)
+        }
+        _ => is_at(geometry, fact),
+    }
+}
+
 #[test]
-fn parity_turns_left_by_one_slot_a_chunk_row(rt: HostRuntime) -> Result<(), Fail> {
-    let geometry = Geometry::new(4, 1, 16, 8, 1)?;
-    // from slot 0 on
-    let rows = &[
-        (0, [Role::Q, Role::Data(0), Role::Data(1), Role::P]),
-        (2, [Role::Data(1), Role::P, Role::Q, Role::Data(0)]),
-        (4, [Role::Q, Role::Data(0), Role::Data(1), Role::P]),
-    ];
-    for (row, roles) in rows {
-        for slot in 0..4 {
-            assert!(rt; geometry.role(*row, slot) == roles[slot]);
+fn blocks_stand_where_the_layout_has_them(rt: HostRuntime) -> Result<(), Fail> {
+    for ((slots, chunk, block, rows, shards), facts) in FACTS {
+        let geometry = Geometry::new(*slots, *chunk, *block, *rows, *shards)?;
+        for (index, fact) in facts.iter().enumerate() {
+            must(
+                &rt,
+                is_so(&geometry, fact),
+                "a fact of so many slots",
+                *slots,
+                index,
+            );
         }
     }
     Ok(())
 }
 
 #[test]
-fn a_block_stands_at_its_offset_in_the_row_of_its_chunk(rt: HostRuntime) -> Result<(), Fail> {
-    let geometry = Geometry::new(4, 2, 16, 8, 1)?;
-    let place = Place {
-        shard: 0,
-        row: 3,
-        index: 0,
-        slot: 0,
-    };
-    assert!(rt; geometry.place(5) == Some(place) && geometry.place(16) == None);
-    assert!(rt; geometry.block_of(3, 0) == 5);
-    assert!(rt; geometry.slot_at(3, 0) == 0 && geometry.position_at(3, 0) == 0);
-    Ok(())
-}
-
-#[test]
 fn the_first_limit_that_is_not_kept_is_named(rt: HostRuntime) {
-    let cases = &[
+    let cases: &[(Shape, GeometryError, u8)] = &[
         ((3, 1, 16, 4, 1), GeometryError::Slots, 1),
         ((33, 1, 16, 4, 1), GeometryError::Slots, 1),
         ((4, 129, 16, 129, 1), GeometryError::Chunk, 2),
@@ -48,29 +155,9 @@ fn the_first_limit_that_is_not_kept_is_named(rt: HostRuntime) {
         ((4, 1, 16, 4, 5), GeometryError::Shards, 5),
         ((3, 1, 24, 4, 1), GeometryError::Slots, 1),
     ];
-    for ((slots, chunk, block, rows, shards), error, number) in cases {
+    for (row, ((slots, chunk, block, rows, shards), error, number)) in cases.iter().enumerate() {
         let refused = Geometry::new(*slots, *chunk, *block, *rows, *shards);
-        assert!(rt; refused == Err(*error) && error.number() == *number);
+        let is_so = refused == Err(*error) && error.number() == *number;
+        must(&rt, is_so, "a limit", row, 0);
     }
-}
-
-#[test]
-fn the_largest_shape_is_accepted(rt: HostRuntime) -> Result<(), Fail> {
-    let geometry = Geometry::new(32, 128, 4096, 16_777_216, 16)?;
-    assert!(rt; geometry.slots() == 32 && geometry.data_slots() == 30);
-    assert!(rt; geometry.chunk() == 128 && geometry.block() == 4096);
-    assert!(rt; geometry.rows() == 16_777_216 && geometry.shards() == 16);
-    assert!(rt; geometry.blocks() == 503_316_480);
-    Ok(())
-}
-
-// 5 chunk rows for 2 shards: floor(5 / 2) of them are the first one's.
-#[test]
-fn shards_begin_at_their_share_of_the_chunk_rows_rounded_down(rt: HostRuntime) -> Result<(), Fail> {
-    let geometry = Geometry::new(6, 2, 16, 10, 2)?;
-    let (first, second) = (geometry.shard_rows(0), geometry.shard_rows(1));
-    assert!(rt; first.start == 0 && first.end == 4);
-    assert!(rt; second.start == 4 && second.end == 10);
-    assert!(rt; geometry.shard_of(3) == 0 && geometry.shard_of(4) == 1);
-    Ok(())
 }

@@ -1,14 +1,21 @@
-//! Tests of the crates below the core: worked values from outside, each public call once, and courses of calls.
+//! Tests of the crates below the core and of `r6_engine`: worked values from outside, each public call once, and courses
+//! of calls.
 #![tactic(auto)]
 
+#[cfg(test)]
+mod array;
+#[cfg(test)]
+mod array_checks;
+#[cfg(test)]
+mod array_files;
+#[cfg(test)]
+mod array_rebuilds;
 #[cfg(test)]
 mod batches;
 #[cfg(test)]
 mod bench;
 #[cfg(test)]
 mod blocks;
-#[cfg(test)]
-mod callers;
 #[cfg(test)]
 mod checks;
 #[cfg(test)]
@@ -30,13 +37,15 @@ mod layouts;
 #[cfg(test)]
 mod losses;
 #[cfg(test)]
+mod meeting;
+#[cfg(test)]
+mod must;
+#[cfg(test)]
 mod rebuilds;
 #[cfg(test)]
 mod register_caller;
 #[cfg(test)]
 mod registers;
-#[cfg(test)]
-mod row_lengths;
 #[cfg(test)]
 mod rows;
 #[cfg(test)]

@@ -1,12 +1,14 @@
 //! Holds that lose positions at every moment, and go on by recovery.
 
+use crate::batches;
 use crate::bench::{Ask, Bench, Seen, has_bytes, position_of};
-use crate::blocks::filled;
-use crate::holds::{EIGHT, EIGHT_CHANGED, FOUR, FOUR_CHANGED, SECOND, SIX, SIX_CHANGED};
-use r6_kernels::Buffer;
+use crate::holds::{
+    EIGHT, EIGHT_CHANGED, FIRST, FOUR, FOUR_CHANGED, SECOND, SIX, SIX_CHANGED, WRITTEN,
+};
+use crate::must::must;
+use crate::rebuilds::ROW;
 use r6_stripe::{Outcome, RowCommand};
 use std::alloc::{AllocError, Global};
-use std::process::Abort;
 use std::test::Fail;
 
 /// The last step at which a position is lost.
@@ -30,33 +32,28 @@ enum Answers {
     LateIfLost,
 }
 
-/// A read or a write of data block 1 of a row of at most eight positions, which has the bytes `after` then.
+/// What is asked of a row of at most eight positions, of which these are in sync, how it ends, and which bytes the row
+/// has then. A read is one of data block 1. A rebuild survives one loss, and another hold two.
 #[derive(Clone, Copy)]
-struct Work<'a> {
-    ask: Ask<'a>,
-    bytes: &'a [u8],
-    after: &'a [u8],
+struct Work {
+    name: &'static str,
+    ask: Ask<'static>,
+    bytes: &'static [u8],
+    in_sync: [bool; 8],
+    after: &'static [u8],
 }
 
 /// What stands at a position that is lost is of no account.
-fn spoil(
-    alloc: Global,
-    devices: &mut Vec<Buffer>,
-    losses: &[Loss],
-    step: usize,
-) -> Result<(), AllocError> {
-    for loss in losses {
-        if loss.step == step && loss.position < devices.len() {
-            devices[loss.position] = filled(alloc, 16, 0xee)?;
-        }
-    }
-    Ok(())
-}
+const SPOILED: [u8; 16] = [0xee; 16];
 
 /// The positions of this step are lost.
 fn lose(bench: &mut Bench, losses: &[Loss], step: usize) {
     for loss in losses {
-        if loss.step == step {
+        if loss.step == step && loss.position < bench.devices.len() {
+            let device = &mut bench.devices[loss.position];
+            if device.len() == 16 {
+                device.copy_from_slice(&SPOILED);
+            }
             bench.lose(loss.position);
         }
     }
@@ -70,14 +67,12 @@ fn is_late(command: &RowCommand, losses: &[Loss], answers: &Answers) -> bool {
 
 /// Drives a hold to its end. What is left are the commands that are answered late.
 fn run(
-    alloc: Global,
     bench: &mut Bench,
     losses: &[Loss],
     answers: &Answers,
     late: &mut Vec<RowCommand>,
 ) -> Result<(), AllocError> {
     for step in 1..48usize {
-        spoil(alloc, &mut bench.devices, losses, step)?;
         lose(bench, losses, step);
         if bench.next()? != Seen::Nothing && *answers != Answers::AtOnce {
             continue;
@@ -94,12 +89,20 @@ fn run(
     Ok(())
 }
 
-/// Whether the hold has ended and done its task: a read has its block, and a write changed all positions that aren't
-/// lost.
-fn is_done(bench: &Bench, work: &Work<'_>, lost: &[usize]) -> bool {
-    bench.outcome() == Some(Outcome::Done)
+/// How a hold ends that has lost these positions: a rebuild is given up with its target.
+fn end_of(ask: &Ask<'_>, lost: &[usize]) -> Outcome {
+    match ask {
+        Ask::Rebuild(target) if lost.contains(target) => Outcome::GivenUp,
+        Ask::Rebuild(_) => Outcome::Rebuilt,
+        _ => Outcome::Done,
+    }
+}
+
+/// Whether the hold has ended and done its task: a read has its block, and all positions that aren't lost have theirs.
+fn is_done(bench: &Bench, work: &Work, lost: &[usize]) -> bool {
+    bench.outcome() == Some(end_of(&work.ask, lost))
         && has_bytes(&bench.devices, work.after, lost)
-        && (matches!(&work.ask, Ask::Write(_)) || bench.has_block(1, 0x80))
+        && (!matches!(&work.ask, Ask::Read(_)) || bench.has_block(1, 0x80))
 }
 
 /// The devices of these commands perform them.
@@ -109,17 +112,17 @@ fn answer_all(bench: &mut Bench, commands: Vec<RowCommand>) {
     }
 }
 
-/// Whether a hold does its task in a row that has these bytes then, and goes on so once the late buffers are home.
+/// Whether a hold does its task, and goes on so once the late buffers are home.
 fn does_its_task(
     alloc: Global,
     bench: &mut Bench,
-    work: &Work<'_>,
+    work: &Work,
     losses: &[Loss; 2],
     answers: &Answers,
 ) -> Result<bool, AllocError> {
-    spoil(alloc, &mut bench.devices, losses, 0)?;
+    lose(bench, losses, 0);
     let mut late = Vec::new(alloc);
-    run(alloc, bench, losses, answers, &mut late)?;
+    run(bench, losses, answers, &mut late)?;
     let lost = [losses[0].position, losses[1].position];
     let was_done = is_done(bench, work, &lost);
     answer_all(bench, late);
@@ -129,11 +132,11 @@ fn does_its_task(
 /// Whether a hold does its task, whatever the two losses.
 fn survives(
     alloc: Global,
-    work: &Work<'_>,
+    work: &Work,
     losses: &[Loss; 2],
     answers: &Answers,
 ) -> Result<bool, Fail> {
-    let mut in_sync = [true; 8];
+    let mut in_sync = work.in_sync;
     for loss in losses {
         if loss.step == 0 && loss.position < in_sync.len() {
             in_sync[loss.position] = false;
@@ -144,71 +147,164 @@ fn survives(
     Ok(does_its_task(alloc, &mut bench, work, losses, answers)?)
 }
 
-/// The losses of these positions, each at every step in turn.
-fn losses_at(first: usize, second: usize, moment: usize) -> [Loss; 2] {
-    [
-        Loss {
-            position: first,
-            step: (moment / 5).saturating_mul(3),
-        },
-        Loss {
-            position: second,
-            step: moment % 5 * 4,
-        },
-    ]
+/// How many moments there are for two losses.
+const MOMENTS: usize = 42;
+
+/// The steps of two losses: a grid of both, or each of the first seven for both at once, before the next command.
+fn steps_of(moment: usize) -> (usize, usize) {
+    if moment < 35 {
+        ((moment / 5).saturating_mul(3), moment % 5 * 4)
+    } else {
+        (moment - 34, moment - 34)
+    }
 }
 
-/// A hold has to survive any two losses; they may be the same.
-fn any_two_are_survived<R: Abort>(
-    rt: &R,
+/// The first moment at which the loss of these two, which may be the same, isn't survived, or the number of moments.
+fn survived(
     alloc: Global,
-    work: &Work<'_>,
+    work: &Work,
     answers: &Answers,
-) -> Result<(), Fail> {
+    first: usize,
+    second: usize,
+) -> Result<usize, Fail> {
+    for moment in 0..MOMENTS {
+        let steps = steps_of(moment);
+        let losses = [
+            Loss {
+                position: first,
+                step: steps.0,
+            },
+            Loss {
+                position: second,
+                step: steps.1,
+            },
+        ];
+        if !survives(alloc, work, &losses, answers)? {
+            return Ok(moment);
+        }
+    }
+    Ok(MOMENTS)
+}
+
+/// The first two positions, as two digits, whose loss isn't survived at a moment, and the moment, or the number of
+/// moments.
+fn any_survived(alloc: Global, work: &Work, answers: &Answers) -> Result<(usize, usize), Fail> {
     let count = work.bytes.len();
     for first in 0..count {
-        for second in first..count {
-            for moment in 0..35usize {
-                assert!(rt;
-                    survives(alloc, work, &losses_at(first, second, moment), answers)?,
-                    "{first} and {second} of {count} lost, {moment}"
-                );
+        let end = match work.ask {
+            Ask::Rebuild(_) => first + 1,
+            _ => count,
+        };
+        for second in first..end {
+            let moment = survived(alloc, work, answers, first, second)?;
+            if moment != MOMENTS {
+                return Ok((first.wrapping_mul(10).wrapping_add(second), moment));
             }
         }
     }
-    Ok(())
+    Ok((0, MOMENTS))
 }
 
-const WORKS: &[Work<'static>] = &[
+const ALL: [bool; 8] = [true; 8];
+
+const WORKS: &[Work] = &[
     Work {
+        name: "a read of four",
         ask: Ask::Read(1),
         bytes: &FOUR,
+        in_sync: ALL,
         after: &FOUR,
     },
     Work {
+        name: "a write of four",
         ask: SECOND,
         bytes: &FOUR,
+        in_sync: ALL,
         after: &FOUR_CHANGED,
     },
     Work {
+        name: "a write over zeros",
+        ask: FIRST,
+        bytes: &[0; 4],
+        in_sync: ALL,
+        after: &WRITTEN,
+    },
+    Work {
+        name: "a read of six",
         ask: Ask::Read(1),
         bytes: &SIX,
+        in_sync: ALL,
         after: &SIX,
     },
     Work {
+        name: "a write of six",
         ask: SECOND,
         bytes: &SIX,
+        in_sync: ALL,
         after: &SIX_CHANGED,
     },
     Work {
+        name: "a write of two of six",
+        ask: batches::BOTH,
+        bytes: &SIX,
+        in_sync: ALL,
+        after: &batches::SIX_CHANGED,
+    },
+    Work {
+        name: "a read of eight",
         ask: Ask::Read(1),
         bytes: &EIGHT,
+        in_sync: ALL,
         after: &EIGHT,
     },
     Work {
+        name: "a write of eight",
         ask: SECOND,
         bytes: &EIGHT,
+        in_sync: ALL,
         after: &EIGHT_CHANGED,
+    },
+    Work {
+        name: "a rebuild of 0",
+        ask: Ask::Rebuild(0),
+        bytes: &[0xee, 0x02, 0x03, 0x04, 0x04, 0x29],
+        in_sync: [false, true, true, true, true, true, true, true],
+        after: &ROW,
+    },
+    Work {
+        name: "a rebuild of 1",
+        ask: Ask::Rebuild(1),
+        bytes: &[0x01, 0xee, 0x03, 0x04, 0x04, 0x29],
+        in_sync: [true, false, true, true, true, true, true, true],
+        after: &ROW,
+    },
+    Work {
+        name: "a rebuild of 2",
+        ask: Ask::Rebuild(2),
+        bytes: &[0x01, 0x02, 0xee, 0x04, 0x04, 0x29],
+        in_sync: [true, true, false, true, true, true, true, true],
+        after: &ROW,
+    },
+    Work {
+        name: "a rebuild of 3",
+        ask: Ask::Rebuild(3),
+        bytes: &[0x01, 0x02, 0x03, 0xee, 0x04, 0x29],
+        in_sync: [true, true, true, false, true, true, true, true],
+        after: &ROW,
+    },
+    Work {
+        name: "a rebuild of 4",
+        ask: Ask::Rebuild(4),
+        bytes: &[0x01, 0x02, 0x03, 0x04, 0xee, 0x29],
+        in_sync: [true, true, true, true, false, true, true, true],
+        after: &ROW,
+    },
+    Work {
+        name: "a rebuild of 5",
+        ask: Ask::Rebuild(5),
+        bytes: &[0x01, 0x02, 0x03, 0x04, 0x04, 0xee],
+        in_sync: [true, true, true, true, true, false, true, true],
+        after: &ROW,
     },
 ];
 
@@ -216,7 +312,8 @@ const WORKS: &[Work<'static>] = &[
 fn any_two_losses_are_survived(rt: HostRuntime) -> Result<(), Fail> {
     for work in WORKS {
         for answers in &[Answers::AtOnce, Answers::LastFirst, Answers::LateIfLost] {
-            any_two_are_survived(&rt, rt.alloc(), work, answers)?;
+            let (lost, moment) = any_survived(rt.alloc(), work, answers)?;
+            must(&rt, moment == MOMENTS, work.name, lost, moment);
         }
     }
     Ok(())

@@ -1,13 +1,13 @@
 //! Rebuilds of a position, driven over blocks in memory.
 
-use crate::bench::{Ask, Bench, Course, Seen, Step, has_bytes};
+use crate::bench::{Ask, Course, Seen, Step, played};
+use crate::must::must;
 use r6_stripe::Outcome;
 use std::alloc::Global;
-use std::process::Abort;
 use std::test::Fail;
 
 /// A full row of six positions: P is the sum of the data, and Q is 01 + x 02 + x^2 03 + x^3 04 = 01 + 04 + 0c + 20.
-const ROW: [u8; 6] = [0x01, 0x02, 0x03, 0x04, 0x04, 0x29];
+pub(crate) const ROW: [u8; 6] = [0x01, 0x02, 0x03, 0x04, 0x04, 0x29];
 
 pub(crate) const COURSES: &[Course<'static>] = &[
     // Q is rebuilt. The reads of the data are out when the first is lost: P is read for it, and its buffer comes home
@@ -56,12 +56,24 @@ const FIVE: &[(Step, Seen)] = &[
     (Step::End, Seen::End(Some(Outcome::Rebuilt))),
 ];
 
-/// Whether the target is rebuilt while another position is out.
-fn is_rebuilt<R: Abort>(rt: &R, alloc: Global, target: usize, other: usize) -> Result<bool, Fail> {
-    let (bytes, in_sync) = without(target, other);
-    let mut bench = Bench::new(alloc, &Ask::Rebuild(target), &bytes, &in_sync)?;
-    bench.play(rt, "a rebuild", FIVE)?;
-    Ok(has_bytes(&bench.devices, &ROW, &[other]))
+/// Whether a hold over a row ends so, and the row is full then but at a position that is out.
+fn is_rebuilt(
+    alloc: Global,
+    ask: Ask<'_>,
+    bytes: &[u8],
+    in_sync: &[bool],
+    out: &[usize],
+) -> Result<bool, Fail> {
+    let course = Course {
+        name: "a rebuild",
+        ask,
+        bytes,
+        in_sync,
+        steps: FIVE,
+        after: &ROW,
+        lost: out,
+    };
+    Ok(played(alloc, &course)? == course.end())
 }
 
 #[test]
@@ -69,35 +81,10 @@ fn each_position_is_rebuilt_with_any_other_out(rt: HostRuntime) -> Result<(), Fa
     for target in 0..6usize {
         for other in 0..6usize {
             let out = if other == target { 6 } else { other };
-            assert!(rt;
-                is_rebuilt(&rt, rt.alloc(), target, out)?,
-                "{target} with {out} out"
-            );
-        }
-    }
-    Ok(())
-}
-
-/// Whether a rebuild ends so that loses a position after so many commands: a target that is lost is given up, and the
-/// others stay; else the row is full but there.
-fn is_survived(alloc: Global, target: usize, lost: usize, commands: usize) -> Result<bool, Fail> {
-    let (bytes, in_sync) = without(target, target);
-    let outcome = if lost == target {
-        Outcome::GivenUp
-    } else {
-        Outcome::Rebuilt
-    };
-    let mut bench = Bench::new(alloc, &Ask::Rebuild(target), &bytes, &in_sync)?;
-    Ok(bench.survives(commands, &[lost], &ROW, outcome))
-}
-
-#[test]
-fn a_position_lost_at_any_step_is_survived(rt: HostRuntime) -> Result<(), Fail> {
-    for target in 0..6usize {
-        for lost in 0..6usize {
-            for commands in 0..6usize {
-                assert!(rt; is_survived(rt.alloc(), target, lost, commands)?);
-            }
+            let (bytes, in_sync) = without(target, out);
+            let ask = Ask::Rebuild(target);
+            let is_so = is_rebuilt(rt.alloc(), ask, &bytes, &in_sync, &[out])?;
+            must(&rt, is_so, "a target with one out", target, out);
         }
     }
     Ok(())

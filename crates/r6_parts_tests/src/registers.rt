@@ -3,10 +3,11 @@
 ghost use Rattle.std.specs.Prelude.{◌<◌};
 ghost use Rattle.r6_health.specs.Passes.{IsPassOf};
 
-use r6_health::{
-    Answer, Call, Pass, Refusal, Register, RegisterError, ShardSet, SlotState, Snapshot,
-};
+use crate::must::must;
+use crate::register_caller::fail_each;
+use r6_health::{Answer, Pass, Refusal, Register, RegisterError, ShardSet, SlotState, Snapshot};
 use r6_layout::Geometry;
+use std::alloc::{AllocError, Global};
 use std::sync::Wait;
 use std::test::Fail;
 
@@ -15,193 +16,198 @@ type Told = Result<Answer, Refusal>;
 
 const DEGRADED: Told = Ok(Answer::Degraded);
 
-fn made<R: Wait>(rt: &R, register: &Register, pass: &mut Pass, call: Call) -> Told
-    requires { IsPassOf register.now pass.old }
-    ensures { IsPassOf register.now pass.new }
-{
-    match call {
-        Call::Fail(slot) => register.fail(rt, pass, slot),
-        Call::DeclareLost(slot, generation) => register.declare_lost(rt, pass, slot, generation),
-        Call::Attach(slot) => match register.attach(rt, pass, slot) {
-            Ok(generation) => Ok(Answer::Generation(generation)),
-            Err(refusal) => Err(refusal),
-        },
-        Call::ReportRebuilt(shard, slot, generation) => {
-            register.report_rebuilt(rt, pass, shard, slot, generation)
+/// A call with its answer, or what the register holds.
+#[derive(Clone, Copy)]
+enum Step {
+    Fail(usize, Told),
+    /// By a pass that is split from this one, and joined then.
+    FailBeside(usize, Told),
+    /// Of a slot and a generation.
+    DeclareLost(usize, u32, Told),
+    Attach(usize, Result<u32, Refusal>),
+    /// Of a shard, a slot and a generation.
+    Report(usize, usize, u32, Told),
+    /// A slot is lost and rebuilt a hundred times, from this generation on: one thread never meets contention.
+    Turns(usize, u32),
+    Slot(usize, SlotState),
+    /// A slot is rebuilt, with this generation, in this shard alone.
+    Rebuilt(usize, u32, usize),
+    /// Whether the array failed, and how many attaches there were.
+    Held(bool, u32),
+}
+
+/// Steps of a register of so many slots and two shards whose slot 0 is lost; then slots that are failed in order, with
+/// the answers.
+#[derive(Clone, Copy)]
+struct Course {
+    name: &'static str,
+    slots: usize,
+    steps: &'static [Step],
+    failed: &'static [usize],
+    told: &'static [Told],
+}
+
+const COURSES: &[Course] = &[
+    Course {
+        name: "a slot is rebuilt once each shard has reported",
+        slots: 4,
+        steps: &[
+            Step::Slot(0, SlotState::Lost),
+            Step::Attach(0, Ok(1)),
+            Step::Report(1, 0, 1, Ok(Answer::More)),
+            Step::Report(0, 0, 1, Ok(Answer::Complete)),
+            Step::Slot(0, SlotState::InSync),
+            Step::Fail(1, DEGRADED),
+            Step::Attach(1, Ok(2)),
+            Step::Attach(1, Err(Refusal::NotLost)),
+            Step::Report(0, 1, 2, Ok(Answer::More)),
+            Step::Report(0, 1, 2, Err(Refusal::AlreadyReported)),
+            Step::Report(1, 1, 2, Ok(Answer::Complete)),
+            Step::Report(1, 1, 2, Err(Refusal::Stale)),
+            Step::Slot(1, SlotState::InSync),
+            Step::Held(false, 2),
+            Step::Turns(2, 3),
+            Step::Held(false, 102),
+            Step::FailBeside(3, DEGRADED),
+            Step::Slot(3, SlotState::Lost),
+        ],
+        failed: &[2, 2, 3],
+        told: &[
+            DEGRADED,
+            Err(Refusal::AlreadyLost),
+            Err(Refusal::AlreadyLost),
+        ],
+    },
+    // Where two refusals fit, the one that comes first in the order of the call is answered.
+    Course {
+        name: "refusals come in order",
+        slots: 6,
+        steps: &[
+            Step::Fail(0, Err(Refusal::AlreadyLost)),
+            Step::DeclareLost(0, 9, Err(Refusal::AlreadyLost)),
+            Step::Attach(0, Ok(1)),
+            Step::DeclareLost(0, 0, Err(Refusal::Stale)),
+            Step::Report(0, 0, 1, Ok(Answer::More)),
+            Step::Report(0, 0, 2, Err(Refusal::Stale)),
+            Step::Report(2, 0, 2, Err(Refusal::NoSuchSlot)),
+            // the generation is not compared with that of a slot in sync
+            Step::DeclareLost(2, 7, DEGRADED),
+            Step::Fail(5, Ok(Answer::Failed)),
+            Step::Fail(5, Err(Refusal::ArrayFailed)),
+            Step::Fail(6, Err(Refusal::NoSuchSlot)),
+            Step::DeclareLost(0, 0, Err(Refusal::ArrayFailed)),
+            Step::DeclareLost(6, 0, Err(Refusal::NoSuchSlot)),
+            Step::Attach(1, Err(Refusal::ArrayFailed)),
+            Step::Attach(6, Err(Refusal::NoSuchSlot)),
+            Step::Report(0, 1, 1, Err(Refusal::ArrayFailed)),
+            Step::Report(0, 6, 1, Err(Refusal::NoSuchSlot)),
+            Step::Slot(5, SlotState::Lost),
+            Step::Rebuilt(0, 1, 0),
+            Step::Held(true, 1),
+        ],
+        failed: &[6, 5],
+        told: &[Err(Refusal::NoSuchSlot), Err(Refusal::ArrayFailed)],
+    },
+];
+
+/// Whether a register holds so.
+fn is_held(snapshot: &Snapshot, step: &Step) -> bool {
+    match step {
+        Step::Slot(slot, state) if *slot < 32 => snapshot.slot(*slot) == *state,
+        Step::Rebuilt(slot, generation, shard) if *slot < 32 && *shard < 16 => {
+            let reported = ShardSet::empty().with(*shard);
+            snapshot.slot(*slot) == SlotState::Rebuilding(*generation, reported)
         }
+        Step::Held(failed, attaches) => {
+            snapshot.failed() == *failed && snapshot.attaches() == *attaches
+        }
+        _ => false,
     }
 }
 
-/// Calls with their answers, and what the register holds then: slots, whether the array failed, and how many attaches
-/// there were.
-#[derive(Clone, Copy)]
-struct Course {
-    calls: &'static [(Call, Told)],
-    states: &'static [(usize, SlotState)],
-    failed: bool,
-    attaches: u32,
-}
-
-/// Whether each call is answered so.
-fn are_answered<R: Wait>(
-    rt: &R,
-    register: &Register,
-    pass: &mut Pass,
-    calls: &[(Call, Told)],
-) -> bool
+/// Fails a slot by a pass of its own, which is taken back then.
+fn failed_beside<R: Wait>(rt: &R, register: &Register, pass: &mut Pass, slot: usize) -> Told
     requires { IsPassOf register.now pass.old }
     ensures { IsPassOf register.now pass.new }
 {
-    for (call, told) in calls {
-        if made(rt, register, pass, *call) != *told {
+    let mut other = register.split(pass);
+    let told = register.fail(rt, &mut other, slot);
+    register.join(pass, other);
+    told
+}
+
+/// Whether a slot is lost and rebuilt a hundred times.
+fn turns<R: Wait>(rt: &R, register: &Register, pass: &mut Pass, slot: usize, first: u32) -> bool
+    requires { IsPassOf register.now pass.old }
+    ensures { IsPassOf register.now pass.new }
+{
+    for turn in 0..100u32 {
+        let generation = first.wrapping_add(turn);
+        if register.fail(rt, pass, slot) != DEGRADED
+            || register.attach(rt, pass, slot) != Ok(generation)
+            || register.report_rebuilt(rt, pass, 1, slot, generation) != Ok(Answer::More)
+            || register.report_rebuilt(rt, pass, 0, slot, generation) != Ok(Answer::Complete)
+        {
             return false;
         }
     }
     true
 }
 
-/// Whether a register holds what a course leaves.
-fn is_left(snapshot: &Snapshot, course: &Course) -> bool {
-    for (slot, state) in course.states {
-        if *slot >= 32 || snapshot.slot(*slot) != *state {
-            return false;
+/// Whether a step is answered so.
+fn is_answered<R: Wait>(rt: &R, register: &Register, pass: &mut Pass, step: &Step) -> bool
+    requires { IsPassOf register.now pass.old }
+    ensures { IsPassOf register.now pass.new }
+{
+    match step {
+        Step::Fail(slot, told) => register.fail(rt, pass, *slot) == *told,
+        Step::FailBeside(slot, told) => failed_beside(rt, register, pass, *slot) == *told,
+        Step::DeclareLost(slot, generation, told) => {
+            register.declare_lost(rt, pass, *slot, *generation) == *told
+        }
+        Step::Attach(slot, told) => register.attach(rt, pass, *slot) == *told,
+        Step::Report(shard, slot, generation, told) => {
+            register.report_rebuilt(rt, pass, *shard, *slot, *generation) == *told
+        }
+        Step::Turns(slot, first) => turns(rt, register, pass, *slot, *first),
+        _ => is_held(&register.read(rt, pass), step),
+    }
+}
+
+/// How many steps are answered as a course has it, up to the first that isn't; all, if its slots are failed so too.
+fn played<R: Wait>(
+    rt: &R,
+    alloc: Global,
+    register: &Register,
+    pass: &mut Pass,
+    course: &Course,
+) -> Result<usize, AllocError>
+    requires { IsPassOf register.now pass.old }
+{
+    for (index, step) in course.steps.iter().enumerate() {
+        if !is_answered(rt, register, pass, step) {
+            return Ok(index);
         }
     }
-    snapshot.failed() == course.failed && snapshot.attaches() == course.attaches
-}
-
-/// Whether a course is played so.
-fn plays<R: Wait>(rt: &R, register: &Register, pass: &mut Pass, course: &Course) -> bool
-    requires { IsPassOf register.now pass.old }
-    ensures { IsPassOf register.now pass.new }
-{
-    are_answered(rt, register, pass, course.calls) && is_left(&register.read(rt, pass), course)
-}
-
-/// Whether slot 2 is lost and rebuilt a hundred times, after one attach: one thread never meets contention.
-fn turns<R: Wait>(rt: &R, register: &Register, pass: &mut Pass) -> bool
-    requires { IsPassOf register.now pass.old }
-    ensures { IsPassOf register.now pass.new }
-{
-    for turn in 2..102u32 {
-        let calls = [
-            (Call::Fail(2), DEGRADED),
-            (Call::Attach(2), Ok(Answer::Generation(turn))),
-            (Call::ReportRebuilt(1, 2, turn), Ok(Answer::More)),
-            (Call::ReportRebuilt(0, 2, turn), Ok(Answer::Complete)),
-        ];
-        if !are_answered(rt, register, pass, &calls) {
-            return false;
-        }
-    }
-    register.read(rt, pass).attaches() == 101
-}
-
-/// Whether a slot is failed by a pass of its own, which is taken back then, and is lost.
-fn is_heard<R: Wait>(rt: &R, register: &Register, pass: &mut Pass) -> bool
-    requires { IsPassOf register.now pass.old }
-    ensures { IsPassOf register.now pass.new }
-{
-    failed_by_another(rt, register, pass, 3) == DEGRADED && is_lost(rt, register, pass, 3)
-}
-
-const REBUILT: Course = Course {
-    calls: &[
-        (Call::Fail(1), DEGRADED),
-        (Call::Attach(1), Ok(Answer::Generation(1))),
-        (Call::Attach(1), Err(Refusal::NotLost)),
-        (Call::ReportRebuilt(0, 1, 1), Ok(Answer::More)),
-        (Call::ReportRebuilt(0, 1, 1), Err(Refusal::AlreadyReported)),
-        (Call::ReportRebuilt(1, 1, 1), Ok(Answer::Complete)),
-        (Call::ReportRebuilt(1, 1, 1), Err(Refusal::Stale)),
-    ],
-    states: &[(1, SlotState::InSync)],
-    failed: false,
-    attaches: 1,
-};
-
-#[test]
-fn a_slot_is_rebuilt_once_each_shard_has_reported(rt: HostRuntime) -> Result<(), Fail> {
-    let geometry = Geometry::new(4, 1, 16, 4, 2)?;
-    let (register, mut pass) = Register::new(&rt, rt.alloc(), &geometry, 0)?;
-    assert!(rt; plays(&rt, &register, &mut pass, &REBUILT));
-    assert!(rt; turns(&rt, &register, &mut pass));
-    assert!(rt; is_heard(&rt, &register, &mut pass));
-    Ok(())
-}
-
-/// Whether slot 0 is rebuilt in shard 0 alone.
-fn is_rebuilt_in_one<R: Wait>(rt: &R, register: &Register, pass: &mut Pass) -> bool
-    requires { IsPassOf register.now pass.old }
-    ensures { IsPassOf register.now pass.new }
-{
-    let reported = ShardSet::empty().with(0);
-    register.read(rt, pass).slot(0) == SlotState::Rebuilding(1, reported)
-}
-
-// Where two refusals fit, the one that comes first in the order of the call is answered.
-const REFUSED: Course = Course {
-    calls: &[
-        (Call::Fail(0), Err(Refusal::AlreadyLost)),
-        (Call::DeclareLost(0, 9), Err(Refusal::AlreadyLost)),
-        (Call::Attach(0), Ok(Answer::Generation(1))),
-        (Call::DeclareLost(0, 0), Err(Refusal::Stale)),
-        (Call::ReportRebuilt(0, 0, 1), Ok(Answer::More)),
-        (Call::ReportRebuilt(0, 0, 2), Err(Refusal::Stale)),
-        (Call::ReportRebuilt(2, 0, 2), Err(Refusal::NoSuchSlot)),
-        // the generation is not compared with that of a slot in sync
-        (Call::DeclareLost(2, 7), DEGRADED),
-        (Call::Fail(5), Ok(Answer::Failed)),
-        (Call::Fail(5), Err(Refusal::ArrayFailed)),
-        (Call::Fail(6), Err(Refusal::NoSuchSlot)),
-        (Call::DeclareLost(0, 0), Err(Refusal::ArrayFailed)),
-        (Call::DeclareLost(6, 0), Err(Refusal::NoSuchSlot)),
-        (Call::Attach(1), Err(Refusal::ArrayFailed)),
-        (Call::Attach(6), Err(Refusal::NoSuchSlot)),
-        (Call::ReportRebuilt(0, 1, 1), Err(Refusal::ArrayFailed)),
-        (Call::ReportRebuilt(0, 6, 1), Err(Refusal::NoSuchSlot)),
-    ],
-    states: &[(5, SlotState::Lost)],
-    failed: true,
-    attaches: 1,
-};
-
-#[test]
-fn refusals_come_in_order(rt: HostRuntime) -> Result<(), Fail> {
-    let geometry = Geometry::new(6, 1, 16, 4, 2)?;
-    let (register, mut pass) = Register::new(&rt, rt.alloc(), &geometry, 1)?;
-    assert!(rt; plays(&rt, &register, &mut pass, &REFUSED));
-    assert!(rt; is_rebuilt_in_one(&rt, &register, &mut pass));
-    Ok(())
-}
-
-/// Whether the register holds a slot as lost.
-fn is_lost<R: Wait>(rt: &R, register: &Register, pass: &mut Pass, slot: usize) -> bool
-    requires pass { IsPassOf register.now pass.old }
-    requires slot { slot < 32 }
-    ensures { IsPassOf register.now pass.new }
-{
-    register.read(rt, pass).slot(slot).is_lost()
+    let told = fail_each(rt, alloc, register, pass, course.failed)?;
+    let more = if told.as_slice() == course.told { 1 } else { 0 };
+    Ok(course.steps.len().saturating_add(more))
 }
 
 // Also run with each allocation failing in turn: the answer is then error 1.
 #[test]
-fn a_register_is_made_or_memory_is_wanting(rt: HostRuntime) -> Result<(), Fail> {
-    let geometry = Geometry::new(4, 1, 16, 4, 1)?;
-    match Register::new(&rt, rt.alloc(), &geometry, 1) {
-        Ok((register, mut pass)) => assert!(rt; is_lost(&rt, &register, &mut pass, 0)),
-        Err(error) => assert!(rt; error.number() == 1),
+fn a_slot_is_rebuilt_once_each_shard_has_reported(rt: HostRuntime) -> Result<(), Fail> {
+    for course in COURSES {
+        let geometry = Geometry::new(course.slots, 1, 16, 4, 2)?;
+        match Register::new(&rt, rt.alloc(), &geometry, 1) {
+            Ok((register, mut pass)) => {
+                let steps = played(&rt, rt.alloc(), &register, &mut pass, course)?;
+                must(&rt, steps == course.steps.len() + 1, course.name, 0, steps);
+            }
+            Err(error) => must(&rt, error.number() == 1, course.name, 0, 0),
+        }
     }
     Ok(())
-}
-
-/// Whether the numbers and names are these.
-fn are_numbered() -> bool {
-    Refusal::NoSuchSlot.number() == 1
-        && Refusal::Contended.number() == 8
-        && Refusal::Stale.name() == "Stale"
-        && RegisterError::NoMemory.number() == 1
-        && RegisterError::NoMemory.name() == "NoMemory"
 }
 
 #[test]
@@ -212,17 +218,22 @@ fn a_snapshot_loses_a_slot(rt: HostRuntime) -> Result<(), Fail> {
         && snapshot.slot(1).is_lost()
         && snapshot.slot(2).is_lost();
     let snapshot = snapshot.lose(3);
-    assert!(rt; is_begun && snapshot.slot(3).is_lost() && snapshot.failed() && are_numbered());
+    let is_lost = snapshot.slot(3).is_lost() && snapshot.failed();
+    must(
+        &rt,
+        is_begun && is_lost && are_numbered(),
+        "a snapshot",
+        0,
+        0,
+    );
     Ok(())
 }
 
-/// Fails a slot by a pass of its own, which is taken back then.
-fn failed_by_another<R: Wait>(rt: &R, register: &Register, pass: &mut Pass, slot: usize) -> Told
-    requires { IsPassOf register.now pass.old }
-    ensures { IsPassOf register.now pass.new }
-{
-    let mut other = register.split(pass);
-    let told = register.fail(rt, &mut other, slot);
-    register.join(pass, other);
-    told
+/// Whether the numbers and names are these.
+fn are_numbered() -> bool {
+    Refusal::NoSuchSlot.number() == 1
+        && Refusal::Contended.number() == 8
+        && Refusal::Stale.name() == "Stale"
+        && RegisterError::NoMemory.number() == 1
+        && RegisterError::NoMemory.name() == "NoMemory"
 }

@@ -1,187 +1,415 @@
-//! Worked rows.
+//! Worked rows, at lengths around the bytes of a step of the kernels. Each byte of a block is x times the one before it.
 
-use crate::blocks::{FiveBlocks, filled, five, is_filled};
+ghost use Rattle.std.specs.Prelude.{◌≡◌, length, IfOk};
+
+use crate::blocks::{grown, is_grown};
+use crate::must::must;
+use crate::{batches, holds};
 use r6_kernels::Buffer;
 use r6_recover::{
     Known, RowBuf, RowClass, TooManyLost, classify, repair_parity, restore, restore_from_p_into,
     restore_from_q_into, restore_two_into,
 };
-use std::alloc::Global;
+use std::alloc::{AllocError, Global};
 use std::test::Fail;
 
-/// A row of these blocks, which are so long, one after another.
-fn row_of(alloc: Global, len: usize, bytes: &[u8]) -> Result<RowBuf, Fail> {
-    if len == 0 || bytes.len() / len < 4 || bytes.len() / len > 32 {
+const LENGTHS: &[usize] = &[1, 31, 33, 48, 80, 127, 128, 129, 255, 256, 257, 4096];
+
+/// A full row: P is the sum of the data, and Q is 01 + x 02 + x^2 03 + x^3 04 = 01 + 04 + 0c + 20.
+const FULL: [u8; 6] = [0x01, 0x02, 0x03, 0x04, 0x04, 0x29];
+
+const ZEROS: [u8; 6] = [0; 6];
+
+/// The bytes with which the blocks of a row begin, before and after it is restored from all but the lost ones.
+#[derive(Clone, Copy)]
+struct Loss<'a> {
+    name: &'a str,
+    before: &'a [u8],
+    lost: &'a [usize],
+    restored: Result<(), TooManyLost>,
+    after: &'a [u8],
+}
+
+const LOSSES: &[Loss<'static>] = &[
+    Loss {
+        name: "both of two data blocks",
+        before: &[0x00, 0x00, 0x81, 0x1c],
+        lost: &[0, 1],
+        restored: Ok(()),
+        after: &[0x01, 0x80, 0x81, 0x1c],
+    },
+    Loss {
+        name: "a data block and P",
+        before: &[0x01, 0x00, 0x00, 0x03],
+        lost: &[1, 2],
+        restored: Ok(()),
+        after: &[0x01, 0x01, 0x00, 0x03],
+    },
+    Loss {
+        name: "two of four data blocks",
+        before: &[0x01, 0x00, 0x03, 0x00, 0x04, 0x29],
+        lost: &[1, 3],
+        restored: Ok(()),
+        after: &FULL,
+    },
+    Loss {
+        name: "three are too many",
+        before: &[0x05, 0x07, 0x00, 0x00],
+        lost: &[0, 2, 3],
+        restored: Err(TooManyLost),
+        after: &[0x05, 0x07, 0x00, 0x00],
+    },
+];
+
+/// A row of blocks of a length that begin with these bytes.
+fn row_of(alloc: Global, len: usize, firsts: &[u8]) -> Result<RowBuf, Fail> {
+    if firsts.len() < 4 || firsts.len() > 32 {
         return Err(Fail::from("no row"));
     }
-    let mut row = RowBuf::new(alloc, bytes.len() / len, len)?;
-    for (position, block) in bytes.chunks_exact(len).enumerate() {
-        set(&mut row, position, block);
+    let mut row = RowBuf::new(alloc, firsts.len(), len)?;
+    for (position, first) in firsts.iter().enumerate() {
+        if !is_exchanged(alloc, &mut row, position, *first)? {
+            return Err(Fail::from("no zeros came out"));
+        }
     }
     Ok(row)
 }
 
-/// Takes over the bytes of a block, where they fit.
-pub(crate) fn set(row: &mut RowBuf, position: usize, bytes: &[u8]) {
-    if position < row.positions() && row.block(0).len() == bytes.len() {
-        row.set_block(position, bytes);
+/// Whether a block that begins with this byte takes the place of zeros.
+fn is_exchanged(
+    alloc: Global,
+    row: &mut RowBuf,
+    position: usize,
+    first: u8,
+) -> Result<bool, AllocError> {
+    if position >= row.positions() {
+        return Ok(false);
     }
+    let mut block = grown(alloc, row.block(0).len(), first)?;
+    row.swap_block(position, &mut block);
+    Ok(is_grown(&block, 0))
 }
 
-/// Whether a row has these bytes.
-fn is_row(row: &RowBuf, bytes: &[u8]) -> bool {
-    if row.positions() != bytes.len() {
-        return false;
-    }
-    for position in 0..bytes.len() {
-        if !is_filled(row.block(position), bytes[position]) {
+/// Whether the blocks of a row begin with these bytes.
+fn is_row(row: &RowBuf, firsts: &[u8]) -> bool {
+    for position in 0..row.positions() {
+        if position >= firsts.len() || !is_grown(row.block(position), firsts[position]) {
             return false;
         }
     }
-    true
+    row.positions() == firsts.len()
 }
 
-/// The positions that are known.
-fn known_at(positions: &[usize]) -> Known {
+fn all_but(lost: &[usize]) -> Known {
     let mut known = Known::none();
-    for position in positions {
-        if *position < 32 {
-            known.insert(*position);
+    for position in 0..6usize {
+        if !lost.contains(&position) && !known.contains(position) {
+            known.insert(position);
         }
     }
     known
 }
 
-/// Whether a row is restored so, and becomes the other one, where these positions are known.
-fn restores(
-    alloc: Global,
-    row: &[u8],
-    known: &[usize],
-    restored: &Result<(), TooManyLost>,
-    after: &[u8],
-) -> Result<bool, Fail> {
-    let mut row = row_of(alloc, 1, row)?;
-    Ok(restore(&mut row, known_at(known)) == *restored && is_row(&row, after))
+/// Whether a row of blocks of a length is restored so.
+fn comes_back(alloc: Global, len: usize, loss: &Loss<'_>) -> Result<bool, Fail> {
+    let mut row = row_of(alloc, len, loss.before)?;
+    Ok(restore(&mut row, all_but(loss.lost)) == loss.restored && is_row(&row, loss.after))
+}
+
+/// Whether any two blocks of a full row come back that begin with 4d.
+fn any_two_come_back(alloc: Global, len: usize) -> Result<bool, Fail> {
+    for y in 0..6usize {
+        for x in 0..y {
+            let mut before = FULL;
+            before[x] = 0x4d;
+            before[y] = 0x4d;
+            let loss = Loss {
+                name: "any two",
+                before: &before,
+                lost: &[x, y],
+                restored: Ok(()),
+                after: &FULL,
+            };
+            if !comes_back(alloc, len, &loss)? {
+                return Ok(false);
+            }
+        }
+    }
+    Ok(true)
 }
 
 #[test]
-fn up_to_two_blocks_are_restored(rt: HostRuntime) -> Result<(), Fail> {
-    let cases: &[(&[u8], &[usize], Result<(), TooManyLost>, &[u8])] = &[
-        // both of two data blocks
-        (
-            &[0x00, 0x00, 0x81, 0x1c],
-            &[2, 3],
-            Ok(()),
-            &[0x01, 0x80, 0x81, 0x1c],
-        ),
-        // a data block and P
-        (
-            &[0x01, 0x00, 0x00, 0x03],
-            &[0, 3],
-            Ok(()),
-            &[0x01, 0x01, 0x00, 0x03],
-        ),
-        // two of four data blocks
-        (
-            &[0x01, 0x00, 0x03, 0x00, 0x04, 0x29],
-            &[0, 2, 4, 5],
-            Ok(()),
-            &[0x01, 0x02, 0x03, 0x04, 0x04, 0x29],
-        ),
-        // three are too many
-        (
-            &[0x05, 0x07, 0x00, 0x00],
-            &[1],
-            Err(TooManyLost),
-            &[0x05, 0x07, 0x00, 0x00],
-        ),
-    ];
-    for (row, known, restored, after) in cases {
-        assert!(rt;
-            restores(rt.alloc(), *row, *known, restored, *after)?,
-            "known: {known:?}"
-        );
+fn lost_blocks_come_back(rt: HostRuntime) -> Result<(), Fail> {
+    for len in LENGTHS {
+        for loss in LOSSES {
+            let is_so = comes_back(rt.alloc(), *len, loss)?;
+            must(&rt, is_so, loss.name, *len, 0);
+        }
+        let is_so = any_two_come_back(rt.alloc(), *len)?;
+        must(&rt, is_so, "any two", *len, 0);
     }
-    let known = known_at(&[0, 3]);
-    assert!(rt; known.contains(3) && !known.contains(2));
+    let known = all_but(&[1, 2, 4, 5]);
+    must(&rt, known.contains(3) && !known.contains(2), "known", 0, 0);
     Ok(())
 }
 
-/// Whether a block of 05 takes the place of the first one of a row, which is zeros.
-fn is_exchanged(row: &mut RowBuf, block: &mut Buffer) -> bool {
-    if row.positions() != 4 || row.block(0).len() != block.len() {
+/// The bytes with which the blocks of a row begin, and what is added to the last byte of these positions; its class; and
+/// the row once its parity is repaired.
+#[derive(Clone, Copy)]
+struct Damage {
+    firsts: &'static [u8],
+    last: &'static [(usize, u8)],
+    class: RowClass,
+    repaired: Option<&'static [u8]>,
+}
+
+const DAMAGES: &[Damage] = &[
+    Damage {
+        firsts: &ZEROS,
+        last: &[],
+        class: RowClass::Consistent,
+        repaired: Some(&ZEROS),
+    },
+    Damage {
+        firsts: &[0, 0, 0, 0, 0x05, 0x0a],
+        last: &[],
+        class: RowClass::WrongData(1),
+        repaired: Some(&ZEROS),
+    },
+    Damage {
+        firsts: &[0, 0, 0, 0, 0x05, 0x00],
+        last: &[],
+        class: RowClass::WrongP,
+        repaired: Some(&ZEROS),
+    },
+    Damage {
+        firsts: &[0, 0, 0, 0, 0x00, 0x05],
+        last: &[],
+        class: RowClass::WrongQ,
+        repaired: Some(&ZEROS),
+    },
+    Damage {
+        firsts: &[0, 0, 0, 0, 0x01, 0x10],
+        last: &[],
+        class: RowClass::Many,
+        repaired: Some(&ZEROS),
+    },
+    // The last byte has another place: that of block 2, and what it has in common with the others at a length of 1.
+    Damage {
+        firsts: &[0, 0, 0, 0, 0x01, 0x02],
+        last: &[(4, 0x02), (5, 0x08)],
+        class: RowClass::Many,
+        repaired: Some(&ZEROS),
+    },
+    // P lacks 04 and Q d6, which is none of 04, 08, 10 and 20.
+    Damage {
+        firsts: &[0x01, 0x02, 0x03, 0x04, 0x00, 0xff],
+        last: &[],
+        class: RowClass::Many,
+        repaired: Some(&FULL),
+    },
+    // The rows of holds, which are full.
+    Damage {
+        firsts: &holds::FOUR,
+        last: &[],
+        class: RowClass::Consistent,
+        repaired: Some(&holds::FOUR),
+    },
+    Damage {
+        firsts: &holds::SIX,
+        last: &[],
+        class: RowClass::Consistent,
+        repaired: Some(&holds::SIX),
+    },
+    Damage {
+        firsts: &holds::EIGHT,
+        last: &[],
+        class: RowClass::Consistent,
+        repaired: Some(&holds::EIGHT),
+    },
+    Damage {
+        firsts: &holds::FOUR_CHANGED,
+        last: &[],
+        class: RowClass::Consistent,
+        repaired: Some(&holds::FOUR_CHANGED),
+    },
+    Damage {
+        firsts: &holds::SIX_CHANGED,
+        last: &[],
+        class: RowClass::Consistent,
+        repaired: Some(&holds::SIX_CHANGED),
+    },
+    Damage {
+        firsts: &holds::EIGHT_CHANGED,
+        last: &[],
+        class: RowClass::Consistent,
+        repaired: Some(&holds::EIGHT_CHANGED),
+    },
+    Damage {
+        firsts: &holds::WRITTEN,
+        last: &[],
+        class: RowClass::Consistent,
+        repaired: Some(&holds::WRITTEN),
+    },
+    Damage {
+        firsts: &batches::SIX_CHANGED,
+        last: &[],
+        class: RowClass::Consistent,
+        repaired: Some(&batches::SIX_CHANGED),
+    },
+    Damage {
+        firsts: &batches::EIGHT_CHANGED,
+        last: &[],
+        class: RowClass::Consistent,
+        repaired: Some(&batches::EIGHT_CHANGED),
+    },
+    Damage {
+        firsts: &batches::TEN,
+        last: &[],
+        class: RowClass::Consistent,
+        repaired: Some(&batches::TEN),
+    },
+    Damage {
+        firsts: &batches::TEN_CHANGED,
+        last: &[],
+        class: RowClass::Consistent,
+        repaired: Some(&batches::TEN_CHANGED),
+    },
+    Damage {
+        firsts: &FULL,
+        last: &[],
+        class: RowClass::Consistent,
+        repaired: Some(&FULL),
+    },
+    Damage {
+        firsts: &FULL,
+        last: &[(0, 1)],
+        class: RowClass::WrongData(0),
+        repaired: None,
+    },
+    Damage {
+        firsts: &FULL,
+        last: &[(1, 1)],
+        class: RowClass::WrongData(1),
+        repaired: None,
+    },
+    Damage {
+        firsts: &FULL,
+        last: &[(2, 1)],
+        class: RowClass::WrongData(2),
+        repaired: None,
+    },
+    Damage {
+        firsts: &FULL,
+        last: &[(3, 1)],
+        class: RowClass::WrongData(3),
+        repaired: None,
+    },
+    Damage {
+        firsts: &FULL,
+        last: &[(4, 1)],
+        class: RowClass::WrongP,
+        repaired: Some(&FULL),
+    },
+    Damage {
+        firsts: &FULL,
+        last: &[(5, 1)],
+        class: RowClass::WrongQ,
+        repaired: Some(&FULL),
+    },
+];
+
+/// Adds to the last byte of the block at a position, if there is one.
+fn change(alloc: Global, row: &mut RowBuf, position: usize, added: u8) -> Result<(), AllocError> {
+    if position < row.positions() {
+        let mut bytes = row.block(position).as_slice().to_vec(alloc)?;
+        if let Some(last) = bytes.last_mut() {
+            *last ^= added;
+        }
+        if row.block(0).len() == bytes.len() {
+            row.set_block(position, bytes.as_slice());
+        }
+    }
+    Ok(())
+}
+
+/// Whether a row has a class, and becomes another one where that is told.
+fn is_mended(row: &mut RowBuf, damage: &Damage) -> bool {
+    if classify(row) != damage.class {
         return false;
     }
-    row.swap_block(0, block);
-    is_row(row, &[0x05, 0x00, 0x00, 0x00]) && is_filled(block, 0x00)
+    repair_parity(row);
+    match damage.repaired {
+        Some(firsts) => is_row(row, firsts),
+        None => classify(row) == RowClass::Consistent,
+    }
+}
+
+/// Whether a row of blocks of a length is classified and repaired so.
+fn is_seen(alloc: Global, len: usize, damage: &Damage) -> Result<bool, Fail> {
+    let mut row = row_of(alloc, len, damage.firsts)?;
+    for (position, added) in damage.last {
+        change(alloc, &mut row, *position, *added)?;
+    }
+    Ok(is_mended(&mut row, damage))
 }
 
 #[test]
-fn a_block_is_exchanged_and_parity_is_repaired(rt: HostRuntime) -> Result<(), Fail> {
-    let mut block = filled(rt.alloc(), 1, 0x05)?;
-    let mut row = row_of(rt.alloc(), 1, &[0x00, 0x00, 0x00, 0x00])?;
-    assert!(rt; is_exchanged(&mut row, &mut block));
-    let mut row = row_of(rt.alloc(), 1, &[0x01, 0x02, 0x03, 0x04, 0x00, 0xff])?;
-    repair_parity(&mut row);
-    assert!(rt; is_row(&row, &[0x01, 0x02, 0x03, 0x04, 0x04, 0x29]));
+fn wrong_bytes_are_seen_and_parity_is_repaired(rt: HostRuntime) -> Result<(), Fail> {
+    for len in LENGTHS {
+        for (case, damage) in DAMAGES.iter().enumerate() {
+            let is_so = is_seen(rt.alloc(), *len, damage)?;
+            must(&rt, is_so, "a damage, by length and row", *len, case);
+        }
+    }
     Ok(())
 }
 
 /// Whether data 01 and 80 come back from P and Q, whose own buffers are away.
-fn two_come_back(alloc: Global) -> Result<bool, Fail> {
-    let FiveBlocks {
-        mut a,
-        mut b,
-        p,
-        q,
-        ..
-    } = five(alloc, 1, [0x00, 0x00, 0x00, 0x81, 0x1c])?;
+fn two_come_back(alloc: Global) -> Result<bool, AllocError> {
+    let (mut a, mut b) = two(alloc, 0x00, 0x00)?;
+    let (p, q) = two(alloc, 0x81, 0x1c)?;
     let row = [Buffer::empty(alloc), Buffer::empty(alloc), p, q];
     restore_two_into(&row, 0, 1, &mut a, &mut b);
-    Ok(is_filled(&a, 0x01) && is_filled(&b, 0x80))
+    Ok(is_grown(&a, 0x01) && is_grown(&b, 0x80))
 }
 
 /// Whether the first of data 01 and 80 comes back from the second and P.
-fn the_first_comes_back(alloc: Global) -> Result<bool, Fail> {
-    let FiveBlocks { mut a, b, p, .. } = five(alloc, 1, [0x00, 0x80, 0x00, 0x81, 0x00])?;
+fn the_first_comes_back(alloc: Global) -> Result<bool, AllocError> {
+    let (b, p) = two(alloc, 0x80, 0x81)?;
+    let mut a = grown(alloc, 16, 0x00)?;
     let row = [Buffer::empty(alloc), b, p, Buffer::empty(alloc)];
     restore_from_p_into(&row, 0, &mut a);
-    Ok(is_filled(&a, 0x01))
+    Ok(is_grown(&a, 0x01))
 }
 
 /// Whether the second of data 01 and 80 comes back from the first and Q.
-fn the_second_comes_back(alloc: Global) -> Result<bool, Fail> {
-    let FiveBlocks { a, mut b, q, .. } = five(alloc, 1, [0x01, 0x00, 0x00, 0x00, 0x1c])?;
+fn the_second_comes_back(alloc: Global) -> Result<bool, AllocError> {
+    let (a, q) = two(alloc, 0x01, 0x1c)?;
+    let mut b = grown(alloc, 16, 0x00)?;
     let row = [a, Buffer::empty(alloc), Buffer::empty(alloc), q];
     restore_from_q_into(&row, 1, &mut b);
-    Ok(is_filled(&b, 0x80))
+    Ok(is_grown(&b, 0x80))
+}
+
+/// Two blocks of 16 bytes that begin with these.
+fn two(alloc: Global, first: u8, second: u8) -> Result<(Buffer, Buffer), AllocError>
+    ensures { IfOk result (λ two. (length two.0 ≡ 16) × (length two.1 ≡ 16)) }
+{
+    Ok((grown(alloc, 16, first)?, grown(alloc, 16, second)?))
 }
 
 #[test]
 fn lost_blocks_come_back_whose_buffers_are_away(rt: HostRuntime) -> Result<(), Fail> {
-    assert!(rt; two_come_back(rt.alloc())?);
-    assert!(rt; the_first_comes_back(rt.alloc())? && the_second_comes_back(rt.alloc())?);
-    Ok(())
-}
-
-// The rows have zeros but for P and Q. In the last one each byte has another place.
-#[test]
-fn classes(rt: HostRuntime) -> Result<(), Fail> {
-    let cases: &[(usize, &[u8], RowClass)] = &[
-        (1, &[0, 0, 0, 0, 0x00, 0x00], RowClass::Consistent),
-        (1, &[0, 0, 0, 0, 0x05, 0x0a], RowClass::WrongData(1)),
-        (1, &[0, 0, 0, 0, 0x05, 0x00], RowClass::WrongP),
-        (1, &[0, 0, 0, 0, 0x00, 0x05], RowClass::WrongQ),
-        (1, &[0, 0, 0, 0, 0x01, 0x10], RowClass::Many),
-        (
-            2,
-            &[0, 0, 0, 0, 0, 0, 0, 0, 0x01, 0x01, 0x02, 0x04],
-            RowClass::Many,
-        ),
-    ];
-    for (len, bytes, class) in cases {
-        let row = row_of(rt.alloc(), *len, *bytes)?;
-        assert!(rt; classify(&row) == *class);
-    }
+    let is_first = the_first_comes_back(rt.alloc())?;
+    let is_second = the_second_comes_back(rt.alloc())?;
+    let is_so = two_come_back(rt.alloc())? && is_first && is_second;
+    must(
+        &rt,
+        is_so && Buffer::empty(rt.alloc()).is_empty(),
+        "apart",
+        0,
+        0,
+    );
     Ok(())
 }

@@ -1,5 +1,6 @@
 //! Texts of settings.
 
+use crate::must::must;
 use r6_settings::{Config, Key, SettingsFault, settings};
 use std::alloc::Global;
 
@@ -8,45 +9,84 @@ const FOUR_SLOTS: &str = "slots = 4\nchunk = 1\nblock = 16\nrows = 4\nshards = 2
 const EVERY_KEY: &str =
     "slots = 4\nchunk = 1\nblock = 16\nrows = 4\nshards = 2\nwindow = 8\nworkers = 2\nlost = [3, 0]\ndevices = [\"a\", \"b\", \"c\", \"d\"]\n";
 
-/// Whether each key has the value of that text.
-fn has_every_key(config: &Config) -> bool {
-    config.geometry.shards() == 2
-        && (config.window, config.workers) == (8, 2)
-        && config.lost.as_slice() == [3, 0].as_slice()
-        && config.devices.len() == 4
-        && config.devices[3].as_str() == "d"
+/// What a text of two shards says: window, workers, the lost slots and the devices.
+#[derive(Clone, Copy)]
+struct Says {
+    numbers: (u32, u32),
+    lost: &'static [u32],
+    devices: &'static [&'static str],
 }
 
-/// Whether each key that may be left out has the value that it then has.
-fn has_what_is_left_out(config: &Config) -> bool {
-    (config.window, config.workers) == (1, 1) && config.lost.is_empty() && config.devices.is_empty()
-}
+const DEFAULTS: Says = Says {
+    numbers: (1, 1),
+    lost: &[],
+    devices: &[],
+};
 
-#[test]
-fn reads_every_key(rt: HostRuntime) {
-    let full = settings(rt.alloc(), EVERY_KEY, true);
-    assert!(rt; matches!(&full, Ok(config) if has_every_key(config)));
-    let short = settings(rt.alloc(), FOUR_SLOTS, false);
-    assert!(rt; matches!(&short, Ok(config) if has_what_is_left_out(config)));
-}
+const LACKS: SettingsFault = SettingsFault::Value(Key::Devices);
 
-/// Whether a text is refused for its devices, and only where they are used.
-fn lacks_devices(alloc: Global, text: &str) -> bool {
-    let used = settings(alloc, text, true);
-    matches!(&used, Err(SettingsFault::Value(Key::Devices))) && settings(alloc, text, false).is_ok()
-}
-
-/// Texts that lack devices.
-const LACKING: &[&str] = &[
-    FOUR_SLOTS,
-    "slots = 4\nchunk = 1\nblock = 16\nrows = 4\nshards = 2\ndevices = 4\n",
-    "slots = 4\nchunk = 1\nblock = 16\nrows = 4\nshards = 2\ndevices = [\"a\", \"b\", \"c\"]\n",
-    "slots = 4\nchunk = 1\nblock = 16\nrows = 4\nshards = 2\ndevices = [\"a\", \"b\", \"c\", 4]\n",
+/// Texts, whether devices are used, and what they say or lack.
+const TEXTS: &[(&str, bool, Result<Says, SettingsFault>)] = &[
+    (
+        EVERY_KEY,
+        true,
+        Ok(Says {
+            numbers: (8, 2),
+            lost: &[3, 0],
+            devices: &["a", "b", "c", "d"],
+        }),
+    ),
+    // what may be left out
+    (FOUR_SLOTS, false, Ok(DEFAULTS)),
+    // devices are asked for where they are used
+    (FOUR_SLOTS, true, Err(LACKS)),
+    (NO_LIST, true, Err(LACKS)),
+    (NO_LIST, false, Ok(DEFAULTS)),
+    (THREE, true, Err(LACKS)),
+    (THREE, false, Ok(DEFAULTS)),
+    (NO_PATH, true, Err(LACKS)),
+    (NO_PATH, false, Ok(DEFAULTS)),
 ];
 
+const NO_LIST: &str = "slots = 4\nchunk = 1\nblock = 16\nrows = 4\nshards = 2\ndevices = 4\n";
+
+const THREE: &str =
+    "slots = 4\nchunk = 1\nblock = 16\nrows = 4\nshards = 2\ndevices = [\"a\", \"b\", \"c\"]\n";
+
+const NO_PATH: &str =
+    "slots = 4\nchunk = 1\nblock = 16\nrows = 4\nshards = 2\ndevices = [\"a\", \"b\", \"c\", 4]\n";
+
+/// Whether settings are these.
+fn has(config: &Config, says: &Says) -> bool {
+    for (index, device) in says.devices.iter().enumerate() {
+        if index >= config.devices.len() || config.devices[index].as_str() != *device {
+            return false;
+        }
+    }
+    config.geometry.shards() == 2
+        && (config.window, config.workers) == says.numbers
+        && config.lost.as_slice() == says.lost
+        && config.devices.len() == says.devices.len()
+}
+
+/// Whether a text is read so.
+fn is_read(alloc: Global, text: &str, used: bool, says: &Result<Says, SettingsFault>) -> bool {
+    match (&settings(alloc, text, used), says) {
+        (Ok(config), Ok(says)) => has(config, says),
+        (Err(fault), Err(wanted)) => *fault == *wanted,
+        _ => false,
+    }
+}
+
 #[test]
-fn asks_for_devices_where_they_are_used(rt: HostRuntime) {
-    for text in LACKING {
-        assert!(rt; lacks_devices(rt.alloc(), *text), "at {text:?}");
+fn reads_every_key_and_asks_for_devices_where_they_are_used(rt: HostRuntime) {
+    for (row, (text, used, says)) in TEXTS.iter().enumerate() {
+        must(
+            &rt,
+            is_read(rt.alloc(), *text, *used, says),
+            "a text",
+            row,
+            0,
+        );
     }
 }

@@ -1,6 +1,8 @@
 //! A table of numbers.
 
+use crate::must::must;
 use r6_tables::Table;
+use std::alloc::Global;
 use std::test::Fail;
 
 /// Puts a value in where there is room, and answers its number.
@@ -20,6 +22,19 @@ enum Step {
     /// The entry of a number gets this value.
     Replace(u64, u32),
     Get(u64),
+    /// The values from the first on, up to the second, are put in and removed, each under a number that is its own.
+    PassThrough(u32, u32),
+}
+
+/// The first value that isn't, or the end.
+fn passed(table: &mut Table<u32>, first: u32, end: u32) -> u32 {
+    for value in first..end {
+        let number = u64::from(value);
+        if put(table, value) != Some(number) || table.remove(number) != Some(value) {
+            return value;
+        }
+    }
+    end
 }
 
 /// What a step answers: a number or a value, or else what was handed in.
@@ -32,52 +47,82 @@ fn answer(table: &mut Table<u32>, step: Step) -> Result<u64, u64> {
             Err(back) => Err(u64::from(back)),
         },
         Step::Get(number) => table.get(number).copied().map(u64::from).ok_or(number),
+        Step::PassThrough(first, end) => Ok(u64::from(passed(table, first, end))),
     }
 }
 
-const STEPS: &[(Step, Result<u64, u64>)] = &[
-    (Step::Put(10), Ok(0)),
-    (Step::Put(11), Ok(1)),
-    (Step::Put(12), Err(12)),
-    (Step::Remove(0), Ok(10)),
-    (Step::Remove(0), Err(0)),
-    (Step::Put(12), Ok(2)),
-    (Step::Replace(1, 13), Ok(11)),
-    (Step::Replace(0, 14), Err(14)),
-    (Step::Get(1), Ok(13)),
+/// Steps of a table with room for so many entries, and how many entries there are then, with the next number.
+#[derive(Clone, Copy)]
+struct Course {
+    room: usize,
+    steps: &'static [(Step, Result<u64, u64>)],
+    left: (usize, u64),
+}
+
+const COURSES: &[Course] = &[
+    Course {
+        room: 2,
+        steps: &[
+            (Step::Put(10), Ok(0)),
+            (Step::Put(11), Ok(1)),
+            (Step::Put(12), Err(12)),
+            (Step::Remove(0), Ok(10)),
+            (Step::Remove(0), Err(0)),
+            (Step::Put(12), Ok(2)),
+            (Step::Replace(1, 13), Ok(11)),
+            (Step::Replace(0, 14), Err(14)),
+            (Step::Get(1), Ok(13)),
+        ],
+        left: (2, 3),
+    },
+    // One entry stays while many come and go.
+    Course {
+        room: 3,
+        steps: &[
+            (Step::Put(7), Ok(0)),
+            (Step::PassThrough(1, 101), Ok(101)),
+            (Step::Get(0), Ok(7)),
+        ],
+        left: (1, 101),
+    },
 ];
 
-/// Whether the steps are answered so, and two entries are left.
-fn plays(table: &mut Table<u32>) -> bool {
-    for (step, answered) in STEPS {
+fn table_of(alloc: Global, course: &Course) -> Result<Table<u32>, Fail> {
+    if course.room > 3 {
+        return Err(Fail::from("no table"));
+    }
+    Ok(Table::with_capacity(alloc, course.room)?)
+}
+
+/// How many steps are answered so, up to the first that isn't; one more, if the table is left so.
+fn played(table: &mut Table<u32>, course: &Course) -> usize {
+    for (index, (step, answered)) in course.steps.iter().enumerate() {
         if answer(table, *step) != *answered {
-            return false;
+            return index;
         }
     }
-    (table.len(), table.capacity(), table.next()) == (2, 2, 3)
+    let is_left = (table.len(), table.next()) == course.left
+        && table.capacity() == course.room
+        && !table.is_empty();
+    if is_left {
+        course.steps.len().saturating_add(1)
+    } else {
+        course.steps.len()
+    }
 }
 
 #[test]
 fn numbers_rise_and_are_never_given_twice(rt: HostRuntime) -> Result<(), Fail> {
-    let mut table = Table::with_capacity(rt.alloc(), 2)?;
-    assert!(rt; plays(&mut table));
-    let mut table = Table::with_capacity(rt.alloc(), 3)?;
-    assert!(rt; stays(&mut table) && !table.is_empty());
-    Ok(())
-}
-
-/// Whether many entries can come and go.
-fn is_passed_through(table: &mut Table<u32>) -> bool {
-    for round in 1..101_u32 {
-        let number = u64::from(round);
-        if put(table, round) != Some(number) || table.remove(number) != Some(round) {
-            return false;
-        }
+    for course in COURSES {
+        let mut table = table_of(rt.alloc(), course)?;
+        let steps = played(&mut table, course);
+        must(
+            &rt,
+            steps == course.steps.len() + 1,
+            "a table with room",
+            course.room,
+            steps,
+        );
     }
-    true
-}
-
-/// Whether one entry stays while many come and go.
-fn stays(table: &mut Table<u32>) -> bool {
-    put(table, 7) == Some(0) && is_passed_through(table) && table.get(0).copied() == Some(7)
+    Ok(())
 }

@@ -2,6 +2,7 @@
 
 ghost use Rattle.std.specs.Prelude.{◌≡◌, ◌*◌, length, IfOk};
 
+use crate::must::must;
 use r6_dev::{BlockDevice, Fault, MemoryDevice};
 use r6_engine::{Report, check_all};
 use r6_kernels::Buffer;
@@ -133,6 +134,7 @@ fn each_shard_is_checked_in_a_thread_of_its_own(rt: HostRuntime) -> Result<(), F
         second: AtomicBool::new(false),
     };
     let report = checked(&rt, rt.alloc(), &meeting)?;
-    assert!(rt; report.fault == None && report.counts.consistent == 4);
+    let is_so = report.fault == None && report.counts.consistent == 4;
+    must(&rt, is_so, "a meeting", 0, 0);
     Ok(())
 }

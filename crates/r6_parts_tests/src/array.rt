@@ -2,8 +2,8 @@
 
 ghost use Rattle.std.specs.Prelude.{◌≡◌, ◌*◌, ◌<◌, length, IfOk};
 
-use r6_dev::{BlockDevice, Fault, Faulty, MemoryDevice};
-use r6_kernels::Buffer;
+use crate::blocks::grown;
+use r6_dev::{BlockDevice, Faulty, MemoryDevice};
 use r6_layout::{Geometry, GeometryError};
 use std::alloc::{AllocError, Global};
 use std::ops::Range;
@@ -14,12 +14,12 @@ pub(crate) const SLOTS: usize = 4;
 pub(crate) const ROWS: u64 = 4;
 
 /// Bytes of a block.
-const BLOCK: usize = 16;
+pub(crate) const BLOCK: usize = 16;
 
 /// A device of zeros, or of what was written, that may fail.
 pub(crate) type Part = Faulty<MemoryDevice>;
 
-/// A row and a slot, whose block has this byte throughout.
+/// A row and a slot, whose block begins with this byte, and has x times it next, and so on.
 pub(crate) type Filled = (u64, usize, u8);
 
 /// The device of a slot that fails at the command for this row: at this one alone, or, if it is gone, from it on.
@@ -37,24 +37,6 @@ pub(crate) struct Array<'a> {
     pub(crate) filled: &'a [Filled],
     pub(crate) lost: &'a [usize],
     pub(crate) broken: &'a [Broken],
-}
-
-/// All zeros.
-pub(crate) fn zeros(shards: usize) -> Array<'static> {
-    Array {
-        shards,
-        filled: &[],
-        lost: &[],
-        broken: &[],
-    }
-}
-
-/// A block with one byte throughout.
-pub(crate) fn block_of(alloc: Global, byte: u8) -> Result<Buffer, AllocError> {
-    let bytes = vec![in alloc; byte; BLOCK]?;
-    let mut block = Buffer::new(alloc, BLOCK)?;
-    block.copy_from_slice(bytes.as_slice());
-    Ok(block)
 }
 
 fn is_in(row: u64, rows: &Range<u64>) -> bool {
@@ -76,7 +58,7 @@ impl Array<'_> {
     ) -> Result<(), Fail> {
         for (row, of, byte) in self.filled {
             if *of == slot && is_in(*row, rows) {
-                device.write(*row, &block_of(alloc, *byte)?)?;
+                device.write(*row, &grown(alloc, BLOCK, *byte)?)?;
             }
         }
         Ok(())

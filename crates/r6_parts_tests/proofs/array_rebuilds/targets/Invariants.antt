@@ -1,5 +1,5 @@
 use Rattle.std.proofs.Common.{◌≡◌, length}
-use Rattle.r6_engine_tests.proofs.rebuilds.targets.Given as goal
+use Rattle.r6_parts_tests.proofs.array_rebuilds.targets.Given as goal
 
 abbrev pub invariant-loop-shard : goal.invariant-loop-shard
 invariant-loop-shard l = length l.targets.items ≡ l.shard
