@@ -144,8 +144,8 @@ learns_p id token calls b other = (
   ([], p_learned id token calls b other),
   ([], refl),
   held_rests (one_read_out id token calls b other) (p_known id b other) refl refl token (fetch 2 0)
-  (put-same no_command token (Some (fetch 2 0)) token refl) refl refl (one_waits_not id (Read 0) (Held 0) (held_not 0))
-  (none_built Missing (λ x. x)),
+      (put-same no_command token (Some (fetch 2 0)) token refl) refl refl (one_waits_not id (Read 0) (Held 0) (held_not 0))
+      (none_built Missing (λ x. x)),
 )
 
 -- ---- the other block comes, and the block is restored
