@@ -102,12 +102,10 @@ impl<L: Events> Feed<L> {
             number: _,
             waits: _,
         } = self;
-        let mut shard = 0;
-        for mut producer in producers {
+        for (mut producer, list) in producers.into_iter().zip(shards.lists) {
             // Whether the list was open is all that it answers. Who ends one twice has a part of the ledger left, and
             // nothing is settled.
-            shards.lists[shard].lock(rt).end(&mut producer);
-            shard += 1;
+            list.lock(rt).end(&mut producer);
         }
         (pass, answers)
     }
