@@ -19,7 +19,8 @@ chunk row 2: d1 p q d0
 chunk row 3: p q d0 d1
 ";
 
-// Three chunk rows are fewer than five slots. The last array is the largest.
+// Three chunk rows are fewer than five slots. The last array is the largest: its chunk rows were not worked out one by
+// one but written by the rule of the layout, each as the one before it moved on by a slot.
 const LAYOUTS: &[Case<'static>] = &[
     (WELL, FOUR_SLOTS, (FOUR_SLOTS_LAYOUT, "", 0)),
     (
