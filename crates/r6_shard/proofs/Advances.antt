@@ -1,10 +1,24 @@
 -- What a shard keeps it keeps along several calls.
-use Rattle.std.proofs.Common.{ℕ, Option}
+use Rattle.std.proofs.Common.{ℕ, Option, ◌∙◌}
 use Rattle.r6_dev.specs.History.{Telling}
 use Rattle.r6_dev.specs.Promises.{Promise}
 use Rattle.r6_shard.specs.declared.shard.Shard.{Shard}
+use Rattle.r6_shard.specs.Shards.{SameLedger}
 use Rattle.r6_shard.specs.Advances.{Advances}
-use Rattle.r6_shard.proofs.Lasting.{lasts_on}
+use Rattle.r6_shard.proofs.Lasting.{lasts_none, lasts_on}
+
+pub advances-none : {P : Type 0} (tells : P → ℕ → ℕ → Option Telling) (promised : P → ℕ → ℕ → Promise) (shard : Shard P)
+    → Advances tells promised shard shard
+advances-none tells promised shard =
+    record {
+      course = λ s ops z. z;
+      lasts = lasts_none shard.core;
+      remembers = λ z. z;
+      sound = λ shape number slot z. z;
+    }
+
+pub same-on : {P : Type 0} (old mid new : Shard P) → SameLedger old mid → SameLedger mid new → SameLedger old new
+same-on old mid new x y = record { asked = y.asked ∙ x.asked; entries = y.entries ∙ x.entries; room = y.room ∙ x.room }
 
 module _ {P : Type 0} (tells : P → ℕ → ℕ → Option Telling) (promised : P → ℕ → ℕ → Promise) (old mid new : Shard P) where
   pub advances-on : Advances tells promised old mid → Advances tells promised mid new → Advances tells promised old new

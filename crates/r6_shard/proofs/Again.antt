@@ -1,5 +1,5 @@
 -- A shard whose core and parts are as they were is the shard that it was.
-use Rattle.std.proofs.Common.{◌≡◌, ℕ, ◌+◌, ◌≤◌, length, subst, vec_capacity}
+use Rattle.std.proofs.Common.{◌≡◌, ◌+◌, ◌≤◌, length, subst, vec_capacity}
 use Rattle.std.proofs.Props.{props}
 use Rattle.r6_health.specs.Passes.{view_of}
 use Rattle.r6_core.specs.Shards.{CoreView}

@@ -1,5 +1,5 @@
 -- Requests that were handed in when all before them were answered.
-use Rattle.std.proofs.Common.{◌≡◌, ◌≢◌, ◌⊎◌, ℕ, ◌+◌, ◌<◌, ◌≤◌, zero, suc, List, [], ◌∷◌, ◌++◌, map, length, Bool, true, false, ◌||◌, eqb, inl, inr, refl, sym, ap, subst, ◌∙◌, arith, Option, Some, None, slice_get, option_map}
+use Rattle.std.proofs.Common.{◌≡◌, ◌≢◌, ◌⊎◌, ℕ, ◌+◌, ◌<◌, ◌≤◌, zero, suc, List, [], ◌∷◌, ◌++◌, map, length, Bool, true, false, ◌||◌, eqb, inl, inr, refl, sym, ap, subst, ◌∙◌, arith, Option, Some, slice_get, option_map}
 use Rattle.std.specs.List.{AllByRecursion, IsDistinct, list_any}
 use Rattle.std.proofs.lemmas.Bool.{cases_Bool}
 use Rattle.std.proofs.lemmas.Bool.Decides.{nat_tests}
@@ -8,16 +8,14 @@ use Rattle.std.proofs.lemmas.Map.Keys.{IsDistinct-cons}
 use Rattle.std.proofs.lemmas.Map.Steps.{length-le_from_distinct_below}
 use Rattle.std.proofs.lemmas.Option.{slice_get-map}
 use Rattle.r6_dev.specs.History.{Telling}
-use Rattle.r6_world.specs.PlainArray.{Op, Reply, ArrayFailed}
+use Rattle.r6_world.specs.PlainArray.{Op, Reply}
 use Rattle.r6_world.proofs.Tables.{Some-inj}
-use Rattle.r6_course.specs.Courses.{Start, Mark, Asked, Replied}
+use Rattle.r6_course.specs.Courses.{Mark, Asked, Replied}
 use Rattle.r6_course.specs.Ledgers.{IsIn, IsBefore, IsWellFormed}
-use Rattle.r6_course.proofs.Lists.{in-front, in-behind, in-either, before-more, before-across}
+use Rattle.r6_course.proofs.Lists.{in-front, in-either, before-more, before-across}
 use Rattle.r6_shard.specs.declared.ledger.Asked.{Asked as Accepted}
-use Rattle.r6_shard.specs.declared.shard.Shard.{Shard}
 use Rattle.r6_shard.specs.Histories.{asked_in, replied_in, answered_before, numbered}
-use Rattle.r6_shard.specs.Runs.{IsLedger}
-use Rattle.r6_shard.specs.Behind.{IsBehindAll, StandsBefore, BehindLaw}
+use Rattle.r6_shard.specs.Behind.{BehindLaw}
 
 -- ---- numbers, all of them below one another
 

@@ -1,5 +1,5 @@
 -- The thread's lists and its course go on together.
-use Rattle.std.proofs.Common.{◌≡◌, ℕ, ◌+◌, ◌<◌, inl, inr, Bool, true, false, List, [], ◌∷◌, ◌++◌, length, map, get_or, get_or-set_other, refl, sym, ap, subst, ◌∙◌, arith, Option, Some, None, Result, Ok, Err, IfOk, IfErr}
+use Rattle.std.proofs.Common.{◌≡◌, ℕ, ◌+◌, ◌<◌, inl, inr, Bool, true, false, List, [], ◌∷◌, ◌++◌, length, map, get_or-set_other, refl, sym, ap, subst, ◌∙◌, arith, Option, Result, Ok, Err, IfOk, IfErr}
 use Rattle.std.specs.Prelude.{MatchResult, slice_index_or, slice_set, is_err}
 use Rattle.std.proofs.lemmas.Bool.{cases_eq, false≢true, true≢false}
 use Rattle.std.proofs.lemmas.List.{length-map, map-append, get_or_append_left, length-append}

@@ -3,15 +3,19 @@ use Rattle.std.proofs.Common.{◌≡◌, ℕ, ◌+◌, ◌<◌, ◌≤◌, ◌�
 use Rattle.std.specs.Prelude.{slice_index_or, slice_set, is_err}
 use Rattle.std.proofs.lemmas.Bool.{cases_eq}
 use Rattle.std.proofs.lemmas.List.{length-set}
+use Rattle.r6_layout.specs.Shape.{Shape}
 use Rattle.r6_world.specs.PlainArray.{Op}
 use Rattle.r6_world.specs.Layouts.{Layout}
+use Rattle.r6_world.specs.Geometries.{layout_of}
 use Rattle.r6_world.specs.Registers.{Snapshot, Told as Answer}
 use Rattle.r6_world.specs.ShardStates.{Shard, Command, LossOf, Call}
 use Rattle.r6_world.specs.Changes.{Hand_call, Hear}
 use Rattle.r6_world.specs.Steps as steps
 use Rattle.r6_world.specs.Steps.{Event, Submit, Deliver, Completion, Good, Error, Receipt, Taken, Late, Take_command, No_command, Take_call, No_call, Told}
 use Rattle.r6_world.specs.Refusals.{IsToTell, IsNoError, IsNoLook}
+use Rattle.r6_world.specs.Worlds.{shard_at_start}
 use Rattle.r6_world.proofs.Changes.{Keeps, step-kept}
+use Rattle.r6_world.proofs.Tables.{None-not_Some}
 use Rattle.r6_world.proofs.Refused.Refusals.{only_errors_declare}
 use Rattle.r6_core.specs.declared.refusal.DeviceFault.{DeviceFault}
 use Rattle.r6_core.specs.declared.refusal.Receipt.{Receipt as CoreReceipt}
@@ -22,14 +26,33 @@ use Rattle.r6_core.specs.declared.turn.Task.{Task}
 use Rattle.r6_core.specs.declared.turn.Task.TheVariants as task
 use Rattle.r6_core.specs.declared.turn.Turn.{Turn}
 use Rattle.r6_core.specs.declared.turn.Turn.TheVariants.{Started, Skipped}
-use Rattle.r6_core.specs.Effects.{TakesTurn}
+use Rattle.r6_core.specs.Effects.{IsMade, TakesTurn}
 use Rattle.r6_course.specs.Courses.{Start, Stand, Mark, marked, looked_by}
 use Rattle.r6_course.specs.Steps.{IsPlainCall}
 use Rattle.r6_course.proofs.Ends.{loss_law}
 use Rattle.r6_world.specs.Counting.{passes}
 use Rattle.r6_shard.specs.Counted.{rows_of}
-use Rattle.r6_shard.specs.Kept.{NoneIsUntold, AreNamed, named_by, IsKept}
+use Rattle.r6_shard.specs.Kept.{AreNumbered, NoneIsTaken, NoneIsUntold, AreNamed, named_by, IsKept}
 use Rattle.r6_shard.proofs.Steps.{still-numbered, one-more, IsBeside, still-untaken, answered-untaken}
+
+-- ---- the start
+
+none-to-tell : (l : Layout) (snapshot : Snapshot) (n : ℕ) (call : Call) → IsToTell (shard_at_start l snapshot n) call → ⊥
+none-to-tell l snapshot n call (inl none) = none
+none-to-tell l snapshot n call (inr e) = None-not_Some _ e
+
+pub kept-at-first : (shape : Shape) (snapshot : Snapshot) (number : ℕ) (core : CoreView) (named : List Bool) (count : ℕ)
+    → shape.slots ≤ 32 → count ≡ 0 → length named ≡ 32 → IsMade shape snapshot number core → IsKept core number named count
+kept-at-first shape snapshot number core named count few none long made =
+    let start = sym made.start in (
+      sym made.number,
+      subst (λ (y : Shape). y.slots ≤ 32) (sym made.geometry) few,
+      subst (λ (s : Shard). AreNumbered s count) start (sym none, λ id request e. absurd (None-not_Some _ e)),
+      subst NoneIsTaken start (λ token c e. absurd (None-not_Some _ e)),
+      subst NoneIsUntold start refl,
+      subst (λ (s : Shard). AreNamed s named) start (λ slot generation told. absurd (none-to-tell (layout_of shape) snapshot number _ told)),
+      long,
+    )
 
 -- ---- calls at the register
 

@@ -49,6 +49,9 @@ lasts_same old new same =
 pub lasts_still : (core : CoreView) → Lasts core core
 lasts_still core = lasts_same core core refl
 
+pub lasts_none : (core : CoreView) → Lasts core core
+lasts_none core = record { same = (refl, refl); failure = λ saw. saw; tokens = omega arith; accepted = omega arith }
+
 pub lasts_on : (old mid new : CoreView) → Lasts old mid → Lasts mid new → Lasts old new
 lasts_on old mid new x y =
     record {

@@ -1,5 +1,5 @@
 -- Sound slots stay sound.
-use Rattle.std.proofs.Common.{◌≡◌, ◌≢◌, ℕ, zero, suc, ◌<◌, ◌⊎◌, List, [], ◌∷◌, length, get_or, Bool, true, false, inl, inr, refl, sym, ap, subst, ◌∙◌, arith, get_or-set_other, Option, Some, None, Result, Ok, Err, replicate}
+use Rattle.std.proofs.Common.{◌≡◌, ℕ, zero, suc, ◌<◌, ◌⊎◌, List, length, Bool, true, false, inl, inr, refl, sym, ap, subst, ◌∙◌, get_or-set_other, Option, Some, None, Result, Ok, Err, replicate}
 use Rattle.std.specs.Prelude.{◌==◌, ◌||◌, slice_index_or, slice_set, is_err, IsOk, MatchResult}
 use Rattle.std.specs.List.{All}
 use Rattle.std.proofs.lemmas.Bool.{cases_eq, true≢false, false≢true}
@@ -13,10 +13,10 @@ use Rattle.r6_world.specs.Registers.{Snapshot, ShardSet, Status, InSync, Lost, R
 use Rattle.r6_world.specs.Tasks.{Task, Hold, Outcome, ReadFor, WriteFor, Rebuild, Check, Repair, Answered, Wrote, Rebuilt, GivenUp, Classed, Skipped}
 use Rattle.r6_world.specs.ShardStates as world
 use Rattle.r6_world.specs.ShardStates.{Command, SlotState, Synced, Missing, Building, InSyncFor, Fetch, Store, handed}
-use Rattle.r6_world.specs.Changes.{Change, Ask, Send, Read_direct, Give_direct, Learn, Confirm, Come_home, Lose, Adopt, See_failed, Finish, Bring_in, Hand_command, IsTarget, abandoned_if, abandoned_to, adopted, slots_after, with_row, after}
+use Rattle.r6_world.specs.Changes.{Ask, Send, Read_direct, Give_direct, Learn, Confirm, Come_home, Lose, Adopt, See_failed, Finish, Bring_in, Hand_command, IsTarget, abandoned_if, abandoned_to, adopted, slots_after, with_row}
 use Rattle.r6_world.specs.Steps as steps
 use Rattle.r6_world.specs.Steps.{Event, Look, Deliver, Take_command, Completion, Receipt}
-use Rattle.r6_world.specs.Worlds.{slot_at_start, shard_at_start}
+use Rattle.r6_world.specs.Worlds.{slot_at_start}
 use Rattle.r6_world.proofs.Tables.{put-cases, Some-inj, not_both, None-not_Some}
 use Rattle.r6_world.specs.Refusals.{IsNoLook}
 use Rattle.r6_world.proofs.Changes.{Keeps, step-kept}
@@ -28,12 +28,10 @@ use Rattle.r6_core.specs.declared.refusal.DeviceFault.{DeviceFault}
 use Rattle.r6_core.specs.declared.refusal.Receipt.{Receipt as CoreReceipt}
 use Rattle.r6_core.specs.declared.refusal.Receipt.TheVariants as core-receipt
 use Rattle.r6_core.specs.Effects.{IsMade, IsCommandOf}
-use Rattle.r6_core.specs.Shards.{CoreView, Step, core_layout, world_shard, completion_of, receipt_of}
-use Rattle.r6_shard.specs.declared.parts.Part.{Part}
-use Rattle.r6_shard.specs.declared.shard.Shard.{Shard}
+use Rattle.r6_core.specs.Shards.{CoreView, Step, world_shard, completion_of, receipt_of}
 use Rattle.r6_shard.specs.Kept.{named_by}
 use Rattle.r6_shard.specs.Performing.{Performed, Failed, ArePromised}
-use Rattle.r6_shard.specs.Sound.{UsesOnly, HasPart, PartsFailNone, IsSound, BeginsSound, HasNew}
+use Rattle.r6_shard.specs.Sound.{UsesOnly, HasPart, IsSound, BeginsSound, HasNew}
 
 -- ---- each small change
 

@@ -1,7 +1,7 @@
 -- A shard that loses no slot and sees none out skips no row.
-use Rattle.std.proofs.Common.{◌≡◌, ℕ, ◌<◌, ◌⊎◌, List, length, Bool, true, false, inl, inr, refl, sym, ap, subst, ◌∙◌, arith, get_or-set_same, Option, Some, None, Result, Ok, Err}
+use Rattle.std.proofs.Common.{◌≡◌, ℕ, ◌<◌, List, length, Bool, true, false, inl, inr, refl, sym, ap, subst, ◌∙◌, arith, get_or-set_same, Option, Some, None, Result, Ok, Err}
 use Rattle.std.specs.Prelude.{◌≤◌, slice_index_or, slice_set, is_err}
-use Rattle.std.proofs.lemmas.Bool.{cases_Bool, cases_eq, true≢false, false≢true}
+use Rattle.std.proofs.lemmas.Bool.{true≢false, false≢true}
 use Rattle.r6_layout.specs.Shape.{Shape}
 use Rattle.r6_recover.specs.declared.class.RowClass.{RowClass}
 use Rattle.r6_recover.specs.declared.class.RowClass.TheVariants.{Consistent, WrongP, WrongQ, WrongData, Many}
@@ -20,10 +20,10 @@ use Rattle.r6_world.specs.Registers.{Snapshot, Status, InSync, Lost, Rebuilding,
 use Rattle.r6_world.specs.Tasks.{Task, Hold, Outcome, ReadFor, WriteFor, Rebuild, Check, Repair, Answered, Wrote, Rebuilt, GivenUp, Classed, Skipped, kind_of}
 use Rattle.r6_world.specs.ShardStates as world
 use Rattle.r6_world.specs.ShardStates.{SlotState, Synced, Missing, Building, InSyncFor, Counts, is_away, begun}
-use Rattle.r6_world.specs.Changes.{Change, Start, Ask, Prepare, Classify, Send, Learn, Confirm, Lose, Adopt, See_failed, Finish, Bring_in, Skip_turn, IsWorkedOut, Ends, counted, with_class, with_repair, differs, slots_after, with_row, after}
+use Rattle.r6_world.specs.Changes.{Start, Ask, Prepare, Classify, Send, Learn, Confirm, Lose, Adopt, See_failed, Finish, Bring_in, Skip_turn, IsWorkedOut, Ends, counted, with_class, with_repair, differs, slots_after, with_row, after}
 use Rattle.r6_world.specs.Steps as steps
 use Rattle.r6_world.specs.Steps.{Event, Look, Deliver, Take_command, Error, Taken, Late}
-use Rattle.r6_world.specs.Worlds.{slot_at_start, shard_at_start}
+use Rattle.r6_world.specs.Worlds.{slot_at_start}
 use Rattle.r6_world.proofs.Tables.{put-cases, Some-inj, not_both, None-not_Some}
 use Rattle.r6_world.proofs.Changes.{Keeps, step-kept}
 use Rattle.r6_core.specs.declared.refusal.DeviceFault.{DeviceFault}

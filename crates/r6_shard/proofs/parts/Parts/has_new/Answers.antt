@@ -1,4 +1,4 @@
-use Rattle.std.proofs.Common.{◌≡◌, sym, subst, ◌∙◌}
+use Rattle.std.proofs.Common.{sym, subst, ◌∙◌}
 use Rattle.r6_shard.specs.Parts.{part_in}
 use Rattle.r6_shard.specs.Sound.{HasPart}
 use Rattle.r6_shard.proofs.Promises.{here-part, same-new}

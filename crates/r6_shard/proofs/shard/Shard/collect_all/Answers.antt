@@ -1,9 +1,22 @@
-use Rattle.std.proofs.Common.{◌∙◌, sym, subst}
+use Rattle.std.proofs.Common.{◌∙◌, refl, sym, subst}
 use Rattle.r6_shard.specs.Counted.{HasPassedRows}
 use Rattle.r6_shard.specs.Advances.{Advances}
-use Rattle.r6_shard.proofs.Advances.{advances-on}
+use Rattle.r6_shard.proofs.Advances.{advances-none, advances-on}
 use Rattle.r6_shard.proofs.shard.Shard.collect_all.Goals as goal
 use Rattle.r6_shard.proofs.shard.Shard.collect_all.Goals.{in-None, in-Some+then-not-collect}
+
+pub loop-init : goal.loop-init
+loop-init g c = (
+  tt,
+  tt,
+  record {
+    advances = advances-none g.P.Performs.tells g.P.Performs.promised c.args.self.now;
+    passed = λ stopped counted rows x. x;
+    asked = refl;
+    room = refl;
+    pass = refl;
+  },
+)
 
 pub loop-preserved : goal.loop-preserved
 loop-preserved g c =

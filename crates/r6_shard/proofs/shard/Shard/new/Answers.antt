@@ -1,15 +1,21 @@
-use Rattle.std.proofs.Common.{[], false, replicate, refl, sym, subst, arith}
+use Rattle.std.proofs.Common.{[], false, length, replicate, refl, sym, ap, subst, arith}
 use Rattle.std.proofs.lemmas.List.Elements.{All-nil}
 use Rattle.r6_health.specs.Passes.{view_of}
 use Rattle.r6_shard.specs.Beginnings.{start_of}
 use Rattle.r6_shard.specs.Courses.{HasCourse}
 use Rattle.r6_shard.proofs.Beginnings.{begun}
 use Rattle.r6_shard.proofs.Counting.{none-passed}
+use Rattle.r6_shard.proofs.Keeping.{kept-at-first}
 use Rattle.r6_shard.proofs.Own.{failure-at-first}
 use Rattle.r6_shard.proofs.Sound.{sound-begun, none-named}
 use Rattle.r6_shard.specs.Whole.{AreAllInSync}
 use Rattle.r6_shard.proofs.Whole.{skips-at-first}
 use Rattle.r6_shard.proofs.shard.Shard.new.Goals as goal
+
+pub invariant_of-result-clause-kept : goal.invariant_of-result-clause-kept
+invariant_of-result-clause-kept g c =
+    kept-at-first c.args.place.geometry c.args.snapshot.now c.args.place.number c.in-Ok.core (replicate 32 false) _
+    c.requires.limits.slots_allowed.1 (ap length c.in_ok-asked.ensures.items) refl c.in-Ok.ensures.made
 
 pub invariant_of-result-clause-own : goal.invariant_of-result-clause-own
 invariant_of-result-clause-own g c = rw c.requires.pass.mine (All-nil _)

@@ -1,9 +1,22 @@
-use Rattle.std.proofs.Common.{◌∙◌, sym, subst}
+use Rattle.std.proofs.Common.{◌∙◌, refl, sym, subst}
 use Rattle.r6_shard.specs.Counted.{HasPassedRows}
 use Rattle.r6_shard.specs.Advances.{Advances}
-use Rattle.r6_shard.proofs.Advances.{advances-on}
+use Rattle.r6_shard.specs.Shards.{SameLedger}
+use Rattle.r6_shard.proofs.Advances.{advances-none, advances-on, same-on}
 use Rattle.r6_shard.proofs.shard.Shard.perform_all.Goals as goal
 use Rattle.r6_shard.proofs.shard.Shard.perform_all.Goals.{in-None, in-Some+then-not-perform_next}
+
+pub loop-init : goal.loop-init
+loop-init g c = (
+  tt,
+  tt,
+  record {
+    advances = advances-none g.P.Performs.tells g.P.Performs.promised c.args.self.now;
+    passed = λ stopped counted rows x. x;
+    ledger = record { asked = refl; entries = refl; room = refl };
+    pass = refl;
+  },
+)
 
 pub loop-preserved : goal.loop-preserved
 loop-preserved g c =
@@ -14,11 +27,7 @@ loop-preserved g c =
       record {
         advances = advances-on g.P.Performs.tells g.P.Performs.promised c.args.self.now c.loop.self c.perform_next.new.self before.advances now.advances;
         passed = λ stopped counted rows x. now.passed stopped counted rows (before.passed stopped counted rows x);
-        ledger = record {
-          asked = now.ledger.asked ∙ before.ledger.asked;
-          entries = now.ledger.entries ∙ before.ledger.entries;
-          room = now.ledger.room ∙ before.ledger.room;
-        };
+        ledger = same-on c.args.self.now c.loop.self c.perform_next.new.self before.ledger now.ledger;
         pass = now.pass ∙ before.pass;
       },
     )
@@ -42,4 +51,14 @@ returns-clause-advances g c =
       | in-Some+then-not-perform_next w ↦
           subst (Advances tells promised old) (sym w.self-is)
           (advances-on tells promised old c.loop.self w.perform_next.new.self before w.perform_next.ensures.advances)
+    ]
+
+pub returns-clause-ledger : goal.returns-clause-ledger
+returns-clause-ledger g c =
+    let before = c.loop.invariant.2.ledger in
+    elim c.match-next.branch [
+      | in-None w ↦ subst (SameLedger c.args.self.now) (sym w.self-is) before
+      | in-Some+then-not-perform_next w ↦
+          subst (SameLedger c.args.self.now) (sym w.self-is)
+          (same-on c.args.self.now c.loop.self w.perform_next.new.self before w.perform_next.ensures.ledger)
     ]
