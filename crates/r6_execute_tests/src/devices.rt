@@ -135,8 +135,7 @@ const COURSES: &[Course<'static>] = &[
 
 #[test]
 fn commands_take_their_courses_over_files(rt: HostRuntime) {
-    play_all(&rt, &rt, COURSES);
-    play_all(&rt, &rt, served::COURSES);
+    play_all(&rt, &rt, &[COURSES, served::COURSES]);
 }
 
 // Settings without files, and such that lack an integer.

@@ -1,6 +1,6 @@
 //! Courses of commands over the files of an array of four slots.
 
-use crate::runs::{Ended, How, Parts, WELL, is_so, lines_end_so};
+use crate::runs::{Ended, How, Parts, WELL, is_so, parts_of_one};
 use r6_command::Invocation;
 use std::fmt::Write;
 use std::io::Seek;
@@ -43,8 +43,6 @@ pub(crate) enum Step<'a> {
     VerifyOn(How, Ended<'a>),
     /// Likewise `run` with a script, in which `@` stands for the path of the spare file, twice at the most.
     Run(&'a str, Ended<'a>),
-    /// Likewise `run` with each of these lines, between which a bar stands, as the fourth of its script.
-    RunLines(&'a [&'a str], Ended<'a>),
     /// A byte of a file is set.
     Set(usize, u64, u8),
     /// A file gets these bytes and no others.
@@ -90,14 +88,16 @@ fn settings_of(rt: &HostRuntime, course: &Course<'_>) -> String {
     text
 }
 
-/// Each course has to go as its steps say.
+/// Each course of these tables has to go as its steps say.
 pub(crate) fn play_all<
     F: FileExt + Seek + Drop + Send,
     R: Abort + Wait + Threads + Files<File = F> + Sync,
->(rt: &HostRuntime, waits: &R, courses: &[Course<'_>]) {
-    for course in courses {
-        let settings = settings_of(rt, course);
-        play(rt, waits, course, settings.as_bytes());
+>(rt: &HostRuntime, waits: &R, tables: &[&[Course<'_>]]) {
+    for courses in tables {
+        for course in *courses {
+            let settings = settings_of(rt, course);
+            play(rt, waits, course, settings.as_bytes());
+        }
     }
 }
 
@@ -116,46 +116,47 @@ fn play<F: FileExt + Seek + Drop + Send, R: Abort + Wait + Threads + Files<File 
     }
 }
 
-fn is_done<F: FileExt + Seek + Drop + Send, R: Abort + Wait + Threads + Files<File = F> + Sync>(
+fn is_done<F: FileExt + Seek + Drop + Send, R: Wait + Threads + Files<File = F> + Sync>(
     rt: &HostRuntime,
     waits: &R,
     name: &str,
     settings: &[u8],
     step: &Step<'_>,
 ) -> bool {
-    let texts: Parts<'_> = [settings, b"", b"", b"", b""];
-    let both = (&texts, &texts);
-    match step {
-        Step::Create(wanted) => is_so(waits, rt.alloc(), &CREATE, both, &WELL, wanted),
-        Step::Verify(wanted) => is_so(waits, rt.alloc(), &VERIFY, both, &WELL, wanted),
-        Step::VerifyOn(how, wanted) => is_so(waits, rt.alloc(), &VERIFY, both, how, wanted),
-        Step::Run(script, wanted) => is_run(rt, waits, name, &texts, script, wanted),
-        Step::RunLines(lines, wanted) => {
-            let around = ("wait\n# one\n\n", "\nread\n");
-            lines_end_so(waits, rt.alloc(), &RUN, &texts, around, lines, wanted);
-            true
-        }
-        step => is_filed(rt, name, step),
-    }
-}
-
-fn is_run<F: FileExt + Seek + Drop + Send, R: Wait + Threads + Files<File = F> + Sync>(
-    rt: &HostRuntime,
-    waits: &R,
-    name: &str,
-    settings: &Parts<'_>,
-    script: &str,
-    wanted: &Ended<'_>,
-) -> bool {
+    let Some((invocation, script, how, wanted)) = command_of(step) else {
+        return is_filed(rt, name, step);
+    };
     let path = path_of(rt, name, SPARE);
     let script = parts_of(script, path.as_str());
-    is_so(waits, rt.alloc(), &RUN, (settings, &script), &WELL, wanted)
+    let settings = parts_of_one(settings);
+    is_so(
+        waits,
+        rt.alloc(),
+        invocation,
+        (&settings, &script),
+        how,
+        wanted,
+    )
+}
+
+/// A command with its script, how its outputs serve, and how it has to end.
+type Command<'a> = (&'a Invocation<'static>, &'a str, &'a How, &'a Ended<'a>);
+
+/// The command of a step, if it has one.
+fn command_of<'a>(step: &'a Step<'a>) -> Option<Command<'a>> {
+    match step {
+        Step::Create(wanted) => Some((&CREATE, "", &WELL, wanted)),
+        Step::Verify(wanted) => Some((&VERIFY, "", &WELL, wanted)),
+        Step::VerifyOn(how, wanted) => Some((&VERIFY, "", how, wanted)),
+        Step::Run(script, wanted) => Some((&RUN, *script, &WELL, wanted)),
+        _ => None,
+    }
 }
 
 fn parts_of<'a>(script: &'a str, path: &'a str) -> Parts<'a> {
     let path = path.as_bytes();
     let Some((first, rest)) = script.split_once('@') else {
-        return [script.as_bytes(), b"", b"", b"", b""];
+        return parts_of_one(script.as_bytes());
     };
     match rest.split_once('@') {
         Some((second, third)) => [
@@ -164,8 +165,9 @@ fn parts_of<'a>(script: &'a str, path: &'a str) -> Parts<'a> {
             second.as_bytes(),
             path,
             third.as_bytes(),
+            b"",
         ],
-        None => [first.as_bytes(), path, rest.as_bytes(), b"", b""],
+        None => [first.as_bytes(), path, rest.as_bytes(), b"", b"", b""],
     }
 }
 

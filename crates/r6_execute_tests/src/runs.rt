@@ -13,8 +13,8 @@ use std::thread::Threads;
 /// What a command prints, what it says of a fault, and its status.
 pub(crate) type Ended<'a> = (&'a str, &'a str, u8);
 
-/// The parts of a text, which a reader hands out one after another.
-pub(crate) type Parts<'a> = [&'a [u8]; 5];
+/// The parts of a text, which a reader hands out one after another. The last has room for the end.
+pub(crate) type Parts<'a> = [&'a [u8]; 6];
 
 /// How a command's files and outputs serve.
 #[derive(Clone, Copy)]
@@ -35,29 +35,24 @@ pub(crate) const WELL: How = How {
     is_terminal: false,
 };
 
-/// A reader that hands out its parts and its end, and then may fail.
+/// The parts of a text in one piece.
+pub(crate) fn parts_of_one<'a>(text: &'a [u8]) -> Parts<'a> {
+    [text, b"", b"", b"", b"", b""]
+}
+
+/// A reader that hands out its parts, and then may fail.
 #[derive(Drop)]
 struct Text<'a> {
     parts: Parts<'a>,
-    end: &'static [u8],
     fails: Option<ErrorKind>,
 }
 
 impl Read for Text<'_> {
     fn read(&mut self, buf: &mut [u8]) -> io::Result<usize> {
-        for index in 0..5usize {
-            let mut part = self.parts[index];
+        for part in &mut self.parts {
             if !part.is_empty() {
-                let count = part.read(buf)?;
-                self.parts[index] = part;
-                return Ok(count);
+                return part.read(buf);
             }
-        }
-        if !self.end.is_empty() {
-            let mut end = self.end;
-            let count = end.read(buf)?;
-            self.end = end;
-            return Ok(count);
         }
         match self.fails {
             Some(kind) => Err(io::Error::from(kind)),
@@ -124,9 +119,10 @@ fn is_taken(room: &Room, wanted: &str) -> bool {
 }
 
 fn text_of<'a>(parts: &Parts<'a>, how: &How) -> Text<'a> {
+    let mut parts = *parts;
+    parts[5] = how.end;
     Text {
-        parts: *parts,
-        end: how.end,
+        parts,
         fails: how.fails,
     }
 }
@@ -156,7 +152,7 @@ pub(crate) fn end_so<
     R: Abort + Wait + Threads + Files<File = F> + Sync,
 >(rt: &R, alloc: Global, invocation: &Invocation<'_>, cases: &[Case<'_>]) {
     for (index, (how, text, wanted)) in cases.iter().enumerate() {
-        let parts = [text.as_bytes(), b"", b"", b"", b""];
+        let parts = parts_of_one(text.as_bytes());
         assert!(rt;
             is_so(rt, alloc, invocation, (&parts, &parts), how, wanted),
             "case {index}: {text}"
@@ -184,6 +180,7 @@ pub(crate) fn lines_end_so<
                 before.as_bytes(),
                 line.as_bytes(),
                 behind.as_bytes(),
+                b"",
                 b"",
                 b"",
             ];

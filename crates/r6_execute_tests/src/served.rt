@@ -1,7 +1,8 @@
 //! The command `run`, on files.
 
 use crate::devices::CONSISTENT;
-use crate::files::{CREATED, Course, FOUR_ROWS, SPARE, Step};
+use crate::files::{CREATED, Course, FOUR_ROWS, RUN, SPARE, Step};
+use crate::runs::{lines_end_so, parts_of_one};
 
 const WRITTEN: &str = "0 done
 1 data 5a
@@ -151,19 +152,29 @@ state good
             Step::RemoveAll,
         ],
     },
-    // Each line that isn't in the grammar.
-    Course {
-        name: "the-first-line-that-is-no-event-is-named",
-        integers: FOUR_ROWS,
-        more: "",
-        steps: &[Step::RunLines(
-            &[
-                "read|read |read 00|read 0 0|read +1|read 18446744073709551616",
-                "write 0|write 0 5A|write 0 5a |write  0 5a|write 01 5a|write 0 5",
-                "wait | wait|Wait|waits|fail|fail x|fail 01|attach 1|attach 1 |attach x y|attach 01 y",
-                "check 1|checks|repair 0|array 4 1 16 4 1|look 0",
-            ],
-            ("", "script: line 4\n", 3),
-        )],
-    },
 ];
+
+const SETTINGS: &[u8] = b"slots = 4
+chunk = 1
+block = 16
+rows = 4
+shards = 1
+devices = ['no-0', 'no-1', 'no-2', 'no-3']
+";
+
+// Each line that isn't in the grammar, as the fourth of a script. A bar stands between two of them.
+const LINES: &[&str] = &[
+    "read|read |read 00|read 0 0|read +1|read 18446744073709551616",
+    "write 0|write 0 5A|write 0 5a |write  0 5a|write 01 5a|write 0 5",
+    "wait | wait|Wait|waits|fail|fail x|fail 01|attach 1|attach 1 |attach x y|attach 01 y",
+    "check 1|checks|repair 0|array 4 1 16 4 1|look 0",
+];
+
+// No device is opened before.
+#[test]
+fn the_first_line_that_is_no_event_is_named(rt: HostRuntime) {
+    let wanted = ("", "script: line 4\n", 3);
+    let around = ("wait\n# one\n\n", "\nread\n");
+    let settings = parts_of_one(SETTINGS);
+    lines_end_so(&rt, rt.alloc(), &RUN, &settings, around, LINES, &wanted);
+}

@@ -1,6 +1,6 @@
 //! The command `simulate`.
 
-use crate::runs::{Case, How, WELL, end_so, lines_end_so};
+use crate::runs::{Case, How, WELL, end_so, lines_end_so, parts_of_one};
 use crate::transcripts::SIMULATE;
 use std::io::ErrorKind;
 
@@ -81,7 +81,7 @@ fn lines_out_of_the_grammar_are_refused(rt: HostRuntime) {
         &rt,
         rt.alloc(),
         &SIMULATE,
-        &[b""; 5],
+        &parts_of_one(b""),
         around,
         LINES,
         &wanted,

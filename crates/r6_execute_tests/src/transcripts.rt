@@ -1,6 +1,6 @@
 //! Transcripts of the command `simulate`: events, and what each of them prints.
 
-use crate::runs::{WELL, is_so};
+use crate::runs::{WELL, is_so, parts_of_one};
 use crate::{simulate_losses as losses, simulate_requests as requests, simulate_turns as turns};
 use r6_command::Invocation;
 use std::alloc::Global;
@@ -29,13 +29,21 @@ fn play_all<F: FileExt + Seek + Drop + Send, R: Abort + Wait + Threads + Files<F
     }
 }
 
-/// A line of which there is no memory is missing, so that the script isn't played as its transcript says.
 fn is_played<F: FileExt + Seek + Drop + Send, R: Wait + Threads + Files<File = F> + Sync>(
     rt: &R,
     alloc: Global,
     transcript: &str,
 ) -> bool {
     let (status, events) = transcript.split_once('\n').unwrap_or(("", ""));
+    let (script, lines) = columns_of(alloc, events);
+    let script = parts_of_one(script.as_bytes());
+    let wanted = (lines.as_str(), "", u8::from(status != "0"));
+    is_so(rt, alloc, &SIMULATE, (&script, &script), &WELL, &wanted)
+}
+
+/// The events, and what they print. A line of which there is no memory is missing, so that the script isn't played as
+/// its transcript says.
+fn columns_of(alloc: Global, events: &str) -> (String, String) {
     let (mut script, mut lines) = (String::new(alloc), String::new(alloc));
     for line in events.lines() {
         let (event, printed) = line.split_once(" -> ").unwrap_or((line, ""));
@@ -44,9 +52,7 @@ fn is_played<F: FileExt + Seek + Drop + Send, R: Wait + Threads + Files<File = F
             let _ = writeln!(lines, "{printed}");
         }
     }
-    let script = [script.as_bytes(), b"", b"", b"", b""];
-    let wanted = (lines.as_str(), "", u8::from(status != "0"));
-    is_so(rt, alloc, &SIMULATE, (&script, &script), &WELL, &wanted)
+    (script, lines)
 }
 
 #[test]
