@@ -1,26 +1,21 @@
 //! A core over devices in memory, which does one step at a time.
 
+use crate::devices::{BLOCK, byte_of, devices_of, fail, fill, filled, perform, stored};
 use r6_core::{
-    Call, Command, CommandKind, Core, Counts, DeviceFault, FaultKind, Op, OpId, Receipt, Refused,
-    Reply, Task, Turn,
+    Call, Command, Core, Counts, DeviceFault, FaultKind, Op, OpId, Receipt, Refused, Reply, Task,
+    Turn,
 };
-use r6_dev::{BlockDevice, MemoryDevice};
+use r6_dev::MemoryDevice;
 use r6_health::{
     Answer as RegisterAnswer, Call as RegisterCall, Refusal as RegisterRefusal, Snapshot,
 };
 use r6_kernels::Buffer;
 use r6_layout::Geometry;
-use std::alloc::{AllocError, Global};
+use std::alloc::Global;
 use std::process::Abort;
 
 /// Four slots, which each array here has.
 const SLOTS: usize = 4;
-
-/// The bytes of a block.
-const BLOCK: usize = 16;
-
-/// What no block has throughout.
-const MIXED: u16 = 0x100;
 
 /// A token that no command has here.
 pub(crate) const NO_TOKEN: u64 = 999;
@@ -168,41 +163,12 @@ pub(crate) struct Course<'a> {
 /// The core of shard 0 over devices in memory, beside what the register holds.
 #[derive(Drop)]
 pub(crate) struct Bench {
-    pub(crate) alloc: Global,
-    pub(crate) core: Core,
-    pub(crate) devices: Vec<MemoryDevice>,
+    alloc: Global,
+    core: Core,
+    devices: Vec<MemoryDevice>,
     rows: u64,
     register: Snapshot,
     taken: Vec<Command>,
-}
-
-/// A block with one byte throughout. Where memory is wanting it is empty, and what it is for goes wrong.
-pub(crate) fn filled(alloc: Global, len: usize, byte: u8) -> Buffer {
-    let Ok(bytes) = vec![in alloc; byte; len] else {
-        return Buffer::empty(alloc);
-    };
-    let Ok(mut block) = Buffer::new(alloc, len) else {
-        return Buffer::empty(alloc);
-    };
-    block.copy_from_slice(bytes.as_slice());
-    block
-}
-
-/// The byte that a block has throughout.
-pub(crate) fn byte_of(block: &Buffer) -> u16 {
-    match block.as_slice().first() {
-        Some(byte) if block.as_slice() == [*byte; BLOCK].as_slice() => u16::from(*byte),
-        _ => MIXED,
-    }
-}
-
-/// The devices of an array, of zeros.
-fn devices_of(alloc: Global, rows: u64) -> Result<Vec<MemoryDevice>, AllocError> {
-    let mut devices = Vec::new(alloc);
-    for _ in 0..SLOTS {
-        devices.push(MemoryDevice::new(alloc, 0..rows, BLOCK)?)?;
-    }
-    Ok(devices)
 }
 
 /// Whether an answer is this one.
@@ -224,24 +190,52 @@ fn request_at(requests: &Requests, index: u64) -> (u64, Option<u8>) {
     }
 }
 
+/// What a register answers to a call.
+fn told(register: &mut Snapshot, call: RegisterCall) -> Told {
+    let (answer, next) = register.apply(SLOTS, 1, call)?;
+    *register = next;
+    Ok(answer)
+}
+
+fn change(register: &mut Snapshot, call: RegisterCall) -> Answer {
+    match told(register, call) {
+        Ok(RegisterAnswer::Generation(generation)) => Answer::Generation(Some(generation)),
+        Ok(_) => Answer::Lost,
+        Err(refusal) => Answer::Refused(refusal.number()),
+    }
+}
+
 /// The register of an array of four slots at whose start these slots are lost.
 fn register_without(geometry: &Geometry, lost: &[usize]) -> Snapshot {
     let mut register = Snapshot::start(geometry, 0);
     for slot in lost {
-        if let Ok((_, next)) = register.apply(SLOTS, 1, RegisterCall::Fail(*slot)) {
-            register = next;
-        }
+        change(&mut register, RegisterCall::Fail(*slot));
     }
     register
 }
 
-/// A core takes each course from its beginning on.
-pub(crate) fn play_all<R: Abort>(rt: &R, alloc: Global, courses: &[Course<'_>]) {
-    for course in courses {
-        match Bench::new(alloc, course) {
-            Some(mut bench) => bench.play(rt, course),
-            None => panic!(rt; "no start of {}", course.name),
+/// A core takes each course of these tables from its beginning on.
+pub(crate) fn play_all<R: Abort>(rt: &R, alloc: Global, tables: &[&[Course<'_>]]) {
+    for courses in tables {
+        for course in *courses {
+            play(rt, alloc, course);
         }
+    }
+}
+
+fn play<R: Abort>(rt: &R, alloc: Global, course: &Course<'_>) {
+    match wrong_step(alloc, course) {
+        Some(Some(step)) => panic!(rt; "step {step} of {}", course.name),
+        Some(None) => {}
+        None => panic!(rt; "no start of {}", course.name),
+    }
+}
+
+/// The first step of a course that is not answered as it has to be, if there is one. `None`: it can't begin.
+fn wrong_step(alloc: Global, course: &Course<'_>) -> Option<Option<usize>> {
+    match Bench::new(alloc, course) {
+        Some(mut bench) => Some(bench.wrong_step(course)),
+        None => None,
     }
 }
 
@@ -258,7 +252,7 @@ impl Bench {
         if !may_be || register.failed() || register.attaches() > 0 {
             return None;
         }
-        let Ok(devices) = devices_of(alloc, course.rows) else {
+        let Ok(devices) = devices_of(alloc, SLOTS, course.rows) else {
             return None;
         };
         let Ok(core) = Core::new(alloc, geometry, 0, window, &register) else {
@@ -274,15 +268,14 @@ impl Bench {
         })
     }
 
-    /// Takes the steps of a course: each has to answer so.
-    pub(crate) fn play<R: Abort>(&mut self, rt: &R, course: &Course<'_>) {
+    /// Takes the steps of a course, up to the first that does not answer so.
+    fn wrong_step(&mut self, course: &Course<'_>) -> Option<usize> {
         for (index, (step, answer)) in course.steps.iter().enumerate() {
-            assert!(rt;
-                is(&self.answer(step), answer),
-                "step {index} of {}",
-                course.name
-            );
+            if !is(&self.answer(step), answer) {
+                return Some(index);
+            }
         }
+        None
     }
 
     /// What a step answers. Where memory is wanting, that is wrong.
@@ -310,8 +303,8 @@ impl Bench {
             Step::TakeCall => self.take_call(),
             Step::Tell(slot, told) => self.tell(Call::DeclareLost(*slot, 0), *told),
             Step::TellAll => self.tell_all(),
-            Step::Lose(slot) => self.change(RegisterCall::Fail(*slot)),
-            Step::Attach(slot) => self.change(RegisterCall::Attach(*slot)),
+            Step::Lose(slot) => change(&mut self.register, RegisterCall::Fail(*slot)),
+            Step::Attach(slot) => change(&mut self.register, RegisterCall::Attach(*slot)),
             Step::Look => self.look(),
             Step::InSync(slot) => Answer::Generation(self.core.in_sync(*slot)),
             Step::Turn(task) => self.turn(*task),
@@ -320,8 +313,19 @@ impl Bench {
                 answer => answer,
             },
             Step::Counts => Answer::Counted(self.core.counts()),
-            Step::Spoil(slot, row, byte) => self.spoil(*slot, *row, *byte),
-            Step::Stored(slot, row) => self.stored(*slot, *row),
+            Step::Spoil(slot, row, byte) => {
+                if fill(self.alloc, &mut self.devices, *slot, *row, *byte) {
+                    Answer::Spoilt
+                } else {
+                    Answer::Wrong
+                }
+            }
+            Step::Stored(slot, row) => {
+                match stored(self.alloc, &mut self.devices, *slot, *row) {
+                    Some(byte) => Answer::Stored(byte),
+                    None => Answer::Wrong,
+                }
+            }
             _ => Answer::Wrong,
         }
     }
@@ -392,33 +396,12 @@ impl Bench {
     fn complete(&mut self, mut command: Command, is_good: bool) -> Answer {
         let kind = FaultKind::Gone;
         if is_good {
-            self.perform(&mut command);
+            perform(&mut self.devices, &mut command);
             self.deliver(command.token, Ok(command.buffer))
         } else {
-            self.fail(&mut command);
+            fail(&mut self.devices, self.rows, &mut command);
             let buffer = command.buffer;
             self.deliver(command.token, Err(DeviceFault { kind, buffer }))
-        }
-    }
-
-    fn perform(&mut self, command: &mut Command) {
-        if let Some(device) = self.devices.get_mut(command.slot) {
-            let _ = match command.kind {
-                CommandKind::Read => device.read(command.row, &mut command.buffer),
-                CommandKind::Write => device.write(command.row, &command.buffer),
-            };
-        }
-    }
-
-    /// The device of a command has other bytes from now on, and so has the command's buffer.
-    fn fail(&mut self, command: &mut Command) {
-        if command.buffer.len() == BLOCK {
-            command.buffer.copy_from_slice(&[0xee; BLOCK]);
-        }
-        if let Some(device) = self.devices.get_mut(command.slot) {
-            for row in 0..self.rows {
-                let _ = device.write(row, &command.buffer);
-            }
         }
     }
 
@@ -464,7 +447,7 @@ impl Bench {
     /// Whether the device of a command performs it. A slot may be lost before.
     fn is_good(&mut self, token: u64, trouble: &Trouble) -> bool {
         if token == trouble.at {
-            self.change(RegisterCall::Fail(trouble.slot));
+            change(&mut self.register, RegisterCall::Fail(trouble.slot));
             self.look();
         }
         let [first, second, third] = trouble.errors;
@@ -486,21 +469,6 @@ impl Bench {
         }
     }
 
-    /// What the register answers to a call.
-    fn call(&mut self, call: RegisterCall) -> Told {
-        let (answer, register) = self.register.apply(SLOTS, 1, call)?;
-        self.register = register;
-        Ok(answer)
-    }
-
-    fn change(&mut self, call: RegisterCall) -> Answer {
-        match self.call(call) {
-            Ok(RegisterAnswer::Generation(generation)) => Answer::Generation(Some(generation)),
-            Ok(_) => Answer::Lost,
-            Err(refusal) => Answer::Refused(refusal.number()),
-        }
-    }
-
     fn tell_all(&mut self) -> Answer {
         for count in 0..SLOTS {
             let Some(call) = self.core.take_call() else {
@@ -509,7 +477,10 @@ impl Bench {
             let Call::DeclareLost(slot, generation) = call else {
                 return Answer::Wrong;
             };
-            let told = self.call(RegisterCall::DeclareLost(slot, generation));
+            let told = told(
+                &mut self.register,
+                RegisterCall::DeclareLost(slot, generation),
+            );
             self.tell(call, told);
         }
         Answer::Wrong
@@ -526,28 +497,6 @@ impl Bench {
         match self.core.turn(task) {
             Ok(turn) => Answer::Turned(turn),
             Err(refusal) => Answer::Refused(refusal.number()),
-        }
-    }
-
-    fn spoil(&mut self, slot: usize, row: u64, byte: u8) -> Answer {
-        let block = filled(self.alloc, BLOCK, byte);
-        let Some(device) = self.devices.get_mut(slot) else {
-            return Answer::Wrong;
-        };
-        match device.write(row, &block) {
-            Ok(()) => Answer::Spoilt,
-            Err(_) => Answer::Wrong,
-        }
-    }
-
-    fn stored(&mut self, slot: usize, row: u64) -> Answer {
-        let mut block = filled(self.alloc, BLOCK, 0);
-        let Some(device) = self.devices.get_mut(slot) else {
-            return Answer::Wrong;
-        };
-        match device.read(row, &mut block) {
-            Ok(()) => Answer::Stored(byte_of(&block)),
-            Err(_) => Answer::Wrong,
         }
     }
 

@@ -1,8 +1,9 @@
 //! The runs of one core and of two through the loss of a device, and of two that rebuild.
 
-use crate::bench::{byte_of, filled};
+use crate::devices::{MIXED, byte_of, filled};
 use r6_core::Core;
 use r6_core_runs::{LostRow, read_beside_a_loss, read_through_a_loss, rebuild_in_two_shards};
+use r6_kernels::Buffer;
 use std::alloc::Global;
 
 fn lost_row(alloc: Global, other: u8, parity: u8, lost: u8) -> LostRow {
@@ -16,28 +17,33 @@ fn lost_row(alloc: Global, other: u8, parity: u8, lost: u8) -> LostRow {
 /// The byte that the block throughout has which the run reads. What calls this has nothing of what the run promises to
 /// look through. So are the other two below.
 fn read_through(alloc: Global, row: LostRow) -> Option<u16> {
-    let (_core, block) = read_through_a_loss(alloc, row.lost, row.other, row.parity)?;
-    Some(byte_of(&block))
+    let ran = read_through_a_loss(alloc, row.lost, row.other, row.parity)?;
+    Some(byte_of(&ran.1))
 }
 
 fn read_beside(alloc: Global, row: LostRow) -> Option<u16> {
     let room = filled(alloc, 16, 0);
-    let (_first, _second, block) = read_beside_a_loss(
-        alloc, room, row.lost, row.other, row.parity,
-    )?;
-    Some(byte_of(&block))
+    let ran = read_beside_a_loss(alloc, room, row.lost, row.other, row.parity)?;
+    Some(byte_of(&ran.2))
+}
+
+fn read_rebuilt(alloc: Global, here: LostRow, there: LostRow) -> Option<u16> {
+    let room = filled(alloc, 16, 0);
+    let ran = rebuild_in_two_shards(alloc, here, there, room)?;
+    Some(byte_if_rebuilt(&ran.0, &ran.1, &ran.2))
 }
 
 fn is_rebuilt(core: &Core) -> bool {
     core.in_sync(1) == Some(1)
 }
 
-// Both shards have slot 1 in sync again.
-fn read_rebuilt(alloc: Global, here: LostRow, there: LostRow) -> Option<u16> {
-    let room = filled(alloc, 16, 0);
-    let (first, second, block) = rebuild_in_two_shards(alloc, here, there, room)?;
-    let are_rebuilt = is_rebuilt(&first) && is_rebuilt(&second);
-    Some(if are_rebuilt { byte_of(&block) } else { 0 })
+/// The byte of a block, if both shards have slot 1 in sync again.
+fn byte_if_rebuilt(first: &Core, second: &Core, block: &Buffer) -> u16 {
+    if is_rebuilt(first) && is_rebuilt(second) {
+        byte_of(block)
+    } else {
+        MIXED
+    }
 }
 
 // The block that is lost is the sum of the other data block and P: 11 = 22 + 33.

@@ -5,9 +5,9 @@
 #[cfg(test)]
 mod bench;
 #[cfg(test)]
-mod caller;
-#[cfg(test)]
 mod course;
+#[cfg(test)]
+mod devices;
 #[cfg(test)]
 mod losses;
 #[cfg(test)]
@@ -18,7 +18,5 @@ mod requests;
 mod scripts;
 #[cfg(test)]
 mod scrubs;
-#[cfg(test)]
-mod served;
 #[cfg(test)]
 mod starts;

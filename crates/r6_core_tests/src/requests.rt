@@ -246,9 +246,12 @@ const COURSES: &[Course<'static>] = &[
 
 #[test]
 fn cores_take_their_courses(rt: HostRuntime) {
-    play_all(&rt, rt.alloc(), COURSES);
-    play_all(&rt, rt.alloc(), losses::COURSES);
-    play_all(&rt, rt.alloc(), reads::COURSES);
-    play_all(&rt, rt.alloc(), scrubs::COURSES);
-    play_all(&rt, rt.alloc(), starts::COURSES);
+    let tables = &[
+        COURSES,
+        losses::COURSES,
+        reads::COURSES,
+        scrubs::COURSES,
+        starts::COURSES,
+    ];
+    play_all(&rt, rt.alloc(), tables);
 }

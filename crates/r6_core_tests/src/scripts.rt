@@ -55,20 +55,24 @@ impl Bench {
     }
 }
 
-/// A script has to be answered with this trouble, as above. The number of its commands.
-fn run<R: Abort>(rt: &R, alloc: Global, script: &Course<'_>, trouble: &Trouble) -> u64 {
-    let tokens = match Bench::new(alloc, script) {
+/// The number of the commands of a script that is answered with this trouble, as above.
+fn commands_of(alloc: Global, script: &Course<'_>, trouble: &Trouble) -> Option<u64> {
+    match Bench::new(alloc, script) {
         Some(mut bench) => bench.run_all(script, trouble),
         None => None,
-    };
-    let [first, second, third] = trouble.errors;
-    let Some(tokens) = tokens else {
+    }
+}
+
+/// Likewise; it has to be answered so.
+fn run<R: Abort>(rt: &R, alloc: Global, script: &Course<'_>, trouble: &Trouble) -> u64 {
+    let Some(commands) = commands_of(alloc, script, trouble) else {
+        let [first, second, third] = trouble.errors;
         panic!(rt;
             "{}: errors at {first} {second} {third}, slot {} lost at {}",
             script.name, trouble.slot, trouble.at
         );
     };
-    tokens
+    commands
 }
 
 fn failing<R: Abort>(rt: &R, alloc: Global, errors: [u64; 3]) -> u64 {

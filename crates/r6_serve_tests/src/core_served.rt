@@ -1,33 +1,51 @@
-//! Requests served by the caller.
+//! Requests served by the caller of a core.
 
 ghost use Rattle.r6_health.specs.Passes.{IsPassOf};
 
-use crate::bench::{Bench, Course, filled};
-use crate::caller::serve;
-use r6_core::{Op, OpId, Reply};
+use crate::blocks::{BLOCK, ROWS, SLOTS, filled};
+use crate::core_caller::serve;
+use r6_core::{Core, Op, OpId, Reply};
 use r6_dev::MemoryDevice;
-use r6_health::{Pass, Register};
+use r6_health::{Pass, Register, Snapshot};
 use r6_layout::Geometry;
+use std::alloc::{AllocError, Global};
 use std::sync::Wait;
 
-const ARRAY: Course<'static> = Course {
-    name: "an array whose devices the caller has",
-    rows: 4,
-    shards: 1,
-    window: 1,
-    lost: &[],
-    steps: &[],
-};
+/// The core of an array of one shard, beside its devices.
+#[derive(Drop)]
+struct Bench {
+    alloc: Global,
+    core: Core,
+    devices: Vec<MemoryDevice>,
+}
+
+/// Devices of zeros, of which that of slot 1 has no rows.
+fn devices_of(alloc: Global) -> Result<Vec<MemoryDevice>, AllocError> {
+    let mut devices = Vec::new(alloc);
+    for slot in 0..SLOTS {
+        let rows = if slot == 1 { 0 } else { ROWS as u64 };
+        devices.push(MemoryDevice::new(alloc, 0..rows, BLOCK)?)?;
+    }
+    Ok(devices)
+}
 
 impl Bench {
-    /// The device of slot 1 has no rows from now on.
-    fn empty_slot_1(&mut self) {
-        let Ok(empty) = MemoryDevice::new(self.alloc, 0..0, 16) else {
-            return;
-        };
-        if let Some(device) = self.devices.get_mut(1) {
-            *device = empty;
+    fn new(alloc: Global, geometry: Geometry) -> Option<Bench> {
+        let register = Snapshot::start(&geometry, 0);
+        if geometry.shards() == 0 || register.failed() || register.attaches() > 0 {
+            return None;
         }
+        let Ok(devices) = devices_of(alloc) else {
+            return None;
+        };
+        let Ok(core) = Core::new(alloc, geometry, 0, 1, &register) else {
+            return None;
+        };
+        Some(Bench {
+            alloc,
+            core,
+            devices,
+        })
     }
 
     /// Whether a request to read block 0 is served, as that of this number.
@@ -35,18 +53,18 @@ impl Bench {
         requires { IsPassOf register.now pass.old }
         ensures { IsPassOf register.now pass.new }
     {
-        let op = Op::Read(0, filled(self.alloc, 16, 0));
+        let Ok(room) = filled(self.alloc, 0) else {
+            return false;
+        };
+        let op = Op::Read(0, room);
         let reply = serve(rt, &mut self.core, &mut self.devices, register, pass, op);
         matches!(&reply, Some((OpId(number), Reply::Data(_))) if *number == id)
     }
 }
 
 /// Whether two requests to read block 0 are served with a new register, and slot 1 is lost then.
-fn are_served<R: Wait>(rt: &R, bench: &mut Bench) -> bool {
-    let Ok(geometry) = Geometry::new(4, 1, 16, 4, 1) else {
-        return false;
-    };
-    let Ok((register, mut pass)) = Register::new(rt, bench.alloc, &geometry, 0) else {
+fn are_served<R: Wait>(rt: &R, geometry: &Geometry, bench: &mut Bench) -> bool {
+    let Ok((register, mut pass)) = Register::new(rt, bench.alloc, geometry, 0) else {
         return false;
     };
     let first = bench.is_read(rt, &register, &mut pass, 0);
@@ -55,15 +73,18 @@ fn are_served<R: Wait>(rt: &R, bench: &mut Bench) -> bool {
     first && second && is_lost
 }
 
+fn are_served_without_a_device<R: Wait>(rt: &R, alloc: Global) -> bool {
+    let Ok(geometry) = Geometry::new(SLOTS, 1, BLOCK, ROWS as u64, 1) else {
+        return false;
+    };
+    match Bench::new(alloc, geometry) {
+        Some(mut bench) => are_served(rt, &geometry, &mut bench),
+        None => false,
+    }
+}
+
 // Block 0 stands in slot 1, whose device is lost at the first command.
 #[test]
 fn requests_are_served_without_a_device(rt: HostRuntime) {
-    let is_served = match Bench::new(rt.alloc(), &ARRAY) {
-        Some(mut bench) => {
-            bench.empty_slot_1();
-            are_served(&rt, &mut bench)
-        }
-        None => false,
-    };
-    assert!(rt; is_served);
+    assert!(rt; are_served_without_a_device(&rt, rt.alloc()));
 }

@@ -1,4 +1,4 @@
-//! Tests of shards and of what runs them: a shard, the lists by which it is handed its events, a shard that takes them,
+//! Tests of shards and of what runs them: the caller of a core, a shard, the lists by which it is handed its events, a shard that takes them,
 //! threads, and arrays that are served.
 #![tactic(auto)]
 
@@ -9,6 +9,10 @@ mod array;
 mod asks;
 #[cfg(test)]
 mod blocks;
+#[cfg(test)]
+mod core_caller;
+#[cfg(test)]
+mod core_served;
 #[cfg(test)]
 mod guests;
 #[cfg(test)]
