@@ -56,3 +56,7 @@ pub both_written : {T E : Type 0} (r : Result T E) (old mid new lines state : Li
 both_written (Ok done) old mid new lines state before after =
     after ∙ ap (λ (text : List ℕ). text ++ state) before ∙ append_assoc old lines state
 both_written (Err error) old mid new lines state before after = tt
+
+-- .. of a text that was empty
+pub from_nothing : (bytes text begun lines : List ℕ) → bytes ≡ text → text ≡ begun ++ lines → begun ≡ [] → bytes ≡ lines
+from_nothing bytes text begun lines same written empty = same ∙ written ∙ ap (λ (old : List ℕ). old ++ lines) empty

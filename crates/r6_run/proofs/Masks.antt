@@ -94,3 +94,7 @@ mask_whole lost slots passed mask past end is =
     let same : passed ≡ slots = omega (arith, past, end) in
     let none : slots - slots ≡ 0 = omega arith in
     is ∙ ap (λ all. mask_from lost (slots - all) all) same ∙ ap (λ slot. mask_from lost slot slots) none
+
+-- of slots and losses that are these
+pub mask_same : (mask slots count : ℕ) (lost held : List ℕ) → mask ≡ mask_of slots lost → slots ≡ count → lost ≡ held → mask ≡ mask_of count held
+mask_same mask slots count lost held is of_slots of_lost = is ∙ ap (λ n. mask_of n lost) of_slots ∙ ap (mask_of count) of_lost

@@ -1,21 +1,25 @@
 //! A script is run.
 
-ghost use Rattle.std.specs.Prelude.{◌≡◌, ◌≢◌, ◌++◌, IfErr, IfOk, OnOk, length, replicate, string_bytes};
+ghost use Rattle.std.specs.Prelude.{◌≡◌, ◌≢◌, ◌++◌, Option, IfErr, IfOk, OnOk, length, replicate, string_bytes};
+ghost use Rattle.std.specs.Io.KnownBytes.{Appends};
+ghost use Rattle.r6_script.specs.Script.{Text};
 ghost use Rattle.r6_settings.specs.Settings.{AreInRange, values_of};
 ghost use Rattle.r6_outcomes.specs.declared.outcome.Outcome.TheVariants.{Unanswered};
+ghost use Rattle.r6_run.specs.Ends.{ending_of};
 ghost use Rattle.r6_run.specs.Runs.{HasRun, report_text};
 
 use crate::array::{mask_of, parts_of};
 use crate::ending::Ending;
 use crate::events::events_of;
 use crate::fault::RunFault;
-use r6_dev::{Access, BlockDevice};
+use r6_dev::{Access, BlockDevice, FileDevice};
 use r6_engine::open_parts;
 use r6_layout::Geometry;
 use r6_outcomes::{Table, room_for, write_lines, write_state};
 use r6_run_script::Event;
 use r6_serve::{Config as ServeConfig, Served, serve};
 use r6_settings::Config;
+use r6_shard::Parts;
 use std::alloc::{AllocError, Global};
 use std::io::{Seek, Write};
 use std::os::unix::fs::FileExt;
@@ -47,6 +51,55 @@ fn write_report<D: BlockDevice + Drop>(
     write_state(text, geometry, &snapshot)
 }
 
+// The parts of each shard of an array of files, opened.
+fn opened<F, R>(
+    files: &R,
+    alloc: Global,
+    config: &Config,
+) -> Result<Vec<Parts<FileDevice<F>>>, RunFault>
+where
+    F: FileExt + Seek + Drop,
+    R: Files<File = F>,
+    ensures { IfOk result (λ parts. length parts.items ≡ config.now.geometry.shards) }
+{
+    let opened = open_parts(
+        files,
+        alloc,
+        &config.geometry,
+        config.devices.as_slice(),
+        config.lost.as_slice(),
+        Access::ReadWrite,
+    )?;
+    Ok(parts_of(alloc, &config.geometry, opened)?)
+}
+
+// Gives the events of a script to the array of the settings: who prints the report of this has run the script.
+fn served<F, R>(
+    rt: &R,
+    alloc: Global,
+    config: &Config,
+    script: &[Event<'_>],
+) -> Result<Served<FileDevice<F>>, RunFault>
+where
+    F: FileExt + Seek + Drop + Send,
+    R: Wait + Threads + Files<File = F> + Sync,
+    requires { AreInRange (values_of config.now) }
+    ensures { IfOk result (λ served. (old new : Option Text)
+        → Appends old new
+        (report_text config.now.geometry script.now served.runners.items served.answers.items served.snapshot)
+        → HasRun config.now.geometry config.now.lost.items script.now old new (ending_of served.snapshot)) }
+{
+    let geometry = &config.geometry;
+    let parts = opened(rt, alloc, config)?;
+    let events = events_of(rt, alloc, geometry, script)?;
+    let how = ServeConfig {
+        geometry: *geometry,
+        window: config.window as usize,
+        lost: mask_of(geometry.slots(), config.lost.as_slice()),
+    };
+    Ok(serve(rt, alloc, how, parts, events)?)
+}
+
 /// Runs the events of a script on the array of the settings, each shard in a thread of its own, and prints a line for
 /// each event but waits, once all are over; then which slots are lost, and how the array is.
 ///
@@ -73,25 +126,9 @@ where
     ensures kept { IfErr result (λ fault. fault ≢ RunFault.Output → W.contents out.new ≡ W.contents out.old) }
 {
     let geometry = &config.geometry;
-    let lost = config.lost.as_slice();
-    let opened = open_parts(
-        rt,
-        alloc,
-        geometry,
-        config.devices.as_slice(),
-        lost,
-        Access::ReadWrite,
-    )?;
-    let parts = parts_of(alloc, geometry, opened)?;
-    let events = events_of(rt, alloc, geometry, script)?;
     let table = Table::new(alloc, script.len())?;
     let mut text = String::with_capacity(alloc, room_for(geometry, script))?;
-    let how = ServeConfig {
-        geometry: *geometry,
-        window: config.window as usize,
-        lost: mask_of(geometry.slots(), lost),
-    };
-    let served = serve(rt, alloc, how, parts, events)?;
+    let served = served(rt, alloc, config, script)?;
     let ending = Ending::of(&served.snapshot);
     write_report(&mut text, geometry, script, table, served)?;
     match out.write_all(text.as_bytes()) {
