@@ -1,5 +1,7 @@
 pub mod Writes
+mod Texts
+mod Known
 mod Played
+mod Stopped
 mod Served
 mod Verified
-mod Stopped

@@ -1,8 +1,9 @@
 //! Carries a command out.
 
-ghost use Rattle.std.specs.Prelude.{◌≡◌, ◌≢◌, IfErr, IfOk, OnOk};
+ghost use Rattle.std.specs.Prelude.{◌≡◌, ◌≢◌, true, Option, Ok, IfErr, IfOk, IfSome, OnOk};
 ghost use Rattle.r6_command.specs.CommandLine.{asked_of};
-ghost use Rattle.r6_execute.specs.Commands.{EndsAs, EndsBy, HasPlayed, HasPrinted, HasServed, IsAmiss, IsDone, StopsGeometry, StopsPlay, StopsServing};
+ghost use Rattle.r6_settings.specs.Settings.{AreInRange, settings_in, values_of};
+ghost use Rattle.r6_execute.specs.Commands.{EndsAs, EndsBy, HasPlayed, HasPrinted, HasServed, IsAmiss, IsDone, StopsGeometry, StopsPlay, StopsServing, Text};
 ghost use Rattle.r6_execute.specs.Status.{status_of};
 
 use crate::devices::{create, verify};
@@ -15,6 +16,7 @@ use crate::read::{read_script, read_settings, read_text};
 use r6_command::Invocation;
 use r6_run::run;
 use r6_run_script::parse_run_script;
+use r6_settings::Config;
 use r6_simulate::simulate;
 use std::alloc::Global;
 use std::io::{Read, Seek, Write};
@@ -34,8 +36,7 @@ fn print_geometry<S: Read, W: Write>(
 {
     let config = read_settings(alloc, settings, false)?;
     let text = described(alloc, &config.geometry)?;
-    print(out, text.as_str())?;
-    finish(out)
+    print(out, text.as_str())
 }
 
 // Plays a script.
@@ -54,6 +55,32 @@ fn play<R: Wait, T: Read, W: Write>(
     };
     finish(out)?;
     Ok(ending)
+}
+
+// Runs the script that a text says on the devices of the settings.
+fn run_text<F, R, W>(
+    rt: &R,
+    alloc: Global,
+    config: &Config,
+    text: &str,
+    out: &mut W,
+) -> Result<Ending, Fault>
+where
+    F: FileExt + Seek + Drop + Send,
+    R: Wait + Threads + Files<File = F> + Sync,
+    W: Write,
+    requires { AreInRange (values_of config.now) }
+    ensures ok { IfOk result (λ ending. (settings script : Option Text)
+        → IfSome settings (λ held. settings_in true held ≡ Ok (values_of config.now))
+        → IfSome script (λ held. text.now ≡ held)
+        → HasServed settings script (W.contents out.old) (W.contents out.new) ending) }
+    ensures err { IfErr result (λ fault. (settings script : Option Text) → IfSome script (λ held. text.now ≡ held)
+        → StopsServing settings script (W.contents out.old) (W.contents out.new) fault) }
+{
+    let events = parse_run_script(alloc, text)?;
+    let ending = run(rt, alloc, config, events.as_slice(), out)?;
+    finish(out)?;
+    Ok(Ending::from(ending))
 }
 
 // Runs a script on the devices of the settings.
@@ -77,10 +104,7 @@ where
 {
     let config = read_settings(alloc, settings, true)?;
     let text = read_text(alloc, script, Input::Script)?;
-    let events = parse_run_script(alloc, text.as_str())?;
-    let ending = run(rt, alloc, &config, events.as_slice(), out)?;
-    finish(out)?;
-    Ok(Ending::from(ending))
+    run_text(rt, alloc, &config, text.as_str(), out)
 }
 
 fn carry_out<F, R, S, T, W, E>(
@@ -105,14 +129,8 @@ where
         (W.contents out.old) (W.contents out.new)) }
 {
     match invocation {
-        Invocation::Geometry { .. } => {
-            print_geometry(alloc, settings, out)?;
-            Ok(Ending::Good)
-        }
-        Invocation::Create { .. } => {
-            create(rt, alloc, settings, out)?;
-            Ok(Ending::Good)
-        }
+        Invocation::Geometry { .. } => print_geometry(alloc, settings, out).and(Ok(Ending::Good)),
+        Invocation::Create { .. } => create(rt, alloc, settings, out).and(Ok(Ending::Good)),
         Invocation::Verify { .. } => verify(rt, alloc, settings, out, err),
         Invocation::Simulate { .. } => play(rt, alloc, script, out),
         Invocation::Run { .. } => serve(rt, alloc, settings, script, out),

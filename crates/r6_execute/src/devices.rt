@@ -1,18 +1,23 @@
 //! The commands `create` and `verify`, on the files of an array's devices.
 
 ghost use Rattle.std.specs.Prelude.{◌≡◌, IfErr, IfOk, OnOk, string_bytes};
-ghost use Rattle.r6_execute.specs.Commands.{HasCreated, HasReported, HasVerified, StopsCreate, StopsReport, StopsVerify};
+ghost use Rattle.r6_engine.specs.Errors.{IsOpeningFault};
+ghost use Rattle.r6_engine.specs.Parts.{Parts, AreThoseNotLost};
+ghost use Rattle.r6_engine.specs.Reports.{IsReport};
+ghost use Rattle.r6_settings.specs.Settings.{values_of};
+ghost use Rattle.r6_execute.specs.Commands.{HasCreated, HasReported, HasVerified, IsMakingFault, StopsCreate, StopsReport, StopsVerify};
 ghost use Rattle.r6_execute.specs.Reports.{created_text};
 
 use crate::ending::Ending;
 use crate::errors::ErrorOutput;
 use crate::fault::Fault;
-use crate::output::{finish, print};
+use crate::output::print;
 use crate::read::read_settings;
 use crate::report::reported;
 use r6_dev::Access;
-use r6_engine::{Report, create_files, open_parts};
+use r6_engine::{EngineError, Report, create_files, open_parts};
 use r6_layout::Geometry;
+use r6_settings::Config;
 use std::alloc::{AllocError, Global};
 use std::fmt::Write as _;
 use std::io::{Read, Seek, Write};
@@ -30,6 +35,16 @@ fn created(alloc: Global, geometry: &Geometry) -> Result<String, AllocError>
     Ok(text)
 }
 
+// Makes the device files of the settings, and gives what is printed then.
+fn made<R: Files>(files: &R, alloc: Global, config: &Config) -> Result<String, Fault>
+    ensures ok { IfOk result (λ text. string_bytes text ≡ created_text config.now.geometry) }
+    ensures err { IfErr result (IsMakingFault (values_of config.now)) }
+{
+    let text = created(alloc, &config.geometry)?;
+    create_files(files, &config.geometry, config.devices.as_slice())?;
+    Ok(text)
+}
+
 /// Makes the device files of the settings, of zeros, and prints how many.
 pub(crate) fn create<R: Files, S: Read, W: Write>(
     files: &R,
@@ -41,10 +56,8 @@ pub(crate) fn create<R: Files, S: Read, W: Write>(
     ensures err { IfErr result (StopsCreate (S.remaining settings.old) (W.contents out.old) (W.contents out.new)) }
 {
     let config = read_settings(alloc, settings, true)?;
-    let text = created(alloc, &config.geometry)?;
-    create_files(files, &config.geometry, config.devices.as_slice())?;
-    print(out, text.as_str())?;
-    finish(out)
+    let text = made(files, alloc, &config)?;
+    print(out, text.as_str())
 }
 
 // Prints what a check found.
@@ -59,8 +72,33 @@ fn print_report<W: Write>(
 {
     let text = reported(alloc, geometry, report)?;
     print(out, text.as_str())?;
-    finish(out)?;
     Ok(Ending::of_report(report))
+}
+
+// Goes over every row of the devices of the slots that aren't lost, opened for reading alone.
+fn gone_over<F, R, E>(
+    rt: &R,
+    alloc: Global,
+    config: &Config,
+    err: &mut ErrorOutput<E>,
+) -> Result<Report, EngineError>
+where
+    F: FileExt + Seek + Drop,
+    R: Files<File = F> + Threads + Sync,
+    E: Write,
+    ensures ok { IfOk result (λ report. (parts : Parts)
+        × AreThoseNotLost config.now.geometry config.now.lost.items parts × IsReport config.now.geometry parts report) }
+    ensures err { IfErr result (IsOpeningFault config.now.geometry.slots config.now.lost.items) }
+{
+    let mut parts = open_parts(
+        rt,
+        alloc,
+        &config.geometry,
+        config.devices.as_slice(),
+        config.lost.as_slice(),
+        Access::Read,
+    )?;
+    r6_engine::verify(rt, alloc, &config.geometry, parts.as_mut_slice(), err)
 }
 
 /// Reads every row of the devices of the settings, classifies it in one of several threads, and prints how many rows
@@ -82,15 +120,7 @@ where
     ensures err { IfErr result (StopsVerify (S.remaining settings.old) (W.contents out.old) (W.contents out.new)) }
 {
     let config = read_settings(alloc, settings, true)?;
-    let mut parts = open_parts(
-        rt,
-        alloc,
-        &config.geometry,
-        config.devices.as_slice(),
-        config.lost.as_slice(),
-        Access::Read,
-    )?;
-    let report = r6_engine::verify(rt, alloc, &config.geometry, parts.as_mut_slice(), err)?;
+    let report = gone_over(rt, alloc, &config, err)?;
     match report.fault {
         Some(met) => Err(Fault::Device(met.slot, met.fault)),
         None => print_report(alloc, &config.geometry, &report, out),

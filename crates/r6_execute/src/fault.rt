@@ -17,6 +17,19 @@ pub enum Input {
     Script,
 }
 
+impl Input {
+    ghost use Rattle.r6_execute.specs.Faults.{name_of};
+
+    fn name(self) -> &'static str
+        ensures { result.now ≡ name_of self }
+    {
+        match self {
+            Input::Settings => "settings",
+            Input::Script => "script",
+        }
+    }
+}
+
 /// Why the program ends before its command is done. `Display` writes the line for standard error.
 #[derive(Clone, Copy, Debug, PartialEq, Eq)]
 pub enum Fault {
@@ -68,15 +81,14 @@ impl fmt::Display for Fault {
 
     fn fmt<W: fmt::Write>(&self, f: &mut fmt::Formatter<W>) -> fmt::Result {
         match self {
-            Fault::NotText => write!(f, "raid6: the command line is not UTF-8"),
-            Fault::Unreadable(Input::Settings) => write!(f, "settings: unreadable"),
-            Fault::Unreadable(Input::Script) => write!(f, "script: unreadable"),
-            Fault::Settings(fault) => write!(f, "{fault}"),
-            Fault::Script(fault) => write!(f, "{fault}"),
+            Fault::NotText => f.write_str("raid6: the command line is not UTF-8"),
+            Fault::Unreadable(input) => write!(f, "{}: unreadable", input.name()),
+            Fault::Settings(fault) => fmt::Display::fmt(fault, f),
+            Fault::Script(fault) => fmt::Display::fmt(fault, f),
             Fault::Device(slot, fault) => write!(f, "device {slot} fault {}", fault.number()),
-            Fault::Output => write!(f, "output"),
-            Fault::Memory => write!(f, "memory"),
-            Fault::Thread => write!(f, "thread"),
+            Fault::Output => f.write_str("output"),
+            Fault::Memory => f.write_str("memory"),
+            Fault::Thread => f.write_str("thread"),
         }
     }
 }

@@ -1,7 +1,8 @@
 //! What the command `geometry` prints.
 
-ghost use Rattle.std.specs.Prelude.{◌≡◌, ◌+◌, ◌<◌, ◌++◌, OnOk, IfOk, string_bytes};
+ghost use Rattle.std.specs.Prelude.{◌≡◌, ◌+◌, ◌<◌, ◌++◌, OnOk, IfOk, min, string_bytes};
 ghost use Rattle.r6_layout.specs.Shape.{chunk_rows};
+ghost use Rattle.r6_texts.specs.Texts.{texts_below};
 ghost use Rattle.r6_execute.specs.Layouts.{chunk_row_line, layout_text, role_text, shape_line, shard_line};
 
 use r6_layout::{Geometry, Role};
@@ -50,6 +51,30 @@ fn write_chunk_row(text: &mut String, geometry: &Geometry, chunk_row: u64) -> Re
     writeln!(text)
 }
 
+// A line for each shard.
+fn write_shards(text: &mut String, geometry: &Geometry) -> Result<(), AllocError>
+    ensures { OnOk result
+        (string_bytes text.new ≡ string_bytes text.old ++ texts_below (shard_line geometry.now) geometry.now.shards) }
+{
+    for shard in 0..geometry.shards() {
+        write_shard(text, geometry, shard)?;
+    }
+    Ok(())
+}
+
+// A line for each of the first chunk rows, after which the roles of the slots come again.
+fn write_chunk_rows(text: &mut String, geometry: &Geometry) -> Result<(), AllocError>
+    ensures { OnOk result (string_bytes text.new ≡ string_bytes text.old
+        ++ texts_below (chunk_row_line geometry.now) (min geometry.now.slots (chunk_rows geometry.now))) }
+{
+    let chunk_rows = geometry.rows() / geometry.chunk();
+    let end = (geometry.slots() as u64).min(chunk_rows);
+    for chunk_row in 0..end {
+        write_chunk_row(text, geometry, chunk_row)?;
+    }
+    Ok(())
+}
+
 /// The layout of an array as text: a line of its numbers, a line for each shard with its first and its
 /// last device row, and a line for each of the first chunk rows, after which the roles of the slots come
 /// again, with what each slot keeps there.
@@ -58,12 +83,7 @@ pub fn described(alloc: Global, geometry: &Geometry) -> Result<String, AllocErro
 {
     let mut text = String::new(alloc);
     write_shape(&mut text, geometry)?;
-    for shard in 0..geometry.shards() {
-        write_shard(&mut text, geometry, shard)?;
-    }
-    let chunk_rows = geometry.rows() / geometry.chunk();
-    for chunk_row in 0..(geometry.slots() as u64).min(chunk_rows) {
-        write_chunk_row(&mut text, geometry, chunk_row)?;
-    }
+    write_shards(&mut text, geometry)?;
+    write_chunk_rows(&mut text, geometry)?;
     Ok(text)
 }

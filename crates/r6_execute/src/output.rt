@@ -6,7 +6,7 @@ ghost use Rattle.std.specs.Io.KnownBytes.{Appends, Keeps};
 use crate::fault::Fault;
 use std::io::Write;
 
-/// Writes a text.
+/// Writes a text, and sees that it has left.
 ///
 /// # Errors
 /// `Output` where a part of it was refused.
@@ -14,7 +14,8 @@ pub fn print<W: Write>(out: &mut W, text: &str) -> Result<(), Fault>
     ensures written { OnOk result (Appends (W.contents out.old) (W.contents out.new) text.now) }
     ensures refused { IfErr result (λ fault. fault ≡ Fault.Output) }
 {
-    out.write_all(text.as_bytes()).map_err(|_| Fault::Output)
+    out.write_all(text.as_bytes()).map_err(|_| Fault::Output)?;
+    finish(out)
 }
 
 /// Sees that all that was written has left.

@@ -1,24 +1,50 @@
-use Rattle.std.proofs.Common.{List, ℕ, subst, string_bytes}
-use Rattle.r6_run.specs.Runs.{HasRun}
-use Rattle.r6_run_script.specs.Script.{Say}
-use Rattle.r6_script.specs.Script.{lines_of}
+use Rattle.std.proofs.Common.{string_bytes}
+use Rattle.std.proofs.lemmas.Result.{IfErr-weaker, IfOk-weaker}
+use Rattle.r6_execute.specs.Commands.{HasServed, StopsServing}
 use Rattle.r6_settings.specs.Settings.{values_of}
-use Rattle.r6_execute.proofs.Served.{of_file, run_kept}
+use Rattle.r6_execute.proofs.Known.{same_read}
+use Rattle.r6_execute.proofs.Served.{ServesAnyhow, StopsAnyhow, by_reading, by_settings}
+use Rattle.r6_execute.proofs.Stopped.{told_on}
 use Rattle.r6_execute.proofs.commands.serve.Goals as goal
 
 pub returns-clause-ok : goal.returns-clause-ok
 returns-clause-ok g c =
-    let config = c.in_ok-config.config in
-    let events = c.in_ok-events.events.items in
+    let settings = g.S.Read.remaining c.args.settings.now in
+    let script = g.T.Read.remaining c.args.script.now in
+    let read = same_read script (string_bytes c.in_ok-text.text) c.as_str.result.now c.as_str.ensures.value c.in_ok-text.ensures.ok in
     let old = g.W.Write.contents c.args.out.now in
-    let mid = g.W.Write.contents c.run.new.out in (
-      values_of config,
-      events,
-      c.in_ok-ending.ending,
-      c.in_ok-config.ensures.ok,
-      of_file (λ (text : List ℕ). Say (lines_of text) events) _ (string_bytes c.in_ok-text.text) c.as_str.result.now c.in_ok-text.ensures.ok c.as_str.ensures.value
-          c.in_ok-events.ensures.ok,
-      run_kept config.geometry config.lost.items events c.in_ok-ending.ending old mid (g.W.Write.contents c.finish.new.out)
-          (subst (λ script. HasRun config.geometry config.lost.items script old mid c.in_ok-ending.ending) c.as_slice.ensures.value c.in_ok-ending.ensures.ok) c.finish.ensures.kept,
-      c.from.ensures,
-    )
+    let new = g.W.Write.contents c.run_text.new.out in
+    IfOk-weaker c.run_text.result (ServesAnyhow (values_of c.in_ok-config.config) c.as_str.result.now old new) (HasServed settings script old new)
+    (λ ending served. served settings script c.in_ok-config.ensures.ok read)
+    c.run_text.ensures.ok
+
+pub returns-clause-err : goal.returns-clause-err
+returns-clause-err g c =
+    let settings = g.S.Read.remaining c.args.settings.now in
+    let script = g.T.Read.remaining c.args.script.now in
+    let read = same_read script (string_bytes c.in_ok-text.text) c.as_str.result.now c.as_str.ensures.value c.in_ok-text.ensures.ok in
+    let old = g.W.Write.contents c.args.out.now in
+    let new = g.W.Write.contents c.run_text.new.out in
+    IfErr-weaker c.run_text.result (StopsAnyhow c.as_str.result.now old new) (StopsServing settings script old new)
+    (λ fault stops. stops settings script read)
+    c.run_text.ensures.err
+
+pub returns-in_err-config-clause-err : goal.returns-in_err-config-clause-err
+returns-in_err-config-clause-err g c =
+    let settings = g.S.Read.remaining c.args.settings.now in
+    let script = g.T.Read.remaining c.args.script.now in
+    let held = g.W.Write.contents c.args.out.now in
+    let fault = c.in_err-config.field-0.0 in
+    told_on (StopsServing settings script held held) c.from_residual.result fault
+    (by_settings settings script held fault c.in_err-config.ensures.err)
+    c.from_residual.ensures.1
+
+pub returns-in_err-text-clause-err : goal.returns-in_err-text-clause-err
+returns-in_err-text-clause-err g c =
+    let settings = g.S.Read.remaining c.args.settings.now in
+    let script = g.T.Read.remaining c.args.script.now in
+    let held = g.W.Write.contents c.args.out.now in
+    let fault = c.in_err-text.field-0.0 in
+    told_on (StopsServing settings script held held) c.from_residual-in_err-text.result fault
+    (by_reading settings script held fault c.in_err-text.ensures.err)
+    c.from_residual-in_err-text.ensures.1

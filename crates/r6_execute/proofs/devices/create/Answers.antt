@@ -1,28 +1,36 @@
-use Rattle.std.proofs.Common.{◌≡◌, ◌∙◌, ℕ, length, ap, sym, subst}
-use Rattle.std.proofs.lemmas.List.{length-map}
-use Rattle.std.specs.Prelude.{string_bytes}
-use Rattle.r6_engine.specs.Errors as pass
+use Rattle.std.proofs.Common.{◌∙◌, subst}
+use Rattle.std.proofs.lemmas.Result.{on_ok_weaker}
+use Rattle.std.specs.Io.KnownBytes.{Appends}
 use Rattle.r6_settings.specs.Settings.{values_of}
-use Rattle.r6_execute.specs.Commands.{IsMakingFault}
-use Rattle.r6_execute.proofs.Stopped.{making, stops_by_error}
-use Rattle.r6_execute.proofs.Writes.{appends_kept, on_ok}
+use Rattle.r6_execute.specs.Commands.{HasCreated, IsMakingFault, StopsCreate}
+use Rattle.r6_execute.proofs.Stopped.{stops_at_settings, stops_by, told_on}
 use Rattle.r6_execute.proofs.devices.create.Goals as goal
 
 pub returns-clause-ok : goal.returns-clause-ok
 returns-clause-ok g c =
-    on_ok c.finish.result (
+    let text = g.S.Read.remaining c.args.settings.now in
+    let old = g.W.Write.contents c.args.out.now in
+    let new = g.W.Write.contents c.print.new.out in
+    let told : Appends old new c.as_str.result.now → HasCreated text old new = λ appends. (
       values_of c.in_ok-config.config,
       c.in_ok-config.ensures.ok,
-      appends_kept _ _ _ _ _ (c.as_str.ensures.value ∙ c.in_ok-text.ensures) c.in_ok-print.ensures.written c.finish.ensures.kept,
-    )
+      subst (Appends old new) (c.as_str.ensures.value ∙ c.in_ok-text.ensures.ok) appends,
+    ) in
+    on_ok_weaker c.print.result told c.print.ensures.written
 
-pub returns-in_err-create_files-clause-err : goal.returns-in_err-create_files-clause-err
-returns-in_err-create_files-clause-err g c =
-    let values = values_of c.in_ok-config.config in
-    let error = c.in_err-create_files.field-0.0 in
-    let as_many : length c.as_slice.result.now ≡ length values.devices =
-    ap length c.as_slice.ensures.value ∙ sym (length-map c.in_ok-config.config.devices.items string_bytes) in
-    stops_by_error IsMakingFault c.from_residual-in_err-create_files.result (g.S.Read.remaining c.args.settings.now) (g.W.Write.contents c.args.out.now)
-    values error c.in_ok-config.ensures.ok
-    (making values error (subst (λ (count : ℕ). pass.IsMakingFault count error) as_many c.in_err-create_files.ensures))
-    c.from_residual-in_err-create_files.ensures.1
+pub returns-in_err-config-clause-err : goal.returns-in_err-config-clause-err
+returns-in_err-config-clause-err g c =
+    let text = g.S.Read.remaining c.args.settings.now in
+    let held = g.W.Write.contents c.args.out.now in
+    let fault = c.in_err-config.field-0.0 in
+    told_on (StopsCreate text held held) c.from_residual.result fault (stops_at_settings IsMakingFault text held fault c.in_err-config.ensures.err)
+    c.from_residual.ensures.1
+
+pub returns-in_err-text-clause-err : goal.returns-in_err-text-clause-err
+returns-in_err-text-clause-err g c =
+    let text = g.S.Read.remaining c.args.settings.now in
+    let held = g.W.Write.contents c.args.out.now in
+    let fault = c.in_err-text.field-0.0 in
+    told_on (StopsCreate text held held) c.from_residual-in_err-text.result fault
+    (stops_by IsMakingFault text held (values_of c.in_ok-config.config) fault c.in_ok-config.ensures.ok c.in_err-text.ensures.err)
+    c.from_residual-in_err-text.ensures.1

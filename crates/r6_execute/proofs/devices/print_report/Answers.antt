@@ -1,9 +1,10 @@
-use Rattle.std.proofs.Common.{◌∙◌}
-use Rattle.r6_execute.proofs.Writes.{appends_kept}
+use Rattle.std.proofs.Common.{◌∙◌, subst}
+use Rattle.std.specs.Io.KnownBytes.{Appends}
 use Rattle.r6_execute.proofs.devices.print_report.Goals as goal
 
 pub returns-clause-ok : goal.returns-clause-ok
 returns-clause-ok g c = (
-  appends_kept _ _ _ _ _ (c.as_str.ensures.value ∙ c.in_ok-text.ensures) c.in_ok-print.ensures.written c.in_ok-finish.ensures.kept,
+  subst (Appends (g.W.Write.contents c.args.out.now) (g.W.Write.contents c.print.new.out)) (c.as_str.ensures.value ∙ c.in_ok-text.ensures)
+      c.in_ok-print.ensures.written,
   c.of_report.ensures,
 )

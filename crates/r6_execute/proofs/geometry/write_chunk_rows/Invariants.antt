@@ -1,11 +1,7 @@
 use Rattle.std.proofs.Common.{◌≡◌, ◌++◌, string_bytes}
-use Rattle.r6_execute.specs.Layouts.{chunk_row_line, shard_line}
+use Rattle.r6_execute.specs.Layouts.{chunk_row_line}
 use Rattle.r6_texts.specs.Texts.{texts_below}
-use Rattle.r6_execute.proofs.geometry.described.Given as goal
-
-abbrev pub invariant-loop-shard : goal.invariant-loop-shard
-invariant-loop-shard l =
-    string_bytes l.text ≡ string_bytes l.initial.text ++ texts_below (shard_line l.geometry) l.shard
+use Rattle.r6_execute.proofs.geometry.write_chunk_rows.Given as goal
 
 abbrev pub invariant-loop-chunk_row : goal.invariant-loop-chunk_row
 invariant-loop-chunk_row l =
