@@ -1,1 +1,2 @@
 pub mod DocumentLemmas
+pub mod Deciding

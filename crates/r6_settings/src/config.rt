@@ -1,7 +1,8 @@
 //! The settings of an array, read from a TOML document.
-ghost use Rattle.std.specs.Prelude.{◌≡◌, Ok, Err, IfErr, IfOk};
+ghost use Rattle.std.specs.Prelude.{◌≡◌, ◌≤◌, true, Ok, Err, None, Some, IfErr, IfOk, OnOk, map, string_bytes, take, unwrap_or};
 ghost use Rattle.toml.specs.View.{table_view};
-ghost use Rattle.r6_settings.specs.Settings.{AreInRange, IsMemoryOr, decided, settings_in, values_of};
+ghost use Rattle.r6_layout.specs.Shape.{shape_of};
+ghost use Rattle.r6_settings.specs.Settings.{AreInRange, IsMemoryOr, IsOf, checks, decided, first_found, one_to_eight, paths_used, settings_in, shape_in, slots_written, values_of};
 
 use crate::document::{device_paths, geometry_integer, has_unknown_key, lost_slots, one_to_eight};
 use crate::fault::SettingsFault;
@@ -25,10 +26,26 @@ pub struct Config {
     pub devices: Vec<String>,
 }
 
-fn decide(alloc: Global, table: &Table, with_devices: bool) -> Result<Config, SettingsFault>
-    ensures ok { IfOk result (λ config. decided with_devices (table_view table.now) ≡ Ok (values_of config)) }
-    ensures in_range { IfOk result (λ config. AreInRange (values_of config)) }
-    ensures err { IfErr result (IsMemoryOr (λ fault. decided with_devices (table_view table.now) ≡ Err fault)) }
+// What the keys say that have one number each.
+struct Numbers {
+    slots: u32,
+    chunk: u32,
+    block: u32,
+    rows: u32,
+    shards: u32,
+    window: u32,
+    workers: u32,
+}
+
+// The numbers, where the checks pass that come before those of lost slots and of devices.
+fn numbers_in(table: &Table) -> Result<Numbers, SettingsFault>
+    ensures passed { OnOk result (first_found (take 8 (checks true (table_view table.now))) ≡ None) }
+    ensures shape { IfOk result
+        (λ n. shape_of n.slots n.chunk n.block n.rows n.shards ≡ shape_in (table_view table.now)) }
+    ensures window { IfOk result (λ n. n.window ≡ unwrap_or (one_to_eight Key.Window (table_view table.now)) 0) }
+    ensures workers { IfOk result (λ n. n.workers ≡ unwrap_or (one_to_eight Key.Workers (table_view table.now)) 0) }
+    ensures range { IfOk result (λ n. (1 ≤ n.window) × (n.window ≤ 8)) }
+    ensures err { IfErr result (λ fault. first_found (take 8 (checks true (table_view table.now))) ≡ Some fault) }
 {
     if has_unknown_key(table) {
         return Err(SettingsFault::UnknownKey);
@@ -40,12 +57,52 @@ fn decide(alloc: Global, table: &Table, with_devices: bool) -> Result<Config, Se
     let shards = geometry_integer(table, Key::Shards)?;
     let window = one_to_eight(table, Key::Window)?;
     let workers = one_to_eight(table, Key::Workers)?;
-    let lost = lost_slots(alloc, table, slots)?;
-    let devices = if with_devices {
-        device_paths(alloc, table, slots)?
+    Ok(Numbers {
+        slots,
+        chunk,
+        block,
+        rows,
+        shards,
+        window,
+        workers,
+    })
+}
+
+// The paths, where the command uses devices.
+fn paths_used(
+    alloc: Global,
+    table: &Table,
+    slots: u32,
+    with_devices: bool,
+) -> Result<Vec<String>, SettingsFault>
+    requires { slots ≡ slots_written (table_view table.now) }
+    ensures ok { IfOk result
+        (λ paths. paths_used with_devices (table_view table.now) ≡ Some (map string_bytes paths.items)) }
+    ensures err { IfErr result (IsMemoryOr (IsOf Key.Devices (paths_used with_devices (table_view table.now)))) }
+{
+    if with_devices {
+        device_paths(alloc, table, slots)
     } else {
-        Vec::new(alloc)
-    };
+        Ok(Vec::new(alloc))
+    }
+}
+
+fn decide(alloc: Global, table: &Table, with_devices: bool) -> Result<Config, SettingsFault>
+    ensures ok { IfOk result (λ config. decided with_devices (table_view table.now) ≡ Ok (values_of config)) }
+    ensures in_range { IfOk result (λ config. AreInRange (values_of config)) }
+    ensures err { IfErr result (IsMemoryOr (λ fault. decided with_devices (table_view table.now) ≡ Err fault)) }
+{
+    let Numbers {
+        slots,
+        chunk,
+        block,
+        rows,
+        shards,
+        window,
+        workers,
+    } = numbers_in(table)?;
+    let lost = lost_slots(alloc, table, slots)?;
+    let devices = paths_used(alloc, table, slots, with_devices)?;
     match Geometry::new(
         slots as usize,
         u64::from(chunk),

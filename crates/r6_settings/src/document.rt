@@ -1,9 +1,9 @@
 //! What the keys of a settings document say.
-ghost use Rattle.std.specs.Prelude.{◌≡◌, ◌≤◌, ◌<◌, Some, IfErr, IfOk, IfSome, MatchResult, map, option_map, string_bytes};
+ghost use Rattle.std.specs.Prelude.{◌≡◌, ◌≤◌, ◌<◌, [], ◌∷◌, Some, IfErr, IfOk, IfSome, MatchResult, map, option_map, string_bytes};
 ghost use Rattle.toml.specs.Data.{get_member, as_str};
 ghost use Rattle.toml.specs.View.{items_view, view, table_view};
 ghost use Rattle.r6_settings.specs.Keys.{is_key, name_of};
-ghost use Rattle.r6_settings.specs.Settings.{IsMemoryOr, IsOf, MayBeLost, device_paths, each_of, geometry_integer, has_unknown_key, integer_from_to, lost_slots, one_to_eight, slot_below, slots_written};
+ghost use Rattle.r6_settings.specs.Settings.{IsMemoryOr, IsOf, MayBeLost, device_paths, each_of, geometry_integer, has_unknown_key, integer_from_to, lost_slots, may_be_lost, one_to_eight, slot_below, slots_written, where_it};
 
 use crate::fault::SettingsFault;
 use crate::key::Key;
@@ -87,6 +87,39 @@ fn slot_below(slots: u32, value: &Value) -> Result<u32, SettingsFault>
     }
 }
 
+// Two slots, of which neither is the other.
+fn two_slots(slots: u32, first: &Value, second: &Value) -> Result<[u32; 2], SettingsFault>
+    ensures ok { IfOk result (λ both.
+        where_it may_be_lost (each_of (slot_below slots) (items_view (first.now ∷ second.now ∷ []))) ≡ Some both) }
+    ensures may_be { IfOk result (λ both. MayBeLost slots both) }
+    ensures err { IfErr result
+        (IsOf Key.Lost (where_it may_be_lost (each_of (slot_below slots) (items_view (first.now ∷ second.now ∷ []))))) }
+{
+    let first = slot_below(slots, first)?;
+    let second = slot_below(slots, second)?;
+    if first == second {
+        Err(SettingsFault::Value(Key::Lost))
+    } else {
+        Ok([first, second])
+    }
+}
+
+// The slots that an array names, in their order.
+fn slots_among(alloc: Global, slots: u32, items: &[Value]) -> Result<Vec<u32>, SettingsFault>
+    ensures ok { IfOk result
+        (λ lost. where_it may_be_lost (each_of (slot_below slots) (items_view items.now)) ≡ Some lost.items) }
+    ensures may_be { IfOk result (λ lost. MayBeLost slots lost.items) }
+    ensures err { IfErr result
+        (IsMemoryOr (IsOf Key.Lost (where_it may_be_lost (each_of (slot_below slots) (items_view items.now))))) }
+{
+    match items {
+        [] => Ok(Vec::new(alloc)),
+        [only] => Ok(Vec::from_array(alloc, [slot_below(slots, only)?])?),
+        [first, second] => Ok(Vec::from_array(alloc, two_slots(slots, first, second)?)?),
+        _ => Err(SettingsFault::Value(Key::Lost)),
+    }
+}
+
 /// The slots that are lost at the start, in the order in which they are written.
 pub fn lost_slots(alloc: Global, table: &Table, slots: u32) -> Result<Vec<u32>, SettingsFault>
     requires { slots ≡ slots_written (table_view table.now) }
@@ -100,22 +133,7 @@ pub fn lost_slots(alloc: Global, table: &Table, slots: u32) -> Result<Vec<u32>, 
     let Some(items) = value.as_array() else {
         return Err(SettingsFault::Value(Key::Lost));
     };
-    let mut lost = Vec::new(alloc);
-    match items.as_slice() {
-        [] => {}
-        [only] => lost.push(slot_below(slots, only)?)?,
-        [first, second] => {
-            let first = slot_below(slots, first)?;
-            let second = slot_below(slots, second)?;
-            if first == second {
-                return Err(SettingsFault::Value(Key::Lost));
-            }
-            lost.push(first)?;
-            lost.push(second)?;
-        }
-        _ => return Err(SettingsFault::Value(Key::Lost)),
-    }
-    Ok(lost)
+    slots_among(alloc, slots, items.as_slice())
 }
 
 fn texts(alloc: Global, items: &[Value]) -> Result<Vec<String>, SettingsFault>

@@ -50,11 +50,11 @@ impl fmt::Display for SettingsFault {
 
     fn fmt<W: fmt::Write>(&self, f: &mut fmt::Formatter<W>) -> fmt::Result {
         match self {
-            SettingsFault::NotToml => write!(f, "settings: toml"),
-            SettingsFault::UnknownKey => write!(f, "settings: key"),
+            SettingsFault::NotToml => f.write_str("settings: toml"),
+            SettingsFault::UnknownKey => f.write_str("settings: key"),
             SettingsFault::Value(key) => write!(f, "settings: {}", key.name()),
             SettingsFault::Geometry(limit) => write!(f, "settings: geometry {}", limit.number()),
-            SettingsFault::Memory => write!(f, "memory"),
+            SettingsFault::Memory => f.write_str("memory"),
         }
     }
 }
