@@ -16,14 +16,14 @@ returns-clause-ok g c settings script said read =
     let events = c.in_ok-events.events.items in
     let ending = c.in_ok-ending.ending in
     let old = g.W.Write.contents c.args.out.now in
-    let mid = g.W.Write.contents c.run.new.out in (
+    let mid = g.W.Write.contents c.run.new.out in
+    let has_run = subst (λ script. HasRun config.geometry config.lost.items script old mid ending) c.as_slice.ensures.value c.in_ok-ending.ensures.ok in (
       values_of config,
       events,
       ending,
       said,
       of_file (λ (text : List ℕ). Say (lines_of text) events) script c.args.text.now read c.in_ok-events.ensures.ok,
-      run_kept config.geometry config.lost.items events ending old mid (g.W.Write.contents c.finish.new.out)
-          (subst (λ script. HasRun config.geometry config.lost.items script old mid ending) c.as_slice.ensures.value c.in_ok-ending.ensures.ok) c.finish.ensures.kept,
+      run_kept config.geometry config.lost.items events ending old mid (g.W.Write.contents c.finish.new.out) has_run c.finish.ensures.kept,
       c.from.ensures,
     )
 

@@ -34,4 +34,5 @@ returns c =
     let text = string_bytes c.loop-chunk_row.text in
     subst (λ rows. text ≡ begun ++ texts_below line rows)
     (end_is c.args.geometry.now c.min-end.result _ _ _ c.min-end.ensures c.slots.ensures.value c.rows.ensures.value c.chunk.ensures.value)
-    (all_written line begun text c.loop-chunk_row.chunk_row c.min-end.result c.loop-chunk_row.invariant c.loop-chunk_row-test.false c.loop-chunk_row.auto.chunk_row-end)
+    (all_written line begun text c.loop-chunk_row.chunk_row c.min-end.result c.loop-chunk_row.invariant c.loop-chunk_row-test.false
+    c.loop-chunk_row.auto.chunk_row-end)
