@@ -1,6 +1,6 @@
 -- Requests are handed in behind waits.
-use Rattle.std.proofs.Common.{◌≡◌, ◌⊎◌, ℕ, ◌-◌, ◌<◌, ◌≤◌, zero, suc, List, [], ◌∷◌, ◌++◌, length, inl, inr, refl, sym, ap, subst, ◌∙◌, arith, Option, Some, None, slice_get, slice_index_or, option_map, option_and_then}
-use Rattle.std.proofs.lemmas.Bool.{cases_lt}
+use Rattle.std.proofs.Common.{◌≡◌, ◌⊎◌, ℕ, ◌+◌, ◌-◌, ◌<◌, ◌≤◌, zero, suc, List, [], ◌∷◌, ◌++◌, length, inl, inr, refl, sym, ap, subst, ◌∙◌, arith, Option, Some, None, slice_get, slice_index_or, option_map, option_and_then, is_some, false}
+use Rattle.std.proofs.lemmas.Bool.{cases_lt, false≢true}
 use Rattle.std.proofs.lemmas.List.{length-append}
 use Rattle.std.proofs.lemmas.List.Elements.{All-push}
 use Rattle.std.proofs.lemmas.Option.{slice_get_within, slice_get-get_or}
@@ -73,6 +73,23 @@ popped events waits asked d due x = record {
   last = x.last;
   known = λ k e below. x.known (suc k) e (omega (arith, below));
 }
+
+-- ---- what may begin
+
+-- what is due first stands at the front
+pub at-first : (due : List Due) (d front : Due) → front ≡ slice_index_or due 0 front → slice_get due 0 ≡ Some d → d ≡ front
+at-first due d front is at =
+    Some-inj d (slice_index_or due 0 front) (sym at ∙ slice_get-get_or due 0 front (slice_get_within due 0 d at)) ∙ sym is
+
+-- no check or repair is under way
+pub none_of : {A : Type 0} (o : Option A) → is_some o ≡ false → o ≡ None
+none_of None is = refl
+none_of (Some x) is = absurd (false≢true (sym is))
+
+-- as many requests are open as have no answer
+pub open-is : (asked entries : ℕ) (all answered unanswered : ℕ) → asked ≡ all → entries ≡ answered → unanswered + answered ≡ all
+    → asked - entries ≡ unanswered
+open-is asked entries all answered unanswered e e' counted = omega (arith, e, e', counted)
 
 -- ---- a request is accepted
 

@@ -261,6 +261,31 @@ same-passing told shape events geometry number snapshot before numbers shard ref
       comes = x.comes;
     }
 
+-- it is over
+has-ended : {D : Type 0} (told : D → Telling) (shape : Shape) (events : List Event) (geometry : Shape) (number : ℕ) (snapshot : Snapshot)
+    (before : ℕ → ℕ → Option Telling) (numbers : List ℕ) (shard : Shard (Parts D)) (refused : List (ℕ × Refusal))
+    (passing : Passing) (passed : List Passed) (last : Passed) (handed : List Handed) (due : List Due)
+    → last.event ≡ passing.event → last.task ≡ passing.task
+    → IsDone told shape events geometry number snapshot before numbers shard refused (Some passing) passed handed due
+    → IsDone told shape events geometry number snapshot before numbers shard refused None (passed ++ last ∷ []) handed due
+has-ended told shape events geometry number snapshot before numbers shard refused passing passed last handed due event task x =
+    let A = map passed_of passed in
+    record {
+      shape_is = x.shape_is;
+      place = x.place;
+      begun = x.begun;
+      ops = x.ops;
+      requests = x.requests;
+      served = x.served;
+      passes = x.passes
+          ∙ ap (λ (k : ℕ). A ++ (k, passing.task) ∷ due_passes due) (sym event)
+          ∙ ap (λ (k : Pass). A ++ (last.event, k) ∷ due_passes due) (sym task)
+          ∙ sym (append_assoc A (passed_of last ∷ []) (due_passes due))
+          ∙ ap (λ y. y ++ due_passes due) (sym (map-append passed_of passed (last ∷ [])));
+      parts = x.parts;
+      comes = x.comes;
+    }
+
 -- the shard goes on
 pub has-gone : {D : Type 0} (told : D → Telling) (shape : Shape) (events : List Event) (geometry : Shape) (number : ℕ) (snapshot : Snapshot)
     (before : ℕ → ℕ → Option Telling) (numbers : List ℕ) (shard shard' : Shard (Parts D)) (refused : List (ℕ × Refusal))
@@ -407,6 +432,20 @@ gone-passing told shape events geometry number snapshot before numbers old mid p
     h.refused (sym is) h.kept.passed h.kept.handed h.kept.due
     (has-gone told shape events geometry number snapshot before numbers old.shard mid.shard old.refused.items old.passing old.passed.items
     old.handed.items old.due.items h.course h.lasts h.asked x))
+
+-- a check or repair is over
+pub gone-over : {D : Type 0} (told : D → Telling) (shape : Shape) (events : List Event) (geometry : Shape) (number : ℕ) (snapshot : Snapshot)
+    (before : ℕ → ℕ → Option Telling) (numbers : List ℕ) (old : Runner D) (passing : Passing) (passed : List Passed) (last : Passed)
+    → old.passing ≡ Some passing → passed ≡ old.passed.items ++ last ∷ [] → last.event ≡ passing.event → last.task ≡ passing.task
+    → HasDone told shape events geometry number snapshot before numbers old
+    → IsDone told shape events geometry number snapshot before numbers old.shard old.refused.items None passed old.handed.items old.due.items
+gone-over told shape events geometry number snapshot before numbers old passing passed last is more event task x =
+    subst (λ y. IsDone told shape events geometry number snapshot before numbers old.shard old.refused.items None y old.handed.items old.due.items)
+    (sym more)
+    (has-ended told shape events geometry number snapshot before numbers old.shard old.refused.items passing old.passed.items last
+    old.handed.items old.due.items event task
+    (subst (λ y. IsDone told shape events geometry number snapshot before numbers old.shard old.refused.items y old.passed.items old.handed.items old.due.items)
+    is x))
 
 -- of one shard, one taking behind another
 pub goes-then : {D : Type 0} (told : D → Telling) (shape : Shape) (events : List Event) (number number' : ℕ) (a b c : List ℕ) (r s t : Runner D)

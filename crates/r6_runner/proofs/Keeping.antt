@@ -8,7 +8,6 @@ use Rattle.r6_shard.specs.Handing.{parts_tell}
 use Rattle.r6_shard.specs.Sound.{IsSoundIn, parts_promise}
 use Rattle.r6_health.specs.declared.history.View.{View}
 use Rattle.r6_health.specs.Passes.{view_of}
-use Rattle.r6_world.specs.PlainArray as world
 use Rattle.r6_core.specs.Shards.{CoreView, world_shard}
 use Rattle.r6_core.specs.declared.turn.Task.TheVariants as task
 use Rattle.r6_core.specs.Effects.{HasTaskFault}

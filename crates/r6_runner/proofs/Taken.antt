@@ -10,6 +10,8 @@ use Rattle.r6_frames.specs.declared.op.Op.{Op}
 use Rattle.r6_shard.specs.declared.parts.Part.{Part}
 use Rattle.r6_shard.specs.declared.parts.Parts.{Parts}
 use Rattle.r6_shard.specs.declared.shard.Shard.{Shard}
+use Rattle.r6_shard.specs.Handing.{HandsIn}
+use Rattle.r6_shard.specs.Whole.{IsClean}
 use Rattle.r6_runner.specs.declared.due.Due.{Due}
 use Rattle.r6_runner.specs.declared.pass.Passing.{Passing}
 use Rattle.r6_runner.specs.declared.pass.Passed.{Passed}
@@ -57,6 +59,29 @@ pass-on : {D : Type 0} (told : D → Telling) (taken : Bool) (part : Part D) (ol
     → new.pass ≡ old.pass
 pass-on told true part old new taken = taken.1.pass
 pass-on told false part old new same = ap (λ (y : Shard _). y.pass) same
+
+-- what stays of a shard to which a part is handed in, taken or not
+pub record KeepsRest {D : Type 0} (old new : Shard (Parts D)) : Type 0 where
+  pub named : new.named ≡ old.named
+  pub saw_out : new.saw_out ≡ old.saw_out
+  pub asked : new.asked.items ≡ old.asked.items
+  pub room : new.room ≡ old.room
+
+pub keeps-rest : {D : Type 0} (told : D → Telling) (part : Part D) (earlier : Option (Part D)) (old new : Shard (Parts D))
+    → HandsIn told part earlier old new → KeepsRest old new
+keeps-rest told part earlier old new h = record { named = h.named; saw_out = h.saw_out; asked = h.ledger.asked; room = h.ledger.room }
+
+pub keeps-same : {D : Type 0} (old new : Shard (Parts D)) → new ≡ old → KeepsRest old new
+keeps-same old new same = record {
+  named = ap (λ (y : Shard _). y.named) same;
+  saw_out = ap (λ (y : Shard _). y.saw_out) same;
+  asked = ap (λ (y : Shard _). y.asked.items) same;
+  room = ap (λ (y : Shard _). y.room) same;
+}
+
+pub was-clean : {D : Type 0} (old new : Shard (Parts D)) → KeepsRest old new → IsClean new.named new.saw_out → IsClean old.named old.saw_out
+was-clean old new kept clean =
+    subst (λ (y : List Bool). IsClean y old.saw_out) kept.named (subst (λ (y : Bool). IsClean new.named y) kept.saw_out clean)
 
 pub handed-counted : {D : Type 0} (told : D → Telling) (old new : Runner D) (number : ℕ) (part : Part D) → IsHandedIn told number part old new
     → KeepsCounted old new

@@ -1,6 +1,6 @@
-use Rattle.std.proofs.Common.{sym, subst, ◌∙◌}
+use Rattle.std.proofs.Common.{◌≡◌, refl, sym, subst, ◌∙◌}
 use Rattle.r6_runner.specs.Counted.{HasCountedAll}
-use Rattle.r6_runner.specs.Runners.{HasDone}
+use Rattle.r6_runner.specs.Runners.{HasDone, KeepsSelf, taken_by}
 use Rattle.r6_runner.specs.Waits.{HasAwaited}
 use Rattle.r6_runner.proofs.Done.{self-on}
 use Rattle.r6_runner.specs.Sound.{IsSoundIn}
@@ -61,4 +61,37 @@ returns-clause-course g c = λ shape events number numbers geometry snapshot ear
       | in-Some+then-not-begin_next w ↦
           subst (HasDone told shape events geometry number snapshot earlier numbers) (sym w.self-is)
           (w.begin_next.ensures.course shape events number numbers geometry snapshot earlier before)
+    ]
+
+pub loop-init : goal.loop-init
+loop-init g c = (
+  tt,
+  tt,
+  record {
+    course = λ shape events number numbers geometry snapshot earlier x. x;
+    counted = λ rows x. x;
+    sound = λ shape number slot x. x;
+    awaited = λ events x. x;
+    same = record { pass = refl; place = refl; room = refl };
+    count = refl;
+  },
+)
+
+pub returns-clause-same : goal.returns-clause-same
+returns-clause-same g c =
+    let old = c.args.self.now in
+    let before = c.loop.invariant.2.same in
+    elim c.match-next.branch [
+      | in-None w ↦ subst (KeepsSelf old) (sym w.self-is) before
+      | in-Some+then-not-begin_next w ↦
+          subst (KeepsSelf old) (sym w.self-is) (self-on old c.loop.self w.begin_next.new.self before w.begin_next.ensures.same)
+    ]
+
+pub returns-clause-count : goal.returns-clause-count
+returns-clause-count g c =
+    let old = c.args.self.now in
+    let before = c.loop.invariant.2.count in
+    elim c.match-next.branch [
+      | in-None w ↦ subst (λ s. taken_by s ≡ taken_by old) (sym w.self-is) before
+      | in-Some+then-not-begin_next w ↦ subst (λ s. taken_by s ≡ taken_by old) (sym w.self-is) (w.begin_next.ensures.count ∙ before)
     ]

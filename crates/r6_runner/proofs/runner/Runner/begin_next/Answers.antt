@@ -1,4 +1,4 @@
-use Rattle.std.proofs.Common.{ap, arith, length, refl, subst, slice_get}
+use Rattle.std.proofs.Common.{◌≤◌, ℕ, ap, arith, length, refl, subst, sym, slice_get}
 use Rattle.r6_core.specs.declared.turn.Task.TheVariants as task
 use Rattle.r6_runner.specs.Tasks.{request_of, pass_of}
 use Rattle.r6_runner.specs.Waits.{AreAwaited}
@@ -107,3 +107,21 @@ returns-in-Repair-clause-count g c =
     let none = c.may_begin.ensures.none c.if-not-may_begin.false in
     let more = passing-count c.in-Some.due.event task.Repair _ c.begin_pass-in-Repair.new.self c.begin_pass-in-Repair.ensures.begun none in
     let due = ap length c.in-Some.ensures.items in omega (arith, more, due)
+
+pub invariant_of-self : goal.invariant_of-self
+invariant_of-self g c =
+    let old = c.args.self.now in
+    let before = old.due.ok.0 in
+    let rest = c.pop_front.new.self.ok.0 in
+    let less = c.pop_front.ensures.len in
+    record {
+      unskipped = old.unskipped;
+      within = omega (arith, before, rest, less, old.within);
+      others_within = old.others_within;
+      shard_room = old.shard_room;
+      due_room = subst (λ (room : ℕ). old.room ≤ room) (sym c.pop_front.ensures.capacity) old.due_room;
+      refused_room = old.refused_room;
+      passed_room = old.passed_room;
+      handed_room = old.handed_room;
+      others_room = old.others_room;
+    }

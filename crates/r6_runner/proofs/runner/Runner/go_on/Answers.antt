@@ -1,5 +1,6 @@
-use Rattle.std.proofs.Common.{◌≡◌, ◌≤◌, ℕ, All, Option, ap, arith, length, sym, subst, ◌∙◌}
+use Rattle.std.proofs.Common.{◌≡◌, ◌≤◌, ℕ, All, Bool, Option, true, false, ap, arith, inr, length, refl, sym, subst, ◌∙◌}
 use Rattle.std.specs.Prelude.{option_to_list}
+use Rattle.std.proofs.lemmas.Bool.{false≢true}
 use Rattle.std.proofs.lemmas.List.{length_push}
 use Rattle.std.proofs.lemmas.List.Elements.{All-push}
 use Rattle.r6_world.specs.ShardStates.{Counts}
@@ -8,7 +9,7 @@ use Rattle.r6_runner.specs.declared.pass.Passing.{Passing}
 use Rattle.r6_core.specs.Shards.{counts_of}
 use Rattle.r6_runner.proofs.Awaiting.{alike}
 use Rattle.r6_runner.proofs.Counting.{over-counted, turned-counted}
-use Rattle.r6_runner.proofs.Done.{gone-passing}
+use Rattle.r6_runner.proofs.Done.{gone-over, gone-passing}
 use Rattle.r6_runner.proofs.runner.Runner.go_on.Goals as goal
 
 pub returns-then-is_over-clause-counted : goal.returns-then-is_over-clause-counted
@@ -18,6 +19,24 @@ returns-then-is_over-clause-counted g c =
     over-counted old.rows old.shard.core old.passing old.passed.items c.push_reserved.new.self.items c.in-Some.passing q c.in-Some.is
     (c.is_over.ensures.0 c.if-is_over.true) c.push_reserved.ensures.items (ap (λ r. r.before) c.over.ensures) (ap (λ r. r.left_out) c.over.ensures)
     (ap (λ r. counts_of r.after) c.over.ensures ∙ c.counts.ensures)
+
+pub returns-then-is_over-clause-course : goal.returns-then-is_over-clause-course
+returns-then-is_over-clause-course g c = λ shape events number numbers geometry snapshot before x.
+    let q = c.over.result in
+    let done = gone-over g.D.BlockDevice.told shape events geometry number snapshot before numbers c.args.self.now c.in-Some.passing
+    c.push_reserved.new.self.items q c.in-Some.is c.push_reserved.ensures.items (ap (λ (p : Passed). p.event) c.over.ensures)
+    (ap (λ (p : Passed). p.task) c.over.ensures) x in
+    record {
+      shape_is = done.shape_is;
+      place = done.place;
+      begun = done.begun;
+      ops = done.ops;
+      requests = done.requests;
+      served = done.served;
+      passes = done.passes;
+      parts = done.parts;
+      comes = done.comes;
+    }
 
 pub returns-else-is_over-clause-course : goal.returns-else-is_over-clause-course
 returns-else-is_over-clause-course g c = λ shape events number numbers geometry snapshot before x.
@@ -89,3 +108,31 @@ invariant_of-self-else-is_over g c =
       handed_room = now.handed_room;
       others_room = now.others_room;
     }
+
+-- what is not over was not given up
+not-given : (given over : Bool) → (given ≡ true → over ≡ true) → over ≡ false → given ≡ false
+not-given true over is no' = absurd (false≢true (sym no' ∙ is refl))
+not-given false over is no' = refl
+
+pub turn-turned-requires : goal.turn-turned-requires
+turn-turned-requires g c = not-given c.in-Some.passing.given_up c.is_over.result (λ given. c.is_over.ensures.1 (inr given)) c.if-is_over.false
+
+pub returns-in_default-clause-counted : goal.returns-in_default-clause-counted
+returns-in_default-clause-counted g c = λ rows x. (x.0, x.1, x.1, x.2)
+
+pub returns-then-is_over-clause-sound : goal.returns-then-is_over-clause-sound
+returns-then-is_over-clause-sound g c = λ shape number slot x. x
+
+pub returns-then-is_over-clause-awaited : goal.returns-then-is_over-clause-awaited
+returns-then-is_over-clause-awaited g c = λ events x. x
+
+pub returns-then-is_over-clause-same : goal.returns-then-is_over-clause-same
+returns-then-is_over-clause-same g c = record { pass = refl; place = refl; room = refl }
+
+pub returns-else-is_over-clause-sound : goal.returns-else-is_over-clause-sound
+returns-else-is_over-clause-sound g c = c.turn-turned.ensures.sound
+
+pub returns-else-is_over-clause-same : goal.returns-else-is_over-clause-same
+returns-else-is_over-clause-same g c =
+    let h = c.turn-turned.ensures.course in
+    record { pass = c.turn-turned.ensures.pass; place = h.lasts.same.1; room = h.kept.room }

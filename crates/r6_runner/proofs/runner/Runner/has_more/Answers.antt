@@ -1,15 +1,12 @@
-use Rattle.std.proofs.Common.{◌≡◌, List, [], ◌∷◌, length, Option, None, Some, deque_len, is_some, false, ap, arith, refl, sym, ◌∙◌}
+use Rattle.std.proofs.Common.{◌≡◌, List, [], ◌∷◌, length, deque_len, ap, arith, refl, sym, ◌∙◌}
 use Rattle.std.specs.Prelude.{not}
 use Rattle.std.proofs.lemmas.Bool.{eqb-true, false≢true}
+use Rattle.r6_runner.proofs.Awaiting.{none_of}
 use Rattle.r6_runner.proofs.runner.Runner.has_more.Goals as goal
 
 none_in : {A : Type 0} (items : List A) → length items ≡ 0 → items ≡ []
 none_in [] long = refl
 none_in (item ∷ items) long = absurd (omega (arith, long))
-
-none_of : {A : Type 0} (o : Option A) → is_some o ≡ false → o ≡ None
-none_of None is = refl
-none_of (Some x) is = absurd (false≢true (sym is))
 
 pub returns-then-not-is_empty : goal.returns-then-not-is_empty
 returns-then-not-is_empty g c = λ none. absurd (false≢true (sym none ∙ ap not c.if-not-is_empty.true))

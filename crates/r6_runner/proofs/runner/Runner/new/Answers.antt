@@ -1,5 +1,7 @@
-use Rattle.std.proofs.Common.{◌-◌, [], None, refl, sym, subst}
+use Rattle.std.proofs.Common.{◌≡◌, ◌-◌, [], All, None, ap, arith, length, refl, sym, subst}
+use Rattle.std.proofs.lemmas.List.Elements.{All-nil}
 use Rattle.r6_shard.specs.Handing.{parts_tell}
+use Rattle.r6_runner.specs.declared.pass.Passed.{Passed}
 use Rattle.r6_runner.specs.Counted.{IsCounting, rows_of_shard}
 use Rattle.r6_runner.proofs.Awaiting.{none}
 use Rattle.r6_runner.proofs.Counting.{counting-first}
@@ -44,3 +46,25 @@ returns-clause-pass g c = c.in_ok-shard.ensures.pass
 
 pub returns-clause-place : goal.returns-clause-place
 returns-clause-place g c = c.in_ok-shard.ensures.place
+
+pub invariant_of-result : goal.invariant_of-result
+invariant_of-result g c =
+    let rooms = c.in_ok-rooms.ensures in
+    let shard = c.in_ok-shard.ensures in
+    let due = ap length rooms.0 in
+    let refused = ap length rooms.2 in
+    let passed = ap length rooms.4 in
+    let handed = ap length rooms.6 in
+    let others = ap length rooms.8 in
+    let asked = ap length shard.empty in
+    record {
+      unskipped = λ clean. subst (All (λ (p : Passed). p.after.skipped ≡ 0)) (sym rooms.4) (All-nil (λ (p : Passed). p.after.skipped ≡ 0));
+      within = omega (arith, due, refused, passed, handed, asked);
+      others_within = omega (arith, others, handed);
+      shard_room = omega (arith, shard.room);
+      due_room = rooms.1;
+      refused_room = rooms.3;
+      passed_room = rooms.5;
+      handed_room = rooms.7;
+      others_room = rooms.9;
+    }
