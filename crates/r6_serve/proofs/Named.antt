@@ -1,5 +1,5 @@
 -- Sound slots are left alone, shard by shard.
-use Rattle.std.proofs.Common.{◌≡◌, ◌∙◌, ℕ, List, All, Bool, true, false, Some, inl, inr, refl, sym, ap, subst, slice_get, slice_index_or}
+use Rattle.std.proofs.Common.{◌≡◌, ◌∙◌, ℕ, List, All, Bool, true, false, inl, inr, refl, sym, ap, subst, slice_index_or}
 use Rattle.std.specs.Prelude.{◌==◌}
 use Rattle.std.specs.List.{AllZip}
 use Rattle.std.proofs.lemmas.Bool.{cases_Bool, eqb-true, false≢true}
@@ -18,7 +18,7 @@ use Rattle.r6_feed.specs.declared.event.Event.{Event}
 use Rattle.r6_feed.specs.declared.event.Event.TheVariants.{Request, Wait, Fail, Attach, Check, Repair}
 use Rattle.r6_feed.specs.Events.{IsPromised, ArePromised}
 use Rattle.r6_runner.specs.declared.runner.Runner.{Runner}
-use Rattle.r6_runner.specs.Sound.{IsSoundIn, KeepsPromised}
+use Rattle.r6_runner.specs.Sound.{KeepsPromised}
 use Rattle.r6_runner.specs.Splitting.{KeepsAll}
 use Rattle.r6_serve.specs.Named.{AttachFailsNone, AttachesFailNone, declares, LeaveSoundAlone, BeginsSound}
 use Rattle.r6_serve.specs.Passes.{CallAsTheyMay}

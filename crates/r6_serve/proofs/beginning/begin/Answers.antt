@@ -116,3 +116,25 @@ new-requires-2-clause-events g c = c.requires.events
 
 pub new-requires-2-clause-first : goal.new-requires-2-clause-first
 new-requires-2-clause-first g c = ap (λ (v : View). v.mine) c.split-caller.ensures.newcomer
+
+pub rooms_of-requires : goal.rooms_of-requires
+rooms_of-requires g c =
+    let shards = c.shards.ensures.value ∙ ap (λ (s : Shape). s.shards) c.requires.shape in
+    let whole = c.open-book.ensures.parts in
+    let three = c.requires.blank.2 in record { parts = (omega (arith, shards, whole, three), c.open-book.ensures.amount) }
+
+pub takings_of-requires-clause-parts : goal.takings_of-requires-clause-parts
+takings_of-requires-clause-parts g c =
+    let shards = c.shards.ensures.value ∙ ap (λ (s : Shape). s.shards) c.requires.shape in
+    let whole = c.open-book.ensures.parts in
+    let three = c.requires.blank.2 in
+    let left = c.in_ok-rooms.ensures.share in
+    let parts = left.0 in (omega (arith, shards, whole, three, parts), left.1)
+
+pub new-requires-2-clause-parts : goal.new-requires-2-clause-parts
+new-requires-2-clause-parts g c =
+    let shards = c.shards.ensures.value ∙ ap (λ (s : Shape). s.shards) c.requires.shape in
+    let whole = c.open-book.ensures.parts in
+    let three = c.requires.blank.2 in
+    let parts = c.in_ok-rooms.ensures.share.0 in
+    let rest = c.in_ok-takings.ensures.parts in (omega (arith, shards, whole, three, parts, rest), c.in_ok-takings.ensures.amount)

@@ -1,4 +1,5 @@
-use Rattle.std.proofs.Common.{◌≡◌, ◌∙◌, [], ap, subst, sym}
+use Rattle.std.proofs.Common.{◌≡◌, ◌≤◌, ◌∙◌, ℕ, [], ap, length, subst, sym}
+use Rattle.r6_lists.specs.Events.{tasks_of}
 use Rattle.r6_shard.specs.Parts.{part_in}
 use Rattle.r6_shard.specs.Handing.{parts_tell}
 use Rattle.r6_runner.specs.Counted.{HasCounted, rows_of_shard}
@@ -78,3 +79,13 @@ returns-clause-number g c = ap (λ consumer. consumer.shard) c.new-2.ensures.1 �
 
 pub returns-clause-pass : goal.returns-clause-pass
 returns-clause-pass g c = ap (λ runner. runner.shard.pass) c.new-2.ensures.0 ∙ c.in_ok-runner.ensures.pass
+
+pub new-requires-2-clause-fresh : goal.new-requires-2-clause-fresh
+new-requires-2-clause-fresh g c = (c.in_ok-runner.ensures.room.1, c.in_ok-consumer.ensures.empty.0)
+
+pub new-requires-2-clause-room : goal.new-requires-2-clause-room
+new-requires-2-clause-room g c =
+    let shape = g.L.Events.shape in
+    let events = g.L.Events.events in
+    subst (λ (n : ℕ). length (tasks_of shape c.in_ok-consumer.consumer.shard events) ≤ n) (sym c.in_ok-runner.ensures.room.0)
+    (subst (λ (n : ℕ). length (tasks_of shape n events) ≤ c.args.room.tasks) (sym c.in_ok-consumer.ensures.shard) c.requires.room)

@@ -1,11 +1,18 @@
-use Rattle.std.proofs.Common.{arith, ◌≡◌, ◌∙◌, ◌≤◌, ℕ, length, ap, sym, subst}
+use Rattle.std.proofs.Common.{arith, ◌≡◌, ◌∙◌, ◌≤◌, ℕ, length, refl, ap, sym, subst}
 use Rattle.std.specs.List.{AllZip}
 use Rattle.std.proofs.lemmas.Iterator.Adapters.{YieldsList-from_vec}
 use Rattle.std.proofs.lemmas.Iterator.Consumers.{YieldsList-turn, YieldsList-end}
 use Rattle.std.proofs.lemmas.List.{length_push}
 use Rattle.std.proofs.lemmas.List.Elements.{All-push}
 use Rattle.std.proofs.lemmas.Slice.Zip.{AllZip-long, all_zipped_more}
-use Rattle.r6_health.specs.Passes.{IsPassOf}
+use Rattle.r6_layout.specs.Shape.{Shape, IsShape}
+use Rattle.r6_world.specs.Registers.{Snapshot}
+use Rattle.r6_health.specs.declared.history.View.{View}
+use Rattle.r6_health.specs.Passes.{IsPassOf, view_of}
+use Rattle.r6_health.specs.Views.{newcomer}
+use Rattle.r6_lists.specs.Events.{tasks_of}
+use Rattle.r6_shard.specs.Beginnings.{IsFirstPass}
+use Rattle.r6_feed.specs.Events.{events_of}
 use Rattle.r6_serve.specs.Named.{BeginsSound}
 use Rattle.r6_serve.specs.Serves.{Begins}
 use Rattle.r6_serve.proofs.Numbers.{fewer, one_more, unchanged}
@@ -145,3 +152,29 @@ taking_of-requires-clause-part g c = (c.split_off-part.ensures.parts, c.split_of
 
 pub split_off-part-requires-clause-left_backed : goal.split_off-part-requires-clause-left_backed
 split_off-part-requires-clause-left_backed g c = λ _. sym c.loop-parts.invariant.2.none
+
+pub split-pass-requires : goal.split-pass-requires
+split-pass-requires g c = c.loop-parts.invariant.2.pass
+
+pub taking_of-requires-clause-room : goal.taking_of-requires-clause-room
+taking_of-requires-clause-room g c =
+    let number = c.len-in-loop-parts.result in
+    let same : c.room_for.result ≡ length (tasks_of g.L.Events.shape number g.L.Events.events) =
+    c.room_for.ensures ∙ ap (λ (s : Shape). length (tasks_of s number (events_of g.D.BlockDevice.told c.args.events.now))) c.requires.shape
+    ∙ ap (λ events. length (tasks_of g.L.Events.shape number events)) c.requires.events in
+    omega (arith, same)
+
+pub taking_of-requires-clause-limits : goal.taking_of-requires-clause-limits
+taking_of-requires-clause-limits g c = subst IsShape (sym c.requires.shape) c.requires.limits
+
+-- a pass that is split from a first one is a first one
+first-split : (shape own : Shape) (snapshot : Snapshot) (v w : View) → own ≡ shape → w ≡ newcomer v → IsFirstPass shape snapshot v
+    → IsFirstPass own snapshot w
+first-split shape own snapshot v w is new first =
+    subst (λ (s : Shape). IsFirstPass s snapshot w) (sym is) (subst (IsFirstPass shape snapshot) (sym new)
+    (record { slots = first.slots; shards = first.shards; began = first.began; seen = first.seen; mine = refl }))
+
+pub taking_of-requires-clause-pass : goal.taking_of-requires-clause-pass
+taking_of-requires-clause-pass g c =
+    first-split g.L.Events.shape c.args.opening.now.geometry.now c.args.opening.now.start.now (view_of c.args.first.now) (view_of c.split-pass.result)
+    c.requires.shape (c.split-pass.ensures.newcomer ∙ ap newcomer c.loop-parts.invariant.2.same) c.requires.first

@@ -1,7 +1,8 @@
-use Rattle.std.proofs.Common.{arith, ◌≡◌, ◌∙◌, map, refl, slice_index_or, subst, true}
+use Rattle.std.proofs.Common.{arith, ◌≡◌, ◌∙◌, ap, length, map, refl, slice_index_or, subst, true}
 use Rattle.std.proofs.lemmas.Slice.Zip.{AllZip-long}
 use Rattle.r6_health.specs.Passes.{IsPassOf, view_of}
 use Rattle.r6_health.specs.Registers.{starting}
+use Rattle.r6_feed.specs.Events.{events_of}
 use Rattle.r6_serve.specs.Serves.{HasAnswered, HasRun}
 use Rattle.r6_serve.proofs.EachShard.{each_of, have_served, less, numbered_still, read_again}
 use Rattle.r6_serve.proofs.Kept.{have_still}
@@ -164,3 +165,16 @@ run_all-requires-clause-whole g c κs within = c.requires.whole
 
 pub settle-requires-clause-parts : goal.settle-requires-clause-parts
 settle-requires-clause-parts g c = c.requires.blank.2
+
+pub begin-requires-clause-events : goal.begin-requires-clause-events
+begin-requires-clause-events g c = ap (events_of g.D.BlockDevice.told) c.deref.ensures.value ∙ c.requires.events
+
+pub invariant_of-station : goal.invariant_of-station
+invariant_of-station g c =
+    let made = c.in_ok-begun.ensures.rooms in
+    record {
+      shape = c.requires.shape;
+      slots = (made.0, made.1);
+      shards = ap length c.deref-2.ensures.value ∙ made.6;
+      rested = ap length c.deref-3.ensures.value ∙ made.7;
+    }
