@@ -12,3 +12,6 @@ returns-in-verify c = rw (c.in_ok-first.was, c.in-verify.is) refl
 
 pub returns-in-simulate : goal.returns-in-simulate
 returns-in-simulate c = rw (c.in_ok-first.was, c.in-simulate.is) refl
+
+pub returns-in_ok-script-in-run : goal.returns-in_ok-script-in-run
+returns-in_ok-script-in-run c = rw (c.in_ok-first.was, c.in-run.is, c.in_ok-script-in-run.was) refl
