@@ -1,4 +1,4 @@
-use Rattle.std.proofs.Common.{inl, inr, refl, length, ap, ◌∙◌, ◌∷◌, [], arith}
+use Rattle.std.proofs.Common.{◌≤◌, ℕ, inl, inr, refl, length, ap, subst, sym, ◌∙◌, ◌∷◌, [], arith}
 use Rattle.std.proofs.lemmas.List.{length-append}
 use Rattle.r6_world.specs.PlainArray.{block_of}
 use Rattle.r6_frames.specs.Views.{op_of}
@@ -55,3 +55,41 @@ pub invariant_of-self-clause-within : goal.invariant_of-self-clause-within
 invariant_of-self-clause-within g c =
     let asked = ap length c.in-Ok.ensures.accepted.asked ∙ length-append c.args.self.now.shard.asked.items (_ ∷ []) in
     omega (arith, asked, c.requires.room)
+
+pub submit-requires : goal.submit-requires
+submit-requires g c = record { room = omega (arith, c.requires.room, c.args.self.now.shard_room) }
+
+pub returns-in-Err-clause-counted : goal.returns-in-Err-clause-counted
+returns-in-Err-clause-counted g c =
+    let old = c.args.self.now in
+    stays-counted old.rows old.shard.core c.submit.new.self.core old.passing old.passed.items c.submit.ensures.passed c.submit.ensures.lasts
+
+pub returns-in-Ok-clause-sound : goal.returns-in-Ok-clause-sound
+returns-in-Ok-clause-sound g c = c.submit.ensures.sound
+
+pub returns-in-Err-clause-sound : goal.returns-in-Err-clause-sound
+returns-in-Err-clause-sound g c = c.submit.ensures.sound
+
+pub returns-in-Ok-clause-place : goal.returns-in-Ok-clause-place
+returns-in-Ok-clause-place g c = c.submit.ensures.lasts.same.1
+
+pub returns-in-Err-clause-place : goal.returns-in-Err-clause-place
+returns-in-Err-clause-place g c = c.submit.ensures.lasts.same.1
+
+pub invariant_of-self-in-Err : goal.invariant_of-self-in-Err
+invariant_of-self-in-Err g c =
+    let old = c.args.self.now in
+    let same = c.in-Err.ensures.same in
+    let asked = ap (λ (y : Shard _). length y.asked.items) same in
+    let more = ap length c.push_reserved.ensures.items ∙ length-append old.refused.items (_ ∷ []) in
+    record {
+      unskipped = λ clean. old.unskipped (c.submit.ensures.remembers clean);
+      within = omega (arith, asked, more, c.requires.room);
+      others_within = old.others_within;
+      shard_room = subst (λ (y : Shard _). old.room ≤ y.room) (sym same) old.shard_room;
+      due_room = old.due_room;
+      refused_room = subst (λ (room : ℕ). old.room ≤ room) (sym c.push_reserved.ensures.capacity) old.refused_room;
+      passed_room = old.passed_room;
+      handed_room = old.handed_room;
+      others_room = old.others_room;
+    }
