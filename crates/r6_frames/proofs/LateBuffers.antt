@@ -157,6 +157,18 @@ record IsSameRow (old new : FrameUse) : Type 0 where
   owed : owed_at new ≡ owed_at old
   requests : (frame : ℕ) → request_at frame new ≡ request_at frame old
 
+-- whatever a hold hears, what holds before and after each event holds of it
+pub heard_has : (planned : Planned) (position : ℕ) (P : Planned → Type 0) (block : Block) → P planned → ((event : Event) → P (planned_after planned event))
+    → P (with_answer planned position block)
+heard_has planned position P block before later =
+    by_tests (is_out (cell_at planned.hold.cells position).standing) (is_sent (cell_at planned.hold.cells position).writing)
+  where
+    by_tests : (out sent : Bool)
+        → P (if out then planned else (if sent then planned_after planned (Confirms position) else planned_after planned (Gives position block)))
+    by_tests true sent = before
+    by_tests false true = later (Confirms position)
+    by_tests false false = later (Gives position block)
+
 module _ (fs : FramesState) (token : ℕ) (c : Outstanding) (sound : IsSound fs) (late : IsLate fs token c) where
   came_home : (held : List FrameUse) (spare : ℕ) (old new : FrameUse) → use_at fs.held c.frame ≡ old → held ≡ set fs.held c.frame new → IsHome fs c new → IsSameRow old new
       → spare + free_at old ≡ fs.spare + free_at new → CameHome fs token (left_of fs token held spare)
@@ -236,15 +248,6 @@ module _ (fs : FramesState) (token : ℕ) (c : Outstanding) (sound : IsSound fs)
     pub returning_away : (position : ℕ) → position ≡ place_of fs c → is_away r position ≡ true
     returning_away position at = ap (is_away r) at ∙ away_from_frame
 
-    -- whatever the hold hears, it is ended and as wide
-    heard_has : (P : Planned → Type 0) (block : Block) → P r.planned → ((event : Event) → P (planned_after r.planned event)) → P (with_answer r.planned (place_of fs c) block)
-    heard_has P block before later = by_tests (is_out (cell_at r.planned.hold.cells (place_of fs c)).standing) (is_sent (cell_at r.planned.hold.cells (place_of fs c)).writing)
-      where
-        by_tests : (out sent : Bool) → P (if out then r.planned else (if sent then planned_after r.planned (Confirms (place_of fs c)) else planned_after r.planned (Gives (place_of fs c) block)))
-        by_tests true sent = before
-        by_tests false true = later (Confirms (place_of fs c))
-        by_tests false false = later (Gives (place_of fs c) block)
-
     module _ (position : ℕ) (block : Block) (at : position ≡ place_of fs c) where
       abbrev hold : StripeHold
       hold = answered r position block
@@ -260,15 +263,17 @@ module _ (fs : FramesState) (token : ℕ) (c : Outstanding) (sound : IsSound fs)
 
       ended : hold.planned.hold.kind ≡ Kind.Idle
       ended = ap (λ (x : StripeHold). x.planned.hold.kind) goes
-          ∙ heard_has (λ p. p.hold.kind ≡ Kind.Idle) block returns.ended (λ event. kind_after r.planned.hold event ∙ returns.ended)
+          ∙ heard_has r.planned (place_of fs c) (λ p. p.hold.kind ≡ Kind.Idle) block returns.ended (λ event. kind_after r.planned.hold event ∙ returns.ended)
 
       size : hold.planned.hold.size ≡ fs.geometry.block
       size = ap (λ (x : StripeHold). x.planned.hold.size) goes
-          ∙ heard_has (λ p. p.hold.size ≡ fs.geometry.block) block returns.size (λ event. size_after r.planned.hold event ∙ returns.size)
+          ∙ heard_has r.planned (place_of fs c) (λ p. p.hold.size ≡ fs.geometry.block) block returns.size
+          (λ event. size_after r.planned.hold event ∙ returns.size)
 
       wide : length hold.planned.hold.cells ≡ fs.geometry.slots
       wide = ap (λ (x : StripeHold). length x.planned.hold.cells) goes
-          ∙ heard_has (λ p. length p.hold.cells ≡ fs.geometry.slots) block returns.wide (λ event. width_after r.planned.hold event ∙ returns.wide)
+          ∙ heard_has r.planned (place_of fs c) (λ p. length p.hold.cells ≡ fs.geometry.slots) block returns.wide
+          (λ event. width_after r.planned.hold event ∙ returns.wide)
 
       now_home : is_away hold (place_of fs c) ≡ false
       now_home = ap (λ away. slice_index_or away (place_of fs c) false) away_is ∙ get_or-set_same r.away (place_of fs c) false false (omega (arith, returns.wide_away, late.inside))

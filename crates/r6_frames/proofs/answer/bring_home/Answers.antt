@@ -1,11 +1,17 @@
-use Rattle.r6_frames.specs.Uses.{AwaitsBuffer, spared_home, use_home}
-use Rattle.r6_frames.specs.declared.frames.FrameUse.TheVariants.{Held}
+use Rattle.r6_frames.specs.Uses.{AwaitsBuffer, retired, spared, spared_home, use_home}
+use Rattle.r6_frames.specs.declared.frames.FrameUse.TheVariants.{Held, Returning}
 use Rattle.r6_frames.specs.declared.frames.FrameUse.{FrameUse}
 use Rattle.r6_stripe.specs.Steps.{Held as StripeHold, answered}
 use Rattle.r6_recover.specs.declared.class.RowClass.{RowClass}
 use Rattle.r6_layout.specs.PlainArray.{Block}
 use Rattle.std.proofs.lemmas.List.{append-nil}
-use Rattle.std.proofs.Common.{refl, ◌≡◌, ℕ, ◌++◌, sym, ap, subst, ◌∙◌, Option}
+use Rattle.std.proofs.Common.{refl, ◌≡◌, ℕ, ◌++◌, sym, ap, subst, ◌∙◌, Option, Some, None}
+use Rattle.std.specs.Prelude.{◌&&◌, not}
+use Rattle.r6_stripe.specs.Checks.{IsClassAfter, IsClassIf}
+use Rattle.r6_stripe.specs.Holds.{Hold, Kind, all_known, wants_all}
+use Rattle.r6_stripe.proofs.Course.{kind_after}
+use Rattle.r6_frames.proofs.LateBuffers.{heard_has}
+use Rattle.r6_frames.proofs.answer.bring_home.Goals.{After-done-in-Returning}
 use Rattle.r6_frames.proofs.answer.bring_home.Goals as goal
 
 -- without a new class the hold has heard the answer, and no more
@@ -55,3 +61,45 @@ done-requires-in-Returning-clause-away c = (subst (λ (used : FrameUse). AwaitsB
 
 pub done-requires-in-Returning-clause-size : goal.done-requires-in-Returning-clause-size
 done-requires-in-Returning-clause-size c = (subst (λ (used : FrameUse). AwaitsBuffer used c.args.position c.args.buffer) c.in-Returning.is c.requires.away).1
+
+-- ---- a hold that has ended
+
+idle_kind : (hold : StripeHold) (position : ℕ) (buffer : Block) → hold.planned.hold.kind ≡ Kind.Idle
+    → (answered hold position buffer).planned.hold.kind ≡ Kind.Idle
+idle_kind hold position buffer idle =
+    heard_has hold.planned position (λ p. p.hold.kind ≡ Kind.Idle) buffer idle (λ event. kind_after hold.planned.hold event ∙ idle)
+
+-- it takes no class
+idle_class : (hold : Hold) (old new : Option RowClass) → hold.kind ≡ Kind.Idle → IsClassAfter hold old new → new ≡ old
+idle_class hold None new idle after =
+    subst (λ (kind : Kind). IsClassIf (wants_all kind && (not hold.cut_short && all_known hold.cells)) hold.cells new) idle after
+idle_class hold (Some class) new idle after = after
+
+awaits_last : (c : After-done-in-Returning) → AwaitsBuffer (Returning c.in-Returning.hold) c.args.position c.args.buffer
+awaits_last c = subst (λ (used : FrameUse). AwaitsBuffer used c.args.position c.args.buffer) c.in-Returning.is c.requires.away
+
+last : (c : After-done-in-Returning) → c.done-in-Returning.new.self ≡ answered c.in-Returning.hold c.args.position c.args.buffer
+last c =
+    let hold = c.in-Returning.hold in
+    let new = c.done-in-Returning.new.self in
+    let done = c.done-in-Returning.ensures in
+    let idle = ap (λ (x : StripeHold). x.planned.hold.kind) done.answered ∙ idle_kind hold c.args.position c.args.buffer (awaits_last c).2 in
+    answered_late hold c.args.position c.args.buffer new done.answered (idle_class new.planned.hold hold.class new.class idle done.class)
+
+pub retire-requires-clause-ended : goal.retire-requires-clause-ended
+retire-requires-clause-ended c =
+    let at = (goal.at.retire-requires-clause-ended c).After-done-in-Returning in
+    ap (λ (hold : StripeHold). hold.planned.hold.kind) (last at) ∙ idle_kind c.in-Returning.hold c.args.position c.args.buffer (awaits_last at).2
+
+pub returns-in-Returning-clause-left : goal.returns-in-Returning-clause-left
+returns-in-Returning-clause-left c =
+    let at = (goal.at.returns-in-Returning-clause-left c).After-done-in-Returning in
+    c.retire.ensures.left ∙ ap retired (last at)
+    ∙ ap (λ (used : FrameUse). use_home used c.args.position c.args.buffer) (sym c.in-Returning.is)
+
+pub returns-in-Returning-clause-spare : goal.returns-in-Returning-clause-spare
+returns-in-Returning-clause-spare c =
+    let at = (goal.at.returns-in-Returning-clause-spare c).After-done-in-Returning in
+    let items = c.args.spare.now.items in
+    c.retire.ensures.spare ∙ ap (λ (hold : StripeHold). items ++ spared hold) (last at)
+    ∙ ap (λ (used : FrameUse). items ++ spared_home used c.args.position c.args.buffer) (sym c.in-Returning.is)

@@ -1,4 +1,4 @@
-use Rattle.std.proofs.Common.{◌≡◌, ℕ, Option, Some, None, refl, sym, ◌∙◌, subst}
+use Rattle.std.proofs.Common.{◌≡◌, ℕ, Option, Some, None, inl, inr, refl, sym, ◌∙◌, ap, subst}
 use Rattle.std.proofs.lemmas.Bool.{false≢true}
 use Rattle.r6_recover.specs.declared.class.RowClass.{RowClass}
 use Rattle.r6_stripe.specs.Checks.{IsEnd}
@@ -17,7 +17,7 @@ use Rattle.r6_frames.specs.declared.frames.Scrub.TheVariants as scrubs
 use Rattle.r6_frames.specs.declared.rebuilt.Target.{Target}
 use Rattle.r6_frames.specs.Calls.{IsEndedOf, IsTold, SaysClass, TellsEnd, ended_by, ended_outcome, rebuild_ended}
 use Rattle.r6_frames.specs.Sound.{IsJob}
-use Rattle.r6_frames.specs.Views.{kind_in, scrub_kind}
+use Rattle.r6_frames.specs.Views.{is_request, kind_in, scrub_kind}
 use Rattle.r6_frames.proofs.finish.leave.Goals as goal
 
 -- ---- a scrub
@@ -138,3 +138,7 @@ returns-in-Read-clause-hold c = c.leave_request.ensures.hold
 
 pub leave_request-requires-clause-held : goal.leave_request-requires-clause-held
 leave_request-requires-clause-held c = c.requires
+
+pub leave_request-requires-clause-request : goal.leave_request-requires-clause-request
+leave_request-requires-clause-request c =
+    elim c.in-Read.is [ inl read ↦ ap is_request read.2 | inr write ↦ ap is_request write.1 ]

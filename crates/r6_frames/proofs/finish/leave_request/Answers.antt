@@ -11,6 +11,7 @@ use Rattle.r6_frames.specs.Sound.{IsJob}
 use Rattle.r6_frames.specs.Views.{kind_in}
 use Rattle.r6_frames.specs.Writes.{Entry, blocks_in}
 use Rattle.r6_frames.proofs.Batches.{back_side_by_side, ended_writes}
+use Rattle.r6_frames.proofs.finish.leave_request.Goals.{In-Some-Write-Write}
 use Rattle.r6_frames.proofs.finish.leave_request.Goals as goal
 
 pub returns-in-Some-Read-Read-clause-told : goal.returns-in-Some-Read-Read-clause-told
@@ -26,11 +27,15 @@ returns-in-Some-Read-Read-clause-told c = λ may over.
       tt,
     )
 
+-- the batch is that of the hold
+batch_is : (c : In-Some-Write-Write) → Kind.Write c.in-Some-Write-Write.batch.blocks ≡ kind_in c.args.held
+batch_is c = search
+
 pub returns-in-Some-Write-Write-clause-owner : goal.returns-in-Some-Write-Write-clause-owner
 returns-in-Some-Write-Write-clause-owner c =
     let w = c.in-Some-Write-Write in
     let held = c.requires.held.3 in
-    let same : Kind.Write w.batch.blocks ≡ kind_in c.args.held = search in
+    let same = batch_is (goal.at.returns-in-Some-Write-Write-clause-owner c).In-Some-Write-Write in
     let mine = subst (λ (what : Job). IsJob c.requires.held.0 c.args.held.row what (kind_in c.args.held)) w.is-1 held.job in
     let side = back_side_by_side c.requires.held.0 c.args.held.row w.served (kind_in c.args.held) w.batch.blocks mine same in
     subst (λ (writes : List Entry). IsEndedOf c.args.held (ended.Wrote writes)) (sym c.from_parts-writes.ensures) (ended_writes c.args.held w.served w.batch.blocks side w.is-1 same)
@@ -51,7 +56,8 @@ pub returns-in-Some-Read-Read-clause-hold : goal.returns-in-Some-Read-Read-claus
 returns-in-Some-Read-Read-clause-hold c = c.take_task.ensures.closed
 
 pub returns-in-Some-Write-Write-clause-told : goal.returns-in-Some-Write-Write-clause-told
-returns-in-Some-Write-Write-clause-told c = λ may over. let same : Kind.Write c.in-Some-Write-Write.batch.blocks ≡ kind_in c.args.held = search in (ap (outcome_of c.args.held.hold.planned.hold) same, tt)
+returns-in-Some-Write-Write-clause-told c = λ may over.
+    let same = batch_is (goal.at.returns-in-Some-Write-Write-clause-told c).In-Some-Write-Write in (ap (outcome_of c.args.held.hold.planned.hold) same, tt)
 
 pub returns-in-Some-Write-Write-clause-hold : goal.returns-in-Some-Write-Write-clause-hold
 returns-in-Some-Write-Write-clause-hold c = c.take_task.ensures.closed
@@ -60,7 +66,7 @@ pub from_parts-writes-requires : goal.from_parts-writes-requires
 from_parts-writes-requires c =
     let w = c.in-Some-Write-Write in
     let held = c.requires.held.3 in
-    let same : Kind.Write w.batch.blocks ≡ kind_in c.args.held = search in
+    let same = batch_is (goal.at.from_parts-writes-requires c).In-Some-Write-Write in
     let mine = subst (λ (what : Job). IsJob c.requires.held.0 c.args.held.row what (kind_in c.args.held)) w.is-1 held.job in
     let both : Kind.Write w.batch.blocks ≡ Kind.Write (blocks_in mine.0) = same ∙ mine.2 in
     let blocks : w.batch.blocks ≡ blocks_in mine.0 = cc in

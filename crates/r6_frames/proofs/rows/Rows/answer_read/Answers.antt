@@ -1,7 +1,7 @@
 use Rattle.r6_frames.specs.declared.command.Outstanding.{Outstanding}
 use Rattle.r6_world.specs.ShardStates.{frames}
-use Rattle.std.proofs.Common.{refl, ◌≡◌, ◌-◌, List, set, Some, None, sym, ap, subst, ◌∙◌, ◌≤◌}
-use Rattle.std.proofs.lemmas.List.{set-set}
+use Rattle.std.proofs.Common.{refl, ◌≡◌, ◌-◌, ◌<◌, List, length, set, Some, None, sym, ap, subst, ◌∙◌, ◌≤◌, arith}
+use Rattle.std.proofs.lemmas.List.{length-set, set-set}
 use Rattle.r6_frames.specs.declared.directs.Direct.{Direct}
 use Rattle.r6_frames.specs.FramesState.{FramesState}
 use Rattle.r6_frames.specs.Inside.{view_of, commands_in}
@@ -12,7 +12,7 @@ use Rattle.r6_frames.specs.Sound.{IsSound}
 use Rattle.r6_frames.proofs.DirectReads.{direct_own}
 use Rattle.r6_frames.proofs.DirectUses.{frees_direct}
 use Rattle.r6_frames.proofs.DirectSteps.{read_in, answered_sound, answered, within_answered, live_answered}
-use Rattle.r6_frames.proofs.rows.Rows.answer_read.Goals.{Joined-command}
+use Rattle.r6_frames.proofs.rows.Rows.answer_read.Goals.{In-Some, Joined-command}
 use Rattle.r6_frames.proofs.rows.Rows.answer_read.Goals as goal
 
 there : (c : Joined-command) → outstanding (view_of c.args.self.now) c.args.token ≡ Some c.in-Some.command
@@ -63,13 +63,6 @@ returns-clause-frees c =
 pub unreachable-requires : goal.unreachable-requires
 unreachable-requires c = c.in_default.not-Some c.requires.awaited.0 (c.remove.ensures.entry ∙ c.requires.awaited.1)
 
-pub overflow_sub-number : goal.overflow_sub-number
-overflow_sub-number c =
-    let read = c.requires.read in
-    let both : Some read.0 ≡ Some c.in-Some.command = sym read.1 ∙ sym c.remove.ensures.entry ∙ c.in-Some.is in
-    let same : read.0 ≡ c.in-Some.command = cc in
-    subst (λ (command : Outstanding). frames ≤ command.frame) same read.2
-
 pub returns-clause-room : goal.returns-clause-room
 returns-clause-room c = record { buffer_room = c.requires.room.buffer_room; shapes = c.requires.room.shapes; command_room = ap (λ t. t.0) c.remove.ensures.rest ∙ c.requires.room.command_room; free = c.requires.room.free }
 
@@ -81,3 +74,31 @@ returns-clause-same c = (refl, refl)
 
 pub returns-clause-next : goal.returns-clause-next
 returns-clause-next c = ap (λ t. t.1.0) c.remove.ensures.rest
+
+-- the direct buffer that the command was put out for
+is_direct : (c : In-Some) → frames ≤ c.in-Some.command.frame
+is_direct c =
+    let read = c.requires.read in
+    let both : Some read.0 ≡ Some c.in-Some.command = sym read.1 ∙ sym c.remove.ensures.entry ∙ c.in-Some.is in
+    let same : read.0 ≡ c.in-Some.command = cc in
+    subst (λ (command : Outstanding). frames ≤ command.frame) same read.2
+
+number_within : (c : In-Some) → c.in-Some.command.frame - 64 < length c.args.self.now.directs
+number_within c =
+    let directs = c.requires.sound.directs in
+    let found = directs.of_direct c.args.token c.in-Some.command (sym c.remove.ensures.entry ∙ c.in-Some.is) (is_direct c) in
+    let below = found.1.below in
+    let frame = found.1.frame in
+    let count = directs.count in omega arith
+
+pub take_read-requires : goal.take_read-requires
+take_read-requires c = number_within (goal.at.take_read-requires c).In-Some
+
+pub bring_back-requires : goal.bring_back-requires
+bring_back-requires c =
+    let within = number_within (goal.at.bring_back-requires c).In-Some in
+    let long = ap length c.take_read.ensures.left ∙ length-set c.args.self.now.directs (c.in-Some.command.frame - 64) _ in
+    omega arith
+
+pub overflow_sub-number : goal.overflow_sub-number
+overflow_sub-number c = is_direct (goal.at.overflow_sub-number c).In-Some

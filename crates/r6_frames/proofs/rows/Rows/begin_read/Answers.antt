@@ -4,7 +4,7 @@ use Rattle.r6_stripe.specs.declared.command.Task.TheVariants as asks
 use Rattle.r6_layout.specs.Layout as layout
 use Rattle.r6_frames.specs.Inside.{view_of}
 use Rattle.r6_frames.specs.declared.frames.Job.TheVariants as job
-use Rattle.r6_frames.specs.Calls.{Holds}
+use Rattle.r6_frames.specs.Calls.{Holds, NotHeldBy}
 use Rattle.r6_frames.specs.Uses.{begun_row}
 use Rattle.r6_frames.specs.Sound.{MayHold}
 use Rattle.r6_frames.proofs.BegunFor.{may_read, begins_read}
@@ -46,3 +46,30 @@ returns-clause-others c = others_kept (view_of c.args.self.now) c.args.frame _ (
 
 pub returns-clause-directs : goal.returns-clause-directs
 returns-clause-directs c = directs_kept (view_of c.args.self.now) c.args.frame _ (view_of c.hold.new.self) c.hold.ensures.holds
+
+pub hold-requires-clause-sound : goal.hold-requires-clause-sound
+hold-requires-clause-sound c = c.requires.sound
+
+pub hold-requires-clause-room : goal.hold-requires-clause-room
+hold-requires-clause-room c = c.requires.room
+
+pub hold-requires-clause-live : goal.hold-requires-clause-live
+hold-requires-clause-live c = c.requires.live
+
+pub hold-requires-clause-free : goal.hold-requires-clause-free
+hold-requires-clause-free c = c.requires.free
+
+pub returns-clause-sound : goal.returns-clause-sound
+returns-clause-sound c = c.hold.ensures.sound
+
+pub returns-clause-room : goal.returns-clause-room
+returns-clause-room c = c.hold.ensures.room
+
+pub returns-clause-owed : goal.returns-clause-owed
+returns-clause-owed c = c.hold.ensures.owed
+
+pub returns-clause-owes : goal.returns-clause-owes
+returns-clause-owes c = c.hold.ensures.owes
+
+pub hold-requires-clause-unheld : goal.hold-requires-clause-unheld
+hold-requires-clause-unheld c = subst (NotHeldBy (view_of c.args.self.now)) (sym c.requires.place.row) c.requires.unheld

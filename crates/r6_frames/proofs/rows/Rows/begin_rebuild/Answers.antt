@@ -38,3 +38,33 @@ returns-clause-others c = others_kept (view_of c.args.self.now) c.args.frame _ (
 
 pub returns-clause-directs : goal.returns-clause-directs
 returns-clause-directs c = directs_kept (view_of c.args.self.now) c.args.frame _ (view_of c.hold.new.self) c.hold.ensures.holds
+
+pub hold-requires-clause-sound : goal.hold-requires-clause-sound
+hold-requires-clause-sound c = c.requires.sound
+
+pub hold-requires-clause-room : goal.hold-requires-clause-room
+hold-requires-clause-room c = c.requires.room
+
+pub hold-requires-clause-live : goal.hold-requires-clause-live
+hold-requires-clause-live c = c.requires.live
+
+pub hold-requires-clause-free : goal.hold-requires-clause-free
+hold-requires-clause-free c = c.requires.free
+
+pub hold-requires-clause-first : goal.hold-requires-clause-first
+hold-requires-clause-first c = c.slot_at-first.ensures.value
+
+pub hold-requires-clause-unheld : goal.hold-requires-clause-unheld
+hold-requires-clause-unheld c = c.requires.unheld
+
+pub returns-clause-sound : goal.returns-clause-sound
+returns-clause-sound c = c.hold.ensures.sound
+
+pub returns-clause-room : goal.returns-clause-room
+returns-clause-room c = c.hold.ensures.room
+
+pub returns-clause-owed : goal.returns-clause-owed
+returns-clause-owed c = c.hold.ensures.owed
+
+pub returns-clause-owes : goal.returns-clause-owes
+returns-clause-owes c = c.hold.ensures.owes

@@ -1,7 +1,7 @@
 use Rattle.std.specs.FinMap as map
 use Rattle.r6_frames.specs.declared.directs.Direct.{Direct}
 use Rattle.std.proofs.Common.{◌≤◌, ◌-◌, refl, inl, inr, List, length, arith, set, sym, ap, subst, ◌∙◌}
-use Rattle.std.proofs.lemmas.List.{length-append, set-set}
+use Rattle.std.proofs.lemmas.List.{length-append, length-set, set-set}
 use Rattle.std.specs.List.{All}
 use Rattle.std.proofs.lemmas.List.Elements.{All-append}
 use Rattle.r6_world.specs.ShardStates.{frames}
@@ -146,3 +146,64 @@ returns-then-is_live-clause-frees c = inl ((came c).others.0, (came c).others.1,
 
 pub returns-else-is_live-clause-frees : goal.returns-else-is_live-clause-frees
 returns-else-is_live-clause-frees c = inl (0, (λ other ne. refl), refl)
+
+pub unreachable-requires : goal.unreachable-requires
+unreachable-requires c = c.in_default.not-Some c.requires.awaited.0 (c.remove.ensures.entry ∙ c.requires.awaited.1)
+
+pub bring_back-requires : goal.bring_back-requires
+bring_back-requires c =
+    let directs = c.requires.sound.directs in
+    let found = directs.of_direct c.args.token c.in-Some.command (sym c.remove.ensures.entry ∙ c.in-Some.is) c.if-command-ge-FRAMES.true in
+    let below = found.1.below in
+    let frame = found.1.frame in
+    let count = directs.count in omega arith
+
+pub is_live-requires : goal.is_live-requires
+is_live-requires c = c.requires.sound.live
+
+pub index_mut-requires : goal.index_mut-requires
+index_mut-requires c =
+    let below = c.if-command-ge-FRAMES.false in
+    let count = c.requires.sound.frames.count in omega (arith, c.args.self.now.held.ok.0)
+
+pub put-requires-clause-there : goal.put-requires-clause-there
+put-requires-clause-there c =
+    let below = c.if-command-ge-FRAMES.false in
+    let count = c.requires.sound.frames.count in omega (arith, length-set c.args.self.now.held.items c.in-Some.command.frame c.replace-used.new.dest)
+
+pub put-requires-clause-few : goal.put-requires-clause-few
+put-requires-clause-few c = c.if-command-ge-FRAMES.false
+
+pub returns-then-command-ge-FRAMES-clause-room : goal.returns-then-command-ge-FRAMES-clause-room
+returns-then-command-ge-FRAMES-clause-room c =
+    let room = c.requires.room in
+    record {
+      buffer_room = room.buffer_room;
+      shapes = room.shapes;
+      command_room = ap (λ t. t.0) c.remove.ensures.rest ∙ room.command_room;
+      free = room.free;
+    }
+
+pub returns-then-command-ge-FRAMES-clause-holds : goal.returns-then-command-ge-FRAMES-clause-holds
+returns-then-command-ge-FRAMES-clause-holds c = (direct c).holds
+
+pub returns-then-command-ge-FRAMES-clause-owed : goal.returns-then-command-ge-FRAMES-clause-owed
+returns-then-command-ge-FRAMES-clause-owed c = ((direct c).owed, (direct c).next)
+
+pub returns-then-is_live-clause-readers : goal.returns-then-is_live-clause-readers
+returns-then-is_live-clause-readers c = λ number. refl
+
+pub returns-else-is_live-clause-holds : goal.returns-else-is_live-clause-holds
+returns-else-is_live-clause-holds c = (stopped c).holds
+
+pub returns-else-is_live-clause-others : goal.returns-else-is_live-clause-others
+returns-else-is_live-clause-others c = (0, λ other ne. refl)
+
+pub returns-else-is_live-clause-readers : goal.returns-else-is_live-clause-readers
+returns-else-is_live-clause-readers c = λ number. refl
+
+pub returns-else-is_live-clause-owed : goal.returns-else-is_live-clause-owed
+returns-else-is_live-clause-owed c = ((stopped c).owed, (stopped c).next)
+
+pub returns-else-is_live-clause-requests : goal.returns-else-is_live-clause-requests
+returns-else-is_live-clause-requests c = (stopped c).requests

@@ -1,4 +1,4 @@
-use Rattle.std.proofs.Common.{◌≡◌, ◌<◌, ◌≤◌, ◌+◌, ℕ, length, inl, inr, sym, subst, ◌∙◌, arith}
+use Rattle.std.proofs.Common.{◌≡◌, ◌<◌, ◌≤◌, ◌+◌, ℕ, length, inl, inr, refl, sym, subst, ◌∙◌, arith}
 use Rattle.std.proofs.lemmas.Bool.{false≢true, le-leb, lt-leb}
 use Rattle.r6_layout.specs.Layout.{first_row}
 use Rattle.r6_world.specs.Geometries.{layout_of}
@@ -107,3 +107,12 @@ returns-clause-brings c = λ is_last.
       | then-is_last w ↦ chosen_brings fs c.args.target c.in-Building.generation c.in-Building.rebuilt c.args.row c.mark.new.self c.if-is_last.self c.requires.sound c.requires.live c.requires.slot within c.in-Building.is c.requires.unheld c.requires.row c.requires.next has chosen w.self-is (let last = w.if-is_last.true in omega (arith, last, end, first))
       | else-is_last w ↦ absurd (false≢true (sym (lt-leb c.shard_rows-end.result.end c.next_row.result w.if-is_last.false) ∙ is_last))
     ]
+
+pub returns-clause-room : goal.returns-clause-room
+returns-clause-room c = c.requires.room
+
+pub returns-clause-holds : goal.returns-clause-holds
+returns-clause-holds c = refl
+
+pub returns-clause-commands : goal.returns-clause-commands
+returns-clause-commands c = refl

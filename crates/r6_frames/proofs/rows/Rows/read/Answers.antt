@@ -92,3 +92,38 @@ returns-clause-taken c =
     let count = c.requires.sound.directs.count in
     let below = c.requires.free.0 in
     takes_direct fs (record fs { commands = commands_in c.push.new.self; directs = c.lend-lent.new.self }) c.args.number _ (omega arith) c.lend-lent.ensures.lent
+
+pub lend-lent-requires : goal.lend-lent-requires
+lend-lent-requires c =
+    let below = c.requires.free.0 in
+    let count = c.requires.sound.directs.count in omega arith
+
+pub overflow_add-number : goal.overflow_add-number
+overflow_add-number c =
+    let below = c.requires.free.0 in omega arith
+
+pub push-requires-clause-numbers : goal.push-requires-clause-numbers
+push-requires-clause-numbers c =
+    let numbers = c.requires.numbers in omega arith
+
+pub returns-clause-room : goal.returns-clause-room
+returns-clause-room c =
+    let room = c.requires.room in
+    record {
+      buffer_room = room.buffer_room;
+      shapes = room.shapes;
+      command_room = ap (λ t. t.0) c.push.ensures.entry ∙ room.command_room;
+      free = room.free;
+    }
+
+pub returns-clause-live : goal.returns-clause-live
+returns-clause-live c = c.requires.live
+
+pub returns-clause-holds : goal.returns-clause-holds
+returns-clause-holds c = refl
+
+pub returns-clause-same : goal.returns-clause-same
+returns-clause-same c = (refl, refl)
+
+pub returns-clause-next : goal.returns-clause-next
+returns-clause-next c = ap (λ t. t.1.0) c.push.ensures.entry

@@ -65,3 +65,48 @@ returns-clause-there c =
     let is : outstanding fs fs.handed ≡ Some old = c.in-Ok-Some.ensures.entry in
     let full : old.buffer ≡ Some c.in-Ok-Some.buffer = cc in
     taken_fits fs old c.in-Ok-Some.buffer c.requires.sound is full
+
+pub returns-then-self-next-clause-sound : goal.returns-then-self-next-clause-sound
+returns-then-self-next-clause-sound c = c.requires.sound
+
+pub returns-then-self-next-clause-room : goal.returns-then-self-next-clause-room
+returns-then-self-next-clause-room c = c.requires.room
+
+pub returns-then-self-next-clause-there : goal.returns-then-self-next-clause-there
+returns-then-self-next-clause-there c = tt
+
+pub returns-then-self-next-clause-holds : goal.returns-then-self-next-clause-holds
+returns-then-self-next-clause-holds c = refl
+
+pub returns-then-self-next-clause-same : goal.returns-then-self-next-clause-same
+returns-then-self-next-clause-same c = (refl, refl)
+
+pub returns-then-self-next-clause-directs : goal.returns-then-self-next-clause-directs
+returns-then-self-next-clause-directs c = refl
+
+pub unreachable-requires : goal.unreachable-requires
+unreachable-requires c =
+    let ne = c.if-self-next.false in
+    let next = c.next.ensures in
+    let handed = c.requires.sound.commands.handed in
+    let untaken = c.requires.sound.commands.untaken c.args.self.now.handed (omega arith) (omega arith) in
+    let both : ◌≡◌ {A = Option Outstanding} None (Some untaken.0) = sym (ap option_copied c.in_default.is) ∙ c.get.ensures ∙ untaken.1 in cc
+
+pub returns-clause-room : goal.returns-clause-room
+returns-clause-room c =
+    let room = c.requires.room in
+    record {
+      buffer_room = room.buffer_room;
+      shapes = room.shapes;
+      command_room = ap (λ t. t.0) c.in-Ok-Some.ensures.there ∙ room.command_room;
+      free = room.free;
+    }
+
+pub returns-clause-holds : goal.returns-clause-holds
+returns-clause-holds c = refl
+
+pub returns-clause-same : goal.returns-clause-same
+returns-clause-same c = (refl, refl)
+
+pub returns-clause-directs : goal.returns-clause-directs
+returns-clause-directs c = refl
