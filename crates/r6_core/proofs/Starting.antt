@@ -17,7 +17,6 @@ use Rattle.r6_waiters.specs.Line.{Line, capacity_of, causes_of, entries_of, olde
 use Rattle.r6_core.proofs.Lined.{split_of, split_oldest, split_without, values, values_both, values_split}
 use Rattle.r6_core.proofs.Passed.{all-middle}
 use Rattle.r6_frames.proofs.Resting.{frame-held}
-use Rattle.r6_core.proofs.Accepting.{others}
 
 -- ---- what a start leaves of a shard
 

@@ -1,3 +1,5 @@
+use Rattle.std.proofs.Common.{ℕ, List, length, refl, subst}
+use Rattle.r6_kernels.specs.Blocks.{IsBlock}
 use Rattle.r6_core.proofs.AtRest.{rests_in}
 use Rattle.r6_core.proofs.state.State.submit.Goals as goal
 
@@ -38,3 +40,21 @@ returns-clause-unanswered c = c.accept.ensures.unanswered
 
 pub returns-clause-refused : goal.returns-clause-refused
 returns-clause-refused c = tt
+
+pub accept-requires-clause-right : goal.accept-requires-clause-right
+accept-requires-clause-right c = c.in-Ok.ensures.right
+
+pub accept-requires-clause-place : goal.accept-requires-clause-place
+accept-requires-clause-place c = c.in-Ok.ensures.place
+
+pub accept-requires-clause-sized : goal.accept-requires-clause-sized
+accept-requires-clause-sized c = subst (λ (b : List ℕ). IsBlock (length b) b) c.buffer.ensures c.assure_bytes.ensures
+
+pub returns-clause-right : goal.returns-clause-right
+returns-clause-right c = c.in-Ok.ensures.right
+
+pub returns-clause-turns : goal.returns-clause-turns
+returns-clause-turns c = c.accept.ensures.turns
+
+pub returns-in-Err-clause-refused : goal.returns-in-Err-clause-refused
+returns-in-Err-clause-refused c = (refl, refl, c.in-Err.ensures.refused)

@@ -1,6 +1,6 @@
 use Rattle.r6_frames.specs.Calls.{KeepsOthers}
 use Rattle.r6_core.proofs.Answering.{awaited}
-use Rattle.std.proofs.Common.{ℕ, List, Result, IfOk, refl, sym, ap, subst, ◌∙◌, length, arith}
+use Rattle.std.proofs.Common.{ℕ, List, Result, IfOk, refl, sym, ap, subst, ◌∙◌, length}
 use Rattle.r6_world.specs.Steps.{Taken}
 use Rattle.r6_core.specs.declared.refusal.DeviceFault.{DeviceFault}
 use Rattle.r6_core.specs.Shards.{buffer_in, completion_of}

@@ -7,7 +7,7 @@ use Rattle.r6_frames.specs.declared.op.Request.{Request}
 use Rattle.r6_world.specs.Steps.{No_reply}
 use Rattle.r6_core.specs.Shards.{Step, reply_of, core_of}
 use Rattle.r6_core.specs.Inside.{IsCore, IsSettled}
-use Rattle.r6_core.proofs.Known.{at_none}
+use Rattle.r6_core.proofs.Known.{at_none, if_none}
 use Rattle.r6_core.proofs.Replies.{some_popped, none_popped, unpopped, no_reply, marked_by, reply_brings, reply_core, reply_first, reply_step}
 use Rattle.r6_core.specs.Order.{HasNoReply}
 use Rattle.r6_core.proofs.state.State.take_reply.Goals as goal
@@ -122,3 +122,12 @@ returns-clause-waiting c = refl
 
 pub returns-clause-same : goal.returns-clause-same
 returns-clause-same c = (refl, refl)
+
+pub returns-in_err-request-clause-buffer : goal.returns-in_err-request-clause-buffer
+returns-in_err-request-clause-buffer c = if_none _ _ c.from_residual.ensures
+
+pub returns-in_err-request-clause-sized : goal.returns-in_err-request-clause-sized
+returns-in_err-request-clause-sized c = if_none _ _ c.from_residual.ensures
+
+pub returns-in_err-request-clause-unanswered : goal.returns-in_err-request-clause-unanswered
+returns-in_err-request-clause-unanswered c = if_none _ _ c.from_residual.ensures

@@ -1,5 +1,7 @@
 use Rattle.r6_core.proofs.Turning.{passed_over, started}
-use Rattle.std.proofs.Common.{refl}
+use Rattle.std.proofs.Common.{◌≤◌, ℕ, Option, MatchOption, inl, inr, refl, subst, arith}
+use Rattle.r6_world.specs.ShardStates.{limit}
+use Rattle.r6_core.specs.Inside.{IsPassedOver, IsTakenUp}
 use Rattle.r6_core.proofs.state.State.turn.Goals as goal
 
 pub returns-in-Some-clause-step : goal.returns-in-Some-clause-step
@@ -50,3 +52,34 @@ returns-in-None-clause-kept c = c.skip_turn.ensures.kept
 
 pub returns-in-None-clause-unanswered : goal.returns-in-None-clause-unanswered
 returns-in-None-clause-unanswered c = c.skip_turn.ensures.unanswered
+
+pub frame_for_turn-requires : goal.frame_for_turn-requires
+frame_for_turn-requires c = c.requires
+
+pub begin_turn-requires-clause-taken_up : goal.begin_turn-requires-clause-taken_up
+begin_turn-requires-clause-taken_up c =
+    subst (λ (o : Option ℕ). MatchOption o (IsPassedOver c.args.self.now c.args.scrub) (IsTakenUp c.args.self.now c.args.scrub)) c.in-Some.is
+    c.in_ok-frame.ensures.frame
+
+pub skip_turn-requires-clause-passed_over : goal.skip_turn-requires-clause-passed_over
+skip_turn-requires-clause-passed_over c =
+    subst (λ (o : Option ℕ). MatchOption o (IsPassedOver c.args.self.now c.args.scrub) (IsTakenUp c.args.self.now c.args.scrub)) c.in-None.is
+    c.in_ok-frame.ensures.frame
+
+pub begin_turn-requires-clause-tokens : goal.begin_turn-requires-clause-tokens
+begin_turn-requires-clause-tokens c =
+    let no : limit ≤ c.args.self.now.frames.commands.next → ⊥ = λ over. c.in_ok-frame.ensures.right.1.0 (inl over) in omega arith
+
+pub begin_turn-requires-clause-skipped : goal.begin_turn-requires-clause-skipped
+begin_turn-requires-clause-skipped c =
+    let no : limit ≤ c.args.self.now.counts.skipped → ⊥ = λ over. c.in_ok-frame.ensures.right.1.0 (inr over) in omega arith
+
+pub skip_turn-requires-clause-skipped : goal.skip_turn-requires-clause-skipped
+skip_turn-requires-clause-skipped c =
+    let no : limit ≤ c.args.self.now.counts.skipped → ⊥ = λ over. c.in_ok-frame.ensures.right.1.0 (inr over) in omega arith
+
+pub returns-in-Some-clause-right : goal.returns-in-Some-clause-right
+returns-in-Some-clause-right c = c.in_ok-frame.ensures.right
+
+pub returns-in-None-clause-right : goal.returns-in-None-clause-right
+returns-in-None-clause-right c = c.in_ok-frame.ensures.right
