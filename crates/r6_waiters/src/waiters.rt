@@ -379,8 +379,16 @@ fn name_cause<V>(places: &mut [(usize, Option<V>)], set: &mut Positions, cause: 
 {
     while let Some(position) = set.lowest() {
         set.remove(position);
-        places[position].0 = cause;
+        name_entry(places, position, cause);
     }
+}
+
+// Writes the cause beside the value at the position.
+fn name_entry<V>(places: &mut [(usize, Option<V>)], position: usize, cause: usize)
+    requires { position < length places.old }
+    ensures { places.new ≡ slice_set places.old position (cause, (place_at places.old position).1) }
+{
+    places[position].0 = cause;
 }
 
 // Puts each position into the set of the cause that stands there.

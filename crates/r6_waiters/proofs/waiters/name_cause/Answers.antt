@@ -1,4 +1,5 @@
-use Rattle.std.proofs.Common.{◌≡◌, ◌<◌, ◌∙◌, ℕ, Bool, true, false, length, get_or, refl, sym, ap, subst, Option}
+use Rattle.std.proofs.Common.{◌≡◌, ◌<◌, ◌∙◌, ℕ, Bool, true, false, length, refl, sym, ap, subst, Option, None}
+use Rattle.std.proofs.lemmas.List.{get_or_default}
 use Rattle.r6_waiters.specs.Positions.{has}
 use Rattle.r6_waiters.proofs.Named.{kept-removed, named-more}
 use Rattle.std.specs.Prelude.{if◌then◌else◌}
@@ -13,12 +14,13 @@ loop-position-preserved g c =
     let there : has set position ≡ true = c.in-Some.ensures.0 in
     let first : has c.args.set.now position ≡ true = c.loop-position.invariant.left position there in
     let inside : position < length places = subst (λ n. position < n) (sym c.loop-position.auto.places) (c.requires position first) in
-    let place = get_or places position c.index-places-position.result in
+    let place = place_at places position in
     record {
       left = λ i here. c.loop-position.invariant.left i (kept-removed set c.remove.new.self position i (c.remove.ensures.has i) here);
       as_long = c.remove.ensures.room ∙ c.loop-position.invariant.as_long;
-      named = named-more c.args.places.now places c.args.set.now set c.remove.new.self place c.args.cause position inside there first (ap (λ p. get_or places position p) c.index-places-position.is)
-          c.remove.ensures.has c.loop-position.invariant.named;
+      named = λ i. ap (λ ps. place_at ps i) c.name_entry.ensures
+          ∙ named-more c.args.places.now places c.args.set.now set c.remove.new.self place c.args.cause position inside there first
+          (get_or_default places position (0, None) place inside) c.remove.ensures.has c.loop-position.invariant.named i;
     }
 
 named-first : {X : Type 0} (held : Bool) (cause : ℕ) (place : ℕ × Option X) → place ≡ ((if held then place.0 else (if held then cause else place.0)), place.1)
@@ -32,13 +34,8 @@ loop-position-init g c =
 pub remove-requires : goal.remove-requires
 remove-requires g c = c.in-Some.ensures.0
 
-pub bounds-places-position : goal.bounds-places-position
-bounds-places-position g c =
-    let position = c.in-Some.position in
-    subst (λ n. position < n) (sym c.loop-position.auto.places) (c.requires position (c.loop-position.invariant.left position c.in-Some.ensures.0))
-
-pub bounds-places-position-in-Some : goal.bounds-places-position-in-Some
-bounds-places-position-in-Some g c =
+pub name_entry-requires : goal.name_entry-requires
+name_entry-requires g c =
     let position = c.in-Some.position in
     subst (λ n. position < n) (sym c.loop-position.auto.places) (c.requires position (c.loop-position.invariant.left position c.in-Some.ensures.0))
 
