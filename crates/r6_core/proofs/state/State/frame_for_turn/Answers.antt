@@ -59,3 +59,39 @@ returns-in-None-clause-refused c =
         ),
       ),
     )
+
+pub returns-then-saw_failed-clause-right : goal.returns-then-saw_failed-clause-right
+returns-then-saw_failed-clause-right c = tt
+
+pub returns-then-saw_failed-clause-frame : goal.returns-then-saw_failed-clause-frame
+returns-then-saw_failed-clause-frame c = tt
+
+pub returns-then-tokens-ge-LIMIT-clause-right : goal.returns-then-tokens-ge-LIMIT-clause-right
+returns-then-tokens-ge-LIMIT-clause-right c = tt
+
+pub returns-then-tokens-ge-LIMIT-clause-frame : goal.returns-then-tokens-ge-LIMIT-clause-frame
+returns-then-tokens-ge-LIMIT-clause-frame c = tt
+
+pub returns-then-not-is_live-clause-right : goal.returns-then-not-is_live-clause-right
+returns-then-not-is_live-clause-right c = tt
+
+pub returns-then-not-is_live-clause-frame : goal.returns-then-not-is_live-clause-frame
+returns-then-not-is_live-clause-frame c = tt
+
+pub returns-then-not-is_whole-clause-refused : goal.returns-then-not-is_whole-clause-refused
+returns-then-not-is_whole-clause-refused c = tt
+
+pub returns-then-is_held-clause-right : goal.returns-then-is_held-clause-right
+returns-then-is_held-clause-right c = tt
+
+pub returns-then-is_held-clause-frame : goal.returns-then-is_held-clause-frame
+returns-then-is_held-clause-frame c = tt
+
+pub returns-in-Some-clause-refused : goal.returns-in-Some-clause-refused
+returns-in-Some-clause-refused c = tt
+
+pub returns-in-None-clause-right : goal.returns-in-None-clause-right
+returns-in-None-clause-right c = tt
+
+pub returns-in-None-clause-frame : goal.returns-in-None-clause-frame
+returns-in-None-clause-frame c = tt

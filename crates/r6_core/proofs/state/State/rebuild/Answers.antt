@@ -57,3 +57,9 @@ returns-clause-kept c = c.begin_rebuild.ensures.kept
 
 pub returns-clause-unanswered : goal.returns-clause-unanswered
 returns-clause-unanswered c = c.begin_rebuild.ensures.unanswered
+
+pub frame_for_rebuild-requires-clause-core : goal.frame_for_rebuild-requires-clause-core
+frame_for_rebuild-requires-clause-core c = c.requires.core
+
+pub frame_for_rebuild-requires-clause-window : goal.frame_for_rebuild-requires-clause-window
+frame_for_rebuild-requires-clause-window c = c.requires.window

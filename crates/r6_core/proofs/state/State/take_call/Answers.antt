@@ -38,3 +38,6 @@ returns-clause-core c =
     let is = ap length (first ∙ ap (λ (b : Buffer _). c.in_ok-call.call ∷ b.items) (sym c.pop_front.ensures.items)) in
     core_with_calls s c.pop_front.new.self (Some c.in_ok-call.call) c.requires (ap (λ (b : Buffer _). b.capacity) c.pop_front.ensures.items ∙ room.calls)
     (omega (arith, is, room.few_calls))
+
+pub returns-then-has_untold-clause-core : goal.returns-then-has_untold-clause-core
+returns-then-has_untold-clause-core c = c.requires
