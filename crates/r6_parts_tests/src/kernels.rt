@@ -117,14 +117,14 @@ const CASES: &[Case] = &[
     },
 ];
 
-fn add_up(sum: &Sum, data: &[Buffer], block: &mut Buffer, other: &mut Buffer)
-    requires data { All (λ source. length source ≡ length block.old) data.now }
+fn add_up(sum: &Sum, sources: &[Buffer], block: &mut Buffer, other: &mut Buffer)
+    requires lengths { All (λ source. length source ≡ length block.old) sources.now }
     requires same { length other.old ≡ length block.old }
 {
     match sum {
-        Sum::Parity => parity(data, block, other),
+        Sum::Parity => parity(sources, block, other),
         Sum::Delta(index) => {
-            if let [old, new] = data {
+            if let [old, new] = sources {
                 if old.len() == block.len() && new.len() == block.len() {
                     delta(block, other, old, new, *index);
                 }
