@@ -73,8 +73,8 @@ pub(crate) enum Step {
     Turn(Task),
     /// Likewise, and its commands are taken, performed and delivered.
     Pass(Task),
-    /// The counts are asked for.
-    Counts,
+    /// The counts have to be these.
+    Counts(Counts),
     /// The block of a device in a row has this byte throughout from now on; nobody tells the core.
     Spoil(usize, u64, u8),
     /// The block of a device in a row is asked for.
@@ -95,7 +95,7 @@ pub(crate) enum Requests {
 }
 
 /// What a step answers.
-#[derive(Clone, Copy, PartialEq)]
+#[derive(Clone, Copy)]
 pub(crate) enum Answer {
     /// The number of the request.
     Accepted(u64),
@@ -129,8 +129,9 @@ pub(crate) enum Answer {
     Failed(u64),
     /// That of a slot in sync, or of a new device.
     Generation(Option<u32>),
-    Turned(Turn),
-    Counted(Counts),
+    Started,
+    Skipped,
+    Counted,
     Spoilt,
     /// The byte that the block has throughout.
     Stored(u16),
@@ -171,9 +172,44 @@ pub(crate) struct Bench {
     taken: Vec<Command>,
 }
 
+impl Answer {
+    /// Which of them it is, and what it says. A derived comparison would have a case for each two of them.
+    fn numbers(&self) -> [u64; 4] {
+        match *self {
+            Answer::Accepted(id) => [0, id, 0, 0],
+            Answer::AllAccepted => [1, 0, 0, 0],
+            Answer::Refused(number) => [2, u64::from(number), 0, 0],
+            Answer::Command(token, slot, row) => [3, token, slot as u64, row],
+            Answer::Commands(count) => [4, count as u64, 0, 0],
+            Answer::Taken => [5, 0, 0, 0],
+            Answer::Late => [6, 0, 0, 0],
+            Answer::AllLate => [7, 0, 0, 0],
+            Answer::Driven(taken, late) => [8, taken as u64, late as u64, 0],
+            Answer::Loss(slot, generation) => [9, slot as u64, u64::from(generation), 0],
+            Answer::Rebuilt(slot, generation) => [10, slot as u64, u64::from(generation), 0],
+            Answer::Heard => [11, 0, 0, 0],
+            Answer::Told(count, has_failed) => [12, count as u64, u64::from(has_failed), 0],
+            Answer::Lost => [13, 0, 0, 0],
+            Answer::Looked => [14, 0, 0, 0],
+            Answer::Done(id, byte) => [15, id, u64::from(byte), 0],
+            Answer::Data(id, byte) => [16, id, u64::from(byte), 0],
+            Answer::Failed(id) => [17, id, 0, 0],
+            Answer::Generation(None) => [18, 0, 0, 0],
+            Answer::Generation(Some(generation)) => [19, u64::from(generation), 0, 0],
+            Answer::Started => [20, 0, 0, 0],
+            Answer::Skipped => [21, 0, 0, 0],
+            Answer::Counted => [22, 0, 0, 0],
+            Answer::Spoilt => [23, 0, 0, 0],
+            Answer::Stored(byte) => [24, u64::from(byte), 0, 0],
+            Answer::Nothing => [25, 0, 0, 0],
+            Answer::Wrong => [26, 0, 0, 0],
+        }
+    }
+}
+
 /// Whether an answer is this one.
 pub(crate) fn is(found: &Answer, wanted: &Answer) -> bool {
-    found == wanted
+    found.numbers() == wanted.numbers()
 }
 
 /// The block of the request that comes so many behind the first, and the byte that it writes there.
@@ -218,31 +254,30 @@ fn register_without(geometry: &Geometry, lost: &[usize]) -> Snapshot {
 pub(crate) fn play_all<R: Abort>(rt: &R, alloc: Global, tables: &[&[Course<'_>]]) {
     for courses in tables {
         for course in *courses {
-            play(rt, alloc, course);
+            if let Err(step) = play(alloc, course, None) {
+                panic!(rt; "step {step} of {}", course.name);
+            }
         }
     }
 }
 
-fn play<R: Abort>(rt: &R, alloc: Global, course: &Course<'_>) {
-    match wrong_step(alloc, course) {
-        Some(Some(step)) => panic!(rt; "step {step} of {}", course.name),
-        Some(None) => {}
-        None => panic!(rt; "no start of {}", course.name),
-    }
-}
-
-/// The first step of a course that is not answered as it has to be, if there is one. `None`: it can't begin.
-fn wrong_step(alloc: Global, course: &Course<'_>) -> Option<Option<usize>> {
+/// A core takes the steps of a course; with a trouble, each is a request that is run to its reply. Of the steps, or of
+/// the commands then, there were so many. `Err`: this step isn't answered as it has to be, or the core can't begin.
+pub(crate) fn play(
+    alloc: Global,
+    course: &Course<'_>,
+    trouble: Option<&Trouble>,
+) -> Result<u64, usize> {
     match Bench::new(alloc, course) {
-        Some(mut bench) => Some(bench.wrong_step(course)),
-        None => None,
+        Some(mut bench) => bench.play(course, trouble),
+        None => Err(course.steps.len()),
     }
 }
 
 impl Bench {
-    /// An array of four slots, chunks of one block and blocks of 16 bytes, as the course has it. Of the values that have
-    /// to be dropped the core is made last, so that nothing ends early beside it.
-    pub(crate) fn new(alloc: Global, course: &Course<'_>) -> Option<Bench> {
+    /// An array of four slots, chunks of one block and blocks of 16 bytes, as the course has it. Of the values that
+    /// have to be dropped the core is made last, so that nothing ends early beside it.
+    fn new(alloc: Global, course: &Course<'_>) -> Option<Bench> {
         let Ok(geometry) = Geometry::new(SLOTS, 1, BLOCK, course.rows, course.shards) else {
             return None;
         };
@@ -268,14 +303,20 @@ impl Bench {
         })
     }
 
-    /// Takes the steps of a course, up to the first that does not answer so.
-    fn wrong_step(&mut self, course: &Course<'_>) -> Option<usize> {
+    fn play(&mut self, course: &Course<'_>, trouble: Option<&Trouble>) -> Result<u64, usize> {
+        match trouble {
+            Some(trouble) => self.run_all(course, trouble),
+            None => self.take_steps(course),
+        }
+    }
+
+    fn take_steps(&mut self, course: &Course<'_>) -> Result<u64, usize> {
         for (index, (step, answer)) in course.steps.iter().enumerate() {
             if !is(&self.answer(step), answer) {
-                return Some(index);
+                return Err(index);
             }
         }
-        None
+        Ok(course.steps.len() as u64)
     }
 
     /// What a step answers. Where memory is wanting, that is wrong.
@@ -309,10 +350,16 @@ impl Bench {
             Step::InSync(slot) => Answer::Generation(self.core.in_sync(*slot)),
             Step::Turn(task) => self.turn(*task),
             Step::Pass(task) => match self.turn(*task) {
-                Answer::Turned(Turn::Started) => self.drive(9, &NO_TROUBLE),
+                Answer::Started => self.drive(9, &NO_TROUBLE),
                 answer => answer,
             },
-            Step::Counts => Answer::Counted(self.core.counts()),
+            Step::Counts(wanted) => {
+                if self.core.counts() == *wanted {
+                    Answer::Counted
+                } else {
+                    Answer::Wrong
+                }
+            }
             Step::Spoil(slot, row, byte) => {
                 if fill(self.alloc, &mut self.devices, *slot, *row, *byte) {
                     Answer::Spoilt
@@ -495,7 +542,8 @@ impl Bench {
 
     fn turn(&mut self, task: Task) -> Answer {
         match self.core.turn(task) {
-            Ok(turn) => Answer::Turned(turn),
+            Ok(Turn::Started) => Answer::Started,
+            Ok(Turn::Skipped) => Answer::Skipped,
             Err(refusal) => Answer::Refused(refusal.number()),
         }
     }
@@ -511,8 +559,29 @@ impl Bench {
         }
     }
 
+    /// Runs each request to its reply, with this trouble: the number of the commands. Each reply is the course's; with
+    /// three errors, until one has failed, and each behind that one is refused.
+    fn run_all(&mut self, course: &Course<'_>, trouble: &Trouble) -> Result<u64, usize> {
+        let (mut tokens, mut has_failed): (u64, bool) = (0, false);
+        for (index, (step, answer)) in course.steps.iter().enumerate() {
+            let (commands, given) = self.run(step, trouble);
+            tokens = tokens.saturating_add(commands);
+            if has_failed {
+                let Answer::Refused(5) = given else {
+                    return Err(index);
+                };
+            } else if !is(&given, answer) {
+                has_failed = true;
+                if trouble.errors[2] == NO_TOKEN || !is(&given, &Answer::Failed(index as u64)) {
+                    return Err(index);
+                }
+            }
+        }
+        Ok(tokens)
+    }
+
     /// A request is run to its reply: the number of its commands, and the answer.
-    pub(crate) fn run(&mut self, request: &Step, trouble: &Trouble) -> (u64, Answer) {
+    fn run(&mut self, request: &Step, trouble: &Trouble) -> (u64, Answer) {
         let answer = self.answer(request);
         let Answer::Accepted(_) = answer else {
             return (0, answer);

@@ -1,69 +1,90 @@
 //! The runs of one core and of two through the loss of a device, and of two that rebuild.
 
-use crate::devices::{MIXED, byte_of, filled};
+use crate::devices::{byte_of, filled};
 use r6_core::Core;
 use r6_core_runs::{LostRow, read_beside_a_loss, read_through_a_loss, rebuild_in_two_shards};
 use r6_kernels::Buffer;
 use std::alloc::Global;
 
+fn block(alloc: Global, byte: u8) -> Buffer {
+    filled(alloc, 16, byte)
+}
+
 fn lost_row(alloc: Global, other: u8, parity: u8, lost: u8) -> LostRow {
     LostRow {
-        other: filled(alloc, 16, other),
-        parity: filled(alloc, 16, parity),
-        lost: filled(alloc, 16, lost),
+        other: block(alloc, other),
+        parity: block(alloc, parity),
+        lost: block(alloc, lost),
     }
 }
 
-/// The byte that the block throughout has which the run reads. What calls this has nothing of what the run promises to
-/// look through. So are the other two below.
-fn read_through(alloc: Global, row: LostRow) -> Option<u16> {
-    let ran = read_through_a_loss(alloc, row.lost, row.other, row.parity)?;
-    Some(byte_of(&ran.1))
+/// What is asked of a core after its run. Nothing else is known of it there, so that it costs nothing to let go of it.
+trait AfterRun {
+    /// The generation of slot 1, if it is in sync.
+    fn in_sync(&self) -> Option<u32>;
 }
 
-fn read_beside(alloc: Global, row: LostRow) -> Option<u16> {
-    let room = filled(alloc, 16, 0);
-    let ran = read_beside_a_loss(alloc, room, row.lost, row.other, row.parity)?;
-    Some(byte_of(&ran.2))
+impl AfterRun for Core {
+    fn in_sync(&self) -> Option<u32> {
+        Core::in_sync(self, 1)
+    }
 }
 
-fn read_rebuilt(alloc: Global, here: LostRow, there: LostRow) -> Option<u16> {
-    let room = filled(alloc, 16, 0);
-    let ran = rebuild_in_two_shards(alloc, here, there, room)?;
-    Some(byte_if_rebuilt(&ran.0, &ran.1, &ran.2))
-}
-
-fn is_rebuilt(core: &Core) -> bool {
-    core.in_sync(1) == Some(1)
-}
-
-/// The byte of a block, if both shards have slot 1 in sync again.
-fn byte_if_rebuilt(first: &Core, second: &Core, block: &Buffer) -> u16 {
-    if is_rebuilt(first) && is_rebuilt(second) {
-        byte_of(block)
+/// The byte that a block has throughout, if this core has slot 1 so in sync.
+fn byte_beside<C: AfterRun>(core: &C, in_sync: Option<u32>, block: &Buffer) -> Option<u16> {
+    if core.in_sync() == in_sync {
+        Some(byte_of(block))
     } else {
-        MIXED
+        None
     }
+}
+
+/// Likewise, of the block that a run has read.
+fn byte_of_one<C: AfterRun + Drop>(ran: Option<(C, Buffer)>, in_sync: Option<u32>) -> Option<u16> {
+    let (core, block) = ran?;
+    byte_beside(&core, in_sync, &block)
+}
+
+/// Likewise, of a run of two cores.
+fn byte_of_two<C: AfterRun + Drop>(
+    ran: Option<(C, C, Buffer)>,
+    in_sync: Option<u32>,
+) -> Option<u16> {
+    let (first, second, block) = ran?;
+    byte_beside(&first, in_sync, &block)?;
+    byte_beside(&second, in_sync, &block)
 }
 
 // The block that is lost is the sum of the other data block and P: 11 = 22 + 33.
-#[test]
-fn a_read_is_answered_through_the_loss_of_its_device(rt: HostRuntime) {
-    let row = lost_row(rt.alloc(), 0x22, 0x33, 0);
-    assert!(rt; read_through(rt.alloc(), row) == Some(0x11));
+fn read_through(alloc: Global) -> Option<u16> {
+    let (other, parity) = (block(alloc, 0x22), block(alloc, 0x33));
+    byte_of_one(
+        read_through_a_loss(alloc, block(alloc, 0), other, parity),
+        None,
+    )
 }
 
 // The same of the second shard's block, on a slot whose loss the first shard has found: 66 = 33 + 55.
-#[test]
-fn a_read_is_answered_through_a_loss_of_another_shard(rt: HostRuntime) {
-    let row = lost_row(rt.alloc(), 0x33, 0x55, 0);
-    assert!(rt; read_beside(rt.alloc(), row) == Some(0x66));
+fn read_beside(alloc: Global) -> Option<u16> {
+    let (lost, room) = (block(alloc, 0), block(alloc, 0));
+    let (other, parity) = (block(alloc, 0x33), block(alloc, 0x55));
+    byte_of_two(read_beside_a_loss(alloc, lost, room, other, parity), None)
 }
 
 // Both rows of slot 1 are restored, 11 = 22 + 33 and 66 = 33 + 55, and block 0 is then read from the new device.
+fn read_rebuilt(alloc: Global) -> Option<u16> {
+    let here = lost_row(alloc, 0x22, 0x33, 0x11);
+    let there = lost_row(alloc, 0x33, 0x55, 0x66);
+    byte_of_two(
+        rebuild_in_two_shards(alloc, here, there, block(alloc, 0)),
+        Some(1),
+    )
+}
+
 #[test]
-fn a_slot_is_rebuilt_by_two_shards(rt: HostRuntime) {
-    let here = lost_row(rt.alloc(), 0x22, 0x33, 0x11);
-    let there = lost_row(rt.alloc(), 0x33, 0x55, 0x66);
-    assert!(rt; read_rebuilt(rt.alloc(), here, there) == Some(0x11));
+fn reads_are_answered_through_losses_and_rebuilds(rt: HostRuntime) {
+    let alloc = rt.alloc();
+    assert!(rt; read_through(alloc) == Some(0x11));
+    assert!(rt; read_beside(alloc) == Some(0x66));
+    assert!(rt; read_rebuilt(alloc) == Some(0x11));
 }

@@ -3,11 +3,9 @@
 //! In rows 0 to 3 of the array the slots have, in order: Q, D0, D1, P; D0, D1, P, Q; D1, P, Q, D0; P, Q, D0, D1.
 
 use crate::bench::{Answer, Course, Requests, Step};
-use r6_core::{Task, Turn};
+use r6_core::Task;
 
-const STARTED: Answer = Answer::Turned(Turn::Started);
-
-pub(crate) const COURSES: &[Course<'static>] = &[
+const COURSES: &[Course<'static>] = &[
     // Token 1 writes the block. A read before it is done gives the old block, one behind it the new, while P and Q are
     // not written yet.
     Course {
@@ -47,7 +45,7 @@ pub(crate) const COURSES: &[Course<'static>] = &[
         lost: &[],
         steps: &[
             (Step::Read(0), Answer::Accepted(0)),
-            (Step::Turn(Task::Check), STARTED),
+            (Step::Turn(Task::Check), Answer::Started),
             (Step::Read(1), Answer::Accepted(1)),
             (Step::Take, Answer::Command(0, 1, 0)),
             (Step::TakeAll, Answer::Commands(5)),
@@ -237,3 +235,7 @@ pub(crate) const COURSES: &[Course<'static>] = &[
         ],
     },
 ];
+
+pub(crate) fn courses() -> &'static [Course<'static>] {
+    COURSES
+}

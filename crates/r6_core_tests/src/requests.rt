@@ -244,14 +244,18 @@ const COURSES: &[Course<'static>] = &[
     },
 ];
 
+fn courses() -> &'static [Course<'static>] {
+    COURSES
+}
+
 #[test]
 fn cores_take_their_courses(rt: HostRuntime) {
     let tables = &[
-        COURSES,
-        losses::COURSES,
-        reads::COURSES,
-        scrubs::COURSES,
-        starts::COURSES,
+        courses(),
+        losses::courses(),
+        reads::courses(),
+        scrubs::courses(),
+        starts::courses(),
     ];
     play_all(&rt, rt.alloc(), tables);
 }

@@ -1,6 +1,6 @@
 //! A script of requests with losses at all moments.
 
-use crate::bench::{Answer, Bench, Course, NO_TOKEN, Step, Trouble, is};
+use crate::bench::{Answer, Course, NO_TOKEN, Step, Trouble, play};
 use std::alloc::Global;
 use std::process::Abort;
 
@@ -32,56 +32,20 @@ const WRITE_AND_READ: Course<'static> = Course {
     ],
 };
 
-impl Bench {
-    /// Runs each request of a script to its reply, with this trouble: the number of its commands. Each reply is the
-    /// script's; with three errors, until one has failed, and each behind that one is refused. `None`: it isn't so.
-    fn run_all(&mut self, script: &Course<'_>, trouble: &Trouble) -> Option<u64> {
-        let (mut tokens, mut has_failed): (u64, bool) = (0, false);
-        for (index, (step, answer)) in script.steps.iter().enumerate() {
-            let (commands, given) = self.run(step, trouble);
-            tokens = tokens.saturating_add(commands);
-            if has_failed {
-                let Answer::Refused(5) = given else {
-                    return None;
-                };
-            } else if !is(&given, answer) {
-                has_failed = true;
-                if trouble.errors[2] == NO_TOKEN || !is(&given, &Answer::Failed(index as u64)) {
-                    return None;
-                }
-            }
-        }
-        Some(tokens)
-    }
-}
-
-/// The number of the commands of a script that is answered with this trouble, as above.
-fn commands_of(alloc: Global, script: &Course<'_>, trouble: &Trouble) -> Option<u64> {
-    match Bench::new(alloc, script) {
-        Some(mut bench) => bench.run_all(script, trouble),
-        None => None,
-    }
-}
-
-/// Likewise; it has to be answered so.
-fn run<R: Abort>(rt: &R, alloc: Global, script: &Course<'_>, trouble: &Trouble) -> u64 {
-    let Some(commands) = commands_of(alloc, script, trouble) else {
-        let [first, second, third] = trouble.errors;
-        panic!(rt;
-            "{}: errors at {first} {second} {third}, slot {} lost at {}",
-            script.name, trouble.slot, trouble.at
-        );
-    };
-    commands
-}
-
+/// The number of the commands of the two writes and their reads, with errors at these tokens.
 fn failing<R: Abort>(rt: &R, alloc: Global, errors: [u64; 3]) -> u64 {
     let trouble = Trouble {
         errors,
         slot: 0,
         at: NO_TOKEN,
     };
-    run(rt, alloc, &SCRIPT, &trouble)
+    match play(alloc, &SCRIPT, Some(&trouble)) {
+        Ok(commands) => commands,
+        Err(request) => {
+            let [first, second, third] = errors;
+            panic!(rt; "request {request} with errors at {first}, {second} and {third}")
+        }
+    }
 }
 
 // One or two errors at any tokens change no answer; with three each is right or failed.
@@ -106,7 +70,10 @@ fn a_slot_that_a_look_finds_lost_changes_no_answer(rt: HostRuntime) {
                 slot,
                 at,
             };
-            run(&rt, rt.alloc(), &WRITE_AND_READ, &trouble);
+            assert!(rt;
+                play(rt.alloc(), &WRITE_AND_READ, Some(&trouble)).is_ok(),
+                "slot {slot} lost at {at}"
+            );
         }
     }
 }

@@ -3,7 +3,7 @@
 //! In rows 0 to 3 of the array the slots have, in order: Q, D0, D1, P; D0, D1, P, Q; D1, P, Q, D0; P, Q, D0, D1.
 
 use crate::bench::{Answer, Course, Requests, Step};
-use r6_core::{Counts, Task, Turn};
+use r6_core::{Counts, Task};
 
 const NONE: Counts = Counts {
     consistent: 0,
@@ -15,10 +15,6 @@ const NONE: Counts = Counts {
     repaired: 0,
     rebuilt: 0,
 };
-
-const STARTED: Answer = Answer::Turned(Turn::Started);
-
-const SKIPPED: Answer = Answer::Turned(Turn::Skipped);
 
 /// A row of four slots is read, and nothing is written.
 const READ: Answer = Answer::Driven(4, 0);
@@ -47,7 +43,7 @@ const WHOLE: Counts = Counts {
     ..REPAIRED
 };
 
-pub(crate) const COURSES: &[Course<'static>] = &[
+const COURSES: &[Course<'static>] = &[
     Course {
         name: "a check counts each class and writes nothing",
         rows: 4,
@@ -65,10 +61,10 @@ pub(crate) const COURSES: &[Course<'static>] = &[
             (Step::Pass(Task::Check), READ),
             (Step::Pass(Task::Check), READ),
             (Step::Pass(Task::Check), READ),
-            (Step::Counts, Answer::Counted(EACH_CLASS)),
+            (Step::Counts(EACH_CLASS), Answer::Counted),
             // behind the last row comes the first again
             (Step::Pass(Task::Check), READ),
-            (Step::Counts, Answer::Counted(AGAIN)),
+            (Step::Counts(AGAIN), Answer::Counted),
         ],
     },
     // The repair goes by itself: the checks before it did not move it on.
@@ -90,7 +86,7 @@ pub(crate) const COURSES: &[Course<'static>] = &[
             (Step::Pass(Task::Repair), Answer::Driven(5, 0)),
             (Step::Pass(Task::Repair), Answer::Driven(6, 0)),
             (Step::Pass(Task::Repair), Answer::Driven(6, 0)),
-            (Step::Counts, Answer::Counted(REPAIRED)),
+            (Step::Counts(REPAIRED), Answer::Counted),
             (Step::Stored(3, 0), Answer::Stored(0)),
             (Step::Stored(3, 1), Answer::Stored(0)),
             // D0 stays, and is P and Q of the row with a D1 of zeros
@@ -104,7 +100,7 @@ pub(crate) const COURSES: &[Course<'static>] = &[
             (Step::Pass(Task::Check), READ),
             (Step::Pass(Task::Check), READ),
             (Step::Pass(Task::Check), READ),
-            (Step::Counts, Answer::Counted(WHOLE)),
+            (Step::Counts(WHOLE), Answer::Counted),
         ],
     },
     Course {
@@ -114,7 +110,7 @@ pub(crate) const COURSES: &[Course<'static>] = &[
         window: 1,
         lost: &[],
         steps: &[
-            (Step::Turn(Task::Check), STARTED),
+            (Step::Turn(Task::Check), Answer::Started),
             (Step::TakeAll, Answer::Commands(4)),
             (Step::Turn(Task::Repair), Answer::Refused(10)),
             (Step::Write(0, 0x5a), Answer::Accepted(0)),
@@ -131,14 +127,14 @@ pub(crate) const COURSES: &[Course<'static>] = &[
             (Step::Drive(9), Answer::Driven(3, 0)),
             (Step::Look, Answer::Looked),
             (Step::Reply, Answer::Done(0, 0x5a)),
-            (Step::Turn(Task::Repair), STARTED),
+            (Step::Turn(Task::Repair), Answer::Started),
             (Step::Drive(9), Answer::Driven(4, 0)),
             (
-                Step::Counts,
-                Answer::Counted(Counts {
+                Step::Counts(Counts {
                     consistent: 2,
                     ..NONE
                 }),
+                Answer::Counted,
             ),
         ],
     },
@@ -154,12 +150,12 @@ pub(crate) const COURSES: &[Course<'static>] = &[
             (Step::Turn(Task::Check), Answer::Refused(10)),
             (Step::Lose(3), Answer::Lost),
             (Step::Look, Answer::Looked),
-            (Step::Turn(Task::Check), SKIPPED),
-            (Step::Turn(Task::Check), SKIPPED),
-            (Step::Turn(Task::Repair), SKIPPED),
+            (Step::Turn(Task::Check), Answer::Skipped),
+            (Step::Turn(Task::Check), Answer::Skipped),
+            (Step::Turn(Task::Repair), Answer::Skipped),
             (Step::Take, Answer::Nothing),
             (Step::Do(0), Answer::Taken),
-            (Step::Counts, Answer::Counted(Counts { skipped: 3, ..NONE })),
+            (Step::Counts(Counts { skipped: 3, ..NONE }), Answer::Counted),
         ],
     },
     // Token 1 is the read of slot 2, whose device fails.
@@ -171,14 +167,14 @@ pub(crate) const COURSES: &[Course<'static>] = &[
         lost: &[],
         steps: &[
             (Step::Spoil(3, 0, 0x11), Answer::Spoilt),
-            (Step::Turn(Task::Repair), STARTED),
+            (Step::Turn(Task::Repair), Answer::Started),
             (Step::TakeAll, Answer::Commands(4)),
             (Step::Do(0), Answer::Taken),
             (Step::Fail(1), Answer::Taken),
             (Step::Do(2), Answer::Taken),
-            (Step::Counts, Answer::Counted(NONE)),
+            (Step::Counts(NONE), Answer::Counted),
             (Step::Do(3), Answer::Taken),
-            (Step::Counts, Answer::Counted(Counts { skipped: 1, ..NONE })),
+            (Step::Counts(Counts { skipped: 1, ..NONE }), Answer::Counted),
             (Step::Take, Answer::Nothing),
             (Step::Stored(3, 0), Answer::Stored(0x11)),
         ],
@@ -192,18 +188,18 @@ pub(crate) const COURSES: &[Course<'static>] = &[
         lost: &[],
         steps: &[
             (Step::Spoil(3, 0, 0x11), Answer::Spoilt),
-            (Step::Turn(Task::Repair), STARTED),
+            (Step::Turn(Task::Repair), Answer::Started),
             (Step::Drive(4), Answer::Driven(4, 0)),
             (Step::Take, Answer::Command(4, 3, 0)),
-            (Step::Counts, Answer::Counted(NONE)),
+            (Step::Counts(NONE), Answer::Counted),
             (Step::Fail(4), Answer::Taken),
             (
-                Step::Counts,
-                Answer::Counted(Counts {
+                Step::Counts(Counts {
                     wrong_p: 1,
                     repaired: 1,
                     ..NONE
                 }),
+                Answer::Counted,
             ),
         ],
     },
@@ -214,7 +210,7 @@ pub(crate) const COURSES: &[Course<'static>] = &[
         window: 1,
         lost: &[2, 3],
         steps: &[
-            (Step::Turn(Task::Check), SKIPPED),
+            (Step::Turn(Task::Check), Answer::Skipped),
             (Step::Read(0), Answer::Accepted(0)),
             (Step::Take, Answer::Command(0, 1, 0)),
             (Step::Fail(0), Answer::Taken),
@@ -223,7 +219,7 @@ pub(crate) const COURSES: &[Course<'static>] = &[
             (Step::TellAll, Answer::Told(1, true)),
             (Step::Look, Answer::Looked),
             (Step::Turn(Task::Check), Answer::Refused(5)),
-            (Step::Counts, Answer::Counted(Counts { skipped: 1, ..NONE })),
+            (Step::Counts(Counts { skipped: 1, ..NONE }), Answer::Counted),
         ],
     },
     // Rows 1 to 64 are written, each its first block, and row 0 is free.
@@ -243,9 +239,13 @@ pub(crate) const COURSES: &[Course<'static>] = &[
             (Step::Do(63), Answer::Taken),
             (Step::Turn(Task::Check), Answer::Refused(9)),
             (Step::Drive(3), Answer::Driven(3, 0)),
-            (Step::Turn(Task::Check), STARTED),
+            (Step::Turn(Task::Check), Answer::Started),
             (Step::Turn(Task::Check), Answer::Refused(10)),
             (Step::Turn(Task::Repair), Answer::Refused(10)),
         ],
     },
 ];
+
+pub(crate) fn courses() -> &'static [Course<'static>] {
+    COURSES
+}

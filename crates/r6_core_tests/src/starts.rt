@@ -1,11 +1,9 @@
 //! Cores that begin with slots lost, or that look at a slot under rebuild.
 
 use crate::bench::{Answer, Course, Step};
-use r6_core::{Task, Turn};
+use r6_core::Task;
 
-const STARTED: Answer = Answer::Turned(Turn::Started);
-
-pub(crate) const COURSES: &[Course<'static>] = &[
+const COURSES: &[Course<'static>] = &[
     Course {
         name: "slots are in sync with generation 0",
         rows: 4,
@@ -92,7 +90,7 @@ pub(crate) const COURSES: &[Course<'static>] = &[
             (Step::Spoil(1, 0, 0xff), Answer::Spoilt),
             (Step::Spoil(1, 1, 0xff), Answer::Spoilt),
             (Step::Look, Answer::Looked),
-            (Step::Turn(Task::Rebuild), STARTED),
+            (Step::Turn(Task::Rebuild), Answer::Started),
             (Step::Read(0), Answer::Accepted(0)),
             (Step::Take, Answer::Command(0, 2, 0)),
             (Step::Take, Answer::Command(1, 3, 0)),
@@ -104,7 +102,7 @@ pub(crate) const COURSES: &[Course<'static>] = &[
             (Step::Do(2), Answer::Taken),
             (Step::Take, Answer::Command(3, 1, 0)),
             (Step::Take, Answer::Nothing),
-            (Step::Turn(Task::Check), STARTED),
+            (Step::Turn(Task::Check), Answer::Started),
             (Step::Drive(4), Answer::Driven(4, 0)),
             (Step::Read(3), Answer::Accepted(1)),
             (Step::Take, Answer::Command(8, 0, 1)),
@@ -114,7 +112,7 @@ pub(crate) const COURSES: &[Course<'static>] = &[
             (Step::Do(3), Answer::Taken),
             (Step::Do(8), Answer::Taken),
             (Step::Do(9), Answer::Taken),
-            (Step::Turn(Task::Rebuild), STARTED),
+            (Step::Turn(Task::Rebuild), Answer::Started),
             (Step::Look, Answer::Looked),
             (Step::Reply, Answer::Data(0, 0)),
             (Step::Reply, Answer::Data(1, 0)),
@@ -132,8 +130,8 @@ pub(crate) const COURSES: &[Course<'static>] = &[
             (Step::Lose(1), Answer::Lost),
             (Step::Attach(1), Answer::Generation(Some(1))),
             (Step::Look, Answer::Looked),
-            (Step::Turn(Task::Rebuild), STARTED),
-            (Step::Turn(Task::Rebuild), STARTED),
+            (Step::Turn(Task::Rebuild), Answer::Started),
+            (Step::Turn(Task::Rebuild), Answer::Started),
             (Step::Turn(Task::Rebuild), Answer::Refused(10)),
             (Step::Take, Answer::Command(0, 2, 0)),
             (Step::Take, Answer::Command(1, 3, 0)),
@@ -146,10 +144,10 @@ pub(crate) const COURSES: &[Course<'static>] = &[
             (Step::Take, Answer::Command(4, 1, 1)),
             (Step::Turn(Task::Rebuild), Answer::Refused(10)),
             (Step::Do(4), Answer::Taken),
-            (Step::Turn(Task::Rebuild), STARTED),
+            (Step::Turn(Task::Rebuild), Answer::Started),
             (Step::Turn(Task::Rebuild), Answer::Refused(10)),
             (Step::Drive(3), Answer::Driven(3, 0)),
-            (Step::Turn(Task::Rebuild), STARTED),
+            (Step::Turn(Task::Rebuild), Answer::Started),
             (Step::Turn(Task::Rebuild), Answer::Refused(10)),
             (Step::Do(0), Answer::Taken),
             (Step::Do(1), Answer::Taken),
@@ -160,3 +158,7 @@ pub(crate) const COURSES: &[Course<'static>] = &[
         ],
     },
 ];
+
+pub(crate) fn courses() -> &'static [Course<'static>] {
+    COURSES
+}
