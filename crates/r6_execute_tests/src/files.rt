@@ -1,7 +1,8 @@
 //! Courses of commands over the files of an array of four slots.
 
-use crate::runs::{Ended, How, Parts, WELL, is_so, parts_of_one};
+use crate::runs::{CREATE, Ended, How, RUN, VERIFY, WELL, is_so, push_all};
 use r6_command::Invocation;
+use std::alloc::{Alloc, Global};
 use std::fmt::Write;
 use std::io::Seek;
 use std::os::unix::fs::FileExt;
@@ -10,19 +11,6 @@ use std::rt::Files;
 use std::sync::Wait;
 use std::thread::Threads;
 use std::{env, fs, process};
-
-pub(crate) const CREATE: Invocation<'static> = Invocation::Create {
-    config: "array.toml",
-};
-
-pub(crate) const VERIFY: Invocation<'static> = Invocation::Verify {
-    config: "array.toml",
-};
-
-pub(crate) const RUN: Invocation<'static> = Invocation::Run {
-    config: "array.toml",
-    script: "requests.script",
-};
 
 pub(crate) const CREATED: Ended<'static> = ("created 4\n", "", 0);
 
@@ -41,102 +29,93 @@ pub(crate) enum Step<'a> {
     Verify(Ended<'a>),
     /// Likewise `verify`, whose outputs serve so.
     VerifyOn(How, Ended<'a>),
-    /// Likewise `run` with a script, in which `@` stands for the path of the spare file, twice at the most.
+    /// Likewise `run` with a script, in which `@` stands for the path of the spare file.
     Run(&'a str, Ended<'a>),
-    /// A byte of a file is set.
-    Set(usize, u64, u8),
     /// A file gets these bytes and no others.
     Fill(usize, Runs<'a>),
     /// A file has to have these bytes and no others.
     Holds(usize, Runs<'a>),
-    /// A file goes by another one's name.
-    Rename(usize, usize),
     /// A file that has to be there is removed.
     Remove(usize),
     /// Likewise those of all slots.
     RemoveAll,
 }
 
-/// The steps that the commands take over files of their own, with settings of these integers and what else they say.
+/// The steps that the commands take over files of their own, with these settings, in which the paths of the devices are
+/// wanting.
 pub(crate) struct Course<'a> {
     pub(crate) name: &'a str,
-    pub(crate) integers: &'a str,
-    pub(crate) more: &'a str,
+    pub(crate) settings: &'a str,
     pub(crate) steps: &'a [Step<'a>],
 }
 
-/// The path of a file of a course. A path that can't be had is empty: no file is there.
-fn path_of(rt: &HostRuntime, name: &str, file: usize) -> String {
+/// What the paths of a test's files begin with. A folder that can't be had is missing: no file is there.
+pub(crate) fn folder_of(rt: &HostRuntime) -> String {
     let mut path = String::new(rt.alloc());
     if let Ok(folder) = env::temp_dir(rt) {
         let (folder, id) = (folder.as_str(), process::id(rt.process()));
-        let _ = write!(path, "{folder}/raid6-{name}-{id}-{file}");
+        let _ = write!(path, "{folder}/raid6-{id}-");
     }
     path
 }
 
-/// Settings for the files of a course, with their paths, at which there is nothing.
-fn settings_of(rt: &HostRuntime, course: &Course<'_>) -> String {
-    let mut text = String::new(rt.alloc());
-    let _ = write!(text, "{}{}devices = [", course.integers, course.more);
+fn path_of(alloc: Global, folder: &str, file: usize) -> String {
+    let mut path = String::new(alloc);
+    let _ = write!(path, "{folder}{file}");
+    path
+}
+
+/// These settings with the paths of the files, at which there is nothing.
+fn settings_of<R: Files>(rt: &R, alloc: Global, folder: &str, settings: &str) -> String {
+    let mut text = String::new(alloc);
+    push_all(&mut text, &[settings, "devices = ["]);
     for slot in 0..4usize {
-        let path = path_of(rt, course.name, slot);
+        let path = path_of(alloc, folder, slot);
         let _ = fs::remove_file(rt, path.as_str());
-        let _ = write!(text, "\"{}\", ", path.as_str());
+        push_all(&mut text, &["\"", path.as_str(), "\", "]);
     }
-    let _ = text.push_str("]\n");
+    push_all(&mut text, &["]\n"]);
     text
 }
 
 /// Each course of these tables has to go as its steps say.
 pub(crate) fn play_all<
     F: FileExt + Seek + Drop + Send,
-    R: Abort + Wait + Threads + Files<File = F> + Sync,
->(rt: &HostRuntime, waits: &R, tables: &[&[Course<'_>]]) {
+    R: Abort + Alloc + Wait + Threads + Files<File = F> + Sync,
+>(rt: &R, alloc: Global, folder: &str, tables: &[&[Course<'_>]]) {
     for courses in tables {
         for course in *courses {
-            let settings = settings_of(rt, course);
-            play(rt, waits, course, settings.as_bytes());
+            let settings = settings_of(rt, alloc, folder, course.settings);
+            play(rt, alloc, folder, course, settings.as_str());
         }
     }
 }
 
-fn play<F: FileExt + Seek + Drop + Send, R: Abort + Wait + Threads + Files<File = F> + Sync>(
-    rt: &HostRuntime,
-    waits: &R,
-    course: &Course<'_>,
-    settings: &[u8],
-) {
+fn play<
+    F: FileExt + Seek + Drop + Send,
+    R: Abort + Alloc + Wait + Threads + Files<File = F> + Sync,
+>(rt: &R, alloc: Global, folder: &str, course: &Course<'_>, settings: &str) {
     for (index, step) in course.steps.iter().enumerate() {
-        assert!(waits;
-            is_done(rt, waits, course.name, settings, step),
+        assert!(rt;
+            is_done(rt, alloc, folder, settings, step),
             "step {index} of {}",
             course.name
         );
     }
 }
 
-fn is_done<F: FileExt + Seek + Drop + Send, R: Wait + Threads + Files<File = F> + Sync>(
-    rt: &HostRuntime,
-    waits: &R,
-    name: &str,
-    settings: &[u8],
+fn is_done<F: FileExt + Seek + Drop + Send, R: Alloc + Wait + Threads + Files<File = F> + Sync>(
+    rt: &R,
+    alloc: Global,
+    folder: &str,
+    settings: &str,
     step: &Step<'_>,
 ) -> bool {
     let Some((invocation, script, how, wanted)) = command_of(step) else {
-        return is_filed(rt, name, step);
+        return is_filed(rt, alloc, folder, step);
     };
-    let path = path_of(rt, name, SPARE);
-    let script = parts_of(script, path.as_str());
-    let settings = parts_of_one(settings);
-    is_so(
-        waits,
-        rt.alloc(),
-        invocation,
-        (&settings, &script),
-        how,
-        wanted,
-    )
+    let files = (settings, script_of(alloc, folder, script));
+    is_so(rt, alloc, invocation, files, how, wanted)
 }
 
 /// A command with its script, how its outputs serve, and how it has to end.
@@ -153,50 +132,28 @@ fn command_of<'a>(step: &'a Step<'a>) -> Option<Command<'a>> {
     }
 }
 
-fn parts_of<'a>(script: &'a str, path: &'a str) -> Parts<'a> {
-    let path = path.as_bytes();
-    let Some((first, rest)) = script.split_once('@') else {
-        return parts_of_one(script.as_bytes());
-    };
-    match rest.split_once('@') {
-        Some((second, third)) => [
-            first.as_bytes(),
-            path,
-            second.as_bytes(),
-            path,
-            third.as_bytes(),
-            b"",
-        ],
-        None => [first.as_bytes(), path, rest.as_bytes(), b"", b"", b""],
+/// A script in which the path of the spare file stands for each `@`.
+fn script_of(alloc: Global, folder: &str, script: &str) -> String {
+    let (mut text, path) = (String::new(alloc), path_of(alloc, folder, SPARE));
+    for (index, part) in script.split('@').enumerate() {
+        let before = if index > 0 { path.as_str() } else { "" };
+        push_all(&mut text, &[before, part]);
     }
+    text
 }
 
-fn is_filed(rt: &HostRuntime, name: &str, step: &Step<'_>) -> bool {
+fn is_filed<R: Files + Alloc>(rt: &R, alloc: Global, folder: &str, step: &Step<'_>) -> bool {
     match step {
-        Step::Set(file, offset, byte) => set(rt, name, *file, *offset, *byte),
-        Step::Fill(file, runs) => fill(rt, name, *file, runs),
-        Step::Holds(file, runs) => holds(rt, name, *file, runs),
-        Step::Rename(from, to) => rename(rt, name, *from, *to),
-        Step::Remove(file) => remove(rt, name, *file),
-        Step::RemoveAll => {
-            remove(rt, name, 0) && remove(rt, name, 1) && remove(rt, name, 2) && remove(rt, name, 3)
-        }
+        Step::Fill(file, runs) => fill(rt, alloc, path_of(alloc, folder, *file), runs),
+        Step::Holds(file, runs) => holds(rt, alloc, path_of(alloc, folder, *file), runs),
+        Step::Remove(file) => remove(rt, path_of(alloc, folder, *file)),
+        Step::RemoveAll => remove_all(rt, alloc, folder),
         _ => false,
     }
 }
 
-fn set(rt: &HostRuntime, name: &str, file: usize, offset: u64, byte: u8) -> bool {
-    let path = path_of(rt, name, file);
-    let mut how = fs::OpenOptions::new();
-    how.write(true);
-    match how.open(rt, path.as_str()) {
-        Ok(file) => file.write_all_at(&[byte], offset).is_ok(),
-        Err(_) => false,
-    }
-}
-
-fn bytes_of(rt: &HostRuntime, runs: Runs<'_>) -> Vec<u8> {
-    let mut bytes = Vec::new(rt.alloc());
+fn bytes_of(alloc: Global, runs: Runs<'_>) -> Vec<u8> {
+    let mut bytes = Vec::new(alloc);
     for (byte, count) in runs {
         for _ in 0..*count {
             let _ = bytes.push(*byte);
@@ -205,24 +162,28 @@ fn bytes_of(rt: &HostRuntime, runs: Runs<'_>) -> Vec<u8> {
     bytes
 }
 
-fn fill(rt: &HostRuntime, name: &str, file: usize, runs: Runs<'_>) -> bool {
-    let (path, bytes) = (path_of(rt, name, file), bytes_of(rt, runs));
+fn fill<R: Files>(rt: &R, alloc: Global, path: String, runs: Runs<'_>) -> bool {
+    let bytes = bytes_of(alloc, runs);
     fs::write(rt, path.as_str(), bytes.as_slice()).is_ok()
 }
 
-fn holds(rt: &HostRuntime, name: &str, file: usize, runs: Runs<'_>) -> bool {
-    let (path, bytes) = (path_of(rt, name, file), bytes_of(rt, runs));
+fn holds<R: Files + Alloc>(rt: &R, alloc: Global, path: String, runs: Runs<'_>) -> bool {
+    let bytes = bytes_of(alloc, runs);
     match fs::read(rt, path.as_str()) {
         Ok(held) => held.as_slice() == bytes.as_slice(),
         Err(_) => false,
     }
 }
 
-fn rename(rt: &HostRuntime, name: &str, from: usize, to: usize) -> bool {
-    let (from, to) = (path_of(rt, name, from), path_of(rt, name, to));
-    fs::rename(rt, from.as_str(), to.as_str()).is_ok()
+fn remove<R: Files>(rt: &R, path: String) -> bool {
+    fs::remove_file(rt, path.as_str()).is_ok()
 }
 
-fn remove(rt: &HostRuntime, name: &str, file: usize) -> bool {
-    fs::remove_file(rt, path_of(rt, name, file).as_str()).is_ok()
+fn remove_all<R: Files>(rt: &R, alloc: Global, folder: &str) -> bool {
+    for slot in 0..4usize {
+        if !remove(rt, path_of(alloc, folder, slot)) {
+            return false;
+        }
+    }
+    true
 }

@@ -1,12 +1,7 @@
 //! The command `geometry`.
 
-use crate::runs::{Case, How, WELL, end_so};
-use r6_command::Invocation;
+use crate::runs::{Case, How, WELL};
 use std::io::ErrorKind;
-
-const GEOMETRY: Invocation<'static> = Invocation::Geometry {
-    config: "array.toml",
-};
 
 const FOUR_SLOTS: &str = "slots = 4\nchunk = 1\nblock = 16\nrows = 4\nshards = 2\n";
 
@@ -19,8 +14,7 @@ chunk row 2: d1 p q d0
 chunk row 3: p q d0 d1
 ";
 
-// Three chunk rows are fewer than five slots. The last array is the largest: its chunk rows were not worked out one by
-// one but written by the rule of the layout, each as the one before it moved on by a slot.
+// Three chunk rows are fewer than five slots.
 const LAYOUTS: &[Case<'static>] = &[
     (WELL, FOUR_SLOTS, (FOUR_SLOTS_LAYOUT, "", 0)),
     (
@@ -56,11 +50,19 @@ chunk row 2: d1 d2 p q d0
             0,
         ),
     ),
+];
+
+pub(crate) fn layouts() -> &'static [Case<'static>] {
+    LAYOUTS
+}
+
+// The largest array's chunk rows were not worked out one by one but written by the rule of the layout, each as the one
+// before it moved on by a slot.
+const LARGEST_LAYOUT: &[Case<'static>] = &[(
+    WELL,
+    "slots = 32\nchunk = 128\nblock = 4096\nrows = 16777216\nshards = 16\n",
     (
-        WELL,
-        "slots = 32\nchunk = 128\nblock = 4096\nrows = 16777216\nshards = 16\n",
-        (
-            "slots 32 chunk 128 block 4096 rows 16777216 shards 16 blocks 503316480
+        "slots 32 chunk 128 block 4096 rows 16777216 shards 16 blocks 503316480
 shard 0 rows 0 to 1048575
 shard 1 rows 1048576 to 2097151
 shard 2 rows 2097152 to 3145727
@@ -110,15 +112,13 @@ chunk row 29: d28 d29 p q d0 d1 d2 d3 d4 d5 d6 d7 d8 d9 d10 d11 d12 d13 d14 d15 
 chunk row 30: d29 p q d0 d1 d2 d3 d4 d5 d6 d7 d8 d9 d10 d11 d12 d13 d14 d15 d16 d17 d18 d19 d20 d21 d22 d23 d24 d25 d26 d27 d28
 chunk row 31: p q d0 d1 d2 d3 d4 d5 d6 d7 d8 d9 d10 d11 d12 d13 d14 d15 d16 d17 d18 d19 d20 d21 d22 d23 d24 d25 d26 d27 d28 d29
 ",
-            "",
-            0,
-        ),
+        "",
+        0,
     ),
-];
+)];
 
-#[test]
-fn layouts_are_printed(rt: HostRuntime) {
-    end_so(&rt, rt.alloc(), &GEOMETRY, LAYOUTS);
+pub(crate) fn largest_layout() -> &'static [Case<'static>] {
+    LARGEST_LAYOUT
 }
 
 // The first fault is named.
@@ -164,6 +164,14 @@ const FAULTS: &[Case<'static>] = &[
         "slots = 4\nchunk = 1\nblock = 16\nrows = 4\n",
         ("", "settings: shards\n", 3),
     ),
+];
+
+pub(crate) fn faults() -> &'static [Case<'static>] {
+    FAULTS
+}
+
+// Likewise, where the integers are there.
+const LATER_FAULTS: &[Case<'static>] = &[
     (
         WELL,
         "slots = 4\nchunk = 1\nblock = 16\nrows = 4\nshards = 1\nwindow = 0\nworkers = 0\n",
@@ -246,9 +254,8 @@ const FAULTS: &[Case<'static>] = &[
     ),
 ];
 
-#[test]
-fn the_first_fault_is_named(rt: HostRuntime) {
-    end_so(&rt, rt.alloc(), &GEOMETRY, FAULTS);
+pub(crate) fn later_faults() -> &'static [Case<'static>] {
+    LATER_FAULTS
 }
 
 const ALL_BUT_THE_END: &str = "slots 4 chunk 1 block 16 rows 4 shards 2 blocks 8
@@ -359,7 +366,6 @@ const FAILURES: &[Case<'static>] = &[
     ),
 ];
 
-#[test]
-fn failures_are_reported(rt: HostRuntime) {
-    end_so(&rt, rt.alloc(), &GEOMETRY, FAILURES);
+pub(crate) fn failures() -> &'static [Case<'static>] {
+    FAILURES
 }

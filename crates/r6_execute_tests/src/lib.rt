@@ -20,4 +20,6 @@ mod simulate_turns;
 #[cfg(test)]
 mod simulated;
 #[cfg(test)]
+mod texts;
+#[cfg(test)]
 mod transcripts;

@@ -10,11 +10,27 @@ use std::rt::Files;
 use std::sync::Wait;
 use std::thread::Threads;
 
+pub(crate) const GEOMETRY: Invocation<'static> = Invocation::Geometry {
+    config: "array.toml",
+};
+
+pub(crate) const CREATE: Invocation<'static> = Invocation::Create {
+    config: "array.toml",
+};
+
+pub(crate) const VERIFY: Invocation<'static> = Invocation::Verify {
+    config: "array.toml",
+};
+
+pub(crate) const RUN: Invocation<'static> = Invocation::Run {
+    config: "array.toml",
+    script: "requests.script",
+};
+
+pub(crate) const SIMULATE: Invocation<'static> = Invocation::Simulate { script: "script" };
+
 /// What a command prints, what it says of a fault, and its status.
 pub(crate) type Ended<'a> = (&'a str, &'a str, u8);
-
-/// The parts of a text, which a reader hands out one after another. The last has room for the end.
-pub(crate) type Parts<'a> = [&'a [u8]; 6];
 
 /// How a command's files and outputs serve.
 #[derive(Clone, Copy)]
@@ -35,28 +51,22 @@ pub(crate) const WELL: How = How {
     is_terminal: false,
 };
 
-/// The parts of a text in one piece.
-pub(crate) fn parts_of_one<'a>(text: &'a [u8]) -> Parts<'a> {
-    [text, b"", b"", b"", b"", b""]
-}
-
-/// A reader that hands out its parts, and then may fail.
+/// A reader of a text, which ends as its file does, and then may fail.
 #[derive(Drop)]
 struct Text<'a> {
-    parts: Parts<'a>,
+    left: &'a [u8],
+    end: &'static [u8],
     fails: Option<ErrorKind>,
 }
 
 impl Read for Text<'_> {
     fn read(&mut self, buf: &mut [u8]) -> io::Result<usize> {
-        for part in &mut self.parts {
-            if !part.is_empty() {
-                return part.read(buf);
-            }
+        if !self.left.is_empty() {
+            return self.left.read(buf);
         }
         match self.fails {
-            Some(kind) => Err(io::Error::from(kind)),
-            None => Ok(0),
+            Some(kind) if self.end.is_empty() => Err(io::Error::from(kind)),
+            _ => self.end.read(buf),
         }
     }
 }
@@ -118,76 +128,90 @@ fn is_taken(room: &Room, wanted: &str) -> bool {
     room.taken.as_slice() == wanted.as_bytes()
 }
 
-fn text_of<'a>(parts: &Parts<'a>, how: &How) -> Text<'a> {
-    let mut parts = *parts;
-    parts[5] = how.end;
+fn text_of<'a>(text: &'a str, how: &How) -> Text<'a> {
     Text {
-        parts,
+        left: text.as_bytes(),
+        end: how.end,
         fails: how.fails,
     }
 }
 
-/// Whether a command whose settings and script these are ends so.
+/// What there is no memory for is missing, so that nothing ends as wanted.
+pub(crate) fn push_all(text: &mut String, parts: &[&str]) {
+    for part in parts {
+        let _ = text.push_str(part);
+    }
+}
+
+fn joined(alloc: Global, parts: &[&str]) -> String {
+    let mut text = String::new(alloc);
+    push_all(&mut text, parts);
+    text
+}
+
+/// Whether a command whose settings and script these are ends so, if they and the outputs serve so.
 pub(crate) fn is_so<F: FileExt + Seek + Drop + Send, R: Wait + Threads + Files<File = F> + Sync>(
     rt: &R,
     alloc: Global,
     invocation: &Invocation<'_>,
-    (settings, script): (&Parts<'_>, &Parts<'_>),
+    (settings, script): (&str, String),
     how: &How,
     wanted: &Ended<'_>,
 ) -> bool {
     let mut out = room_of(alloc, how.rooms.0);
     let mut err = ErrorOutput::new(room_of(alloc, how.rooms.1), how.is_terminal);
-    let (settings, script) = (text_of(settings, how), text_of(script, how));
+    let (settings, script) = (text_of(settings, how), text_of(script.as_str(), how));
     let status = status_of(rt, alloc, invocation, settings, script, &mut out, &mut err);
     is_taken(&out, wanted.0) && is_taken(&err.writer, wanted.1) && status == wanted.2
 }
 
-/// A command whose one file has this text is to end so, if the file and the outputs serve so.
-pub(crate) type Case<'a> = (How, &'a str, Ended<'a>);
-
-/// Each case has to end as it says.
-pub(crate) fn end_so<
-    F: FileExt + Seek + Drop + Send,
-    R: Abort + Wait + Threads + Files<File = F> + Sync,
->(rt: &R, alloc: Global, invocation: &Invocation<'_>, cases: &[Case<'_>]) {
-    for (index, (how, text, wanted)) in cases.iter().enumerate() {
-        let parts = parts_of_one(text.as_bytes());
-        assert!(rt;
-            is_so(rt, alloc, invocation, (&parts, &parts), how, wanted),
-            "case {index}: {text}"
-        );
-    }
-}
-
-/// A command whose script has one of these lines has to end so, whichever it is. A bar stands between two lines of a
-/// text; what comes before a line, and behind it, stands around them.
-pub(crate) fn lines_end_so<
+/// It has to end so; a failing test tells which it is, by this text.
+pub(crate) fn must_be_so<
     F: FileExt + Seek + Drop + Send,
     R: Abort + Wait + Threads + Files<File = F> + Sync,
 >(
     rt: &R,
     alloc: Global,
     invocation: &Invocation<'_>,
-    settings: &Parts<'_>,
-    (before, behind): (&str, &str),
-    lines: &[&str],
-    wanted: &Ended<'_>,
+    files: (&str, String),
+    (how, wanted): (&How, &Ended<'_>),
+    text: &str,
 ) {
-    for lines in lines {
-        for line in lines.split('|') {
-            let script = [
-                before.as_bytes(),
-                line.as_bytes(),
-                behind.as_bytes(),
-                b"",
-                b"",
-                b"",
-            ];
-            assert!(rt;
-                is_so(rt, alloc, invocation, (settings, &script), &WELL, wanted),
-                "at {line}"
-            );
+    assert!(rt; is_so(rt, alloc, invocation, files, how, wanted), "{text}");
+}
+
+/// A command whose one file has this text is to end so, if the file and the outputs serve so.
+pub(crate) type Case<'a> = (How, &'a str, Ended<'a>);
+
+/// Each case of a command has to end as it says.
+pub(crate) fn end_so<
+    F: FileExt + Seek + Drop + Send,
+    R: Abort + Wait + Threads + Files<File = F> + Sync,
+>(rt: &R, alloc: Global, tables: &[(Invocation<'_>, &[Case<'_>])]) {
+    for (invocation, cases) in tables {
+        for (how, text, wanted) in *cases {
+            let files = (*text, joined(alloc, &[*text]));
+            must_be_so(rt, alloc, invocation, files, (how, wanted), text);
         }
+    }
+}
+
+/// A command whose script has one of these lines, between two other texts, has to end so, whichever it is.
+pub(crate) struct Lines<'a> {
+    pub(crate) settings: &'a str,
+    pub(crate) before: &'a str,
+    pub(crate) lines: &'a [&'a str],
+    pub(crate) behind: &'a str,
+    pub(crate) wanted: Ended<'a>,
+}
+
+pub(crate) fn lines_end_so<
+    F: FileExt + Seek + Drop + Send,
+    R: Abort + Wait + Threads + Files<File = F> + Sync,
+>(rt: &R, alloc: Global, invocation: &Invocation<'_>, lines: &Lines<'_>) {
+    for line in lines.lines {
+        let script = joined(alloc, &[lines.before, line, lines.behind]);
+        let files = (lines.settings, script);
+        must_be_so(rt, alloc, invocation, files, (&WELL, &lines.wanted), line);
     }
 }

@@ -1,8 +1,8 @@
 //! The command `run`, on files.
 
 use crate::devices::CONSISTENT;
-use crate::files::{CREATED, Course, FOUR_ROWS, RUN, SPARE, Step};
-use crate::runs::{lines_end_so, parts_of_one};
+use crate::files::{CREATED, Course, FOUR_ROWS, SPARE, Step};
+use crate::runs::Lines;
 
 const WRITTEN: &str = "0 done
 1 data 5a
@@ -29,35 +29,38 @@ const IN_SHARDS: &[Step<'static>] = &[
     ),
     Step::RemoveAll,
     Step::Create(CREATED),
-    Step::Set(1, 0, 1),
+    Step::Fill(1, &[(1, 1), (0, 63)]),
     Step::Run("check\nrepair\ncheck\n", (REPAIRED, "", 0)),
     Step::RemoveAll,
 ];
 
-pub(crate) const COURSES: &[Course<'static>] = &[
+const ONE_TWO_AND_FOUR_SHARDS: &[Course<'static>] = &[
     Course {
         name: "one-two-and-four-shards-print-the-same-1",
-        integers: FOUR_ROWS,
-        more: "",
+        settings: FOUR_ROWS,
         steps: IN_SHARDS,
     },
     Course {
         name: "one-two-and-four-shards-print-the-same-2",
-        integers: "slots = 4\nchunk = 1\nblock = 16\nrows = 4\nshards = 2\n",
-        more: "",
+        settings: "slots = 4\nchunk = 1\nblock = 16\nrows = 4\nshards = 2\n",
         steps: IN_SHARDS,
     },
     Course {
         name: "one-two-and-four-shards-print-the-same-4",
-        integers: "slots = 4\nchunk = 1\nblock = 16\nrows = 4\nshards = 4\n",
-        more: "",
+        settings: "slots = 4\nchunk = 1\nblock = 16\nrows = 4\nshards = 4\n",
         steps: IN_SHARDS,
     },
+];
+
+pub(crate) fn one_two_and_four_shards() -> &'static [Course<'static>] {
+    ONE_TWO_AND_FOUR_SHARDS
+}
+
+const REFUSED: &[Course<'static>] = &[
     // What is refused, and from the third loss on all is. Slot 4 and block 8 aren't there.
     Course {
         name: "an-event-that-is-refused-says-why",
-        integers: FOUR_ROWS,
-        more: "",
+        settings: FOUR_ROWS,
         steps: &[
             Step::Create(CREATED),
             Step::Run("# no event\n\n", ("state good\n", "", 0)),
@@ -96,16 +99,22 @@ state failed
             Step::RemoveAll,
         ],
     },
+];
+
+pub(crate) fn refused() -> &'static [Course<'static>] {
+    REFUSED
+}
+
+const COURSES: &[Course<'static>] = &[
     // The new device has FF in every byte at first. The one that slot 2 has isn't lost. In the end slot 1 keeps block 0
     // in row 0, and in the other rows all is zero.
     Course {
         name: "a-new-device-is-rebuilt",
-        integers: FOUR_ROWS,
-        more: "",
+        settings: FOUR_ROWS,
         steps: &[
             Step::Fill(SPARE, &[(0xff, 64)]),
             Step::Create(CREATED),
-            Step::Set(1, 0, 1),
+            Step::Fill(1, &[(1, 1), (0, 63)]),
             Step::Run(
                 "write 0 5a\nwait\nfail 1\nwait\nattach 1 @\nwait\nread 0\nattach 2 @\nwait\ncheck",
                 (
@@ -130,8 +139,7 @@ state good
     // that are attached. Nothing is printed, and no file is changed: the rows are consistent as before.
     Course {
         name: "what-cannot-be-had-is-named",
-        integers: FOUR_ROWS,
-        more: "",
+        settings: FOUR_ROWS,
         steps: &[
             Step::Create(CREATED),
             Step::Fill(SPARE, &[(0, 65)]),
@@ -154,7 +162,11 @@ state good
     },
 ];
 
-const SETTINGS: &[u8] = b"slots = 4
+pub(crate) fn courses() -> &'static [Course<'static>] {
+    COURSES
+}
+
+const SETTINGS: &str = "slots = 4
 chunk = 1
 block = 16
 rows = 4
@@ -162,19 +174,47 @@ shards = 1
 devices = ['no-0', 'no-1', 'no-2', 'no-3']
 ";
 
-// Each line that isn't in the grammar, as the fourth of a script. A bar stands between two of them.
+// Each line that isn't in the grammar, as the fourth of a script.
 const LINES: &[&str] = &[
-    "read|read |read 00|read 0 0|read +1|read 18446744073709551616",
-    "write 0|write 0 5A|write 0 5a |write  0 5a|write 01 5a|write 0 5",
-    "wait | wait|Wait|waits|fail|fail x|fail 01|attach 1|attach 1 |attach x y|attach 01 y",
-    "check 1|checks|repair 0|array 4 1 16 4 1|look 0",
+    "read",
+    "read ",
+    "read 00",
+    "read 0 0",
+    "read +1",
+    "read 18446744073709551616",
+    "write 0",
+    "write 0 5A",
+    "write 0 5a ",
+    "write  0 5a",
+    "write 01 5a",
+    "write 0 5",
+    "wait ",
+    " wait",
+    "Wait",
+    "waits",
+    "fail",
+    "fail x",
+    "fail 01",
+    "attach 1",
+    "attach 1 ",
+    "attach x y",
+    "attach 01 y",
+    "check 1",
+    "checks",
+    "repair 0",
+    "array 4 1 16 4 1",
+    "look 0",
 ];
 
 // No device is opened before.
-#[test]
-fn the_first_line_that_is_no_event_is_named(rt: HostRuntime) {
-    let wanted = ("", "script: line 4\n", 3);
-    let around = ("wait\n# one\n\n", "\nread\n");
-    let settings = parts_of_one(SETTINGS);
-    lines_end_so(&rt, rt.alloc(), &RUN, &settings, around, LINES, &wanted);
+const NO_EVENTS: &Lines<'static> = &Lines {
+    settings: SETTINGS,
+    before: "wait\n# one\n\n",
+    lines: LINES,
+    behind: "\nread\n",
+    wanted: ("", "script: line 4\n", 3),
+};
+
+pub(crate) fn no_events() -> &'static Lines<'static> {
+    NO_EVENTS
 }

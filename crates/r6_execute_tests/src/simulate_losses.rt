@@ -1,7 +1,11 @@
 //! Transcripts of losses: by errors, and by calls of the register.
 
-pub(crate) const SURVIVED: &str = "== 0
-# a write outlives the device that confirmed it
+use crate::transcripts::Transcript;
+
+const SURVIVED: &[Transcript<'static>] = &[
+    (
+        0,
+        "# a write outlives the device that confirmed it
 # The device of block 0 confirms the new block and is failed; P and Q then have it. `examples/loss.script` is this
 # course.
 array 4 1 16 4 1 -> array
@@ -17,8 +21,11 @@ read 0 -> op 0:1 | 0:4 read slot 2 gen 0 row 0 | 0:5 read slot 3 gen 0 row 0
 do 0:4 -> taken
 do 0:5 -> taken
 look 0 -> looked | reply 0:1 data 5a
-== 0
-# two errors lose no block
+",
+    ),
+    (
+        0,
+        "# two errors lose no block
 # Both data blocks of a row are lost, and P and Q hold it alone. `examples/two_losses.script` is this course. P is
 # 5a + a5, and Q 5a + 02 a5, where 02 a5 is 57.
 array 4 1 16 4 1 -> array
@@ -48,8 +55,11 @@ read 1 -> op 0:3 | 0:12 read slot 3 gen 0 row 0 | 0:13 read slot 0 gen 0 row 0
 do 0:12 -> taken
 do 0:13 -> taken
 look 0 -> looked | reply 0:3 data a5
-== 0
-# a read waits again for the row when its device is lost
+",
+    ),
+    (
+        0,
+        "# a read waits again for the row when its device is lost
 # The read's own device is asked before it has written the block, and lost before it answers: the block is made of
 # the others when the write has ended.
 array 4 1 16 4 1 -> array
@@ -66,10 +76,18 @@ do 0:4 -> taken | 0:5 read slot 2 gen 0 row 0 | 0:6 read slot 3 gen 0 row 0
 do 0:5 -> taken
 do 0:6 -> taken
 look 0 -> looked | reply 0:0 done | reply 0:1 data 5a
-";
+",
+    ),
+];
 
-pub(crate) const FATAL: &str = "== 1
-# a read beside a write is answered before the array fails
+pub(crate) fn survived() -> &'static [Transcript<'static>] {
+    SURVIVED
+}
+
+const FATAL: &[Transcript<'static>] = &[
+    (
+        1,
+        "# a read beside a write is answered before the array fails
 # Block 0 is read when its own device has written it, and P and Q aren't written. Then three slots fail: the read
 # was answered, and the write is `failed`. `examples/direct_read.script` is this course.
 array 4 1 16 4 1 -> array
@@ -84,8 +102,11 @@ fail 2 -> degraded
 fail 3 -> failed
 look 0 -> looked | reply 0:0 failed
 read 0 -> refused 5 ArrayFailed
-== 1
-# three losses found by two shards fail the array
+",
+    ),
+    (
+        1,
+        "# three losses found by two shards fail the array
 # `examples/third_loss.script` is this course.
 array 4 1 16 4 2 -> array
 read 0 -> op 0:0 | 0:0 read slot 1 gen 0 row 0
@@ -100,8 +121,11 @@ tell 1 -> declare_lost 3 0: failed
 look 0 -> looked | reply 0:0 failed
 look 1 -> looked | reply 1:0 failed
 read 0 -> refused 5 ArrayFailed
-== 1
-# three errors in three requests fail the last
+",
+    ),
+    (
+        1,
+        "# three errors in three requests fail the last
 # One error in the first write, one in the second and one in a read. The second write restores the block of slot 3
 # from the other data block and Q.
 array 4 1 16 4 1 -> array
@@ -129,8 +153,11 @@ look 0 -> looked | reply 0:2 failed
 read 5 -> refused 5 ArrayFailed
 write 0 5a -> refused 5 ArrayFailed
 look 0 -> looked
-== 1
-# three errors in one write fail it
+",
+    ),
+    (
+        1,
+        "# three errors in one write fail it
 array 4 1 16 4 1 -> array
 write 0 5a -> op 0:0 | 0:0 read slot 2 gen 0 row 0
 do 0:0 -> taken | 0:1 write slot 1 gen 0 row 0 5a | 0:2 write slot 3 gen 0 row 0 5a | 0:3 write slot 0 gen 0 row 0 5a
@@ -144,8 +171,11 @@ tell 0 -> declare_lost 1 0: failed
 tell 0 -> nothing
 look 0 -> looked | reply 0:0 failed | reply 0:1 failed
 write 5 a5 -> refused 5 ArrayFailed
-== 1
-# three errors in two reads fail the second
+",
+    ),
+    (
+        1,
+        "# three errors in two reads fail the second
 # Both writes and the first read are answered; two errors find the second read, whose data block and P are lost by
 # then.
 array 4 1 16 4 1 -> array
@@ -175,10 +205,18 @@ tell 0 -> declare_lost 3 0: failed
 do 0:13 -> late
 look 0 -> looked | reply 0:3 failed
 write 0 5a -> refused 5 ArrayFailed
-";
+",
+    ),
+];
 
-pub(crate) const CALLS: &str = "== 1
-# completions are late doubled or of no command
+pub(crate) fn fatal() -> &'static [Transcript<'static>] {
+    FATAL
+}
+
+const CALLS: &[Transcript<'static>] = &[
+    (
+        1,
+        "# completions are late doubled or of no command
 # A read whose slot a look finds lost starts again, and what the lost device answers then is late.
 array 4 1 16 4 1 -> array
 read 0 -> op 0:0 | 0:0 read slot 1 gen 0 row 0
@@ -199,8 +237,11 @@ answer 0:3 error -> taken
 tell 0 -> declare_lost 3 0: refused 5 ArrayFailed
 answer 0:4 error -> late
 look 0 -> looked | reply 0:1 failed
-== 1
-# the register answers each call
+",
+    ),
+    (
+        1,
+        "# the register answers each call
 # The shard lost the device that has been replaced since. A slot with a new device counts as out until it is
 # rebuilt.
 array 4 1 16 4 1 -> array
@@ -228,4 +269,10 @@ look 0 -> looked | reply 0:0 data 00
 fail 0 -> failed
 fail 3 -> refused 5 ArrayFailed
 attach 0 -> refused 5 ArrayFailed
-";
+",
+    ),
+];
+
+pub(crate) fn calls() -> &'static [Transcript<'static>] {
+    CALLS
+}

@@ -1,7 +1,11 @@
 //! Transcripts of turns: checks, repairs and rebuilds.
 
-pub(crate) const SCRUBS: &str = "== 0
-# a check and a repair take their rows in turn
+use crate::transcripts::Transcript;
+
+const SCRUBS: &[Transcript<'static>] = &[
+    (
+        0,
+        "# a check and a repair take their rows in turn
 # Row 2 is read as a whole, and then the write that waits for it has its turn. The repairs have a row of their own.
 array 4 1 16 4 2 -> array
 turn 2 check -> no such shard
@@ -25,8 +29,11 @@ do 1:13 -> taken
 do 1:14 -> taken
 do 1:15 -> taken
 look 1 -> looked
-== 1
-# a turn passes over a row with a slot out
+",
+    ),
+    (
+        1,
+        "# a turn passes over a row with a slot out
 # The check gives up when the device of its second read fails: nothing more is put out.
 array 4 1 16 4 1 -> array
 turn 0 check -> started | 0:0 read slot 1 gen 0 row 0 | 0:1 read slot 2 gen 0 row 0 | 0:2 read slot 3 gen 0 row 0 | 0:3 read slot 0 gen 0 row 0
@@ -42,8 +49,11 @@ fail 1 -> failed
 turn 0 check -> skipped
 look 0 -> looked
 turn 0 check -> refused 5 ArrayFailed
-== 1
-# a stopped shard has no turn
+",
+    ),
+    (
+        1,
+        "# a stopped shard has no turn
 # A third slot is out in the shard before it has seen that the array failed.
 array 4 1 16 4 1 -> array
 fail 0 -> degraded
@@ -57,10 +67,18 @@ turn 0 check -> refused 10 NothingToDo
 tell 0 -> declare_lost 1 0: failed
 look 0 -> looked | reply 0:0 failed
 turn 0 repair -> refused 5 ArrayFailed
-";
+",
+    ),
+];
 
-pub(crate) const REBUILDS: &str = "== 0
-# a write goes to rows that are rebuilt
+pub(crate) fn scrubs() -> &'static [Transcript<'static>] {
+    SCRUBS
+}
+
+const REBUILDS: &[Transcript<'static>] = &[
+    (
+        0,
+        "# a write goes to rows that are rebuilt
 # Row 0 is rebuilt on slot 1 and row 1 isn't: a write of row 0 writes the new device, one of row 1 leaves it alone.
 # A second new device begins with no row.
 array 4 1 16 2 1 -> array
@@ -91,8 +109,11 @@ look 0 -> looked | reply 0:0 done | reply 0:1 done
 turn 0 rebuild -> started | 0:12 read slot 2 gen 0 row 0 | 0:13 read slot 3 gen 0 row 0
 do 0:12 -> taken
 do 0:13 -> taken | 0:14 write slot 1 gen 2 row 0 5a
-== 0
-# a rebuilt slot is reported by each shard
+",
+    ),
+    (
+        0,
+        "# a rebuilt slot is reported by each shard
 # With its last row the slot is in sync in the shard, which reports it; the array is whole once both shards have.
 array 4 1 16 2 2 -> array
 fail 1 -> degraded
@@ -115,8 +136,11 @@ do 1:1 -> taken | 1:2 write slot 1 gen 1 row 1 00
 do 1:2 -> taken
 tell 1 -> report_rebuilt 1 1: complete
 attach 1 -> refused 4 NotLost
-== 0
-# a report of a replaced device is stale
+",
+    ),
+    (
+        0,
+        "# a report of a replaced device is stale
 # The device is replaced before the shard reports it: the report is refused, and the next device begins with no row.
 array 4 1 16 1 1 -> array
 fail 1 -> degraded
@@ -131,8 +155,11 @@ attach 1 -> generation 2
 tell 0 -> report_rebuilt 1 1: refused 3 Stale
 look 0 -> looked
 turn 0 rebuild -> started | 0:3 read slot 2 gen 0 row 0 | 0:4 read slot 3 gen 0 row 0
-== 0
-# a rebuild whose device is lost is given up
+",
+    ),
+    (
+        0,
+        "# a rebuild whose device is lost is given up
 # The reads of a row whose new device is lost come home, and nothing is written.
 array 4 1 16 2 1 -> array
 fail 1 -> degraded
@@ -152,4 +179,10 @@ do 0:3 -> taken | 0:4 write slot 1 gen 2 row 0 00
 answer 0:4 error -> taken
 tell 0 -> declare_lost 1 2: degraded
 tell 0 -> nothing
-";
+",
+    ),
+];
+
+pub(crate) fn rebuilds() -> &'static [Transcript<'static>] {
+    REBUILDS
+}

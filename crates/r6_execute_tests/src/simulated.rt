@@ -1,7 +1,6 @@
 //! The command `simulate`.
 
-use crate::runs::{Case, How, WELL, end_so, lines_end_so, parts_of_one};
-use crate::transcripts::SIMULATE;
+use crate::runs::{Case, How, Lines, WELL};
 use std::io::ErrorKind;
 
 const SCRIPTS: &[Case<'static>] = &[
@@ -52,40 +51,97 @@ const SCRIPTS: &[Case<'static>] = &[
     (WELL, " # comment\n", ("", "script: line 1\n", 3)),
 ];
 
-#[test]
-fn scripts_begin_with_their_array(rt: HostRuntime) {
-    end_so(&rt, rt.alloc(), &SIMULATE, SCRIPTS);
+pub(crate) fn scripts() -> &'static [Case<'static>] {
+    SCRIPTS
 }
 
-// With a bar between two of them.
 const LINES: &[&str] = &[
     "array 4 1 16 4 1",
-    "read|read |read 0 0|read 00|read 01|read +1|read -1|read 0x0|read 18446744073709551616",
-    "read 99999999999999999999999|read  0| read 0|read 0 |read\t0|read 0\r|Read 0|readx 0",
-    "write 0|write 0 |write 0 5|write 0 5A|write 0 5g|write 0 5a0|write 0 5a |write 0  5a",
-    "write 00 5a|write 5a",
-    "perform 0|perform 0:|perform :0|perform 0:0:0|perform 0: 0|perform 0 0|perform 00:0",
-    "perform 0:00|perform 0:0 ok",
-    "answer 0:0|answer 0:0 |answer 0:0 OK|answer 0:0 okay|answer 0:0  ok|answer 0:0 ok |answer 0 ok",
-    "answer 0:01 ok|do 0|do 0:0 ok|look|look 0:0|look 0 0|tell|tell 0:0|tell 00",
-    "fail|fail 1 1|fail 01|fail 18446744073709551616|attach|attach 1 new.img|attach x",
-    "answer 0:0 error |answer 0:0 errors|answer 0:0 gone|turn 0 rebuilds|reads 0|0|; comment",
-    "turn 0|turn 0 check 1|turn check|turn 00 check|turn 0 Check|turn 0 check |turn 0:0 check",
+    "read",
+    "read ",
+    "read 0 0",
+    "read 00",
+    "read 01",
+    "read +1",
+    "read -1",
+    "read 0x0",
+    "read 18446744073709551616",
+    "read 99999999999999999999999",
+    "read  0",
+    " read 0",
+    "read 0 ",
+    "read\t0",
+    "read 0\r",
+    "Read 0",
+    "readx 0",
+    "write 0",
+    "write 0 ",
+    "write 0 5",
+    "write 0 5A",
+    "write 0 5g",
+    "write 0 5a0",
+    "write 0 5a ",
+    "write 0  5a",
+    "write 00 5a",
+    "write 5a",
+    "perform 0",
+    "perform 0:",
+    "perform :0",
+    "perform 0:0:0",
+    "perform 0: 0",
+    "perform 0 0",
+    "perform 00:0",
+    "perform 0:00",
+    "perform 0:0 ok",
+    "answer 0:0",
+    "answer 0:0 ",
+    "answer 0:0 OK",
+    "answer 0:0 okay",
+    "answer 0:0  ok",
+    "answer 0:0 ok ",
+    "answer 0 ok",
+    "answer 0:01 ok",
+    "do 0",
+    "do 0:0 ok",
+    "look",
+    "look 0:0",
+    "look 0 0",
+    "tell",
+    "tell 0:0",
+    "tell 00",
+    "fail",
+    "fail 1 1",
+    "fail 01",
+    "fail 18446744073709551616",
+    "attach",
+    "attach 1 new.img",
+    "attach x",
+    "answer 0:0 error ",
+    "answer 0:0 errors",
+    "answer 0:0 gone",
+    "turn 0 rebuilds",
+    "reads 0",
+    "0",
+    "; comment",
+    "turn 0",
+    "turn 0 check 1",
+    "turn check",
+    "turn 00 check",
+    "turn 0 Check",
+    "turn 0 check ",
+    "turn 0:0 check",
 ];
 
-#[test]
-fn lines_out_of_the_grammar_are_refused(rt: HostRuntime) {
-    let wanted = ("", "script: line 2\n", 3);
-    let around = ("array 4 1 16 4 1\n", "\nlook 0\n");
-    lines_end_so(
-        &rt,
-        rt.alloc(),
-        &SIMULATE,
-        &parts_of_one(b""),
-        around,
-        LINES,
-        &wanted,
-    );
+const NO_EVENTS: &Lines<'static> = &Lines {
+    settings: "",
+    before: "array 4 1 16 4 1\n",
+    lines: LINES,
+    behind: "\nlook 0\n",
+    wanted: ("", "script: line 2\n", 3),
+};
+
+pub(crate) fn no_events() -> &'static Lines<'static> {
+    NO_EVENTS
 }
 
 const LOOKS: &str = "array 4 1 16 4 1\nlook 0\nlook 0\n";
@@ -182,7 +238,6 @@ const FAILURES: &[Case<'static>] = &[
     ),
 ];
 
-#[test]
-fn failures_are_reported(rt: HostRuntime) {
-    end_so(&rt, rt.alloc(), &SIMULATE, FAILURES);
+pub(crate) fn failures() -> &'static [Case<'static>] {
+    FAILURES
 }

@@ -1,0 +1,27 @@
+//! Commands over texts.
+
+use crate::runs::{CREATE, GEOMETRY, RUN, SIMULATE, VERIFY, end_so, lines_end_so};
+use crate::{devices, geometries, served, simulated};
+
+#[test]
+fn commands_over_texts_end_so(rt: HostRuntime) {
+    let tables = &[
+        (GEOMETRY, geometries::layouts()),
+        (GEOMETRY, geometries::largest_layout()),
+        (GEOMETRY, geometries::faults()),
+        (GEOMETRY, geometries::later_faults()),
+        (GEOMETRY, geometries::failures()),
+        (CREATE, devices::no_files()),
+        (VERIFY, devices::no_files()),
+        (RUN, devices::unset()),
+        (SIMULATE, simulated::scripts()),
+        (SIMULATE, simulated::failures()),
+    ];
+    end_so(&rt, rt.alloc(), tables);
+}
+
+#[test]
+fn the_first_line_that_is_no_event_is_named(rt: HostRuntime) {
+    lines_end_so(&rt, rt.alloc(), &SIMULATE, simulated::no_events());
+    lines_end_so(&rt, rt.alloc(), &RUN, served::no_events());
+}
