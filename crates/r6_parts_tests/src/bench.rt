@@ -23,53 +23,40 @@ pub(crate) enum Ask<'a> {
     Repair,
 }
 
-/// What happens next.
+/// What happens next, and what comes of it.
 #[derive(Clone, Copy)]
 pub(crate) enum Step {
-    /// The next command is put out, and waits.
-    Next,
-    /// All commands are put out, and wait.
-    NextAll,
-    /// The device of the position performs its command that waits.
+    /// The next command is put out, and waits: a read of this position, a write of it, or none.
+    Read(usize),
+    Write(usize),
+    Nothing,
+    /// All commands are put out, and wait: so many.
+    PutOut(usize),
+    /// The device of the position performs its command that waits, whose buffer comes home.
     Answer(usize),
-    /// Commands are put out and performed one by one, so many at the most.
-    Drive(usize),
+    /// Commands are put out and performed one by one, at the most as many as the first number: as many as the second.
+    Drive(usize, usize),
     /// The position is lost.
     Lose(usize),
     /// Whether the hold is over.
-    IsOver,
+    IsOver(bool),
     /// How the hold has ended.
-    End,
+    End(Option<Outcome>),
     /// Whether all buffers are home.
-    IsHome,
-    /// Whether the hold has put a block that begins with this byte at a position.
+    IsHome(bool),
+    /// The hold has put a block that begins with this byte at a position.
     Has(usize, u8),
 }
 
-/// What a step answers.
-#[derive(Clone, Copy, PartialEq, Eq)]
-pub(crate) enum Seen {
-    Nothing,
-    /// The position.
-    Read(usize),
-    Write(usize),
-    /// So many commands.
-    Commands(usize),
-    Home,
-    Lost,
-    Is(bool),
-    End(Option<Outcome>),
-}
-
-/// A hold over a row of blocks that begin with these bytes, of whose positions these are in sync, and the steps that it has to take. Then its
-/// devices have the bytes `after` but at the lost positions.
+/// A hold over a row of blocks that begin with these bytes, of whose positions these are in sync, and the steps that it
+/// has to take. Then its devices have the bytes `after` but at the lost positions.
 #[derive(Clone, Copy)]
 pub(crate) struct Course<'a> {
     pub(crate) name: &'a str,
     pub(crate) ask: Ask<'a>,
     pub(crate) bytes: &'a [u8],
     pub(crate) in_sync: &'a [bool],
-    pub(crate) steps: &'a [(Step, Seen)],
+    pub(crate) steps: &'a [Step],
     pub(crate) after: &'a [u8],
     pub(crate) lost: &'a [usize],
 }
@@ -142,11 +129,8 @@ pub(crate) fn position_of(command: &RowCommand) -> usize {
     }
 }
 
-fn seen_of(command: &RowCommand) -> Seen {
-    match command {
-        RowCommand::Read(position, _) => Seen::Read(*position),
-        RowCommand::Write(position, _) => Seen::Write(*position),
-    }
+fn is_write(command: &RowCommand) -> bool {
+    matches!(command, RowCommand::Write(_, _))
 }
 
 /// The device of a command performs it: the position, with the buffer that comes back.
@@ -168,11 +152,14 @@ fn perform(command: RowCommand, devices: &mut Vec<Buffer>) -> (usize, Buffer) {
     }
 }
 
-/// How many steps of a course a hold takes, up to the first that isn't answered so; one more, if its devices have the
+/// How many steps of a course a hold takes, up to the first that doesn't go so; one more, if its devices have the
 /// course's bytes then.
 pub(crate) fn played(alloc: Global, course: &Course<'_>) -> Result<usize, Fail> {
     let mut bench = Bench::new(alloc, &course.ask, course.bytes, course.in_sync)?;
-    Ok(bench.play(course)?)
+    let steps = bench.play(course);
+    // here, as one call: by the end of the block it would be proved anew at each exit
+    drop(bench);
+    Ok(steps?)
 }
 
 impl Course<'_> {
@@ -198,8 +185,8 @@ impl Bench {
     }
 
     fn play(&mut self, course: &Course<'_>) -> Result<usize, AllocError> {
-        for (index, (step, seen)) in course.steps.iter().enumerate() {
-            if self.seen(step)? != *seen {
+        for (index, step) in course.steps.iter().enumerate() {
+            if !self.goes(step)? {
                 return Ok(index);
             }
         }
@@ -210,18 +197,27 @@ impl Bench {
         })
     }
 
-    fn seen(&mut self, step: &Step) -> Result<Seen, AllocError> {
-        Ok(match step {
-            Step::Next => self.next()?,
-            Step::NextAll => self.next_all()?,
+    fn goes(&mut self, step: &Step) -> Result<bool, AllocError> {
+        match step {
+            Step::Read(position) => self.puts_out(Some((false, *position))),
+            Step::Write(position) => self.puts_out(Some((true, *position))),
+            Step::Nothing => self.puts_out(None),
+            Step::PutOut(count) => self.puts_all_out(*count),
+            _ => Ok(self.goes_on(step)),
+        }
+    }
+
+    fn goes_on(&mut self, step: &Step) -> bool {
+        match step {
             Step::Answer(position) => self.answer_out(*position),
-            Step::Drive(most) => Seen::Commands(self.drive(*most)),
+            Step::Drive(most, count) => self.drive(*most) == *count,
             Step::Lose(position) => self.lose(*position),
-            Step::IsOver => Seen::Is(self.outcome() == Some(Outcome::Done)),
-            Step::End => Seen::End(self.outcome()),
-            Step::IsHome => Seen::Is(self.is_home()),
-            Step::Has(position, byte) => Seen::Is(self.has_block(*position, *byte)),
-        })
+            Step::IsOver(is_so) => (self.outcome() == Some(Outcome::Done)) == *is_so,
+            Step::End(outcome) => self.outcome() == *outcome,
+            Step::IsHome(is_so) => self.is_home() == *is_so,
+            Step::Has(position, byte) => self.has_block(*position, *byte),
+            _ => false,
+        }
     }
 
     // These three promise nothing, so that their callers have nothing to look through.
@@ -238,25 +234,31 @@ impl Bench {
         self.hold.is_home()
     }
 
-    pub(crate) fn next(&mut self) -> Result<Seen, AllocError> {
+    /// The next command is put out, and waits: whether it is a write, and its position.
+    pub(crate) fn next(&mut self) -> Result<Option<(bool, usize)>, AllocError> {
         let Some(command) = self.next_command() else {
-            return Ok(Seen::Nothing);
+            return Ok(None);
         };
-        let seen = seen_of(&command);
+        let next = (is_write(&command), position_of(&command));
         self.out.push(command)?;
-        Ok(seen)
+        Ok(Some(next))
     }
 
-    fn next_all(&mut self) -> Result<Seen, AllocError> {
-        for count in 0..usize::MAX {
-            if self.next()? == Seen::Nothing {
-                return Ok(Seen::Commands(count));
+    fn puts_out(&mut self, wanted: Option<(bool, usize)>) -> Result<bool, AllocError> {
+        Ok(self.next()? == wanted)
+    }
+
+    /// Whether so many commands are put out until there is none.
+    fn puts_all_out(&mut self, wanted: usize) -> Result<bool, AllocError> {
+        for _ in 0..wanted {
+            if self.next()?.is_none() {
+                return Ok(false);
             }
         }
-        Ok(Seen::Nothing)
+        self.puts_out(None)
     }
 
-    fn answer_out(&mut self, position: usize) -> Seen {
+    fn answer_out(&mut self, position: usize) -> bool {
         match self
             .out
             .iter()
@@ -266,19 +268,18 @@ impl Bench {
                 let command = self.out.swap_remove(index);
                 self.answer(command)
             }
-            None => Seen::Nothing,
+            None => false,
         }
     }
 
-    /// The device of a command performs it, and its buffer comes home.
-    pub(crate) fn answer(&mut self, command: RowCommand) -> Seen {
+    /// The device of a command performs it. Whether its buffer comes home.
+    pub(crate) fn answer(&mut self, command: RowCommand) -> bool {
         let (position, buffer) = perform(command, &mut self.devices);
-        if self.hold.is_away(position) && buffer.len() == self.hold.block_len() {
+        let is_away = self.hold.is_away(position) && buffer.len() == self.hold.block_len();
+        if is_away {
             self.hold.done(position, buffer);
-            Seen::Home
-        } else {
-            Seen::Nothing
         }
+        is_away
     }
 
     /// Performs commands one by one, so many at the most; how many there were.
@@ -292,13 +293,13 @@ impl Bench {
         most
     }
 
-    pub(crate) fn lose(&mut self, position: usize) -> Seen {
-        if position < self.hold.positions() {
+    /// Whether there is such a position, which is lost.
+    pub(crate) fn lose(&mut self, position: usize) -> bool {
+        let is_there = position < self.hold.positions();
+        if is_there {
             self.hold.lost(position);
-            Seen::Lost
-        } else {
-            Seen::Nothing
         }
+        is_there
     }
 
     /// Whether the hold has put a block that begins with this byte at a position.

@@ -1,7 +1,7 @@
 //! Holds that lose positions at every moment, and go on by recovery.
 
 use crate::batches;
-use crate::bench::{Ask, Bench, Seen, has_bytes, position_of};
+use crate::bench::{Ask, Bench, has_bytes, position_of};
 use crate::holds::{
     EIGHT, EIGHT_CHANGED, FIRST, FOUR, FOUR_CHANGED, SECOND, SIX, SIX_CHANGED, WRITTEN,
 };
@@ -74,7 +74,7 @@ fn run(
 ) -> Result<(), AllocError> {
     for step in 1..48usize {
         lose(bench, losses, step);
-        if bench.next()? != Seen::Nothing && *answers != Answers::AtOnce {
+        if bench.next()?.is_some() && *answers != Answers::AtOnce {
             continue;
         }
         match bench.out.pop() {
@@ -144,7 +144,9 @@ fn survives(
     }
     let in_sync = &in_sync[..work.bytes.len().min(8)];
     let mut bench = Bench::new(alloc, &work.ask, work.bytes, in_sync)?;
-    Ok(does_its_task(alloc, &mut bench, work, losses, answers)?)
+    let does = does_its_task(alloc, &mut bench, work, losses, answers);
+    drop(bench);
+    Ok(does?)
 }
 
 /// How many moments there are for two losses.

@@ -1,6 +1,6 @@
 //! Rebuilds of a position, driven over blocks in memory.
 
-use crate::bench::{Ask, Course, Seen, Step, played};
+use crate::bench::{Ask, Course, Step, played};
 use crate::must::must;
 use r6_stripe::Outcome;
 use std::alloc::Global;
@@ -18,20 +18,20 @@ pub(crate) const COURSES: &[Course<'static>] = &[
         bytes: &[0x01, 0x02, 0x03, 0x04, 0x04, 0xee],
         in_sync: &[true, true, true, true, true, false],
         steps: &[
-            (Step::NextAll, Seen::Commands(4)),
-            (Step::Lose(0), Seen::Lost),
-            (Step::Answer(1), Seen::Home),
-            (Step::Answer(2), Seen::Home),
-            (Step::Answer(3), Seen::Home),
-            (Step::Next, Seen::Read(4)),
-            (Step::Answer(4), Seen::Home),
-            (Step::Next, Seen::Write(5)),
-            (Step::End, Seen::End(None)),
-            (Step::Answer(5), Seen::Home),
-            (Step::End, Seen::End(Some(Outcome::Rebuilt))),
-            (Step::IsHome, Seen::Is(false)),
-            (Step::Answer(0), Seen::Home),
-            (Step::IsHome, Seen::Is(true)),
+            Step::PutOut(4),
+            Step::Lose(0),
+            Step::Answer(1),
+            Step::Answer(2),
+            Step::Answer(3),
+            Step::Read(4),
+            Step::Answer(4),
+            Step::Write(5),
+            Step::End(None),
+            Step::Answer(5),
+            Step::End(Some(Outcome::Rebuilt)),
+            Step::IsHome(false),
+            Step::Answer(0),
+            Step::IsHome(true),
         ],
         after: &ROW,
         lost: &[0],
@@ -51,10 +51,7 @@ fn without(target: usize, other: usize) -> ([u8; 6], [bool; 6]) {
 }
 
 /// As many reads as there are data, and one write.
-const FIVE: &[(Step, Seen)] = &[
-    (Step::Drive(9), Seen::Commands(5)),
-    (Step::End, Seen::End(Some(Outcome::Rebuilt))),
-];
+const FIVE: &[Step] = &[Step::Drive(9, 5), Step::End(Some(Outcome::Rebuilt))];
 
 /// Whether a hold over a row ends so, and the row is full then but at a position that is out.
 fn is_rebuilt(
