@@ -1,11 +1,8 @@
 //! Checks and repairs of a row, driven over blocks in memory.
 
-use crate::bench::{Ask, Course, Step, played};
-use crate::must::must;
+use crate::bench::{Ask, Course, Step};
 use r6_recover::RowClass;
 use r6_stripe::Outcome;
-use std::alloc::Global;
-use std::test::Fail;
 
 /// A full row of four positions: P is the sum of the data, and Q is 01 + x 80 = 01 + 1d.
 const ROW: [u8; 4] = [0x01, 0x80, 0x81, 0x1c];
@@ -117,58 +114,126 @@ pub(crate) const COURSES: &[Course<'static>] = &[
         after: &ROW,
         lost: &[2],
     },
-];
-
-/// P and Q with the class of the row that they make, and how many of them a repair writes: what they differ by is 0 or
-/// 1 in the place of P, and that times g^z in the place of Q where data block z is wrong.
-const CLASSES: &[(u8, u8, RowClass, usize)] = &[
-    (0x81, 0x1c, RowClass::Consistent, 0),
-    (0x80, 0x1c, RowClass::WrongP, 1),
-    (0x81, 0x1d, RowClass::WrongQ, 1),
-    (0x80, 0x1e, RowClass::WrongData(1), 2),
-    (0x80, 0x10, RowClass::Many, 2),
-];
-
-/// Whether a hold over a row puts out so many commands and ends with this class, and these bytes stand there then.
-fn classes(
-    alloc: Global,
-    ask: Ask<'_>,
-    bytes: &[u8],
-    commands: usize,
-    class: RowClass,
-    after: &[u8],
-) -> Result<bool, Fail> {
-    let course = Course {
-        name: "a check or repair",
-        ask,
-        bytes,
+    // What P and Q differ by is 0 or 1 in the place of P, and that times x^z in the place of Q where data block z is
+    // wrong.
+    Course {
+        name: "a check of a consistent row writes nothing",
+        ask: Ask::Check,
+        bytes: &ROW,
         in_sync: &[true; 4],
         steps: &[
-            Step::Drive(9, commands),
-            Step::End(Some(Outcome::Classed(class))),
+            Step::Drive(9, 4),
+            Step::End(Some(Outcome::Classed(RowClass::Consistent))),
         ],
-        after,
+        after: &ROW,
         lost: &[],
-    };
-    Ok(played(alloc, &course)? == course.end())
-}
-
-#[test]
-fn a_check_writes_nothing_and_a_repair_the_parities_that_differ(
-    rt: HostRuntime,
-) -> Result<(), Fail> {
-    for (p, q, class, wrong) in CLASSES {
-        let bytes = [ROW[0], ROW[1], *p, *q];
-        let is_checked = classes(rt.alloc(), Ask::Check, &bytes, 4, *class, &bytes)?;
-        must(&rt, is_checked, "a check of P, Q", *p as usize, *q as usize);
-        let is_repaired = classes(rt.alloc(), Ask::Repair, &bytes, 4 + *wrong, *class, &ROW)?;
-        must(
-            &rt,
-            is_repaired,
-            "a repair of P, Q",
-            *p as usize,
-            *q as usize,
-        );
-    }
-    Ok(())
-}
+    },
+    Course {
+        name: "a repair of a consistent row writes nothing",
+        ask: Ask::Repair,
+        bytes: &ROW,
+        in_sync: &[true; 4],
+        steps: &[
+            Step::Drive(9, 4),
+            Step::End(Some(Outcome::Classed(RowClass::Consistent))),
+        ],
+        after: &ROW,
+        lost: &[],
+    },
+    Course {
+        name: "a check of a row with a wrong P writes nothing",
+        ask: Ask::Check,
+        bytes: &[0x01, 0x80, 0x80, 0x1c],
+        in_sync: &[true; 4],
+        steps: &[
+            Step::Drive(9, 4),
+            Step::End(Some(Outcome::Classed(RowClass::WrongP))),
+        ],
+        after: &[0x01, 0x80, 0x80, 0x1c],
+        lost: &[],
+    },
+    Course {
+        name: "a repair of a row with a wrong P writes P",
+        ask: Ask::Repair,
+        bytes: &[0x01, 0x80, 0x80, 0x1c],
+        in_sync: &[true; 4],
+        steps: &[
+            Step::Drive(9, 5),
+            Step::End(Some(Outcome::Classed(RowClass::WrongP))),
+        ],
+        after: &ROW,
+        lost: &[],
+    },
+    Course {
+        name: "a check of a row with a wrong Q writes nothing",
+        ask: Ask::Check,
+        bytes: &[0x01, 0x80, 0x81, 0x1d],
+        in_sync: &[true; 4],
+        steps: &[
+            Step::Drive(9, 4),
+            Step::End(Some(Outcome::Classed(RowClass::WrongQ))),
+        ],
+        after: &[0x01, 0x80, 0x81, 0x1d],
+        lost: &[],
+    },
+    Course {
+        name: "a repair of a row with a wrong Q writes Q",
+        ask: Ask::Repair,
+        bytes: &[0x01, 0x80, 0x81, 0x1d],
+        in_sync: &[true; 4],
+        steps: &[
+            Step::Drive(9, 5),
+            Step::End(Some(Outcome::Classed(RowClass::WrongQ))),
+        ],
+        after: &ROW,
+        lost: &[],
+    },
+    Course {
+        name: "a check of a row with a wrong block writes nothing",
+        ask: Ask::Check,
+        bytes: &[0x01, 0x80, 0x80, 0x1e],
+        in_sync: &[true; 4],
+        steps: &[
+            Step::Drive(9, 4),
+            Step::End(Some(Outcome::Classed(RowClass::WrongData(1)))),
+        ],
+        after: &[0x01, 0x80, 0x80, 0x1e],
+        lost: &[],
+    },
+    Course {
+        name: "a repair of a row with a wrong block writes P and Q",
+        ask: Ask::Repair,
+        bytes: &[0x01, 0x80, 0x80, 0x1e],
+        in_sync: &[true; 4],
+        steps: &[
+            Step::Drive(9, 6),
+            Step::End(Some(Outcome::Classed(RowClass::WrongData(1)))),
+        ],
+        after: &ROW,
+        lost: &[],
+    },
+    Course {
+        name: "a check of a row with more wrong writes nothing",
+        ask: Ask::Check,
+        bytes: &[0x01, 0x80, 0x80, 0x10],
+        in_sync: &[true; 4],
+        steps: &[
+            Step::Drive(9, 4),
+            Step::End(Some(Outcome::Classed(RowClass::Many))),
+        ],
+        after: &[0x01, 0x80, 0x80, 0x10],
+        lost: &[],
+    },
+    Course {
+        name: "a repair of a row with more wrong writes P and Q",
+        ask: Ask::Repair,
+        bytes: &[0x01, 0x80, 0x80, 0x10],
+        in_sync: &[true; 4],
+        steps: &[
+            Step::Drive(9, 6),
+            Step::End(Some(Outcome::Classed(RowClass::Many))),
+        ],
+        after: &ROW,
+        lost: &[],
+    },
+];
