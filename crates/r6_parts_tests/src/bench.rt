@@ -4,6 +4,7 @@ ghost use Rattle.std.specs.Prelude.{◌≡◌, ◌≤◌, ◌<◌, length, true,
 ghost use Rattle.r6_stripe.specs.Batches.{AreNewFor};
 
 use crate::blocks::{blocks_of, grown, is_grown};
+use crate::hold_caller::perform;
 use r6_kernels::Buffer;
 use r6_stripe::{Batch, Frame, Hold, Outcome, RowCommand, Task};
 use std::alloc::{AllocError, Global};
@@ -88,10 +89,10 @@ fn batch_of(alloc: Global, new: &[(usize, u8)], count: usize) -> Result<Batch, F
 {
     let mut batch = Batch::new(alloc)?;
     for (index, byte) in new {
-        let block = grown(alloc, BLOCK, *byte)?;
         if *index >= 30 || *index + 2 >= count || batch.has(*index) {
             return Err(Fail::from("no batch"));
         }
+        let block = grown(alloc, BLOCK, *byte)?;
         batch.put(*index, block);
     }
     if batch.is_empty() {
@@ -103,22 +104,18 @@ fn batch_of(alloc: Global, new: &[(usize, u8)], count: usize) -> Result<Batch, F
 /// The hold of a row, of whose positions these are in sync.
 fn hold_of(alloc: Global, ask: &Ask<'_>, in_sync: &[bool]) -> Result<Hold, Fail> {
     let count = in_sync.len();
-    let (index, target) = match ask {
-        Ask::Read(index) => (*index, 0),
-        Ask::Rebuild(target) => (0, *target),
-        Ask::Write(_) | Ask::Check | Ask::Repair => (0, 0),
-    };
-    if count < 4 || count > 32 || index >= count - 2 || target >= count {
+    if count < 4 || count > 32 {
         return Err(Fail::from("no row"));
     }
-    let frame = Frame::new(alloc, count, BLOCK)?;
     let task = match ask {
-        Ask::Read(index) => Task::Read(*index),
+        Ask::Read(index) if *index < count - 2 => Task::Read(*index),
         Ask::Write(new) => Task::Write(batch_of(alloc, *new, count)?),
-        Ask::Rebuild(target) => Task::Rebuild(*target),
+        Ask::Rebuild(target) if *target < count => Task::Rebuild(*target),
         Ask::Check => Task::Check,
         Ask::Repair => Task::Repair,
+        Ask::Read(_) | Ask::Rebuild(_) => return Err(Fail::from("no position")),
     };
+    let frame = Frame::new(alloc, count, BLOCK)?;
     Ok(Hold::begin(frame, task, in_sync))
 }
 
@@ -131,25 +128,6 @@ pub(crate) fn position_of(command: &RowCommand) -> usize {
 
 fn is_write(command: &RowCommand) -> bool {
     matches!(command, RowCommand::Write(_, _))
-}
-
-/// The device of a command performs it: the position, with the buffer that comes back.
-fn perform(command: RowCommand, devices: &mut Vec<Buffer>) -> (usize, Buffer) {
-    match command {
-        RowCommand::Read(position, mut buffer) => {
-            if position < devices.len() && buffer.len() == devices[position].len() {
-                buffer.copy_from(&devices[position]);
-            }
-            (position, buffer)
-        }
-        RowCommand::Write(position, buffer) => {
-            if position < devices.len() && buffer.len() == devices[position].len() {
-                let device = &mut devices[position];
-                device.copy_from(&buffer);
-            }
-            (position, buffer)
-        }
-    }
 }
 
 /// How many steps of a course a hold takes, up to the first that doesn't go so; one more, if its devices have the

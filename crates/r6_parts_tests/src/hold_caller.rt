@@ -5,7 +5,7 @@ use r6_stripe::{Hold, Outcome, RowCommand};
 
 /// The position's block is read into the command's buffer, or taken from it: the position, and the buffer that comes
 /// back.
-fn perform(command: RowCommand, blocks: &mut Vec<Buffer>) -> (usize, Buffer) {
+pub(crate) fn perform(command: RowCommand, blocks: &mut Vec<Buffer>) -> (usize, Buffer) {
     match command {
         RowCommand::Read(position, mut buffer) => {
             if let Some(block) = blocks.get(position) {

@@ -5,7 +5,7 @@ use crate::blocks::is_grown;
 use crate::hold_caller::drive;
 use crate::must::must;
 use crate::{batches, checks, rebuilds};
-use r6_stripe::{Batch, Hold, Task};
+use r6_stripe::{Batch, Task};
 use std::alloc::Global;
 use std::process::Abort;
 use std::test::Fail;
@@ -322,12 +322,19 @@ fn holds_take_their_courses(rt: HostRuntime) -> Result<(), Fail> {
 }
 
 /// The task of a hold that is over; its frame is given back.
-fn end(mut hold: Hold) -> Option<Task> {
+fn end(bench: Bench) -> Option<Task> {
+    let Bench {
+        mut hold,
+        devices,
+        out,
+    } = bench;
+    drop(devices);
+    drop(out);
     let task = hold.take_task();
     if !hold.is_home() {
         return None;
     }
-    let _frame = hold.end();
+    drop(hold.end());
     task
 }
 
@@ -357,11 +364,9 @@ fn hands_back(batch: &mut Batch, blocks: &[(usize, u8)]) -> bool {
 fn come_back(alloc: Global, blocks: &[(usize, u8)]) -> Result<bool, Fail> {
     let bytes = &[0x77, 0x13, 0x05, 0x99];
     let mut bench = Bench::new(alloc, &Ask::Write(blocks), bytes, &[true; 4])?;
-    if bench.drive(9) != 4 {
-        return Ok(false);
-    }
-    match end(bench.hold) {
-        Some(Task::Write(mut batch)) => Ok(hands_back(&mut batch, blocks)),
+    let commands = bench.drive(9);
+    match end(bench) {
+        Some(Task::Write(mut batch)) => Ok(commands == 4 && hands_back(&mut batch, blocks)),
         _ => Ok(false),
     }
 }
@@ -382,6 +387,7 @@ fn a_hold_is_driven_to_its_end(rt: HostRuntime) -> Result<(), Fail> {
     let (bytes, in_sync) = ([0xee, 0xee, 0x81, 0x1c], [false, false, true, true]);
     let mut bench = Bench::new(rt.alloc(), &Ask::Read(0), &bytes, &in_sync)?;
     let is_so = drive(&mut bench.hold, &mut bench.devices) && bench.has_block(0, 0x01);
+    drop(bench);
     must(&rt, is_so, "a hold that is driven", 0, 0);
     Ok(())
 }
