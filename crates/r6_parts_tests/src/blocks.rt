@@ -40,6 +40,17 @@ pub(crate) fn grown(alloc: Global, len: usize, first: u8) -> Result<Buffer, Allo
     Ok(block)
 }
 
+/// Two blocks of a length that begin with these bytes.
+pub(crate) fn two(
+    alloc: Global,
+    len: usize,
+    firsts: (u8, u8),
+) -> Result<(Buffer, Buffer), AllocError>
+    ensures { IfOk result (λ two. (length two.0 ≡ len) × (length two.1 ≡ len)) }
+{
+    Ok((grown(alloc, len, firsts.0)?, grown(alloc, len, firsts.1)?))
+}
+
 /// Whether a block begins with a byte.
 pub(crate) fn is_grown(block: &Buffer, first: u8) -> bool {
     let mut byte = first;

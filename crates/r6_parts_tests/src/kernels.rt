@@ -3,7 +3,7 @@
 ghost use Rattle.std.specs.Prelude.{◌≡◌, length};
 ghost use Rattle.std.specs.List.{All};
 
-use crate::blocks::{LENGTHS, blocks_of, grown, is_grown};
+use crate::blocks::{LENGTHS, blocks_of, is_grown, two};
 use crate::must::must;
 use r6_field::{ConstMul, Gf};
 use r6_kernels::{Buffer, delta, double, parity, scale_add, xor_into};
@@ -141,10 +141,13 @@ fn add_up(sum: &Sum, sources: &[Buffer], block: &mut Buffer, other: &mut Buffer)
 /// Whether a sum of blocks of a length comes out so.
 fn comes_out(alloc: Global, len: usize, case: &Case) -> Result<bool, AllocError> {
     let data = blocks_of(alloc, len, case.data)?;
-    let mut block = grown(alloc, len, case.before.0)?;
-    let mut other = grown(alloc, len, case.before.1)?;
+    let (mut block, mut other) = two(alloc, len, case.before)?;
     add_up(&case.sum, data.as_slice(), &mut block, &mut other);
-    Ok(is_left(&block, len, case.after.0) && is_left(&other, len, case.after.1))
+    let is_so = is_left(&block, len, case.after.0) && is_left(&other, len, case.after.1);
+    drop(data);
+    drop(block);
+    drop(other);
+    Ok(is_so)
 }
 
 fn is_left(block: &Buffer, len: usize, first: u8) -> bool {

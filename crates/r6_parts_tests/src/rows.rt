@@ -1,8 +1,6 @@
 //! Worked rows, at lengths around the bytes of a step of the kernels. Each byte of a block is x times the one before it.
 
-ghost use Rattle.std.specs.Prelude.{◌≡◌, length, IfOk};
-
-use crate::blocks::{grown, is_grown};
+use crate::blocks::{grown, is_grown, two};
 use crate::must::must;
 use crate::{batches, holds};
 use r6_kernels::Buffer;
@@ -11,6 +9,7 @@ use r6_recover::{
     restore_from_q_into, restore_two_into,
 };
 use std::alloc::{AllocError, Global};
+use std::mem;
 use std::test::Fail;
 
 const LENGTHS: &[usize] = &[1, 31, 33, 48, 80, 127, 128, 129, 255, 256, 257, 4096];
@@ -113,7 +112,9 @@ fn all_but(lost: &[usize]) -> Known {
 /// Whether a row of blocks of a length is restored so.
 fn comes_back(alloc: Global, len: usize, loss: &Loss<'_>) -> Result<bool, Fail> {
     let mut row = row_of(alloc, len, loss.before)?;
-    Ok(restore(&mut row, all_but(loss.lost)) == loss.restored && is_row(&row, loss.after))
+    let is_so = restore(&mut row, all_but(loss.lost)) == loss.restored && is_row(&row, loss.after);
+    drop(row);
+    Ok(is_so)
 }
 
 /// Whether any two blocks of a full row come back that begin with 4d.
@@ -365,51 +366,33 @@ fn wrong_bytes_are_seen_and_parity_is_repaired(rt: HostRuntime) -> Result<(), Fa
     Ok(())
 }
 
-/// Whether data 01 and 80 come back from P and Q, whose own buffers are away.
-fn two_come_back(alloc: Global) -> Result<bool, AllocError> {
-    let (mut a, mut b) = two(alloc, 0x00, 0x00)?;
-    let (p, q) = two(alloc, 0x81, 0x1c)?;
-    let row = [Buffer::empty(alloc), Buffer::empty(alloc), p, q];
-    restore_two_into(&row, 0, 1, &mut a, &mut b);
-    Ok(is_grown(&a, 0x01) && is_grown(&b, 0x80))
-}
-
-/// Whether the first of data 01 and 80 comes back from the second and P.
-fn the_first_comes_back(alloc: Global) -> Result<bool, AllocError> {
-    let (b, p) = two(alloc, 0x80, 0x81)?;
-    let mut a = grown(alloc, 16, 0x00)?;
-    let row = [Buffer::empty(alloc), b, p, Buffer::empty(alloc)];
-    restore_from_p_into(&row, 0, &mut a);
-    Ok(is_grown(&a, 0x01))
-}
-
-/// Whether the second of data 01 and 80 comes back from the first and Q.
-fn the_second_comes_back(alloc: Global) -> Result<bool, AllocError> {
-    let (a, q) = two(alloc, 0x01, 0x1c)?;
-    let mut b = grown(alloc, 16, 0x00)?;
-    let row = [a, Buffer::empty(alloc), Buffer::empty(alloc), q];
-    restore_from_q_into(&row, 1, &mut b);
-    Ok(is_grown(&b, 0x80))
-}
-
-/// Two blocks of 16 bytes that begin with these.
-fn two(alloc: Global, first: u8, second: u8) -> Result<(Buffer, Buffer), AllocError>
-    ensures { IfOk result (λ two. (length two.0 ≡ 16) × (length two.1 ≡ 16)) }
-{
-    Ok((grown(alloc, 16, first)?, grown(alloc, 16, second)?))
+/// Whether data 01 and 80 come back from P and Q, then the second from the first and Q, and the first from the second
+/// and P. The buffers of all other blocks are away.
+fn come_back_apart(alloc: Global) -> Result<bool, AllocError> {
+    let (mut first, mut second) = two(alloc, 16, (0x00, 0x00))?;
+    let (p, q) = two(alloc, 16, (0x81, 0x1c))?;
+    let mut row = [Buffer::empty(alloc), Buffer::empty(alloc), p, q];
+    restore_two_into(&row, 0, 1, &mut first, &mut second);
+    let are_both = is_grown(&first, 0x01) && is_grown(&second, 0x80);
+    // the row has the first and Q
+    mem::swap(&mut row[0], &mut first);
+    mem::swap(&mut row[2], &mut first);
+    second.clear();
+    restore_from_q_into(&row, 1, &mut second);
+    let is_second = is_grown(&second, 0x80);
+    // the row has the second and P
+    mem::swap(&mut row[2], &mut first);
+    mem::swap(&mut row[1], &mut second);
+    mem::swap(&mut row[3], &mut second);
+    mem::swap(&mut row[0], &mut first);
+    first.clear();
+    restore_from_p_into(&row, 0, &mut first);
+    Ok(are_both && is_second && is_grown(&first, 0x01))
 }
 
 #[test]
 fn lost_blocks_come_back_whose_buffers_are_away(rt: HostRuntime) -> Result<(), Fail> {
-    let is_first = the_first_comes_back(rt.alloc())?;
-    let is_second = the_second_comes_back(rt.alloc())?;
-    let is_so = two_come_back(rt.alloc())? && is_first && is_second;
-    must(
-        &rt,
-        is_so && Buffer::empty(rt.alloc()).is_empty(),
-        "apart",
-        0,
-        0,
-    );
+    let is_so = come_back_apart(rt.alloc())? && Buffer::empty(rt.alloc()).is_empty();
+    must(&rt, is_so, "apart", 0, 0);
     Ok(())
 }
