@@ -90,18 +90,20 @@ const FACTS: &[(Shape, &[Fact])] = &[
 
 /// Whether a geometry says so of a row of its own, and a slot or a position.
 fn is_at(geometry: &Geometry, fact: &Fact) -> bool {
+    let (rows, slots) = (geometry.rows(), geometry.slots());
     match fact {
-        Fact::Role(row, slot, role) if *row < geometry.rows() && *slot < geometry.slots() => {
+        Fact::Role(row, slot, role) if *row < rows && *slot < slots => {
             geometry.role(*row, *slot) == *role
         }
-        Fact::Block(row, index, block)
-            if *row < geometry.rows() && *index < geometry.data_slots() => {
+        Fact::Block(row, index, block) if *row < rows && *index < geometry.data_slots() => {
             geometry.block_of(*row, *index) == *block
         }
-        Fact::Slot(row, position, slot) if *row < geometry.rows() && *position < geometry.slots() =>
-            { geometry.slot_at(*row, *position) == *slot }
-        Fact::Position(row, slot, position) if *row < geometry.rows() && *slot < geometry.slots() =>
-            { geometry.position_at(*row, *slot) == *position }
+        Fact::Slot(row, position, slot) if *row < rows && *position < slots => {
+            geometry.slot_at(*row, *position) == *slot
+        }
+        Fact::Position(row, slot, position) if *row < rows && *slot < slots => {
+            geometry.position_at(*row, *slot) == *position
+        }
         _ => false,
     }
 }

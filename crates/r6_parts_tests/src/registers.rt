@@ -201,7 +201,10 @@ fn a_slot_is_rebuilt_once_each_shard_has_reported(rt: HostRuntime) -> Result<(),
         let geometry = Geometry::new(course.slots, 1, 16, 4, 2)?;
         match Register::new(&rt, rt.alloc(), &geometry, 1) {
             Ok((register, mut pass)) => {
-                let steps = played(&rt, rt.alloc(), &register, &mut pass, course)?;
+                let steps = played(&rt, rt.alloc(), &register, &mut pass, course);
+                drop(register);
+                drop(pass);
+                let steps = steps?;
                 must(&rt, steps == course.steps.len() + 1, course.name, 0, steps);
             }
             Err(error) => must(&rt, error.number() == 1, course.name, 0, 0),

@@ -113,16 +113,14 @@ fn are_given_once(given: &[AtomicU32], attaches: u32) -> bool {
 
 #[test]
 fn four_threads_are_given_each_generation_once(rt: HostRuntime) -> Result<(), Fail> {
-    let given = none_given(rt.alloc())?;
     let geometry = Geometry::new(4, 1, 16, 4, 2)?;
+    let given = none_given(rt.alloc())?;
     let (register, mut pass) = Register::new(&rt, rt.alloc(), &geometry, 0)?;
     let attaches = churn_beside(&rt, &register, &mut pass, given.as_slice());
-    must(
-        &rt,
-        are_given_once(given.as_slice(), attaches),
-        "generations",
-        attaches as usize,
-        0,
-    );
+    let is_so = are_given_once(given.as_slice(), attaches);
+    drop(register);
+    drop(pass);
+    drop(given);
+    must(&rt, is_so, "generations", attaches as usize, 0);
     Ok(())
 }

@@ -84,22 +84,23 @@ fn go_round(line: &mut Line, round: &Round, first: u32, end: u32) -> u32 {
 /// The entry that came, was shown or went out; `Some(0)` for entries that were moved; for rounds the first value whose
 /// round doesn't go so, or the end.
 fn answer(line: &mut Line, step: &Step) -> Option<u32> {
+    let causes = line.causes();
     match step {
-        Step::Push(cause, value) if *cause < line.causes() => {
+        Step::Push(cause, value) if *cause < causes => {
             line.push(*cause, *value).ok()?;
             Some(*value)
         }
-        Step::Oldest(cause) if *cause < line.causes() => line.oldest(*cause).copied(),
-        Step::Pop(cause) if *cause < line.causes() => line.pop_oldest(*cause),
+        Step::Oldest(cause) if *cause < causes => line.oldest(*cause).copied(),
+        Step::Pop(cause) if *cause < causes => line.pop_oldest(*cause),
         Step::Take(key) => line.take(*key, [1, 9]),
-        Step::MoveOldest(from, to) if *from < line.causes() && *to < line.causes() => {
+        Step::MoveOldest(from, to) if *from < causes && *to < causes => {
             line.move_oldest(*from, *to).then_some(0)
         }
-        Step::MoveAll(from, to) if *from < line.causes() && *to < line.causes() => {
+        Step::MoveAll(from, to) if *from < causes && *to < causes => {
             line.move_all(*from, *to);
             Some(0)
         }
-        Step::Gather(cause) if *cause < line.causes() => {
+        Step::Gather(cause) if *cause < causes => {
             line.gather(*cause);
             Some(0)
         }
