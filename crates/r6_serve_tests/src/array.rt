@@ -1,95 +1,105 @@
 //! The devices of an array, and what they hold. It has 4 slots, chunks of one block and 4 rows.
 
-ghost use Rattle.std.specs.Prelude.{◌≡◌, ◌<◌, IfOk, length};
+ghost use Rattle.std.specs.Prelude.{◌≡◌, ◌<◌, length};
 
 use crate::blocks::{BLOCK, ROWS, SLOTS, filled};
+use crate::drops::drop_whole;
 use r6_dev::{BlockDevice, MemoryDevice};
 use r6_kernels::Buffer;
 use r6_layout::Geometry;
 use r6_runner::Runner;
 use r6_shard::{Part, Parts, Shard};
-use std::alloc::{AllocError, Global};
+use std::alloc::Global;
+use std::process::Abort;
 
 // A part of a device for a shard, with this byte throughout.
-fn part_of(
+fn part_of<R: Abort>(
+    rt: &R,
     alloc: Global,
     geometry: &Geometry,
     shard: usize,
     byte: u8,
-) -> Result<MemoryDevice, AllocError>
+) -> MemoryDevice
     requires { shard < geometry.now.shards }
 {
     let rows = geometry.shard_rows(shard);
-    let block = filled(alloc, byte)?;
-    let mut device = MemoryDevice::new(alloc, rows.start..rows.end, BLOCK)?;
+    let block = filled(rt, alloc, byte);
+    let mut device = MemoryDevice::new(alloc, rows.start..rows.end, BLOCK).expect(rt, "memory");
     for row in rows {
         let _ = device.write(row, &block);
     }
-    Ok(device)
+    device
 }
 
 /// The parts of a device for each shard, with this byte throughout.
-pub(crate) fn device_of(
+pub(crate) fn device_of<R: Abort>(
+    rt: &R,
     alloc: Global,
     geometry: &Geometry,
     byte: u8,
-) -> Result<Vec<MemoryDevice>, AllocError>
-    ensures { IfOk result (λ parts. length parts.items ≡ geometry.now.shards) }
+) -> Vec<MemoryDevice>
+    ensures { length result.items ≡ geometry.now.shards }
 {
-    let mut parts = Vec::with_capacity(alloc, geometry.shards())?;
+    let mut parts = Vec::with_capacity(alloc, geometry.shards()).expect(rt, "memory");
     for shard in 0..geometry.shards() {
-        parts.push(part_of(alloc, geometry, shard, byte)?)?;
+        parts
+            .push(part_of(rt, alloc, geometry, shard, byte))
+            .expect(rt, "memory");
     }
-    Ok(parts)
+    parts
 }
 
 // Byte 0 is 1 in row 0, if the device serves it.
-fn spoil(alloc: Global, device: &mut MemoryDevice) -> Result<(), AllocError> {
-    let mut block = filled(alloc, 0)?;
+fn spoil<R: Abort>(rt: &R, alloc: Global, device: &mut MemoryDevice) {
+    let mut block = filled(rt, alloc, 0);
     let mut bytes = [0; BLOCK];
     bytes[0] = 1;
     block.copy_from_slice(&bytes);
     let _ = device.write(0, &block);
-    Ok(())
 }
 
 // The parts of a shard, which hold zeros, but for byte 0 of slot 1 if it is spoiled.
-fn parts_of_shard(
+fn parts_of_shard<R: Abort>(
+    rt: &R,
     alloc: Global,
     geometry: &Geometry,
     shard: usize,
     is_spoiled: bool,
-) -> Result<Parts<MemoryDevice>, AllocError>
+) -> Parts<MemoryDevice>
     requires { shard < geometry.now.shards }
 {
-    let mut parts = Vec::with_capacity(alloc, SLOTS)?;
+    let mut parts = Vec::with_capacity(alloc, SLOTS).expect(rt, "memory");
     for slot in 0..SLOTS {
-        let mut device = part_of(alloc, geometry, shard, 0)?;
+        let mut device = part_of(rt, alloc, geometry, shard, 0);
         if is_spoiled && slot == 1 {
-            spoil(alloc, &mut device)?;
+            spoil(rt, alloc, &mut device);
         }
-        parts.push(Part {
+        let part = Part {
             slot,
             generation: 0,
             device,
-        })?;
+        };
+        parts.push(part).expect(rt, "memory");
     }
-    Ok(Parts { parts })
+    Parts { parts }
 }
 
 /// The parts of each shard, which hold zeros, but for byte 0 of slot 1 if it is spoiled.
-pub(crate) fn parts_of(
+pub(crate) fn parts_of<R: Abort>(
+    rt: &R,
     alloc: Global,
     geometry: &Geometry,
     is_spoiled: bool,
-) -> Result<Vec<Parts<MemoryDevice>>, AllocError>
-    ensures { IfOk result (λ parts. length parts.items ≡ geometry.now.shards) }
+) -> Vec<Parts<MemoryDevice>>
+    ensures { length result.items ≡ geometry.now.shards }
 {
-    let mut parts = Vec::with_capacity(alloc, geometry.shards())?;
+    let mut parts = Vec::with_capacity(alloc, geometry.shards()).expect(rt, "memory");
     for shard in 0..geometry.shards() {
-        parts.push(parts_of_shard(alloc, geometry, shard, is_spoiled)?)?;
+        parts
+            .push(parts_of_shard(rt, alloc, geometry, shard, is_spoiled))
+            .expect(rt, "memory");
     }
-    Ok(parts)
+    parts
 }
 
 /// What the blocks of an array hold, each one byte throughout, by row and slot; and its devices' generations, by slot.
@@ -143,28 +153,25 @@ pub(crate) struct Found {
 
 /// Looks at all parts, where those of the device that came back had this byte throughout.
 pub(crate) fn find(
-    alloc: Global,
     runners: Vec<Runner<MemoryDevice>>,
+    room: &mut Buffer,
     held: &Held,
     byte: u8,
-) -> Result<Found, AllocError> {
-    let mut room = Buffer::new(alloc, BLOCK)?;
+) -> Found {
     let mut found = Found { right: 0, back: 0 };
     for runner in runners {
-        let (parts, others) = parts_at_end(runner);
-        for mut part in parts {
-            found.right = found
-                .right
-                .wrapping_add(rows_right(&mut part, &mut room, held));
+        let (mut parts, mut others) = parts_at_end(runner);
+        for part in parts.iter_mut() {
+            found.right = found.right.wrapping_add(rows_right(part, room, held));
         }
-        for mut part in others {
+        for part in others.iter_mut() {
             if (part.slot, part.generation) == (1, 0) {
-                let rows = rows_with(&mut part.device, &mut room, byte);
+                let rows = rows_with(&mut part.device, room, byte);
                 found.back = found.back.wrapping_add(rows);
             }
         }
     }
-    Ok(found)
+    found
 }
 
 // The parts of a shard, and those that came back.
@@ -172,7 +179,7 @@ fn parts_at_end(
     runner: Runner<MemoryDevice>,
 ) -> (Vec<Part<MemoryDevice>>, Vec<Part<MemoryDevice>>) {
     let Runner { shard, others, .. } = runner;
-    let Shard { parts, .. } = shard;
-    let Parts { parts } = parts;
-    (parts, others)
+    let Shard { parts, core, .. } = shard;
+    drop_whole(core);
+    (parts.parts, others)
 }

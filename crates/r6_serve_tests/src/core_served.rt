@@ -4,11 +4,13 @@ ghost use Rattle.r6_health.specs.Passes.{IsPassOf};
 
 use crate::blocks::{BLOCK, ROWS, SLOTS, filled};
 use crate::core_caller::serve;
+use crate::drops::drop_whole;
 use r6_core::{Core, Op, OpId, Reply};
 use r6_dev::MemoryDevice;
 use r6_health::{Pass, Register, Snapshot};
 use r6_layout::Geometry;
-use std::alloc::{AllocError, Global};
+use std::alloc::Global;
+use std::process::Abort;
 use std::sync::Wait;
 
 /// The core of an array of one shard, beside its devices.
@@ -20,67 +22,61 @@ struct Bench {
 }
 
 /// Devices of zeros, of which that of slot 1 has no rows.
-fn devices_of(alloc: Global) -> Result<Vec<MemoryDevice>, AllocError> {
+fn devices_of<R: Abort>(rt: &R, alloc: Global) -> Vec<MemoryDevice> {
     let mut devices = Vec::new(alloc);
     for slot in 0..SLOTS {
         let rows = if slot == 1 { 0 } else { ROWS as u64 };
-        devices.push(MemoryDevice::new(alloc, 0..rows, BLOCK)?)?;
+        let device = MemoryDevice::new(alloc, 0..rows, BLOCK).expect(rt, "memory");
+        devices.push(device).expect(rt, "memory");
     }
-    Ok(devices)
+    devices
 }
 
 impl Bench {
-    fn new(alloc: Global, geometry: Geometry) -> Option<Bench> {
+    fn new<R: Abort>(rt: &R, alloc: Global, geometry: Geometry) -> Bench {
         let register = Snapshot::start(&geometry, 0);
-        if geometry.shards() == 0 || register.failed() || register.attaches() > 0 {
-            return None;
-        }
-        let Ok(devices) = devices_of(alloc) else {
-            return None;
-        };
-        let Ok(core) = Core::new(alloc, geometry, 0, 1, &register) else {
-            return None;
-        };
-        Some(Bench {
+        assert!(rt; geometry.shards() > 0 && !register.failed() && register.attaches() == 0);
+        let devices = devices_of(rt, alloc);
+        let core = Core::new(alloc, geometry, 0, 1, &register).expect(rt, "memory");
+        Bench {
             alloc,
             core,
             devices,
-        })
+        }
     }
 
     /// Whether a request to read block 0 is served, as that of this number.
-    fn is_read<R: Wait>(&mut self, rt: &R, register: &Register, pass: &mut Pass, id: u64) -> bool
+    fn is_read<R: Wait + Abort>(
+        &mut self,
+        rt: &R,
+        register: &Register,
+        pass: &mut Pass,
+        id: u64,
+    ) -> bool
         requires { IsPassOf register.now pass.old }
         ensures { IsPassOf register.now pass.new }
     {
-        let Ok(room) = filled(self.alloc, 0) else {
-            return false;
-        };
-        let op = Op::Read(0, room);
+        let op = Op::Read(0, filled(rt, self.alloc, 0));
         let reply = serve(rt, &mut self.core, &mut self.devices, register, pass, op);
         matches!(&reply, Some((OpId(number), Reply::Data(_))) if *number == id)
     }
 }
 
 /// Whether two requests to read block 0 are served with a new register, and slot 1 is lost then.
-fn are_served<R: Wait>(rt: &R, geometry: &Geometry, bench: &mut Bench) -> bool {
-    let Ok((register, mut pass)) = Register::new(rt, bench.alloc, geometry, 0) else {
-        return false;
-    };
+fn are_served<R: Wait + Abort>(rt: &R, geometry: &Geometry, bench: &mut Bench) -> bool {
+    let (register, mut pass) = Register::new(rt, bench.alloc, geometry, 0).expect(rt, "memory");
     let first = bench.is_read(rt, &register, &mut pass, 0);
     let second = bench.is_read(rt, &register, &mut pass, 1);
     let is_lost = register.read(rt, &mut pass).slot(1).is_lost();
     first && second && is_lost
 }
 
-fn are_served_without_a_device<R: Wait>(rt: &R, alloc: Global) -> bool {
-    let Ok(geometry) = Geometry::new(SLOTS, 1, BLOCK, ROWS as u64, 1) else {
-        return false;
-    };
-    match Bench::new(alloc, geometry) {
-        Some(mut bench) => are_served(rt, &geometry, &mut bench),
-        None => false,
-    }
+fn are_served_without_a_device<R: Wait + Abort>(rt: &R, alloc: Global) -> bool {
+    let geometry = Geometry::new(SLOTS, 1, BLOCK, ROWS as u64, 1).expect(rt, "an array");
+    let mut bench = Bench::new(rt, alloc, geometry);
+    let is_so = are_served(rt, &geometry, &mut bench);
+    drop_whole(bench);
+    is_so
 }
 
 // Block 0 stands in slot 1, whose device is lost at the first command.

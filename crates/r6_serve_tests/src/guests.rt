@@ -1,10 +1,11 @@
 //! Two devices of two shards meet, each at its first command, so that one thread for both shards would never end well.
 
-ghost use Rattle.std.specs.Prelude.{◌≡◌, IfOk, length};
+ghost use Rattle.std.specs.Prelude.{◌≡◌, length};
 ghost use Rattle.r6_layout.specs.Shape.{IsShape};
 
 use crate::answers::Answer;
 use crate::blocks::filled;
+use crate::drops::drop_whole;
 use crate::meeting::Meeting;
 use crate::serve_bench::check_answer;
 use crate::steps::Ask;
@@ -16,7 +17,7 @@ use r6_layout::Geometry;
 use r6_serve::{Config, Served, serve};
 use r6_shard::{Part, Parts};
 use r6_threads::Refused;
-use std::alloc::{AllocError, Global};
+use std::alloc::Global;
 use std::process::Abort;
 use std::sync::Wait;
 use std::sync::atomic::{AtomicU64, Ordering};
@@ -91,44 +92,52 @@ fn role_of(shard: usize, slot: usize) -> Role {
     }
 }
 
-fn parts_of_shard<'h>(
+fn parts_of_shard<'h, R: Abort>(
+    rt: &R,
     alloc: Global,
     geometry: &Geometry,
     shard: usize,
     house: &'h House,
-) -> Result<Parts<Guest<'h>>, AllocError> {
-    let mut parts = Vec::with_capacity(alloc, geometry.slots())?;
+) -> Parts<Guest<'h>> {
+    let mut parts = Vec::with_capacity(alloc, geometry.slots()).expect(rt, "memory");
     for slot in 0..geometry.slots() {
+        let zeros = MemoryDevice::new(alloc, 0..geometry.rows(), geometry.block()).expect(
+            rt, "memory",
+        );
         let device = Guest {
             house,
             role: role_of(shard, slot),
-            zeros: MemoryDevice::new(alloc, 0..geometry.rows(), geometry.block())?,
+            zeros,
         };
-        parts.push(Part {
+        let part = Part {
             slot,
             generation: 0,
             device,
-        })?;
+        };
+        parts.push(part).expect(rt, "memory");
     }
-    Ok(Parts { parts })
+    Parts { parts }
 }
 
-fn parts_of<'h>(
+fn parts_of<'h, R: Abort>(
+    rt: &R,
     alloc: Global,
     geometry: &Geometry,
     house: &'h House,
-) -> Result<Vec<Parts<Guest<'h>>>, AllocError>
-    ensures { IfOk result (λ parts. length parts.items ≡ geometry.now.shards) }
+) -> Vec<Parts<Guest<'h>>>
+    ensures { length result.items ≡ geometry.now.shards }
 {
-    let mut parts = Vec::with_capacity(alloc, geometry.shards())?;
+    let mut parts = Vec::with_capacity(alloc, geometry.shards()).expect(rt, "memory");
     for shard in 0..geometry.shards() {
-        parts.push(parts_of_shard(alloc, geometry, shard, house)?)?;
+        parts
+            .push(parts_of_shard(rt, alloc, geometry, shard, house))
+            .expect(rt, "memory");
     }
-    Ok(parts)
+    parts
 }
 
 // Blocks 0 and 4 are written.
-fn serve_guests<'h, R: Threads + Wait + Sync>(
+fn serve_guests<'h, R: Threads + Wait + Abort + Sync>(
     rt: &R,
     alloc: Global,
     geometry: &Geometry,
@@ -141,10 +150,10 @@ fn serve_guests<'h, R: Threads + Wait + Sync>(
         window: 1,
         lost: 0,
     };
-    let mut events = Vec::with_capacity(alloc, 2)?;
-    events.push_reserved(Event::Request(Op::Write(0, filled(alloc, 0x5a)?)));
-    events.push_reserved(Event::Request(Op::Write(4, filled(alloc, 0x5a)?)));
-    let parts = parts_of(alloc, geometry, house)?;
+    let parts = parts_of(rt, alloc, geometry, house);
+    let mut events = Vec::with_capacity(alloc, 2).expect(rt, "memory");
+    events.push_reserved(Event::Request(Op::Write(0, filled(rt, alloc, 0x5a))));
+    events.push_reserved(Event::Request(Op::Write(4, filled(rt, alloc, 0x5a))));
     serve(rt, alloc, config, parts, events)
 }
 
@@ -165,7 +174,10 @@ fn each_shard_has_a_thread_of_its_own(rt: HostRuntime) -> Result<(), Fail> {
         commands: AtomicU64::new(0),
     };
     match serve_guests(&rt, rt.alloc(), &geometry, &house) {
-        Ok(served) => check_met(&rt, &served),
+        Ok(served) => {
+            check_met(&rt, &served);
+            drop_whole(served);
+        }
         Err(refused) => {
             assert!(rt; house.commands.load(Ordering::SeqCst) == 0);
             return Err(Fail::from(refused));

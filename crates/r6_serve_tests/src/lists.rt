@@ -7,14 +7,15 @@ ghost use Rattle.r6_dev.specs.Memory.{told_by};
 ghost use Rattle.r6_frames.specs.declared.op.Op.TheVariants as op;
 ghost use Rattle.r6_lists.specs.Events.{Request, Attach, Check, tasks_of, numbers_of, all_tasks};
 
+use crate::drops::is_nothing;
 use r6_dev::MemoryDevice;
 use r6_kernels::Buffer;
 use r6_lists::{Consumer, Events, Item, List, Producer, Settlement, Work};
-use std::alloc::{AllocError, Global};
+use std::alloc::Global;
 use std::marker::Brand;
+use std::process::Abort;
 use std::sync::ledger::Blank;
 use std::sync::{Mutex, Wait};
-use std::test::Fail;
 use std::thread::{self, Threads};
 
 // Puts an item in once its list has room.
@@ -68,7 +69,8 @@ fn take_all<L: Events, R: Wait>(
     ensures shard { result.shard ≡ consumer.shard }
 {
     for _ in rt.forever() {
-        if list.lock(rt).take(&mut consumer).is_none() && list.lock(rt).finish(&mut consumer) {
+        let is_empty = is_nothing(list.lock(rt).take(&mut consumer));
+        if is_empty && list.lock(rt).finish(&mut consumer) {
             return consumer;
         }
         thread::yield_now();
@@ -99,26 +101,34 @@ fn take_both<L: Events + Send + Sync, R: Threads + Wait + Sync>(
 }
 
 // One thread puts, and one for each of two shards takes. The lists are smaller than what they are handed.
-fn relay<L: Events + Send + Sync, R: Threads + Wait + Sync>(
+fn relay<L: Events + Send + Sync, R: Threads + Wait + Abort + Sync>(
     rt: &R,
     alloc: Global,
     blank: Blank,
     items: Vec<Item<L, MemoryDevice>>,
-) -> Result<Vec<Vec<u64>>, AllocError>
+) -> Vec<Vec<u64>>
     requires blank { (blank.name ≡ L.name) × (blank.parts ≡ L.parts) × (L.parts ≡ 6) }
     requires shards { L.shape.shards ≡ 2 }
     requires items { (0 < length items.items) × (length items.items ≡ all_tasks L.shape L.events) }
     requires first { length (tasks_of L.shape 0 L.events) ≤ length items.items }
     requires second { length (tasks_of L.shape 1 L.events) ≤ length items.items }
-    ensures { IfOk result (λ taken. (shard : ℕ) (numbers : _) → slice_get taken.items shard ≡ Some numbers
-        → numbers.items ≡ numbers_of (tasks_of L.shape shard L.events)) }
+    ensures { (shard : ℕ) (numbers : _) → slice_get result.items shard ≡ Some numbers
+        → numbers.items ≡ numbers_of (tasks_of L.shape shard L.events) }
 {
     let (mut book, mut all) = blank.open::<L>();
-    let first = Mutex::new(List::with_capacity(alloc, 0, 2, all.split_off(1, 0))?);
-    let second = Mutex::new(List::with_capacity(alloc, 1, 2, all.split_off(1, 0))?);
-    let first_consumer = Consumer::with_capacity(alloc, 0, items.len(), all.split_off(1, 0))?;
-    let second_consumer = Consumer::with_capacity(alloc, 1, items.len(), all.split_off(1, 0))?;
-    let mut settlement = Settlement::with_capacity(alloc, 2, all.empty())?;
+    let first = List::with_capacity(alloc, 0, 2, all.split_off(1, 0)).expect(rt, "memory");
+    let second = List::with_capacity(alloc, 1, 2, all.split_off(1, 0)).expect(rt, "memory");
+    let (first, second) = (Mutex::new(first), Mutex::new(second));
+    let first_consumer = Consumer::with_capacity(alloc, 0, items.len(), all.split_off(1, 0)).expect(
+        rt, "memory",
+    );
+    let second_consumer = Consumer::with_capacity(
+        alloc,
+        1,
+        items.len(),
+        all.split_off(1, 0),
+    ).expect(rt, "memory");
+    let mut settlement = Settlement::with_capacity(alloc, 2, all.empty()).expect(rt, "memory");
     let producer = Producer::new(&mut book, all, 2, items.len() as u64);
     let first = &first;
     let second = &second;
@@ -133,15 +143,15 @@ fn relay<L: Events + Send + Sync, R: Threads + Wait + Sync>(
     let (_, consumers) = thread::join(rt, put, take);
     settlement.add(consumers.0);
     settlement.add(consumers.1);
-    Ok(settlement.settle(&mut book))
+    settlement.settle(&mut book)
 }
 
 // Blocks 0 to 3 are of shard 0, and 4 to 7 of shard 1; a check and a new device's parts go to both.
-fn play<L: Events + Send + Sync, R: Threads + Wait + Sync>(
+fn play<L: Events + Send + Sync, R: Threads + Wait + Abort + Sync>(
     rt: &R,
     alloc: Global,
     blank: Blank,
-) -> Result<Vec<Vec<u64>>, AllocError>
+) -> Vec<Vec<u64>>
     requires blank { (blank.name ≡ L.name) × (blank.parts ≡ L.parts) × (L.parts ≡ 6) }
     requires shape { L.shape ≡ shape_of 4 1 16 4 2 }
     requires events { L.events ≡ Request (op.Write 0 (zeros 16)) ∷ Request (op.Read 4 (zeros 16)) ∷ Check
@@ -150,18 +160,18 @@ fn play<L: Events + Send + Sync, R: Threads + Wait + Sync>(
         ∷ [] }
     requires none_promised { (shard : ℕ) (slot : ℕ) → L.sound shard slot → ⊥ }
 {
-    let mut items = Vec::with_capacity(alloc, 7)?;
-    let data = Buffer::new(alloc, 16)?;
+    let mut items = Vec::with_capacity(alloc, 7).expect(rt, "memory");
+    let data = Buffer::new(alloc, 16).expect(rt, "memory");
     items.push_reserved(Item::<L, MemoryDevice>::new(0, 0, 0, Work::Write(0, data)));
-    let near = Buffer::new(alloc, 16)?;
+    let near = Buffer::new(alloc, 16).expect(rt, "memory");
     items.push_reserved(Item::new(1, 1, 0, Work::Read(4, near)));
     items.push_reserved(Item::new(0, 2, 0, Work::Check));
     items.push_reserved(Item::new(1, 2, 0, Work::Check));
-    let far = Buffer::new(alloc, 16)?;
+    let far = Buffer::new(alloc, 16).expect(rt, "memory");
     items.push_reserved(Item::new(1, 3, 1, Work::Read(7, far)));
-    let part = MemoryDevice::new(alloc, 0..2, 16)?;
+    let part = MemoryDevice::new(alloc, 0..2, 16).expect(rt, "memory");
     items.push_reserved(Item::new(0, 4, 1, attach(part)));
-    let other_part = MemoryDevice::new(alloc, 2..4, 16)?;
+    let other_part = MemoryDevice::new(alloc, 2..4, 16).expect(rt, "memory");
     items.push_reserved(Item::new(1, 4, 1, attach(other_part)));
     relay(rt, alloc, blank, items)
 }
@@ -184,8 +194,7 @@ fn are_theirs(taken: &[Vec<u64>]) -> bool {
 }
 
 #[test]
-fn each_shard_takes_its_own(rt: HostRuntime) -> Result<(), Fail> {
-    let taken = play::<Brand, HostRuntime>(&rt, rt.alloc(), Blank::new(6))?;
+fn each_shard_takes_its_own(rt: HostRuntime) {
+    let taken = play::<Brand, HostRuntime>(&rt, rt.alloc(), Blank::new(6));
     assert!(rt; are_theirs(taken.as_slice()));
-    Ok(())
 }

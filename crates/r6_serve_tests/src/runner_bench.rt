@@ -1,6 +1,6 @@
 //! The one shard of an array of zeros takes events from its list, until all is done.
 
-ghost use Rattle.std.specs.Prelude.{◌≡◌, ℕ, ◌+◌, ◌-◌, ◌^◌, ◌<◌, ◌≤◌, [], IfOk, IfSome, Some, if◌then◌else◌, length, replicate, slice_get, true, false};
+ghost use Rattle.std.specs.Prelude.{◌≡◌, ℕ, ◌+◌, ◌-◌, ◌^◌, ◌<◌, ◌≤◌, [], IfSome, Some, if◌then◌else◌, length, replicate, slice_get, true, false};
 ghost use Rattle.r6_dev.specs.Memory.{told_by};
 ghost use Rattle.r6_layout.specs.Shape.{IsShape};
 ghost use Rattle.r6_health.specs.Passes.{view_of, IsPassOf};
@@ -14,6 +14,7 @@ ghost use Rattle.r6_serve_tests.specs.Asks.{event_of, events_of};
 use crate::answers::{Answer, check_all};
 use crate::asks::Ask;
 use crate::blocks::{BLOCK, ROWS, SLOTS, filled};
+use crate::drops::drop_whole;
 use crate::shard_bench::{ALL_ROWS, parts_of};
 use r6_dev::MemoryDevice;
 use r6_health::{Pass, Register, Snapshot};
@@ -22,12 +23,11 @@ use r6_layout::Geometry;
 use r6_lists::{Consumer, Events, Item, List, Producer, Rest, Work};
 use r6_runner::{Runner, Taking};
 use r6_shard::Place;
-use std::alloc::{AllocError, Global};
+use std::alloc::Global;
 use std::marker::Brand;
 use std::process::Abort;
 use std::sync::ledger::Blank;
 use std::sync::{Mutex, Wait};
-use std::test::Fail;
 
 /// A shard that has taken its events, and what the register holds behind them.
 #[derive(Drop)]
@@ -54,38 +54,34 @@ fn is_own(geometry: &Geometry, block: u64) -> bool
 }
 
 // What shard 0 is handed of an event, if anything.
-fn work_of(
+fn work_of<R: Abort>(
+    rt: &R,
     alloc: Global,
     geometry: &Geometry,
     ask: Ask,
-) -> Result<Option<Work<MemoryDevice>>, AllocError>
-    ensures { IfOk result (λ handed. IfSome handed (λ work.
-        duty_of geometry.now 0 (event_of ask) ≡ Some (duty_in told_by work))) }
+) -> Option<Work<MemoryDevice>>
+    ensures { IfSome result (λ work. duty_of geometry.now 0 (event_of ask) ≡ Some (duty_in told_by work)) }
 {
     match ask {
-        Ask::Write(block, byte) => {
-            if is_own(geometry, block) {
-                return Ok(Some(Work::Write(block, filled(alloc, byte)?)));
-            }
+        Ask::Write(block, byte) if is_own(geometry, block) => {
+            Some(Work::Write(block, filled(rt, alloc, byte)))
         }
-        Ask::Read(block) => {
-            if is_own(geometry, block) {
-                return Ok(Some(Work::Read(block, Buffer::new(alloc, BLOCK)?)));
-            }
+        Ask::Read(block) if is_own(geometry, block) => {
+            let room = Buffer::new(alloc, BLOCK).expect(rt, "memory");
+            Some(Work::Read(block, room))
         }
         Ask::Attach(slot, generation) => {
-            let part = MemoryDevice::new(alloc, 0..ROWS as u64, BLOCK)?;
-            return Ok(Some(Work::Attach {
+            let part = MemoryDevice::new(alloc, 0..ROWS as u64, BLOCK).expect(rt, "memory");
+            Some(Work::Attach {
                 slot,
                 generation,
                 part,
-            }));
+            })
         }
-        Ask::Check => return Ok(Some(Work::Check)),
-        Ask::Repair => return Ok(Some(Work::Repair)),
-        Ask::Wait => {}
+        Ask::Check => Some(Work::Check),
+        Ask::Repair => Some(Work::Repair),
+        Ask::Write(_, _) | Ask::Read(_) | Ask::Wait => None,
     }
-    Ok(None)
 }
 
 // Puts an item in; the list has room for it.
@@ -97,9 +93,10 @@ fn put<L: Events, R: Wait>(
 )
     ensures { producer.new.lists ≡ producer.old.lists }
 {
-    if producer.lists > 0 && producer.left > 0 {
-        let _ = list.lock(rt).put(item, producer);
+    if producer.lists == 0 || producer.left == 0 {
+        return drop_whole(item);
     }
+    drop_whole(list.lock(rt).put(item, producer));
 }
 
 fn ask_at(asks: &[Ask], number: usize) -> Ask
@@ -118,14 +115,14 @@ fn waits_behind(waits: u64, ask: Ask) -> u64
 }
 
 // Puts in what the shard is handed of the events.
-fn put_all<L: Events, R: Wait>(
+fn put_all<L: Events, R: Wait + Abort>(
     rt: &R,
     alloc: Global,
     geometry: &Geometry,
     list: &Mutex<List<L, MemoryDevice>>,
     asks: &[Ask],
     producer: &mut Producer<L>,
-) -> Result<(), AllocError>
+)
     requires shape { L.shape ≡ geometry.now }
     requires events { L.events ≡ events_of asks.now }
     requires none_promised { (shard : ℕ) (slot : ℕ) → L.sound shard slot → ⊥ }
@@ -133,12 +130,11 @@ fn put_all<L: Events, R: Wait>(
     let mut waits: u64 = 0;
     for number in 0..asks.len() {
         let ask = ask_at(asks, number);
-        if let Some(work) = work_of(alloc, geometry, ask)? {
+        if let Some(work) = work_of(rt, alloc, geometry, ask) {
             put(rt, list, Item::new(0, number as u64, waits, work), producer);
         }
         waits = waits_behind(waits, ask);
     }
-    Ok(())
 }
 
 // How many items they are.
@@ -158,22 +154,23 @@ fn end<L: Events, R: Wait>(
 }
 
 // A shard from the array's beginning on, with room for so many tasks.
-fn runner_of(
+fn runner_of<R: Abort>(
+    rt: &R,
     alloc: Global,
     place: Place,
     pass: Pass,
     room: usize,
-) -> Result<Runner<MemoryDevice>, AllocError>
+) -> Runner<MemoryDevice>
     requires limits { IsShape place.geometry }
     requires number { place.number < place.geometry.shards }
     requires window { place.window ≡ 1 }
     requires first { IsFirstPass place.geometry (starting 0) (view_of pass) }
-    ensures pass { IfOk result (λ runner. runner.shard.pass ≡ pass) }
-    ensures room { IfOk result (λ runner. (runner.room ≡ room) × (taken_by runner ≡ 0)) }
+    ensures pass { result.shard.pass ≡ pass }
+    ensures room { (result.room ≡ room) × (taken_by result ≡ 0) }
 {
     let snapshot = Snapshot::start(&place.geometry, 0);
-    let parts = parts_of(alloc, &ALL_ROWS);
-    Runner::new(alloc, place, &snapshot, pass, parts, room)
+    let parts = parts_of(rt, alloc, &ALL_ROWS);
+    Runner::new(alloc, place, &snapshot, pass, parts, room).expect(rt, "memory")
 }
 
 // The shard takes all that its list has.
@@ -195,7 +192,7 @@ fn run<L: Events, R: Wait>(
 }
 
 // The events are put into the shard's list, which is ended, and then it takes them.
-fn play<L: Events, R: Wait>(
+fn play<L: Events, R: Wait + Abort>(
     rt: &R,
     alloc: Global,
     blank: Blank,
@@ -204,7 +201,7 @@ fn play<L: Events, R: Wait>(
     pass: Pass,
     rest: &Rest,
     asks: &[Ask],
-) -> Result<Runner<MemoryDevice>, AllocError>
+) -> Runner<MemoryDevice>
     requires blank { (blank.name ≡ L.name) × (blank.parts ≡ L.parts) × (L.parts ≡ 3) }
     requires shape { L.shape ≡ place.geometry }
     requires events { L.events ≡ events_of asks.now }
@@ -218,13 +215,16 @@ fn play<L: Events, R: Wait>(
     requires first { IsFirstPass place.geometry (starting 0) (view_of pass) }
 {
     let (mut book, mut all) = blank.open::<L>();
-    let list = Mutex::new(List::with_capacity(alloc, 0, asks.len(), all.split_off(1, 0))?);
-    let consumer = Consumer::with_capacity(alloc, 0, asks.len(), all.split_off(1, 0))?;
+    let list = List::with_capacity(alloc, 0, asks.len(), all.split_off(1, 0)).expect(rt, "memory");
+    let list = Mutex::new(list);
+    let consumer = Consumer::with_capacity(alloc, 0, asks.len(), all.split_off(1, 0)).expect(
+        rt, "memory",
+    );
     let mut producer = Producer::new(&mut book, all, 1, works_of(asks));
-    put_all(rt, alloc, &place.geometry, &list, asks, &mut producer)?;
+    put_all(rt, alloc, &place.geometry, &list, asks, &mut producer);
     end(rt, &list, &mut producer);
-    let runner = runner_of(alloc, place, pass, asks.len())?;
-    Ok(run(rt, register, &list, rest, consumer, runner))
+    let runner = runner_of(rt, alloc, place, pass, asks.len());
+    run(rt, register, &list, rest, consumer, runner)
 }
 
 // These slots fail, and then these have new devices.
@@ -255,9 +255,9 @@ pub(crate) fn take<R: Wait + Abort>(
     attached: &[usize],
     rest: &Rest,
     asks: &[Ask],
-) -> Result<Ended, Fail> {
-    let geometry = Geometry::new(SLOTS, 1, BLOCK, ROWS as u64, 1)?;
-    let (register, mut first) = Register::new(rt, alloc, &geometry, 0)?;
+) -> Ended {
+    let geometry = Geometry::new(SLOTS, 1, BLOCK, ROWS as u64, 1).expect(rt, "an array");
+    let (register, mut first) = Register::new(rt, alloc, &geometry, 0).expect(rt, "memory");
     let mut caller = register.split(&mut first);
     prepare(rt, &register, &mut caller, failed, attached);
     let place = Place {
@@ -266,9 +266,7 @@ pub(crate) fn take<R: Wait + Abort>(
         window: 1,
     };
     let blank = Blank::new(3);
-    let Ok(runner) = play::<Brand, R>(rt, alloc, blank, place, &register, first, rest, asks) else {
-        panic!(rt; "no memory");
-    };
+    let runner = play::<Brand, R>(rt, alloc, blank, place, &register, first, rest, asks);
     let snapshot = register.read(rt, &mut caller);
-    Ok(Ended { runner, snapshot })
+    Ended { runner, snapshot }
 }

@@ -2,6 +2,7 @@
 
 use crate::answers::Answer;
 use crate::asks::Ask;
+use crate::drops::drop_whole;
 use crate::runner_bench::{Ended, take};
 use r6_core::Task;
 use r6_lists::Rest;
@@ -9,7 +10,6 @@ use r6_runner::Passed;
 use std::alloc::Global;
 use std::process::Abort;
 use std::sync::Wait;
-use std::test::Fail;
 
 /// What holds of a shard that has taken its events.
 #[derive(Clone, Copy)]
@@ -159,24 +159,18 @@ fn check_end<R: Abort>(rt: &R, name: &str, ended: &Ended, end: &End<'_>, is_foun
 }
 
 /// A course on a new array, beside a rest that is asked for before.
-fn play<R: Wait + Abort>(
-    rt: &R,
-    alloc: Global,
-    course: &Course<'_>,
-    rest: &Rest,
-) -> Result<(), Fail> {
+fn play<R: Wait + Abort>(rt: &R, alloc: Global, course: &Course<'_>, rest: &Rest) {
     let number = rest.ask();
     assert!(rt; !rest.is_found(number));
-    let ended = take(rt, alloc, course.failed, course.attached, rest, course.asks)?;
+    let ended = take(rt, alloc, course.failed, course.attached, rest, course.asks);
     let is_found = rest.is_found(number) && !rest.is_found(rest.ask());
     check_end(rt, course.name, &ended, &course.end, is_found);
-    Ok(())
+    drop_whole(ended);
 }
 
 #[test]
-fn a_shard_takes_its_courses(rt: HostRuntime) -> Result<(), Fail> {
+fn a_shard_takes_its_courses(rt: HostRuntime) {
     for course in COURSES {
-        play(&rt, rt.alloc(), course, &Rest::new())?;
+        play(&rt, rt.alloc(), course, &Rest::new());
     }
-    Ok(())
 }

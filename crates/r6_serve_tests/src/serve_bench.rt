@@ -11,26 +11,25 @@ use r6_serve::{Config, Served, serve};
 use std::alloc::Global;
 use std::process::Abort;
 use std::sync::Wait;
-use std::test::Fail;
 use std::thread::Threads;
 
 /// An array with so many shards is served: of zeros, but for byte 0 of slot 1 if it is spoiled.
-pub(crate) fn play<R: Threads + Wait + Sync>(
+pub(crate) fn play<R: Threads + Wait + Abort + Sync>(
     rt: &R,
     alloc: Global,
     shards: usize,
     is_spoiled: bool,
     steps: &[Step],
-) -> Result<Served<MemoryDevice>, Fail> {
-    let geometry = Geometry::new(SLOTS, 1, BLOCK, ROWS as u64, shards)?;
+) -> Served<MemoryDevice> {
+    let geometry = Geometry::new(SLOTS, 1, BLOCK, ROWS as u64, shards).expect(rt, "an array");
     let config = Config {
         geometry,
         window: 1,
         lost: 0,
     };
-    let parts = parts_of(alloc, &geometry, is_spoiled)?;
-    let events = events_of(alloc, &geometry, steps)?;
-    Ok(serve(rt, alloc, config, parts, events)?)
+    let parts = parts_of(rt, alloc, &geometry, is_spoiled);
+    let events = events_of(rt, alloc, &geometry, steps);
+    serve(rt, alloc, config, parts, events).expect(rt, "an array that is served")
 }
 
 // What a shard answered to an event. A request may be refused or answered so where the array has failed.

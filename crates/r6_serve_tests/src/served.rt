@@ -1,8 +1,9 @@
 //! Arrays that are served. Block 0 stands in slot 1, in row 0.
 
 use crate::answers::Answer;
-use crate::array::{Found, Held, find};
-use crate::blocks::SLOTS;
+use crate::array::{Held, find};
+use crate::blocks::{SLOTS, filled};
+use crate::drops::drop_whole;
 use crate::serve_bench::{check_steps, play};
 use crate::steps::{Ask, Step};
 use r6_dev::MemoryDevice;
@@ -10,7 +11,6 @@ use r6_feed::Outcome;
 use r6_health::{Answer as Told, Refusal, Snapshot};
 use r6_serve::Served;
 use std::process::Abort;
-use std::test::Fail;
 
 // How many shards the arrays have.
 const SHARDS: &[usize] = &[1, 2, 4];
@@ -142,14 +142,14 @@ fn check_array<R: Abort>(rt: &R, array: &Array<'_>, served: &Served<MemoryDevice
 }
 
 #[test]
-fn arrays_are_served(rt: HostRuntime) -> Result<(), Fail> {
+fn arrays_are_served(rt: HostRuntime) {
     for array in ARRAYS {
         for shards in array.shards {
-            let served = play(&rt, rt.alloc(), *shards, array.is_spoiled, array.steps)?;
+            let served = play(&rt, rt.alloc(), *shards, array.is_spoiled, array.steps);
             check_array(&rt, array, &served);
+            drop_whole(served);
         }
     }
-    Ok(())
 }
 
 const REBUILT: &Array<'static> = &Array {
@@ -191,15 +191,12 @@ const HELD: Held = Held {
 
 // All blocks stand where they are to stand, and the device came back that had 0x11 throughout.
 #[test]
-fn a_new_device_is_rebuilt(rt: HostRuntime) -> Result<(), Fail> {
+fn a_new_device_is_rebuilt(rt: HostRuntime) {
+    let mut room = filled(&rt, rt.alloc(), 0);
     for shards in REBUILT.shards {
-        let served = play(&rt, rt.alloc(), *shards, false, REBUILT.steps)?;
+        let served = play(&rt, rt.alloc(), *shards, false, REBUILT.steps);
         check_array(&rt, REBUILT, &served);
-        let found = find(rt.alloc(), served.runners, &HELD, 0x11);
-        assert!(rt;
-            matches!(found, Ok(Found { right: 16, back: 4 })),
-            "{shards} shards"
-        );
+        let found = find(served.runners, &mut room, &HELD, 0x11);
+        assert!(rt; (found.right, found.back) == (16, 4), "{shards} shards");
     }
-    Ok(())
 }

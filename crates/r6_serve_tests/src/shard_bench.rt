@@ -1,6 +1,6 @@
 //! The shards of an array of zeros, over devices in memory and beside its register, from the array's beginning on.
 
-ghost use Rattle.std.specs.Prelude.{◌≡◌, ◌<◌, length, IfOk};
+ghost use Rattle.std.specs.Prelude.{◌≡◌, ◌<◌, length};
 ghost use Rattle.r6_layout.specs.Shape.{IsShape};
 ghost use Rattle.r6_health.specs.Passes.{view_of, IsPassOf};
 ghost use Rattle.r6_health.specs.Registers.{starting};
@@ -8,17 +8,17 @@ ghost use Rattle.r6_shard.specs.Beginnings.{IsFirstPass};
 
 use crate::answers::{Answer, answer_in, check, check_all};
 use crate::blocks::{BLOCK, ROWS, SLOTS, filled};
+use crate::drops::drop_whole;
 use r6_core::{Op, Refused};
 use r6_dev::MemoryDevice;
 use r6_health::{Pass, Register, Snapshot};
 use r6_kernels::Buffer;
 use r6_layout::Geometry;
 use r6_shard::{Asking, Job, Part, PartRefusal, Parts, Place, Served, Shard, serve};
-use std::alloc::{AllocError, Global};
+use std::alloc::Global;
 use std::collections::VecDeque;
 use std::process::Abort;
 use std::sync::Wait;
-use std::test::Fail;
 
 /// The rows of each slot's device.
 pub(crate) type DeviceRows = [u64; SLOTS];
@@ -93,53 +93,50 @@ pub(crate) enum Course<'c> {
 
 type MemoryShard = Shard<Parts<MemoryDevice>>;
 
-fn op_of(alloc: Global, request: Request) -> Result<Op, AllocError> {
+fn op_of<R: Abort>(rt: &R, alloc: Global, request: Request) -> Op {
     match request {
-        Request::Write(block, byte) => Ok(Op::Write(block, filled(alloc, byte)?)),
-        Request::Read(block) => Ok(Op::Read(block, Buffer::new(alloc, BLOCK)?)),
-        Request::ReadInto(block, len) => Ok(Op::Read(block, Buffer::new(alloc, len)?)),
+        Request::Write(block, byte) => Op::Write(block, filled(rt, alloc, byte)),
+        Request::Read(block) => Op::Read(block, filled(rt, alloc, 0)),
+        Request::ReadInto(block, len) => {
+            Op::Read(block, Buffer::new(alloc, len).expect(rt, "memory"))
+        }
     }
 }
 
-// The requests, of events with the numbers from 0 on. One of which there is no memory isn't there, and isn't answered.
-fn askings_of(alloc: Global, requests: &[Request]) -> VecDeque<Asking> {
+// The requests, of events with the numbers from 0 on.
+fn askings_of<R: Abort>(rt: &R, alloc: Global, requests: &[Request]) -> VecDeque<Asking> {
     let mut askings = VecDeque::new(alloc);
     for (event, request) in requests.iter().enumerate() {
-        if let Ok(op) = op_of(alloc, *request) {
-            let event = event as u64;
-            let _ = askings.push_back(Asking { event, op });
-        }
+        let event = event as u64;
+        let op = op_of(rt, alloc, *request);
+        askings.push_back(Asking { event, op }).expect(rt, "memory");
     }
     askings
 }
 
 // A device of zeros with so many rows, which a slot has after so many attaches.
-fn part_of(
+fn part_of<R: Abort>(
+    rt: &R,
     alloc: Global,
     slot: usize,
     generation: u32,
     rows: u64,
-) -> Result<Part<MemoryDevice>, AllocError> {
-    let device = MemoryDevice::new(alloc, 0..rows, BLOCK)?;
-    Ok(Part {
+) -> Part<MemoryDevice> {
+    let device = MemoryDevice::new(alloc, 0..rows, BLOCK).expect(rt, "memory");
+    Part {
         slot,
         generation,
         device,
-    })
+    }
 }
 
-/// A device of zeros for each slot, with so many rows, and room for a part more. A device of which there is no memory
-/// isn't there, as one that was lost.
-pub(crate) fn parts_of(alloc: Global, rows: &DeviceRows) -> Parts<MemoryDevice> {
-    let Ok(mut parts) = Vec::with_capacity(alloc, SLOTS + 1) else {
-        return Parts {
-            parts: Vec::new(alloc),
-        };
-    };
+/// A device of zeros for each slot, with so many rows, and room for a part more.
+pub(crate) fn parts_of<R: Abort>(rt: &R, alloc: Global, rows: &DeviceRows) -> Parts<MemoryDevice> {
+    let mut parts = Vec::with_capacity(alloc, SLOTS + 1).expect(rt, "memory");
     for slot in 0..SLOTS {
-        if let Ok(part) = part_of(alloc, slot, 0, rows[slot]) {
-            let _ = parts.push(part);
-        }
+        parts
+            .push(part_of(rt, alloc, slot, 0, rows[slot]))
+            .expect(rt, "memory");
     }
     Parts { parts }
 }
@@ -229,16 +226,12 @@ fn goes<R: Wait + Abort>(
 {
     match turn {
         Turn::Asks(request, wanted) => {
-            let Ok(op) = op_of(alloc, request) else {
-                return false;
-            };
+            let op = op_of(rt, alloc, request);
             let found = answer(rt, shard, register, event, op);
             check(rt, "a shard", event, &found, &wanted);
         }
         Turn::Hands(generation, rows, wanted) => {
-            let Ok(part) = part_of(alloc, 1, generation, rows) else {
-                return false;
-            };
+            let part = part_of(rt, alloc, 1, generation, rows);
             return hand_in(shard, part) == wanted;
         }
         Turn::Attaches => return attach(rt, register, caller),
@@ -278,7 +271,7 @@ fn play_in_turn<R: Wait + Abort>(
     caller: &mut Pass,
     rows: &DeviceRows,
     turns: &[Turn],
-) -> Result<(), AllocError>
+)
     requires limits { IsShape place.geometry }
     requires number { place.number < place.geometry.shards }
     requires window { place.window ≡ 1 }
@@ -288,19 +281,21 @@ fn play_in_turn<R: Wait + Abort>(
     ensures { IsPassOf register.now caller.new }
 {
     let snapshot = Snapshot::start(&place.geometry, 0);
-    let parts = parts_of(alloc, rows);
-    let mut shard = Shard::new(alloc, place, &snapshot, pass, parts, turns.len())?;
+    let parts = parts_of(rt, alloc, rows);
+    let mut shard = Shard::new(alloc, place, &snapshot, pass, parts, turns.len()).expect(
+        rt, "memory",
+    );
     go_all(rt, alloc, &mut shard, register, caller, turns);
-    Ok(())
+    drop_whole(shard);
 }
 
 // The requests are served, from the beginning of the shard to its end.
-fn serve_all<R: Wait>(
+fn serve_all<R: Wait + Abort>(
     rt: &R,
     alloc: Global,
     register: &Register,
     job: Job<Parts<MemoryDevice>>,
-) -> Result<Served<Parts<MemoryDevice>>, AllocError>
+) -> Served<Parts<MemoryDevice>>
     requires limits { IsShape job.place.geometry }
     requires number { job.place.number < job.place.geometry.shards }
     requires window { job.place.window ≡ 1 }
@@ -308,7 +303,7 @@ fn serve_all<R: Wait>(
     requires first { IsFirstPass job.place.geometry (starting 0) (view_of job.pass) }
 {
     let snapshot = Snapshot::start(&job.place.geometry, 0);
-    serve(rt, alloc, &snapshot, register, job)
+    serve(rt, alloc, &snapshot, register, job).expect(rt, "memory")
 }
 
 fn play_at_once<R: Wait + Abort>(
@@ -320,22 +315,22 @@ fn play_at_once<R: Wait + Abort>(
     rows: &DeviceRows,
     requests: &[Request],
     wanted: &[Answer],
-) -> Result<(), AllocError>
+)
     requires limits { IsShape place.geometry }
     requires number { place.number < place.geometry.shards }
     requires window { place.window ≡ 1 }
     requires pass { IsPassOf register.now pass }
     requires first { IsFirstPass place.geometry (starting 0) (view_of pass) }
 {
-    let parts = parts_of(alloc, rows);
-    let askings = askings_of(alloc, requests);
+    let parts = parts_of(rt, alloc, rows);
+    let askings = askings_of(rt, alloc, requests);
     let job = Job {
         place,
         pass,
         parts,
         askings,
     };
-    let ended = serve_all(rt, alloc, register, job)?;
+    let ended = serve_all(rt, alloc, register, job);
     check_all(
         rt,
         "a shard",
@@ -344,7 +339,7 @@ fn play_at_once<R: Wait + Abort>(
         wanted,
     );
     check_named(rt, &ended.shard, rows[1] == 0);
-    Ok(())
+    drop_whole(ended);
 }
 
 // No slot was named, but slot 1 if it is lost.
@@ -364,7 +359,7 @@ fn play_course<R: Wait + Abort>(
     caller: &mut Pass,
     rows: &DeviceRows,
     course: Course,
-) -> Result<(), AllocError>
+)
     requires limits { IsShape place.geometry }
     requires number { place.number < place.geometry.shards }
     requires window { place.window ≡ 1 }
@@ -378,22 +373,19 @@ fn play_course<R: Wait + Abort>(
             play_in_turn(rt, alloc, place, register, pass, caller, rows, turns)
         }
         Course::AtOnce(requests, wanted) => {
-            play_at_once(rt, alloc, place, register, pass, rows, requests, wanted)?;
+            play_at_once(rt, alloc, place, register, pass, rows, requests, wanted);
             assert!(rt; look(rt, register, caller).0 == (rows[1] == 0));
-            Ok(())
         }
     }
 }
 
 /// The shards of an array play these courses, one after the other, each over devices of its own.
 #[tactic(auto, using(crate::proofs::Passes::first_pass, crate::proofs::Passes::split_pass))]
-pub(crate) fn play<R: Wait + Abort>(
-    rt: &R,
-    alloc: Global,
-    courses: &[(Devices, Course)],
-) -> Result<(), Fail> {
-    let geometry = Geometry::new(SLOTS, 1, BLOCK, ROWS as u64, courses.len())?;
-    let (register, mut first) = Register::new(rt, alloc, &geometry, 0)?;
+pub(crate) fn play<R: Wait + Abort>(rt: &R, alloc: Global, courses: &[(Devices, Course)]) {
+    let geometry = Geometry::new(SLOTS, 1, BLOCK, ROWS as u64, courses.len()).expect(
+        rt, "an array",
+    );
+    let (register, mut first) = Register::new(rt, alloc, &geometry, 0).expect(rt, "memory");
     let mut caller = register.split(&mut first);
     for number in 0..geometry.shards() {
         let Some((devices, course)) = courses.get(number) else {
@@ -415,7 +407,6 @@ pub(crate) fn play<R: Wait + Abort>(
             &mut caller,
             &rows,
             *course,
-        )?;
+        );
     }
-    Ok(())
 }

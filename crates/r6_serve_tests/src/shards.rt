@@ -3,10 +3,9 @@
 use crate::answers::Answer;
 use crate::shard_bench::{Course, Devices, Handed, Request, Turn, play};
 use r6_shard::PartRefusal;
-use std::test::Fail;
 
 #[test]
-fn what_was_written_is_read(rt: HostRuntime) -> Result<(), Fail> {
+fn what_was_written_is_read(rt: HostRuntime) {
     let turns = &[
         Turn::Asks(Request::Write(0, 7), Answer::Done),
         Turn::Asks(Request::Write(3, 9), Answer::Done),
@@ -15,24 +14,24 @@ fn what_was_written_is_read(rt: HostRuntime) -> Result<(), Fail> {
         Turn::Asks(Request::Read(1), Answer::Data(0)),
         Turn::HasNamedNone,
     ];
-    play(&rt, rt.alloc(), &[(Devices::Whole, Course::InTurn(turns))])
+    play(&rt, rt.alloc(), &[(Devices::Whole, Course::InTurn(turns))]);
 }
 
 #[test]
-fn a_failed_device_is_named_and_read_by_parity(rt: HostRuntime) -> Result<(), Fail> {
+fn a_failed_device_is_named_and_read_by_parity(rt: HostRuntime) {
     let requests = &[Request::Write(0, 7), Request::Read(0), Request::Read(1)];
     let wanted = &[Answer::Done, Answer::Data(7), Answer::Data(0)];
     play(
         &rt,
         rt.alloc(),
         &[(Devices::WithoutSlot1, Course::AtOnce(requests, wanted))],
-    )
+    );
 }
 
 // The first command of each request is put out when it is handed in, and those are performed in this order: the reads
 // come before what the writes write.
 #[test]
-fn reads_beside_writes_give_what_the_devices_have(rt: HostRuntime) -> Result<(), Fail> {
+fn reads_beside_writes_give_what_the_devices_have(rt: HostRuntime) {
     let requests = &[
         Request::Write(0, 7),
         Request::Write(3, 9),
@@ -44,12 +43,12 @@ fn reads_beside_writes_give_what_the_devices_have(rt: HostRuntime) -> Result<(),
         &rt,
         rt.alloc(),
         &[(Devices::Whole, Course::AtOnce(requests, wanted))],
-    )
+    );
 }
 
 // Only 256 requests may be open at one time.
 #[test]
-fn more_requests_are_served_than_may_be_open(rt: HostRuntime) -> Result<(), Fail> {
+fn more_requests_are_served_than_may_be_open(rt: HostRuntime) {
     let mut requests = [Request::Read(5); 300];
     requests[0] = Request::Write(0, 3);
     requests[299] = Request::Read(0);
@@ -60,11 +59,11 @@ fn more_requests_are_served_than_may_be_open(rt: HostRuntime) -> Result<(), Fail
         &rt,
         rt.alloc(),
         &[(Devices::Whole, Course::AtOnce(&requests, &wanted))],
-    )
+    );
 }
 
 #[test]
-fn a_request_of_another_length_is_refused(rt: HostRuntime) -> Result<(), Fail> {
+fn a_request_of_another_length_is_refused(rt: HostRuntime) {
     let requests = &[
         Request::Write(0, 7),
         Request::ReadInto(0, 15),
@@ -75,12 +74,12 @@ fn a_request_of_another_length_is_refused(rt: HostRuntime) -> Result<(), Fail> {
         &rt,
         rt.alloc(),
         &[(Devices::Whole, Course::AtOnce(requests, wanted))],
-    )
+    );
 }
 
 // Shard 0 has blocks 0 to 3, and shard 1 blocks 4 to 7. What the one loses, the other answers without.
 #[test]
-fn two_shards_have_one_register(rt: HostRuntime) -> Result<(), Fail> {
+fn two_shards_have_one_register(rt: HostRuntime) {
     let requests = &[Request::Write(0, 7), Request::Read(0)];
     let wanted = &[Answer::Done, Answer::Data(7)];
     let turns = &[
@@ -92,12 +91,12 @@ fn two_shards_have_one_register(rt: HostRuntime) -> Result<(), Fail> {
     ];
     let first = (Devices::WithoutSlot1, Course::AtOnce(requests, wanted));
     let second = (Devices::Whole, Course::InTurn(turns));
-    play(&rt, rt.alloc(), &[first, second])
+    play(&rt, rt.alloc(), &[first, second]);
 }
 
 // Of two parts for one generation the later is rebuilt, here one with rows; the earlier has none.
 #[test]
-fn the_later_part_of_an_attach_is_rebuilt_and_read(rt: HostRuntime) -> Result<(), Fail> {
+fn the_later_part_of_an_attach_is_rebuilt_and_read(rt: HostRuntime) {
     let turns = &[
         Turn::Asks(Request::Write(0, 7), Answer::Done),
         Turn::Hands(1, 0, Handed::First),
@@ -115,5 +114,5 @@ fn the_later_part_of_an_attach_is_rebuilt_and_read(rt: HostRuntime) -> Result<()
         &rt,
         rt.alloc(),
         &[(Devices::WithoutSlot1, Course::InTurn(turns))],
-    )
+    );
 }

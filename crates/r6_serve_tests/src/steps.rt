@@ -1,17 +1,16 @@
 //! What the events of a test ask, and what each is to be answered.
 
-ghost use Rattle.std.specs.Prelude.{IfOk};
 ghost use Rattle.r6_feed.specs.Events.{IsWhole, AreWhole};
 
 use crate::answers::Answer;
 use crate::array::device_of;
-use crate::blocks::{BLOCK, filled};
+use crate::blocks::filled;
 use r6_core::{Counts, Op};
 use r6_dev::MemoryDevice;
 use r6_feed::Event;
-use r6_kernels::Buffer;
 use r6_layout::Geometry;
-use std::alloc::{AllocError, Global};
+use std::alloc::Global;
+use std::process::Abort;
 
 /// What an event asks.
 #[derive(Clone, Copy)]
@@ -45,34 +44,34 @@ pub(crate) fn rows_of(counts: &Counts) -> [u64; 7] {
     ]
 }
 
-fn event_of(alloc: Global, geometry: &Geometry, ask: Ask) -> Result<Event<MemoryDevice>, AllocError>
-    ensures { IfOk result (IsWhole geometry.now.shards) }
+fn event_of<R: Abort>(rt: &R, alloc: Global, geometry: &Geometry, ask: Ask) -> Event<MemoryDevice>
+    ensures { IsWhole geometry.now.shards result }
 {
     match ask {
-        Ask::Write(block, byte) => Ok(Event::Request(Op::Write(block, filled(alloc, byte)?))),
-        Ask::Read(block) => Ok(Event::Request(Op::Read(block, Buffer::new(alloc, BLOCK)?))),
-        Ask::Wait => Ok(Event::Wait),
-        Ask::Fail(slot) => Ok(Event::Fail(slot)),
-        Ask::Attach(slot, byte) => {
-            let parts = device_of(alloc, geometry, byte)?;
-            Ok(Event::Attach(slot, parts))
-        }
-        Ask::Check => Ok(Event::Check),
-        Ask::Repair => Ok(Event::Repair),
+        Ask::Write(block, byte) => Event::Request(Op::Write(block, filled(rt, alloc, byte))),
+        Ask::Read(block) => Event::Request(Op::Read(block, filled(rt, alloc, 0))),
+        Ask::Wait => Event::Wait,
+        Ask::Fail(slot) => Event::Fail(slot),
+        Ask::Attach(slot, byte) => Event::Attach(slot, device_of(rt, alloc, geometry, byte)),
+        Ask::Check => Event::Check,
+        Ask::Repair => Event::Repair,
     }
 }
 
 /// What the steps ask, as an array of this shape is handed it.
-pub(crate) fn events_of(
+pub(crate) fn events_of<R: Abort>(
+    rt: &R,
     alloc: Global,
     geometry: &Geometry,
     steps: &[Step],
-) -> Result<Vec<Event<MemoryDevice>>, AllocError>
-    ensures { IfOk result (λ events. AreWhole geometry.now.shards events.items) }
+) -> Vec<Event<MemoryDevice>>
+    ensures { AreWhole geometry.now.shards result.items }
 {
-    let mut events = Vec::with_capacity(alloc, steps.len())?;
+    let mut events = Vec::with_capacity(alloc, steps.len()).expect(rt, "memory");
     for (ask, _) in steps.iter() {
-        events.push(event_of(alloc, geometry, *ask)?)?;
+        events
+            .push(event_of(rt, alloc, geometry, *ask))
+            .expect(rt, "memory");
     }
-    Ok(events)
+    events
 }

@@ -3,10 +3,10 @@
 ghost use Rattle.std.specs.Prelude.{◌≡◌};
 
 use crate::meeting::Meeting;
-use r6_threads::{Refused, Work, run_all};
-use std::alloc::{AllocError, Global};
+use r6_threads::{Work, run_all};
+use std::alloc::Global;
+use std::process::Abort;
 use std::sync::Wait;
-use std::test::Fail;
 use std::thread::Threads;
 
 // One of two that come to a meeting.
@@ -30,25 +30,25 @@ impl Work<Meeting> for Visitor {
 }
 
 // Whether both met, while this thread counts to three.
-fn meet<R: Threads + Wait + Sync>(rt: &R, alloc: Global) -> Result<bool, AllocError> {
+fn meet<R: Threads + Wait + Abort + Sync>(rt: &R, alloc: Global) -> bool {
     let meeting = Meeting::new();
-    let mut visitors = Vec::with_capacity(alloc, 2)?;
+    let mut visitors = Vec::with_capacity(alloc, 2).expect(rt, "memory");
     for is_second in [false, true] {
-        visitors.push(Visitor {
+        let visitor = Visitor {
             is_second,
             met: false,
-        })?;
+        };
+        visitors.push(visitor).expect(rt, "memory");
     }
-    match run_all(rt, alloc, &meeting, visitors, || 3u8) {
-        Ok((count, visitors)) => Ok(count == 3 && visitors.iter().all(|visitor| visitor.met)),
-        Err(Refused::NoMemory) => Err(AllocError),
-        Err(Refused::ThreadRefused) => Ok(false),
-    }
+    let (count, visitors) = run_all(rt, alloc, &meeting, visitors, || 3u8).expect(
+        rt,
+        "a thread for each",
+    );
+    count == 3 && visitors.iter().all(|visitor| visitor.met)
 }
 
 // Each looks for the other, so that one thread for both would never end well.
 #[test]
-fn each_piece_of_work_has_a_thread_of_its_own(rt: HostRuntime) -> Result<(), Fail> {
-    assert!(rt; meet(&rt, rt.alloc())?);
-    Ok(())
+fn each_piece_of_work_has_a_thread_of_its_own(rt: HostRuntime) {
+    assert!(rt; meet(&rt, rt.alloc()));
 }

@@ -12,6 +12,6 @@ with_capacity-requires-2-clause-room g c =
 
 pub run-requires-clause-room : goal.run-requires-clause-room
 run-requires-clause-room g c =
-    let few = few_works g.L.Events.shape c.in_ok-consumer.consumer.shard g.L.Events.events in
+    let few = few_works g.L.Events.shape c.expect-consumer.result.shard g.L.Events.events in
     let long : length g.L.Events.events ≡ length c.args.asks.now = ap length c.requires.events ∙ length-map c.args.asks.now event_of in
-    omega (arith, few, long, c.in_ok-runner.ensures.room.0)
+    omega (arith, few, long, c.runner_of-runner.ensures.room.0)
