@@ -2,7 +2,7 @@
 
 ghost use Rattle.r6_health.specs.Passes.{IsPassOf};
 
-use crate::blocks::{BLOCK, ROWS, SLOTS, filled};
+use crate::blocks::{BLOCK, ROWS, SLOTS, filled, geometry_of, register_of};
 use crate::core_caller::serve;
 use crate::drops::drop_whole;
 use r6_core::{Core, Op, OpId, Reply};
@@ -64,7 +64,7 @@ impl Bench {
 
 /// Whether two requests to read block 0 are served with a new register, and slot 1 is lost then.
 fn are_served<R: Wait + Abort>(rt: &R, geometry: &Geometry, bench: &mut Bench) -> bool {
-    let (register, mut pass) = Register::new(rt, bench.alloc, geometry, 0).expect(rt, "memory");
+    let (register, mut pass) = register_of(rt, bench.alloc, geometry);
     let first = bench.is_read(rt, &register, &mut pass, 0);
     let second = bench.is_read(rt, &register, &mut pass, 1);
     let is_lost = register.read(rt, &mut pass).slot(1).is_lost();
@@ -72,7 +72,7 @@ fn are_served<R: Wait + Abort>(rt: &R, geometry: &Geometry, bench: &mut Bench) -
 }
 
 fn are_served_without_a_device<R: Wait + Abort>(rt: &R, alloc: Global) -> bool {
-    let geometry = Geometry::new(SLOTS, 1, BLOCK, ROWS as u64, 1).expect(rt, "an array");
+    let geometry = geometry_of(rt, 1);
     let mut bench = Bench::new(rt, alloc, geometry);
     let is_so = are_served(rt, &geometry, &mut bench);
     drop_whole(bench);

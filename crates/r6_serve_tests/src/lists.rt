@@ -7,9 +7,9 @@ ghost use Rattle.r6_dev.specs.Memory.{told_by};
 ghost use Rattle.r6_frames.specs.declared.op.Op.TheVariants as op;
 ghost use Rattle.r6_lists.specs.Events.{Request, Attach, Check, tasks_of, numbers_of, all_tasks};
 
-use crate::drops::is_nothing;
+use crate::blocks::filled;
+use crate::drops::{drop_whole, is_nothing};
 use r6_dev::MemoryDevice;
-use r6_kernels::Buffer;
 use r6_lists::{Consumer, Events, Item, List, Producer, Settlement, Work};
 use std::alloc::Global;
 use std::marker::Brand;
@@ -100,7 +100,33 @@ fn take_both<L: Events + Send + Sync, R: Threads + Wait + Sync>(
     thread::join(rt, take_first, take_second)
 }
 
-// One thread puts, and one for each of two shards takes. The lists are smaller than what they are handed.
+// One thread puts, and one for each of two shards takes.
+fn put_and_take<L: Events + Send + Sync, R: Threads + Wait + Sync>(
+    rt: &R,
+    first: &Mutex<List<L, MemoryDevice>>,
+    second: &Mutex<List<L, MemoryDevice>>,
+    first_consumer: Consumer<L>,
+    second_consumer: Consumer<L>,
+    items: Vec<Item<L, MemoryDevice>>,
+    producer: Producer<L>,
+) -> (Consumer<L>, Consumer<L>)
+    requires producer { (producer.lists ≡ 2) × (producer.left ≡ length items.items) }
+    requires consumers { (first_consumer.finished ≡ false) × (second_consumer.finished ≡ false) }
+    ensures finished { (result.0.finished ≡ true) × (result.1.finished ≡ true) }
+    ensures shards { (result.0.shard ≡ first_consumer.shard) × (result.1.shard ≡ second_consumer.shard) }
+{
+    let put = move ||
+        requires { (producer.lists ≡ 2) × (producer.left ≡ length items.items) }
+    { hand_out_all(rt, first, second, items, producer) };
+    let take = move || -> (Consumer<L>, Consumer<L>)
+        requires { (first_consumer.finished ≡ false) × (second_consumer.finished ≡ false) }
+        ensures finished { (result.0.finished ≡ true) × (result.1.finished ≡ true) }
+        ensures shards { (result.0.shard ≡ first_consumer.shard) × (result.1.shard ≡ second_consumer.shard) }
+    { take_both(rt, first, second, first_consumer, second_consumer) };
+    thread::join(rt, put, take).1
+}
+
+// What the shards take by lists that are smaller than what they are handed.
 fn relay<L: Events + Send + Sync, R: Threads + Wait + Abort + Sync>(
     rt: &R,
     alloc: Global,
@@ -116,33 +142,18 @@ fn relay<L: Events + Send + Sync, R: Threads + Wait + Abort + Sync>(
         → numbers.items ≡ numbers_of (tasks_of L.shape shard L.events) }
 {
     let (mut book, mut all) = blank.open::<L>();
+    let room = items.len();
     let first = List::with_capacity(alloc, 0, 2, all.split_off(1, 0)).expect(rt, "memory");
     let second = List::with_capacity(alloc, 1, 2, all.split_off(1, 0)).expect(rt, "memory");
-    let (first, second) = (Mutex::new(first), Mutex::new(second));
-    let first_consumer = Consumer::with_capacity(alloc, 0, items.len(), all.split_off(1, 0)).expect(
-        rt, "memory",
-    );
-    let second_consumer = Consumer::with_capacity(
-        alloc,
-        1,
-        items.len(),
-        all.split_off(1, 0),
-    ).expect(rt, "memory");
+    let near = Consumer::with_capacity(alloc, 0, room, all.split_off(1, 0)).expect(rt, "memory");
+    let far = Consumer::with_capacity(alloc, 1, room, all.split_off(1, 0)).expect(rt, "memory");
     let mut settlement = Settlement::with_capacity(alloc, 2, all.empty()).expect(rt, "memory");
-    let producer = Producer::new(&mut book, all, 2, items.len() as u64);
-    let first = &first;
-    let second = &second;
-    let put = move ||
-        requires { (producer.lists ≡ 2) × (producer.left ≡ length items.items) }
-    { hand_out_all(rt, first, second, items, producer) };
-    let take = move || -> (Consumer<L>, Consumer<L>)
-        requires { (first_consumer.finished ≡ false) × (second_consumer.finished ≡ false) }
-        ensures finished { (result.0.finished ≡ true) × (result.1.finished ≡ true) }
-        ensures shards { (result.0.shard ≡ first_consumer.shard) × (result.1.shard ≡ second_consumer.shard) }
-    { take_both(rt, first, second, first_consumer, second_consumer) };
-    let (_, consumers) = thread::join(rt, put, take);
+    let producer = Producer::new(&mut book, all, 2, room as u64);
+    let lists = (Mutex::new(first), Mutex::new(second));
+    let consumers = put_and_take(rt, &lists.0, &lists.1, near, far, items, producer);
     settlement.add(consumers.0);
     settlement.add(consumers.1);
+    drop_whole(lists);
     settlement.settle(&mut book)
 }
 
@@ -161,13 +172,13 @@ fn play<L: Events + Send + Sync, R: Threads + Wait + Abort + Sync>(
     requires none_promised { (shard : ℕ) (slot : ℕ) → L.sound shard slot → ⊥ }
 {
     let mut items = Vec::with_capacity(alloc, 7).expect(rt, "memory");
-    let data = Buffer::new(alloc, 16).expect(rt, "memory");
+    let data = filled(rt, alloc, 0);
     items.push_reserved(Item::<L, MemoryDevice>::new(0, 0, 0, Work::Write(0, data)));
-    let near = Buffer::new(alloc, 16).expect(rt, "memory");
+    let near = filled(rt, alloc, 0);
     items.push_reserved(Item::new(1, 1, 0, Work::Read(4, near)));
     items.push_reserved(Item::new(0, 2, 0, Work::Check));
     items.push_reserved(Item::new(1, 2, 0, Work::Check));
-    let far = Buffer::new(alloc, 16).expect(rt, "memory");
+    let far = filled(rt, alloc, 0);
     items.push_reserved(Item::new(1, 3, 1, Work::Read(7, far)));
     let part = MemoryDevice::new(alloc, 0..2, 16).expect(rt, "memory");
     items.push_reserved(Item::new(0, 4, 1, attach(part)));

@@ -13,7 +13,7 @@ ghost use Rattle.r6_serve_tests.specs.Asks.{event_of, events_of};
 
 use crate::answers::{Answer, check_all};
 use crate::asks::Ask;
-use crate::blocks::{BLOCK, ROWS, SLOTS, filled};
+use crate::blocks::{BLOCK, ROWS, filled, geometry_of, register_of};
 use crate::drops::drop_whole;
 use crate::shard_bench::{ALL_ROWS, parts_of};
 use r6_dev::MemoryDevice;
@@ -247,7 +247,6 @@ fn prepare<R: Wait>(
 }
 
 /// The shard takes the events once these slots have failed and these have new devices.
-#[tactic(auto, using(crate::proofs::Passes::first_pass))]
 pub(crate) fn take<R: Wait + Abort>(
     rt: &R,
     alloc: Global,
@@ -256,8 +255,8 @@ pub(crate) fn take<R: Wait + Abort>(
     rest: &Rest,
     asks: &[Ask],
 ) -> Ended {
-    let geometry = Geometry::new(SLOTS, 1, BLOCK, ROWS as u64, 1).expect(rt, "an array");
-    let (register, mut first) = Register::new(rt, alloc, &geometry, 0).expect(rt, "memory");
+    let geometry = geometry_of(rt, 1);
+    let (register, mut first) = register_of(rt, alloc, &geometry);
     let mut caller = register.split(&mut first);
     prepare(rt, &register, &mut caller, failed, attached);
     let place = Place {
@@ -268,5 +267,6 @@ pub(crate) fn take<R: Wait + Abort>(
     let blank = Blank::new(3);
     let runner = play::<Brand, R>(rt, alloc, blank, place, &register, first, rest, asks);
     let snapshot = register.read(rt, &mut caller);
+    drop_whole((register, caller));
     Ended { runner, snapshot }
 }

@@ -2,10 +2,9 @@
 
 use crate::answers::{Answer, answer_in, check};
 use crate::array::parts_of;
-use crate::blocks::{BLOCK, ROWS, SLOTS};
+use crate::blocks::geometry_of;
 use crate::steps::{Ask, Step, events_of, rows_of};
 use r6_dev::MemoryDevice;
-use r6_layout::Geometry;
 use r6_runner::{Passed, Runner};
 use r6_serve::{Config, Served, serve};
 use std::alloc::Global;
@@ -21,7 +20,7 @@ pub(crate) fn play<R: Threads + Wait + Abort + Sync>(
     is_spoiled: bool,
     steps: &[Step],
 ) -> Served<MemoryDevice> {
-    let geometry = Geometry::new(SLOTS, 1, BLOCK, ROWS as u64, shards).expect(rt, "an array");
+    let geometry = geometry_of(rt, shards);
     let config = Config {
         geometry,
         window: 1,

@@ -7,13 +7,12 @@ ghost use Rattle.r6_health.specs.Registers.{starting};
 ghost use Rattle.r6_shard.specs.Beginnings.{IsFirstPass};
 
 use crate::answers::{Answer, answer_in, check, check_all};
-use crate::blocks::{BLOCK, ROWS, SLOTS, filled};
+use crate::blocks::{BLOCK, SLOTS, filled, geometry_of, register_of};
 use crate::drops::drop_whole;
 use r6_core::{Op, Refused};
 use r6_dev::MemoryDevice;
 use r6_health::{Pass, Register, Snapshot};
 use r6_kernels::Buffer;
-use r6_layout::Geometry;
 use r6_shard::{Asking, Job, Part, PartRefusal, Parts, Place, Served, Shard, serve};
 use std::alloc::Global;
 use std::collections::VecDeque;
@@ -380,12 +379,9 @@ fn play_course<R: Wait + Abort>(
 }
 
 /// The shards of an array play these courses, one after the other, each over devices of its own.
-#[tactic(auto, using(crate::proofs::Passes::first_pass, crate::proofs::Passes::split_pass))]
 pub(crate) fn play<R: Wait + Abort>(rt: &R, alloc: Global, courses: &[(Devices, Course)]) {
-    let geometry = Geometry::new(SLOTS, 1, BLOCK, ROWS as u64, courses.len()).expect(
-        rt, "an array",
-    );
-    let (register, mut first) = Register::new(rt, alloc, &geometry, 0).expect(rt, "memory");
+    let geometry = geometry_of(rt, courses.len());
+    let (register, mut first) = register_of(rt, alloc, &geometry);
     let mut caller = register.split(&mut first);
     for number in 0..geometry.shards() {
         let Some((devices, course)) = courses.get(number) else {
@@ -409,4 +405,5 @@ pub(crate) fn play<R: Wait + Abort>(rt: &R, alloc: Global, courses: &[(Devices, 
             *course,
         );
     }
+    drop_whole((register, first, caller));
 }
