@@ -68,20 +68,20 @@ impl fmt::Display for Outcome {
     fn fmt<W: fmt::Write>(&self, f: &mut fmt::Formatter<W>) -> fmt::Result {
         match self {
             Outcome::Accepted(shard, id) => write!(f, "op {shard}:{}", id.0),
-            Outcome::Performed => write!(f, "performed"),
-            Outcome::PerformedAlready => write!(f, "performed already"),
-            Outcome::NoSuchCommand => write!(f, "no such command"),
-            Outcome::NotPerformed => write!(f, "not performed"),
-            Outcome::Received(Receipt::Taken) => write!(f, "taken"),
-            Outcome::Received(Receipt::Late) => write!(f, "late"),
-            Outcome::Looked => write!(f, "looked"),
-            Outcome::Turned(Turn::Started) => write!(f, "started"),
-            Outcome::Turned(Turn::Skipped) => write!(f, "skipped"),
+            Outcome::Performed => f.write_str("performed"),
+            Outcome::PerformedAlready => f.write_str("performed already"),
+            Outcome::NoSuchCommand => f.write_str("no such command"),
+            Outcome::NotPerformed => f.write_str("not performed"),
+            Outcome::Received(Receipt::Taken) => f.write_str("taken"),
+            Outcome::Received(Receipt::Late) => f.write_str("late"),
+            Outcome::Looked => f.write_str("looked"),
+            Outcome::Turned(Turn::Started) => f.write_str("started"),
+            Outcome::Turned(Turn::Skipped) => f.write_str("skipped"),
             Outcome::Refused(refusal) => write!(f, "{}", Refused(*refusal)),
             Outcome::Told(made, answered) => write!(f, "{made}: {answered}"),
-            Outcome::Nothing => write!(f, "nothing"),
+            Outcome::Nothing => f.write_str("nothing"),
             Outcome::Called(answered) => write!(f, "{answered}"),
-            Outcome::NoSuchShard => write!(f, "no such shard"),
+            Outcome::NoSuchShard => f.write_str("no such shard"),
         }
     }
 }
