@@ -1,7 +1,8 @@
 //! The lines that the command `simulate` prints.
 
 ghost use Rattle.std.specs.Prelude.{◌≡◌, ◌++◌, OnOk, string_bytes};
-ghost use Rattle.r6_simulate.specs.Lines.{command_text, reply_text};
+ghost use Rattle.r6_simulate.specs.Lines.{command_text, outcome_text, reply_text};
+ghost use Rattle.r6_simulate.specs.declared.lines.Outcome.TheVariants.{Received, Turned};
 
 use r6_core::{Call, Command, CommandKind, OpId, Receipt, Refusal, Reply, Turn};
 use r6_texts::{Answered, Refused, write_block};
@@ -59,6 +60,26 @@ pub enum Outcome {
     NoSuchShard,
 }
 
+// How a completion was received.
+fn receipt_word(receipt: Receipt) -> &'static str
+    ensures { result.now ≡ outcome_text (Received receipt) }
+{
+    match receipt {
+        Receipt::Taken => "taken",
+        Receipt::Late => "late",
+    }
+}
+
+// What a turn did.
+fn turn_word(turn: Turn) -> &'static str
+    ensures { result.now ≡ outcome_text (Turned turn) }
+{
+    match turn {
+        Turn::Started => "started",
+        Turn::Skipped => "skipped",
+    }
+}
+
 impl fmt::Display for Outcome {
     ghost use Rattle.std.specs.Prelude.{Some};
     ghost use Rattle.r6_simulate.specs.Lines.{outcome_text};
@@ -72,11 +93,9 @@ impl fmt::Display for Outcome {
             Outcome::PerformedAlready => f.write_str("performed already"),
             Outcome::NoSuchCommand => f.write_str("no such command"),
             Outcome::NotPerformed => f.write_str("not performed"),
-            Outcome::Received(Receipt::Taken) => f.write_str("taken"),
-            Outcome::Received(Receipt::Late) => f.write_str("late"),
+            Outcome::Received(receipt) => f.write_str(receipt_word(*receipt)),
             Outcome::Looked => f.write_str("looked"),
-            Outcome::Turned(Turn::Started) => f.write_str("started"),
-            Outcome::Turned(Turn::Skipped) => f.write_str("skipped"),
+            Outcome::Turned(turn) => f.write_str(turn_word(*turn)),
             Outcome::Refused(refusal) => write!(f, "{}", Refused(*refusal)),
             Outcome::Told(made, answered) => write!(f, "{made}: {answered}"),
             Outcome::Nothing => f.write_str("nothing"),
