@@ -1,6 +1,6 @@
 //! A run's events, handed to the threads of two shards.
 
-ghost use Rattle.std.specs.Prelude.{◌≡◌, ℕ, ◌+◌, ◌*◌, ◌<◌, ◌≤◌, [], ◌∷◌, IfOk, length, slice_get, replicate, Some, false, true};
+ghost use Rattle.std.specs.Prelude.{◌≡◌, ℕ, ◌+◌, ◌*◌, ◌<◌, ◌≤◌, [], ◌∷◌, length, slice_get, replicate, Some, false, true};
 ghost use Rattle.r6_kernels.specs.Blocks.{zeros};
 ghost use Rattle.r6_layout.specs.Shape.{shape_of};
 ghost use Rattle.r6_dev.specs.Memory.{told_by};
