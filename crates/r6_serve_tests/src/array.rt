@@ -3,7 +3,6 @@
 ghost use Rattle.std.specs.Prelude.{◌≡◌, ◌<◌, length};
 
 use crate::blocks::{BLOCK, ROWS, SLOTS, filled};
-use crate::drops::drop_whole;
 use r6_dev::{BlockDevice, MemoryDevice};
 use r6_kernels::Buffer;
 use r6_layout::Geometry;
@@ -180,6 +179,6 @@ fn parts_at_end(
 ) -> (Vec<Part<MemoryDevice>>, Vec<Part<MemoryDevice>>) {
     let Runner { shard, others, .. } = runner;
     let Shard { parts, core, .. } = shard;
-    drop_whole(core);
+    drop(core);
     (parts.parts, others)
 }

@@ -4,7 +4,6 @@ ghost use Rattle.r6_health.specs.Passes.{IsPassOf};
 
 use crate::blocks::{BLOCK, ROWS, SLOTS, filled, geometry_of, register_of};
 use crate::core_caller::serve;
-use crate::drops::drop_whole;
 use r6_core::{Core, Op, OpId, Reply};
 use r6_dev::MemoryDevice;
 use r6_health::{Pass, Register, Snapshot};
@@ -75,7 +74,7 @@ fn are_served_without_a_device<R: Wait + Abort>(rt: &R, alloc: Global) -> bool {
     let geometry = geometry_of(rt, 1);
     let mut bench = Bench::new(rt, alloc, geometry);
     let is_so = are_served(rt, &geometry, &mut bench);
-    drop_whole(bench);
+    drop(bench);
     is_so
 }
 

@@ -5,7 +5,6 @@ ghost use Rattle.r6_layout.specs.Shape.{IsShape};
 
 use crate::answers::Answer;
 use crate::blocks::filled;
-use crate::drops::drop_whole;
 use crate::meeting::Meeting;
 use crate::serve_bench::check_answer;
 use crate::steps::Ask;
@@ -176,7 +175,7 @@ fn each_shard_has_a_thread_of_its_own(rt: HostRuntime) -> Result<(), Fail> {
     match serve_guests(&rt, rt.alloc(), &geometry, &house) {
         Ok(served) => {
             check_met(&rt, &served);
-            drop_whole(served);
+            drop(served);
         }
         Err(refused) => {
             assert!(rt; house.commands.load(Ordering::SeqCst) == 0);

@@ -14,8 +14,6 @@ mod core_caller;
 #[cfg(test)]
 mod core_served;
 #[cfg(test)]
-mod drops;
-#[cfg(test)]
 mod guests;
 #[cfg(test)]
 mod lists;

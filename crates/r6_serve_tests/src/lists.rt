@@ -8,7 +8,6 @@ ghost use Rattle.r6_frames.specs.declared.op.Op.TheVariants as op;
 ghost use Rattle.r6_lists.specs.Events.{Request, Attach, Check, tasks_of, numbers_of, all_tasks};
 
 use crate::blocks::filled;
-use crate::drops::{drop_whole, is_nothing};
 use r6_dev::MemoryDevice;
 use r6_lists::{Consumer, Events, Item, List, Producer, Settlement, Work};
 use std::alloc::Global;
@@ -56,6 +55,11 @@ fn hand_out_all<L: Events, R: Wait>(
     if first.lock(rt).end(&mut producer) {
         second.lock(rt).end(&mut producer);
     }
+}
+
+// Whether there is no value. One that is there goes whole here: where it came from, each of its parts would.
+fn is_nothing<T: Drop>(value: Option<T>) -> bool {
+    value.is_none()
 }
 
 // Takes all that a shard is handed.
@@ -153,7 +157,7 @@ fn relay<L: Events + Send + Sync, R: Threads + Wait + Abort + Sync>(
     let consumers = put_and_take(rt, &lists.0, &lists.1, near, far, items, producer);
     settlement.add(consumers.0);
     settlement.add(consumers.1);
-    drop_whole(lists);
+    drop(lists);
     settlement.settle(&mut book)
 }
 

@@ -14,7 +14,6 @@ ghost use Rattle.r6_serve_tests.specs.Asks.{event_of, events_of};
 use crate::answers::{Answer, check_all};
 use crate::asks::Ask;
 use crate::blocks::{BLOCK, ROWS, filled, geometry_of, register_of};
-use crate::drops::drop_whole;
 use crate::shard_bench::{ALL_ROWS, parts_of};
 use r6_dev::MemoryDevice;
 use r6_health::{Pass, Register, Snapshot};
@@ -94,9 +93,9 @@ fn put<L: Events, R: Wait>(
     ensures { producer.new.lists ≡ producer.old.lists }
 {
     if producer.lists == 0 || producer.left == 0 {
-        return drop_whole(item);
+        return drop(item);
     }
-    drop_whole(list.lock(rt).put(item, producer));
+    drop(list.lock(rt).put(item, producer));
 }
 
 fn ask_at(asks: &[Ask], number: usize) -> Ask
@@ -267,6 +266,6 @@ pub(crate) fn take<R: Wait + Abort>(
     let blank = Blank::new(3);
     let runner = play::<Brand, R>(rt, alloc, blank, place, &register, first, rest, asks);
     let snapshot = register.read(rt, &mut caller);
-    drop_whole((register, caller));
+    drop((register, caller));
     Ended { runner, snapshot }
 }

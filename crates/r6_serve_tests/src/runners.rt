@@ -2,7 +2,6 @@
 
 use crate::answers::Answer;
 use crate::asks::Ask;
-use crate::drops::drop_whole;
 use crate::runner_bench::{Ended, take};
 use r6_core::Task;
 use r6_lists::Rest;
@@ -165,7 +164,7 @@ fn play<R: Wait + Abort>(rt: &R, alloc: Global, course: &Course<'_>, rest: &Rest
     let ended = take(rt, alloc, course.failed, course.attached, rest, course.asks);
     let is_found = rest.is_found(number) && !rest.is_found(rest.ask());
     check_end(rt, course.name, &ended, &course.end, is_found);
-    drop_whole(ended);
+    drop(ended);
 }
 
 #[test]

@@ -3,7 +3,6 @@
 use crate::answers::Answer;
 use crate::array::{Held, find};
 use crate::blocks::{SLOTS, filled};
-use crate::drops::drop_whole;
 use crate::serve_bench::{check_steps, play};
 use crate::steps::{Ask, Step};
 use r6_dev::MemoryDevice;
@@ -147,7 +146,7 @@ fn arrays_are_served(rt: HostRuntime) {
         for shards in array.shards {
             let served = play(&rt, rt.alloc(), *shards, array.is_spoiled, array.steps);
             check_array(&rt, array, &served);
-            drop_whole(served);
+            drop(served);
         }
     }
 }

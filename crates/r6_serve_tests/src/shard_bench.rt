@@ -8,7 +8,6 @@ ghost use Rattle.r6_shard.specs.Beginnings.{IsFirstPass};
 
 use crate::answers::{Answer, answer_in, check, check_all};
 use crate::blocks::{BLOCK, SLOTS, filled, geometry_of, register_of};
-use crate::drops::drop_whole;
 use r6_core::{Op, Refused};
 use r6_dev::MemoryDevice;
 use r6_health::{Pass, Register, Snapshot};
@@ -285,7 +284,7 @@ fn play_in_turn<R: Wait + Abort>(
         rt, "memory",
     );
     go_all(rt, alloc, &mut shard, register, caller, turns);
-    drop_whole(shard);
+    drop(shard);
 }
 
 // The requests are served, from the beginning of the shard to its end.
@@ -338,7 +337,7 @@ fn play_at_once<R: Wait + Abort>(
         wanted,
     );
     check_named(rt, &ended.shard, rows[1] == 0);
-    drop_whole(ended);
+    drop(ended);
 }
 
 // No slot was named, but slot 1 if it is lost.
@@ -405,5 +404,5 @@ pub(crate) fn play<R: Wait + Abort>(rt: &R, alloc: Global, courses: &[(Devices, 
             *course,
         );
     }
-    drop_whole((register, first, caller));
+    drop((register, first, caller));
 }
