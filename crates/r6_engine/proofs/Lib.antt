@@ -1,8 +1,8 @@
-mod RowLaws
-mod ReportLaws
-mod RebuildLaws
-mod FileLaws
-mod CheckLaws
-mod PartLaws
-mod ShardLaws
-mod TargetLaws
+mod EachShard
+mod Kept
+mod Numbers
+mod Passes
+mod Rows
+mod Reasons
+mod InOrder
+mod Named

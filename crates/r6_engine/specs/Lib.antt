@@ -1,8 +1,5 @@
-pub mod Parts
-pub mod Errors
-pub mod Rows
-pub mod Reports
-pub mod Rebuilds
-pub mod RowChecks
-pub mod PartReports
-pub mod ShardChecks
+pub mod Counted
+pub mod Refusals
+pub mod Serves
+pub mod Passes
+pub mod Named

@@ -6,12 +6,12 @@ use Rattle.std.proofs.lemmas.Result.{err_from_is_err_and}
 use Rattle.r6_dev.specs.OpenErrors.{IsOpenError}
 use Rattle.r6_dev.specs.declared.fault.Fault.TheVariants.{WriteFault}
 use Rattle.r6_dev.specs.declared.file.OpenError.TheVariants as refused
-use Rattle.r6_engine.specs.Errors as pass
-use Rattle.r6_engine.specs.Reports.{IsReadFault}
-use Rattle.r6_engine.specs.Parts.{Parts}
-use Rattle.r6_engine.specs.declared.error.EngineError.{EngineError}
-use Rattle.r6_engine.specs.declared.error.EngineError.TheVariants.{NoMemory, ThreadRefused, Device}
-use Rattle.r6_engine.specs.declared.report.RowFault.{RowFault}
+use Rattle.r6_offline.specs.Errors as pass
+use Rattle.r6_offline.specs.Reports.{IsReadFault}
+use Rattle.r6_offline.specs.Parts.{Parts}
+use Rattle.r6_offline.specs.declared.error.EngineError.{EngineError}
+use Rattle.r6_offline.specs.declared.error.EngineError.TheVariants.{NoMemory, ThreadRefused, Device}
+use Rattle.r6_offline.specs.declared.report.RowFault.{RowFault}
 use Rattle.r6_settings.specs.Settings.{Values, settings_in}
 use Rattle.r6_execute.specs.Commands.{IsMakingFault, IsReadingFault, IsSettingsFault, StopsOnDevices, StopsReport, StopsVerify}
 use Rattle.r6_execute.specs.Faults.{fault_of_pass}

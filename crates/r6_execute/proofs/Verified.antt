@@ -1,8 +1,8 @@
 -- Devices that were verified.
 use Rattle.std.proofs.Common.{◌≡◌, true, ℕ, List, Option, None, Result, Ok, Err, IfOk, IfSome}
-use Rattle.r6_engine.specs.Parts.{Parts, AreThoseNotLost}
-use Rattle.r6_engine.specs.Reports.{IsReport}
-use Rattle.r6_engine.specs.declared.report.Report.{Report}
+use Rattle.r6_offline.specs.Parts.{Parts, AreThoseNotLost}
+use Rattle.r6_offline.specs.Reports.{IsReport}
+use Rattle.r6_offline.specs.declared.report.Report.{Report}
 use Rattle.r6_layout.specs.Shape.{Shape}
 use Rattle.r6_settings.specs.Settings.{Values, settings_in}
 use Rattle.r6_execute.specs.declared.ending.Ending.{Ending}

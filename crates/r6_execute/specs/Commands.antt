@@ -4,9 +4,9 @@ use Rattle.std.specs.Prelude.{◌≡◌, ◌≢◌, ◌⊎◌, ◌<◌, ℕ, Boo
 use Rattle.std.specs.Io.KnownBytes.{Appends, Keeps}
 use Rattle.r6_command.specs.CommandLine.{Asked, geometry, create, verify, simulate, run}
 use Rattle.r6_dev.specs.declared.fault.Fault.TheVariants.{WriteFault}
-use Rattle.r6_engine.specs.Parts.{Parts, AreThoseNotLost}
-use Rattle.r6_engine.specs.Reports.{IsReport}
-use Rattle.r6_engine.specs.declared.report.Report.{Report}
+use Rattle.r6_offline.specs.Parts.{Parts, AreThoseNotLost}
+use Rattle.r6_offline.specs.Reports.{IsReport}
+use Rattle.r6_offline.specs.declared.report.Report.{Report}
 use Rattle.r6_layout.specs.Shape.{Shape}
 use Rattle.r6_run.specs.Runs.{HasRun}
 use Rattle.r6_run.specs.declared.ending.Ending as run_ending

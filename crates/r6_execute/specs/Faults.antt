@@ -1,8 +1,8 @@
 -- What the program says of a fault. The lines are this project's own.
 use Rattle.std.specs.Prelude.{ℕ, List, ◌++◌, codes, decimal}
 use Rattle.r6_dev.specs.Faults.{number_of}
-use Rattle.r6_engine.specs.declared.error.EngineError.{EngineError}
-use Rattle.r6_engine.specs.declared.error.EngineError.TheVariants as pass
+use Rattle.r6_offline.specs.declared.error.EngineError.{EngineError}
+use Rattle.r6_offline.specs.declared.error.EngineError.TheVariants as pass
 use Rattle.r6_run.specs.declared.fault.RunFault.{RunFault}
 use Rattle.r6_run.specs.declared.fault.RunFault.TheVariants as run
 use Rattle.r6_script.specs.Script as script

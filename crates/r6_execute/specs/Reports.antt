@@ -3,9 +3,9 @@ use Rattle.std.specs.Prelude.{ℕ, [], ◌∷◌, ◌++◌, codes, decimal, Opti
 use Rattle.r6_layout.specs.Shape.{Shape}
 use Rattle.r6_recover.specs.declared.class.RowClass.{RowClass}
 use Rattle.r6_recover.specs.declared.class.RowClass.TheVariants.{Consistent, WrongP, WrongQ, WrongData, Many}
-use Rattle.r6_engine.specs.declared.report.Counts.{Counts}
-use Rattle.r6_engine.specs.declared.report.Report.{Report}
-use Rattle.r6_engine.specs.declared.report.WrongRow.{WrongRow}
+use Rattle.r6_offline.specs.declared.report.Counts.{Counts}
+use Rattle.r6_offline.specs.declared.report.Report.{Report}
+use Rattle.r6_offline.specs.declared.report.WrongRow.{WrongRow}
 use Rattle.r6_script.specs.Script.{Text}
 use Rattle.r6_texts.specs.Texts.{line}
 

@@ -1,7 +1,7 @@
 -- The statuses with which the program ends. They are this project's own.
 use Rattle.std.specs.Prelude.{ℕ, Option, None, Some}
-use Rattle.r6_engine.specs.declared.report.Report.{Report}
-use Rattle.r6_engine.specs.declared.report.WrongRow.{WrongRow}
+use Rattle.r6_offline.specs.declared.report.Report.{Report}
+use Rattle.r6_offline.specs.declared.report.WrongRow.{WrongRow}
 use Rattle.r6_execute.specs.declared.fault.Fault.{Fault}
 use Rattle.r6_execute.specs.declared.fault.Fault.TheVariants.{NotText, Unreadable, Settings, Script, Device, Output, Memory, Thread}
 use Rattle.r6_execute.specs.declared.ending.Ending.{Ending}

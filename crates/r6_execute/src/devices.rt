@@ -1,9 +1,9 @@
 //! The commands `create` and `verify`, on the files of an array's devices.
 
 ghost use Rattle.std.specs.Prelude.{◌≡◌, IfErr, IfOk, OnOk, string_bytes};
-ghost use Rattle.r6_engine.specs.Errors.{IsOpeningFault};
-ghost use Rattle.r6_engine.specs.Parts.{Parts, AreThoseNotLost};
-ghost use Rattle.r6_engine.specs.Reports.{IsReport};
+ghost use Rattle.r6_offline.specs.Errors.{IsOpeningFault};
+ghost use Rattle.r6_offline.specs.Parts.{Parts, AreThoseNotLost};
+ghost use Rattle.r6_offline.specs.Reports.{IsReport};
 ghost use Rattle.r6_settings.specs.Settings.{values_of};
 ghost use Rattle.r6_execute.specs.Commands.{HasCreated, HasReported, HasVerified, IsMakingFault, StopsCreate, StopsReport, StopsVerify};
 ghost use Rattle.r6_execute.specs.Reports.{created_text};
@@ -15,8 +15,8 @@ use crate::output::print;
 use crate::read::read_settings;
 use crate::report::reported;
 use r6_dev::Access;
-use r6_engine::{EngineError, Report, create_files, open_parts};
 use r6_layout::Geometry;
+use r6_offline::{EngineError, Report, create_files, open_parts};
 use r6_settings::Config;
 use std::alloc::{AllocError, Global};
 use std::fmt::Write as _;
@@ -98,7 +98,7 @@ where
         config.lost.as_slice(),
         Access::Read,
     )?;
-    r6_engine::verify(rt, alloc, &config.geometry, parts.as_mut_slice(), err)
+    r6_offline::verify(rt, alloc, &config.geometry, parts.as_mut_slice(), err)
 }
 
 /// Reads every row of the devices of the settings, classifies it in one of several threads, and prints how many rows

@@ -2,7 +2,7 @@
 ghost use Rattle.std.specs.Prelude.{◌≡◌};
 
 use r6_dev::Fault as DeviceFault;
-use r6_engine::EngineError;
+use r6_offline::EngineError;
 use r6_run::RunFault;
 use r6_script::ScriptFault;
 use r6_settings::SettingsFault;

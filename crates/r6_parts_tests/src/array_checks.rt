@@ -3,7 +3,7 @@
 use crate::array::{Array, Broken, Filled, Part, ROWS, SLOTS};
 use crate::must::must;
 use r6_dev::Fault;
-use r6_engine::{Counts, Report, RowFault, Unwatched, Watch, WrongRow, check_all, verify};
+use r6_offline::{Counts, Report, RowFault, Unwatched, Watch, WrongRow, check_all, verify};
 use r6_recover::RowClass;
 use std::alloc::Global;
 use std::sync::Wait;

@@ -4,12 +4,12 @@ ghost use Rattle.std.specs.Prelude.{◌≡◌, ◌*◌, length, IfOk};
 
 use crate::must::must;
 use r6_dev::{Access, BlockDevice, Fault, FileDevice};
-use r6_engine::{
+use r6_kernels::Buffer;
+use r6_layout::Geometry;
+use r6_offline::{
     Counts, EngineError, Rebuilt, Report, RowFault, WrongRow, check_all, create_files, is_absent,
     open_parts, open_slot, rebuild_all,
 };
-use r6_kernels::Buffer;
-use r6_layout::Geometry;
 use r6_recover::RowClass;
 use std::fs::File;
 use std::process::Abort;

@@ -6,9 +6,9 @@ use crate::array::{Array, BLOCK, Broken, Filled, Part, ROWS, SLOTS};
 use crate::blocks::is_grown;
 use crate::must::must;
 use r6_dev::{BlockDevice, Fault};
-use r6_engine::{Rebuilt, RowFault, is_absent, rebuild_all};
 use r6_kernels::Buffer;
 use r6_layout::Geometry;
+use r6_offline::{Rebuilt, RowFault, is_absent, rebuild_all};
 use std::alloc::Global;
 use std::test::Fail;
 

@@ -1,4 +1,4 @@
-//! Tests of the crates below the core and of `r6_engine`: worked values from outside, each public call once, and courses
+//! Tests of the crates below the core and of `r6_offline`: worked values from outside, each public call once, and courses
 //! of calls.
 #![tactic(auto)]
 

@@ -4,9 +4,9 @@ ghost use Rattle.std.specs.Prelude.{◌≡◌, ◌*◌, length, IfOk};
 
 use crate::must::must;
 use r6_dev::{BlockDevice, Fault, MemoryDevice};
-use r6_engine::{Report, check_all};
 use r6_kernels::Buffer;
 use r6_layout::Geometry;
+use r6_offline::{Report, check_all};
 use std::alloc::{AllocError, Global};
 use std::sync::Wait;
 use std::sync::atomic::{AtomicBool, Ordering};

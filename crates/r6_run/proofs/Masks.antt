@@ -5,7 +5,7 @@ use Rattle.std.proofs.Math.Nat.{pow-le-pow_right, two-pow-succ}
 use Rattle.std.proofs.lemmas.Bool.Decides.{nat_tests}
 use Rattle.std.proofs.lemmas.Simd.{ones-mask_l, ones-mask_l_cons}
 use lib.Lanes.{mask_l}
-use Rattle.r6_engine.specs.Parts.{is_lost}
+use Rattle.r6_offline.specs.Parts.{is_lost}
 use Rattle.r6_run.specs.Arrays.{mask_from, mask_of}
 
 worth_below : (b : Bool) → cond b 1 0 ≤ 1

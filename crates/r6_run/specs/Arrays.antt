@@ -1,6 +1,6 @@
 -- An array as it begins (this project's own).
 use Rattle.std.specs.Prelude.{ℕ, zero, suc, ◌+◌, ◌*◌, cond, List}
-use Rattle.r6_engine.specs.Parts.{is_lost}
+use Rattle.r6_offline.specs.Parts.{is_lost}
 
 -- which of the slots from one on are lost, so many, a bit each, the lowest for the first
 abbrev pub mask_from : (lost : List ℕ) → (slot count : ℕ) → ℕ

@@ -1,6 +1,6 @@
 -- Why a script isn't run, by what the crates below say (this project's own).
-use Rattle.r6_engine.specs.declared.error.EngineError.{EngineError}
-use Rattle.r6_engine.specs.declared.error.EngineError.TheVariants as engine
+use Rattle.r6_offline.specs.declared.error.EngineError.{EngineError}
+use Rattle.r6_offline.specs.declared.error.EngineError.TheVariants as engine
 use Rattle.r6_threads.specs.declared.run.Refused.{Refused}
 use Rattle.r6_threads.specs.declared.run.Refused.TheVariants as threads
 use Rattle.r6_run.specs.declared.fault.RunFault.{RunFault}

@@ -11,14 +11,14 @@ use Rattle.r6_health.specs.Registers.{starting}
 use Rattle.r6_health.specs.Views.{first_of}
 use Rattle.r6_health.specs.declared.history.View.{View}
 use Rattle.r6_frames.specs.Views.{buffer_of, op_of}
-use Rattle.r6_engine.specs.Parts.{tells_nothing}
+use Rattle.r6_offline.specs.Parts.{tells_nothing}
 use Rattle.r6_shard.specs.declared.parts.Parts.{Parts}
 use Rattle.r6_runner.specs.declared.runner.Runner.{Runner}
 use Rattle.r6_feed.specs.Events.{events_of}
 use Rattle.r6_feed.specs.declared.answer.EventAnswer.{EventAnswer}
 use Rattle.r6_feed.specs.declared.event.Event as feed
 use Rattle.r6_feed.specs.declared.event.Event.TheVariants as fed
-use Rattle.r6_serve.specs.Serves.{HasAnswered, HaveServed}
+use Rattle.r6_engine.specs.Serves.{HasAnswered, HaveServed}
 use Rattle.r6_script.specs.Script.{Text}
 use Rattle.r6_run_script.specs.declared.event.Event.{Event}
 use Rattle.r6_run_script.specs.declared.event.Event.TheVariants.{Read, Write, Wait, Fail, Attach, Check, Repair}

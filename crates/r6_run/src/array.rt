@@ -2,7 +2,7 @@
 
 ghost use Rattle.std.specs.Prelude.{◌≡◌, ◌≤◌, ◌<◌, ◌^◌, count_ones, length, IfOk};
 ghost use Rattle.r6_settings.specs.Settings.{MayBeLost};
-ghost use Rattle.r6_engine.specs.Parts.{is_lost};
+ghost use Rattle.r6_offline.specs.Parts.{is_lost};
 ghost use Rattle.r6_run.specs.Arrays.{mask_of};
 
 use r6_layout::Geometry;

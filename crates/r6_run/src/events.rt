@@ -9,11 +9,11 @@ ghost use Rattle.r6_run.specs.Runs.{IsAsked};
 
 use crate::fault::RunFault;
 use r6_dev::{Access, FileDevice};
-use r6_engine::open_slot;
 use r6_feed::Event;
 use r6_frames::Op;
 use r6_kernels::Buffer;
 use r6_layout::Geometry;
+use r6_offline::open_slot;
 use r6_run_script::Event as Entry;
 use r6_texts::block_of;
 use std::alloc::{AllocError, Global};

@@ -3,7 +3,7 @@
 ghost use Rattle.std.specs.Prelude.{◌≡◌};
 
 use r6_dev::Fault as DeviceFault;
-use r6_engine::EngineError;
+use r6_offline::EngineError;
 use r6_threads::Refused;
 use std::alloc::{AllocError, AllocFailed};
 

@@ -1,5 +1,5 @@
 use Rattle.std.proofs.Common.{ℕ, List, sym, subst}
-use Rattle.r6_engine.specs.Parts.{AreThoseNotLost, parts_of, tells_nothing}
+use Rattle.r6_offline.specs.Parts.{AreThoseNotLost, parts_of, tells_nothing}
 use Rattle.r6_execute.proofs.Verified.{gone_over}
 use Rattle.r6_execute.proofs.devices.gone_over.Goals as goal
 

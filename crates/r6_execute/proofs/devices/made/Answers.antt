@@ -1,7 +1,7 @@
 use Rattle.std.proofs.Common.{◌≡◌, ◌∙◌, ℕ, length, ap, sym, subst}
 use Rattle.std.proofs.lemmas.List.{length-map}
 use Rattle.std.specs.Prelude.{string_bytes}
-use Rattle.r6_engine.specs.Errors as pass
+use Rattle.r6_offline.specs.Errors as pass
 use Rattle.r6_settings.specs.Settings.{values_of}
 use Rattle.r6_execute.specs.Commands.{IsMakingFault}
 use Rattle.r6_execute.specs.Faults.{fault_of_pass}

@@ -1,6 +1,6 @@
 use Rattle.std.proofs.Common.{IfSome, subst}
 use Rattle.std.proofs.lemmas.Result.{IfErr-weaker, IfOk-weaker}
-use Rattle.r6_engine.specs.Reports.{IsReadFault}
+use Rattle.r6_offline.specs.Reports.{IsReadFault}
 use Rattle.r6_settings.specs.Settings.{values_of}
 use Rattle.r6_execute.specs.Commands.{HasReported, HasVerified, IsReadingFault, StopsReport, StopsVerify}
 use Rattle.r6_execute.specs.Faults.{fault_of_pass}

@@ -4,9 +4,9 @@ use Rattle.r6_health.specs.Histories.{held, start_losing}
 use Rattle.r6_health.specs.Passes.{view_of}
 use Rattle.r6_health.specs.Registers.{starting}
 use Rattle.r6_health.specs.Views.{first_of}
-use Rattle.r6_engine.specs.Parts.{tells_nothing}
+use Rattle.r6_offline.specs.Parts.{tells_nothing}
 use Rattle.r6_feed.specs.Events.{events_of}
-use Rattle.r6_serve.specs.Serves.{HasAnswered, HaveServed}
+use Rattle.r6_engine.specs.Serves.{HasAnswered, HaveServed}
 use Rattle.r6_world.specs.Registers.{Snapshot}
 use Rattle.r6_run.specs.Ends.{ending_of}
 use Rattle.r6_run.specs.Runs.{report_text}

@@ -1,0 +1,76 @@
+-- Sound slots are left alone, shard by shard.
+use Rattle.std.proofs.Common.{◌≡◌, ◌∙◌, ℕ, List, All, Bool, true, false, inl, inr, refl, sym, ap, subst, slice_index_or}
+use Rattle.std.specs.Prelude.{◌==◌}
+use Rattle.std.specs.List.{AllZip}
+use Rattle.std.proofs.lemmas.Bool.{cases_Bool, eqb-true, false≢true}
+use Rattle.r6_dev.specs.History.{Telling}
+use Rattle.r6_dev.specs.Promises.{Promise}
+use Rattle.r6_layout.specs.Shape.{Shape}
+use Rattle.r6_health.specs.Passes.{view_of}
+use Rattle.r6_health.specs.declared.call.Call.{Call}
+use Rattle.r6_health.specs.declared.call.Call.TheVariants.{DeclareLost}
+use Rattle.r6_health.specs.declared.history.Made.{Made}
+use Rattle.r6_world.specs.Registers.{Snapshot}
+use Rattle.r6_shard.specs.declared.parts.Parts.{Parts}
+use Rattle.r6_shard.specs.Own.{AreOwn, is_own}
+use Rattle.r6_shard.specs.Sound.{StartsSound}
+use Rattle.r6_feed.specs.declared.event.Event.{Event}
+use Rattle.r6_feed.specs.declared.event.Event.TheVariants.{Request, Wait, Fail, Attach, Check, Repair}
+use Rattle.r6_feed.specs.Events.{IsPromised, ArePromised}
+use Rattle.r6_runner.specs.declared.runner.Runner.{Runner}
+use Rattle.r6_runner.specs.Sound.{KeepsPromised}
+use Rattle.r6_runner.specs.Splitting.{KeepsAll}
+use Rattle.r6_engine.specs.Named.{AttachFailsNone, AttachesFailNone, declares, LeaveSoundAlone, BeginsSound}
+use Rattle.r6_engine.specs.Passes.{CallAsTheyMay}
+use Rattle.r6_engine.specs.Serves.{AreNumbered}
+use Rattle.r6_engine.proofs.EachShard.{partner_at, number_at, some_same}
+
+one-promised : {D : Type 0} (promised : D → Promise) (shape : Shape) (Sound : ℕ → ℕ → Type 0) (event : Event D)
+    → ((shard slot : ℕ) → Sound shard slot → AttachFailsNone promised shape shard slot event) → IsPromised promised shape Sound event
+one-promised promised shape Sound (Attach slot parts) f = λ shard sound. f shard slot sound refl
+one-promised promised shape Sound (Request op) f = tt
+one-promised promised shape Sound Wait f = tt
+one-promised promised shape Sound (Fail slot) f = tt
+one-promised promised shape Sound Check f = tt
+one-promised promised shape Sound Repair f = tt
+
+pub are-promised : {D : Type 0} (promised : D → Promise) (shape : Shape) (Sound : ℕ → ℕ → Type 0) (events : List (Event D))
+    → ((shard slot : ℕ) → Sound shard slot → AttachesFailNone promised shape shard slot events) → ArePromised promised shape Sound events
+are-promised promised shape Sound events f k d below =
+    one-promised promised shape Sound (slice_index_or events k d) (λ shard slot sound. f shard slot sound k d below)
+
+-- a slot that isn't named was never declared lost
+not-declared : (shard : ℕ) (named : List Bool) (slot : ℕ) → slice_index_or named slot false ≡ false → (call : Call)
+    → is_own shard named call ≡ true → declares slot call ≡ false
+not-declared shard named slot unnamed (DeclareLost other generation) own = elim (cases_Bool (other == slot)) [
+  | inl same ↦ absurd (false≢true (sym unnamed ∙ ap (λ y. slice_index_or named y false) (sym (eqb-true other slot same)) ∙ own))
+  | inr apart ↦ apart
+]
+not-declared shard named slot unnamed call own = refl
+
+none-declared : (shard : ℕ) (named : List Bool) (slot : ℕ) (mine : List Made) → slice_index_or named slot false ≡ false
+    → AreOwn shard named mine → All (λ made. declares slot made.call ≡ false) mine
+none-declared shard named slot mine unnamed own k d below =
+    not-declared shard named slot unnamed (slice_index_or mine k d).call (own k d below)
+
+pub leave_sound_alone : {D T : Type 0} (told : D → Telling) (promised : D → Promise) (shape : Shape) (Sound : ℕ → ℕ → Type 0) (start : Snapshot)
+    (events : List (Event D)) (number : T → ℕ) (runner : T → Runner D) (parts : List (Parts D)) (olds news : List T) (runners : List (Runner D))
+    → AllZip (λ p t. BeginsSound told promised shape start p (number t) (runner t)) parts olds
+    → AllZip (λ a b. KeepsPromised told promised shape Sound (number a) (runner a) (runner b)) olds news
+    → AreNumbered number olds → AllZip (λ t r. KeepsAll told (runner t) r) news runners → CallAsTheyMay runners
+    → ((shard slot : ℕ) → AttachesFailNone promised shape shard slot events → Sound shard slot)
+    → LeaveSoundAlone promised shape start parts events runners
+leave_sound_alone {D = D} told promised shape Sound start events number runner parts olds news runners begins run numbered kept calls sound shard slot own r part_at runner_at starts attaches =
+    let new = partner_at (λ t y. KeepsAll told (runner t) y) news runners shard r kept runner_at in
+    let old = partner_at (λ a b. KeepsPromised told promised shape Sound (number a) (runner a) (runner b)) olds news shard new.0 run new.1 in
+    let first = partner_at (λ p t. BeginsSound told promised shape start p (number t) (runner t)) parts olds shard old.0 begins old.1 in
+    let part : first.0 ≡ own = some_same first.0 own (sym first.1 ∙ part_at) in
+    let there : number old.0 ≡ shard = number_at number olds shard old.0 old.1 numbered in
+    let begun = first.2 slot
+    (subst (λ (y : Parts D). StartsSound promised shape (number old.0) start slot y.parts.items) (sym part)
+    (subst (λ n. StartsSound promised shape n start slot own.parts.items) (sym there) starts)) in
+    let ran = old.2 slot (subst (λ n. Sound n slot) (sym there) (sound shard slot attaches)) begun in
+    let unnamed : slice_index_or r.shard.named slot false ≡ false = ap (λ y. slice_index_or y slot false) new.2.shard.named ∙ ran.unnamed in (
+      unnamed,
+      none-declared shard r.shard.named slot (view_of r.shard.pass).mine unnamed (calls shard r runner_at),
+    )

@@ -1,6 +1,0 @@
-use Rattle.std.proofs.Common.{◌≡◌, length}
-use Rattle.r6_engine.specs.RowChecks.{AllFit}
-use Rattle.r6_engine.proofs.batch.new_rows.Given as goal
-
-abbrev pub invariant-loop : goal.invariant-loop
-invariant-loop l = record { count : length l.batch.items ≡ l.counter; room : AllFit l.geometry l.batch.items }

@@ -1,6 +1,0 @@
-use Rattle.std.proofs.Common.{ap, sym}
-use Rattle.r6_engine.specs.Errors.{number_of}
-use Rattle.r6_engine.proofs.error.EngineError.number.Goals as goal
-
-pub returns-in-ThreadRefused : goal.returns-in-ThreadRefused
-returns-in-ThreadRefused c = ap number_of (sym c.in-ThreadRefused.is)

@@ -1,5 +1,0 @@
-use Rattle.std.proofs.Common.{refl, arith}
-use Rattle.r6_engine.proofs.files.create_file.Goals as goal
-
-pub returns : goal.returns
-returns g c = (omega arith, refl)

@@ -1,5 +1,0 @@
-use Rattle.r6_engine.proofs.FileLaws.{Opened}
-use Rattle.r6_engine.proofs.files.open_parts.Given as goal
-
-abbrev pub invariant-loop-number : goal.invariant-loop-number
-invariant-loop-number g l = Opened l.geometry.slots l.lost l.number l.parts.items

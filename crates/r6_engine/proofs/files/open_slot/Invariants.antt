@@ -1,5 +1,0 @@
-use Rattle.std.proofs.Common.{◌≡◌, ◌≤◌, length, vec_capacity}
-use Rattle.r6_engine.proofs.files.open_slot.Given as goal
-
-abbrev pub invariant-loop-shard : goal.invariant-loop-shard
-invariant-loop-shard g l = (length l.parts.items ≡ l.shard) × (l.shards ≤ vec_capacity l.parts)

@@ -1,0 +1,91 @@
+use Rattle.std.proofs.Common.{◌≡◌, ◌≤◌, ◌∙◌, ℕ, [], ap, length, subst, sym}
+use Rattle.r6_lists.specs.Events.{tasks_of}
+use Rattle.r6_shard.specs.Parts.{part_in}
+use Rattle.r6_shard.specs.Handing.{parts_tell}
+use Rattle.r6_runner.specs.Counted.{HasCounted, rows_of_shard}
+use Rattle.r6_runner.specs.Runners.{HasDone}
+use Rattle.r6_runner.specs.Waits.{HasAwaited}
+use Rattle.r6_shard.specs.Sound.{StartsSound}
+use Rattle.r6_runner.specs.Sound.{IsSoundIn}
+use Rattle.r6_engine.proofs.making.taking_of.Goals as goal
+
+pub returns-clause-begins : goal.returns-clause-begins
+returns-clause-begins g c =
+    let told = g.D.BlockDevice.told in
+    let shape = g.L.Events.shape in
+    let events = g.L.Events.events in
+    let done = c.in_ok-runner.ensures.begins shape events in
+    let own : c.new-2.result.consumer.shard ≡ c.args.place.number = ap (λ consumer. consumer.shard) c.new-2.ensures.1 ∙ c.in_ok-consumer.ensures.shard in
+    record {
+      none_taken = ap (λ consumer. consumer.numbers.items) c.new-2.ensures.1 ∙ c.in_ok-consumer.ensures.empty.0;
+      place = ap (λ runner. runner.shard.core.shard) c.new-2.ensures.0 ∙ c.in_ok-runner.ensures.place ∙ sym own;
+      done = subst (λ r. HasDone told shape events shape c.new-2.result.consumer.shard c.args.start.now (parts_tell told c.args.parts) [] r)
+          (sym c.new-2.ensures.0)
+          (subst (λ s. HasDone told shape events s c.new-2.result.consumer.shard c.args.start.now (parts_tell told c.args.parts) []
+          c.in_ok-runner.runner) c.requires.shape
+          (subst (λ n. HasDone told shape events c.args.place.geometry n c.args.start.now (parts_tell told c.args.parts) [] c.in_ok-runner.runner)
+          (sym own)
+          (subst (λ items. HasDone told shape events c.args.place.geometry c.args.place.number c.args.start.now (part_in told items) []
+          c.in_ok-runner.runner) c.in_ok-roomy.ensures done)));
+      counted = subst (λ r. HasCounted (rows_of_shard shape c.new-2.result.consumer.shard) r) (sym c.new-2.ensures.0)
+          (subst (λ s. HasCounted (rows_of_shard s c.new-2.result.consumer.shard) c.in_ok-runner.runner) c.requires.shape
+          (subst (λ n. HasCounted (rows_of_shard c.args.place.geometry n) c.in_ok-runner.runner) (sym own)
+          c.in_ok-runner.ensures.counted));
+      awaited = subst (HasAwaited events) (sym c.new-2.ensures.0) (c.in_ok-runner.ensures.awaited events);
+    }
+
+pub returns-clause-sound : goal.returns-clause-sound
+returns-clause-sound g c = λ slot x.
+    let told = g.D.BlockDevice.told in
+    let promised = g.D.BlockDevice.promised in
+    let shape = g.L.Events.shape in
+    let start = c.args.start.now in
+    let number = c.new-2.result.consumer.shard in
+    let own : number ≡ c.args.place.number = ap (λ consumer. consumer.shard) c.new-2.ensures.1 ∙ c.in_ok-consumer.ensures.shard in
+    let roomy = subst (λ items. StartsSound promised shape number start slot items) (sym c.in_ok-roomy.ensures) x in
+    subst (λ r. IsSoundIn told promised shape number slot r) (sym c.new-2.ensures.0)
+    (subst (λ n. IsSoundIn told promised shape n slot c.in_ok-runner.runner) (sym own)
+    (subst (λ s. IsSoundIn told promised s c.args.place.number slot c.in_ok-runner.runner) c.requires.shape
+    (c.in_ok-runner.ensures.sound slot
+    (subst (λ s. StartsSound promised s c.args.place.number start slot c.in_ok-roomy.roomy.parts.items) (sym c.requires.shape)
+    (subst (λ n. StartsSound promised shape n start slot c.in_ok-roomy.roomy.parts.items) own roomy)))))
+
+pub with_capacity-requires-clause-room : goal.with_capacity-requires-clause-room
+with_capacity-requires-clause-room g c = c.requires.room
+
+pub with_capacity-requires-clause-part : goal.with_capacity-requires-clause-part
+with_capacity-requires-clause-part g c = c.requires.part
+
+pub new-requires-clause-limits : goal.new-requires-clause-limits
+new-requires-clause-limits g c = c.requires.limits
+
+pub new-requires-clause-number : goal.new-requires-clause-number
+new-requires-clause-number g c = c.requires.number
+
+pub new-requires-clause-window : goal.new-requires-clause-window
+new-requires-clause-window g c = c.requires.window
+
+pub new-requires-clause-no_attach : goal.new-requires-clause-no_attach
+new-requires-clause-no_attach g c = c.requires.no_attach
+
+pub new-requires-clause-unfailed : goal.new-requires-clause-unfailed
+new-requires-clause-unfailed g c = c.requires.unfailed
+
+pub new-requires-clause-pass : goal.new-requires-clause-pass
+new-requires-clause-pass g c = c.requires.pass
+
+pub returns-clause-number : goal.returns-clause-number
+returns-clause-number g c = ap (λ consumer. consumer.shard) c.new-2.ensures.1 ∙ c.in_ok-consumer.ensures.shard
+
+pub returns-clause-pass : goal.returns-clause-pass
+returns-clause-pass g c = ap (λ runner. runner.shard.pass) c.new-2.ensures.0 ∙ c.in_ok-runner.ensures.pass
+
+pub new-requires-2-clause-fresh : goal.new-requires-2-clause-fresh
+new-requires-2-clause-fresh g c = (c.in_ok-runner.ensures.room.1, c.in_ok-consumer.ensures.empty.0)
+
+pub new-requires-2-clause-room : goal.new-requires-2-clause-room
+new-requires-2-clause-room g c =
+    let shape = g.L.Events.shape in
+    let events = g.L.Events.events in
+    subst (λ (n : ℕ). length (tasks_of shape c.in_ok-consumer.consumer.shard events) ≤ n) (sym c.in_ok-runner.ensures.room.0)
+    (subst (λ (n : ℕ). length (tasks_of shape n events) ≤ c.args.room.tasks) (sym c.in_ok-consumer.ensures.shard) c.requires.room)

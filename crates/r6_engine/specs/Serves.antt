@@ -1,0 +1,71 @@
+-- What the threads of an array's shards have done.
+use Rattle.std.specs.Prelude.{◌≡◌, ℕ, ◌<◌, List, [], length, map, All, slice_get, slice_index_or, Some, Bool, true, false}
+use Rattle.r6_dev.specs.History.{Telling}
+use Rattle.r6_layout.specs.Shape.{Shape}
+use Rattle.r6_health.specs.declared.history.View.{View}
+use Rattle.r6_world.specs.Registers.{Snapshot}
+use Rattle.r6_lists.specs.Events.{Event, tasks_of, numbers_of}
+use Rattle.r6_shard.specs.declared.parts.Parts.{Parts}
+use Rattle.r6_shard.specs.Handing.{parts_tell}
+use Rattle.r6_feed.specs.declared.answer.EventAnswer.{EventAnswer}
+use Rattle.r6_feed.specs.Feeds.{asked_before, asked_in, calls_of, is_unsettled, WereTold}
+use Rattle.r6_runner.specs.declared.runner.Runner.{Runner}
+use Rattle.r6_runner.specs.Counted.{AreCounted, HasCounted, rows_of_shard}
+use Rattle.r6_runner.specs.Runners.{GoesOn, HasDone, IsOver}
+use Rattle.r6_runner.specs.Waits.{AreBehindWaits, HasAwaited}
+use Rattle.r6_engine.specs.Counted.{CountEachRow}
+use Rattle.r6_engine.specs.Refusals.{HadReasons, WereRight}
+
+-- the thread of a shard took what its list had until that was finished, and did it
+pub record HasRun {D : Type 0} (told : D → Telling) (shape : Shape) (events : List Event)
+    (shard : ℕ) (numbers : List ℕ) (old : Runner D)
+    (shard' : ℕ) (numbers' : List ℕ) (finished : Bool) (new : Runner D) : Type 0 where
+  pub same : shard' ≡ shard
+  pub place : new.shard.core.shard ≡ old.shard.core.shard
+  pub course : GoesOn told shape events shard numbers numbers' old new
+  pub counted : (rows : ℕ) → HasCounted rows old → AreCounted rows new.shard.core new.passed.items
+  pub awaited : HasAwaited events old → HasAwaited events new
+  pub all_taken : finished ≡ true
+  pub over : IsOver new
+
+-- the thread of a shard begins: nothing was taken yet
+pub record Begins {D : Type 0} (told : D → Telling) (shape : Shape) (events : List Event) (start : Snapshot)
+    (parts : Parts D) (shard : ℕ) (numbers : List ℕ) (runner : Runner D) : Type 0 where
+  pub none_taken : numbers ≡ []
+  pub place : runner.shard.core.shard ≡ shard
+  pub done : HasDone told shape events shape shard start (parts_tell told parts) [] runner
+  pub counted : HasCounted (rows_of_shard shape shard) runner
+  pub awaited : HasAwaited events runner
+
+-- the numbers of the shards, from 0 on
+abbrev pub AreNumbered : {T : Type 0} → (T → ℕ) → List T → Type 0
+AreNumbered {T} number threads = (k : ℕ) (d : T) → k < length threads → number (slice_index_or threads k d) ≡ k
+
+-- a shard was handed all of its part of these events, in their order, and nothing of it is left to do; it refused
+-- requests for these reasons alone, and those that it accepted were handed in behind the waits
+pub record HasServed {D : Type 0} (told : D → Telling) (shape : Shape) (events : List Event) (start : Snapshot)
+    (parts : Parts D) (shard : ℕ) (runner : Runner D) : Type 0 where
+  pub done : HasDone told shape events shape shard start (parts_tell told parts)
+      (numbers_of (tasks_of shape shard events)) runner
+  pub refused : HadReasons shape.block events runner.shard.core runner.refused.items
+  pub right : WereRight shape.block events runner.shard.asked.items
+  pub behind : AreBehindWaits events runner.shard.asked.items
+  pub counted : AreCounted (rows_of_shard shape shard) runner.shard.core runner.passed.items
+  pub over : IsOver runner
+
+-- each shard did so, from its parts on, and has its runner
+pub record HaveServed {D : Type 0} (told : D → Telling) (shape : Shape) (events : List Event) (start : Snapshot)
+    (parts : List (Parts D)) (runners : List (Runner D)) : Type 0 where
+  pub as_many : length runners ≡ length parts
+  pub each : (shard : ℕ) (own : Parts D) (runner : Runner D) → slice_get parts shard ≡ Some own
+      → slice_get runners shard ≡ Some runner → HasServed told shape events start own shard runner
+  pub counted : CountEachRow shape events runners
+
+-- what no shard answers was answered, each event once and in the order of the events, to a thread whose pass knew this
+-- first
+pub record HasAnswered (shape : Shape) (events : List Event) (first : View) (answers : List EventAnswer) (last : View)
+    : Type 0 where
+  pub asked : map asked_in answers ≡ asked_before shape events (length events)
+  pub own : last.mine ≡ calls_of answers
+  pub settled : All (λ answer. is_unsettled answer.outcome ≡ false) answers
+  pub told : WereTold first answers last

@@ -1,0 +1,191 @@
+//! What the threads begin with is made, before any of them is there.
+
+ghost use Rattle.std.specs.Prelude.{◌≡◌, ◌+◌, ◌<◌, ◌≤◌, All, length, IfOk, OnOk, false};
+ghost use Rattle.r6_layout.specs.Shape.{IsShape};
+ghost use Rattle.std.specs.List.{AllZip};
+ghost use Rattle.r6_health.specs.Passes.{IsPassOf, view_of};
+ghost use Rattle.r6_shard.specs.Beginnings.{IsFirstPass};
+ghost use Rattle.r6_lists.specs.Events.{tasks_of};
+ghost use Rattle.r6_feed.specs.Events.{events_of};
+ghost use Rattle.r6_engine.specs.Named.{BeginsSound};
+ghost use Rattle.r6_engine.specs.Serves.{AreNumbered, Begins};
+
+use r6_dev::BlockDevice;
+use r6_feed::{Event, count_tasks};
+use r6_health::{Pass, Register, Snapshot};
+use r6_layout::Geometry;
+use r6_lists::{Consumer, Events, List, Rest};
+use r6_runner::{Runner, Taking};
+use r6_shard::{Parts, Place};
+use std::alloc::{AllocError, Global};
+use std::sync::Mutex;
+use std::sync::ledger::Share;
+
+// The list of each shard, empty, with room for so many items and a part of the ledger.
+pub(crate) fn lists_of<L: Events, D: BlockDevice + Drop>(
+    alloc: Global,
+    shards: usize,
+    capacity: usize,
+    share: &mut Share<L>,
+) -> Result<Vec<Mutex<List<L, D>>>, AllocError>
+    requires parts { (shards ≤ share.old.parts) × (share.old.amount ≡ 0) }
+    ensures shards { IfOk result (λ lists. length lists.items ≡ shards) }
+    ensures parts { OnOk result (share.new.parts + shards ≡ share.old.parts) }
+    ensures amount { OnOk result (share.new.amount ≡ 0) }
+{
+    let mut lists = Vec::with_capacity(alloc, shards)?;
+    for shard in 0..shards {
+        let stock = share.split_off(1, 0);
+        lists.push_reserved(Mutex::new(List::with_capacity(alloc, shard, capacity, stock)?));
+    }
+    Ok(lists)
+}
+
+// Where each shard is asked for its rest.
+pub(crate) fn rests_of(alloc: Global, shards: usize) -> Result<Vec<Rest>, AllocError>
+    ensures { IfOk result (λ rests. length rests.items ≡ shards) }
+{
+    let mut rests = Vec::with_capacity(alloc, shards)?;
+    for _ in 0..shards {
+        rests.push_reserved(Rest::new());
+    }
+    Ok(rests)
+}
+
+/// For how much a shard's thread has room.
+#[derive(Clone, Copy)]
+pub(crate) struct Room {
+    pub(crate) tasks: usize,
+    /// Parts of new devices, which come beside those that are there.
+    pub(crate) parts: usize,
+}
+
+// The same parts, with room for so many more.
+fn with_room<D: Drop>(parts: Parts<D>, more: usize) -> Result<Parts<D>, AllocError>
+    ensures { IfOk result (λ roomy. roomy.parts.items ≡ parts.parts.items) }
+{
+    let Parts { mut parts } = parts;
+    parts.reserve(more)?;
+    Ok(Parts { parts })
+}
+
+// A shard as its thread begins, with this room.
+pub(crate) fn taking_of<L: Events, D: BlockDevice + Drop>(
+    alloc: Global,
+    place: Place,
+    start: &Snapshot,
+    pass: Pass,
+    parts: Parts<D>,
+    room: Room,
+    share: Share<L>,
+) -> Result<Taking<L, D>, AllocError>
+    requires shape { place.geometry ≡ L.shape }
+    requires room { length (tasks_of L.shape place.number L.events) ≤ room.tasks }
+    requires part { (share.parts ≡ 1) × (share.amount ≡ 0) }
+    requires limits { IsShape place.geometry }
+    requires number { place.number < place.geometry.shards }
+    requires window { (1 ≤ place.window) × (place.window ≤ 8) }
+    requires no_attach { start.now.attaches ≡ 0 }
+    requires unfailed { start.now.failed ≡ false }
+
+    requires pass { IsFirstPass place.geometry start.now (view_of pass) }
+
+    // the shard has nothing behind it, and is sound where its parts are
+    ensures begins { IfOk result (λ taking. Begins D.told L.shape L.events start.now parts taking.consumer.shard
+        taking.consumer.numbers.items taking.runner) }
+    ensures sound { IfOk result (λ taking. BeginsSound D.told D.promised L.shape start.now parts taking.consumer.shard
+        taking.runner) }
+
+    // it is that of the place, with the pass that was handed in
+    ensures number { IfOk result (λ taking. taking.consumer.shard ≡ place.number) }
+    ensures pass { IfOk result (λ taking. taking.runner.shard.pass ≡ pass) }
+{
+    let consumer = Consumer::with_capacity(alloc, place.number, room.tasks, share)?;
+    let roomy = with_room(parts, room.parts)?;
+    let runner = Runner::new(alloc, place, start, pass, roomy, room.tasks)?;
+    Ok(Taking::new(runner, consumer))
+}
+
+/// An array, as its shards' threads begin.
+#[derive(Clone, Copy)]
+pub(crate) struct Opening<'a> {
+    pub(crate) geometry: &'a Geometry,
+    pub(crate) window: usize,
+    pub(crate) register: &'a Register,
+    pub(crate) start: &'a Snapshot,
+}
+
+// As many tasks as a shard has of the events.
+fn room_for<D: BlockDevice>(geometry: &Geometry, events: &[Event<D>], shard: usize) -> usize
+    ensures { result ≡ length (tasks_of geometry.now shard (events_of D.told events.now)) }
+{
+    count_tasks(geometry, events, shard) as usize
+}
+
+// How many new devices come.
+fn attaches_in<D: BlockDevice>(events: &[Event<D>]) -> usize {
+    events
+        .iter()
+        .filter(|event| matches!(event, Event::Attach(..)))
+        .count()
+}
+
+// The shards as their threads begin, from the first on, each with a pass of its own.
+pub(crate) fn takings_of<L: Events, D: BlockDevice + Drop>(
+    alloc: Global,
+    opening: &Opening<'_>,
+    first: &mut Pass,
+    parts: Vec<Parts<D>>,
+    events: &[Event<D>],
+    share: &mut Share<L>,
+) -> Result<Vec<Taking<L, D>>, AllocError>
+    requires shape { opening.now.geometry.now ≡ L.shape }
+    requires events { events_of D.told events.now ≡ L.events }
+    requires whole { length parts.items ≡ L.shape.shards }
+    requires parts { (L.shape.shards ≤ share.old.parts) × (share.old.amount ≡ 0) }
+
+    // the array as its threads begin
+    requires limits { IsShape L.shape }
+    requires window { (1 ≤ opening.now.window) × (opening.now.window ≤ 8) }
+    requires no_attach { opening.now.start.now.attaches ≡ 0 }
+    requires unfailed { opening.now.start.now.failed ≡ false }
+
+    // the pass from which each shard's is split
+    requires pass { IsPassOf opening.now.register.now first.old }
+    requires first { IsFirstPass L.shape opening.now.start.now (view_of first.old) }
+
+    ensures pass { IsPassOf opening.now.register.now first.new }
+    ensures same { view_of first.new ≡ view_of first.old }
+
+    // one shard for each part, in their order, as it begins
+    ensures begins { IfOk result (λ takings. AllZip (λ parts taking. Begins D.told L.shape L.events
+        opening.now.start.now parts taking.consumer.shard taking.consumer.numbers.items taking.runner)
+        parts.items takings.items) }
+    ensures sound { IfOk result (λ takings. AllZip (λ parts taking. BeginsSound D.told D.promised L.shape
+        opening.now.start.now parts taking.consumer.shard taking.runner) parts.items takings.items) }
+    ensures numbered { IfOk result (λ takings. AreNumbered (λ taking. taking.consumer.shard) takings.items) }
+    ensures passes { IfOk result (λ takings.
+        All (λ taking. IsPassOf opening.now.register.now taking.runner.shard.pass) takings.items) }
+
+    // so many parts less are left to share
+    ensures parts { OnOk result (share.new.parts + L.shape.shards ≡ share.old.parts) }
+    ensures amount { OnOk result (share.new.amount ≡ 0) }
+{
+    let mut takings = Vec::with_capacity(alloc, parts.len())?;
+    for parts in parts {
+        let place = Place {
+            geometry: *opening.geometry,
+            number: takings.len(),
+            window: opening.window,
+        };
+        let pass = opening.register.split(first);
+        let room = Room {
+            tasks: room_for(opening.geometry, events, place.number),
+            parts: attaches_in(events),
+        };
+        let part = share.split_off(1, 0);
+        let taking = taking_of(alloc, place, opening.start, pass, parts, room, part)?;
+        takings.push_reserved(taking);
+    }
+    Ok(takings)
+}

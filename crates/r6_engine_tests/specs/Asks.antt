@@ -1,0 +1,20 @@
+-- The events of a test.
+use Rattle.std.specs.Prelude.{List, map, replicate}
+use Rattle.r6_kernels.specs.Blocks.{zeros}
+use Rattle.r6_dev.specs.Memory.{told_by}
+use Rattle.r6_frames.specs.declared.op.Op.TheVariants as op
+use Rattle.r6_lists.specs.Events.{Event, Request, Attach, Check, Repair, Wait}
+use Rattle.r6_engine_tests.specs.declared.asks.Ask.{Ask}
+use Rattle.r6_engine_tests.specs.declared.asks.Ask.TheVariants as ask
+
+abbrev pub event_of : Ask → Event
+event_of (ask.Write block byte) = Request (op.Write block (replicate 16 byte))
+event_of (ask.Read block) = Request (op.Read block (zeros 16))
+event_of (ask.Attach slot generation) =
+    Attach slot (λ shard. told_by (record { first = 0; block = 16; blocks = replicate 4 (zeros 16) }))
+event_of ask.Check = Check
+event_of ask.Repair = Repair
+event_of ask.Wait = Wait
+
+abbrev pub events_of : List Ask → List Event
+events_of asks = map event_of asks

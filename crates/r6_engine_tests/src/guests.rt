@@ -1,0 +1,186 @@
+//! Two devices of two shards meet, each at its first command, so that one thread for both shards would never end well.
+
+ghost use Rattle.std.specs.Prelude.{◌≡◌, length};
+ghost use Rattle.r6_layout.specs.Shape.{IsShape};
+
+use crate::answers::Answer;
+use crate::blocks::filled;
+use crate::meeting::Meeting;
+use crate::serve_bench::check_answer;
+use crate::steps::Ask;
+use r6_core::Op;
+use r6_dev::{BlockDevice, Fault, MemoryDevice};
+use r6_engine::{Config, Served, serve};
+use r6_feed::Event;
+use r6_kernels::Buffer;
+use r6_layout::Geometry;
+use r6_shard::{Part, Parts};
+use r6_threads::Refused;
+use std::alloc::Global;
+use std::process::Abort;
+use std::sync::Wait;
+use std::sync::atomic::{AtomicU64, Ordering};
+use std::test::Fail;
+use std::thread::Threads;
+
+// Where the devices are, and all commands of all of them.
+#[derive(Drop)]
+struct House {
+    meeting: Meeting,
+    commands: AtomicU64,
+}
+
+#[derive(Clone, Copy, PartialEq, Eq)]
+enum Role {
+    First,
+    Second,
+    // It meets nobody, or has met.
+    Other,
+}
+
+// A device that tells no blocks. It is gone if it doesn't meet whom it is to meet.
+#[derive(Drop)]
+struct Guest<'h> {
+    house: &'h House,
+    role: Role,
+    zeros: MemoryDevice,
+}
+
+impl Guest<'_> {
+    fn come(&mut self) -> Result<(), Fault> {
+        self.house.commands.fetch_add(1, Ordering::SeqCst);
+        let met = match self.role {
+            Role::First => self.house.meeting.meet(false),
+            Role::Second => self.house.meeting.meet(true),
+            Role::Other => true,
+        };
+        self.role = Role::Other;
+        if met { Ok(()) } else { Err(Fault::Gone) }
+    }
+}
+
+impl BlockDevice for Guest<'_> {
+    ghost use Rattle.std.specs.Prelude.{None};
+    ghost use Rattle.r6_dev.specs.Promises.{no_promise};
+
+    ghost told = { λ _. None };
+
+    ghost promised = { λ _. no_promise };
+
+    fn read(&mut self, row: u64, buffer: &mut Buffer) -> Result<(), Fault> {
+        match self.come() {
+            Ok(()) => self.zeros.read(row, buffer),
+            Err(_) => Err(Fault::Gone),
+        }
+    }
+
+    fn write(&mut self, row: u64, buffer: &Buffer) -> Result<(), Fault> {
+        match self.come() {
+            Ok(()) => self.zeros.write(row, buffer),
+            Err(_) => Err(Fault::Gone),
+        }
+    }
+}
+
+// A write of block 0 first reads slot 2 of shard 0, and one of block 4 slot 0 of shard 1.
+fn role_of(shard: usize, slot: usize) -> Role {
+    match (shard, slot) {
+        (0, 2) => Role::First,
+        (1, 0) => Role::Second,
+        _ => Role::Other,
+    }
+}
+
+fn parts_of_shard<'h, R: Abort>(
+    rt: &R,
+    alloc: Global,
+    geometry: &Geometry,
+    shard: usize,
+    house: &'h House,
+) -> Parts<Guest<'h>> {
+    let mut parts = Vec::with_capacity(alloc, geometry.slots()).expect(rt, "memory");
+    for slot in 0..geometry.slots() {
+        let zeros = MemoryDevice::new(alloc, 0..geometry.rows(), geometry.block()).expect(
+            rt, "memory",
+        );
+        let device = Guest {
+            house,
+            role: role_of(shard, slot),
+            zeros,
+        };
+        let part = Part {
+            slot,
+            generation: 0,
+            device,
+        };
+        parts.push(part).expect(rt, "memory");
+    }
+    Parts { parts }
+}
+
+fn parts_of<'h, R: Abort>(
+    rt: &R,
+    alloc: Global,
+    geometry: &Geometry,
+    house: &'h House,
+) -> Vec<Parts<Guest<'h>>>
+    ensures { length result.items ≡ geometry.now.shards }
+{
+    let mut parts = Vec::with_capacity(alloc, geometry.shards()).expect(rt, "memory");
+    for shard in 0..geometry.shards() {
+        parts
+            .push(parts_of_shard(rt, alloc, geometry, shard, house))
+            .expect(rt, "memory");
+    }
+    parts
+}
+
+// Blocks 0 and 4 are written.
+fn serve_guests<'h, R: Threads + Wait + Abort + Sync>(
+    rt: &R,
+    alloc: Global,
+    geometry: &Geometry,
+    house: &'h House,
+) -> Result<Served<Guest<'h>>, Refused>
+    requires { IsShape geometry.now }
+{
+    let config = Config {
+        geometry: *geometry,
+        window: 1,
+        lost: 0,
+    };
+    let parts = parts_of(rt, alloc, geometry, house);
+    let mut events = Vec::with_capacity(alloc, 2).expect(rt, "memory");
+    events.push_reserved(Event::Request(Op::Write(0, filled(rt, alloc, 0x5a))));
+    events.push_reserved(Event::Request(Op::Write(4, filled(rt, alloc, 0x5a))));
+    serve(rt, alloc, config, parts, events)
+}
+
+// Both writes were done, and no command failed.
+fn check_met<R: Abort>(rt: &R, served: &Served<Guest<'_>>) {
+    check_answer(rt, "guests", served, 0, Ask::Write(0, 0x5a), &Answer::Done);
+    check_answer(rt, "guests", served, 1, Ask::Write(4, 0x5a), &Answer::Done);
+    let mut runners = served.runners.iter();
+    assert!(rt; runners.all(|runner| runner.shard.named == [false; 32]));
+}
+
+// Where memory or a thread is wanting, no device was told anything.
+#[test]
+fn each_shard_has_a_thread_of_its_own(rt: HostRuntime) -> Result<(), Fail> {
+    let geometry = Geometry::new(4, 1, 16, 4, 2)?;
+    let house = House {
+        meeting: Meeting::new(),
+        commands: AtomicU64::new(0),
+    };
+    match serve_guests(&rt, rt.alloc(), &geometry, &house) {
+        Ok(served) => {
+            check_met(&rt, &served);
+            drop(served);
+        }
+        Err(refused) => {
+            assert!(rt; house.commands.load(Ordering::SeqCst) == 0);
+            return Err(Fail::from(refused));
+        }
+    }
+    Ok(())
+}

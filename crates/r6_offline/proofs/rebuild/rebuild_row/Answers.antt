@@ -1,0 +1,64 @@
+use Rattle.std.proofs.Common.{ℕ, ◌<◌, inl, inr, refl, sym, ap, subst, ◌∙◌}
+use Rattle.r6_layout.specs.Layout.{position_at}
+use Rattle.r6_offline.specs.Parts.{parts_of}
+use Rattle.r6_offline.specs.Rebuilds.{PartWritten, targets_of}
+use Rattle.r6_recover.specs.Rows.{block_at}
+use Rattle.r6_offline.proofs.RebuildLaws.{target_fails}
+use Rattle.r6_offline.proofs.rebuild.rebuild_row.Goals as goal
+
+pub restore_row-requires : goal.restore_row-requires
+restore_row-requires g c = record {
+  row_within = c.requires.row_within;
+  parts = c.requires.parts;
+  target = c.requires.target;
+  absent = c.requires.absent;
+  room = c.requires.room;
+}
+
+pub write_part-requires : goal.write_part-requires
+write_part-requires g c =
+    subst (λ (n : ℕ). c.shard_of-shard.result < n) (sym c.requires.targets) c.shard_of-shard.ensures.owner.is_shard
+
+pub returns-in-Ok : goal.returns-in-Ok
+returns-in-Ok g c =
+    let told = g.D.BlockDevice.told in
+    let before = targets_of told c.args.targets.now in
+    let after = targets_of told c.write_part.new.targets in
+    let blocks = c.restore_row.new.reader.blocks in
+    let block = block_at blocks (position_at c.args.geometry.now c.args.row c.args.target) in
+    record {
+      room = c.restore_row.ensures.room;
+      rebuilt = record {
+        only_read = c.in_default.ensures.only_read;
+        blocks = blocks;
+        restored = c.in_default.ensures.restored;
+        written = subst (λ (shard : ℕ). PartWritten before after shard c.args.row block) c.shard_of-shard.ensures.value
+            (subst (PartWritten before after c.shard_of-shard.result c.args.row)
+            (c.block.ensures ∙ ap (block_at blocks) c.position_at-position.ensures.value) c.in-Ok.ensures.written);
+      };
+      fails = tt;
+      unwritten = tt;
+    }
+
+pub returns-in-Err : goal.returns-in-Err
+returns-in-Err g c = record {
+  room = c.restore_row.ensures.room;
+  rebuilt = tt;
+  fails = c.in-Err.ensures.fails;
+  unwritten = λ _ _. refl;
+}
+
+pub returns-in-Err-write_part : goal.returns-in-Err-write_part
+returns-in-Err-write_part g c =
+    let told = g.D.BlockDevice.told in
+    record {
+      room = c.restore_row.ensures.room;
+      rebuilt = tt;
+      fails = target_fails c.args.geometry.now c.args.target (parts_of told c.args.parts.now)
+          (parts_of told c.restore_row.new.parts) c.in-Err-write_part.fault c.requires.target c.in_default.ensures.only_read
+          c.in-Err-write_part.ensures.of_write;
+      unwritten = λ shard spared. elim spared [
+        | inl apart ↦ absurd (apart refl)
+        | inr apart ↦ c.write_part.ensures.others shard (λ same. apart (same ∙ c.shard_of-shard.ensures.value))
+      ];
+    }

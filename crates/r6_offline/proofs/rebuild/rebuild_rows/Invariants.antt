@@ -1,0 +1,13 @@
+use Rattle.r6_offline.specs.Parts.{parts_of}
+use Rattle.r6_offline.specs.Rebuilds.{targets_of}
+use Rattle.r6_offline.specs.Rows.{Fits}
+use Rattle.r6_offline.proofs.RebuildLaws.{Rebuilding}
+use Rattle.r6_offline.proofs.rebuild.rebuild_rows.Given as goal
+
+abbrev pub invariant-loop-row : goal.invariant-loop-row
+invariant-loop-row g l =
+    let told = g.D.BlockDevice.told in
+    record {
+      room : Fits l.geometry l.reader;
+      so_far : Rebuilding l.geometry l.target (parts_of told l.fn.parts) (parts_of told l.parts) (targets_of told l.fn.targets) (targets_of told l.targets) l.row;
+    }

@@ -1,0 +1,69 @@
+use Rattle.std.proofs.Common.{◌≡◌, ℕ, ◌+◌, ◌∙◌, sym, subst, arith}
+use Rattle.r6_offline.specs.Parts.{parts_of}
+use Rattle.r6_offline.specs.Rows.{Fits}
+use Rattle.r6_offline.proofs.CheckLaws.{found}
+use Rattle.r6_offline.proofs.PartLaws.{Noted, noted_next, none_noted, part_at_end, part_at_fault}
+use Rattle.r6_offline.proofs.ReportLaws.{finding_since}
+use Rattle.r6_offline.proofs.RowLaws.{only_read_both, only_read_none, read_fails_since}
+use Rattle.r6_offline.proofs.shard_check.check_rows.Goals as goal
+
+pub loop-row-init : goal.loop-row-init
+loop-row-init g c =
+    let started = parts_of g.D.BlockDevice.told c.args.parts.now in
+    record {
+      room = c.requires.room;
+      only_read = only_read_none started;
+      noted = none_noted c.args.geometry.now started c.args.first c.new-report.result c.new-report.ensures;
+    }
+
+pub loop-row-preserved : goal.loop-row-preserved
+loop-row-preserved g c =
+    let shape = c.args.geometry.now in
+    let told = g.D.BlockDevice.told in
+    let row = c.loop-row.row in
+    let started = parts_of told c.args.parts.now in
+    let now = parts_of told c.loop-row.parts in
+    let so_far = c.loop-row.invariant in
+    let finding = c.classify.new.self.finding in
+    record {
+      room = subst (Fits shape) (sym c.classify.ensures.reader) c.read.ensures.room;
+      only_read = only_read_both started now (parts_of told c.read.new.parts) so_far.only_read c.in_default.ensures.only_read;
+      noted = subst (λ report. Noted shape started c.args.first (row + 1) report) (sym c.note.ensures)
+          (noted_next shape started c.args.first row c.loop-row.report finding so_far.noted
+          (finding_since shape started now row finding so_far.only_read
+          (found shape now row c.read.new.self c.classify.new.self c.in_default.ensures.read c.classify.ensures)));
+    }
+
+pub returns-clause-report : goal.returns-clause-report
+returns-clause-report g c =
+    let shape = c.args.geometry.now in
+    let started = parts_of g.D.BlockDevice.told c.args.parts.now in
+    let ends : c.loop-row.row ≡ c.args.end =
+    omega (arith, c.loop-row-test.false, c.loop-row.auto.row-end c.requires.rows.0) in
+    part_at_end shape started c.args.first c.args.end c.loop-row.report
+    (subst (λ (r : ℕ). Noted shape started c.args.first r c.loop-row.report) ends c.loop-row.invariant.noted)
+
+pub read-requires : goal.read-requires
+read-requires g c = record {
+  row_within = omega (arith, c.loop-row-test.true, c.requires.rows.1);
+  parts = c.loop-row.auto.parts ∙ c.requires.parts;
+  room = c.loop-row.invariant.room;
+}
+
+pub returns-in-Err : goal.returns-in-Err
+returns-in-Err g c =
+    let shape = c.args.geometry.now in
+    let told = g.D.BlockDevice.told in
+    let started = parts_of told c.args.parts.now in
+    let row = c.loop-row.row in
+    let fault = c.in-Err.field-0 in
+    record {
+      report = part_at_fault shape started c.args.first c.args.end row fault c.loop-row.report c.loop-row.invariant.noted
+          c.loop-row-test.true
+          (read_fails_since shape started (parts_of told c.loop-row.parts) row fault c.loop-row.invariant.only_read
+          c.in-Err.ensures.fails);
+      kept = λ none. absurd (cc);
+    }
+
+pub returns-clause-kept : goal.returns-clause-kept
+returns-clause-kept g c = λ _. c.loop-row.invariant.only_read

@@ -1,0 +1,11 @@
+use Rattle.r6_offline.specs.Parts.{OnlyRead, parts_of}
+use Rattle.r6_offline.specs.Rows.{Fits}
+use Rattle.r6_offline.proofs.PartLaws.{Noted}
+use Rattle.r6_offline.proofs.shard_check.check_rows.Given as goal
+
+abbrev pub invariant-loop-row : goal.invariant-loop-row
+invariant-loop-row g l = record {
+  room : Fits l.geometry l.check.reader;
+  only_read : OnlyRead (parts_of g.D.BlockDevice.told l.fn.parts) (parts_of g.D.BlockDevice.told l.parts);
+  noted : Noted l.geometry (parts_of g.D.BlockDevice.told l.fn.parts) l.first l.row l.report;
+}

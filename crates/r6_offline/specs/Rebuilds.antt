@@ -1,0 +1,82 @@
+-- What a rebuild of a slot leaves.
+use Rattle.std.specs.Prelude.{◌≡◌, ◌≢◌, ◌⊎◌, ℕ, ◌<◌, List, Some, IfSome, option_map, slice_get}
+use Rattle.r6_dev.specs.History.{Block, Blocks, Telling, put}
+use Rattle.r6_layout.specs.Shape.{Shape, data_slots}
+use Rattle.r6_layout.specs.Layout.{OwnsRow, shard_of, slot_at, position_at}
+use Rattle.r6_recover.specs.Rows.{block_at, IsFullRow}
+use Rattle.r6_dev.specs.declared.fault.Fault.TheVariants.{ReadFault, WriteFault}
+use Rattle.r6_offline.specs.Parts.{Parts, Devices, AllTell, OnlyRead}
+use Rattle.r6_offline.specs.Reports.{IsRowFault, rows_before}
+use Rattle.r6_offline.specs.declared.rebuild.Rebuilt.{Rebuilt}
+use Rattle.r6_offline.specs.declared.report.RowFault.{RowFault}
+use Rattle.r6_offline.specs.declared.row.SlotFault.{SlotFault}
+
+-- the new parts of the target, by shard
+abbrev pub targets_of : {D : Type 0} → (D → Telling) → List D → Parts
+targets_of told targets shard = option_map told (slice_get targets shard)
+
+-- an array whose rows are full, and the blocks that its devices then have
+abbrev pub AreFullRows : Shape → (ℕ → List Block) → Type 0
+AreFullRows shape full = (row : ℕ) → row < shape.rows → IsFullRow (data_slots shape) shape.block (full row)
+
+abbrev pub devices_of : Shape → (ℕ → List Block) → Devices
+devices_of shape full slot row = block_at (full row) (position_at shape row slot)
+
+-- each new part tells its blocks
+abbrev pub AreTelling : Shape → Parts → Type 0
+AreTelling shape targets =
+    (shard : ℕ) → shard < shape.shards → (blocks : Blocks) × (targets shard ≡ Some (Some blocks))
+
+-- the new part of a shard holds these blocks, in the rows below the end
+abbrev pub HoldsBelow : Shape → Parts → (shard end : ℕ) → (ℕ → Block) → Type 0
+HoldsBelow shape targets shard end column =
+    (blocks : Blocks) × (targets shard ≡ Some (Some blocks))
+    × ((row : ℕ) → OwnsRow shape shard row → row < end → blocks row ≡ column row)
+
+-- the blocks of a row are those of the one full row with which the parts agree
+abbrev pub IsRestoredRow : Shape → Parts → ℕ → List Block → Type 0
+IsRestoredRow shape parts row blocks =
+    (device : Devices) (full : List Block) → AllTell shape parts device → IsFullRow (data_slots shape) shape.block full
+    → ((position : ℕ) → position < shape.slots → device (slot_at shape row position) row ≡ block_at full position)
+    → blocks ≡ full
+
+-- a block was written to a row of one new part
+pub record PartWritten (old new : Parts) (shard row : ℕ) (block : Block) : Type 0 where
+  pub others : (other : ℕ) → other ≢ shard → new other ≡ old other
+  pub written : (blocks : Blocks) → old shard ≡ Some (Some blocks) → new shard ≡ Some (Some (put blocks row block))
+
+-- the target's block of a row was written, from the one full row with which the parts agree
+pub record RowRebuilt (shape : Shape) (target row : ℕ) (parts parts' targets targets' : Parts) : Type 0 where
+  pub only_read : OnlyRead parts parts'
+  pub blocks : List Block
+  pub restored : IsRestoredRow shape parts row blocks
+  pub written : PartWritten targets targets' (shard_of shape row) row (block_at blocks (position_at shape row target))
+
+-- a row was not rebuilt: the part of another slot answered a fault to its read, or the target answered one to its
+-- write, or too few parts of the row are there, which is a fault of the target
+pub record RebuildFails (shape : Shape) (target : ℕ) (old new : Parts) (fault : SlotFault) : Type 0 where
+  pub within : fault.slot < shape.slots
+  pub of_source : fault.slot ≢ target → fault.fault ≢ WriteFault
+  pub of_target : fault.slot ≡ target → fault.fault ≢ ReadFault
+  pub only_read : fault.slot ≡ target → OnlyRead old new
+
+-- the target's new part of the shard isn't the one that failed
+abbrev pub IsSpared : Shape → (target shard row slot : ℕ) → Type 0
+IsSpared shape target shard row slot = (slot ≢ target) ⊎ (shard ≢ shard_of shape row)
+
+pub record IsRebuildFault (shape : Shape) (target : ℕ) (fault : RowFault) : Type 0 where
+  pub of_row : IsRowFault shape fault
+  pub of_source : fault.slot ≢ target → fault.fault ≢ WriteFault
+  pub of_target : fault.slot ≡ target → fault.fault ≢ ReadFault
+
+-- the rows below the end were rebuilt: those before the first fault, or all. Each new part that did not fail holds of
+-- them the blocks of every array of full rows that the parts tell
+pub record IsRebuilt (shape : Shape) (target : ℕ) (parts targets targets' : Parts) (rebuilt : Rebuilt) : Type 0 where
+  pub rows : rebuilt.rows ≡ rows_before shape rebuilt.fault
+  pub fault : IfSome rebuilt.fault (IsRebuildFault shape target)
+  pub holds :
+      (full : ℕ → List Block) → AreFullRows shape full → AllTell shape parts (devices_of shape full)
+      → AreTelling shape targets
+      → (shard : ℕ) → shard < shape.shards
+      → IfSome rebuilt.fault (λ fault. IsSpared shape target shard fault.row fault.slot)
+      → HoldsBelow shape targets' shard rebuilt.rows (devices_of shape full target)

@@ -1,0 +1,30 @@
+//! One part of a device.
+
+ghost use Rattle.std.specs.Prelude.{◌≡◌, ◌≢◌, ◌<◌, true, length, is_some, slice_index_or, IfErr, IfOk, None};
+ghost use Rattle.r6_offline.specs.Parts.{PartRead, parts_of};
+
+use r6_dev::{BlockDevice, Fault};
+use r6_kernels::Buffer;
+
+/// Reads a row from the part with this number, and says whether there is such a part.
+pub(crate) fn read_part<D: BlockDevice>(
+    parts: &mut [Option<D>],
+    number: usize,
+    row: u64,
+    block: &mut Buffer,
+) -> Result<bool, Fault>
+    requires { number < length parts.old }
+    ensures same_length { length block.new ≡ length block.old }
+    ensures fails { IfErr result (λ fault. (is_some (slice_index_or parts.old number None) ≡ true)
+        × (fault ≢ Fault.WriteFault)) }
+    ensures read { IfOk result
+        (λ there. PartRead (parts_of D.told parts.old) (parts_of D.told parts.new) number row there block.new) }
+{
+    match &mut parts[number] {
+        Some(device) => match device.read(row, block) {
+            Ok(()) => Ok(true),
+            Err(fault) => Err(fault),
+        },
+        None => Ok(false),
+    }
+}

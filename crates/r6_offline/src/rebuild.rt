@@ -1,0 +1,200 @@
+//! A lost slot, rebuilt onto new parts.
+
+ghost use Rattle.std.specs.Prelude.{◌≡◌, ◌≢◌, ◌*◌, ◌<◌, ℕ, length, IfErr, IfOk, IfSome, MatchBool, OnOk, Some};
+ghost use Rattle.r6_offline.specs.Parts.{IsAbsent, IsThere, OnlyRead, parts_of};
+ghost use Rattle.r6_offline.specs.Rows.{Fits};
+ghost use Rattle.r6_offline.specs.Rebuilds.{IsRebuilt, IsRestoredRow, IsSpared, PartWritten, RebuildFails, RowRebuilt, targets_of};
+
+use crate::error::EngineError;
+use crate::report::RowFault;
+use crate::row::{RowReader, SlotFault};
+use r6_dev::{BlockDevice, Fault};
+use r6_kernels::Buffer;
+use r6_layout::Geometry;
+use r6_recover::restore;
+use std::alloc::Global;
+
+/// How far a rebuild came.
+#[derive(Clone, Copy, PartialEq, Eq, Debug)]
+pub struct Rebuilt {
+    /// The number of rows that were rebuilt, from the lowest on.
+    pub rows: u64,
+    /// The fault that ended the rebuild. The rows before its row are rebuilt.
+    pub fault: Option<RowFault>,
+}
+
+/// Whether no part of a slot is there.
+pub fn is_absent<D: BlockDevice>(geometry: &Geometry, parts: &[Option<D>], slot: usize) -> bool
+    requires parts { length parts.now ≡ geometry.now.shards * geometry.now.slots }
+    requires slot { slot < geometry.now.slots }
+    ensures { MatchBool result
+        (IsAbsent geometry.now slot (parts_of D.told parts.now))
+        (IsThere geometry.now slot (parts_of D.told parts.now)) }
+{
+    for shard in 0..geometry.shards() {
+        if parts[shard * geometry.slots() + slot].is_some() {
+            return false;
+        }
+    }
+    true
+}
+
+/// Rebuilds a slot: computes each row from the parts that are there, and writes the target's block to its new parts,
+/// of which there is one for each shard. The first fault ends it; rows that are written stay.
+/// No part of the target may be there: [`is_absent`] tells.
+///
+/// A row of which more than two parts aren't there can't be restored: it is the fault `Gone` of the target.
+/// All memory is taken before the first command.
+///
+/// # Errors
+/// `NoMemory`.
+pub fn rebuild_all<D: BlockDevice>(
+    alloc: Global,
+    geometry: &Geometry,
+    parts: &mut [Option<D>],
+    target: usize,
+    targets: &mut [D],
+) -> Result<Rebuilt, EngineError>
+    requires parts { length parts.old ≡ geometry.now.shards * geometry.now.slots }
+    requires target { target < geometry.now.slots }
+    requires absent { IsAbsent geometry.now target (parts_of D.told parts.old) }
+    requires targets { length targets.old ≡ geometry.now.shards }
+    ensures rebuilt { IfOk result (IsRebuilt geometry.now target (parts_of D.told parts.old)
+        (targets_of D.told targets.old) (targets_of D.told targets.new)) }
+    ensures kept { IfOk result (λ rebuilt. IfSome rebuilt.fault (λ fault. fault.slot ≡ target)
+        → OnlyRead (parts_of D.told parts.old) (parts_of D.told parts.new)) }
+    ensures err { IfErr result (λ error. error ≡ EngineError.NoMemory) }
+{
+    let mut reader = RowReader::new(alloc, geometry)?;
+    Ok(rebuild_rows(geometry, parts, target, targets, &mut reader))
+}
+
+fn rebuild_rows<D: BlockDevice>(
+    geometry: &Geometry,
+    parts: &mut [Option<D>],
+    target: usize,
+    targets: &mut [D],
+    reader: &mut RowReader,
+) -> Rebuilt
+    requires parts { length parts.old ≡ geometry.now.shards * geometry.now.slots }
+    requires target { target < geometry.now.slots }
+    requires absent { IsAbsent geometry.now target (parts_of D.told parts.old) }
+    requires targets { length targets.old ≡ geometry.now.shards }
+    requires room { Fits geometry.now reader.old }
+    ensures rebuilt { IsRebuilt geometry.now target (parts_of D.told parts.old) (targets_of D.told targets.old)
+        (targets_of D.told targets.new) result }
+    ensures kept { IfSome result.fault (λ fault. fault.slot ≡ target)
+        → OnlyRead (parts_of D.told parts.old) (parts_of D.told parts.new) }
+{
+    for row in 0..geometry.rows() {
+        match rebuild_row(geometry, parts, row, target, targets, reader) {
+            Ok(()) => {}
+            Err(fault) => return ended(row, fault),
+        }
+    }
+    Rebuilt {
+        rows: geometry.rows(),
+        fault: None,
+    }
+}
+
+// A rebuild that ends at this row.
+fn ended(row: u64, fault: SlotFault) -> Rebuilt
+    ensures { result
+        ≡ record { rows = row; fault = Some (record { row = row; slot = fault.slot; fault = fault.fault }) } }
+{
+    Rebuilt {
+        rows: row,
+        fault: Some(RowFault {
+            row,
+            slot: fault.slot,
+            fault: fault.fault,
+        }),
+    }
+}
+
+fn rebuild_row<D: BlockDevice>(
+    geometry: &Geometry,
+    parts: &mut [Option<D>],
+    row: u64,
+    target: usize,
+    targets: &mut [D],
+    reader: &mut RowReader,
+) -> Result<(), SlotFault>
+    requires row_within { row < geometry.now.rows }
+    requires parts { length parts.old ≡ geometry.now.shards * geometry.now.slots }
+    requires target { target < geometry.now.slots }
+    requires absent { IsAbsent geometry.now target (parts_of D.told parts.old) }
+    requires targets { length targets.old ≡ geometry.now.shards }
+    requires room { Fits geometry.now reader.old }
+    ensures room { Fits geometry.now reader.new }
+    ensures rebuilt { OnOk result
+        (RowRebuilt geometry.now target row (parts_of D.told parts.old) (parts_of D.told parts.new)
+        (targets_of D.told targets.old) (targets_of D.told targets.new)) }
+    ensures fails { IfErr result
+        (RebuildFails geometry.now target (parts_of D.told parts.old) (parts_of D.told parts.new)) }
+    ensures unwritten { IfErr result (λ fault. (shard : ℕ) → IsSpared geometry.now target shard row fault.slot
+        → targets_of D.told targets.new shard ≡ targets_of D.told targets.old shard) }
+{
+    if let Err(fault) = restore_row(geometry, parts, row, target, reader) {
+        return Err(fault);
+    }
+    let position = geometry.position_at(row, target);
+    let shard = geometry.shard_of(row);
+    match write_part(targets, shard, row, reader.blocks.block(position)) {
+        Ok(()) => Ok(()),
+        Err(fault) => Err(SlotFault {
+            slot: target,
+            fault,
+        }),
+    }
+}
+
+// Reads a row, and restores the blocks of the parts that aren't there.
+fn restore_row<D: BlockDevice>(
+    geometry: &Geometry,
+    parts: &mut [Option<D>],
+    row: u64,
+    target: usize,
+    reader: &mut RowReader,
+) -> Result<(), SlotFault>
+    requires row_within { row < geometry.now.rows }
+    requires parts { length parts.old ≡ geometry.now.shards * geometry.now.slots }
+    requires target { target < geometry.now.slots }
+    requires absent { IsAbsent geometry.now target (parts_of D.told parts.old) }
+    requires room { Fits geometry.now reader.old }
+    ensures room { Fits geometry.now reader.new }
+    ensures only_read { OnOk result (OnlyRead (parts_of D.told parts.old) (parts_of D.told parts.new)) }
+    ensures restored { OnOk result (IsRestoredRow geometry.now (parts_of D.told parts.old) row reader.new.blocks) }
+    ensures fails { IfErr result
+        (RebuildFails geometry.now target (parts_of D.told parts.old) (parts_of D.told parts.new)) }
+{
+    let known = match reader.read_row(geometry, parts, row) {
+        Ok(known) => known,
+        Err(fault) => return Err(fault),
+    };
+    match restore(&mut reader.blocks, known) {
+        Ok(()) => Ok(()),
+        Err(_) => Err(SlotFault {
+            slot: target,
+            fault: Fault::Gone,
+        }),
+    }
+}
+
+// Writes a row of the part with this number.
+fn write_part<D: BlockDevice>(
+    targets: &mut [D],
+    shard: usize,
+    row: u64,
+    block: &Buffer,
+) -> Result<(), Fault>
+    requires { shard < length targets.old }
+    ensures written { OnOk result
+        (PartWritten (targets_of D.told targets.old) (targets_of D.told targets.new) shard row block.now) }
+    ensures others { (other : ℕ) → other ≢ shard
+        → targets_of D.told targets.new other ≡ targets_of D.told targets.old other }
+    ensures of_write { IfErr result (λ fault. fault ≢ Fault.ReadFault) }
+{
+    targets[shard].write(row, block)
+}

@@ -1,8 +1,0 @@
-mod EachShard
-mod Kept
-mod Numbers
-mod Passes
-mod Rows
-mod Reasons
-mod InOrder
-mod Named

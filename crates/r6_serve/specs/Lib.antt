@@ -1,5 +1,0 @@
-pub mod Counted
-pub mod Refusals
-pub mod Serves
-pub mod Passes
-pub mod Named
