@@ -161,6 +161,20 @@ impl Core {
         self.state.counts
     }
 
+    /// Whether a look has seen that the array failed.
+    pub fn saw_failed(&self) -> bool
+        ensures { result ≡ (world_shard self.now).saw_failed }
+    {
+        self.state.frames.saw_failed()
+    }
+
+    /// How many commands were put out so far: the next one's token.
+    pub fn tokens(&self) -> u64
+        ensures { result ≡ (world_shard self.now).tokens }
+    {
+        self.state.frames.tokens()
+    }
+
     /// Takes the command that was put out first and not taken.
     ///
     /// Commands that were abandoned meanwhile are handed out too, and are to be delivered as all others: their buffers
