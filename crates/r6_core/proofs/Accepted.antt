@@ -4,9 +4,9 @@ use Rattle.r6_kernels.specs.Blocks.{IsBlock}
 use Rattle.std.specs.Prelude.{length}
 use Rattle.r6_world.specs.Changes.{Accept, after}
 use Rattle.r6_world.specs.Steps.{Scans, Through}
-use Rattle.r6_frames.specs.declared.op.Op.{Op}
-use Rattle.r6_frames.specs.declared.op.Request.{Request}
-use Rattle.r6_frames.specs.Views.{buffer_of, op_of}
+use Rattle.r6_world.specs.declared.values.Op.{Op}
+use Rattle.r6_world.specs.declared.values.Request.{Request}
+use Rattle.r6_world.specs.Values.{buffer_of, op_of}
 use Rattle.r6_waiters.specs.Line.{Line, capacity_of, causes_of}
 use Rattle.r6_core.specs.declared.state.State.{State}
 use Rattle.r6_core.specs.declared.scan.Room.TheVariants as room

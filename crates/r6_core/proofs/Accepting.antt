@@ -15,15 +15,16 @@ use Rattle.r6_world.specs.PlainArray.{block_of}
 use Rattle.r6_world.specs.ShardStates.{Request, Waiting, frames}
 use Rattle.r6_world.specs.Changes.{Accept, Allowed, IsSized, after}
 use Rattle.r6_world.specs.Geometries.{layout_of}
-use Rattle.r6_frames.specs.declared.op.Op.TheVariants as op
+use Rattle.r6_world.specs.declared.values.Op.TheVariants as op
 use Rattle.r6_frames.specs.declared.frames.Frames.{Frames}
-use Rattle.r6_frames.specs.declared.op.Op.{Op}
-use Rattle.r6_frames.specs.declared.op.Request.{Request as Entered}
+use Rattle.r6_world.specs.declared.values.Op.{Op}
+use Rattle.r6_world.specs.declared.values.Request.{Request as Entered}
 use Rattle.r6_frames.specs.declared.frames.HeldRow.{HeldRow}
 use Rattle.r6_frames.specs.declared.frames.FrameUse.{FrameUse}
 use Rattle.r6_frames.specs.declared.frames.FrameUse.TheVariants as uses
 use Rattle.r6_core.specs.declared.state.State.{State}
-use Rattle.r6_frames.specs.Views.{op_of, buffer_of, hold_at, held_requests, shard_with}
+use Rattle.r6_world.specs.Values.{op_of, buffer_of}
+use Rattle.r6_frames.specs.Views.{hold_at, held_requests, shard_with}
 use Rattle.r6_frames.specs.Calls.{IsRequestOf}
 use Rattle.r6_frames.specs.Owed.{owed, owed_by, owed_in, is_unsent}
 use Rattle.r6_core.specs.Shards.{state_of, layout_in, framed_requests, requests_of, waiting_request, replied_requests, core_of, requests_in, rest_of, waiting_of}

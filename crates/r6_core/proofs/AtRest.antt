@@ -7,9 +7,10 @@ use Rattle.r6_world.specs.Geometries.{layout_of}
 use Rattle.r6_world.specs.PlainArray as world
 use Rattle.r6_world.specs.ShardStates.{Request, Stage, Waiting, Held, Finished, Released, NotHeld, CouldStart, Reading}
 use Rattle.r6_world.specs.Steps.{AtRest}
-use Rattle.r6_frames.specs.declared.op.Request.{Request as Entered}
+use Rattle.r6_world.specs.declared.values.Request.{Request as Entered}
 use Rattle.r6_core.specs.declared.state.State.{State}
-use Rattle.r6_frames.specs.Views.{op_of, hold_of, held_requests}
+use Rattle.r6_world.specs.Values.{op_of}
+use Rattle.r6_frames.specs.Views.{hold_of, held_requests}
 use Rattle.r6_frames.specs.Calls.{NotHeldBy}
 use Rattle.r6_core.specs.Shards.{state_of, rest_of, layout_in, framed_requests, waiting_request, finished_request, replied_requests, waiting_of}
 use Rattle.r6_frames.specs.declared.frames.Frames.{Frames}

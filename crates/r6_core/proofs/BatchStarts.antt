@@ -10,9 +10,9 @@ use Rattle.r6_layout.specs.Layout as layout
 use Rattle.r6_layout.specs.PlainArray.{Block}
 use Rattle.r6_world.specs.PlainArray.{block_of}
 use Rattle.r6_world.specs.Tasks.{ReadFor}
-use Rattle.r6_frames.specs.declared.op.Op.TheVariants as op
-use Rattle.r6_frames.specs.declared.op.Request.{Request}
-use Rattle.r6_frames.specs.Views.{buffer_of, op_of}
+use Rattle.r6_world.specs.declared.values.Op.TheVariants as op
+use Rattle.r6_world.specs.declared.values.Request.{Request}
+use Rattle.r6_world.specs.Values.{buffer_of, op_of}
 use Rattle.r6_frames.specs.Calls.{IsRequestOf}
 use Rattle.r6_frames.specs.Writes.{Entry, IsWriteIn, blocks_in, request_of, write_task}
 use Rattle.r6_stripe.specs.BatchLists.{AreDistinct}

@@ -11,10 +11,10 @@ use Rattle.r6_world.specs.ShardStates.{Shard, Stage, Waiting, Held, NotHeld, beg
 use Rattle.r6_world.specs.ShardStates as shards
 use Rattle.r6_world.specs.Changes.{Change, Start, Ask, Prepare, Send, Read_direct, after, Allowed, staged}
 use Rattle.r6_world.specs.Steps.{Through, Scans, IsRequest}
-use Rattle.r6_frames.specs.declared.op.Op.{Op}
-use Rattle.r6_frames.specs.declared.op.Op.TheVariants as op
-use Rattle.r6_frames.specs.declared.op.Request.{Request}
-use Rattle.r6_frames.specs.Views.{op_of}
+use Rattle.r6_world.specs.declared.values.Op.{Op}
+use Rattle.r6_world.specs.declared.values.Op.TheVariants as op
+use Rattle.r6_world.specs.declared.values.Request.{Request}
+use Rattle.r6_world.specs.Values.{op_of}
 use Rattle.r6_frames.specs.Calls.{PutsOut}
 use Rattle.r6_waiters.specs.Line.{Entries}
 use Rattle.r6_core.specs.Batches.{block_written, is_wanted, but, joined, left, entries_left}

@@ -9,26 +9,27 @@ use Rattle.r6_world.proofs.Tables.{put-same, put-other}
 use Rattle.r6_world.specs.Steps as steps
 use Rattle.r6_world.specs.ShardStates as shards
 use Rattle.r6_world.specs.ShardStates.{handed}
-use Rattle.r6_frames.specs.declared.op.Op.{Op}
+use Rattle.r6_world.specs.declared.values.Op.{Op}
 use Rattle.r6_frames.specs.declared.frames.Scrub.TheVariants as scrub
 use Rattle.r6_frames.specs.declared.command.Outstanding.{Outstanding}
-use Rattle.r6_frames.specs.declared.command.Command.{Command}
-use Rattle.r6_frames.specs.Views.{op_of, command_of, outstanding, world_command}
+use Rattle.r6_world.specs.declared.values.Command.{Command}
+use Rattle.r6_world.specs.Values.{op_of, world_command, completion_of, receipt_of, buffer_in, reply_of, buffer_back}
+use Rattle.r6_frames.specs.Views.{command_of, outstanding}
 use Rattle.r6_frames.specs.declared.slots.Slot.{Slot}
 use Rattle.r6_frames.specs.Calls as frames
 use Rattle.r6_frames.specs.Calls.{IsAwaited}
 use Rattle.r6_core.specs.declared.call.Call.{Call}
 use Rattle.r6_core.specs.declared.call.Call.TheVariants.{DeclareLost, ReportRebuilt}
-use Rattle.r6_core.specs.declared.reply.Reply.{Reply}
-use Rattle.r6_core.specs.declared.refusal.DeviceFault.{DeviceFault}
-use Rattle.r6_core.specs.declared.refusal.Receipt.{Receipt}
+use Rattle.r6_world.specs.declared.values.Reply.{Reply}
+use Rattle.r6_world.specs.declared.values.DeviceFault.{DeviceFault}
+use Rattle.r6_world.specs.declared.values.Receipt.{Receipt}
 use Rattle.r6_core.specs.declared.refusal.Refusal.{Refusal}
 use Rattle.r6_core.specs.declared.refusal.Refusal.TheVariants.{UnknownCall}
 use Rattle.r6_core.specs.declared.state.State.{State}
 use Rattle.r6_core.specs.declared.turn.Turn.{Turn}
 use Rattle.r6_core.specs.declared.turn.Turn.TheVariants.{Started}
 use Rattle.r6_core.specs.declared.turn.Task.TheVariants as task
-use Rattle.r6_core.specs.Shards.{core_of, core_with, call_of, state_of, layout_in, Step, completion_of, receipt_of, buffer_in, reply_of, buffer_back, waiting_of, requests_in}
+use Rattle.r6_core.specs.Shards.{core_of, core_with, call_of, state_of, layout_in, Step, waiting_of, requests_in}
 use Rattle.r6_core.specs.Refusals.{HasSubmitFault, submit_faults, IsOut, HasDeliverFault, deliver_faults, HasRebuildFault, HasTurnFault, turn_faults, IsFirstFault, HasNone, AllTold}
 use Rattle.r6_core.specs.Order.{BringsBack, SameReplies, FinishesBy, LooksOn, TakesFirst, HasNoReply, HaveTurns, HaveTurnsBehind, HaveTurnsAfter}
 use Rattle.r6_core.specs.Effects.{Accepts, KeepsRequests, Rebuilds, Turns, turn_event, Receives, LooksAt, HandsCommand, IsOldestUntaken, IsCommandOf, Hears, RefusesAnswer, HandsReply, HandsNoReply}

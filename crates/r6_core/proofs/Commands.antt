@@ -8,10 +8,11 @@ use Rattle.r6_world.specs.ShardStates as shards
 use Rattle.r6_world.specs.ShardStates.{Shard}
 use Rattle.r6_world.specs.Steps as steps
 use Rattle.r6_world.specs.Steps.{Take_command, No_command}
-use Rattle.r6_frames.specs.declared.command.Command.{Command}
+use Rattle.r6_world.specs.declared.values.Command.{Command}
 use Rattle.r6_frames.specs.declared.frames.Frames.{Frames}
 use Rattle.r6_core.specs.declared.state.State.{State}
-use Rattle.r6_frames.specs.Views.{world_command, held_requests, Rest, shard_with, hold_at, AreLive}
+use Rattle.r6_world.specs.Values.{world_command}
+use Rattle.r6_frames.specs.Views.{held_requests, Rest, shard_with, hold_at, AreLive}
 use Rattle.r6_frames.specs.Calls.{Steps, KeepsHolds, KeepsReads, KeepsDirects}
 use Rattle.r6_frames.specs.Owed.{owed_in, IsDriven, IsOver}
 use Rattle.r6_frames.specs.Slots.{count_out, states_of}

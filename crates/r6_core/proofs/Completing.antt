@@ -10,7 +10,7 @@ use Rattle.r6_world.specs.ShardStates.{Shard}
 use Rattle.r6_world.specs.Changes.{Come_home, after}
 use Rattle.r6_world.specs.Steps.{AtRest, Completion, Deliver, GoesOn, Late, Scans, Takes, Through}
 use Rattle.r6_world.specs.Steps as steps
-use Rattle.r6_frames.specs.declared.op.Request.{Request}
+use Rattle.r6_world.specs.declared.values.Request.{Request}
 use Rattle.r6_frames.specs.declared.frames.Frames.{Frames}
 use Rattle.r6_frames.specs.declared.frames.Job.{Job}
 use Rattle.r6_frames.specs.declared.frames.HeldRow.{HeldRow}
@@ -19,11 +19,12 @@ use Rattle.r6_frames.specs.Views.{hold_at, held_requests, plan_in, hold_of, row_
 use Rattle.r6_frames.specs.Calls.{ComesHome, KeepsHeld, KeepsOthers}
 use Rattle.r6_frames.specs.Owed.{owed, IsDriven, IsOver}
 use Rattle.r6_frames.specs.Sound as held
-use Rattle.r6_core.specs.declared.refusal.DeviceFault.{DeviceFault}
-use Rattle.r6_core.specs.declared.refusal.Receipt.{Receipt}
+use Rattle.r6_world.specs.declared.values.DeviceFault.{DeviceFault}
+use Rattle.r6_world.specs.declared.values.Receipt.{Receipt}
 use Rattle.r6_core.specs.declared.state.State.{State}
 use Rattle.std.proofs.lemmas.Bool.{cases_lt}
-use Rattle.r6_core.specs.Shards.{Step, buffer_in, completion_of, state_of, rest_of, layout_in, core_of, receipt_of, waiting_of, requests_in}
+use Rattle.r6_world.specs.Values.{buffer_in, completion_of, receipt_of}
+use Rattle.r6_core.specs.Shards.{Step, state_of, rest_of, layout_in, core_of, waiting_of, requests_in}
 use Rattle.r6_core.specs.Order.{FinishesBy, HaveTurns, HaveTurnsBehind, SameReplies, KeepsFrames}
 use Rattle.r6_core.specs.Inside.{ReadAgainFor, SameFrames, IsSettled, Seen, TakesThrough}
 use Rattle.r6_core.proofs.Throughs.{through_in, through_none}

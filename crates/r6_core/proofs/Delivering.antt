@@ -19,7 +19,7 @@ use Rattle.r6_world.specs.ShardStates as shards
 use Rattle.r6_world.specs.ShardStates.{Shard, Held}
 use Rattle.r6_world.specs.Changes.{Finish, finished, slots_after, counted, after}
 use Rattle.r6_world.specs.Steps.{GoesOn, Through}
-use Rattle.r6_frames.specs.declared.op.Request.{Request}
+use Rattle.r6_world.specs.declared.values.Request.{Request}
 use Rattle.r6_frames.specs.declared.finish.Ended.{Ended}
 use Rattle.r6_frames.specs.declared.finish.Ended.TheVariants as ended
 use Rattle.r6_frames.specs.declared.frames.Scrub.TheVariants as scrub
@@ -27,7 +27,8 @@ use Rattle.r6_frames.specs.declared.frames.HeldRow.{HeldRow}
 use Rattle.r6_frames.specs.declared.frames.Frames.{Frames}
 use Rattle.r6_core.specs.declared.counts.Counts.{Counts}
 use Rattle.r6_core.specs.declared.state.State.{State}
-use Rattle.r6_frames.specs.Views.{batch_in, held_for, held_requests, is_scrub, task_by, kind_in, hold_at, hold_of, numbered, requests_by, AreLive}
+use Rattle.r6_world.specs.Values.{numbered}
+use Rattle.r6_frames.specs.Views.{batch_in, held_for, held_requests, is_scrub, task_by, kind_in, hold_at, hold_of, requests_by, AreLive}
 use Rattle.r6_frames.specs.Calls.{requests_of as requests_ended, entry_of, ended_outcome, ended_task, Ends, IsElsewhere, HasOneBlock, KeepsOthers}
 use Rattle.r6_frames.specs.Owed.{owed, IsDriven, IsOver}
 use Rattle.r6_frames.specs.Sound as held

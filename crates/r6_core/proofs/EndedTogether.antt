@@ -9,8 +9,8 @@ use Rattle.r6_world.specs.Tasks.{Outcome}
 use Rattle.r6_world.specs.ShardStates as shards
 use Rattle.r6_world.specs.ShardStates.{Stage, Waiting, Held, Finished, Released, Reading}
 use Rattle.r6_world.specs.Changes.{finished, outcome_reply}
-use Rattle.r6_frames.specs.declared.op.Request.{Request}
-use Rattle.r6_frames.specs.Views.{op_of}
+use Rattle.r6_world.specs.declared.values.Request.{Request}
+use Rattle.r6_world.specs.Values.{op_of}
 use Rattle.r6_frames.specs.Calls.{entry_of, IsElsewhere}
 use Rattle.r6_frames.proofs.Lists.{Entries, table, looked_up}
 use Rattle.r6_core.specs.Shards.{answer_of, finished_request}

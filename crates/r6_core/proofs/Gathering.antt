@@ -15,7 +15,7 @@ use Rattle.r6_world.specs.Tasks.{Hold}
 use Rattle.r6_world.specs.PlainArray as world
 use Rattle.r6_world.specs.ShardStates as shards
 use Rattle.r6_world.specs.ShardStates.{Shard}
-use Rattle.r6_frames.specs.declared.op.Request.{Request}
+use Rattle.r6_world.specs.declared.values.Request.{Request}
 use Rattle.r6_frames.specs.declared.finish.Ended.{Ended}
 use Rattle.r6_frames.specs.declared.frames.Frames.{Frames}
 use Rattle.r6_frames.specs.declared.frames.FrameUse.{FrameUse}

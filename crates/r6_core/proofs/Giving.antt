@@ -9,13 +9,14 @@ use Rattle.r6_world.specs.ShardStates as shards
 use Rattle.r6_world.specs.ShardStates.{Finished, Reading}
 use Rattle.r6_world.specs.Changes.{Give_direct, after}
 use Rattle.r6_world.specs.Steps.{Good, GoesOn, Taken}
-use Rattle.r6_frames.specs.declared.op.Request.{Request}
+use Rattle.r6_world.specs.declared.values.Request.{Request}
 use Rattle.r6_frames.specs.declared.frames.Frames.{Frames}
 use Rattle.r6_frames.specs.declared.frames.Job.{Job}
 use Rattle.r6_frames.specs.Slots.{states_of}
 use Rattle.r6_frames.specs.Directs.{read_entry, read_requests}
 use Rattle.r6_frames.specs.Reads.{AnswersRead, FreesDirect}
-use Rattle.r6_frames.specs.Views.{buffer_of, is_scrub, command_of, held_requests, hold_at, requests_from, shard_with, AreLive}
+use Rattle.r6_world.specs.Values.{buffer_of}
+use Rattle.r6_frames.specs.Views.{is_scrub, command_of, held_requests, hold_at, requests_from, shard_with, AreLive}
 use Rattle.r6_frames.specs.Calls.{HasOneBlock, KeepsHolds, KeepsSlots}
 use Rattle.r6_frames.specs.Owed.{owed, owed_in}
 use Rattle.r6_frames.specs.Sound as held

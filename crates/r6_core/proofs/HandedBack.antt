@@ -8,7 +8,7 @@ use Rattle.std.proofs.lemmas.List.{length-map, map-append}
 use Rattle.r6_world.specs.Tables.{put}
 use Rattle.r6_world.specs.ShardStates as shards
 use Rattle.r6_world.specs.ShardStates.{Reading, Waiting}
-use Rattle.r6_frames.specs.declared.op.Request.{Request}
+use Rattle.r6_world.specs.declared.values.Request.{Request}
 use Rattle.r6_frames.specs.declared.directs.Direct.{Direct}
 use Rattle.r6_frames.specs.declared.directs.DirectRead.{DirectRead}
 use Rattle.r6_frames.specs.declared.slots.Slot.{Slot}
@@ -16,7 +16,8 @@ use Rattle.r6_frames.specs.declared.frames.Frames.{Frames}
 use Rattle.r6_frames.specs.declared.frames.Job.{Job}
 use Rattle.r6_frames.specs.Directs.{direct_at, is_stopped, read_by, read_entry, read_requests, reads_from, stage_of}
 use Rattle.r6_frames.specs.Reads.{FewerReaders, HandsBack, IsStoppedAt, NoneStopped}
-use Rattle.r6_frames.specs.Views.{is_scrub, op_of, held_requests, requests_from, shard_with}
+use Rattle.r6_world.specs.Values.{op_of}
+use Rattle.r6_frames.specs.Views.{is_scrub, held_requests, requests_from, shard_with}
 use Rattle.r6_frames.specs.Calls.{IsRequestOf, KeepsHolds, KeepsSlots}
 use Rattle.r6_frames.specs.Owed.{owed, owed_in}
 use Rattle.r6_frames.specs.Sound as held

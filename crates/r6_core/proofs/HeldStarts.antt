@@ -21,11 +21,12 @@ use Rattle.r6_world.specs.ShardStates as shards
 use Rattle.r6_world.specs.Changes.{Start, after, MayStart, staged}
 use Rattle.r6_world.specs.Steps.{Through, Scans, IsRequest}
 use Rattle.r6_world.proofs.Cells.{found-long}
-use Rattle.r6_frames.specs.declared.op.Op.TheVariants as op
-use Rattle.r6_frames.specs.declared.op.Request.{Request}
+use Rattle.r6_world.specs.declared.values.Op.TheVariants as op
+use Rattle.r6_world.specs.declared.values.Request.{Request}
 use Rattle.r6_frames.specs.declared.frames.Frames.{Frames}
 use Rattle.r6_frames.specs.declared.frames.HeldRow.{HeldRow}
-use Rattle.r6_frames.specs.Views.{op_of, hold_at, hold_of, held_requests, frame_of, shard_with}
+use Rattle.r6_world.specs.Values.{op_of}
+use Rattle.r6_frames.specs.Views.{hold_at, hold_of, held_requests, frame_of, shard_with}
 use Rattle.r6_frames.specs.Calls.{Begins, Drives, PutsOut, IsHeldFrame, IsRequestOf, KeepsReads, NotHeldBy, entry_of}
 use Rattle.r6_frames.specs.Directs.{read_requests}
 use Rattle.r6_frames.specs.Owed.{owed}

@@ -5,8 +5,8 @@ use Rattle.std.proofs.lemmas.List.Elements.{All-cons, All-nil}
 use Rattle.r6_layout.specs.Layout as layout
 use Rattle.r6_stripe.specs.BatchLists.{AreDistinct}
 use Rattle.r6_world.specs.Tasks.{Hold, Task}
-use Rattle.r6_frames.specs.declared.op.Op.TheVariants as op
-use Rattle.r6_frames.specs.declared.op.Request.{Request}
+use Rattle.r6_world.specs.declared.values.Op.TheVariants as op
+use Rattle.r6_world.specs.declared.values.Request.{Request}
 use Rattle.r6_frames.specs.declared.frames.Frames.{Frames}
 use Rattle.r6_frames.specs.Views.{hold_at, hold_of}
 use Rattle.r6_frames.specs.declared.frames.HeldRow.{HeldRow}

@@ -4,7 +4,7 @@ use Rattle.std.specs.Prelude.{is_some, option_copied}
 use Rattle.std.specs.List.{AllByRecursion}
 use Rattle.r6_world.specs.ShardStates.{limit}
 use Rattle.r6_world.specs.Steps.{Through, Scans}
-use Rattle.r6_frames.specs.declared.op.Request.{Request}
+use Rattle.r6_world.specs.declared.values.Request.{Request}
 use Rattle.r6_frames.specs.Reads.{IsFreeDirect}
 use Rattle.r6_frames.specs.Views.{AreLive}
 use Rattle.r6_waiters.specs.Line.{Entries, entries_of, oldest_of}

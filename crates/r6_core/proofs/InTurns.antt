@@ -13,8 +13,8 @@ use Rattle.r6_world.specs.ShardStates.{Shard, Stage, Waiting, Held, Reading, Not
 use Rattle.r6_world.specs.ShardStates as shards
 use Rattle.r6_world.specs.Changes.{Change, Start, Ask, Prepare, Send, Read_direct, after, Allowed, staged}
 use Rattle.r6_world.specs.Steps.{Leads, Through, Scans}
-use Rattle.r6_frames.specs.declared.op.Request.{Request}
-use Rattle.r6_frames.specs.Views.{op_of}
+use Rattle.r6_world.specs.declared.values.Request.{Request}
+use Rattle.r6_world.specs.Values.{op_of}
 use Rattle.r6_core.specs.Turns.{row_for, IsWaiting, IsHeld, MustWait, Starts, InTurn}
 
 -- ---- turns of some, with others behind them

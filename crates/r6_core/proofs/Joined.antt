@@ -7,7 +7,7 @@ use Rattle.std.proofs.lemmas.Bool.{eq-eqb, ne_eqb, cases_Bool, cases_eq}
 use Rattle.std.proofs.lemmas.List.Sorted.{IsPermutation-refl, IsPermutation-sym, IsPermutation-trans, IsPermutation-cons, IsPermutation-middle}
 use Rattle.r6_world.specs.Tables.{put}
 use Rattle.r6_world.proofs.Tables.{put-same, put-other}
-use Rattle.r6_frames.specs.declared.op.Request.{Request}
+use Rattle.r6_world.specs.declared.values.Request.{Request}
 use Rattle.r6_waiters.specs.Line.{Entries, is_key, oldest_keyed, without_oldest_keyed}
 use Rattle.r6_core.specs.Batches.{block_written, is_wanted, but, joined, left, entries_left}
 

@@ -5,7 +5,7 @@ use Rattle.std.specs.List.{AllByRecursion}
 use Rattle.r6_layout.specs.Shape.{IsShape, data_slots}
 use Rattle.r6_layout.specs.Layout as layout
 use Rattle.r6_layout.specs.declared.place.Place.{Place}
-use Rattle.r6_frames.specs.declared.op.Request.{Request}
+use Rattle.r6_world.specs.declared.values.Request.{Request}
 use Rattle.r6_frames.specs.Calls.{IsRequestOf}
 use Rattle.r6_frames.specs.Writes.{Entry, request_of}
 use Rattle.r6_waiters.specs.Line.{Entries, Line, entries_of, oldest_keyed, with_entries, without_oldest_keyed}

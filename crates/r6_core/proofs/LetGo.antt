@@ -3,7 +3,7 @@ use Rattle.std.proofs.Common.{◌≡◌, ◌≢◌, ◌⊎◌, inl, inr, ℕ, �
 use Rattle.std.specs.Prelude.{◌==◌, ◌||◌, is_some}
 use Rattle.std.specs.List.{AllByRecursion}
 use Rattle.r6_world.specs.Steps.{Through, Scans}
-use Rattle.r6_frames.specs.declared.op.Request.{Request}
+use Rattle.r6_world.specs.declared.values.Request.{Request}
 use Rattle.r6_frames.specs.Calls.{IsFreeFrame, IsHolder, NotHeldBy}
 use Rattle.r6_frames.specs.Views.{AreLive, hold_at}
 use Rattle.r6_waiters.specs.Line.{Entries, Line, all_moved, entries_of, older_of, oldest_moved, oldest_of, with_entries}

@@ -9,7 +9,7 @@ use Rattle.r6_world.specs.Registers.{Snapshot, status_of}
 use Rattle.r6_world.specs.ShardStates.{Shard}
 use Rattle.r6_world.specs.Changes.{Change, Ask, Prepare, Classify, Send, Finish, Bring_in, Adopt, Release, See_failed, adopted, after}
 use Rattle.r6_world.specs.Steps.{AtRest, Leads, Through, GoesOn, Scans, TakesOver, Looks, Look}
-use Rattle.r6_frames.specs.declared.op.Request.{Request}
+use Rattle.r6_world.specs.declared.values.Request.{Request}
 use Rattle.r6_frames.specs.declared.frames.Frames.{Frames}
 use Rattle.r6_frames.specs.Slots.{states_of}
 use Rattle.r6_core.specs.declared.state.State.{State}

@@ -11,9 +11,9 @@ use Rattle.r6_world.specs.Geometries.{layout_of}
 use Rattle.r6_world.specs.ShardStates as shards
 use Rattle.r6_world.specs.ShardStates.{SlotState, Synced, Missing, Building, InSyncFor, IsFreeBuffer, Stage, Waiting, Reading, standing_of}
 use Rattle.r6_world.specs.Changes.{read_on}
-use Rattle.r6_frames.specs.declared.op.Op.{Op}
-use Rattle.r6_frames.specs.declared.op.Op.TheVariants as op
-use Rattle.r6_frames.specs.declared.op.Request.{Request as Entered}
+use Rattle.r6_world.specs.declared.values.Op.{Op}
+use Rattle.r6_world.specs.declared.values.Op.TheVariants as op
+use Rattle.r6_world.specs.declared.values.Request.{Request as Entered}
 use Rattle.r6_frames.specs.declared.command.Outstanding.{Outstanding}
 use Rattle.r6_frames.specs.declared.directs.Direct.{Direct}
 use Rattle.r6_frames.specs.declared.directs.DirectRead.{DirectRead}
@@ -22,7 +22,8 @@ use Rattle.r6_frames.specs.declared.frames.Frames.{Frames}
 use Rattle.r6_frames.specs.Slots.{is_abandoned}
 use Rattle.r6_frames.specs.Directs.{IsCommandFor, direct_at, is_stopped, read_by, read_entry, read_requests, reads_from, stage_of}
 use Rattle.r6_frames.specs.Reads.{IsFreeDirect}
-use Rattle.r6_frames.specs.Views.{Rest, command_of, held_requests, op_of, outstanding, shard_with, world_commands, AreLive}
+use Rattle.r6_world.specs.Values.{op_of}
+use Rattle.r6_frames.specs.Views.{Rest, command_of, held_requests, outstanding, shard_with, world_commands, AreLive}
 use Rattle.r6_frames.specs.Calls.{ReadsOn, entry_on}
 use Rattle.r6_frames.specs.Sound as held
 use Rattle.r6_frames.proofs.Lists.{Entries, table, own, apart}

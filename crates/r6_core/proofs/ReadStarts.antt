@@ -15,15 +15,16 @@ use Rattle.r6_world.specs.Layouts.{Layout}
 use Rattle.r6_world.specs.ShardStates.{Shard, Request, Reading, Waiting, standing_of}
 use Rattle.r6_world.specs.Changes.{Read_direct, Allowed, after}
 use Rattle.r6_world.specs.Steps.{Through, Scans}
-use Rattle.r6_frames.specs.declared.op.Op.{Op}
-use Rattle.r6_frames.specs.declared.op.Op.TheVariants as op
-use Rattle.r6_frames.specs.declared.op.Request.{Request as Entered}
+use Rattle.r6_world.specs.declared.values.Op.{Op}
+use Rattle.r6_world.specs.declared.values.Op.TheVariants as op
+use Rattle.r6_world.specs.declared.values.Request.{Request as Entered}
 use Rattle.r6_frames.specs.declared.frames.Frames.{Frames}
 use Rattle.r6_frames.specs.declared.frames.Job.{Job}
 use Rattle.r6_frames.specs.Slots.{states_of}
 use Rattle.r6_frames.specs.Directs.{read_requests}
 use Rattle.r6_frames.specs.Reads.{IsReadable, ReadsDirectly, StandsIn, TakesDirect, reading}
-use Rattle.r6_frames.specs.Views.{buffer_of, hold_at, held_requests, is_scrub, op_of, requests_from, shard_with, AreLive}
+use Rattle.r6_world.specs.Values.{buffer_of, op_of}
+use Rattle.r6_frames.specs.Views.{hold_at, held_requests, is_scrub, requests_from, shard_with, AreLive}
 use Rattle.r6_frames.specs.Calls.{IsPlaceOf, IsRequestOf, KeepsHolds, KeepsSlots}
 use Rattle.r6_frames.specs.Owed.{owed, owed_in}
 use Rattle.r6_frames.specs.Sound as held

@@ -12,13 +12,14 @@ use Rattle.r6_world.specs.PlainArray.{Op, Reply}
 use Rattle.r6_world.specs.ShardStates as shards
 use Rattle.r6_world.specs.ShardStates.{Stage, Waiting, Held, Finished, Released, Reading}
 use Rattle.r6_world.specs.Steps.{Take_reply, No_reply}
-use Rattle.r6_frames.specs.declared.op.Request.{Request}
+use Rattle.r6_world.specs.declared.values.Request.{Request}
 use Rattle.r6_core.specs.declared.state.State.{State}
-use Rattle.r6_frames.specs.declared.op.Op.{Op as Entered}
-use Rattle.r6_frames.specs.declared.op.Op.TheVariants as op
-use Rattle.r6_frames.specs.Views.{op_of, held_requests}
+use Rattle.r6_world.specs.declared.values.Op.{Op as Entered}
+use Rattle.r6_world.specs.declared.values.Op.TheVariants as op
+use Rattle.r6_world.specs.Values.{op_of, reply_of}
+use Rattle.r6_frames.specs.Views.{held_requests}
 use Rattle.r6_frames.specs.Calls.{HasOneBlock}
-use Rattle.r6_core.specs.Shards.{Step, reply_of, answer_of, state_of, requests_of, waiting_request, finished_request, released_request, replied_requests, core_of, framed_requests, waiting_of}
+use Rattle.r6_core.specs.Shards.{Step, answer_of, state_of, requests_of, waiting_request, finished_request, released_request, replied_requests, core_of, framed_requests, waiting_of}
 use Rattle.r6_core.specs.Order.{HasNoReply, BringsBack, TakesFirst, reply_to}
 use Rattle.r6_core.specs.Inside.{IsSettled, reply_for}
 use Rattle.r6_frames.proofs.Lists.{Entries, table, gone, own, apart, all_parts, distinct_without, looked_up}

@@ -9,7 +9,7 @@ use Rattle.r6_layout.specs.Layout as layout
 use Rattle.r6_layout.proofs.Places.{index_of-lt, block_at-row_of, row_of-block_at, index_of-block_at}
 use Rattle.r6_world.specs.Geometries.{layout_of}
 use Rattle.r6_world.proofs.Tables.{put-same, put-other}
-use Rattle.r6_frames.specs.declared.op.Request.{Request}
+use Rattle.r6_world.specs.declared.values.Request.{Request}
 use Rattle.r6_waiters.specs.Line.{Entries, without_oldest_keyed}
 use Rattle.r6_core.specs.Batches.{entries_left, others_of, joined}
 use Rattle.r6_core.proofs.Joined.{key_of, plus, values, oldest_in, takes_oldest, none_join, all_stay}

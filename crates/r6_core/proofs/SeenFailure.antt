@@ -16,7 +16,7 @@ use Rattle.r6_world.specs.ShardStates as shards
 use Rattle.r6_world.specs.ShardStates.{Shard, Released}
 use Rattle.r6_world.specs.Changes.{See_failed, abandoned_if, failed_stage, failed_request, is_going_on, read_stage, after}
 use Rattle.r6_frames.specs.FramesState.{Commands}
-use Rattle.r6_frames.specs.declared.op.Request.{Request}
+use Rattle.r6_world.specs.declared.values.Request.{Request}
 use Rattle.r6_frames.specs.declared.frames.Job.{Job}
 use Rattle.r6_frames.specs.declared.frames.Frames.{Frames}
 use Rattle.r6_frames.specs.declared.frames.FrameUse.{FrameUse}

@@ -6,11 +6,12 @@ use Rattle.std.proofs.lemmas.List.{drop-append-le, take-append-le, take-append-d
 use Rattle.r6_world.specs.PlainArray as world
 use Rattle.r6_world.specs.Layouts.{Layout}
 use Rattle.r6_world.specs.Steps.{GoesOn, Through}
-use Rattle.r6_frames.specs.declared.op.Request.{Request}
+use Rattle.r6_world.specs.declared.values.Request.{Request}
 use Rattle.r6_frames.specs.declared.frames.HeldRow.{HeldRow}
 use Rattle.r6_frames.specs.declared.frames.Job.{Job}
 use Rattle.r6_frames.specs.declared.frames.Frames.{Frames}
-use Rattle.r6_frames.specs.Views.{op_of, row_in, hold_at, held_for, held_requests, kind_in, requests_by, AreLive}
+use Rattle.r6_world.specs.Values.{op_of}
+use Rattle.r6_frames.specs.Views.{row_in, hold_at, held_for, held_requests, kind_in, requests_by, AreLive}
 use Rattle.r6_frames.specs.Calls.{KeepsOthers, KeepsReads, KeepsRows, Drives}
 use Rattle.r6_frames.specs.Owed.{owed, IsDriven, IsOver}
 use Rattle.r6_frames.specs.Sound as held

@@ -8,7 +8,7 @@ use Rattle.circular_buffer.specs.Buffer.{Buffer}
 use Rattle.std.proofs.lemmas.List.{take-append-drop, length-take-le}
 use Rattle.std.proofs.lemmas.List.Sorted.{IsPermutation-refl, IsPermutation-append_right, IsPermutation-map, length_permutation}
 use Rattle.r6_world.specs.ShardStates as shards
-use Rattle.r6_frames.specs.declared.op.Request.{Request}
+use Rattle.r6_world.specs.declared.values.Request.{Request}
 use Rattle.r6_frames.specs.Calls.{HasOneBlock}
 use Rattle.r6_frames.specs.Views.{shard_with}
 use Rattle.r6_frames.proofs.Lists.{Entries}

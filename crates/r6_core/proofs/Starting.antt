@@ -5,7 +5,7 @@ use Rattle.r6_world.specs.Tasks.{Hold}
 use Rattle.r6_world.specs.ShardStates.{NotHeld}
 use Rattle.r6_world.specs.Changes.{Change, Ask, Prepare, Send}
 use Rattle.r6_world.specs.Steps.{Scans}
-use Rattle.r6_frames.specs.declared.op.Request.{Request as Entered}
+use Rattle.r6_world.specs.declared.values.Request.{Request as Entered}
 use Rattle.r6_frames.specs.declared.frames.Frames.{Frames}
 use Rattle.r6_core.specs.declared.state.State.{State}
 use Rattle.r6_frames.specs.Views.{hold_at, row_in, Rest, shard_with}

@@ -10,7 +10,7 @@ use Rattle.r6_world.specs.Tasks.{serves_one}
 use Rattle.r6_world.specs.ShardStates as shards
 use Rattle.r6_world.specs.ShardStates.{Held}
 use Rattle.r6_world.specs.Changes.{staged}
-use Rattle.r6_frames.specs.declared.op.Request.{Request}
+use Rattle.r6_world.specs.declared.values.Request.{Request}
 use Rattle.r6_frames.specs.Calls.{entry_of}
 use Rattle.r6_frames.proofs.Lists.{Entries, table}
 use Rattle.r6_core.specs.Shards.{waiting_request}

@@ -6,14 +6,15 @@ use Rattle.std.proofs.lemmas.Bool.{cases_eq}
 use Rattle.r6_layout.specs.Shape.{Shape}
 use Rattle.r6_layout.specs.Layout.{index_of, row_of, slot_at}
 use Rattle.r6_world.specs.PlainArray.{block_of}
-use Rattle.r6_frames.specs.declared.op.Request.{Request as Entered}
+use Rattle.r6_world.specs.declared.values.Request.{Request as Entered}
 use Rattle.r6_frames.specs.declared.frames.Frames.{Frames}
 use Rattle.r6_frames.specs.declared.frames.Job.{Job}
 use Rattle.r6_frames.specs.declared.frames.HeldRow.{HeldRow}
-use Rattle.r6_frames.specs.Views.{op_of, held_for, use_at, row_in, hold_at, AreLive}
+use Rattle.r6_world.specs.Values.{op_of}
+use Rattle.r6_frames.specs.Views.{held_for, use_at, row_in, hold_at, AreLive}
 use Rattle.r6_frames.specs.Calls.{IsFreeFrame, IsHolder, NotHeldBy, KeepsDirects, KeepsHolds, KeepsOthers, KeepsRows}
-use Rattle.r6_frames.specs.declared.op.Op.{Op}
-use Rattle.r6_frames.specs.declared.op.Op.TheVariants as op
+use Rattle.r6_world.specs.declared.values.Op.{Op}
+use Rattle.r6_world.specs.declared.values.Op.TheVariants as op
 use Rattle.r6_frames.specs.declared.directs.Direct.{Direct}
 use Rattle.r6_frames.specs.Directs.{direct_at, is_free_direct}
 use Rattle.r6_frames.specs.Reads.{IsFreeDirect}

@@ -10,22 +10,23 @@ use Rattle.r6_core.specs.Rebuilds.{IsNextRebuild}
 use Rattle.r6_world.specs.ShardStates as shards
 use Rattle.r6_world.specs.Steps as steps
 use Rattle.r6_world.specs.Worlds.{shard_at_start}
-use Rattle.r6_frames.specs.declared.op.Op.{Op}
-use Rattle.r6_frames.specs.declared.command.Command.{Command}
+use Rattle.r6_world.specs.declared.values.Op.{Op}
+use Rattle.r6_world.specs.declared.values.Command.{Command}
 use Rattle.r6_frames.specs.declared.frames.Scrub.{Scrub}
 use Rattle.r6_frames.specs.declared.frames.Scrub.TheVariants as scrub
-use Rattle.r6_frames.specs.Views.{op_of, scrub_task, world_command}
+use Rattle.r6_world.specs.Values.{op_of, world_command, completion_of, receipt_of, buffer_in, reply_of, buffer_back}
+use Rattle.r6_frames.specs.Views.{scrub_task}
 use Rattle.r6_core.specs.declared.call.Call.{Call}
-use Rattle.r6_core.specs.declared.reply.Reply.{Reply}
-use Rattle.r6_core.specs.declared.refusal.DeviceFault.{DeviceFault}
-use Rattle.r6_core.specs.declared.refusal.Receipt.{Receipt}
+use Rattle.r6_world.specs.declared.values.Reply.{Reply}
+use Rattle.r6_world.specs.declared.values.DeviceFault.{DeviceFault}
+use Rattle.r6_world.specs.declared.values.Receipt.{Receipt}
 use Rattle.r6_core.specs.declared.refusal.Refusal.{Refusal}
 use Rattle.r6_core.specs.declared.refusal.Refusal.TheVariants.{UntoldFirst, UnknownCall}
 use Rattle.r6_core.specs.declared.turn.Task.{Task}
 use Rattle.r6_core.specs.declared.turn.Task.TheVariants as task
 use Rattle.r6_core.specs.declared.turn.Turn.{Turn}
 use Rattle.r6_core.specs.declared.turn.Turn.TheVariants.{Started, Skipped}
-use Rattle.r6_core.specs.Shards.{CoreView, SameShard, Step, turn_row, world_shard, core_layout, completion_of, receipt_of, buffer_in, reply_of, buffer_back, call_of}
+use Rattle.r6_core.specs.Shards.{CoreView, SameShard, Step, turn_row, world_shard, core_layout, call_of}
 use Rattle.r6_core.specs.Refusals.{HasSubmitFault, submit_faults, HasDeliverFault, deliver_faults, HasRebuildFault, HasTurnFault, turn_faults, IsFirstFault, HasNone, AllTold}
 use Rattle.r6_core.specs.Order.{BringsBack, NoReplies, SameReplies, KeepsReplies, FinishesBy, LooksOn, TakesFirst, HasNoReply, HaveTurns, HaveTurnsBehind, HaveTurnsAfter}
 

@@ -16,16 +16,16 @@ use Rattle.r6_world.specs.Tasks.{Task, ReadFor}
 use Rattle.r6_world.specs.Changes.{Change, after, Allowed}
 use Rattle.r6_world.specs.Steps as steps
 use Rattle.r6_world.specs.Steps.{Through, GoesOn, Takes}
-use Rattle.r6_frames.specs.declared.op.Op.{Op}
-use Rattle.r6_frames.specs.declared.op.Request.{Request}
+use Rattle.r6_world.specs.declared.values.Op.{Op}
+use Rattle.r6_world.specs.declared.values.Request.{Request}
 use Rattle.r6_core.specs.declared.call.Call.{Call}
 use Rattle.r6_core.specs.declared.call.Call.TheVariants as call
 use Rattle.circular_buffer.specs.Buffer.{buffer}
 use Rattle.r6_waiters.specs.Line.{Entries, Line, capacity_of, causes_of, entries_of, oldest_of, oldest_keyed, with_entries, without_oldest, without_oldest_keyed}
 use Rattle.r6_frames.specs.declared.rebuilt.Target.{Target}
-use Rattle.r6_core.specs.declared.reply.Reply.{Reply}
-use Rattle.r6_core.specs.declared.reply.Reply.TheVariants as reply
-use Rattle.r6_core.specs.declared.refusal.DeviceFault.{DeviceFault}
+use Rattle.r6_world.specs.declared.values.Reply.{Reply}
+use Rattle.r6_world.specs.declared.values.Reply.TheVariants as reply
+use Rattle.r6_world.specs.declared.values.DeviceFault.{DeviceFault}
 use Rattle.r6_core.specs.declared.refusal.Refusal.{Refusal}
 use Rattle.r6_core.specs.declared.scan.Freed.{Freed}
 use Rattle.r6_core.specs.declared.scan.Freed.TheVariants as freed
@@ -46,18 +46,19 @@ use Rattle.r6_frames.specs.declared.frames.HeldRow.{HeldRow}
 use Rattle.r6_frames.specs.declared.rebuilt.Rebuilt.{Rebuilt}
 use Rattle.r6_frames.specs.Rebuilt.{IsRebuilt, next_row as built_next}
 use Rattle.r6_frames.specs.Slots.{states_of}
-use Rattle.r6_frames.specs.declared.op.Op.TheVariants as op
+use Rattle.r6_world.specs.declared.values.Op.TheVariants as op
 use Rattle.r6_frames.specs.declared.frames.Served.{Served}
 use Rattle.r6_frames.specs.declared.directs.DirectRead.{DirectRead}
 use Rattle.r6_frames.specs.Directs.{direct_at, read_request, read_requests}
 use Rattle.r6_frames.specs.Reads.{FreesDirect, IsFreeDirect, TakesDirect}
-use Rattle.r6_frames.specs.Views.{op_of, buffer_of, is_request, is_scrub, held_for, row_in, kind_in, requests_by, held_requests, hold_at, AreLive}
+use Rattle.r6_world.specs.Values.{op_of, buffer_of, buffer_in}
+use Rattle.r6_frames.specs.Views.{is_request, is_scrub, held_for, row_in, kind_in, requests_by, held_requests, hold_at, AreLive}
 use Rattle.r6_frames.specs.Calls.{requests_of as requests_ended, AreAllInSync, Between, BringsIn, HasOneBlock, Marks, IsAwaited, IsFreeFrame, IsHolder, IsRequestOf, KeepsDirects, KeepsHolds, KeepsOthers, NotHeldBy}
 use Rattle.r6_frames.specs.Owed.{owed, last_token, IsDriven, IsOver, OwesCommands}
 use Rattle.r6_layout.specs.declared.place.Place.{Place}
 use Rattle.r6_frames.specs.Calls as frames
 use Rattle.r6_frames.specs.Sound as held
-use Rattle.r6_core.specs.Shards.{CoreView, SameShard, buffer_in, core_of, layout_in, requests_of, state_of, turn_row, waiting_of}
+use Rattle.r6_core.specs.Shards.{CoreView, SameShard, core_of, layout_in, requests_of, state_of, turn_row, waiting_of}
 use Rattle.r6_world.specs.ShardStates.{limit}
 use Rattle.r6_core.specs.Refusals.{most_unanswered, HasCompletionFault}
 use Rattle.r6_core.specs.Batches.{entries_left, joined}

@@ -9,16 +9,16 @@ use Rattle.r6_world.specs.ShardStates as shards
 use Rattle.r6_world.specs.ShardStates.{Shard, Reading}
 use Rattle.r6_world.specs.Changes.{Change, Release, after, Allowed, differs}
 use Rattle.r6_world.specs.Steps.{Through, GoesOn, Takes, TakesOver}
-use Rattle.r6_frames.specs.declared.op.Op.{Op}
-use Rattle.r6_frames.specs.declared.op.Op.TheVariants as op
-use Rattle.r6_frames.specs.declared.op.Request.{Request}
-use Rattle.r6_frames.specs.Views.{op_of, buffer_of}
-use Rattle.r6_core.specs.declared.reply.Reply.{Reply}
-use Rattle.r6_core.specs.declared.reply.Reply.TheVariants as reply
-use Rattle.r6_core.specs.declared.refusal.DeviceFault.{DeviceFault}
-use Rattle.r6_core.specs.declared.refusal.Receipt.{Receipt}
+use Rattle.r6_world.specs.declared.values.Op.{Op}
+use Rattle.r6_world.specs.declared.values.Op.TheVariants as op
+use Rattle.r6_world.specs.declared.values.Request.{Request}
+use Rattle.r6_world.specs.Values.{op_of, buffer_of, completion_of, receipt_of}
+use Rattle.r6_world.specs.declared.values.Reply.{Reply}
+use Rattle.r6_world.specs.declared.values.Reply.TheVariants as reply
+use Rattle.r6_world.specs.declared.values.DeviceFault.{DeviceFault}
+use Rattle.r6_world.specs.declared.values.Receipt.{Receipt}
 use Rattle.r6_world.specs.ShardStates.{limit}
-use Rattle.r6_core.specs.Shards.{CoreView, world_shard, core_layout, completion_of, receipt_of}
+use Rattle.r6_core.specs.Shards.{CoreView, world_shard, core_layout}
 pub use Rattle.r6_core.specs.Turns.{IsHeld, IsHeldFor, IsRead, IsWaiting, InTurn, MustWait, Starts}
 
 -- ---- replies

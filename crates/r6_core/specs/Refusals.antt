@@ -5,13 +5,13 @@ use Rattle.r6_layout.specs.Layout as layout
 use Rattle.r6_world.specs.PlainArray as world
 use Rattle.r6_world.specs.ShardStates.{Command, limit, IsFree, IsLive, NotHeld}
 use Rattle.r6_world.specs.Changes.{AllInSync}
-use Rattle.r6_frames.specs.declared.op.Op.{Op}
+use Rattle.r6_world.specs.declared.values.Op.{Op}
 use Rattle.r6_core.specs.declared.refusal.CoreError.{CoreError}
 use Rattle.r6_core.specs.declared.refusal.CoreError.TheVariants.{NoMemory}
 use Rattle.r6_core.specs.declared.refusal.Refusal.{Refusal}
 use Rattle.r6_core.specs.declared.refusal.Refusal.TheVariants.{NoSuchBlock, WrongShard, WrongLength, Busy, ArrayFailed, Exhausted, UnknownToken, UntoldFirst, NoFrame, NothingToDo, UnknownCall}
 use Rattle.r6_frames.specs.declared.frames.Scrub.{Scrub}
-use Rattle.r6_frames.specs.Views.{op_of, buffer_of}
+use Rattle.r6_world.specs.Values.{op_of, buffer_of}
 use Rattle.r6_core.specs.Shards.{CoreView, core_layout, turn_row, world_shard}
 use Rattle.r6_core.specs.Rebuilds.{NoneToRebuild}
 

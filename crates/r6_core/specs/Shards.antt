@@ -8,14 +8,9 @@ use Rattle.r6_world.specs.Geometries.{layout_of}
 use Rattle.r6_world.specs.ShardStates as shards
 use Rattle.r6_world.specs.ShardStates.{Shard, Stage, Waiting, Finished, Released, SlotState, Synced, Missing, Building, LossOf, RebuildOf}
 use Rattle.r6_world.specs.Steps as steps
-use Rattle.r6_frames.specs.declared.op.Op.{Op}
-use Rattle.r6_frames.specs.declared.op.Op.TheVariants as op
-use Rattle.r6_frames.specs.declared.op.Request.{Request}
-use Rattle.r6_core.specs.declared.reply.Reply.{Reply}
-use Rattle.r6_core.specs.declared.reply.Reply.TheVariants as reply
-use Rattle.r6_core.specs.declared.refusal.DeviceFault.{DeviceFault}
-use Rattle.r6_core.specs.declared.refusal.Receipt.{Receipt}
-use Rattle.r6_core.specs.declared.refusal.Receipt.TheVariants as receipt
+use Rattle.r6_world.specs.declared.values.Op.{Op}
+use Rattle.r6_world.specs.declared.values.Op.TheVariants as op
+use Rattle.r6_world.specs.declared.values.Request.{Request}
 use Rattle.r6_core.specs.declared.call.Call.{Call}
 use Rattle.r6_core.specs.declared.call.Call.TheVariants as call
 use Rattle.r6_core.specs.declared.counts.Counts.{Counts}
@@ -25,7 +20,8 @@ use Rattle.r6_frames.specs.declared.slots.Device.TheVariants as device
 use Rattle.r6_frames.specs.declared.frames.Scrub.{Scrub}
 use Rattle.r6_frames.specs.declared.frames.Scrub.TheVariants as scrub
 use Rattle.r6_frames.specs.Slots as slots
-use Rattle.r6_frames.specs.Views.{op_of, held_requests, Rest, shard_with}
+use Rattle.r6_world.specs.Values.{op_of}
+use Rattle.r6_frames.specs.Views.{held_requests, Rest, shard_with}
 use Rattle.r6_frames.specs.Directs.{read_requests}
 use Rattle.r6_frames.specs.declared.frames.Frames.{Frames}
 use Rattle.r6_waiters.specs.Line.{Line, entries_of}
@@ -186,32 +182,6 @@ SameShard old new = (new.shape ≡ old.shape) × (new.shard ≡ old.shard)
 abbrev pub Step : CoreView → steps.Event → CoreView → Type 0
 Step old event new =
     SameShard old new × steps.Step (core_layout old) old.shard (world_shard old) event (world_shard new)
-
--- ---- completions and replies, as the world has them
-
-abbrev pub completion_of : Result (List ℕ) DeviceFault → steps.Completion
-completion_of (Ok buffer) = steps.Good buffer
-completion_of (Err fault) = steps.Error
-
-abbrev pub receipt_of : Receipt → steps.Receipt
-receipt_of receipt.Taken = steps.Taken
-receipt_of receipt.Late = steps.Late
-
--- the command's buffer
-abbrev pub buffer_in : Result (List ℕ) DeviceFault → List ℕ
-buffer_in (Ok buffer) = buffer
-buffer_in (Err fault) = fault.buffer
-
-abbrev pub reply_of : Reply → world.Reply
-reply_of (reply.Data buffer) = world.Reply.Data buffer
-reply_of (reply.Done buffer) = world.Reply.Done
-reply_of (reply.ArrayFailed buffer) = world.Reply.ArrayFailed
-
--- the caller's buffer
-abbrev pub buffer_back : Reply → List ℕ
-buffer_back (reply.Data buffer) = buffer
-buffer_back (reply.Done buffer) = buffer
-buffer_back (reply.ArrayFailed buffer) = buffer
 
 -- ---- slots
 

@@ -7,10 +7,10 @@ use Rattle.r6_world.specs.Tasks.{Task, ReadFor, WriteFor, Write}
 use Rattle.r6_world.specs.ShardStates.{Shard, Waiting, Held, IsLive, CouldStart}
 use Rattle.r6_world.specs.Changes.{Read_direct, Start, after, Allowed}
 use Rattle.r6_world.specs.Steps.{Through}
-use Rattle.r6_frames.specs.declared.op.Op.{Op}
-use Rattle.r6_frames.specs.declared.op.Op.TheVariants as op
-use Rattle.r6_frames.specs.declared.op.Request.{Request}
-use Rattle.r6_frames.specs.Views.{op_of, buffer_of}
+use Rattle.r6_world.specs.declared.values.Op.{Op}
+use Rattle.r6_world.specs.declared.values.Op.TheVariants as op
+use Rattle.r6_world.specs.declared.values.Request.{Request}
+use Rattle.r6_world.specs.Values.{op_of, buffer_of}
 use Rattle.r6_frames.specs.Calls.{PutsOut}
 use Rattle.r6_core.specs.Batches.{others_of, joined}
 

@@ -9,17 +9,19 @@ ghost use Rattle.r6_frames.specs.Reads.{IsOfRead};
 ghost use Rattle.r6_frames.specs.Calls.{IsAwaited, IsAbandoned, IsHeldFrame, KeepsHolds, KeepsOthers, KeepsReads, requests_of as requests_ended, MayMark, ended_task, ended_outcome};
 ghost use Rattle.r6_frames.specs.Sound as held;
 ghost use Rattle.r6_frames.specs.Owed.{IsDriven};
-ghost use Rattle.r6_core.specs.Shards.{Step, core_of, completion_of, receipt_of, counts_of};
+ghost use Rattle.r6_world.specs.Values.{completion_of, receipt_of};
+ghost use Rattle.r6_core.specs.Shards.{Step, core_of, counts_of};
 ghost use Rattle.r6_core.specs.Refusals.{IsFirstFault, HasNone, deliver_faults};
 ghost use Rattle.r6_core.specs.Order.{MayFinish, Finishes, FinishesBy, HaveTurnsBehind};
 ghost use Rattle.r6_core.specs.Inside.{IsSound, IsSettled, IsCore, IsMarked, IsPlainEnd, IsRestedFrame, one_rebuilt, HasFault, HasFreed, HasBuffer, HasEnded, HasPlace, HandsBack, FreesRoom, AreReadOn, FinishesHeld, FinishMore, rows_counted, KeepsShard, KeepsWaiting, ReadAgain, ReadAgainFor, Leads, Seen, TakesThrough};
 
 use crate::call::Call;
-use crate::refusal::{DeviceFault, Receipt, Refusal, Refused};
+use crate::refusal::{Refusal, Refused};
 use crate::scan::{ANYTHING, Freed};
 use crate::state::State;
-use r6_frames::{Ended, Op, Request, Served, Target};
+use r6_frames::{Ended, Served, Target};
 use r6_kernels::Buffer;
+use r6_world::{DeviceFault, Op, Receipt, Request};
 
 impl State {
     // Why a completion is refused, if it is.

@@ -5,7 +5,7 @@ ghost use Rattle.std.specs.List.{AllByRecursion};
 ghost use Rattle.r6_layout.specs.Layout as layout;
 ghost use Rattle.r6_layout.specs.Shape.{IsShape, data_slots};
 ghost use Rattle.r6_waiters.specs.Line.{entries_of, with_entries};
-ghost use Rattle.r6_frames.specs.declared.op.Op.TheVariants as op;
+ghost use Rattle.r6_world.specs.declared.values.Op.TheVariants as op;
 ghost use Rattle.r6_frames.specs.Calls.{IsPlaceOf, IsRequestOf};
 ghost use Rattle.r6_frames.specs.Owed.{last_token};
 ghost use Rattle.r6_frames.specs.Sound as held;
@@ -13,9 +13,10 @@ ghost use Rattle.r6_frames.specs.Writes.{Entry, has_index, request_of};
 ghost use Rattle.r6_core.specs.Inside.{BeginsFor, CanHold, HaveRooms, HoldsFor, IsFirst, JoinedBy, JoinsOne, ServeTogether, row_of_request};
 
 use crate::state::State;
-use r6_frames::{Op, Request, Served, Writes};
+use r6_frames::{Served, Writes};
 use r6_kernels::Buffer;
 use r6_layout::Place;
+use r6_world::{Op, Request};
 
 impl State {
     /// The row of the request, which stands at this place, is held for it in the frame. A write takes waiting writes of

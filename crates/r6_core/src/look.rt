@@ -16,8 +16,9 @@ use crate::refusal::Refusal;
 use crate::scan::{ANYTHING, Freed};
 use crate::state::State;
 use circular_buffer::HeapCircularBuffer;
-use r6_frames::{Device, FRAMES, Rebuilt, Request};
+use r6_frames::{Device, FRAMES, Rebuilt};
 use r6_health::{SlotState, Snapshot};
+use r6_world::Request;
 
 impl State {
     /// Takes over what the register has of each slot. Then all finished requests are released, those too that a loss

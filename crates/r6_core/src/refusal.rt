@@ -1,9 +1,7 @@
-//! Why a call of a core is refused, and what a device says of a command.
+//! Why a call of a core is refused.
 
 ghost use Rattle.std.specs.Prelude.{◌≡◌};
 ghost use Rattle.r6_core.specs.Refusals.{error_number, number_of, name_of};
-
-use r6_kernels::Buffer;
 
 /// Why a core can't be made.
 #[derive(Clone, Copy, PartialEq, Eq, Debug)]
@@ -82,35 +80,4 @@ pub struct Refused<T> {
     pub refusal: Refusal,
     /// As it was.
     pub back: T,
-}
-
-/// How a device failed.
-#[derive(Clone, Copy, PartialEq, Eq, Debug)]
-pub enum FaultKind {
-    /// A block couldn't be read.
-    ReadFault,
-    /// A block couldn't be written.
-    WriteFault,
-    /// The device is there no more.
-    Gone,
-    /// The device hasn't the row, or blocks of another length.
-    Length,
-}
-
-/// A command that a device didn't perform, with the command's buffer.
-#[derive(Drop)]
-pub struct DeviceFault {
-    /// For whoever tells of it: each takes the slot out.
-    pub kind: FaultKind,
-    /// Of the block's length; its bytes don't matter.
-    pub buffer: Buffer,
-}
-
-/// What became of a completion.
-#[derive(Clone, Copy, PartialEq, Eq, Debug)]
-pub enum Receipt {
-    /// It was the answer that a hold waited for.
-    Taken,
-    /// Its command had been abandoned: it only brought its buffer home.
-    Late,
 }

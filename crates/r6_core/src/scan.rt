@@ -11,8 +11,9 @@ ghost use Rattle.r6_frames.specs.Sound as held;
 ghost use Rattle.r6_core.specs.Inside.{IsSettled, IsCore, IsOpOf, IsRoomFor, IsSyncedRead, CanRead, served_of, anything, causes, row_of_request, HasBuffer, HasFreed, HasLetGo, IsFirstToStart, LeavesLine, Leads, OnlyStarts, StartsWith, WaitingHaveTurns};
 
 use crate::state::{LIMIT, State};
-use r6_frames::{FRAMES, Op, Request, Served};
+use r6_frames::{FRAMES, Served};
 use r6_layout::Place;
+use r6_world::{Op, Request};
 
 // What a request waits for is a number: for a row that is held that of its frame, and else one of these.
 

@@ -10,14 +10,14 @@ ghost use Rattle.r6_core.specs.Effects.{KeepsRequests, IsMade, Accepts, RefusesO
 
 use crate::call::Call;
 use crate::counts::Counts;
-use crate::refusal::{CoreError, DeviceFault, Receipt, Refusal, Refused};
-use crate::reply::{OpId, Reply};
+use crate::refusal::{CoreError, Refusal, Refused};
 use crate::state::State;
 use crate::turn::{Task, Turn};
-use r6_frames::{Command, Device, Op, Scrub};
+use r6_frames::{Device, Scrub};
 use r6_health::{Answer, Refusal as RegisterRefusal, SlotState, Snapshot};
 use r6_kernels::Buffer;
 use r6_layout::{Geometry, MOST_SLOTS};
+use r6_world::{Command, DeviceFault, Op, OpId, Receipt, Reply};
 use std::alloc::Global;
 use std::marker::Model;
 

@@ -8,11 +8,11 @@ ghost use Rattle.r6_kernels.specs.Blocks.{IsBlock};
 ghost use Rattle.r6_layout.specs.Shape.{IsShape};
 ghost use Rattle.r6_world.specs.Steps.{Submit, No_command, Take_reply, No_reply, Scans, Through};
 ghost use Rattle.r6_world.specs.Changes.{Accept, after, Allowed};
-ghost use Rattle.r6_frames.specs.Views.{op_of, buffer_of};
+ghost use Rattle.r6_world.specs.Values.{op_of, buffer_of, reply_of, buffer_back};
 ghost use Rattle.r6_frames.specs.Calls as frames;
 ghost use Rattle.r6_frames.specs.Calls.{IsPlaceOf};
 ghost use Rattle.r6_frames.specs.Slots.{slot_before, AreUsed};
-ghost use Rattle.r6_core.specs.Shards.{Step, core_of, state_of, layout_in, reply_of, buffer_back, waiting_of};
+ghost use Rattle.r6_core.specs.Shards.{Step, core_of, state_of, layout_in, waiting_of};
 ghost use Rattle.r6_core.specs.Refusals.{most_unanswered, HasSubmitFault, IsFirstFault, HasNone, submit_faults};
 ghost use Rattle.r6_core.specs.Order.{NoReplies, SameReplies, BringsBack, TakesFirst, HasNoReply, HaveTurns, reply_to};
 ghost use Rattle.r6_core.specs.Effects.{KeepsRequests, HandsCommand};
@@ -21,13 +21,13 @@ ghost use Rattle.r6_core.specs.Inside.{causes, IsSound, IsCore, IsFresh, SameCal
 use crate::call::Call;
 use crate::counts::Counts;
 use crate::refusal::{Refusal, Refused};
-use crate::reply::{OpId, Reply};
 use crate::scan::{CAUSES, Room};
 use crate::written::Written;
 use circular_buffer::HeapCircularBuffer;
-use r6_frames::{Command, Device, FRAMES, Frames, Op, Request, Writes};
+use r6_frames::{Device, FRAMES, Frames, Writes};
 use r6_layout::{Geometry, MOST_SLOTS, Place};
 use r6_waiters::Waiters;
+use r6_world::{Command, Op, OpId, Reply, Request};
 use std::alloc::{AllocError, Global};
 
 /// As many accepted requests whose replies were not taken.

@@ -3,8 +3,8 @@
 ghost use Rattle.std.specs.Prelude.{◌≡◌};
 ghost use Rattle.r6_core.specs.Inside.{block_written};
 
-use r6_frames::{Op, Request};
 use r6_waiters::KeyOf;
+use r6_world::{Op, Request};
 
 /// A write that waits has the number of its block as key, and a read none.
 #[derive(Drop)]

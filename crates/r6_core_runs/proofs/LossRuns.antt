@@ -22,9 +22,10 @@ use Rattle.r6_world.specs.Laws.{IsOfOutside}
 use Rattle.r6_world.specs.Witness.{smallest, small, after_all}
 use Rattle.r6_world.proofs.Tables.{put-same, put-other, None-not_Some, Some-inj}
 use Rattle.r6_world.proofs.Geometries.{layouts}
-use Rattle.r6_core.specs.declared.refusal.DeviceFault.{DeviceFault}
-use Rattle.r6_core.specs.declared.refusal.Receipt.{Receipt}
-use Rattle.r6_core.specs.Shards.{CoreView, Step, world_shard, completion_of, receipt_of}
+use Rattle.r6_world.specs.declared.values.DeviceFault.{DeviceFault}
+use Rattle.r6_world.specs.declared.values.Receipt.{Receipt}
+use Rattle.r6_world.specs.Values.{completion_of, receipt_of}
+use Rattle.r6_core.specs.Shards.{CoreView, Step, world_shard}
 use Rattle.r6_core.specs.Effects.{IsMade, Receives}
 use Rattle.r6_core.specs.Runs.{Happening, Call, Perform, Tell, Outside, Moment, in_world, moment_of, cores_after, MayHappen, CoresRun, AreMade, IsShard, AreShards, StayShards}
 use Rattle.r6_core_runs.specs.Losses.{events_in, events_of, cores_behind, HasRun, Fails, Reads, Writes, Tells, FindsLoss, Restores, ReadsAround, RunsThroughLoss, two_shards, both, AreBothMade, RunsBesideLoss}

@@ -6,7 +6,8 @@ use Rattle.r6_health.specs.declared.register.Register.{Register}
 use Rattle.r6_health.specs.Passes.{IsPassOf, view_of}
 use Rattle.r6_world.specs.PlainArray.{ArrayFailed}
 use Rattle.r6_world.specs.Registers.{Snapshot}
-use Rattle.r6_core.specs.Shards.{world_shard, reply_of}
+use Rattle.r6_world.specs.Values.{reply_of}
+use Rattle.r6_core.specs.Shards.{world_shard}
 use Rattle.r6_shard.specs.Own.{AreOwn}
 use Rattle.r6_feed.specs.declared.answer.EventAnswer.{EventAnswer}
 use Rattle.r6_feed.specs.Feeds.{WereTold}

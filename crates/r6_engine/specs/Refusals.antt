@@ -1,8 +1,8 @@
 -- Why a shard of an array that is served refuses a request (this project's own).
 use Rattle.std.specs.Prelude.{◌≡◌, ◌≢◌, ℕ, ◌≤◌, ◌⊎◌, List, All, length, slice_get, Some, true}
 use Rattle.r6_world.specs.ShardStates.{limit}
-use Rattle.r6_frames.specs.declared.op.Op.{Op}
-use Rattle.r6_frames.specs.Views.{buffer_of}
+use Rattle.r6_world.specs.declared.values.Op.{Op}
+use Rattle.r6_world.specs.Values.{buffer_of}
 use Rattle.r6_core.specs.declared.refusal.Refusal.{Refusal}
 use Rattle.r6_core.specs.declared.refusal.Refusal.TheVariants.{WrongLength, ArrayFailed, Exhausted}
 use Rattle.r6_core.specs.Shards.{CoreView, world_shard}

@@ -4,7 +4,7 @@ ghost use Rattle.std.specs.Prelude.{◌≡◌, ℕ, ◌+◌, ◌*◌, ◌<◌, �
 ghost use Rattle.r6_kernels.specs.Blocks.{zeros};
 ghost use Rattle.r6_layout.specs.Shape.{shape_of};
 ghost use Rattle.r6_dev.specs.Memory.{told_by};
-ghost use Rattle.r6_frames.specs.declared.op.Op.TheVariants as op;
+ghost use Rattle.r6_world.specs.declared.values.Op.TheVariants as op;
 ghost use Rattle.r6_lists.specs.Events.{Request, Attach, Check, tasks_of, numbers_of, all_tasks};
 
 use crate::blocks::filled;

@@ -4,8 +4,8 @@ use Rattle.r6_dev.specs.Promises.{Promise, FailsNone}
 use Rattle.r6_layout.specs.Shape.{Shape}
 use Rattle.r6_world.specs.Geometries.{layout_of}
 use Rattle.r6_world.specs.Layouts.{IsRowOf}
-use Rattle.r6_frames.specs.declared.op.Op.{Op}
-use Rattle.r6_frames.specs.declared.op.Op.TheVariants as op
+use Rattle.r6_world.specs.declared.values.Op.{Op}
+use Rattle.r6_world.specs.declared.values.Op.TheVariants as op
 use Rattle.r6_lists.specs.declared.work.Work.{Work}
 use Rattle.r6_lists.specs.declared.work.Work.TheVariants as work
 use Rattle.r6_lists.specs.Lists.{IsAsPromised}

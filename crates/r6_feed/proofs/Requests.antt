@@ -4,8 +4,8 @@ use Rattle.std.proofs.lemmas.Bool.Decides.{nat_tests}
 use Rattle.r6_layout.specs.Shape.{Shape, blocks}
 use Rattle.r6_layout.specs.Layout.{shard_of, row_of}
 use Rattle.r6_world.specs.PlainArray.{block_of}
-use Rattle.r6_frames.specs.declared.op.Op.{Op}
-use Rattle.r6_frames.specs.Views.{op_of}
+use Rattle.r6_world.specs.declared.values.Op.{Op}
+use Rattle.r6_world.specs.Values.{op_of}
 use Rattle.r6_lists.specs.Events.{Request, Serves, duty_of, is_block_of}
 use Rattle.r6_feed.specs.Feeds.{NoBlock, asking_of}
 

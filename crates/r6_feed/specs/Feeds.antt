@@ -3,7 +3,7 @@ use Rattle.std.specs.Prelude.{◌≡◌, ℕ, ◌-◌, ◌<◌, nat_lt, List, []
 use Rattle.std.specs.List.{range_with_len}
 use Rattle.r6_layout.specs.Shape.{Shape, blocks}
 use Rattle.r6_world.specs.PlainArray.{block_of}
-use Rattle.r6_frames.specs.Views.{op_of}
+use Rattle.r6_world.specs.Values.{op_of}
 use Rattle.r6_health.specs.Views as views
 use Rattle.r6_health.specs.Histories.{StartsWith}
 use Rattle.r6_health.specs.declared.history.Made.{Made}

@@ -1,6 +1,6 @@
 //! What an array's threads are given to do.
 
-use r6_frames::Op;
+use r6_world::Op;
 
 /// What an array's threads are given to do. An event's number is how many stand before it.
 #[derive(Drop)]

@@ -1,7 +1,7 @@
 //! What becomes of each event.
 
 ghost use Rattle.std.specs.Prelude.{◌≡◌, ◌+◌, ◌<◌, ◌≤◌, length, slice_get, Some, None};
-ghost use Rattle.r6_frames.specs.Views.{op_of};
+ghost use Rattle.r6_world.specs.Values.{op_of};
 ghost use Rattle.r6_world.specs.PlainArray.{block_of};
 ghost use Rattle.r6_health.specs.Passes.{IsPassOf, view_of};
 ghost use Rattle.r6_lists.specs.Events.{Request, Attach, Fail, Check, Repair, Wait, task_at};
@@ -16,8 +16,8 @@ use crate::feed::Feed;
 use crate::handing::{NewDevice, PassOver, Position};
 use crate::shards::Shards;
 use r6_dev::BlockDevice;
-use r6_frames::Op;
 use r6_lists::{Events, Item, Work};
+use r6_world::Op;
 use std::sync::Wait;
 
 fn work_of<D>(op: Op) -> Work<D>

@@ -15,11 +15,12 @@ use Rattle.r6_world.specs.ShardStates as shards
 use Rattle.r6_world.specs.Tasks.{batch_of}
 use Rattle.r6_world.proofs.Geometries.{layouts}
 use Rattle.r6_frames.specs.declared.frames.Served.{Served}
-use Rattle.r6_frames.specs.declared.op.Request.{Request}
+use Rattle.r6_world.specs.declared.values.Request.{Request}
 use Rattle.r6_frames.specs.declared.finish.Ended.TheVariants as ended
 use Rattle.r6_frames.specs.declared.frames.HeldRow.{HeldRow}
 use Rattle.r6_frames.specs.declared.frames.Job.TheVariants as job
-use Rattle.r6_frames.specs.Views.{batch_in, held_entry, kind_in, numbered}
+use Rattle.r6_world.specs.Values.{numbered}
+use Rattle.r6_frames.specs.Views.{batch_in, held_entry, kind_in}
 use Rattle.r6_frames.specs.Calls.{HasOneBlock, IsEndedOf, entry_of}
 use Rattle.r6_frames.specs.Sound.{IsJob}
 use Rattle.r6_frames.specs.Writes.{Entry, IsWriteIn, blocks_in, entries_of, request_of, served_in, write_of}

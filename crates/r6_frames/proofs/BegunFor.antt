@@ -16,7 +16,7 @@ use Rattle.r6_world.specs.ShardStates.{standing_of}
 use Rattle.r6_world.specs.Tasks.{Task, ReadFor, kind_of}
 use Rattle.r6_world.proofs.Cells.{found-long, found-at}
 use Rattle.r6_world.proofs.Geometries.{layouts}
-use Rattle.r6_frames.specs.declared.op.Request.{Request}
+use Rattle.r6_world.specs.declared.values.Request.{Request}
 use Rattle.r6_frames.specs.declared.frames.Job.{Job}
 use Rattle.r6_frames.specs.declared.frames.Job.TheVariants as job
 use Rattle.r6_frames.specs.declared.frames.Served.{Served}
@@ -28,7 +28,8 @@ use Rattle.r6_frames.specs.declared.rebuilt.Target.{Target}
 use Rattle.r6_frames.specs.declared.slots.Device.{Device}
 use Rattle.r6_frames.specs.Rebuilt.{IsRebuilt, is_rebuilt}
 use Rattle.r6_frames.specs.Slots.{states_of}
-use Rattle.r6_frames.specs.Views.{numbered, read_for, rebuild_task, scrub_row_task, scrub_task, task_by, row_in, requests_by, held_entry, request_at, requests_from}
+use Rattle.r6_world.specs.Values.{numbered}
+use Rattle.r6_frames.specs.Views.{read_for, rebuild_task, scrub_row_task, scrub_task, task_by, row_in, requests_by, held_entry, request_at, requests_from}
 use Rattle.r6_frames.specs.Calls.{entry_of, AreAllInSync, Begins, BeginsRebuild, BeginsScrub, Holds, IsFreeFrame, IsNextOn, NotHeldBy}
 use Rattle.r6_frames.specs.Reads.{IsReadable}
 use Rattle.r6_frames.specs.Writes.{Entry, IsWriteIn, blocks_in, request_of, served_in, write_task}

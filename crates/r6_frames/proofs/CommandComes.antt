@@ -14,7 +14,7 @@ use Rattle.r6_world.specs.ShardStates.{frames}
 use Rattle.r6_world.specs.Layouts.{IsRowOf}
 use Rattle.r6_world.specs.Geometries.{layout_of}
 use Rattle.r6_frames.specs.declared.slots.Slot.{Slot}
-use Rattle.r6_frames.specs.declared.command.CommandKind.{CommandKind}
+use Rattle.r6_world.specs.declared.values.CommandKind.{CommandKind}
 use Rattle.r6_frames.specs.declared.command.Outstanding.{Outstanding}
 use Rattle.r6_frames.specs.declared.frames.HeldRow.{HeldRow}
 use Rattle.r6_frames.specs.declared.frames.FrameUse.{FrameUse}

@@ -21,8 +21,8 @@ use Rattle.r6_world.specs.Steps.{Takes, Good, Taken, Through}
 use Rattle.r6_world.specs.Layouts.{Layout}
 use Rattle.r6_world.specs.Geometries.{layout_of}
 use Rattle.r6_world.specs.Tasks.{Hold}
-use Rattle.r6_frames.specs.declared.command.CommandKind.{CommandKind}
-use Rattle.r6_frames.specs.declared.command.CommandKind.TheVariants as command
+use Rattle.r6_world.specs.declared.values.CommandKind.{CommandKind}
+use Rattle.r6_world.specs.declared.values.CommandKind.TheVariants as command
 use Rattle.r6_frames.specs.declared.command.Outstanding.{Outstanding}
 use Rattle.r6_frames.specs.declared.frames.Job.{Job}
 use Rattle.r6_frames.specs.declared.frames.Job.TheVariants as job

@@ -10,7 +10,7 @@ use Rattle.r6_world.specs.Geometries.{layout_of}
 use Rattle.r6_world.specs.ShardStates.{frames, direct_buffers, standing_of}
 use Rattle.r6_layout.specs.Layout as layout
 use Rattle.r6_stripe.specs.Plans.{is_in_sync}
-use Rattle.r6_frames.specs.declared.command.CommandKind.TheVariants as command
+use Rattle.r6_world.specs.declared.values.CommandKind.TheVariants as command
 use Rattle.r6_frames.specs.declared.command.Outstanding.{Outstanding}
 use Rattle.r6_frames.specs.declared.directs.Direct.{Direct}
 use Rattle.r6_frames.specs.declared.directs.DirectRead.{DirectRead}

@@ -15,8 +15,8 @@ use Rattle.r6_world.specs.Tasks.{Hold, Task}
 use Rattle.r6_world.specs.ShardStates.{Shard, SlotState, InSyncFor, IsLive}
 use Rattle.r6_world.specs.Changes.{Change, Ask, Prepare, Send, IsTarget, IsWorkedOut, after}
 use Rattle.r6_world.specs.Steps.{Leads, Through}
-use Rattle.r6_frames.specs.declared.command.CommandKind.{CommandKind}
-use Rattle.r6_frames.specs.declared.command.CommandKind.TheVariants as command
+use Rattle.r6_world.specs.declared.values.CommandKind.{CommandKind}
+use Rattle.r6_world.specs.declared.values.CommandKind.TheVariants as command
 use Rattle.r6_frames.specs.declared.frames.HeldRow.{HeldRow}
 use Rattle.r6_frames.specs.declared.frames.FrameUse.TheVariants.{Held as HeldIn}
 use Rattle.r6_frames.specs.FramesState.{FramesState}

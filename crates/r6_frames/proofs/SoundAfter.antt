@@ -13,8 +13,8 @@ use Rattle.r6_stripe.specs.Steps.{is_idle, has_outcome}
 use Rattle.r6_stripe.proofs.Bound.{within}
 use Rattle.r6_stripe.proofs.Places.{any_true}
 use Rattle.r6_stripe.proofs.Steps.{step_by_rules, not_false}
-use Rattle.r6_frames.specs.declared.command.CommandKind.{CommandKind}
-use Rattle.r6_frames.specs.declared.command.CommandKind.TheVariants as command
+use Rattle.r6_world.specs.declared.values.CommandKind.{CommandKind}
+use Rattle.r6_world.specs.declared.values.CommandKind.TheVariants as command
 use Rattle.r6_frames.specs.declared.frames.HeldRow.{HeldRow}
 use Rattle.r6_frames.specs.declared.frames.FrameUse.TheVariants.{Held as HeldIn, Returning}
 use Rattle.r6_frames.specs.FramesState.{FramesState, Commands}

@@ -22,9 +22,9 @@ use Rattle.r6_world.specs.ShardStates as shards
 use Rattle.r6_world.specs.ShardStates.{Shard, Held, LossOf, frames, begun}
 use Rattle.r6_world.specs.Changes.{Change, Ask, Prepare, Classify, Send, Come_home, Lose, Finish, abandoned_if, read_stage, taken_out, with_row, AllBuilt, after, Allowed}
 use Rattle.r6_world.specs.Steps.{Event, No_command, Take_command, Step, Through, Takes, Good, Taken}
-use Rattle.r6_frames.specs.declared.op.Op.{Op}
-use Rattle.r6_frames.specs.declared.op.Request.{Request}
-use Rattle.r6_frames.specs.declared.command.Command.{Command}
+use Rattle.r6_world.specs.declared.values.Op.{Op}
+use Rattle.r6_world.specs.declared.values.Request.{Request}
+use Rattle.r6_world.specs.declared.values.Command.{Command}
 use Rattle.r6_frames.specs.declared.command.Outstanding.{Outstanding}
 use Rattle.r6_frames.specs.declared.finish.Ended.{Ended}
 use Rattle.r6_frames.specs.declared.finish.Ended.TheVariants as ended
@@ -40,7 +40,8 @@ use Rattle.r6_frames.specs.declared.slots.Device.TheVariants as device
 use Rattle.r6_frames.specs.Rebuilt.{IsNext}
 use Rattle.r6_frames.specs.Slots.{slot_in, state_of, states_of, is_abandoned}
 use Rattle.r6_frames.specs.FramesState.{FramesState}
-use Rattle.r6_frames.specs.Views.{op_of, buffer_of, read_for, rebuilds, rebuild_task, scrub_task, kind_in, held_for, plan_in, use_at, hold_at, held_requests, outstanding, world_command, world_commands, Rest, shard_with, reads_on, AreLive}
+use Rattle.r6_world.specs.Values.{op_of, buffer_of, world_command}
+use Rattle.r6_frames.specs.Views.{read_for, rebuilds, rebuild_task, scrub_task, kind_in, held_for, plan_in, use_at, hold_at, held_requests, outstanding, world_commands, Rest, shard_with, reads_on, AreLive}
 use Rattle.r6_frames.specs.Directs.{read_requests}
 use Rattle.r6_frames.specs.Writes.{blocks_in, request_of, served_in, write_task}
 use Rattle.r6_frames.specs.Owed.{owed}

@@ -15,12 +15,12 @@ use Rattle.r6_world.specs.Tasks.{Task, ReadFor, Rebuild, Check, Repair, Hold}
 use Rattle.r6_world.specs.ShardStates as shards
 use Rattle.r6_world.specs.ShardStates.{Shard, Held, Transfer, Fetch, Store, Storing, Call}
 use Rattle.r6_world.specs.Changes.{read_on}
-use Rattle.r6_frames.specs.declared.op.Op.{Op}
-use Rattle.r6_frames.specs.declared.op.Op.TheVariants as op
-use Rattle.r6_frames.specs.declared.op.Request.{Request}
-use Rattle.r6_frames.specs.declared.command.Command.{Command}
-use Rattle.r6_frames.specs.declared.command.CommandKind.{CommandKind}
-use Rattle.r6_frames.specs.declared.command.CommandKind.TheVariants as command
+use Rattle.r6_world.specs.Values.{numbered}
+use Rattle.r6_world.specs.declared.values.Op.{Op}
+use Rattle.r6_world.specs.declared.values.Op.TheVariants as op
+use Rattle.r6_world.specs.declared.values.Request.{Request}
+use Rattle.r6_world.specs.declared.values.CommandKind.{CommandKind}
+use Rattle.r6_world.specs.declared.values.CommandKind.TheVariants as command
 use Rattle.r6_frames.specs.declared.command.Outstanding.{Outstanding}
 use Rattle.r6_frames.specs.declared.frames.Job.{Job}
 use Rattle.r6_frames.specs.declared.frames.Job.TheVariants as job
@@ -37,18 +37,6 @@ use Rattle.r6_frames.specs.Writes.{entries_of, request_of, write_task}
 use Rattle.r6_frames.specs.FramesState.{FramesState}
 
 -- ---- requests
-
-abbrev pub op_of : Op → world.Op
-op_of (op.Read block buffer) = world.Op.Read block
-op_of (op.Write block buffer) = world.Op.Write block buffer
-
-abbrev pub buffer_of : Op → Block
-buffer_of (op.Read block buffer) = buffer
-buffer_of (op.Write block buffer) = buffer
-
--- a request with its number
-abbrev pub numbered : Request → ℕ × world.Op
-numbered request = (request.id, op_of request.op)
 
 -- the request of a read, with its block in the buffer
 abbrev pub read_for : Served → Block → Request
@@ -192,24 +180,6 @@ command_of slots handed token c =
 abbrev pub row_command : ℕ → CommandKind → Block → RowCommand
 row_command position command.Read buffer = stripe.Read position buffer
 row_command position command.Write buffer = stripe.Write position buffer
-
--- the command that a device is handed
-abbrev pub given_transfer : CommandKind → Block → Transfer
-given_transfer command.Read block = Fetch
-given_transfer command.Write block = Store block
-
--- the command in the frame that was not taken yet
-abbrev pub world_command : ℕ → Bool → Command → shards.Command
-world_command frame abandoned c =
-    record {
-      frame = frame;
-      slot = c.slot;
-      generation = c.generation;
-      row = c.row;
-      transfer = given_transfer c.kind c.buffer;
-      taken = false;
-      abandoned = abandoned;
-    }
 
 abbrev pub outstanding : FramesState → ℕ → Option Outstanding
 outstanding fs token = finite.get fs.commands.entries token

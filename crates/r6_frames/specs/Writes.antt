@@ -6,8 +6,8 @@ use Rattle.r6_layout.specs.Layout as layout
 use Rattle.r6_stripe.specs.Plans.{names}
 use Rattle.r6_layout.specs.PlainArray.{Block}
 use Rattle.r6_world.specs.Tasks.{Task, Write, WriteFor}
-use Rattle.r6_frames.specs.declared.op.Op.TheVariants as op
-use Rattle.r6_frames.specs.declared.op.Request.{Request}
+use Rattle.r6_world.specs.declared.values.Op.TheVariants as op
+use Rattle.r6_world.specs.declared.values.Request.{Request}
 use Rattle.r6_frames.specs.declared.frames.Served.{Served}
 
 -- a write: its request, the index of its block in the row, and the new data

@@ -4,7 +4,7 @@ ghost use Rattle.std.specs.Prelude.{◌≡◌, ◌<◌, ◌+◌, ◌^◌, ◌↔
 ghost use Rattle.r6_stripe.specs.Plans.{is_in_sync};
 ghost use Rattle.r6_tables.specs.Table.{next_of};
 ghost use Rattle.r6_world.specs.ShardStates.{direct_buffers, limit, standing_of};
-ghost use Rattle.r6_frames.specs.declared.op.Op.TheVariants as requested;
+ghost use Rattle.r6_world.specs.declared.values.Op.TheVariants as requested;
 ghost use Rattle.r6_frames.specs.Views.{AreLive};
 ghost use Rattle.r6_frames.specs.Slots.{states_of};
 ghost use Rattle.r6_frames.specs.Calls.{IsAwaited, IsAbandoned, IsPlaceOf, KeepsHolds, KeepsSlots};
@@ -13,12 +13,12 @@ ghost use Rattle.r6_frames.specs.Reads.{IsFreeDirect, TakesDirect, FreesDirect, 
 ghost use Rattle.r6_frames.specs.Inside.{view_of, HasRoom};
 ghost use Rattle.r6_frames.specs.Sound.{IsSound};
 
-use crate::command::{CommandKind, Outstanding};
+use crate::command::Outstanding;
 use crate::frames::{FRAMES, Served};
-use crate::op::{Op, Request};
 use crate::rows::Rows;
 use r6_kernels::Buffer;
 use r6_layout::Place;
+use r6_world::{CommandKind, Op, Request};
 
 /// As many reads can be under way at one time that hold no row.
 pub const DIRECTS: usize = 64;

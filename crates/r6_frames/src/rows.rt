@@ -17,7 +17,7 @@ ghost use Rattle.r6_frames.specs.Pool.{is_free, AreInUse};
 ghost use Rattle.r6_frames.specs.Bits.{IsWithBit};
 ghost use Rattle.r6_frames.specs.Reads.{IsReadable};
 ghost use Rattle.r6_frames.specs.Writes.{IsWriteIn, request_of, write_task};
-ghost use Rattle.r6_frames.specs.declared.op.Op.TheVariants as requested;
+ghost use Rattle.r6_world.specs.declared.values.Op.TheVariants as requested;
 ghost use Rattle.r6_frames.specs.Slots.{slot_before, slot_in, AreUsed};
 ghost use Rattle.r6_frames.specs.Inside.{view_of, HasRoom};
 ghost use Rattle.r6_frames.specs.Sound.{IsSound, IsToldLive, MayHold};

@@ -5,9 +5,9 @@ ghost use Rattle.r6_stripe.specs.BatchLists.{AreDistinct};
 ghost use Rattle.r6_frames.specs.Writes.{Entry, blocks_in, entries_of, has_index, request_of, served_in};
 
 use crate::frames::Served;
-use crate::op::{Op, Request};
 use r6_kernels::Buffer;
 use r6_stripe::Batch;
+use r6_world::{Op, Request};
 use std::alloc::{AllocError, Global};
 use std::marker::Model;
 

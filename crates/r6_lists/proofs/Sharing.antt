@@ -7,8 +7,8 @@ use Rattle.r6_layout.specs.Shape.{Shape, IsShape, blocks}
 use Rattle.r6_layout.specs.Layout.{shard_of, row_of}
 use Rattle.r6_layout.proofs.Places.{IsPlace-lt, IsPlace-row, IsPlace-shard}
 use Rattle.r6_world.specs.PlainArray.{block_of}
-use Rattle.r6_frames.specs.declared.op.Op.{Op}
-use Rattle.r6_frames.specs.Views.{op_of}
+use Rattle.r6_world.specs.declared.values.Op.{Op}
+use Rattle.r6_world.specs.Values.{op_of}
 use Rattle.r6_lists.specs.Events.{Event, Request, Attach, Fail, Check, Repair, Wait, Duty, Serves, Takes_up, Checks, Repairs, is_block_of, duty_of, waits_before, Task, task, task_at, tasks_of, is_request, requests_of}
 use Rattle.r6_lists.specs.Laws.{SharesOut}
 use Rattle.r6_lists.proofs.Elements.{IsIn, contains, is_in, in_range, in_mapped, mapped_from, in_passing, passing_from}

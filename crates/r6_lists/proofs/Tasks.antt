@@ -7,7 +7,7 @@ use Rattle.std.proofs.lemmas.List.Kept.{IsStrictlyIncreasing-filter}
 use Rattle.std.proofs.lemmas.Option.{slice_get_past}
 use Rattle.r6_layout.specs.Shape.{Shape}
 use Rattle.r6_world.specs.PlainArray.{block_of}
-use Rattle.r6_frames.specs.Views.{op_of}
+use Rattle.r6_world.specs.Values.{op_of}
 use Rattle.r6_lists.specs.Events.{Event, Request, Attach, Fail, Check, Repair, Wait, Duty, Serves, is_block_of, duty_of, waits_before, Task, task, task_at, has_task, tasks_of, numbers_of, is_request, requests_of, asks, asks_at}
 use Rattle.r6_lists.specs.Lists.{AreTaken, IsBehind}
 use Rattle.r6_lists.proofs.Elements.{IsIn, all_pushed}

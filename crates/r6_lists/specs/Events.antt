@@ -5,8 +5,8 @@ use Rattle.r6_layout.specs.Shape.{Shape, blocks}
 use Rattle.r6_layout.specs.Layout.{shard_of, row_of}
 use Rattle.r6_dev.specs.History.{Telling}
 use Rattle.r6_world.specs.PlainArray.{block_of}
-use Rattle.r6_frames.specs.declared.op.Op.{Op}
-use Rattle.r6_frames.specs.Views.{op_of}
+use Rattle.r6_world.specs.declared.values.Op.{Op}
+use Rattle.r6_world.specs.Values.{op_of}
 
 -- an event's number is how many stand before it
 pub data Event : Type 0 where

@@ -4,8 +4,8 @@ use Rattle.r6_layout.specs.Shape.{Shape, IsShape, blocks}
 use Rattle.r6_layout.specs.Layout.{IsPlace}
 use Rattle.r6_dev.specs.History.{Telling}
 use Rattle.r6_world.specs.PlainArray.{block_of}
-use Rattle.r6_frames.specs.declared.op.Op.{Op}
-use Rattle.r6_frames.specs.Views.{op_of}
+use Rattle.r6_world.specs.declared.values.Op.{Op}
+use Rattle.r6_world.specs.Values.{op_of}
 use Rattle.r6_lists.specs.Events.{Event, Request, Attach, Check, Repair, Duty, Serves, Takes_up, Checks, Repairs, Task, task, waits_before, tasks_of, requests_of}
 
 -- what a shard is handed of the event with this number, behind the waits that stand before it

@@ -6,7 +6,7 @@ use Rattle.r6_dev.specs.History.{Telling}
 use Rattle.r6_dev.specs.Promises.{Promise, FailsNone}
 use Rattle.r6_world.specs.Geometries.{layout_of}
 use Rattle.r6_world.specs.Layouts.{IsRowOf}
-use Rattle.r6_frames.specs.declared.op.Op.TheVariants as op
+use Rattle.r6_world.specs.declared.values.Op.TheVariants as op
 use Rattle.r6_lists.specs.declared.work.Work.{Work}
 use Rattle.r6_lists.specs.declared.work.Work.TheVariants.{Read, Write, Attach, Check, Repair}
 use Rattle.r6_lists.specs.declared.stage.Stage.{Stage}

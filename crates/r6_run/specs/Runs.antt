@@ -10,7 +10,7 @@ use Rattle.r6_health.specs.Histories.{held, start_losing}
 use Rattle.r6_health.specs.Registers.{starting}
 use Rattle.r6_health.specs.Views.{first_of}
 use Rattle.r6_health.specs.declared.history.View.{View}
-use Rattle.r6_frames.specs.Views.{buffer_of, op_of}
+use Rattle.r6_world.specs.Values.{buffer_of, op_of}
 use Rattle.r6_offline.specs.Parts.{tells_nothing}
 use Rattle.r6_shard.specs.declared.parts.Parts.{Parts}
 use Rattle.r6_runner.specs.declared.runner.Runner.{Runner}

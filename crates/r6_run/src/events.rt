@@ -2,7 +2,7 @@
 
 ghost use Rattle.std.specs.Prelude.{◌≡◌, length, replicate, IfOk};
 ghost use Rattle.std.specs.List.{AllZip};
-ghost use Rattle.r6_frames.specs.Views.{op_of, buffer_of};
+ghost use Rattle.r6_world.specs.Values.{op_of, buffer_of};
 ghost use Rattle.r6_world.specs.PlainArray.{Read as Reads, Write as Writes};
 ghost use Rattle.r6_run_script.specs.declared.event.Event.TheVariants.{Attach as Attaches};
 ghost use Rattle.r6_run.specs.Runs.{IsAsked};
@@ -10,12 +10,12 @@ ghost use Rattle.r6_run.specs.Runs.{IsAsked};
 use crate::fault::RunFault;
 use r6_dev::{Access, FileDevice};
 use r6_feed::Event;
-use r6_frames::Op;
 use r6_kernels::Buffer;
 use r6_layout::Geometry;
 use r6_offline::open_slot;
 use r6_run_script::Event as Entry;
 use r6_texts::block_of;
+use r6_world::Op;
 use std::alloc::{AllocError, Global};
 use std::io::Seek;
 use std::os::unix::fs::FileExt;

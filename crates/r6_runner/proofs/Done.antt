@@ -8,8 +8,8 @@ use Rattle.r6_layout.specs.Shape.{Shape}
 use Rattle.r6_world.specs.PlainArray as world
 use Rattle.r6_world.specs.Registers.{Snapshot}
 use Rattle.r6_world.specs.Tables.{put_in}
-use Rattle.r6_frames.specs.declared.op.Op.{Op}
-use Rattle.r6_frames.specs.Views.{op_of}
+use Rattle.r6_world.specs.declared.values.Op.{Op}
+use Rattle.r6_world.specs.Values.{op_of}
 use Rattle.r6_core.specs.declared.turn.Task.{Task as Pass}
 use Rattle.r6_core.specs.declared.refusal.Refusal.{Refusal}
 use Rattle.r6_core.specs.Shards.{CoreView}

@@ -6,7 +6,7 @@ use Rattle.r6_dev.specs.History.{Telling}
 use Rattle.r6_core.specs.Shards.{CoreView}
 use Rattle.r6_core.specs.declared.refusal.Refusal.{Refusal}
 use Rattle.r6_core.specs.declared.turn.Task.{Task}
-use Rattle.r6_frames.specs.declared.op.Op.{Op}
+use Rattle.r6_world.specs.declared.values.Op.{Op}
 use Rattle.r6_shard.specs.declared.parts.Part.{Part}
 use Rattle.r6_shard.specs.declared.parts.Parts.{Parts}
 use Rattle.r6_shard.specs.declared.shard.Shard.{Shard}

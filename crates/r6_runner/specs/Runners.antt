@@ -9,7 +9,7 @@ use Rattle.r6_core.specs.declared.refusal.Refusal.{Refusal}
 use Rattle.r6_core.specs.Refusals.{HasSubmitFault, submit_faults, HasNone}
 use Rattle.r6_lists.specs.Events.{Event}
 use Rattle.r6_shard.specs.declared.run.Asking.{Asking}
-use Rattle.r6_frames.specs.declared.op.Op.{Op}
+use Rattle.r6_world.specs.declared.values.Op.{Op}
 use Rattle.r6_core.specs.declared.turn.Task.{Task as Pass}
 use Rattle.r6_shard.specs.declared.parts.Part.{Part}
 use Rattle.r6_shard.specs.declared.parts.Parts.{Parts}

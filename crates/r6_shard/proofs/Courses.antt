@@ -16,12 +16,12 @@ use Rattle.r6_world.specs.Steps.{Event, Deliver, Take_command, Take_call, Told}
 use Rattle.r6_world.specs.Worlds.{as_made}
 use Rattle.r6_world.proofs.Tables.{put-same}
 use Rattle.r6_world.proofs.Acts.Points.{put_in-same, put_in-other, put_in-apart}
-use Rattle.r6_frames.specs.Views.{world_command}
+use Rattle.r6_world.specs.Values.{world_command, completion_of, buffer_in}
 use Rattle.r6_core.specs.declared.Command.{Command}
 use Rattle.r6_core.specs.declared.call.Call.{Call}
-use Rattle.r6_core.specs.declared.refusal.DeviceFault.{DeviceFault}
+use Rattle.r6_world.specs.declared.values.DeviceFault.{DeviceFault}
 use Rattle.r6_core.specs.declared.refusal.Refusal.{Refusal}
-use Rattle.r6_core.specs.Shards.{CoreView, Step, core_layout, world_shard, completion_of, call_of, buffer_in}
+use Rattle.r6_core.specs.Shards.{CoreView, Step, core_layout, world_shard, call_of}
 use Rattle.r6_core.specs.Effects.{IsCommandOf}
 use Rattle.r6_core.specs.Refusals.{HasDeliverFault, IsFirstFault, deliver_faults}
 use Rattle.r6_course.specs.Courses.{Start, Mark, Follows, marked, looked_by}

@@ -13,13 +13,13 @@ use Rattle.r6_world.specs.Registers.{Told as Answer}
 use Rattle.r6_world.specs.Steps as steps
 use Rattle.r6_world.specs.Steps.{Event, Submit, Deliver, Take_command, Take_call, Told, Take_reply}
 use Rattle.r6_world.specs.Worlds.{as_made}
-use Rattle.r6_frames.specs.Views.{world_command}
+use Rattle.r6_world.specs.Values.{world_command, completion_of, receipt_of, reply_of}
 use Rattle.r6_core.specs.declared.Command.{Command}
 use Rattle.r6_core.specs.declared.call.Call.{Call}
-use Rattle.r6_core.specs.declared.refusal.DeviceFault.{DeviceFault}
-use Rattle.r6_core.specs.declared.refusal.Receipt.{Receipt}
-use Rattle.r6_core.specs.declared.refusal.Receipt.TheVariants as core-receipt
-use Rattle.r6_core.specs.Shards.{CoreView, Step, completion_of, receipt_of, call_of, reply_of}
+use Rattle.r6_world.specs.declared.values.DeviceFault.{DeviceFault}
+use Rattle.r6_world.specs.declared.values.Receipt.{Receipt}
+use Rattle.r6_world.specs.declared.values.Receipt.TheVariants as core-receipt
+use Rattle.r6_core.specs.Shards.{CoreView, Step, call_of}
 use Rattle.r6_course.specs.Courses.{Start, Mark, Asked, Replied, marked, looked_by}
 use Rattle.r6_course.specs.Steps.{IsPlainCall, NamesIt}
 use Rattle.r6_shard.specs.declared.ledger.Asked.{Asked as Accepted}

@@ -17,10 +17,11 @@ use Rattle.r6_world.specs.Worlds.{shard_at_start}
 use Rattle.r6_world.proofs.Changes.{Keeps, step-kept}
 use Rattle.r6_world.proofs.Tables.{None-not_Some}
 use Rattle.r6_world.proofs.Refused.Refusals.{only_errors_declare}
-use Rattle.r6_core.specs.declared.refusal.DeviceFault.{DeviceFault}
-use Rattle.r6_core.specs.declared.refusal.Receipt.{Receipt as CoreReceipt}
-use Rattle.r6_core.specs.declared.refusal.Receipt.TheVariants as core-receipt
-use Rattle.r6_core.specs.Shards.{CoreView, Step, core_layout, world_shard, completion_of, receipt_of}
+use Rattle.r6_world.specs.declared.values.DeviceFault.{DeviceFault}
+use Rattle.r6_world.specs.declared.values.Receipt.{Receipt as CoreReceipt}
+use Rattle.r6_world.specs.declared.values.Receipt.TheVariants as core-receipt
+use Rattle.r6_world.specs.Values.{completion_of, receipt_of}
+use Rattle.r6_core.specs.Shards.{CoreView, Step, core_layout, world_shard}
 use Rattle.r6_world.specs.Tasks.{Rebuild, Check, Repair}
 use Rattle.r6_core.specs.declared.turn.Task.{Task}
 use Rattle.r6_core.specs.declared.turn.Task.TheVariants as task

@@ -8,7 +8,7 @@ use Rattle.r6_world.specs.ShardStates.{Shard}
 use Rattle.r6_world.specs.Changes.{Accept, Ask, Send, See_failed, Read_direct}
 use Rattle.r6_world.specs.Steps.{Event}
 use Rattle.r6_world.proofs.Changes.{Keeps, step-kept}
-use Rattle.r6_frames.specs.Views.{op_of, buffer_of}
+use Rattle.r6_world.specs.Values.{op_of, buffer_of}
 use Rattle.r6_core.specs.declared.Op.{Op}
 use Rattle.r6_core.specs.declared.refusal.Refusal.{Refusal}
 use Rattle.r6_core.specs.declared.refusal.Refusal.TheVariants.{NoSuchBlock, WrongShard, WrongLength, ArrayFailed, Exhausted}

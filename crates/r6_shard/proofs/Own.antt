@@ -22,9 +22,10 @@ use Rattle.r6_world.specs.Worlds.{as_made}
 use Rattle.r6_world.specs.Refusals.{IsIn, IsToTell, SeesNoFailure}
 use Rattle.r6_world.proofs.Refused.Refusals.{stops_only_when_seen, fails_only_when_seen}
 use Rattle.r6_world.proofs.Tables.{None-not_Some}
-use Rattle.r6_core.specs.declared.refusal.Receipt.{Receipt}
-use Rattle.r6_core.specs.declared.refusal.Receipt.TheVariants.{Taken, Late}
-use Rattle.r6_core.specs.Shards.{CoreView, Step, core_layout, world_shard, reply_of}
+use Rattle.r6_world.specs.declared.values.Receipt.{Receipt}
+use Rattle.r6_world.specs.declared.values.Receipt.TheVariants.{Taken, Late}
+use Rattle.r6_world.specs.Values.{reply_of}
+use Rattle.r6_core.specs.Shards.{CoreView, Step, core_layout, world_shard}
 use Rattle.r6_core.specs.Effects.{IsMade}
 use Rattle.r6_course.specs.Steps.{IsPlainCall}
 use Rattle.r6_course.proofs.Ends.{look-sees}

@@ -20,15 +20,15 @@ use Rattle.r6_world.specs.Worlds.{slot_at_start}
 use Rattle.r6_world.proofs.Tables.{put-cases, Some-inj, not_both, None-not_Some}
 use Rattle.r6_world.specs.Refusals.{IsNoLook}
 use Rattle.r6_world.proofs.Changes.{Keeps, step-kept}
-use Rattle.r6_frames.specs.Views.{world_command}
+use Rattle.r6_world.specs.Values.{world_command, completion_of, receipt_of}
 use Rattle.r6_course.specs.Ends.{IsInUse}
 use Rattle.r6_course.specs.Steps.{OthersAreKept}
 use Rattle.r6_core.specs.declared.Command.{Command as CoreCommand}
-use Rattle.r6_core.specs.declared.refusal.DeviceFault.{DeviceFault}
-use Rattle.r6_core.specs.declared.refusal.Receipt.{Receipt as CoreReceipt}
-use Rattle.r6_core.specs.declared.refusal.Receipt.TheVariants as core-receipt
+use Rattle.r6_world.specs.declared.values.DeviceFault.{DeviceFault}
+use Rattle.r6_world.specs.declared.values.Receipt.{Receipt as CoreReceipt}
+use Rattle.r6_world.specs.declared.values.Receipt.TheVariants as core-receipt
 use Rattle.r6_core.specs.Effects.{IsMade, IsCommandOf}
-use Rattle.r6_core.specs.Shards.{CoreView, Step, world_shard, completion_of, receipt_of}
+use Rattle.r6_core.specs.Shards.{CoreView, Step, world_shard}
 use Rattle.r6_shard.specs.Kept.{named_by}
 use Rattle.r6_shard.specs.Performing.{Performed, Failed, ArePromised}
 use Rattle.r6_shard.specs.Sound.{UsesOnly, HasPart, IsSound, BeginsSound, HasNew}

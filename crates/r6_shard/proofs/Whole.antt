@@ -26,11 +26,12 @@ use Rattle.r6_world.specs.Steps.{Event, Look, Deliver, Take_command, Error, Take
 use Rattle.r6_world.specs.Worlds.{slot_at_start}
 use Rattle.r6_world.proofs.Tables.{put-cases, Some-inj, not_both, None-not_Some}
 use Rattle.r6_world.proofs.Changes.{Keeps, step-kept}
-use Rattle.r6_core.specs.declared.refusal.DeviceFault.{DeviceFault}
-use Rattle.r6_core.specs.declared.refusal.Receipt.{Receipt as CoreReceipt}
-use Rattle.r6_core.specs.declared.refusal.Receipt.TheVariants as core-receipt
+use Rattle.r6_world.specs.declared.values.DeviceFault.{DeviceFault}
+use Rattle.r6_world.specs.declared.values.Receipt.{Receipt as CoreReceipt}
+use Rattle.r6_world.specs.declared.values.Receipt.TheVariants as core-receipt
 use Rattle.r6_core.specs.Effects.{IsMade}
-use Rattle.r6_core.specs.Shards.{CoreView, Step, core_layout, world_shard, completion_of, receipt_of}
+use Rattle.r6_world.specs.Values.{completion_of, receipt_of}
+use Rattle.r6_core.specs.Shards.{CoreView, Step, core_layout, world_shard}
 use Rattle.r6_core.specs.declared.turn.Task.{Task as CoreTask}
 use Rattle.r6_core.specs.declared.turn.Turn.{Turn}
 use Rattle.r6_core.specs.Effects.{TakesTurn}

@@ -4,7 +4,8 @@ use Rattle.r6_dev.specs.History.{Telling}
 use Rattle.r6_health.specs.declared.history.View.{View}
 use Rattle.r6_health.specs.Histories.{held}
 use Rattle.r6_world.specs.PlainArray.{Op, Reply, block_of}
-use Rattle.r6_core.specs.Shards.{CoreView, core_layout, world_shard, reply_of}
+use Rattle.r6_world.specs.Values.{reply_of}
+use Rattle.r6_core.specs.Shards.{CoreView, core_layout, world_shard}
 use Rattle.r6_course.specs.Courses.{Start, IsLawful, Mark, Stand, Follows}
 use Rattle.r6_course.specs.Steps.{Knows}
 use Rattle.r6_shard.specs.Histories.{asked_in, replied_in, answered_before, numbered}

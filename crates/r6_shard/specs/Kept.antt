@@ -2,8 +2,8 @@
 use Rattle.std.specs.Prelude.{◌≡◌, ℕ, ◌<◌, ◌≤◌, Bool, true, false, List, [], length, slice_index_or, slice_set, Some, None}
 use Rattle.r6_world.specs.ShardStates.{Shard, Request, Command, LossOf}
 use Rattle.r6_world.specs.Refusals.{IsToTell}
-use Rattle.r6_core.specs.declared.refusal.Receipt.{Receipt}
-use Rattle.r6_core.specs.declared.refusal.Receipt.TheVariants.{Taken, Late}
+use Rattle.r6_world.specs.declared.values.Receipt.{Receipt}
+use Rattle.r6_world.specs.declared.values.Receipt.TheVariants.{Taken, Late}
 use Rattle.r6_core.specs.Shards.{CoreView, world_shard}
 
 -- requests have the numbers below the count, as many as were accepted

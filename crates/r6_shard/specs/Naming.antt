@@ -3,7 +3,7 @@ use Rattle.std.specs.Prelude.{◌≡◌, ℕ, ◌⊎◌, true, Option, slice_set
 use Rattle.r6_dev.specs.History.{Telling}
 use Rattle.r6_world.specs.Steps.{Deliver, Error, Taken}
 use Rattle.r6_core.specs.declared.Command.{Command}
-use Rattle.r6_core.specs.declared.refusal.DeviceFault.{DeviceFault}
+use Rattle.r6_world.specs.declared.values.DeviceFault.{DeviceFault}
 use Rattle.r6_core.specs.Effects.{HandsCommand}
 use Rattle.r6_core.specs.Shards.{CoreView, Step}
 use Rattle.r6_shard.specs.declared.shard.Shard.{Shard}

@@ -8,7 +8,8 @@ use Rattle.r6_health.specs.Histories.{held}
 use Rattle.r6_world.specs.PlainArray.{Op, ArrayFailed}
 use Rattle.r6_world.specs.ShardStates.{Shard, Stage}
 use Rattle.r6_world.specs.Refusals.{IsFailure}
-use Rattle.r6_core.specs.Shards.{CoreView, world_shard, reply_of}
+use Rattle.r6_world.specs.Values.{reply_of}
+use Rattle.r6_core.specs.Shards.{CoreView, world_shard}
 use Rattle.r6_shard.specs.declared.ledger.Entry.{Entry}
 
 -- the call declares a slot lost that is named, or reports that this shard has rebuilt its rows of one

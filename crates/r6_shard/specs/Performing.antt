@@ -2,9 +2,9 @@
 use Rattle.std.specs.Prelude.{◌≡◌, ℕ, List, length, Option, Some}
 use Rattle.r6_dev.specs.History.{Telling}
 use Rattle.r6_dev.specs.Promises.{Promise}
-use Rattle.r6_frames.specs.Views.{given_transfer}
+use Rattle.r6_world.specs.Values.{given_transfer}
 use Rattle.r6_core.specs.declared.Command.{Command}
-use Rattle.r6_core.specs.declared.refusal.DeviceFault.{DeviceFault}
+use Rattle.r6_world.specs.declared.values.DeviceFault.{DeviceFault}
 use Rattle.r6_course.specs.Steps.{Does, OthersAreKept}
 
 -- its part did what the command says, and no other changed

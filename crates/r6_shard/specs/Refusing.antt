@@ -1,6 +1,6 @@
 -- Why a shard refuses a request of its run.
 use Rattle.std.specs.Prelude.{◌≡◌, ◌≤◌, ◌⊎◌, true, List, [], ◌∷◌}
-use Rattle.r6_frames.specs.declared.op.Op.{Op}
+use Rattle.r6_world.specs.declared.values.Op.{Op}
 use Rattle.r6_core.specs.declared.refusal.Refusal.{Refusal}
 use Rattle.r6_core.specs.declared.refusal.Refusal.TheVariants.{NoSuchBlock, WrongShard, WrongLength, ArrayFailed, Exhausted}
 use Rattle.r6_core.specs.Refusals.{HasSubmitFault, IsFirstFault, HasNone}

@@ -12,7 +12,7 @@ use Rattle.r6_world.specs.Registers.{Snapshot}
 use Rattle.r6_world.specs.ShardStates.{IsLive}
 use Rattle.r6_world.specs.Worlds.{Devices}
 use Rattle.r6_world.specs.Claims.{IsLawfulStart, IsIdle}
-use Rattle.r6_frames.specs.Views.{op_of}
+use Rattle.r6_world.specs.Values.{op_of}
 use Rattle.r6_core.specs.declared.refusal.Refusal.{Refusal}
 use Rattle.r6_core.specs.Shards.{CoreView, world_shard}
 use Rattle.r6_core.specs.Refusals.{HasSubmitFault, HasNone}

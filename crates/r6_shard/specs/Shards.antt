@@ -8,7 +8,7 @@ use Rattle.r6_world.specs.PlainArray as world
 use Rattle.r6_world.specs.Registers.{Snapshot}
 use Rattle.r6_world.specs.Worlds.{Devices}
 use Rattle.r6_world.specs.Claims.{IsLawfulStart}
-use Rattle.r6_frames.specs.Views.{op_of}
+use Rattle.r6_world.specs.Values.{op_of}
 use Rattle.r6_core.specs.declared.Op.{Op}
 use Rattle.r6_core.specs.Shards.{world_shard}
 use Rattle.r6_core.specs.declared.refusal.Refusal.{Refusal}

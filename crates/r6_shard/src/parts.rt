@@ -2,7 +2,7 @@
 
 ghost use Rattle.std.specs.Prelude.{◌≡◌, ◌<◌, length, IfSome, IsOk, MatchResult};
 ghost use Rattle.std.specs.List.{position};
-ghost use Rattle.r6_frames.specs.Views.{given_transfer};
+ghost use Rattle.r6_world.specs.Values.{given_transfer};
 ghost use Rattle.r6_dev.specs.Promises.{Covers};
 ghost use Rattle.r6_course.specs.Steps.{Does};
 

@@ -5,8 +5,8 @@ use Rattle.std.proofs.lemmas.List.{flat_map_more, map-append}
 use Rattle.r6_core.specs.Effects.{HandsCommand, HandsReply}
 use Rattle.r6_core.specs.Shards.{CoreView}
 use Rattle.r6_core.specs.declared.Command.{Command}
-use Rattle.r6_core.specs.declared.reply.OpId.{OpId}
-use Rattle.r6_core.specs.declared.reply.Reply.{Reply}
+use Rattle.r6_world.specs.declared.values.OpId.{OpId}
+use Rattle.r6_world.specs.declared.values.Reply.{Reply}
 use Rattle.r6_simulate.specs.declared.shard.InFlight.{InFlight}
 use Rattle.r6_simulate.specs.declared.shard.Shard.{Shard}
 use Rattle.r6_simulate.specs.AtShards.{KeepsFlight, HandsReplies, HandsCommands, TakesReplies, TakesCommands, taken}

@@ -5,8 +5,8 @@ use Rattle.std.specs.List.{list_any, position}
 use Rattle.r6_core.specs.Effects.{Accepts, RefusesOp, Receives, RefusesCompletion, LooksAt, RefusesLook, Turns, RefusesTurn, HandsCommand, HandsCall, Hears, RefusesAnswer, HandsReply, HandsNoReply}
 use Rattle.r6_core.specs.Shards.{CoreView, Step, call_of}
 use Rattle.r6_core.specs.declared.call.Call.{Call as RegisterCall}
-use Rattle.r6_core.specs.declared.reply.OpId.{OpId}
-use Rattle.r6_core.specs.declared.reply.Reply.{Reply}
+use Rattle.r6_world.specs.declared.values.OpId.{OpId}
+use Rattle.r6_world.specs.declared.values.Reply.{Reply}
 use Rattle.r6_health.specs.Histories.{held}
 use Rattle.r6_health.specs.Passes.{view_of, Tells as TellsPass}
 use Rattle.r6_health.specs.Views.{Looks as LooksPass}
@@ -18,9 +18,9 @@ use Rattle.r6_core.specs.declared.Command.{Command}
 use Rattle.r6_core.specs.declared.CommandKind.{CommandKind}
 use Rattle.r6_core.specs.declared.CommandKind.TheVariants as kind
 use Rattle.r6_core.specs.declared.Op.{Op}
-use Rattle.r6_core.specs.declared.refusal.DeviceFault.{DeviceFault}
-use Rattle.r6_core.specs.declared.refusal.FaultKind.{FaultKind}
-use Rattle.r6_core.specs.declared.refusal.FaultKind.TheVariants.{ReadFault, WriteFault}
+use Rattle.r6_world.specs.declared.values.DeviceFault.{DeviceFault}
+use Rattle.r6_world.specs.declared.values.FaultKind.{FaultKind}
+use Rattle.r6_world.specs.declared.values.FaultKind.TheVariants.{ReadFault, WriteFault}
 use Rattle.r6_core.specs.declared.turn.Task.{Task as CoreTask}
 use Rattle.r6_core.specs.declared.turn.Task.TheVariants as core
 use Rattle.r6_script.specs.declared.script.Task.{Task}

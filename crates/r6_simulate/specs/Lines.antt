@@ -3,10 +3,10 @@ use Rattle.std.specs.Prelude.{ℕ, List, [], ◌∷◌, ◌++◌, codes, decimal
 use Rattle.std.specs.List.{flat_map, join_with_byte}
 use Rattle.r6_core.specs.declared.call.Call.{Call}
 use Rattle.r6_core.specs.declared.call.Call.TheVariants as call
-use Rattle.r6_core.specs.declared.refusal.Receipt.TheVariants.{Taken, Late}
+use Rattle.r6_world.specs.declared.values.Receipt.TheVariants.{Taken, Late}
 use Rattle.r6_core.specs.declared.turn.Turn.TheVariants.{Started, Skipped}
-use Rattle.r6_core.specs.declared.reply.OpId.{OpId}
-use Rattle.r6_core.specs.declared.reply.Reply.{Reply}
+use Rattle.r6_world.specs.declared.values.OpId.{OpId}
+use Rattle.r6_world.specs.declared.values.Reply.{Reply}
 use Rattle.r6_core.specs.declared.Command.{Command}
 use Rattle.r6_core.specs.declared.CommandKind.{CommandKind}
 use Rattle.r6_core.specs.declared.CommandKind.TheVariants as kind

@@ -8,8 +8,8 @@ use Rattle.r6_health.specs.declared.call.Answer.TheVariants as answer
 use Rattle.r6_health.specs.declared.refusal.Refusal as register_refusal
 use Rattle.r6_core.specs.Refusals.{number_of, name_of}
 use Rattle.r6_core.specs.declared.refusal.Refusal.{Refusal}
-use Rattle.r6_core.specs.declared.reply.Reply.{Reply}
-use Rattle.r6_core.specs.declared.reply.Reply.TheVariants as reply
+use Rattle.r6_world.specs.declared.values.Reply.{Reply}
+use Rattle.r6_world.specs.declared.values.Reply.TheVariants as reply
 use Rattle.r6_script.specs.Script.{Text, byte_word}
 
 -- the texts of the numbers below n, one after the other

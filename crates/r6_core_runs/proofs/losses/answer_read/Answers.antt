@@ -1,7 +1,7 @@
 use Rattle.std.proofs.Common.{◌∙◌, sym, ap, subst, Ok}
 use Rattle.r6_world.specs.Steps.{Deliver, Good}
-use Rattle.r6_frames.specs.Views.{world_command, given_transfer}
-use Rattle.r6_core.specs.Shards.{Step, receipt_of}
+use Rattle.r6_world.specs.Values.{world_command, given_transfer, receipt_of}
+use Rattle.r6_core.specs.Shards.{Step}
 use Rattle.r6_core_runs.proofs.LossRuns.{received}
 use Rattle.r6_core_runs.proofs.losses.answer_read.Goals as goal
 

@@ -1,7 +1,7 @@
 use Rattle.std.proofs.Common.{◌∙◌, sym, subst}
 use Rattle.r6_world.specs.Steps.{Deliver, Error}
-use Rattle.r6_frames.specs.Views.{world_command}
-use Rattle.r6_core.specs.Shards.{Step, receipt_of}
+use Rattle.r6_world.specs.Values.{world_command, receipt_of}
+use Rattle.r6_core.specs.Shards.{Step}
 use Rattle.r6_core_runs.proofs.LossRuns.{received}
 use Rattle.r6_core_runs.proofs.losses.fail_command.Goals as goal
 

@@ -2,8 +2,8 @@ use Rattle.std.proofs.Common.{◌≡◌, Bool, true, false, not, refl, ◌∙◌
 use lib.Pointwise.{bytes_decides}
 use Rattle.r6_world.specs.ShardStates.{Store}
 use Rattle.r6_world.specs.Steps.{Deliver, Good, Taken}
-use Rattle.r6_frames.specs.Views.{world_command, given_transfer}
-use Rattle.r6_core.specs.Shards.{Step, receipt_of}
+use Rattle.r6_world.specs.Values.{world_command, given_transfer, receipt_of}
+use Rattle.r6_core.specs.Shards.{Step}
 use Rattle.r6_core_runs.proofs.LossRuns.{received}
 use Rattle.r6_core_runs.proofs.rebuilds.confirm_write.Goals as goal
 

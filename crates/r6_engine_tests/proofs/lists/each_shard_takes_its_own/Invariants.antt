@@ -2,7 +2,7 @@ use Rattle.std.proofs.Common.{◌*◌, [], ◌∷◌, replicate}
 use Rattle.r6_kernels.specs.Blocks.{zeros}
 use Rattle.r6_layout.specs.Shape.{shape_of}
 use Rattle.r6_dev.specs.Memory.{told_by}
-use Rattle.r6_frames.specs.declared.op.Op.TheVariants as op
+use Rattle.r6_world.specs.declared.values.Op.TheVariants as op
 use Rattle.r6_lists.specs.Events.{Request, Attach, Check}
 use Rattle.r6_engine_tests.proofs.lists.each_shard_takes_its_own.Given as goal
 

@@ -1,7 +1,7 @@
 -- What is put in is of the events, and no new device promises anything.
 use Rattle.std.proofs.Common.{◌≡◌, ℕ, List, Option, Some, refl, ap, sym, ◌∙◌}
 use Rattle.r6_layout.specs.Shape.{Shape}
-use Rattle.r6_frames.specs.declared.op.Op.TheVariants as op
+use Rattle.r6_world.specs.declared.values.Op.TheVariants as op
 use Rattle.r6_lists.specs.Events.{Event, Task, Serves, task, task_at}
 use Rattle.r6_engine_tests.proofs.lists.play.Goals as goal
 

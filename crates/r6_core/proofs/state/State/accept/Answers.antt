@@ -2,8 +2,8 @@ use Rattle.std.proofs.Common.{◌+◌, ◌<◌, ◌++◌, ◌∷◌, [], ℕ, ap
 use Rattle.r6_waiters.specs.Line.{Line, entries_of}
 use Rattle.r6_world.specs.Steps.{Through, Scans}
 use Rattle.r6_world.specs.Changes.{Accept, after}
-use Rattle.r6_frames.specs.declared.op.Request.{Request}
-use Rattle.r6_frames.specs.Views.{op_of}
+use Rattle.r6_world.specs.declared.values.Request.{Request}
+use Rattle.r6_world.specs.Values.{op_of}
 use Rattle.r6_core.specs.Shards.{state_of, layout_in, core_of, waiting_of}
 use Rattle.r6_core.specs.Order.{HaveTurns}
 use Rattle.r6_core.specs.declared.state.State.{State}

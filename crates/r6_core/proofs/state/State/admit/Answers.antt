@@ -2,7 +2,7 @@ use Rattle.std.proofs.Common.{◌≡◌, ◌≢◌, ◌≤◌, ◌<◌, true, in
 use Rattle.r6_layout.specs.Layout.{index_of, row_of, shard_of, slot_at}
 use Rattle.r6_layout.specs.Shape.{Shape, blocks}
 use Rattle.r6_world.specs.PlainArray.{block_of}
-use Rattle.r6_frames.specs.Views.{buffer_of, op_of}
+use Rattle.r6_world.specs.Values.{buffer_of, op_of}
 use Rattle.r6_core.specs.Refusals.{HasSubmitFault, most_unanswered}
 use Rattle.r6_core.specs.Shards.{core_of}
 use Rattle.r6_core.specs.declared.refusal.Refusal.TheVariants.{Exhausted}

@@ -5,12 +5,13 @@ use Rattle.r6_world.specs.PlainArray.{block_of}
 use Rattle.r6_world.specs.Tasks.{ReadFor}
 use Rattle.r6_frames.specs.Owed.{owed}
 use Rattle.r6_layout.proofs.Places.{row_of-lt}
-use Rattle.r6_frames.specs.declared.op.Op.TheVariants as op
+use Rattle.r6_world.specs.declared.values.Op.TheVariants as op
 use Rattle.r6_frames.specs.Writes.{IsWriteIn, request_of, write_task}
-use Rattle.r6_frames.specs.declared.op.Op.{Op}
+use Rattle.r6_world.specs.declared.values.Op.{Op}
 use Rattle.r6_frames.specs.declared.frames.Frames.{Frames}
 use Rattle.r6_frames.specs.Calls.{Begins, KeepsOthers, IsFreeFrame, IsPlaceOf, IsRequestOf, NotHeldBy}
-use Rattle.r6_frames.specs.Views.{AreLive, op_of}
+use Rattle.r6_world.specs.Values.{op_of}
+use Rattle.r6_frames.specs.Views.{AreLive}
 use Rattle.r6_core.specs.declared.state.State.{State}
 use Rattle.r6_core.specs.Inside.{IsForAll, JoinedBy, row_for}
 use Rattle.r6_core.proofs.HoldParts.{may_begin, read_rooms, writes_rooms}

@@ -1,4 +1,4 @@
-use Rattle.r6_core.specs.Shards.{completion_of, receipt_of}
+use Rattle.r6_world.specs.Values.{completion_of, receipt_of}
 use Rattle.r6_core.proofs.AtRest.{at_rest}
 use Rattle.r6_core.proofs.Completing.{delivered, finishes_on, turns_behind}
 use Rattle.r6_core.proofs.state.State.deliver.Goals as goal

@@ -10,7 +10,7 @@ use Rattle.r6_core.proofs.state.State.gather.Goals.{in-Some-give_up, in_default-
 use Rattle.r6_core.specs.Shards.{waiting_of, requests_in}
 use Rattle.std.specs.List.{AllByRecursion}
 use Rattle.r6_waiters.specs.Line.{Line, capacity_of, causes_of, entries_of, oldest_of, with_entries, without_oldest, gathered as gathered_for}
-use Rattle.r6_frames.specs.declared.op.Request.{Request}
+use Rattle.r6_world.specs.declared.values.Request.{Request}
 use Rattle.r6_waiters.proofs.Lines.{without-none}
 use Rattle.r6_core.specs.Inside.{anything}
 use Rattle.r6_core.proofs.Lined.{IsFor, all_for, first_of_all, none_of_all, rest_of_all, values, values_gathered}

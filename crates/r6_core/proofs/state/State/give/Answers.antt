@@ -1,6 +1,6 @@
 use Rattle.std.proofs.Common.{◌++◌, ◌∷◌, [], refl, subst, sym}
 use Rattle.circular_buffer.specs.Buffer.{Buffer, buffer}
-use Rattle.r6_frames.specs.declared.op.Request.{Request}
+use Rattle.r6_world.specs.declared.values.Request.{Request}
 use Rattle.r6_core.specs.declared.state.State.{State}
 use Rattle.r6_world.specs.Steps.{Good, Taken}
 use Rattle.r6_core.specs.Inside.{HasBuffer, IsSettled, Seen, TakesThrough}

@@ -4,7 +4,7 @@ use Rattle.r6_world.specs.Registers.{Snapshot}
 use Rattle.r6_core.specs.Shards.{layout_in, state_of, core_of, waiting_of}
 use Rattle.r6_core.specs.Order.{Agrees}
 use Rattle.std.specs.List.{AllByRecursion}
-use Rattle.r6_frames.specs.declared.op.Request.{Request}
+use Rattle.r6_world.specs.declared.values.Request.{Request}
 use Rattle.r6_frames.specs.declared.frames.Frames.{Frames}
 use Rattle.r6_frames.specs.Views.{AreLive}
 use Rattle.r6_core.specs.Inside.{HasFreed, IsSettled, ReadAgain, Waits}

@@ -1,6 +1,6 @@
 use Rattle.std.proofs.Common.{◌≡◌, ◌++◌, List, length, map}
 use Rattle.circular_buffer.specs.Buffer.{buffer}
-use Rattle.r6_frames.specs.declared.op.Request.{Request}
+use Rattle.r6_world.specs.declared.values.Request.{Request}
 use Rattle.r6_frames.specs.Calls.{requests_of as requests_ended}
 use Rattle.r6_frames.specs.Writes.{request_of}
 use Rattle.r6_core.proofs.state.State.reply_to.Given as goal

@@ -1,7 +1,7 @@
 use Rattle.std.proofs.Common.{◌≡◌, ◌≤◌, ◌<◌, ℕ, Bool, true, false, sym, subst, ◌∙◌, refl, inl, inr, arith}
 use Rattle.r6_world.specs.ShardStates.{limit}
 use Rattle.r6_frames.specs.Calls.{IsHolder, NotHeldBy}
-use Rattle.r6_frames.specs.declared.op.Op.{Op}
+use Rattle.r6_world.specs.declared.values.Op.{Op}
 use Rattle.r6_frames.specs.declared.frames.Frames.{Frames}
 use Rattle.r6_core.specs.Inside.{IsReadDirectly, IsSyncedRead}
 use Rattle.r6_core.proofs.state.State.room_for.Goals as goal

@@ -2,7 +2,7 @@ use Rattle.std.proofs.Common.{◌≡◌, ◌∷◌, [], ◌∙◌, IfSome, Some,
 use Rattle.std.specs.List.{AllByRecursion}
 use Rattle.r6_waiters.specs.Line.{Line, entries_of, oldest_of, with_entries, without_oldest}
 use Rattle.r6_world.specs.Steps.{Through, Scans}
-use Rattle.r6_frames.specs.declared.op.Request.{Request}
+use Rattle.r6_world.specs.declared.values.Request.{Request}
 use Rattle.r6_frames.specs.Calls.{IsRequestOf}
 use Rattle.r6_core.specs.Shards.{state_of, layout_in}
 use Rattle.r6_core.specs.declared.state.State.{State}

@@ -1,6 +1,6 @@
 use Rattle.std.proofs.Common.{◌<◌, ◌==◌, sym, subst}
 use Rattle.r6_waiters.specs.Line.{Line, entries_of}
-use Rattle.r6_frames.specs.declared.op.Request.{Request}
+use Rattle.r6_world.specs.declared.values.Request.{Request}
 use Rattle.r6_core.specs.Inside.{IsRoomFor, Waits, anything}
 use Rattle.r6_core.proofs.Lined.{all_of_empty}
 use Rattle.r6_core.proofs.Waking.{all_cannot}

@@ -1,6 +1,6 @@
 use Rattle.std.proofs.Common.{◌<◌, ◌∙◌, IfSome, MatchOption, inl, inr, sym, subst}
 use Rattle.r6_world.specs.Steps.{Through, Scans}
-use Rattle.r6_frames.specs.declared.op.Request.{Request}
+use Rattle.r6_world.specs.declared.values.Request.{Request}
 use Rattle.r6_frames.specs.Calls.{IsHolder, NotHeldBy}
 use Rattle.r6_waiters.specs.Line.{Line, entries_of, oldest_of}
 use Rattle.r6_core.specs.Shards.{layout_in, state_of}

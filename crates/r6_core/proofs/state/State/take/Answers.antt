@@ -2,8 +2,8 @@ use Rattle.r6_frames.specs.Calls.{KeepsOthers}
 use Rattle.r6_core.proofs.Answering.{awaited}
 use Rattle.std.proofs.Common.{ℕ, List, Result, IfOk, refl, sym, ap, subst, ◌∙◌, length}
 use Rattle.r6_world.specs.Steps.{Taken}
-use Rattle.r6_core.specs.declared.refusal.DeviceFault.{DeviceFault}
-use Rattle.r6_core.specs.Shards.{buffer_in, completion_of}
+use Rattle.r6_world.specs.declared.values.DeviceFault.{DeviceFault}
+use Rattle.r6_world.specs.Values.{buffer_in, completion_of}
 use Rattle.r6_core.specs.Order.{FinishesBy}
 use Rattle.r6_core.specs.Inside.{ReadAgainFor, Seen, TakesThrough}
 use Rattle.r6_core.proofs.state.State.take.Goals.{in-Ok, in-Err}

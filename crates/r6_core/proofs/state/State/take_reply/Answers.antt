@@ -3,9 +3,10 @@ use Rattle.std.specs.Prelude.{nat_lt}
 use Rattle.std.proofs.lemmas.Bool.{ltb-false}
 use Rattle.std.proofs.lemmas.List.{drop_all, take_all}
 use Rattle.circular_buffer.specs.Buffer.{Buffer}
-use Rattle.r6_frames.specs.declared.op.Request.{Request}
+use Rattle.r6_world.specs.declared.values.Request.{Request}
 use Rattle.r6_world.specs.Steps.{No_reply}
-use Rattle.r6_core.specs.Shards.{Step, reply_of, core_of}
+use Rattle.r6_world.specs.Values.{reply_of}
+use Rattle.r6_core.specs.Shards.{Step, core_of}
 use Rattle.r6_core.specs.Inside.{IsCore, IsSettled}
 use Rattle.r6_core.proofs.Known.{at_none, if_none}
 use Rattle.r6_core.proofs.Replies.{some_popped, none_popped, unpopped, no_reply, marked_by, reply_brings, reply_core, reply_first, reply_step}

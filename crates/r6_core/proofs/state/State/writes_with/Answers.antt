@@ -1,6 +1,6 @@
 use Rattle.std.proofs.Common.{◌≡◌, ◌∷◌, [], List, Option, false, length, arith, length-append, refl, sym, ap, subst, ◌∙◌}
 use Rattle.std.specs.List.{AllByRecursion}
-use Rattle.r6_frames.specs.declared.op.Op.TheVariants as op
+use Rattle.r6_world.specs.declared.values.Op.TheVariants as op
 use Rattle.r6_frames.specs.Writes.{Entry}
 use Rattle.r6_core.specs.Inside.{JoinedBy}
 use Rattle.r6_core.proofs.Scanned.{all_last}

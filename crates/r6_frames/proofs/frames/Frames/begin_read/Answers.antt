@@ -2,7 +2,7 @@ use Rattle.std.proofs.Common.{◌≡◌, ◌+◌, ◌*◌, [], ◌∷◌, sym, s
 use Rattle.r6_layout.specs.Layout as layout
 use Rattle.r6_world.specs.Tasks.{ReadFor}
 use Rattle.r6_frames.specs.FramesState.{FramesState}
-use Rattle.r6_frames.specs.declared.op.Op.TheVariants as requested
+use Rattle.r6_world.specs.declared.values.Op.TheVariants as requested
 use Rattle.r6_frames.specs.Inside.{view_of}
 use Rattle.r6_frames.specs.Views.{AreLive, read_for}
 use Rattle.r6_frames.specs.Calls.{Begins, IsFreeFrame, IsPlaceOf, KeepsDirects, KeepsOthers, KeepsSlots, NotHeldBy}

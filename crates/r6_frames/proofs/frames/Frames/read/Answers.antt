@@ -1,4 +1,4 @@
-use Rattle.r6_frames.specs.declared.op.Op.TheVariants as requested
+use Rattle.r6_world.specs.declared.values.Op.TheVariants as requested
 use Rattle.r6_frames.specs.Slots.{states_of}
 use Rattle.r6_frames.specs.Reads.{IsFreeDirect, IsReadable, ReadsDirectly, TakesDirect}
 use Rattle.r6_frames.specs.Calls.{IsPlaceOf, KeepsHolds, KeepsSlots}

@@ -2,7 +2,7 @@ use Rattle.std.proofs.Common.{◌≡◌, ℕ, List, Option, Some, refl, sym, sub
 use Rattle.std.specs.Prelude.{MatchOption}
 use Rattle.r6_frames.specs.declared.directs.Direct.{Direct}
 use Rattle.r6_frames.specs.declared.directs.DirectRead.{DirectRead}
-use Rattle.r6_frames.specs.declared.op.Request.{Request}
+use Rattle.r6_world.specs.declared.values.Request.{Request}
 use Rattle.r6_frames.specs.Inside.{view_of}
 use Rattle.r6_frames.specs.Directs.{read_request}
 use Rattle.r6_frames.specs.Reads.{HandsBack, IsFirstStopped, NoneStopped}

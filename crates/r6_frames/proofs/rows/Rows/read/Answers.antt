@@ -2,7 +2,7 @@ use Rattle.std.proofs.Common.{refl, true, ◌≡◌, ℕ, ◌+◌, List, set, So
 use Rattle.r6_layout.specs.Layout as layout
 use Rattle.r6_stripe.specs.Plans.{is_in_sync}
 use Rattle.r6_world.specs.ShardStates.{frames, standing_of}
-use Rattle.r6_frames.specs.declared.command.CommandKind.TheVariants as command
+use Rattle.r6_world.specs.declared.values.CommandKind.TheVariants as command
 use Rattle.r6_frames.specs.Inside.{view_of, commands_in}
 use Rattle.r6_frames.specs.Slots.{slot_in, states_of, generation_of}
 use Rattle.r6_frames.specs.Directs.{direct_at}

@@ -1,7 +1,7 @@
 use Rattle.std.proofs.Common.{◌≤◌, ℕ, inl, inr, refl, length, ap, subst, sym, ◌∙◌, ◌∷◌, [], arith}
 use Rattle.std.proofs.lemmas.List.{length-append}
 use Rattle.r6_world.specs.PlainArray.{block_of}
-use Rattle.r6_frames.specs.Views.{op_of}
+use Rattle.r6_world.specs.Values.{op_of}
 use Rattle.r6_shard.specs.declared.ledger.Asked.{Asked}
 use Rattle.r6_shard.specs.declared.shard.Shard.{Shard}
 use Rattle.r6_shard.proofs.Lasting.{refused-so}

@@ -1,7 +1,7 @@
 use Rattle.std.proofs.Common.{◌∙◌, Some, refl, ap, sym, subst}
 use Rattle.r6_lists.specs.Events.{Serves, Checks, Repairs, task}
 use Rattle.r6_lists.specs.Lists.{duty_in}
-use Rattle.r6_frames.specs.declared.op.Op.TheVariants as op
+use Rattle.r6_world.specs.declared.values.Op.TheVariants as op
 use Rattle.r6_shard.specs.declared.parts.Part.{Part}
 use Rattle.r6_runner.proofs.Awaiting.{put-awaited, handed-awaited}
 use Rattle.r6_runner.proofs.Done.{put-on, handed-on}

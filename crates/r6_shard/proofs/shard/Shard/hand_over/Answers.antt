@@ -1,6 +1,6 @@
 use Rattle.std.proofs.Common.{◌++◌, ◌∷◌, [], length, refl, sym, ap, subst, ◌∙◌}
 use Rattle.r6_world.specs.PlainArray.{block_of}
-use Rattle.r6_frames.specs.Views.{op_of}
+use Rattle.r6_world.specs.Values.{op_of}
 use Rattle.r6_shard.specs.declared.ledger.Asked.{Asked}
 use Rattle.r6_shard.specs.Runs.{Refuses}
 use Rattle.r6_shard.proofs.Lasting.{lasts_on, was-right, was-serving, refused-so}

@@ -1,7 +1,7 @@
 use Rattle.std.proofs.Common.{◌<◌, length, inl, inr, sym, subst, arith, refl, ◌∙◌}
 use Rattle.r6_world.specs.Steps.{No_command, Take_command, Deliver}
-use Rattle.r6_frames.specs.Views.{world_command}
-use Rattle.r6_core.specs.Shards.{core_layout, world_shard, completion_of, receipt_of}
+use Rattle.r6_world.specs.Values.{world_command, completion_of, receipt_of}
+use Rattle.r6_core.specs.Shards.{core_layout, world_shard}
 use Rattle.r6_health.specs.Passes.{view_of}
 use Rattle.r6_shard.specs.Kept.{IsKept}
 use Rattle.r6_shard.proofs.Counting.{passes-none}

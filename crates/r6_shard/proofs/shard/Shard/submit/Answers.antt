@@ -1,7 +1,7 @@
 use Rattle.std.proofs.Common.{◌≡◌, ◌+◌, ℕ, ◌++◌, ◌∷◌, [], length, vec_len, subst, sym, ap, refl, ◌∙◌, rules}
 use Rattle.std.proofs.lemmas.List.{length-append}
 use Rattle.r6_health.specs.Passes.{view_of}
-use Rattle.r6_frames.specs.Views.{op_of}
+use Rattle.r6_world.specs.Values.{op_of}
 use Rattle.r6_world.specs.PlainArray.{block_of}
 use Rattle.r6_world.specs.Steps.{Submit}
 use Rattle.r6_core.specs.Shards.{CoreView, core_layout, world_shard}
