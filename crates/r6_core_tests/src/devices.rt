@@ -13,14 +13,10 @@ pub(crate) const MIXED: u16 = 0x100;
 
 /// A block with one byte throughout. Where memory is wanting it is empty, and what it is for goes wrong.
 pub(crate) fn filled(alloc: Global, len: usize, byte: u8) -> Buffer {
-    let Ok(bytes) = vec![in alloc; byte; len] else {
-        return Buffer::empty(alloc);
-    };
-    let Ok(mut block) = Buffer::new(alloc, len) else {
-        return Buffer::empty(alloc);
-    };
-    block.copy_from_slice(bytes.as_slice());
-    block
+    match Buffer::filled(alloc, len, byte) {
+        Ok(block) => block,
+        Err(_) => Buffer::empty(alloc),
+    }
 }
 
 /// The byte that a block has throughout.

@@ -24,9 +24,7 @@ pub(crate) const ROWS: usize = 4;
 pub(crate) fn filled<R: Abort>(rt: &R, alloc: Global, byte: u8) -> Buffer
     ensures { result ≡ replicate 16 byte }
 {
-    let mut block = Buffer::new(alloc, BLOCK).expect(rt, "memory");
-    block.copy_from_slice(&[byte; BLOCK]);
-    block
+    Buffer::filled(alloc, BLOCK, byte).expect(rt, "memory")
 }
 
 /// An array with so many shards.

@@ -1,7 +1,8 @@
 -- How a script is written. The words are this project's own.
-use Rattle.std.specs.Prelude.{◌≡◌, ◌≢◌, ℕ, ◌-◌, ◌/◌, ◌%◌, ◌^◌, ◌<◌, ◌++◌, ◌==◌, Bool, true, not, List, [], ◌∷◌, codes, decimal, map, filter, take, Option, Some, None, option_map, MatchOption}
+use Rattle.std.specs.Prelude.{◌≡◌, ◌≢◌, ℕ, ◌-◌, ◌^◌, ◌<◌, ◌++◌, ◌==◌, Bool, true, not, List, [], ◌∷◌, codes, decimal, map, filter, take, Option, Some, None, option_map, MatchOption}
 use Rattle.std.specs.Char.{digit_char}
 use Rattle.std.specs.List.{All, join_with_byte, slice_split}
+pub use Rattle.r6_kernels.specs.Texts.{byte_word}
 use Rattle.r6_layout.specs.Shape.{Shape, IsShape}
 use Rattle.r6_script.specs.declared.script.Call.{Call}
 use Rattle.r6_script.specs.declared.script.Call.TheVariants.{Perform, Answer, Do, Tell, Look, Turn}
@@ -24,12 +25,9 @@ Text = List ℕ
 abbrev pub IsNumber : ℕ → Type 0
 IsNumber n = n < 2 ^ 64
 
--- a byte, with its word of two hexadecimal digits
+-- a byte, whose word is two hexadecimal digits
 abbrev pub IsByte : ℕ → Type 0
 IsByte byte = byte < 256
-
-abbrev pub byte_word : ℕ → Text
-byte_word byte = digit_char (byte / 16) ∷ digit_char (byte % 16) ∷ []
 
 -- the word of a shard's command
 abbrev pub command_word : (shard token : ℕ) → Text
