@@ -5,6 +5,7 @@
 //! answers there. A third slot out fails the array for good.
 #![tactic(auto)]
 
+mod answered;
 pub mod call;
 mod cell;
 pub mod history;
@@ -19,6 +20,7 @@ pub mod snapshot;
 mod steps;
 mod words;
 
+pub use answered::Answered;
 pub use call::{Answer, Call};
 pub use pass::Pass;
 pub use refusal::{Refusal, RegisterError};
