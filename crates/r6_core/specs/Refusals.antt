@@ -1,5 +1,5 @@
 -- The refusals of a core, each with its number and its name, and when a call is refused.
-use Rattle.std.specs.Prelude.{◌≡◌, ◌≢◌, ℕ, ◌≤◌, ◌⊎◌, true, List, [], ◌∷◌, length, codes, Some, None}
+use Rattle.std.specs.Prelude.{◌≡◌, ◌≢◌, ℕ, ◌≤◌, ◌⊎◌, true, List, [], ◌∷◌, ◌++◌, length, codes, decimal, Some, None}
 use Rattle.r6_layout.specs.Shape.{blocks}
 use Rattle.r6_layout.specs.Layout as layout
 use Rattle.r6_world.specs.PlainArray as world
@@ -43,6 +43,10 @@ name_of UntoldFirst = codes "UntoldFirst"
 name_of NoFrame = codes "NoFrame"
 name_of NothingToDo = codes "NothingToDo"
 name_of UnknownCall = codes "UnknownCall"
+
+-- what is printed of a refusal
+abbrev pub refused_text : Refusal → List ℕ
+refused_text refusal = codes "refused " ++ decimal (number_of refusal) ++ 32 ∷ name_of refusal
 
 -- ---- limits
 

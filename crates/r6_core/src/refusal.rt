@@ -3,6 +3,8 @@
 ghost use Rattle.std.specs.Prelude.{◌≡◌};
 ghost use Rattle.r6_core.specs.Refusals.{error_number, number_of, name_of};
 
+use std::fmt;
+
 /// Why a core can't be made.
 #[derive(Clone, Copy, PartialEq, Eq, Debug)]
 pub enum CoreError {
@@ -71,6 +73,18 @@ impl Refusal {
             Refusal::NothingToDo => "NothingToDo",
             Refusal::UnknownCall => "UnknownCall",
         }
+    }
+}
+
+/// `refused N Name`, with the number and the name.
+impl fmt::Display for Refusal {
+    ghost use Rattle.std.specs.Prelude.{Some};
+    ghost use Rattle.r6_core.specs.Refusals.{refused_text};
+
+    ghost output = { λ refusal. Some (refused_text refusal) };
+
+    fn fmt<W: fmt::Write>(&self, f: &mut fmt::Formatter<W>) -> fmt::Result {
+        write!(f, "refused {} {}", self.number(), self.name())
     }
 }
 

@@ -1,7 +1,7 @@
 -- Texts of numbers, written one after the other.
 use Rattle.std.proofs.Common.{◌≡◌, ◌∙◌, ◌≤◌, ◌+◌, ◌++◌, ℕ, ap, add-one, append-nil, append_assoc, arith, sym}
 use Rattle.r6_script.specs.Script.{Text}
-use Rattle.r6_texts.specs.Texts.{texts_below}
+use Rattle.r6_script.specs.Texts.{texts_below}
 
 -- of no number
 pub none_written : (text_of : ℕ → Text) (begun : Text) → begun ≡ begun ++ texts_below text_of 0

@@ -5,7 +5,7 @@ use Rattle.r6_layout.specs.Shape.{Shape, blocks, chunk_rows}
 use Rattle.r6_layout.specs.declared.place.Role.{Role}
 use Rattle.r6_layout.specs.declared.place.Role.TheVariants.{Data, P, Q}
 use Rattle.r6_script.specs.Script.{Text}
-use Rattle.r6_texts.specs.Texts.{line, texts_below}
+use Rattle.r6_script.specs.Texts.{line, texts_below}
 
 -- what a slot keeps
 abbrev pub role_text : Role → Text

@@ -7,7 +7,7 @@ use Rattle.r6_offline.specs.declared.report.Counts.{Counts}
 use Rattle.r6_offline.specs.declared.report.Report.{Report}
 use Rattle.r6_offline.specs.declared.report.WrongRow.{WrongRow}
 use Rattle.r6_script.specs.Script.{Text}
-use Rattle.r6_texts.specs.Texts.{line}
+use Rattle.r6_script.specs.Texts.{line}
 
 -- as many files as slots
 abbrev pub created_text : Shape → Text

@@ -2,7 +2,7 @@
 
 ghost use Rattle.std.specs.Prelude.{◌≡◌, ◌+◌, ◌<◌, ◌++◌, OnOk, IfOk, min, string_bytes};
 ghost use Rattle.r6_layout.specs.Shape.{chunk_rows};
-ghost use Rattle.r6_texts.specs.Texts.{texts_below};
+ghost use Rattle.r6_script.specs.Texts.{texts_below};
 ghost use Rattle.r6_execute.specs.Layouts.{chunk_row_line, layout_text, role_text, shape_line, shard_line};
 
 use r6_layout::{Geometry, Role};

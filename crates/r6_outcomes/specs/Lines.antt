@@ -6,7 +6,10 @@ use Rattle.r6_world.specs.Registers.{Snapshot}
 use Rattle.r6_run_script.specs.declared.event.Event.{Event}
 use Rattle.r6_run_script.specs.declared.event.Event.TheVariants.{Wait}
 use Rattle.r6_script.specs.Script.{Text}
-use Rattle.r6_texts.specs.Texts.{answer_text, line, refused_text, reply_text, texts_below}
+use Rattle.r6_health.specs.Texts.{answer_text}
+use Rattle.r6_world.specs.Values.{reply_text}
+use Rattle.r6_core.specs.Refusals.{refused_text}
+use Rattle.r6_script.specs.Texts.{line, texts_below}
 use Rattle.r6_outcomes.specs.declared.found.Found.{Found}
 use Rattle.r6_outcomes.specs.declared.outcome.Outcome.{Outcome}
 use Rattle.r6_outcomes.specs.declared.outcome.Outcome.TheVariants.{Unanswered, Replied, Refused, Called, Counted}

@@ -9,7 +9,7 @@ use Rattle.r6_feed.specs.declared.answer.Outcome.TheVariants.{OutOfRange, Failed
 use Rattle.r6_runner.specs.declared.pass.Passed.{Passed}
 use Rattle.r6_runner.specs.declared.runner.Runner.{Runner}
 use Rattle.r6_shard.specs.declared.ledger.Entry.{Entry}
-use Rattle.r6_texts.specs.Texts.{attach_answer}
+use Rattle.r6_health.specs.Texts.{attach_answer}
 use Rattle.r6_outcomes.specs.declared.found.Found.{Found}
 use Rattle.r6_outcomes.specs.declared.outcome.Outcome.{Outcome}
 use Rattle.r6_outcomes.specs.declared.outcome.Outcome.TheVariants.{Unanswered, Replied, Refused, Called, Counted}

@@ -5,10 +5,9 @@ ghost use Rattle.r6_outcomes.specs.Lines.{event_line, classes_text, found_text, 
 
 use crate::found::Found;
 use crate::outcome::Outcome;
-use r6_health::Snapshot;
+use r6_health::{Answered, Snapshot};
 use r6_layout::Geometry;
 use r6_run_script::Event;
-use r6_texts::{Answered, Refused, write_reply};
 use std::alloc::AllocError;
 use std::fmt::Write;
 
@@ -56,8 +55,8 @@ fn write_outcome(text: &mut String, rows: u64, outcome: &Outcome) -> Result<(), 
 {
     match outcome {
         Outcome::Unanswered => write!(text, "unanswered"),
-        Outcome::Replied(reply) => write_reply(text, reply),
-        Outcome::Refused(refusal) => write!(text, "{}", Refused(*refusal)),
+        Outcome::Replied(reply) => write!(text, "{reply}"),
+        Outcome::Refused(refusal) => write!(text, "{refusal}"),
         Outcome::Called(answer) => write!(text, "{}", Answered(*answer)),
         Outcome::Counted(found) => write_found(text, rows, found),
     }

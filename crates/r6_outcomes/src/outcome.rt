@@ -6,9 +6,8 @@ ghost use Rattle.r6_outcomes.specs.Outcomes.{known_with, outcome_of_answer, outc
 use crate::found::Found;
 use r6_core::{Refusal, Reply};
 use r6_feed::Outcome as Answer;
-use r6_health::{Answer as RegisterAnswer, Refusal as RegisterRefusal};
+use r6_health::{Answer as RegisterAnswer, Answered, Refusal as RegisterRefusal};
 use r6_runner::Passed;
-use r6_texts::Answered;
 use std::mem;
 
 /// What became of an event.

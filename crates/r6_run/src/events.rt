@@ -14,7 +14,6 @@ use r6_kernels::Buffer;
 use r6_layout::Geometry;
 use r6_offline::open_slot;
 use r6_run_script::Event as Entry;
-use r6_texts::block_of;
 use r6_world::Op;
 use std::alloc::{AllocError, Global};
 use std::io::Seek;
@@ -33,7 +32,7 @@ fn read_of(alloc: Global, len: usize, block: u64) -> Result<Op, AllocError>
 fn write_of(alloc: Global, len: usize, block: u64, byte: u8) -> Result<Op, AllocError>
     ensures { IfOk result (λ op. op_of op ≡ Writes block (replicate len byte)) }
 {
-    Ok(Op::Write(block, block_of(alloc, len, byte)?))
+    Ok(Op::Write(block, Buffer::filled(alloc, len, byte)?))
 }
 
 // The event that attaches the device at a path.

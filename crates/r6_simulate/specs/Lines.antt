@@ -11,8 +11,10 @@ use Rattle.r6_core.specs.declared.Command.{Command}
 use Rattle.r6_core.specs.declared.CommandKind.{CommandKind}
 use Rattle.r6_core.specs.declared.CommandKind.TheVariants as kind
 use Rattle.r6_script.specs.Script.{Text, command_word}
-use Rattle.r6_texts.specs.Texts as texts
-use Rattle.r6_texts.specs.Texts.{answer_text, block_text, refused_text}
+use Rattle.r6_world.specs.Values as values
+use Rattle.r6_kernels.specs.Texts.{block_text}
+use Rattle.r6_health.specs.Texts.{answer_text}
+use Rattle.r6_core.specs.Refusals.{refused_text}
 use Rattle.r6_simulate.specs.declared.lines.Outcome.{Outcome}
 use Rattle.r6_simulate.specs.declared.lines.Outcome.TheVariants.{Accepted, Performed, PerformedAlready, NoSuchCommand, NotPerformed, Received, Looked, Turned, Refused, Told, Nothing, Called, NoSuchShard}
 
@@ -41,7 +43,7 @@ outcome_text NoSuchShard = codes "no such shard"
 
 -- a reply, behind what stands in its line
 abbrev pub reply_text : (shard id : ℕ) → Reply → Text
-reply_text shard id answer = codes " | reply " ++ command_word shard id ++ 32 ∷ texts.reply_text answer
+reply_text shard id answer = codes " | reply " ++ command_word shard id ++ 32 ∷ values.reply_text answer
 
 -- the block of a write goes with it
 abbrev pub block_words : CommandKind → List ℕ → List Text

@@ -14,7 +14,7 @@ use Rattle.r6_script.specs.declared.script.Call.{Call}
 use Rattle.r6_script.specs.declared.script.Event.{Event}
 use Rattle.r6_script.specs.declared.script.Event.TheVariants as event
 use Rattle.r6_script.specs.Script.{Text}
-use Rattle.r6_texts.specs.Texts.{answer_text, attach_answer}
+use Rattle.r6_health.specs.Texts.{answer_text, attach_answer}
 use Rattle.r6_simulate.specs.AtShards.{Submits, Makes, Reports, held_by}
 use Rattle.r6_simulate.specs.Beginnings.{AreFirstShards, IsFirstPass}
 use Rattle.r6_simulate.specs.Devices.{IsAt, AddsAs, AreFirst}

@@ -9,7 +9,6 @@ use r6_dev::{BlockDevice, Fault as DeviceFault, MemoryDevice};
 use r6_health::Refusal;
 use r6_kernels::Buffer;
 use r6_layout::Geometry;
-use r6_texts::block_of;
 use std::alloc::{AllocError, Global};
 
 /// Makes the blocks of an array.
@@ -25,7 +24,7 @@ impl Blocks {
     pub fn of(&self, byte: u8) -> Result<Buffer, AllocError>
         ensures { IfOk result (λ block. block ≡ replicate self.now.len byte) }
     {
-        block_of(self.alloc, self.len, byte)
+        Buffer::filled(self.alloc, self.len, byte)
     }
 }
 

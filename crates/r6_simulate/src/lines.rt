@@ -5,7 +5,7 @@ ghost use Rattle.r6_simulate.specs.Lines.{command_text, outcome_text, reply_text
 ghost use Rattle.r6_simulate.specs.declared.lines.Outcome.TheVariants.{Received, Turned};
 
 use r6_core::{Call, Command, CommandKind, OpId, Receipt, Refusal, Reply, Turn};
-use r6_texts::{Answered, Refused, write_block};
+use r6_health::Answered;
 use std::alloc::AllocError;
 use std::fmt::{self, Write};
 
@@ -96,7 +96,7 @@ impl fmt::Display for Outcome {
             Outcome::Received(receipt) => f.write_str(receipt_word(*receipt)),
             Outcome::Looked => f.write_str("looked"),
             Outcome::Turned(turn) => f.write_str(turn_word(*turn)),
-            Outcome::Refused(refusal) => write!(f, "{}", Refused(*refusal)),
+            Outcome::Refused(refusal) => write!(f, "{refusal}"),
             Outcome::Told(made, answered) => write!(f, "{made}: {answered}"),
             Outcome::Nothing => f.write_str("nothing"),
             Outcome::Called(answered) => write!(f, "{answered}"),
@@ -114,8 +114,7 @@ pub fn write_reply(
 ) -> Result<(), AllocError>
     ensures { OnOk result (string_bytes line.new ≡ string_bytes line.old ++ reply_text shard id.0 reply.now) }
 {
-    write!(line, " | reply {shard}:{} ", id.0)?;
-    r6_texts::write_reply(line, reply)
+    write!(line, " | reply {shard}:{} {reply}", id.0)
 }
 
 /// Goes on with a line: a command that the shard puts out.
@@ -132,8 +131,7 @@ pub fn write_command(line: &mut String, shard: usize, command: &Command) -> Resu
         command.token, command.slot, command.generation, command.row
     )?;
     if command.kind == CommandKind::Write {
-        write!(line, " ")?;
-        write_block(line, command.buffer.as_slice())?;
+        write!(line, " {}", command.buffer)?;
     }
     Ok(())
 }

@@ -8,9 +8,9 @@ use crate::fault::SimulationFault;
 use crate::lines::{Made, Outcome, write_command, write_reply};
 use crate::register::OwnRegister;
 use r6_core::{Command, CommandKind, Core, DeviceFault, FaultKind, Op, Task as CoreTask};
+use r6_health::Answered;
 use r6_kernels::Buffer;
 use r6_script::{Call, Completion, Task};
-use r6_texts::Answered;
 use std::fmt::Write as _;
 use std::sync::Wait;
 

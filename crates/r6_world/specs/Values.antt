@@ -1,5 +1,7 @@
 -- The values that a shard is handed and hands out, as the world has them.
-use Rattle.std.specs.Prelude.{ℕ, Bool, false, List, Result, Ok, Err}
+use Rattle.std.specs.Prelude.{ℕ, Bool, false, List, [], ◌∷◌, codes, Result, Ok, Err}
+use Rattle.std.specs.List.{join_with_byte}
+use Rattle.r6_kernels.specs.Texts.{block_text}
 use Rattle.r6_layout.specs.PlainArray.{Block}
 use Rattle.r6_world.specs.PlainArray as world
 use Rattle.r6_world.specs.ShardStates as shards
@@ -76,3 +78,12 @@ abbrev pub buffer_back : Reply → List ℕ
 buffer_back (reply.Data buffer) = buffer
 buffer_back (reply.Done buffer) = buffer
 buffer_back (reply.ArrayFailed buffer) = buffer
+
+-- what is printed of a reply
+abbrev pub reply_words : Reply → List (List ℕ)
+reply_words (reply.Data buffer) = codes "data" ∷ block_text buffer ∷ []
+reply_words (reply.Done buffer) = codes "done" ∷ []
+reply_words (reply.ArrayFailed buffer) = codes "failed" ∷ []
+
+abbrev pub reply_text : Reply → List ℕ
+reply_text answer = join_with_byte 32 (reply_words answer)

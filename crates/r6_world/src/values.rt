@@ -5,6 +5,7 @@ ghost use Rattle.r6_world.specs.PlainArray.{block_of};
 ghost use Rattle.r6_world.specs.Values.{op_of, buffer_of};
 
 use r6_kernels::Buffer;
+use std::fmt;
 
 /// What is asked of a shard, with the caller's buffer of one block.
 #[derive(Drop)]
@@ -57,6 +58,22 @@ pub enum Reply {
     Done(Buffer),
     /// The array has failed; a read's buffer has any bytes.
     ArrayFailed(Buffer),
+}
+
+/// `data` and the block, `done` or `failed`.
+impl fmt::Display for Reply {
+    ghost use Rattle.std.specs.Prelude.{Some};
+    ghost use Rattle.r6_world.specs.Values.{reply_text};
+
+    ghost output = { λ reply. Some (reply_text reply) };
+
+    fn fmt<W: fmt::Write>(&self, f: &mut fmt::Formatter<W>) -> fmt::Result {
+        match self {
+            Reply::Data(buffer) => write!(f, "data {buffer}"),
+            Reply::Done(_) => write!(f, "done"),
+            Reply::ArrayFailed(_) => write!(f, "failed"),
+        }
+    }
 }
 
 /// What a command does.

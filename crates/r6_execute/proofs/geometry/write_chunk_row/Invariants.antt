@@ -1,7 +1,7 @@
 use Rattle.std.proofs.Common.{◌≡◌, ◌++◌, string_bytes}
 use Rattle.r6_layout.specs.Layout.{role_at}
 use Rattle.r6_execute.specs.Layouts.{role_text}
-use Rattle.r6_texts.specs.Texts.{texts_below}
+use Rattle.r6_script.specs.Texts.{texts_below}
 use Rattle.r6_execute.proofs.geometry.write_chunk_row.Given as goal
 
 abbrev pub invariant-loop-slot : goal.invariant-loop-slot

@@ -1,7 +1,7 @@
 use Rattle.std.proofs.Common.{◌≡◌, ◌∙◌, ◌<◌, ◌/◌, ◌++◌, ap, arith, min, ℕ, string_bytes, subst}
 use Rattle.r6_layout.specs.Shape.{Shape, chunk_rows}
 use Rattle.r6_execute.specs.Layouts.{chunk_row_line}
-use Rattle.r6_texts.specs.Texts.{texts_below}
+use Rattle.r6_script.specs.Texts.{texts_below}
 use Rattle.r6_execute.proofs.Texts.{all_written, none_written, one_written}
 use Rattle.r6_execute.proofs.geometry.write_chunk_rows.Goals as goal
 

@@ -1,6 +1,6 @@
 use Rattle.std.proofs.Common.{◌≡◌, ◌<◌, ◌++◌, string_bytes, subst}
 use Rattle.r6_execute.specs.Layouts.{shard_line}
-use Rattle.r6_texts.specs.Texts.{texts_below}
+use Rattle.r6_script.specs.Texts.{texts_below}
 use Rattle.r6_execute.proofs.Texts.{all_written, none_written, one_written}
 use Rattle.r6_execute.proofs.geometry.write_shards.Goals as goal
 

@@ -1,6 +1,6 @@
 use Rattle.std.proofs.Common.{◌≡◌, ◌++◌, string_bytes}
 use Rattle.r6_execute.specs.Layouts.{shard_line}
-use Rattle.r6_texts.specs.Texts.{texts_below}
+use Rattle.r6_script.specs.Texts.{texts_below}
 use Rattle.r6_execute.proofs.geometry.write_shards.Given as goal
 
 abbrev pub invariant-loop-shard : goal.invariant-loop-shard

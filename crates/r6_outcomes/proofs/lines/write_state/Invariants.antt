@@ -1,5 +1,5 @@
 use Rattle.std.proofs.Common.{◌≡◌, ◌++◌, string_bytes}
-use Rattle.r6_texts.specs.Texts.{texts_below}
+use Rattle.r6_script.specs.Texts.{texts_below}
 use Rattle.r6_outcomes.specs.Lines.{slot_text}
 use Rattle.r6_outcomes.proofs.lines.write_state.Given as goal
 
