@@ -1,5 +1,5 @@
 -- Which shard of the world a core is, and its steps.
-use Rattle.std.specs.Prelude.{◌≡◌, ℕ, nat_eq, Bool, true, false, List, ◌++◌, map, take, drop, slice_index_or, option_map, Option, Some, None, Result, Ok, Err}
+use Rattle.std.specs.Prelude.{◌≡◌, ℕ, nat_eq, Bool, true, false, List, ◌++◌, map, take, drop, slice_index_or, option_map, Option, Some, None}
 use Rattle.std.specs.Map.{lookup}
 use Rattle.r6_layout.specs.Shape.{Shape}
 use Rattle.r6_world.specs.PlainArray as world

@@ -16,7 +16,6 @@ use Rattle.r6_world.specs.ShardStates as shards
 use Rattle.r6_world.specs.ShardStates.{Shard, Held, Transfer, Fetch, Store, Storing, Call}
 use Rattle.r6_world.specs.Changes.{read_on}
 use Rattle.r6_world.specs.Values.{numbered}
-use Rattle.r6_world.specs.declared.values.Op.{Op}
 use Rattle.r6_world.specs.declared.values.Op.TheVariants as op
 use Rattle.r6_world.specs.declared.values.Request.{Request}
 use Rattle.r6_world.specs.declared.values.CommandKind.{CommandKind}
