@@ -1,4 +1,5 @@
 pub mod Parts
+pub mod Lent
 pub mod Errors
 pub mod Rows
 pub mod Reports
