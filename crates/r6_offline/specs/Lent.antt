@@ -6,7 +6,6 @@ use Rattle.r6_layout.specs.Shape.{Shape}
 use Rattle.r6_layout.specs.Layout.{OwnsRow, shard_of}
 use Rattle.r6_offline.specs.Parts.{Parts, TellsRows, part_number}
 use Rattle.r6_offline.specs.declared.report.RowFault.{RowFault}
-use Rattle.r6_offline.specs.declared.row.SlotFault.{SlotFault}
 
 -- what each part promises, by its number; none for one that isn't there
 abbrev pub Promises : Type 0
@@ -79,8 +78,7 @@ pub record AreLeft (shape : Shape) (promises : Promises) (fault : Option RowFaul
 
 -- the part of a slot answered a fault to the read of a row: it had not promised that row, and each other part tells
 -- what it told
-pub record FailsAlone (shape : Shape) (promises : Promises) (old new : Parts) (row : ℕ) (fault : SlotFault) : Type 0
-    where
-  pub kept : OnlyReadBut (λ number. number ≡ part_number shape (shard_of shape row) fault.slot) old new
-  pub unpromised : IfSome (promises (part_number shape (shard_of shape row) fault.slot))
+pub record FailsAlone (shape : Shape) (promises : Promises) (old new : Parts) (row slot : ℕ) : Type 0 where
+  pub kept : OnlyReadBut (λ number. number ≡ part_number shape (shard_of shape row) slot) old new
+  pub unpromised : IfSome (promises (part_number shape (shard_of shape row) slot))
       (λ promise. ¬ Covers promise row shape.block)
