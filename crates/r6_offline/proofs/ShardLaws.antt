@@ -480,8 +480,8 @@ left_met shape promises old new first fault in_shards left =
       unfailed = λ shard slot from below within met. elim met [
         | inl before ↦ absurd (omega (arith, before, from, same))
         | inr beside ↦
-          let here : shard ≡ first = beside.0 ∙ sym same in
-          subst (λ (s : ℕ). TellsStill old new (part_number shape s slot)) (sym here) (left.unfailed slot within beside.1)
+            let here : shard ≡ first = beside.0 ∙ sym same in
+            subst (λ (s : ℕ). TellsStill old new (part_number shape s slot)) (sym here) (left.unfailed slot within beside.1)
       ];
       named = (omega (arith, same, in_shards), left.named.1, left.named.2, left.named.3);
     }

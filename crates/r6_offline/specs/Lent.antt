@@ -1,6 +1,6 @@
 -- What a pass leaves of the parts that it was lent, and of which of them it may tell a fault (the promises are those of
 -- a device in `r6_dev`).
-use Rattle.std.specs.Prelude.{◌≡◌, ◌≢◌, ◌⊎◌, ℕ, ◌+◌, ◌<◌, List, Option, Some, None, is_some, IfSome, option_map, slice_index_or, slice_get}
+use Rattle.std.specs.Prelude.{◌≡◌, ◌≢◌, ◌⊎◌, ℕ, ◌<◌, List, Option, Some, None, is_some, IfSome, option_map, slice_index_or, slice_get}
 use Rattle.r6_dev.specs.Promises.{Promise, Covers, FailsNone}
 use Rattle.r6_layout.specs.Shape.{Shape}
 use Rattle.r6_layout.specs.Layout.{OwnsRow, shard_of}

@@ -72,12 +72,12 @@ pub record MissesTwoAtMost (shape : Shape) (parts : Parts) (shard : ℕ) : Type 
 -- The fault that a row's rebuild met has a cause: the part that it names had not promised the row, or, if it is the
 -- target's, its new part had not, or too few parts of the row are there
 pub record HasCause (shape : Shape) (target : ℕ) (parts : Parts) (promises targets : Promises) (row slot : ℕ) : Type 0
-    where
-  pub there : slot ≢ target → is_some (promises (part_number shape (shard_of shape row) slot)) ≡ true
-  pub of_source : slot ≢ target → IfSome (promises (part_number shape (shard_of shape row) slot))
-      (λ promise. ¬ Covers promise row shape.block)
-  pub of_target : slot ≡ target → MissesTwoAtMost shape parts (shard_of shape row)
-      → IfSome (targets (shard_of shape row)) (λ promise. ¬ Covers promise row shape.block)
+  where
+    pub there : slot ≢ target → is_some (promises (part_number shape (shard_of shape row) slot)) ≡ true
+    pub of_source : slot ≢ target → IfSome (promises (part_number shape (shard_of shape row) slot))
+        (λ promise. ¬ Covers promise row shape.block)
+    pub of_target : slot ≡ target → MissesTwoAtMost shape parts (shard_of shape row)
+        → IfSome (targets (shard_of shape row)) (λ promise. ¬ Covers promise row shape.block)
 
 -- each new part promises to fail no command to the rows of its shard
 abbrev pub TargetsPromise : Shape → (targets : Promises) → Type 0
