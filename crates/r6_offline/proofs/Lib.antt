@@ -6,3 +6,4 @@ mod CheckLaws
 mod PartLaws
 mod ShardLaws
 mod TargetLaws
+mod LentLaws

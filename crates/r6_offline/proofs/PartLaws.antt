@@ -76,10 +76,14 @@ noted_next shape parts first row report finding so_far is =
       each_once = omega (arith, one, once);
     }
 
+pub no_fault_noted : (shape : Shape) (parts : Parts) (first row : ℕ) (report : Report) → Noted shape parts first row report → report.fault ≡ None
+no_fault_noted shape parts first row report so_far =
+    ap (λ (r : Report). r.fault) so_far.is ∙ fault_stays no_report first so_far.findings
+
 pub part_at_end : (shape : Shape) (parts : Parts) (first end : ℕ) (report : Report)
     → Noted shape parts first end report → IsPartReport shape parts first end report
 part_at_end shape parts first end report so_far =
-    let none : report.fault ≡ None = ap (λ (r : Report). r.fault) so_far.is ∙ fault_stays no_report first so_far.findings in
+    let none = no_fault_noted shape parts first end report so_far in
     record {
       findings = so_far.findings;
       are_found = so_far.are_found;
@@ -268,24 +272,6 @@ are_joined shape parts shard report (next ∷ rest) is count checked are =
     (λ met. joined_fault shape parts first end report next next.fault refl within checked are.0 met)
     (λ clear. are_joined shape parts (shard + 1) (joined report next) rest is (omega (arith, count))
     (joined_clear shape parts first end report next checked are.0 clear) are.1)
-
-faultless_by : (report next : Report) (rest : List Report) (fault : Option RowFault) → next.fault ≡ fault
-    → (joined_all report (next ∷ rest)).fault ≡ None → (fault ≡ None) × ((joined_all (joined report next) rest).fault ≡ None)
-faultless_by report next rest None is none = (refl, sym (ap (λ (r : Report). r.fault) (joined_on report next rest (ap is_some is))) ∙ none)
-faultless_by report next rest (Some fault) is none =
-    let met : Some fault ≡ None = sym is ∙ sym (ap (λ (r : Report). r.fault) (joined_met report next rest (ap is_some is))) ∙ none in
-    absurd (cc met)
-
-abbrev pub AreFaultless : List Report → Type 0
-AreFaultless [] = ⊤
-AreFaultless (report ∷ reports) = (report.fault ≡ None) × AreFaultless reports
-
--- without a fault of all together none has one
-pub faultless : (report : Report) (reports : List Report) → (joined_all report reports).fault ≡ None → AreFaultless reports
-faultless report [] none = tt
-faultless report (next ∷ rest) none =
-    let both = faultless_by report next rest next.fault refl none in
-    (both.0, faultless (joined report next) rest both.1)
 
 total_within : (shape : Shape) (parts : Parts) (fault : Option RowFault) → IfSome fault (IsReadFault shape parts) → rows_before shape fault ≤ shape.rows
 total_within shape parts None is = omega arith

@@ -1,6 +1,6 @@
 -- A slot that is rebuilt, row by row.
-use Rattle.std.proofs.Common.{◌≡◌, ◌≢◌, ℕ, ◌+◌, ◌-◌, ◌<◌, ◌≤◌, Bool, true, false, cond, List, [], length, is_some, Some, None, refl, sym, ap, subst, ◌∙◌, arith, ⊎_elim}
-use Rattle.std.specs.Prelude.{nat_eq}
+use Rattle.std.proofs.Common.{◌≡◌, ◌≢◌, inl, inr, ◌⊎◌, get_or, ℕ, ◌+◌, ◌-◌, ◌<◌, ◌≤◌, Bool, true, false, cond, List, [], length, is_some, Some, None, refl, sym, ap, subst, ◌∙◌, arith, ⊎_elim}
+use Rattle.std.specs.Prelude.{nat_eq, IfSome}
 use Rattle.std.proofs.lemmas.Bool.{cases_eq, cases_lt, false≢true}
 use Rattle.std.proofs.lemmas.Bool.Decides.{nat_tests}
 use Rattle.std.proofs.lemmas.List.{get_or_past}
@@ -8,15 +8,19 @@ use Rattle.r6_dev.specs.History.{Block, Blocks, put}
 use Rattle.r6_dev.specs.declared.fault.Fault.{Fault}
 use Rattle.r6_dev.specs.declared.fault.Fault.TheVariants.{ReadFault}
 use Rattle.r6_layout.specs.Shape.{Shape, IsShape, data_slots}
-use Rattle.r6_layout.specs.Layout.{OwnsRow, shard_of, position_at}
-use Rattle.r6_layout.proofs.Roles.{position_at-slot_at}
+use Rattle.r6_layout.specs.Layout.{OwnsRow, shard_of, slot_at, position_at}
+use Rattle.r6_layout.proofs.Roles.{position_at-slot_at, slot_at-lt}
 use Rattle.r6_layout.proofs.Shards.{OwnsRow-shard_of, OwnsRow-same}
 use Rattle.r6_recover.specs.Restores.{BecomesFullRow}
 use Rattle.r6_recover.specs.Rows.{block_at, block_length, IsFullRow}
+use Rattle.r6_dev.specs.Promises.{Covers}
+use Rattle.r6_recover.specs.Known.{AreTooMany}
+use Rattle.r6_offline.specs.Lent.{FailsAlone, FailsNoRow, KeepPromises, Promises}
 use Rattle.r6_offline.specs.Parts.{Parts, AllTell, IsAbsent, OnlyRead, part_number}
 use Rattle.r6_offline.specs.Rows.{ReadFails, RowRead}
 use Rattle.r6_offline.specs.declared.row.SlotFault.{SlotFault}
-use Rattle.r6_offline.specs.Rebuilds.{AreFullRows, devices_of, AreTelling, HoldsBelow, IsRestoredRow, IsSpared, PartWritten, RebuildFails, RowRebuilt, IsRebuilt}
+use Rattle.r6_offline.specs.Rebuilds.{AreFullRows, devices_of, AreTelling, HasCause, HoldsBelow, IsRestoredRow, IsSoundRebuild, MissesTwoAtMost, IsSpared, PartWritten, RebuildFails, RowRebuilt, IsRebuilt}
+use Rattle.r6_offline.proofs.LentLaws.{but_none, clash, unpromised_row}
 use Rattle.r6_offline.proofs.RowLaws.{only_read_none, only_read_both, all_tell_still}
 
 pub restored_row : (shape : Shape) (old now : Parts) (row : ℕ) (known : List Bool) (before after : List Block)
@@ -118,7 +122,7 @@ rebuilt_at_end shape target begin' now targets targets' all = record {
 }
 
 pub rebuilt_at_fault : (shape : Shape) (target : ℕ) (begin' now next targets before after : Parts) (row : ℕ) (fault : SlotFault)
-    → Rebuilding shape target begin' now targets before row → row < shape.rows → RebuildFails shape target now next fault
+    → Rebuilding shape target begin' now targets before row → row < shape.rows → RebuildFails shape target row now next fault
     → ((shard : ℕ) → IsSpared shape target shard row fault.slot → after shard ≡ before shard)
     → IsRebuilt shape target begin' targets after (record { rows = row; fault = Some (record { row = row; slot = fault.slot; fault = fault.fault }) })
 rebuilt_at_fault shape target begin' now next targets before after row fault so_far within fails unwritten = record {
@@ -132,25 +136,120 @@ rebuilt_at_fault shape target begin' now next targets before after row fault so_
 -- ---- the target's own part isn't there
 
 -- a part that failed is of another slot
-pub source_fails : (shape : Shape) (target row : ℕ) (old new : Parts) (fault : SlotFault) → IsShape shape → row < shape.rows
-    → IsAbsent shape target old → ReadFails shape old row fault → RebuildFails shape target old new fault
-source_fails shape target row old new fault is within away fails =
+of_another : (shape : Shape) (target row : ℕ) (old : Parts) (fault : SlotFault) → IsShape shape → row < shape.rows
+    → IsAbsent shape target old → ReadFails shape old row fault → fault.slot ≢ target
+of_another shape target row old fault is within away fails same =
     let in_shards = (OwnsRow-shard_of shape row is within).is_shard in
-    let apart : fault.slot ≢ target =
-    λ same. false≢true (sym (away (shard_of shape row) in_shards) ∙ ap (λ slot. is_some (old (part_number shape (shard_of shape row) slot))) (sym same) ∙ fails.is_there) in
-    record {
-      within = fails.within;
-      of_source = λ _. fails.of_read;
-      of_target = λ same. absurd (apart same);
-      only_read = λ same. absurd (apart same);
-    }
+    false≢true (sym (away (shard_of shape row) in_shards) ∙ ap (λ slot. is_some (old (part_number shape (shard_of shape row) slot))) (sym same) ∙ fails.is_there)
+
+pub source_fails : (shape : Shape) (target row : ℕ) (promises : Promises) (old new : Parts) (fault : SlotFault) → IsShape shape → row < shape.rows
+    → IsAbsent shape target old → ReadFails shape old row fault → FailsAlone shape promises old new row fault.slot
+    → RebuildFails shape target row old new fault
+source_fails shape target row promises old new fault is within away fails alone = record {
+  within = fails.within;
+  of_source = λ _. fails.of_read;
+  of_target = λ same. absurd (of_another shape target row old fault is within away fails same);
+  kept = alone.kept;
+}
+
+pub source_cause : (shape : Shape) (target row : ℕ) (promises : Promises) (old new : Parts) (fault : SlotFault) → IsShape shape → row < shape.rows
+    → IsAbsent shape target old → ((n : ℕ) → is_some (promises n) ≡ is_some (old n)) → ReadFails shape old row fault
+    → FailsAlone shape promises old new row fault.slot
+    → (targets : Promises) → HasCause shape target old promises targets row fault.slot
+source_cause shape target row promises old new fault is within away there fails alone targets = record {
+  there = λ _. there (part_number shape (shard_of shape row) fault.slot) ∙ fails.is_there;
+  of_source = λ _. alone.unpromised;
+  of_target = λ same. absurd (of_another shape target row old fault is within away fails same);
+}
 
 -- the target itself failed
-pub target_fails : (shape : Shape) (target : ℕ) (old new : Parts) (fault : Fault) → target < shape.slots → OnlyRead old new → fault ≢ ReadFault
-    → RebuildFails shape target old new (record { slot = target; fault = fault })
-target_fails shape target old new fault within read other = record {
+pub target_fails : (shape : Shape) (target row : ℕ) (old new : Parts) (fault : Fault) → target < shape.slots → OnlyRead old new → fault ≢ ReadFault
+    → RebuildFails shape target row old new (record { slot = target; fault = fault })
+target_fails shape target row old new fault within read other = record {
   within = within;
   of_source = λ apart. absurd (apart refl);
   of_target = λ _. other;
-  only_read = λ _. read;
+  kept = but_none (λ number. number ≡ part_number shape (shard_of shape row) target) old new read;
 }
+
+pub target_cause : (shape : Shape) (target row : ℕ) (parts : Parts) (promises targets : Promises)
+    → (MissesTwoAtMost shape parts (shard_of shape row) → IfSome (targets (shard_of shape row)) (λ promise. ¬ Covers promise row shape.block))
+    → HasCause shape target parts promises targets row target
+target_cause shape target row parts promises targets none = record {
+  there = λ apart. absurd (apart refl);
+  of_source = λ apart. absurd (apart refl);
+  of_target = λ _. none;
+}
+
+-- of three slots without a part one is neither of two
+three_of_two : (first second third a b : ℕ) → first < second → second < third → (first ≡ a) ⊎ (first ≡ b) → (second ≡ a) ⊎ (second ≡ b)
+    → (third ≡ a) ⊎ (third ≡ b) → ⊥
+three_of_two first second third a b below above one two three = omega (arith, below, above, one, two, three)
+
+pub too_few : (shape : Shape) (old now : Parts) (row : ℕ) (known : List Bool) (blocks : List Block) → length blocks ≡ shape.slots
+    → RowRead shape old now row known blocks → AreTooMany known (length blocks) → MissesTwoAtMost shape old (shard_of shape row) → ⊥
+too_few shape old now row known blocks count read many two =
+    let within : (position : ℕ) → position < length blocks → position < shape.slots = λ position below. omega (arith, count, below) in
+    let absent : (position : ℕ) → position < length blocks → get_or known position false ≡ false
+    → (slot_at shape row position ≡ two.first) ⊎ (slot_at shape row position ≡ two.second) =
+    λ position below missing.
+    two.others (slot_at shape row position) (slot_at-lt shape row position (omega (arith, within position below)))
+    (sym (read.is_there position (within position below)) ∙ missing) in
+    let back : (position : ℕ) (slot : ℕ) → position < length blocks → slot_at shape row position ≡ slot → position ≡ position_at shape row slot =
+    λ position slot below is. sym (position_at-slot_at shape row position (within position below)) ∙ ap (position_at shape row) is in
+    let third_in : many.third < length blocks = many.within in
+    let second_in : many.second < length blocks = omega (arith, many.second_before, third_in) in
+    let first_in : many.first < length blocks = omega (arith, many.first_before, second_in) in
+    let place : (position : ℕ) → position < length blocks → get_or known position false ≡ false
+    → (position ≡ position_at shape row two.first) ⊎ (position ≡ position_at shape row two.second) =
+    λ position below missing. elim (absent position below missing) [
+      | inl is ↦ inl (back position two.first below is)
+      | inr is ↦ inr (back position two.second below is)
+    ] in
+    three_of_two many.first many.second many.third (position_at shape row two.first) (position_at shape row two.second) many.first_before many.second_before
+    (place many.first first_in many.first_missing) (place many.second second_in many.second_missing) (place many.third third_in many.third_missing)
+
+-- the cause is one of the parts as they were at first
+pub cause_since : (shape : Shape) (target : ℕ) (old now : Parts) (promises now_promises targets now_targets : Promises) (row slot : ℕ)
+    → OnlyRead old now → KeepPromises promises now_promises → KeepPromises targets now_targets
+    → HasCause shape target now now_promises now_targets row slot → HasCause shape target old promises targets row slot
+cause_since shape target old now promises now_promises targets now_targets row slot read keep keep_targets cause =
+    let number = part_number shape (shard_of shape row) slot in
+    record {
+      there = λ apart. sym (ap is_some (keep number)) ∙ cause.there apart;
+      of_source = λ apart. subst (λ it. IfSome it (λ promise. ¬ Covers promise row shape.block)) (keep number) (cause.of_source apart);
+      of_target = λ same two.
+          subst (λ it. IfSome it (λ promise. ¬ Covers promise row shape.block)) (keep_targets (shard_of shape row))
+          (cause.of_target same (record {
+            first = two.first;
+            second = two.second;
+            others = λ slot within away. two.others slot within (sym (read.there (part_number shape (shard_of shape row) slot)) ∙ away);
+          }));
+    }
+
+pub sound_at_end : (shape : Shape) (target : ℕ) (parts : Parts) (promises targets : Promises) → IsSoundRebuild shape target parts promises targets None
+sound_at_end shape target parts promises targets = record { of_source = tt; of_target = tt; all = λ _ _ _. refl }
+
+pub sound_at_fault : (shape : Shape) (target : ℕ) (parts : Parts) (promises targets : Promises) (row : ℕ) (fault : SlotFault) → IsShape shape
+    → row < shape.rows → fault.slot < shape.slots → ((shard : ℕ) → shard < shape.shards → is_some (targets shard) ≡ true)
+    → HasCause shape target parts promises targets row fault.slot
+    → IsSoundRebuild shape target parts promises targets (Some (record { row = row; slot = fault.slot; fault = fault.fault }))
+sound_at_fault shape target parts promises targets row fault is within in_slots there cause =
+    let shard = shard_of shape row in
+    let number = part_number shape shard fault.slot in
+    let in_shards = (OwnsRow-shard_of shape row is within).is_shard in
+    let source : fault.slot ≢ target → IfSome (promises number) (λ it. ¬ FailsNoRow shape shard it) =
+    λ apart. unpromised_row shape row (promises number) is within (cause.of_source apart) in
+    let own : fault.slot ≡ target → MissesTwoAtMost shape parts shard → IfSome (targets shard) (λ it. ¬ FailsNoRow shape shard it) =
+    λ same two. unpromised_row shape row (targets shard) is within (cause.of_target same two) in
+    record {
+      of_source = source;
+      of_target = own;
+      all = λ all_promise all_targets enough.
+          absurd (⊎_elim
+          (λ (same : fault.slot ≡ target).
+          clash (FailsNoRow shape shard) (targets shard) (there shard in_shards) (all_targets shard in_shards) (own same (enough shard in_shards)))
+          (λ (apart : fault.slot ≢ target).
+          clash (FailsNoRow shape shard) (promises number) (cause.there apart) (all_promise shard fault.slot in_shards in_slots) (source apart))
+          (cases_eq fault.slot target));
+    }

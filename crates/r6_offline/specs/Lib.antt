@@ -1,4 +1,6 @@
 pub mod Parts
+pub mod Lent
+pub mod Files
 pub mod Errors
 pub mod Rows
 pub mod Reports

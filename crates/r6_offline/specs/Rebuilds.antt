@@ -1,11 +1,13 @@
 -- What a rebuild of a slot leaves.
-use Rattle.std.specs.Prelude.{◌≡◌, ◌≢◌, ◌⊎◌, ℕ, ◌<◌, List, Some, IfSome, option_map, slice_get}
+use Rattle.std.specs.Prelude.{◌≡◌, ◌≢◌, ◌⊎◌, ℕ, ◌<◌, true, false, List, Option, Some, None, is_some, IfSome, option_map, slice_get}
 use Rattle.r6_dev.specs.History.{Block, Blocks, Telling, put}
 use Rattle.r6_layout.specs.Shape.{Shape, data_slots}
 use Rattle.r6_layout.specs.Layout.{OwnsRow, shard_of, slot_at, position_at}
 use Rattle.r6_recover.specs.Rows.{block_at, IsFullRow}
 use Rattle.r6_dev.specs.declared.fault.Fault.TheVariants.{ReadFault, WriteFault}
-use Rattle.r6_offline.specs.Parts.{Parts, Devices, AllTell, OnlyRead}
+use Rattle.r6_dev.specs.Promises.{Covers}
+use Rattle.r6_offline.specs.Lent.{AllPromise, FailsNoRow, IsUnpromised, OnlyReadBut, Promises}
+use Rattle.r6_offline.specs.Parts.{Parts, Devices, AllTell, OnlyRead, part_number}
 use Rattle.r6_offline.specs.Reports.{IsRowFault, rows_before}
 use Rattle.r6_offline.specs.declared.rebuild.Rebuilt.{Rebuilt}
 use Rattle.r6_offline.specs.declared.report.RowFault.{RowFault}
@@ -54,11 +56,44 @@ pub record RowRebuilt (shape : Shape) (target row : ℕ) (parts parts' targets t
 
 -- a row was not rebuilt: the part of another slot answered a fault to its read, or the target answered one to its
 -- write, or too few parts of the row are there, which is a fault of the target
-pub record RebuildFails (shape : Shape) (target : ℕ) (old new : Parts) (fault : SlotFault) : Type 0 where
+pub record RebuildFails (shape : Shape) (target row : ℕ) (old new : Parts) (fault : SlotFault) : Type 0 where
   pub within : fault.slot < shape.slots
   pub of_source : fault.slot ≢ target → fault.fault ≢ WriteFault
   pub of_target : fault.slot ≡ target → fault.fault ≢ ReadFault
-  pub only_read : fault.slot ≡ target → OnlyRead old new
+  pub kept : OnlyReadBut (λ number. number ≡ part_number shape (shard_of shape row) fault.slot) old new
+
+-- in a shard at most two slots have no part
+pub record MissesTwoAtMost (shape : Shape) (parts : Parts) (shard : ℕ) : Type 0 where
+  pub first : ℕ
+  pub second : ℕ
+  pub others : (slot : ℕ) → slot < shape.slots → is_some (parts (part_number shape shard slot)) ≡ false
+      → (slot ≡ first) ⊎ (slot ≡ second)
+
+-- The fault that a row's rebuild met has a cause: the part that it names had not promised the row, or, if it is the
+-- target's, its new part had not, or too few parts of the row are there
+pub record HasCause (shape : Shape) (target : ℕ) (parts : Parts) (promises targets : Promises) (row slot : ℕ) : Type 0
+  where
+    pub there : slot ≢ target → is_some (promises (part_number shape (shard_of shape row) slot)) ≡ true
+    pub of_source : slot ≢ target → IfSome (promises (part_number shape (shard_of shape row) slot))
+        (λ promise. ¬ Covers promise row shape.block)
+    pub of_target : slot ≡ target → MissesTwoAtMost shape parts (shard_of shape row)
+        → IfSome (targets (shard_of shape row)) (λ promise. ¬ Covers promise row shape.block)
+
+-- each new part promises to fail no command to the rows of its shard
+abbrev pub TargetsPromise : Shape → (targets : Promises) → Type 0
+TargetsPromise shape targets =
+    (shard : ℕ) → shard < shape.shards → IfSome (targets shard) (FailsNoRow shape shard)
+
+-- no fault is made up: none is told of a part that promises, none of the target whose new part promises where enough
+-- parts are there, and none at all if all promise and enough are there
+pub record IsSoundRebuild (shape : Shape) (target : ℕ) (parts : Parts) (promises targets : Promises)
+    (fault : Option RowFault) : Type 0 where
+  pub of_source : IfSome fault (λ fault. fault.slot ≢ target → IsUnpromised shape promises fault)
+  pub of_target : IfSome fault (λ fault. fault.slot ≡ target → MissesTwoAtMost shape parts (shard_of shape fault.row)
+      → IfSome (targets (shard_of shape fault.row)) (λ promise. ¬ FailsNoRow shape (shard_of shape fault.row) promise))
+  pub all : AllPromise shape promises → TargetsPromise shape targets
+      → ((shard : ℕ) → shard < shape.shards → MissesTwoAtMost shape parts shard)
+      → fault ≡ None
 
 -- the target's new part of the shard isn't the one that failed
 abbrev pub IsSpared : Shape → (target shard row slot : ℕ) → Type 0

@@ -1,8 +1,10 @@
 -- Each shard's rows, checked in a thread of their own.
-use Rattle.std.specs.Prelude.{◌≡◌, ℕ, ◌+◌, ◌*◌, ◌≤◌, List, [], ◌∷◌, Option, None, length, ⊤}
+use Rattle.std.specs.Prelude.{◌≡◌, ℕ, ◌+◌, ◌*◌, ◌≤◌, List, [], ◌∷◌, Option, None, IfSome, length, ⊤}
 use Rattle.r6_layout.specs.Layout.{first_row}
 use Rattle.r6_layout.specs.Shape.{Shape}
 use Rattle.r6_dev.specs.History.{Telling}
+use Rattle.r6_dev.specs.Promises.{Promise}
+use Rattle.r6_offline.specs.Lent.{FailsAlone, KeepPromises, promises_of}
 use Rattle.r6_offline.specs.Parts.{OnlyRead, parts_of}
 use Rattle.r6_offline.specs.Rows.{Fits}
 use Rattle.r6_offline.specs.PartReports.{IsPartReport}
@@ -25,10 +27,14 @@ pub record Begins {D : Type 0} (shape : Shape) (check : ShardCheck D) : Type 0 w
   pub room : Fits shape check.check.reader
   pub rows : (check.first ≤ check.end) × (check.end ≤ shape.rows)
 
--- a check that has ended: what it found, with its parts read alone if it met no fault
-pub record HasChecked {D : Type 0} (told : D → Telling) (shape : Shape) (old new : ShardCheck D) : Type 0 where
+-- a check that has ended: what it found, and its parts, read alone but for the one that failed
+pub record HasChecked {D : Type 0} (told : D → Telling) (promised : D → Promise) (shape : Shape)
+    (old new : ShardCheck D) : Type 0 where
   pub report : IsPartReport shape (parts_of told old.parts.items) old.first old.end new.report
   pub kept : new.report.fault ≡ None → OnlyRead (parts_of told old.parts.items) (parts_of told new.parts.items)
+  pub alone : IfSome new.report.fault (λ fault. FailsAlone shape (promises_of promised old.parts.items)
+      (parts_of told old.parts.items) (parts_of told new.parts.items) fault.row fault.slot)
+  pub promises : KeepPromises (promises_of promised old.parts.items) (promises_of promised new.parts.items)
   pub places : length new.parts.items ≡ length old.parts.items
 
 -- the same check, with other parts

@@ -1,7 +1,8 @@
 //! Many rows of the array, read one after another and classified in several threads.
 
-ghost use Rattle.std.specs.Prelude.{◌≡◌, ◌+◌, ◌*◌, ◌^◌, ◌<◌, ◌≤◌, length, IfOk};
+ghost use Rattle.std.specs.Prelude.{◌≡◌, ◌+◌, ◌*◌, ◌^◌, ◌<◌, ◌≤◌, length, IfOk, IfSome};
 ghost use Rattle.std.specs.Thread.{IsSync};
+ghost use Rattle.r6_offline.specs.Lent.{FailsAlone, KeepPromises, promises_of};
 ghost use Rattle.r6_offline.specs.Parts.{parts_of};
 ghost use Rattle.r6_offline.specs.RowChecks.{AllFit, AreClassified, HasRoom, IsBatchRead, IsClassified};
 
@@ -64,8 +65,12 @@ pub(crate) fn read_batch<D: BlockDevice>(
     requires bounded { geometry.now.rows < 2 ^ 64 }
     requires places { count ≤ length batch.old }
     requires room { AllFit geometry.now batch.old }
-    ensures { IsBatchRead geometry.now (parts_of D.told parts.old) (parts_of D.told parts.new)
+    ensures read { IsBatchRead geometry.now (parts_of D.told parts.old) (parts_of D.told parts.new)
         row count batch.old batch.new result }
+    ensures alone { IfSome result.fault
+        (λ fault. FailsAlone geometry.now (promises_of D.promised parts.old) (parts_of D.told parts.old)
+        (parts_of D.told parts.new) (row + result.rows) fault.slot) }
+    ensures promised { KeepPromises (promises_of D.promised parts.old) (promises_of D.promised parts.new) }
 {
     for index in 0..count {
         if let Err(fault) = batch[index].read(geometry, parts, row + index as u64) {
@@ -112,6 +117,10 @@ pub(crate) fn classify_and_read<R: Threads + Sync, D: BlockDevice>(
     ensures classified { AreClassified classified.old classified.new }
     ensures read { IsBatchRead geometry.now (parts_of D.told parts.old) (parts_of D.told parts.new)
         row count batch.old batch.new result }
+    ensures alone { IfSome result.fault
+        (λ fault. FailsAlone geometry.now (promises_of D.promised parts.old) (parts_of D.told parts.old)
+        (parts_of D.told parts.new) (row + result.rows) fault.slot) }
+    ensures promised { KeepPromises (promises_of D.promised parts.old) (promises_of D.promised parts.new) }
 {
     let (_, read) = join_mut(
         rt,
@@ -125,8 +134,13 @@ pub(crate) fn classify_and_read<R: Threads + Sync, D: BlockDevice>(
             requires bounded { geometry.now.rows < 2 ^ 64 }
             requires places { count ≤ length batch.now }
             requires room { AllFit geometry.now batch.now }
-            ensures { IsBatchRead geometry.entry.now (parts_of D.told parts.entry.now) (parts_of D.told parts.exit.now)
-                row count batch.entry.now batch.exit.now result }
+            ensures read { IsBatchRead geometry.entry.now (parts_of D.told parts.entry.now)
+                (parts_of D.told parts.exit.now) row count batch.entry.now batch.exit.now result }
+            ensures alone { IfSome result.fault
+                (λ fault. FailsAlone geometry.entry.now (promises_of D.promised parts.entry.now)
+                (parts_of D.told parts.entry.now) (parts_of D.told parts.exit.now) (row + result.rows) fault.slot) }
+            ensures promised { KeepPromises (promises_of D.promised parts.entry.now)
+                (promises_of D.promised parts.exit.now) }
         { read_batch(geometry, parts, row, count, batch) },
     );
     read

@@ -1,8 +1,9 @@
 //! Every row of an array, classified.
 
-ghost use Rattle.std.specs.Prelude.{◌≡◌, ◌*◌, ◌+◌, ◌<◌, ◌≤◌, ◌^◌, length, map, IfErr, IfOk, None, OnErr};
+ghost use Rattle.std.specs.Prelude.{◌≡◌, ◌*◌, ◌+◌, ◌<◌, ◌≤◌, ◌^◌, length, map, IfErr, IfOk, IfSome, None, OnErr};
 ghost use Rattle.r6_offline.specs.Errors.{IsRefusal};
-ghost use Rattle.r6_offline.specs.Parts.{OnlyRead, parts_of};
+ghost use Rattle.r6_offline.specs.Lent.{AreLeft, IsNamed, IsSound, KeepPromises, OnlyReadBut, promises_of};
+ghost use Rattle.r6_offline.specs.Parts.{parts_of};
 ghost use Rattle.r6_offline.specs.PartReports.{joined_all};
 ghost use Rattle.r6_offline.specs.Reports.{IsReport, no_report, total};
 ghost use Rattle.r6_offline.specs.RowChecks.{HasRoom};
@@ -42,8 +43,10 @@ pub fn check_all<R: Threads + Wait + Sync, D: BlockDevice + Drop + Send>(
 ) -> Result<Report, EngineError>
     requires { length parts.old ≡ geometry.now.shards * geometry.now.slots }
     ensures report { IfOk result (IsReport geometry.now (parts_of D.told parts.old)) }
-    ensures kept { IfOk result (λ report. report.fault ≡ None
-        → OnlyRead (parts_of D.told parts.old) (parts_of D.told parts.new)) }
+    ensures sound { IfOk result (λ report. IsSound geometry.now (promises_of D.promised parts.old) report.fault) }
+    ensures kept { IfOk result (λ report. AreLeft geometry.now (promises_of D.promised parts.old) report.fault
+        (parts_of D.told parts.old) (parts_of D.told parts.new)) }
+    ensures promised { KeepPromises (promises_of D.promised parts.old) (promises_of D.promised parts.new) }
     ensures err { IfErr result IsRefusal }
     ensures unread { OnErr result (parts.new ≡ parts.old) }
 {
@@ -84,7 +87,7 @@ fn join_reports<D>(checks: &[ShardCheck<D>]) -> Report
 ///
 /// # Errors
 /// `NoMemory`.
-pub fn verify<R: Threads + Sync, D: BlockDevice, W: Watch>(
+pub fn verify<R: Threads + Sync, D: BlockDevice + Send, W: Watch>(
     rt: &R,
     alloc: Global,
     geometry: &Geometry,
@@ -93,9 +96,12 @@ pub fn verify<R: Threads + Sync, D: BlockDevice, W: Watch>(
 ) -> Result<Report, EngineError>
     requires { length parts.old ≡ geometry.now.shards * geometry.now.slots }
     ensures report { IfOk result (IsReport geometry.now (parts_of D.told parts.old)) }
-    ensures kept { IfOk result (λ report. report.fault ≡ None
-        → OnlyRead (parts_of D.told parts.old) (parts_of D.told parts.new)) }
+    ensures sound { IfOk result (λ report. IsSound geometry.now (promises_of D.promised parts.old) report.fault) }
+    ensures kept { IfOk result (λ report. OnlyReadBut (IsNamed geometry.now report.fault)
+        (parts_of D.told parts.old) (parts_of D.told parts.new)) }
+    ensures promised { KeepPromises (promises_of D.promised parts.old) (promises_of D.promised parts.new) }
     ensures err { IfErr result (λ error. error ≡ EngineError.NoMemory) }
+    ensures unread { OnErr result (parts.new ≡ parts.old) }
 {
     let first = new_batch(alloc, geometry)?;
     let second = new_batch(alloc, geometry)?;
@@ -117,7 +123,10 @@ fn verify_rows<R: Threads + Sync, D: BlockDevice, W: Watch>(
     requires front { HasRoom geometry.now front.items }
     requires behind { HasRoom geometry.now behind.items }
     ensures report { IsReport geometry.now (parts_of D.told parts.old) result }
-    ensures kept { result.fault ≡ None → OnlyRead (parts_of D.told parts.old) (parts_of D.told parts.new) }
+    ensures sound { IsSound geometry.now (promises_of D.promised parts.old) result.fault }
+    ensures kept { OnlyReadBut (IsNamed geometry.now result.fault) (parts_of D.told parts.old)
+        (parts_of D.told parts.new) }
+    ensures promised { KeepPromises (promises_of D.promised parts.old) (promises_of D.promised parts.new) }
 {
     let rows = geometry.rows();
     let mut report = Report::new();
@@ -162,6 +171,7 @@ fn count_behind(geometry: &Geometry, read: &BatchRead, end: u64, room: usize) ->
     requires within { end ≤ geometry.now.rows }
     requires some { 0 < room }
     ensures some { read.now.fault ≡ None → end < geometry.now.rows → 0 < result }
+    ensures none { IfSome read.now.fault (λ _. result ≡ 0) }
     ensures room { result ≤ room }
     ensures within { end + result ≤ geometry.now.rows }
 {

@@ -1,8 +1,10 @@
 //! The files of an array's devices, one for each slot.
 
-ghost use Rattle.std.specs.Prelude.{◌≡◌, ◌+◌, ◌*◌, ◌%◌, ◌<◌, length, is_some, not, IfErr, IfOk};
+ghost use Rattle.std.specs.Prelude.{◌≡◌, ◌+◌, ◌*◌, ◌/◌, ◌%◌, ◌<◌, false, length, map, string_bytes, IfErr, IfOk};
 ghost use Rattle.r6_dev.specs.OpenErrors.{IsOpenError};
+ghost use Rattle.r6_layout.specs.Shape.{IsShape};
 ghost use Rattle.r6_offline.specs.Errors.{IsMakingFault, IsOpeningFault, IsSlotFault};
+ghost use Rattle.r6_offline.specs.Files.{AreOpened, IsSlotOpened, opened_part, part_at};
 ghost use Rattle.r6_offline.specs.Parts.{AreThoseNotLost, is_lost, parts_of, tells_nothing};
 
 use crate::error::EngineError;
@@ -15,12 +17,12 @@ use std::os::unix::fs::FileExt;
 use std::rt::Files;
 
 /// Opens the parts of an array whose devices are files, or block devices of the system: the path of a slot leads to
-/// its device, and one without a path has none. The devices of the slots in `lost` are not opened, and their parts
+/// its device, and one without a path has none. Each part serves the rows of its shard. The devices of the slots in `lost` are not opened, and their parts
 /// aren't there. No file is changed, nor made.
 ///
 /// # Errors
-/// `Device(slot, fault)` for the first slot whose device answers a fault: 3 `Gone` if it can't be opened or measured,
-/// 4 `Length` if it hasn't `rows * block` bytes. `NoMemory`.
+/// `Device(slot, fault)` for the first slot whose device answers a fault: 3 `Gone` if it is neither a file nor a block
+/// device, or can't be opened or measured, 4 `Length` if it hasn't `rows * block` bytes. `NoMemory`.
 pub fn open_parts<F: FileExt + Seek + Drop, R: Files<File = F>>(
     files: &R,
     alloc: Global,
@@ -32,6 +34,8 @@ pub fn open_parts<F: FileExt + Seek + Drop, R: Files<File = F>>(
     ensures parts { IfOk result (λ parts. length parts.items ≡ geometry.now.shards * geometry.now.slots) }
     ensures absent { IfOk result
         (λ parts. AreThoseNotLost geometry.now lost.now (parts_of tells_nothing parts.items)) }
+    ensures opened { IfOk result
+        (λ parts. AreOpened geometry.now (map string_bytes paths.now) lost.now access parts.items) }
     ensures err { IfErr result (IsOpeningFault geometry.now.slots lost.now) }
 {
     let count = part_count(geometry);
@@ -44,7 +48,8 @@ pub fn open_parts<F: FileExt + Seek + Drop, R: Files<File = F>>(
 
 // The number of parts that an array has.
 fn part_count(geometry: &Geometry) -> usize
-    ensures { result ≡ geometry.now.shards * geometry.now.slots }
+    ensures value { result ≡ geometry.now.shards * geometry.now.slots }
+    ensures limits { IsShape geometry.now }
 {
     geometry.shards() * geometry.slots()
 }
@@ -52,7 +57,8 @@ fn part_count(geometry: &Geometry) -> usize
 // The shard of the part with this number.
 fn shard_of(geometry: &Geometry, number: usize) -> usize
     requires { number < geometry.now.shards * geometry.now.slots }
-    ensures { result < geometry.now.shards }
+    ensures within { result < geometry.now.shards }
+    ensures value { result ≡ number / geometry.now.slots }
 {
     number / geometry.slots()
 }
@@ -68,7 +74,10 @@ fn open_numbered<F: FileExt + Seek + Drop, R: Files<File = F>>(
     number: usize,
 ) -> Result<Option<FileDevice<F>>, EngineError>
     requires { number < geometry.now.shards * geometry.now.slots }
-    ensures absent { IfOk result (λ part. is_some part ≡ not (is_lost lost.now (number % geometry.now.slots))) }
+    ensures opened { IfOk result (λ part. part ≡ opened_part geometry.now (map string_bytes paths.now) lost.now access
+        (number / geometry.now.slots) (number % geometry.now.slots)) }
+    ensures has_path { IfOk result (λ _. is_lost lost.now (number % geometry.now.slots) ≡ false
+        → number % geometry.now.slots < length paths.now) }
     ensures err { IfErr result (IsOpeningFault geometry.now.slots lost.now) }
 {
     let slot = number % geometry.slots();
@@ -92,8 +101,8 @@ fn open_numbered<F: FileExt + Seek + Drop, R: Files<File = F>>(
 /// system, at this path. It isn't changed.
 ///
 /// # Errors
-/// `Device(slot, fault)`: 3 `Gone` if it can't be opened or measured, 4 `Length` if it hasn't `rows * block` bytes.
-/// `NoMemory`.
+/// `Device(slot, fault)`: 3 `Gone` if it is neither a file nor a block device, or can't be opened or measured,
+/// 4 `Length` if it hasn't `rows * block` bytes. `NoMemory`.
 pub fn open_slot<F: FileExt + Seek + Drop, R: Files<File = F>>(
     files: &R,
     alloc: Global,
@@ -103,6 +112,7 @@ pub fn open_slot<F: FileExt + Seek + Drop, R: Files<File = F>>(
     access: Access,
 ) -> Result<Vec<FileDevice<F>>, EngineError>
     ensures parts { IfOk result (λ parts. length parts.items ≡ geometry.now.shards) }
+    ensures opened { IfOk result (λ parts. IsSlotOpened geometry.now path.now access parts.items) }
     ensures err { IfErr result (IsSlotFault slot) }
 {
     let shards = geometry.shards();
@@ -124,7 +134,8 @@ fn open_shard<F: FileExt + Seek + Drop, R: Files<File = F>>(
     access: Access,
 ) -> Result<FileDevice<F>, EngineError>
     requires { shard < geometry.now.shards }
-    ensures { IfErr result (IsSlotFault slot) }
+    ensures made { IfOk result (λ device. device ≡ part_at geometry.now shard path.now access) }
+    ensures err { IfErr result (IsSlotFault slot) }
 {
     match open_part(files, alloc, geometry, shard, path, access) {
         Ok(device) => Ok(device),
@@ -143,7 +154,8 @@ fn open_part<F: FileExt + Seek + Drop, R: Files<File = F>>(
     access: Access,
 ) -> Result<FileDevice<F>, OpenError>
     requires { shard < geometry.now.shards }
-    ensures { IfErr result IsOpenError }
+    ensures made { IfOk result (λ device. device ≡ part_at geometry.now shard path.now access) }
+    ensures err { IfErr result IsOpenError }
 {
     let size = DeviceSize {
         rows: geometry.rows(),

@@ -1,6 +1,8 @@
 //! One part of a device.
 
-ghost use Rattle.std.specs.Prelude.{◌≡◌, ◌≢◌, ◌<◌, true, length, is_some, slice_index_or, IfErr, IfOk, None};
+ghost use Rattle.std.specs.Prelude.{◌≡◌, ◌≢◌, ◌<◌, true, length, is_some, slice_index_or, IfErr, IfOk, IfSome, None, OnErr};
+ghost use Rattle.r6_dev.specs.Promises.{Covers};
+ghost use Rattle.r6_offline.specs.Lent.{KeepPromises, OnlyReadBut, promises_of};
 ghost use Rattle.r6_offline.specs.Parts.{PartRead, parts_of};
 
 use r6_dev::{BlockDevice, Fault};
@@ -19,6 +21,11 @@ pub(crate) fn read_part<D: BlockDevice>(
         × (fault ≢ Fault.WriteFault)) }
     ensures read { IfOk result
         (λ there. PartRead (parts_of D.told parts.old) (parts_of D.told parts.new) number row there block.new) }
+    ensures alone { OnErr result
+        (OnlyReadBut (λ other. other ≡ number) (parts_of D.told parts.old) (parts_of D.told parts.new)) }
+    ensures sound { OnErr result (IfSome (promises_of D.promised parts.old number)
+        (λ promise. ¬ Covers promise row (length block.old))) }
+    ensures promised { KeepPromises (promises_of D.promised parts.old) (promises_of D.promised parts.new) }
 {
     match &mut parts[number] {
         Some(device) => match device.read(row, block) {

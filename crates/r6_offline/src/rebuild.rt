@@ -1,9 +1,11 @@
 //! A lost slot, rebuilt onto new parts.
 
-ghost use Rattle.std.specs.Prelude.{◌≡◌, ◌≢◌, ◌*◌, ◌<◌, ℕ, length, IfErr, IfOk, IfSome, MatchBool, OnOk, Some};
+ghost use Rattle.std.specs.Prelude.{◌≡◌, ◌≢◌, ◌*◌, ◌<◌, ℕ, length, IfErr, IfOk, IfSome, MatchBool, OnErr, OnOk, Some};
+ghost use Rattle.r6_dev.specs.Promises.{Covers};
+ghost use Rattle.r6_offline.specs.Lent.{IsNamed, KeepPromises, OnlyReadBut, Promises, promises_of, target_promises};
 ghost use Rattle.r6_offline.specs.Parts.{IsAbsent, IsThere, OnlyRead, parts_of};
 ghost use Rattle.r6_offline.specs.Rows.{Fits};
-ghost use Rattle.r6_offline.specs.Rebuilds.{IsRebuilt, IsRestoredRow, IsSpared, PartWritten, RebuildFails, RowRebuilt, targets_of};
+ghost use Rattle.r6_offline.specs.Rebuilds.{HasCause, IsRebuilt, IsRestoredRow, IsSoundRebuild, IsSpared, PartWritten, RebuildFails, RowRebuilt, targets_of};
 
 use crate::error::EngineError;
 use crate::report::RowFault;
@@ -61,9 +63,14 @@ pub fn rebuild_all<D: BlockDevice>(
     requires targets { length targets.old ≡ geometry.now.shards }
     ensures rebuilt { IfOk result (IsRebuilt geometry.now target (parts_of D.told parts.old)
         (targets_of D.told targets.old) (targets_of D.told targets.new)) }
-    ensures kept { IfOk result (λ rebuilt. IfSome rebuilt.fault (λ fault. fault.slot ≡ target)
-        → OnlyRead (parts_of D.told parts.old) (parts_of D.told parts.new)) }
+    ensures sound { IfOk result (λ rebuilt. IsSoundRebuild geometry.now target (parts_of D.told parts.old)
+        (promises_of D.promised parts.old) (target_promises D.promised targets.old) rebuilt.fault) }
+    ensures kept { IfOk result (λ rebuilt. OnlyReadBut (IsNamed geometry.now rebuilt.fault)
+        (parts_of D.told parts.old) (parts_of D.told parts.new)) }
+    ensures promised { KeepPromises (promises_of D.promised parts.old) (promises_of D.promised parts.new) }
+    ensures targets { KeepPromises (target_promises D.promised targets.old) (target_promises D.promised targets.new) }
     ensures err { IfErr result (λ error. error ≡ EngineError.NoMemory) }
+    ensures unread { OnErr result ((parts.new ≡ parts.old) × (targets.new ≡ targets.old)) }
 {
     let mut reader = RowReader::new(alloc, geometry)?;
     Ok(rebuild_rows(geometry, parts, target, targets, &mut reader))
@@ -83,8 +90,12 @@ fn rebuild_rows<D: BlockDevice>(
     requires room { Fits geometry.now reader.old }
     ensures rebuilt { IsRebuilt geometry.now target (parts_of D.told parts.old) (targets_of D.told targets.old)
         (targets_of D.told targets.new) result }
-    ensures kept { IfSome result.fault (λ fault. fault.slot ≡ target)
-        → OnlyRead (parts_of D.told parts.old) (parts_of D.told parts.new) }
+    ensures sound { IsSoundRebuild geometry.now target (parts_of D.told parts.old)
+        (promises_of D.promised parts.old) (target_promises D.promised targets.old) result.fault }
+    ensures kept { OnlyReadBut (IsNamed geometry.now result.fault) (parts_of D.told parts.old)
+        (parts_of D.told parts.new) }
+    ensures promised { KeepPromises (promises_of D.promised parts.old) (promises_of D.promised parts.new) }
+    ensures targets { KeepPromises (target_promises D.promised targets.old) (target_promises D.promised targets.new) }
 {
     for row in 0..geometry.rows() {
         match rebuild_row(geometry, parts, row, target, targets, reader) {
@@ -132,7 +143,11 @@ fn rebuild_row<D: BlockDevice>(
         (RowRebuilt geometry.now target row (parts_of D.told parts.old) (parts_of D.told parts.new)
         (targets_of D.told targets.old) (targets_of D.told targets.new)) }
     ensures fails { IfErr result
-        (RebuildFails geometry.now target (parts_of D.told parts.old) (parts_of D.told parts.new)) }
+        (RebuildFails geometry.now target row (parts_of D.told parts.old) (parts_of D.told parts.new)) }
+    ensures cause { IfErr result (λ fault. HasCause geometry.now target (parts_of D.told parts.old)
+        (promises_of D.promised parts.old) (target_promises D.promised targets.old) row fault.slot) }
+    ensures promised { KeepPromises (promises_of D.promised parts.old) (promises_of D.promised parts.new) }
+    ensures targets { KeepPromises (target_promises D.promised targets.old) (target_promises D.promised targets.new) }
     ensures unwritten { IfErr result (λ fault. (shard : ℕ) → IsSpared geometry.now target shard row fault.slot
         → targets_of D.told targets.new shard ≡ targets_of D.told targets.old shard) }
 {
@@ -167,7 +182,10 @@ fn restore_row<D: BlockDevice>(
     ensures only_read { OnOk result (OnlyRead (parts_of D.told parts.old) (parts_of D.told parts.new)) }
     ensures restored { OnOk result (IsRestoredRow geometry.now (parts_of D.told parts.old) row reader.new.blocks) }
     ensures fails { IfErr result
-        (RebuildFails geometry.now target (parts_of D.told parts.old) (parts_of D.told parts.new)) }
+        (RebuildFails geometry.now target row (parts_of D.told parts.old) (parts_of D.told parts.new)) }
+    ensures cause { IfErr result (λ fault. (targets : Promises) → HasCause geometry.now target
+        (parts_of D.told parts.old) (promises_of D.promised parts.old) targets row fault.slot) }
+    ensures promised { KeepPromises (promises_of D.promised parts.old) (promises_of D.promised parts.new) }
 {
     let known = match reader.read_row(geometry, parts, row) {
         Ok(known) => known,
@@ -195,6 +213,9 @@ fn write_part<D: BlockDevice>(
     ensures others { (other : ℕ) → other ≢ shard
         → targets_of D.told targets.new other ≡ targets_of D.told targets.old other }
     ensures of_write { IfErr result (λ fault. fault ≢ Fault.ReadFault) }
+    ensures sound { OnErr result (IfSome (target_promises D.promised targets.old shard)
+        (λ promise. ¬ Covers promise row (length block.now))) }
+    ensures targets { KeepPromises (target_promises D.promised targets.old) (target_promises D.promised targets.new) }
 {
     targets[shard].write(row, block)
 }

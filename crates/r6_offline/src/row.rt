@@ -1,7 +1,8 @@
 //! One row of the array.
 
-ghost use Rattle.std.specs.Prelude.{◌≡◌, ◌*◌, ◌<◌, length, IfErr, IfOk};
+ghost use Rattle.std.specs.Prelude.{◌≡◌, ◌*◌, ◌<◌, length, IfErr, IfOk, OnErr};
 ghost use Rattle.r6_layout.specs.Shape.{IsShape};
+ghost use Rattle.r6_offline.specs.Lent.{FailsAlone, KeepPromises, promises_of};
 ghost use Rattle.r6_offline.specs.Parts.{parts_of};
 ghost use Rattle.r6_offline.specs.Rows.{Fits, ReadFails, RowRead, SlotRead, marked};
 
@@ -53,6 +54,10 @@ impl RowReader {
             there self.old.blocks self.new.blocks) }
         ensures fails { IfErr result
             (λ fault. ReadFails geometry.now (parts_of D.told parts.old) row (record { slot = slot; fault = fault })) }
+        ensures alone { OnErr result
+            (FailsAlone geometry.now (promises_of D.promised parts.old) (parts_of D.told parts.old)
+            (parts_of D.told parts.new) row slot) }
+        ensures promised { KeepPromises (promises_of D.promised parts.old) (promises_of D.promised parts.new) }
     {
         let number = geometry.shard_of(row) * geometry.slots() + slot;
         let there = read_part(parts, number, row, &mut self.block)?;
@@ -77,6 +82,10 @@ impl RowReader {
         ensures read { IfOk result (λ known.
             RowRead geometry.now (parts_of D.told parts.old) (parts_of D.told parts.new) row known self.new.blocks) }
         ensures fails { IfErr result (ReadFails geometry.now (parts_of D.told parts.old) row) }
+        ensures alone { IfErr result
+            (λ fault. FailsAlone geometry.now (promises_of D.promised parts.old) (parts_of D.told parts.old)
+            (parts_of D.told parts.new) row fault.slot) }
+        ensures promised { KeepPromises (promises_of D.promised parts.old) (promises_of D.promised parts.new) }
         ensures limits { IsShape geometry.now }
     {
         let mut known = Known::none();

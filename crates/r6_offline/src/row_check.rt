@@ -1,6 +1,7 @@
 //! One row of the array, read and classified.
 
 ghost use Rattle.std.specs.Prelude.{◌≡◌, ◌*◌, ◌<◌, length, IfErr, IfOk, MatchBool, OnOk};
+ghost use Rattle.r6_offline.specs.Lent.{FailsAlone, KeepPromises, promises_of};
 ghost use Rattle.r6_offline.specs.Parts.{OnlyRead, parts_of};
 ghost use Rattle.r6_offline.specs.Rows.{AreThere, Fits, HasAbsent, ReadFails};
 ghost use Rattle.r6_offline.specs.RowChecks.{IsClassified, IsRead};
@@ -46,6 +47,10 @@ impl RowCheck {
         ensures only_read { OnOk result (OnlyRead (parts_of D.told parts.old) (parts_of D.told parts.new)) }
         ensures read { OnOk result (IsRead geometry.now (parts_of D.told parts.old) row self.new) }
         ensures fails { IfErr result (ReadFails geometry.now (parts_of D.told parts.old) row) }
+        ensures alone { IfErr result
+            (λ fault. FailsAlone geometry.now (promises_of D.promised parts.old) (parts_of D.told parts.old)
+            (parts_of D.told parts.new) row fault.slot) }
+        ensures promised { KeepPromises (promises_of D.promised parts.old) (promises_of D.promised parts.new) }
     {
         if has_absent(geometry, parts, row) {
             self.is_whole = false;

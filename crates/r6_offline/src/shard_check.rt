@@ -1,9 +1,10 @@
 //! The rows of one shard, checked in a thread of their own.
 
-ghost use Rattle.std.specs.Prelude.{◌≡◌, ◌*◌, ◌≤◌, All, IfOk, None, length};
+ghost use Rattle.std.specs.Prelude.{◌≡◌, ◌*◌, ◌≤◌, All, IfOk, IfSome, None, length};
 ghost use Rattle.std.specs.List.{AllZip, flat_map};
 ghost use Rattle.r6_layout.specs.Shape.{IsShape};
 ghost use Rattle.r6_layout.specs.Layout.{first_row};
+ghost use Rattle.r6_offline.specs.Lent.{FailsAlone, KeepPromises, promises_of};
 ghost use Rattle.r6_offline.specs.Parts.{OnlyRead, parts_of};
 ghost use Rattle.r6_offline.specs.PartReports.{IsPartReport};
 ghost use Rattle.r6_offline.specs.Rows.{Fits};
@@ -124,6 +125,10 @@ fn check_rows<D: BlockDevice>(
     requires room { Fits geometry.now check.old.reader }
     ensures report { IsPartReport geometry.now (parts_of D.told parts.old) first end result }
     ensures kept { result.fault ≡ None → OnlyRead (parts_of D.told parts.old) (parts_of D.told parts.new) }
+    ensures alone { IfSome result.fault
+        (λ fault. FailsAlone geometry.now (promises_of D.promised parts.old) (parts_of D.told parts.old)
+        (parts_of D.told parts.new) fault.row fault.slot) }
+    ensures promised { KeepPromises (promises_of D.promised parts.old) (promises_of D.promised parts.new) }
 {
     let mut report = Report::new();
     for row in first..end {
@@ -140,11 +145,11 @@ fn check_rows<D: BlockDevice>(
 impl<D: BlockDevice + Drop> Work<Geometry> for ShardCheck<D> {
     ghost ready = { λ shape check. Begins shape check };
 
-    ghost done = { λ shape old new. HasChecked D.told shape old new };
+    ghost done = { λ shape old new. HasChecked D.told D.promised shape old new };
 
     fn run<R: Wait>(&mut self, _rt: &R, alone: &Geometry)
         requires { Begins alone.now self.old }
-        ensures { HasChecked D.told alone.now self.old self.new }
+        ensures { HasChecked D.told D.promised alone.now self.old self.new }
     {
         self.report = check_rows(
             alone,

@@ -1,5 +1,7 @@
-use Rattle.std.proofs.Common.{◌≡◌, ℕ, ◌+◌, ◌<◌, List, Option, Some, length, get_or, drop, sym, ap, subst, ◌∙◌, arith}
-use Rattle.r6_offline.specs.Parts.{OnlyRead, parts_of}
+use Rattle.std.proofs.Common.{◌≡◌, ℕ, ◌+◌, ◌<◌, List, Option, Some, length, get_or, drop, refl, sym, ap, subst, ◌∙◌, arith}
+use Rattle.r6_layout.specs.Layout.{shard_of}
+use Rattle.r6_offline.specs.Lent.{FailsAlone, IsNamed, IsSound, OnlyReadBut, promises_of}
+use Rattle.r6_offline.specs.Parts.{OnlyRead, part_number, parts_of}
 use Rattle.std.specs.Prelude.{IfSome}
 use Rattle.r6_offline.specs.Reports.{IsReport, noted}
 use Rattle.r6_offline.specs.Rows.{ReadFails}
@@ -7,6 +9,7 @@ use Rattle.r6_offline.specs.RowChecks.{AllFit, AreClassified, HasRoom}
 use Rattle.r6_offline.specs.declared.row.SlotFault.{SlotFault}
 use Rattle.r6_offline.specs.declared.row_check.RowCheck.{RowCheck}
 use Rattle.r6_offline.proofs.CheckLaws.{IsInFront, all_fit_classified, checked_in_batch, fails_since, in_front, in_front_since, none_fails, written}
+use Rattle.r6_offline.proofs.LentLaws.{but_none, but_then, keep_both, met_since, none_met, sound_at, sound_none}
 use Rattle.r6_offline.proofs.ReportLaws.{Checked, none_checked, report_at_end, report_at_fault}
 use Rattle.r6_offline.proofs.RowLaws.{only_read_both, only_read_none}
 use Rattle.r6_offline.proofs.check.verify_rows.Goals as goal
@@ -30,7 +33,7 @@ pub loop-row-init : goal.loop-row-init
 loop-row-init g c =
     let shape = c.args.geometry.now in
     let started = parts_of g.D.BlockDevice.told c.args.parts.now in
-    let read = c.read_batch-read.ensures in
+    let read = c.read_batch-read.ensures.read in
     let slice = c.as_mut_slice.ensures in
     let batch = c.read_batch-read.new.batch in
     let rest = drop (length batch) c.args.front.items in
@@ -47,6 +50,8 @@ loop-row-init g c =
       fails = fails_since shape started started 0 c.read_batch-read.result.rows c.count_of_rows-count.result c.read_batch-read.result.fault
           (only_read_none started) c.count_of_rows-count.ensures.within read.fails;
       only_read = read.only_read;
+      alone = c.read_batch-read.ensures.alone;
+      promised = c.read_batch-read.ensures.promised;
       checked = subst (Checked shape started 0) (sym c.new-report.ensures) (none_checked shape started);
     }
 
@@ -131,6 +136,7 @@ loop-row-preserved g c =
     let batch = c.classify_and_read-next.new.batch in
     let classified = c.classify_and_read-next.new.classified in
     let unread : OnlyRead started now = so_far.only_read c.in_default.is in
+    let promised = g.D.BlockDevice.promised in
     let all : c.loop-row.behind.len ≡ length batch = sym (read.places ∙ behind.len) in
     let all_front : c.loop-row.front.len ≡ length classified = sym (c.classify_and_read-next.ensures.classified.count ∙ front.len) in
     let some : 0 < length c.as_mut_slice-in-loop-row-2.result.now =
@@ -157,33 +163,60 @@ loop-row-preserved g c =
       fails = fails_since shape started now end c.classify_and_read-next.result.rows c.count_behind-count.result c.classify_and_read-next.result.fault
           unread c.count_behind-count.ensures.within read.fails;
       only_read = λ none. only_read_both started now next unread (read.only_read none);
+      alone = met_since shape (promises_of promised c.args.parts.now) (promises_of promised c.loop-row.parts) started now next
+          (end + c.classify_and_read-next.result.rows) c.classify_and_read-next.result.fault so_far.promised unread c.classify_and_read-next.ensures.alone;
+      promised = keep_both (promises_of promised c.args.parts.now) (promises_of promised c.loop-row.parts)
+          (promises_of promised c.classify_and_read-next.new.parts) so_far.promised c.classify_and_read-next.ensures.promised;
       checked = subst (λ (n : ℕ). Checked shape started (c.loop-row.row + n) c.loop-index.report) count c.loop-index.invariant;
     }
 
 pub returns-in-Some : goal.returns-in-Some
 returns-in-Some g c =
     let shape = c.args.geometry.now in
-    let started = parts_of g.D.BlockDevice.told c.args.parts.now in
+    let told = g.D.BlockDevice.told in
+    let promised = g.D.BlockDevice.promised in
+    let started = parts_of told c.args.parts.now in
+    let now = parts_of told c.loop-row.parts in
+    let next = parts_of told c.classify_and_read-next.new.parts in
+    let promises = promises_of promised c.args.parts.now in
     let report = c.loop-index.report in
     let end : ℕ = c.loop-row.row + c.loop-row.read.rows in
     let count : c.loop-index.index ≡ c.loop-row.read.rows = omega (arith, c.loop-index-test.false, c.loop-index.auto.index-end) in
     let checked = subst (λ (n : ℕ). Checked shape started (c.loop-row.row + n) report) count c.loop-index.invariant in
     let fails = subst (λ (fault : Option SlotFault). IfSome fault (λ it. (end < shape.rows) × ReadFails shape started end it)) c.in-Some.is c.loop-row.invariant.fails in
+    let alone = subst (λ (fault : Option SlotFault). IfSome fault (λ it. FailsAlone shape promises started now end it.slot)) c.in-Some.is c.loop-row.invariant.alone in
+    let no_more : c.count_behind-count.result ≡ 0 =
+    subst (λ (fault : Option SlotFault). IfSome fault (λ _. c.count_behind-count.result ≡ 0)) c.in-Some.is c.count_behind-count.ensures.none in
+    let read = c.classify_and_read-next.ensures.read in
+    let still : OnlyRead now next =
+    read.only_read (none_met shape now next end _ _ c.count_behind-count.result c.classify_and_read-next.result c.classify_and_read-next.result.fault no_more read refl) in
     record {
       report = subst (λ (it : SlotFault). IsReport shape started (record report { fault = Some (record { row = end; slot = it.slot; fault = it.fault }) }))
           (sym c.in-Some.field-0-is) (report_at_fault shape started end c.in-Some.field-0 report checked fails.0 fails.1);
-      kept = λ none. absurd cc;
+      sound = subst (λ (it : SlotFault). IsSound shape promises (Some (record { row = end; slot = it.slot; fault = it.fault })))
+          (sym c.in-Some.field-0-is)
+          (sound_at told promised c.args.parts.now now shape end c.in-Some.field-0 c.rows-rows.ensures.limits fails.0 fails.1 alone);
+      kept = subst (λ (it : SlotFault). OnlyReadBut (λ number. number ≡ part_number shape (shard_of shape end) it.slot) started next)
+          (sym c.in-Some.field-0-is)
+          (but_then (λ number. number ≡ part_number shape (shard_of shape end) c.in-Some.field-0.slot) started now next alone.kept still);
+      promised = keep_both promises (promises_of promised c.loop-row.parts)
+          (promises_of promised c.classify_and_read-next.new.parts) c.loop-row.invariant.promised c.classify_and_read-next.ensures.promised;
     }
 
 pub returns : goal.returns
 returns g c =
     let shape = c.args.geometry.now in
     let started = parts_of g.D.BlockDevice.told c.args.parts.now in
+    let now = parts_of g.D.BlockDevice.told c.loop-row.parts in
     let so_far = c.loop-row.invariant in
     let report = c.loop-row.report in
     let read = c.loop-row.read in
     let all : c.loop-row.row ≡ shape.rows = omega (arith, c.loop-row-test.false, so_far.within, c.rows-rows.ensures.value) in
+    let checked = subst (λ (n : ℕ). Checked shape started n report) all so_far.checked in
     record {
-      report = report_at_end shape started report (subst (λ (n : ℕ). Checked shape started n report) all so_far.checked);
-      kept = λ _. so_far.only_read (none_fails shape started (c.loop-row.row + read.rows) read.fault (omega (arith, all)) so_far.fails);
+      report = report_at_end shape started report checked;
+      sound = sound_none shape (promises_of g.D.BlockDevice.promised c.args.parts.now) report.fault checked.no_fault;
+      kept = but_none (IsNamed shape report.fault) started now
+          (so_far.only_read (none_fails shape started (c.loop-row.row + read.rows) read.fault (omega (arith, all)) so_far.fails));
+      promised = so_far.promised;
     }

@@ -1,5 +1,6 @@
 use Rattle.std.proofs.Common.{◌≡◌, ◌+◌, ◌-◌, ◌<◌, ◌≤◌, None}
 use Rattle.std.specs.Prelude.{IfSome}
+use Rattle.r6_offline.specs.Lent.{FailsAlone, KeepPromises, promises_of}
 use Rattle.r6_offline.specs.Parts.{OnlyRead, parts_of}
 use Rattle.r6_offline.specs.Rows.{ReadFails}
 use Rattle.r6_offline.specs.RowChecks.{HasRoom}
@@ -19,6 +20,9 @@ invariant-loop-row g l =
       behind : HasRoom shape l.behind.items;
       fails : IfSome l.read.fault (λ fault. (end < shape.rows) × ReadFails shape started end fault);
       only_read : l.read.fault ≡ None → OnlyRead started (parts_of g.D.BlockDevice.told l.parts);
+      alone : IfSome l.read.fault (λ fault. FailsAlone shape (promises_of g.D.BlockDevice.promised l.fn.parts) started
+          (parts_of g.D.BlockDevice.told l.parts) end fault.slot);
+      promised : KeepPromises (promises_of g.D.BlockDevice.promised l.fn.parts) (promises_of g.D.BlockDevice.promised l.parts);
       checked : Checked shape started l.row l.report;
     }
 

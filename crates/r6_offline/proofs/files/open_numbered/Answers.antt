@@ -11,4 +11,4 @@ returns-in-Err-clause-err g c =
     let below : c.args.number % slots < c.args.geometry.now.slots =
     subst (λ n. c.args.number % slots < n) c.slots.ensures.value (mod-lt c.args.number some) in
     let other : is_lost c.args.lost.now (c.args.number % slots) ≡ false = search rules in
-    opening_of c.args.geometry.now.slots (c.args.number % slots) c.args.lost.now c.in-Err.error below other c.in-Err.ensures
+    opening_of c.args.geometry.now.slots (c.args.number % slots) c.args.lost.now c.in-Err.error below other c.in-Err.ensures.err

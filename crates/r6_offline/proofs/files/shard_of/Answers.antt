@@ -2,8 +2,8 @@ use Rattle.std.proofs.Common.{ℕ, ◌*◌, ◌<◌, sym, subst, arith}
 use Rattle.std.proofs.lemmas.Nat.{div_below}
 use Rattle.r6_offline.proofs.files.shard_of.Goals as goal
 
-pub returns : goal.returns
-returns c =
+pub returns-clause-within : goal.returns-clause-within
+returns-clause-within c =
     let shape = c.args.geometry.now in
     let number = c.args.number in
     let slots : ℕ = c.slots.result in

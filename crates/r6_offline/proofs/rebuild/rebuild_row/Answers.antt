@@ -1,9 +1,13 @@
-use Rattle.std.proofs.Common.{ℕ, ◌<◌, inl, inr, refl, sym, ap, subst, ◌∙◌}
+use Rattle.std.proofs.Common.{ℕ, ◌<◌, inl, inr, length, refl, sym, ap, subst, ◌∙◌}
 use Rattle.r6_layout.specs.Layout.{position_at}
+use Rattle.std.specs.Prelude.{IfSome}
+use Rattle.r6_dev.specs.Promises.{Covers}
+use Rattle.r6_offline.specs.Lent.{promises_of, target_promises}
 use Rattle.r6_offline.specs.Parts.{parts_of}
 use Rattle.r6_offline.specs.Rebuilds.{PartWritten, targets_of}
 use Rattle.r6_recover.specs.Rows.{block_at}
-use Rattle.r6_offline.proofs.RebuildLaws.{target_fails}
+use Rattle.r6_offline.proofs.LentLaws.{keep_none}
+use Rattle.r6_offline.proofs.RebuildLaws.{target_cause, target_fails}
 use Rattle.r6_offline.proofs.rebuild.rebuild_row.Goals as goal
 
 pub restore_row-requires : goal.restore_row-requires
@@ -37,6 +41,9 @@ returns-in-Ok g c =
             (c.block.ensures ∙ ap (block_at blocks) c.position_at-position.ensures.value) c.in-Ok.ensures.written);
       };
       fails = tt;
+      cause = tt;
+      promised = c.restore_row.ensures.promised;
+      targets = c.write_part.ensures.targets;
       unwritten = tt;
     }
 
@@ -45,16 +52,30 @@ returns-in-Err g c = record {
   room = c.restore_row.ensures.room;
   rebuilt = tt;
   fails = c.in-Err.ensures.fails;
+  cause = c.in-Err.ensures.cause (target_promises g.D.BlockDevice.promised c.args.targets.now);
+  promised = c.restore_row.ensures.promised;
+  targets = keep_none (target_promises g.D.BlockDevice.promised c.args.targets.now);
   unwritten = λ _ _. refl;
 }
 
 pub returns-in-Err-write_part : goal.returns-in-Err-write_part
 returns-in-Err-write_part g c =
     let told = g.D.BlockDevice.told in
+    let promised = g.D.BlockDevice.promised in
     record {
       room = c.restore_row.ensures.room;
       rebuilt = tt;
-      fails = target_fails c.args.geometry.now c.args.target (parts_of told c.args.parts.now)
+      cause = target_cause c.args.geometry.now c.args.target c.args.row (parts_of told c.args.parts.now) (promises_of promised c.args.parts.now)
+          (target_promises promised c.args.targets.now)
+          (λ _.
+          subst (λ (shard : ℕ). IfSome (target_promises promised c.args.targets.now shard) (λ promise. ¬ Covers promise c.args.row c.args.geometry.now.block))
+          c.shard_of-shard.ensures.value
+          (subst (λ (long : ℕ). IfSome (target_promises promised c.args.targets.now c.shard_of-shard.result) (λ promise. ¬ Covers promise c.args.row long))
+          (ap length c.block.ensures ∙ c.restore_row.ensures.room.long c.position_at-position.result c.position_at-position.ensures.within)
+          c.in-Err-write_part.ensures.sound));
+      promised = c.restore_row.ensures.promised;
+      targets = c.write_part.ensures.targets;
+      fails = target_fails c.args.geometry.now c.args.target c.args.row (parts_of told c.args.parts.now)
           (parts_of told c.restore_row.new.parts) c.in-Err-write_part.fault c.requires.target c.in_default.ensures.only_read
           c.in-Err-write_part.ensures.of_write;
       unwritten = λ shard spared. elim spared [

@@ -1,8 +1,11 @@
 use Rattle.std.proofs.Common.{◌≡◌, ℕ, ◌+◌, ◌∙◌, sym, subst, arith}
+use Rattle.std.specs.Prelude.{IfSome, None}
+use Rattle.r6_offline.specs.Lent.{FailsAlone, promises_of}
 use Rattle.r6_offline.specs.Parts.{parts_of}
 use Rattle.r6_offline.specs.Rows.{Fits}
 use Rattle.r6_offline.proofs.CheckLaws.{found}
-use Rattle.r6_offline.proofs.PartLaws.{Noted, noted_next, none_noted, part_at_end, part_at_fault}
+use Rattle.r6_offline.proofs.LentLaws.{alone_since, keep_both, keep_none}
+use Rattle.r6_offline.proofs.PartLaws.{Noted, no_fault_noted, noted_next, none_noted, part_at_end, part_at_fault}
 use Rattle.r6_offline.proofs.ReportLaws.{finding_since}
 use Rattle.r6_offline.proofs.RowLaws.{only_read_both, only_read_none, read_fails_since}
 use Rattle.r6_offline.proofs.shard_check.check_rows.Goals as goal
@@ -13,6 +16,7 @@ loop-row-init g c =
     record {
       room = c.requires.room;
       only_read = only_read_none started;
+      promised = keep_none (promises_of g.D.BlockDevice.promised c.args.parts.now);
       noted = none_noted c.args.geometry.now started c.args.first c.new-report.result c.new-report.ensures;
     }
 
@@ -24,10 +28,13 @@ loop-row-preserved g c =
     let started = parts_of told c.args.parts.now in
     let now = parts_of told c.loop-row.parts in
     let so_far = c.loop-row.invariant in
+    let promised = g.D.BlockDevice.promised in
     let finding = c.classify.new.self.finding in
     record {
       room = subst (Fits shape) (sym c.classify.ensures.reader) c.read.ensures.room;
       only_read = only_read_both started now (parts_of told c.read.new.parts) so_far.only_read c.in_default.ensures.only_read;
+      promised = keep_both (promises_of promised c.args.parts.now) (promises_of promised c.loop-row.parts) (promises_of promised c.read.new.parts)
+          so_far.promised c.read.ensures.promised;
       noted = subst (λ report. Noted shape started c.args.first (row + 1) report) (sym c.note.ensures)
           (noted_next shape started c.args.first row c.loop-row.report finding so_far.noted
           (finding_since shape started now row finding so_far.only_read
@@ -57,13 +64,27 @@ returns-in-Err g c =
     let started = parts_of told c.args.parts.now in
     let row = c.loop-row.row in
     let fault = c.in-Err.field-0 in
+    let promised = g.D.BlockDevice.promised in
     record {
       report = part_at_fault shape started c.args.first c.args.end row fault c.loop-row.report c.loop-row.invariant.noted
           c.loop-row-test.true
           (read_fails_since shape started (parts_of told c.loop-row.parts) row fault c.loop-row.invariant.only_read
           c.in-Err.ensures.fails);
       kept = λ none. absurd (cc);
+      alone = alone_since shape (promises_of promised c.args.parts.now) (promises_of promised c.loop-row.parts) started (parts_of told c.loop-row.parts)
+          (parts_of told c.read.new.parts) row fault.slot c.loop-row.invariant.promised c.loop-row.invariant.only_read c.in-Err.ensures.alone;
+      promised = keep_both (promises_of promised c.args.parts.now) (promises_of promised c.loop-row.parts) (promises_of promised c.read.new.parts)
+          c.loop-row.invariant.promised c.read.ensures.promised;
     }
 
 pub returns-clause-kept : goal.returns-clause-kept
 returns-clause-kept g c = λ _. c.loop-row.invariant.only_read
+
+pub returns-clause-alone : goal.returns-clause-alone
+returns-clause-alone g c =
+    let none : c.loop-row.report.fault ≡ None = no_fault_noted _ _ _ _ _ c.loop-row.invariant.noted in
+    subst (λ fault. IfSome fault (λ it. FailsAlone c.args.geometry.now (promises_of g.D.BlockDevice.promised c.args.parts.now)
+    (parts_of g.D.BlockDevice.told c.args.parts.now) (parts_of g.D.BlockDevice.told c.loop-row.parts) it.row it.slot)) (sym none) tt
+
+pub returns-clause-promised : goal.returns-clause-promised
+returns-clause-promised g c = c.loop-row.invariant.promised

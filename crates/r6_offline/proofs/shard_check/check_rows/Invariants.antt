@@ -1,3 +1,4 @@
+use Rattle.r6_offline.specs.Lent.{KeepPromises, promises_of}
 use Rattle.r6_offline.specs.Parts.{OnlyRead, parts_of}
 use Rattle.r6_offline.specs.Rows.{Fits}
 use Rattle.r6_offline.proofs.PartLaws.{Noted}
@@ -7,5 +8,6 @@ abbrev pub invariant-loop-row : goal.invariant-loop-row
 invariant-loop-row g l = record {
   room : Fits l.geometry l.check.reader;
   only_read : OnlyRead (parts_of g.D.BlockDevice.told l.fn.parts) (parts_of g.D.BlockDevice.told l.parts);
+  promised : KeepPromises (promises_of g.D.BlockDevice.promised l.fn.parts) (promises_of g.D.BlockDevice.promised l.parts);
   noted : Noted l.geometry (parts_of g.D.BlockDevice.told l.fn.parts) l.first l.row l.report;
 }

@@ -1,10 +1,12 @@
-use Rattle.std.proofs.Common.{◌≡◌, ℕ, ◌+◌, ◌*◌, Bool, None, get_or, is_some, refl, sym, ap, subst, ◌∙◌, arith}
+use Rattle.std.proofs.Common.{◌≡◌, ℕ, ◌+◌, ◌*◌, Bool, None, get_or, is_some, length, refl, sym, ap, subst, ◌∙◌, arith}
 use Rattle.std.proofs.lemmas.Bool.{false≢true}
 use Rattle.std.proofs.lemmas.Result.{err_from_is_err_and}
 use Rattle.r6_layout.specs.Layout.{shard_of}
+use Rattle.r6_offline.specs.Lent.{promises_of}
 use Rattle.r6_offline.specs.Parts.{PartRead, parts_of, part_number}
 use Rattle.r6_offline.specs.Rows.{SlotRead}
 use Rattle.r6_offline.proofs.FileLaws.{is_some_told, number_fits, number_within}
+use Rattle.r6_offline.proofs.LentLaws.{failed_at}
 use Rattle.r6_offline.proofs.RowLaws.{fits_swapped, slot_read}
 use Rattle.r6_offline.proofs.row.RowReader.read_slot.Goals as goal
 
@@ -44,6 +46,10 @@ returns-in_err-there g c =
             ∙ is_some_told told (get_or parts (c.shard_of.result * c.slots.result + slot) None) ∙ fails.0;
         of_read = fails.1;
       });
+      alone = rw p.1 (failed_at shape (promises_of g.D.BlockDevice.promised parts) (parts_of told parts) (parts_of told c.read_part.new.parts)
+          c.args.row slot (c.shard_of.result * c.slots.result + slot) (length c.args.self.now.block) at c.requires.room.block
+          c.in_err-there.ensures.alone c.in_err-there.ensures.sound);
+      promised = c.read_part.ensures.promised;
     }
 
 pub returns-else-there : goal.returns-else-there
@@ -67,6 +73,8 @@ returns-else-there g c =
         others = λ position apart. refl;
       };
       fails = tt;
+      alone = tt;
+      promised = c.read_part.ensures.promised;
     }
 
 pub position_at-position-requires : goal.position_at-position-requires
@@ -108,3 +116,9 @@ returns-then-there-clause-room g c =
 
 pub returns-then-there-clause-fails : goal.returns-then-there-clause-fails
 returns-then-there-clause-fails g c = tt
+
+pub returns-then-there-clause-alone : goal.returns-then-there-clause-alone
+returns-then-there-clause-alone g c = tt
+
+pub returns-then-there-clause-promised : goal.returns-then-there-clause-promised
+returns-then-there-clause-promised g c = c.read_part.ensures.promised

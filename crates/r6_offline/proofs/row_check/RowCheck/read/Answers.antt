@@ -1,7 +1,9 @@
 use Rattle.std.proofs.Common.{true, refl}
+use Rattle.r6_offline.specs.Lent.{promises_of}
 use Rattle.r6_offline.specs.Parts.{parts_of}
 use Rattle.r6_offline.specs.declared.row_check.RowCheck.{RowCheck}
 use Rattle.r6_offline.proofs.CheckLaws.{read_absent, read_whole}
+use Rattle.r6_offline.proofs.LentLaws.{keep_none}
 use Rattle.r6_offline.proofs.RowLaws.{only_read_none}
 use Rattle.r6_offline.proofs.row_check.RowCheck.read.Goals as goal
 
@@ -27,6 +29,8 @@ returns-then-has_absent g c =
       only_read = only_read_none parts;
       read = read_absent c.args.geometry.now parts c.args.row _ refl c.if-has_absent.ensures;
       fails = tt;
+      alone = tt;
+      promised = keep_none (promises_of g.D.BlockDevice.promised c.args.parts.now);
     }
 
 pub returns-in-Err : goal.returns-in-Err
@@ -35,6 +39,8 @@ returns-in-Err g c = record {
   only_read = tt;
   read = tt;
   fails = c.in-Err.ensures.fails;
+  alone = c.in-Err.ensures.alone;
+  promised = c.read_row.ensures.promised;
 }
 
 pub returns-in-Ok-clause-room : goal.returns-in-Ok-clause-room
@@ -45,3 +51,9 @@ returns-in-Ok-clause-only_read g c = c.in-Ok.ensures.read.only_read
 
 pub returns-in-Ok-clause-fails : goal.returns-in-Ok-clause-fails
 returns-in-Ok-clause-fails g c = tt
+
+pub returns-in-Ok-clause-alone : goal.returns-in-Ok-clause-alone
+returns-in-Ok-clause-alone g c = tt
+
+pub returns-in-Ok-clause-promised : goal.returns-in-Ok-clause-promised
+returns-in-Ok-clause-promised g c = c.read_row.ensures.promised
