@@ -83,7 +83,7 @@ fn gone_over<F, R, E>(
     err: &mut ErrorOutput<E>,
 ) -> Result<Report, EngineError>
 where
-    F: FileExt + Seek + Drop,
+    F: FileExt + Seek + Drop + Send,
     R: Files<File = F> + Threads + Sync,
     E: Write,
     ensures ok { IfOk result (λ report. (parts : Parts)
@@ -111,7 +111,7 @@ pub(crate) fn verify<F, R, S, W, E>(
     err: &mut ErrorOutput<E>,
 ) -> Result<Ending, Fault>
 where
-    F: FileExt + Seek + Drop,
+    F: FileExt + Seek + Drop + Send,
     R: Files<File = F> + Threads + Sync,
     S: Read,
     W: Write,

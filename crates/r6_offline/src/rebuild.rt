@@ -142,12 +142,12 @@ fn rebuild_row<D: BlockDevice>(
     ensures rebuilt { OnOk result
         (RowRebuilt geometry.now target row (parts_of D.told parts.old) (parts_of D.told parts.new)
         (targets_of D.told targets.old) (targets_of D.told targets.new)) }
-    ensures fails { IfErr result
-        (RebuildFails geometry.now target row (parts_of D.told parts.old) (parts_of D.told parts.new)) }
-    ensures cause { IfErr result (λ fault. HasCause geometry.now target (parts_of D.told parts.old)
-        (promises_of D.promised parts.old) (target_promises D.promised targets.old) row fault.slot) }
-    ensures promised { KeepPromises (promises_of D.promised parts.old) (promises_of D.promised parts.new) }
-    ensures targets { KeepPromises (target_promises D.promised targets.old) (target_promises D.promised targets.new) }
+    ensures fails { IfErr result (λ fault.
+        RebuildFails geometry.now target row (parts_of D.told parts.old) (parts_of D.told parts.new) fault
+        × HasCause geometry.now target (parts_of D.told parts.old) (promises_of D.promised parts.old)
+        (target_promises D.promised targets.old) row fault.slot) }
+    ensures promised { KeepPromises (promises_of D.promised parts.old) (promises_of D.promised parts.new)
+        × KeepPromises (target_promises D.promised targets.old) (target_promises D.promised targets.new) }
     ensures unwritten { IfErr result (λ fault. (shard : ℕ) → IsSpared geometry.now target shard row fault.slot
         → targets_of D.told targets.new shard ≡ targets_of D.told targets.old shard) }
 {

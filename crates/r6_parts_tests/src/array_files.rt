@@ -37,6 +37,8 @@ enum Step {
     IsNotCreated,
     /// A single file isn't made, at a path that can be none.
     IsNotCreatedAt(&'static str),
+    /// No device is opened at a path, neither for reading alone nor for writing: it is `Gone`.
+    IsNotOpenedAt(&'static str),
     /// All files have these bytes, or the own one, or the others.
     AllHave(Bytes),
     Has(Bytes),
@@ -152,6 +154,14 @@ const COURSES: &[Course] = &[
         name: "a file that cannot be made is refused",
         slots: &[0],
         steps: &[Step::IsNotCreatedAt("/dev/null/array")],
+    },
+    Course {
+        name: "what is neither a file nor a block device is not opened",
+        slots: &[0],
+        steps: &[
+            Step::IsNotOpenedAt("/dev/null"),
+            Step::IsNotOpenedAt("/dev"),
+        ],
     },
     Course {
         name: "an empty file is refused and not changed",
@@ -339,6 +349,21 @@ fn is_not_created_at<R: Files + AllocGlobal>(
     Ok(is_not_created(rt, geometry, &[path], 0))
 }
 
+fn is_not_opened_at<R: Files<File = File> + AllocGlobal>(
+    rt: &R,
+    geometry: &Geometry,
+    path: &str,
+) -> bool {
+    let (slot, fault) = (0, Fault::Gone);
+    for access in [Access::Read, Access::ReadWrite] {
+        let refused = open_slot(rt, rt.alloc(), geometry, slot, path, access).err();
+        if refused != Some(EngineError::Device { slot, fault }) {
+            return false;
+        }
+    }
+    true
+}
+
 fn opened<R: Files<File = File> + AllocGlobal>(
     rt: &R,
     geometry: &Geometry,
@@ -452,6 +477,7 @@ fn is_taken<R: Files<File = File> + AllocGlobal + Threads + Wait + Sync>(
         Step::Create => Ok(create_files(rt, &geometry, paths).is_ok()),
         Step::IsNotCreated => Ok(is_not_created(rt, &geometry, paths, slot)),
         Step::IsNotCreatedAt(path) => is_not_created_at(rt, &geometry, *path),
+        Step::IsNotOpenedAt(path) => Ok(is_not_opened_at(rt, &geometry, *path)),
         Step::IsRefused(fault) => Ok(is_refused(rt, &geometry, paths, slot, *fault)),
         Step::Reports(shards, report) => reports(rt, *shards, paths, own, None, report),
         Step::ReportsOnce(bytes, report) => reports(rt, 2, paths, own, Some(bytes), report),

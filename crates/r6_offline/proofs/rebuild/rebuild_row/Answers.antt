@@ -41,9 +41,7 @@ returns-in-Ok g c =
             (c.block.ensures ∙ ap (block_at blocks) c.position_at-position.ensures.value) c.in-Ok.ensures.written);
       };
       fails = tt;
-      cause = tt;
-      promised = c.restore_row.ensures.promised;
-      targets = c.write_part.ensures.targets;
+      promised = (c.restore_row.ensures.promised, c.write_part.ensures.targets);
       unwritten = tt;
     }
 
@@ -51,10 +49,8 @@ pub returns-in-Err : goal.returns-in-Err
 returns-in-Err g c = record {
   room = c.restore_row.ensures.room;
   rebuilt = tt;
-  fails = c.in-Err.ensures.fails;
-  cause = c.in-Err.ensures.cause (target_promises g.D.BlockDevice.promised c.args.targets.now);
-  promised = c.restore_row.ensures.promised;
-  targets = keep_none (target_promises g.D.BlockDevice.promised c.args.targets.now);
+  fails = (c.in-Err.ensures.fails, c.in-Err.ensures.cause (target_promises g.D.BlockDevice.promised c.args.targets.now));
+  promised = (c.restore_row.ensures.promised, keep_none (target_promises g.D.BlockDevice.promised c.args.targets.now));
   unwritten = λ _ _. refl;
 }
 
@@ -65,19 +61,20 @@ returns-in-Err-write_part g c =
     record {
       room = c.restore_row.ensures.room;
       rebuilt = tt;
-      cause = target_cause c.args.geometry.now c.args.target c.args.row (parts_of told c.args.parts.now) (promises_of promised c.args.parts.now)
-          (target_promises promised c.args.targets.now)
-          (λ _.
-          subst (λ (shard : ℕ). IfSome (target_promises promised c.args.targets.now shard) (λ promise. ¬ Covers promise c.args.row c.args.geometry.now.block))
-          c.shard_of-shard.ensures.value
-          (subst (λ (long : ℕ). IfSome (target_promises promised c.args.targets.now c.shard_of-shard.result) (λ promise. ¬ Covers promise c.args.row long))
-          (ap length c.block.ensures ∙ c.restore_row.ensures.room.long c.position_at-position.result c.position_at-position.ensures.within)
-          c.in-Err-write_part.ensures.sound));
-      promised = c.restore_row.ensures.promised;
-      targets = c.write_part.ensures.targets;
-      fails = target_fails c.args.geometry.now c.args.target c.args.row (parts_of told c.args.parts.now)
-          (parts_of told c.restore_row.new.parts) c.in-Err-write_part.fault c.requires.target c.in_default.ensures.only_read
-          c.in-Err-write_part.ensures.of_write;
+      fails = (
+        target_fails c.args.geometry.now c.args.target c.args.row (parts_of told c.args.parts.now)
+            (parts_of told c.restore_row.new.parts) c.in-Err-write_part.fault c.requires.target c.in_default.ensures.only_read
+            c.in-Err-write_part.ensures.of_write,
+        target_cause c.args.geometry.now c.args.target c.args.row (parts_of told c.args.parts.now) (promises_of promised c.args.parts.now)
+            (target_promises promised c.args.targets.now)
+            (λ _.
+            subst (λ (shard : ℕ). IfSome (target_promises promised c.args.targets.now shard) (λ promise. ¬ Covers promise c.args.row c.args.geometry.now.block))
+            c.shard_of-shard.ensures.value
+            (subst (λ (long : ℕ). IfSome (target_promises promised c.args.targets.now c.shard_of-shard.result) (λ promise. ¬ Covers promise c.args.row long))
+            (ap length c.block.ensures ∙ c.restore_row.ensures.room.long c.position_at-position.result c.position_at-position.ensures.within)
+            c.in-Err-write_part.ensures.sound)),
+      );
+      promised = (c.restore_row.ensures.promised, c.write_part.ensures.targets);
       unwritten = λ shard spared. elim spared [
         | inl apart ↦ absurd (apart refl)
         | inr apart ↦ c.write_part.ensures.others shard (λ same. apart (same ∙ c.shard_of-shard.ensures.value))

@@ -31,7 +31,7 @@ returns-in-Err-clause-rebuilt g c =
     let within : row < shape.rows = omega (arith, c.loop-row-test.true, c.rows-row-end.ensures.value) in
     subst (IsRebuilt shape c.args.target started targets after) (sym c.ended.ensures)
     (rebuilt_at_fault shape c.args.target started (parts_of told c.loop-row.parts) (parts_of told c.rebuild_row.new.parts) targets before after row c.in-Err.fault
-    c.loop-row.invariant.so_far within c.in-Err.ensures.fails c.in-Err.ensures.unwritten)
+    c.loop-row.invariant.so_far within c.in-Err.ensures.fails.0 c.in-Err.ensures.unwritten)
 
 pub returns-in-Err-clause-kept : goal.returns-in-Err-clause-kept
 returns-in-Err-clause-kept g c =
@@ -41,7 +41,7 @@ returns-in-Err-clause-kept g c =
     let after = parts_of told c.rebuild_row.new.parts in
     let number = part_number shape (shard_of shape c.loop-row.row) c.in-Err.fault.slot in
     subst (λ (rebuilt : Rebuilt). OnlyReadBut (IsNamed shape rebuilt.fault) started after) (sym c.ended.ensures)
-    (but_since (λ n. n ≡ number) started (parts_of told c.loop-row.parts) after c.loop-row.invariant.so_far.only_read c.in-Err.ensures.fails.kept)
+    (but_since (λ n. n ≡ number) started (parts_of told c.loop-row.parts) after c.loop-row.invariant.so_far.only_read c.in-Err.ensures.fails.0.kept)
 
 pub returns-in-Err-clause-sound : goal.returns-in-Err-clause-sound
 returns-in-Err-clause-sound g c =
@@ -54,23 +54,23 @@ returns-in-Err-clause-sound g c =
     let targets = target_promises promised c.args.targets.now in
     let within : row < shape.rows = omega (arith, c.loop-row-test.true, c.rows-row-end.ensures.value) in
     subst (λ (rebuilt : Rebuilt). IsSoundRebuild shape c.args.target started promises targets rebuilt.fault) (sym c.ended.ensures)
-    (sound_at_fault shape c.args.target started promises targets row c.in-Err.fault c.rows-row-end.ensures.limits within c.in-Err.ensures.fails.within
+    (sound_at_fault shape c.args.target started promises targets row c.in-Err.fault c.rows-row-end.ensures.limits within c.in-Err.ensures.fails.0.within
     (λ shard below. targets_there promised c.args.targets.now shard (subst (λ (n : ℕ). shard < n) (sym c.requires.targets) below))
     (cause_since shape c.args.target started (parts_of told c.loop-row.parts) promises (promises_of promised c.loop-row.parts) targets
     (target_promises promised c.loop-row.targets) row c.in-Err.fault.slot c.loop-row.invariant.so_far.only_read c.loop-row.invariant.promised
-    c.loop-row.invariant.targets c.in-Err.ensures.cause))
+    c.loop-row.invariant.targets c.in-Err.ensures.fails.1))
 
 pub returns-in-Err-clause-promised : goal.returns-in-Err-clause-promised
 returns-in-Err-clause-promised g c =
     let promised = g.D.BlockDevice.promised in
     keep_both (promises_of promised c.args.parts.now) (promises_of promised c.loop-row.parts) (promises_of promised c.rebuild_row.new.parts)
-    c.loop-row.invariant.promised c.rebuild_row.ensures.promised
+    c.loop-row.invariant.promised c.rebuild_row.ensures.promised.0
 
 pub returns-in-Err-clause-targets : goal.returns-in-Err-clause-targets
 returns-in-Err-clause-targets g c =
     let promised = g.D.BlockDevice.promised in
     keep_both (target_promises promised c.args.targets.now) (target_promises promised c.loop-row.targets) (target_promises promised c.rebuild_row.new.targets)
-    c.loop-row.invariant.targets c.rebuild_row.ensures.targets
+    c.loop-row.invariant.targets c.rebuild_row.ensures.promised.1
 
 pub loop-row-preserved : goal.loop-row-preserved
 loop-row-preserved g c =
@@ -82,9 +82,9 @@ loop-row-preserved g c =
     record {
       room = c.rebuild_row.ensures.room;
       promised = keep_both (promises_of promised c.args.parts.now) (promises_of promised c.loop-row.parts) (promises_of promised c.rebuild_row.new.parts)
-          c.loop-row.invariant.promised c.rebuild_row.ensures.promised;
+          c.loop-row.invariant.promised c.rebuild_row.ensures.promised.0;
       targets = keep_both (target_promises promised c.args.targets.now) (target_promises promised c.loop-row.targets)
-          (target_promises promised c.rebuild_row.new.targets) c.loop-row.invariant.targets c.rebuild_row.ensures.targets;
+          (target_promises promised c.rebuild_row.new.targets) c.loop-row.invariant.targets c.rebuild_row.ensures.promised.1;
       so_far = rebuilding_next shape c.args.target (parts_of told c.args.parts.now) (parts_of told c.loop-row.parts) (parts_of told c.rebuild_row.new.parts)
           (targets_of told c.args.targets.now) (targets_of told c.loop-row.targets) (targets_of told c.rebuild_row.new.targets) row
           c.rows-row-end.ensures.limits within c.loop-row.invariant.so_far c.in-Ok.ensures.rebuilt;
