@@ -2,11 +2,14 @@
 use Rattle.std.proofs.Common.{◌≡◌, ◌+◌, ◌≤◌, length, subst, vec_capacity}
 use Rattle.std.proofs.Props.{props}
 use Rattle.r6_health.specs.Passes.{view_of}
-use Rattle.r6_core.specs.Shards.{CoreView}
+use Rattle.r6_core.specs.Shards.{CoreView, world_shard}
 use Rattle.r6_shard.specs.declared.shard.Shard.{Shard}
 use Rattle.r6_shard.specs.Kept.{IsKept}
 use Rattle.r6_shard.specs.Own.{AreOwn, SeesFailure}
 use Rattle.r6_shard.specs.Whole.{SkipsNone, SawWithPass}
+use Rattle.r6_shard.specs.Courses.{AreOf}
+use Rattle.r6_shard.specs.Answering.{AreOnce}
+use Rattle.r6_shard.specs.Looked.{KnowsLast}
 
 module _ {P : Type 0} (old : Shard P) where
   abbrev Kept : CoreView → Type 0
@@ -20,6 +23,15 @@ module _ {P : Type 0} (old : Shard P) where
 
   abbrev Saw : Type 0
   Saw = SawWithPass old.saw_out (view_of old.pass)
+
+  abbrev Knows : CoreView → Type 0
+  Knows core = KnowsLast core old.last
+
+  abbrev Linked : Type 0
+  Linked = AreOf old.asked.items old.entries.items
+
+  abbrev Once : CoreView → Type 0
+  Once core = AreOnce (world_shard core) old.entries.items
 
   abbrev Counted : CoreView → Type 0
   Counted core = core.unanswered + length old.entries.items ≡ length old.asked.items
@@ -38,9 +50,9 @@ module _ {P : Type 0} (old : Shard P) where
 
   abbrev Again : CoreView → P → Type 0
   Again core parts =
-      (kept : Kept core) (own : Own) (failure : Fails core) (whole : Whole core) (saw : Saw) (counted : Counted core)
-      (within : Within) (asked_room : AskedRoom) (entries_room : EntriesRoom)
-      → record old {
+      (kept : Kept core) (own : Own) (failure : Fails core) (whole : Whole core) (saw : Saw) (knows : Knows core)
+      (linked : Linked) (once : Once core) (counted : Counted core) (within : Within) (asked_room : AskedRoom)
+      (entries_room : EntriesRoom) → record old {
         core = core;
         parts = parts;
         kept = kept;
@@ -48,6 +60,9 @@ module _ {P : Type 0} (old : Shard P) where
         failure = failure;
         whole = whole;
         saw = saw;
+        knows = knows;
+        linked = linked;
+        once = once;
         counted = counted;
         within = within;
         asked_room = asked_room;
@@ -55,12 +70,15 @@ module _ {P : Type 0} (old : Shard P) where
       } ≡ old
 
   pub shard-again : (core : CoreView) (parts : P) → old.core ≡ core → old.parts ≡ parts → Again core parts
-  shard-again core parts e e' = subst (Again core) e' (subst (λ (y : CoreView). Again y old.parts) e (λ kept own failure whole saw counted within asked_room entries_room.
+  shard-again core parts e e' = subst (Again core) e' (subst (λ (y : CoreView). Again y old.parts) e (λ kept own failure whole saw knows linked once counted within asked_room entries_room.
       let k : IsProp (Kept old.core) = Prim.hlevel props in
       let o : IsProp Own = Prim.hlevel props in
       let f : IsProp (Fails old.core) = Prim.hlevel props in
       let w : IsProp (Whole old.core) = Prim.hlevel props in
       let s : IsProp Saw = Prim.hlevel props in
+      let m : IsProp (Knows old.core) = Prim.hlevel props in
+      let d : IsProp Linked = Prim.hlevel props in
+      let e : IsProp (Once old.core) = Prim.hlevel props in
       let n : IsProp (Counted old.core) = Prim.hlevel props in
       let l : IsProp Within = Prim.hlevel props in
       let a : IsProp AskedRoom = Prim.hlevel props in
@@ -71,6 +89,9 @@ module _ {P : Type 0} (old : Shard P) where
         failure = f failure old.failure i;
         whole = w whole old.whole i;
         saw = s saw old.saw i;
+        knows = m knows old.knows i;
+        linked = d linked old.linked i;
+        once = e once old.once i;
         counted = n counted old.counted i;
         within = l within old.within i;
         asked_room = a asked_room old.asked_room i;

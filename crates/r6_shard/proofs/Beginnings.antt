@@ -1,5 +1,6 @@
 -- A shard's course begins.
 use Rattle.std.proofs.Common.{◌≡◌, ℕ, ◌<◌, List, [], Bool, false, refl, sym, ap, ◌∙◌, Option}
+use Rattle.std.proofs.lemmas.List.Elements.{All-nil}
 use Rattle.r6_dev.specs.History.{Telling}
 use Rattle.r6_layout.specs.Shape.{Shape, IsShape}
 use Rattle.r6_health.specs.declared.history.View.{View}
@@ -13,6 +14,7 @@ use Rattle.r6_world.proofs.Geometries.{layouts}
 use Rattle.r6_core.specs.Shards.{CoreView}
 use Rattle.r6_core.specs.Effects.{IsMade}
 use Rattle.r6_course.specs.Courses.{is_named}
+use Rattle.r6_shard.specs.Courses.{IsOf}
 use Rattle.r6_course.proofs.Calls.{courses_begin}
 use Rattle.r6_shard.specs.Beginnings.{IsFirstPass, start_of, Hold}
 use Rattle.r6_shard.specs.Courses.{HasCourse}
@@ -28,7 +30,7 @@ begun geometry number snapshot device array core v named part limits below lawfu
     let y = courses_begin s part named (λ slot generation telling there ok. hold slot generation telling there) none in
     record {
       history = [];
-      tells = record { asked = refl; replied = refl; answered = refl; blocks = refl; linked = record {} };
+      tells = record { asked = refl; replied = refl; answered = refl; blocks = refl; linked = All-nil (IsOf []) };
       course = record {
         lawful = record { layout = layouts geometry limits; number = below; start = lawful };
         layout = ap layout_of (sym made.geometry);

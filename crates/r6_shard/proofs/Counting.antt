@@ -1,21 +1,108 @@
 -- Which calls pass rows of checks and repairs.
-use Rattle.std.proofs.Common.{◌≡◌, ℕ, ◌+◌, ◌⊎◌, Bool, true, false, inl, inr, refl, sym, subst, ◌∙◌, arith}
-use Rattle.std.proofs.lemmas.Bool.{cases_lt, cases_Bool, false≢true}
+use Rattle.std.proofs.Common.{◌≡◌, ℕ, ◌+◌, ◌≤◌, ◌⊎◌, Bool, true, false, ◌==◌, if◌then◌else◌, inl, inr, refl, sym, ap, subst, ◌∙◌, arith}
+use Rattle.std.proofs.lemmas.Bool.{cases_lt, cases_Bool, cases_eq, false≢true}
 use Rattle.r6_layout.specs.Shape.{Shape}
 use Rattle.r6_world.specs.Geometries.{layout_of}
-use Rattle.r6_world.specs.ShardStates.{IsLive, away}
-use Rattle.r6_world.specs.Registers.{Snapshot}
-use Rattle.r6_world.specs.Steps.{Event}
+use Rattle.r6_world.specs.Tables.{put, count_below}
+use Rattle.r6_world.specs.Layouts.{Layout}
+use Rattle.r6_world.specs.Registers.{Snapshot, Status, InSync, Lost, Rebuilding}
+use Rattle.r6_world.specs.ShardStates.{Shard, SlotState, Synced, Missing, Building, IsLive, away, is_away}
+use Rattle.r6_world.specs.Changes.{Change, Lose, Adopt, See_failed, Finish, Bring_in, Skip_turn, Allowed, after, adopted}
+use Rattle.r6_world.specs.Steps as steps
+use Rattle.r6_world.specs.Steps.{Event, Turn_started, Turn_skipped}
 use Rattle.r6_world.specs.Worlds.{shard_at_start}
-use Rattle.r6_world.specs.Counting.{HasPassed, passes}
+use Rattle.r6_world.specs.Counting.{HasOwnHolds, HasPassed, all_counted, changes_of, ended, gone_over, is_check, passes}
+use Rattle.r6_world.proofs.Tables.{put-same, put-other, count-le}
+use Rattle.r6_world.proofs.Changes.{Keeps, step-kept}
+use Rattle.r6_world.proofs.Laws.Counts.{one, turn_started, turn_skipped, step-led, parts-of, classes-all}
 use Rattle.r6_world.proofs.Laws.Passing.{call_counts_law}
 use Rattle.r6_core.specs.declared.turn.Task.{Task}
 use Rattle.r6_core.specs.declared.turn.Turn.{Turn}
 use Rattle.r6_core.specs.Effects.{IsMade, TakesTurn}
 use Rattle.r6_core.specs.Shards.{CoreView, Step, core_layout, world_shard}
 use Rattle.r6_shard.specs.Kept.{NoneIsOut}
-use Rattle.r6_shard.specs.Counted.{HasPassedRows, IsInService, PassesNone, PassesMore, rows_of}
+use Rattle.r6_shard.specs.Counted.{HasPassedRows, IsInService, PassesNone, PassesMore, counted_in, rows_of}
 use Rattle.r6_shard.proofs.Keeping.{turned, turned-passes}
+
+live-or-not : (l : Layout) (s : Shard) → IsLive l s ⊎ (IsLive l s → ⊥)
+live-or-not l s = elim (cases_lt 2 (away l s)) [
+  | inl many ↦ inr (λ live. let few = live.0 in absurd (omega arith))
+  | inr few ↦ elim (cases_Bool s.saw_failed) [
+    | inl saw ↦ inr (λ live. false≢true (sym live.1 ∙ saw))
+    | inr unseen ↦ inl (few, unseen)
+  ]
+]
+
+passes-is : (event : Event) → turn_started event + turn_skipped event ≡ passes event
+passes-is (Turn_started task) = at (is_check task)
+  where
+    at : (b : Bool) → one b + 0 ≡ (if b then 1 else 0)
+    at true = refl
+    at false = refl
+passes-is (Turn_skipped task row) = refl
+passes-is event = refl
+
+-- ---- no more rows are counted than are passed
+
+-- a slot that is out, and what a look makes of it
+still-away : (now : SlotState) (status : Status) → is_away now ≡ true → is_away (adopted now status) ≡ true
+still-away now InSync out = out
+still-away now Lost out = refl
+still-away (Synced current) (Rebuilding generation reported) out = absurd (false≢true out)
+still-away Missing (Rebuilding generation reported) out = refl
+still-away (Building current built) (Rebuilding generation reported) out = at (current == generation)
+  where
+    at : (b : Bool) → is_away (if b then Building current built else Building generation (λ row. false)) ≡ true
+    at true = refl
+    at false = refl
+
+away-more : (l : Layout) (s : Shard) (slot : ℕ) (state : SlotState) → (is_away (s.slot slot) ≡ true → is_away state ≡ true)
+    → away l s ≤ count_below (λ d. is_away (put s.slot slot state d)) l.slots
+away-more l s slot state still = count-le l.slots (λ d. is_away (s.slot d)) (λ d. is_away (put s.slot slot state d))
+    (λ d below out. elim (cases_eq d slot) [
+      | inl same ↦ ap is_away (put-same s.slot slot state d same) ∙ still (subst (λ k. is_away (s.slot k) ≡ true) same out)
+      | inr ne ↦ ap is_away (put-other s.slot slot state d ne) ∙ out
+    ])
+
+live-before : (l : Layout) (n : ℕ) (s : Shard) (change : Change) → Allowed l n s change → IsLive l (after l s change) → IsLive l s
+live-before l n s (Lose t c) a live = let more = away-more l s c.slot Missing (λ out. refl) in let few = live.0 in (omega arith, live.1)
+live-before l n s (Adopt slot status) a live =
+    let more = away-more l s slot (adopted (s.slot slot) status) (still-away (s.slot slot) status) in let few = live.0 in (omega arith, live.1)
+live-before l n s See_failed a live = absurd (false≢true (sym live.1))
+live-before l n s (Finish f h outcome) a live = a.2
+live-before l n s (Bring_in slot g) a live = a.3
+live-before l n s change a live = live
+
+-- out of service no hold ends and no turn is taken, so that nothing is counted
+stopped-kept : (l : Layout) (n counted : ℕ) (event : Event) → Keeps l n (λ s. (IsLive l s → ⊥) × (all_counted s ≡ counted)) event
+stopped-kept l n counted event s (Finish f h outcome) within a x = absurd (x.0 a.2)
+stopped-kept l n counted event s (Skip_turn task row) within a x = absurd (x.0 a.1)
+stopped-kept l n counted event s change within a x = (λ live. x.0 (live-before l n s change a live), x.1)
+
+pub stopped-counts : (l : Layout) (n : ℕ) (old : Shard) (event : Event) (new : Shard) → steps.Step l n old event new → (IsLive l old → ⊥)
+    → all_counted new ≡ all_counted old
+stopped-counts l n old event new step out =
+    (step-kept l n (λ s. (IsLive l s → ⊥) × (all_counted s ≡ all_counted old)) event (stopped-kept l n (all_counted old) event) old new step (out, refl)).1
+
+-- the rows that were gone over, and those of a turn, are counted, held or dropped
+goes-over : (l : Layout) (n : ℕ) (old : Shard) (event : Event) (new : Shard) → steps.Step l n old event new → HasOwnHolds l old
+    → gone_over new ≤ gone_over old + passes event
+goes-over l n old event new st own =
+    let changes = changes_of l n old event new st in
+    let led = step-led l n old event new st in
+    let all = parts-of l n changes old new own.0 led.leads own.1 in
+    let adds = all.0.adds in
+    let a = adds.consistent in let b = adds.wrong_p in let c = adds.wrong_q in let d = adds.wrong_data in let e = adds.many in
+    let f = adds.skipped in let g = all.0.held in let h = classes-all (ended own.0 changes) in
+    let i = led.starts_is in let j = led.skips_is in let k = passes-is event in
+    omega (arith, a, b, c, d, e, f, g, h, i, j, k)
+
+counts-most : (l : Layout) (n : ℕ) (old : Shard) (event : Event) (new : Shard) → steps.Step l n old event new → (rows : ℕ) → HasPassed l n rows old
+    → all_counted old ≤ rows → all_counted new ≤ rows + passes event
+counts-most l n old event new st rows x most = elim (live-or-not l old) [
+  | inl live ↦ let all = x.2 live in let over = goes-over l n old event new st x.0 in omega arith
+  | inr out ↦ let same = stopped-counts l n old event new st out in omega arith
+]
 
 pub service-back : (old : CoreView) (event : Event) (new : CoreView) → Step old event new → IsInService new → IsInService old
 service-back old event new step live =
@@ -26,6 +113,7 @@ pub passes-by : (old : CoreView) (event : Event) (new : CoreView) → Step old e
 passes-by old event new step stopped counted rows x =
     let law = call_counts_law.1 (core_layout old) old.shard (world_shard old) event (world_shard new) step.1 in
     record {
+      most = counts-most (core_layout old) old.shard (world_shard old) event (world_shard new) step.1 rows x.shard x.most;
       shard = subst (λ (n : ℕ). HasPassed (core_layout new) n (rows + passes event) (world_shard new)) (sym step.0.1)
           (subst (λ (g : Shape). HasPassed (layout_of g) old.shard (rows + passes event) (world_shard new)) (sym step.0.0) (law.0 rows x.shard));
       least = λ live. let before = x.least (service-back old event new step live) in let more = law.2 in omega arith;
@@ -40,6 +128,7 @@ none-passed shape snapshot number core made =
       shard = subst (HasPassed (core_layout core) core.shard 0) (sym made.start)
           (subst (λ (g : Shape). HasPassed (layout_of g) core.shard 0 start) (sym made.geometry)
           (subst (λ (n : ℕ). HasPassed (layout_of shape) n 0 start) (sym made.number) (call_counts_law.0 (layout_of shape) number snapshot)));
+      most = let none : counted_in core ≡ 0 = ap all_counted made.start in omega arith;
       least = λ live. omega arith;
       out = λ is live. false≢true is;
     }
@@ -65,6 +154,7 @@ pub counted-at-rest : (stopped : Bool) (counted rows : ℕ) (core : CoreView) �
     → HasPassedRows stopped rows rows core
 counted-at-rest stopped counted rows core x home = record {
   shard = x.shard;
+  most = x.most;
   least = λ live. let all = call_counts_law.2 (core_layout core) core.shard rows (world_shard core) x.shard home live in omega arith;
   out = x.out;
 }
@@ -72,19 +162,23 @@ counted-at-rest stopped counted rows core x home = record {
 -- ---- a shard that is in service was in service
 
 in-service : (core : CoreView) → IsInService core ⊎ (IsInService core → ⊥)
-in-service core = elim (cases_lt 2 (away (core_layout core) (world_shard core))) [
-  | inl many ↦ inr (λ live. let few = live.0 in absurd (omega arith))
-  | inr few ↦ elim (cases_Bool (world_shard core).saw_failed) [
-    | inl saw ↦ inr (λ live. false≢true (sym live.1 ∙ saw))
-    | inr unseen ↦ inl (few, unseen)
-  ]
-]
+in-service core = live-or-not (core_layout core) (world_shard core)
 
 pub was-in-service : (counted counted' rows rows' : ℕ) (old new : CoreView) → (HasPassedRows true counted rows old → HasPassedRows true counted' rows' new)
     → HasPassedRows false counted rows old → IsInService new → IsInService old
 was-in-service counted counted' rows rows' old new passes x live = elim (in-service old) [
   | inl was ↦ was
   | inr out ↦
-      let stopped : HasPassedRows true counted rows old = record { shard = x.shard; least = x.least; out = λ _. out } in
+      let stopped : HasPassedRows true counted rows old = record { shard = x.shard; most = x.most; least = x.least; out = λ _. out } in
       absurd ((passes stopped).out refl live)
 ]
+
+-- a check or repair begins: all rows that were gone over are counted, or the shard is out of service, where the number is free
+pub counted-from : (stopped : Bool) (counted rows : ℕ) (core : CoreView) → (IsInService core → rows ≡ counted_in core) → HasPassedRows stopped counted rows core
+    → HasPassedRows stopped counted (counted_in core) core
+counted-from stopped counted rows core all x = record {
+  shard = (x.shard.0, x.shard.1, λ live. x.shard.2 live ∙ all live);
+  most = omega arith;
+  least = x.least;
+  out = x.out;
+}

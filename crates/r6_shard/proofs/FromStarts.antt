@@ -66,7 +66,7 @@ handed_law told part earlier old new h geometry number snapshot taken ops some c
       | inr ne ↦ kept d g telling there (λ both. ne both.0)
     ]) in
     h.course s' device ops back told-there
-    (comes device' array (still-start (layout_of geometry) snapshot device device' array slot generation old.looked h.unseen alike lawful) hold')
+    (comes device' array (still-start (layout_of geometry) snapshot device device' array slot generation old.last.attaches h.unseen alike lawful) hold')
   where
     kept : (d g : ℕ) (telling : Telling) → taken d g ≡ Some telling → ((d ≡ part.slot) × (g ≡ part.generation) → ⊥)
         → courses.Tells (start_of geometry number snapshot device array)

@@ -1,8 +1,9 @@
 -- The thread's lists and its course go on together.
-use Rattle.std.proofs.Common.{◌≡◌, ℕ, ◌+◌, ◌<◌, inl, inr, Bool, true, false, List, [], ◌∷◌, ◌++◌, length, map, get_or-set_other, refl, sym, ap, subst, ◌∙◌, arith, Option, Result, Ok, Err, IfOk, IfErr}
+use Rattle.std.proofs.Common.{◌≡◌, ℕ, ◌+◌, ◌<◌, inl, inr, Bool, true, false, List, [], ◌∷◌, ◌++◌, length, map, get_or, get_or-set_other, refl, sym, ap, subst, ◌∙◌, arith, Option, Result, Ok, Err, IfOk, IfErr}
 use Rattle.std.specs.Prelude.{MatchResult, slice_index_or, slice_set, is_err}
 use Rattle.std.proofs.lemmas.Bool.{cases_eq, false≢true, true≢false}
-use Rattle.std.proofs.lemmas.List.{length-map, map-append, get_or_append_left, length-append}
+use Rattle.std.proofs.lemmas.List.{length-map, map-append, get_or-map, get_or_append_left, length-append}
+use Rattle.std.proofs.lemmas.List.Elements.{All-push}
 use Rattle.r6_dev.specs.History.{Telling}
 use Rattle.r6_health.specs.declared.history.View.{View}
 use Rattle.r6_health.specs.Histories.{held}
@@ -27,7 +28,7 @@ use Rattle.r6_shard.specs.declared.ledger.Entry.{Entry}
 use Rattle.r6_shard.specs.Performing.{Performed, Failed}
 use Rattle.r6_shard.specs.Kept.{named_by}
 use Rattle.r6_shard.specs.Histories.{replied_in, numbered}
-use Rattle.r6_shard.specs.Courses.{Course, AreOf, HasCourse, replied_of}
+use Rattle.r6_shard.specs.Courses.{Course, AreOf, IsOf, HasCourse, replied_of}
 use Rattle.r6_shard.proofs.Histories.{asked-more, replied-same, before-more, numbered-more, asked-same, replied-more, before-same}
 use Rattle.r6_shard.proofs.Courses.{goes, performed, seen, told}
 
@@ -99,21 +100,27 @@ longer f accepted a at below =
     ap (λ xs. slice_index_or xs at 0) (map-append f accepted (a ∷ []))
     ∙ get_or_append_left (map f accepted) (f a ∷ []) 0 at (subst (λ n. at < n) (sym (length-map accepted f)) below)
 
-linked-longer : (accepted : List Accepted) (a : Accepted) (entries : List Entry) → AreOf accepted entries → AreOf (accepted ++ a ∷ []) entries
-linked-longer accepted a [] x = record {}
-linked-longer accepted a (e ∷ entries) x = (
-  (let below = x.0 in let n = length-append accepted (a ∷ []) in omega arith),
-  longer (λ (b : Accepted). b.event) accepted a e.id.0 x.0 ∙ x.1,
-  longer (λ (b : Accepted). b.block) accepted a e.id.0 x.0 ∙ x.2,
-  linked-longer accepted a entries x.3,
+pub linked-longer : (accepted : List Accepted) (a : Accepted) (entries : List Entry) → AreOf accepted entries → AreOf (accepted ++ a ∷ []) entries
+linked-longer accepted a entries x = λ k d low.
+    let own = x k d low in (
+      (let below = own.0 in let n = length-append accepted (a ∷ []) in omega arith),
+      longer (λ (b : Accepted). b.event) accepted a (get_or entries k d).id.0 own.0 ∙ own.1,
+      longer (λ (b : Accepted). b.block) accepted a (get_or entries k d).id.0 own.0 ∙ own.2,
+    )
+
+pub is-of : (accepted : List Accepted) (id : ℕ) → id < length accepted → (a : Accepted) → get_or accepted id a ≡ a
+    → (e : Entry) → e.id.0 ≡ id → e.event ≡ a.event → e.block ≡ a.block → IsOf accepted e
+is-of accepted id below a here e same event block = (
+  subst (λ k. k < length accepted) (sym same) below,
+  ap (λ k. slice_index_or (map (λ (b : Accepted). b.event) accepted) k 0) same ∙ get_or-map (λ (b : Accepted). b.event) accepted id a 0 below
+      ∙ ap (λ (b : Accepted). b.event) here ∙ sym event,
+  ap (λ k. slice_index_or (map (λ (b : Accepted). b.block) accepted) k 0) same ∙ get_or-map (λ (b : Accepted). b.block) accepted id a 0 below
+      ∙ ap (λ (b : Accepted). b.block) here ∙ sym block,
 )
 
-linked-more : (accepted : List Accepted) (entries : List Entry) (e : Entry) → AreOf accepted entries → e.id.0 < length accepted
-    → slice_index_or (map (λ (a : Accepted). a.event) accepted) e.id.0 0 ≡ e.event
-    → slice_index_or (map (λ (a : Accepted). a.block) accepted) e.id.0 0 ≡ e.block
+pub linked-more : (accepted : List Accepted) (entries : List Entry) (e : Entry) → AreOf accepted entries → IsOf accepted e
     → AreOf accepted (entries ++ e ∷ [])
-linked-more accepted [] e x below event block = (below, event, block, record {})
-linked-more accepted (first ∷ entries) e x below event block = (x.0, x.1, x.2, linked-more accepted entries e x.3 below event block)
+linked-more accepted entries e x own = All-push (IsOf accepted) entries e x own
 
 pub has-submitted : (s : Start) (old new : CoreView) (v : View) (looked : ℕ) (named : List Bool) (part : ℕ → ℕ → Option Telling) (accepted : List Accepted) (entries : List Entry)
     (ops : List world.Op) (event : ℕ) (op : world.Op) (id : ℕ) → id ≡ length accepted → Step old (Submit op id) new
@@ -141,11 +148,9 @@ has-submitted s old new v looked named part accepted entries ops event op id sam
     }
 
 pub has-collected : (s : Start) (old new : CoreView) (v : View) (looked : ℕ) (named : List Bool) (part : ℕ → ℕ → Option Telling) (accepted : List Accepted) (entries : List Entry)
-    (ops : List world.Op) (e : Entry) → Step old (Take_reply e.id.0 (reply_of e.reply)) new → e.id.0 < length accepted
-    → slice_index_or (map (λ (a : Accepted). a.event) accepted) e.id.0 0 ≡ e.event
-    → slice_index_or (map (λ (a : Accepted). a.block) accepted) e.id.0 0 ≡ e.block
+    (ops : List world.Op) (e : Entry) → Step old (Take_reply e.id.0 (reply_of e.reply)) new → IsOf accepted e
     → HasCourse s old v looked named part accepted entries ops → HasCourse s new v looked named part accepted (entries ++ e ∷ []) ops
-has-collected s old new v looked named part accepted entries ops e step below event block x =
+has-collected s old new v looked named part accepted entries ops e step own x =
     let h = x.history in
     let t = x.tells in
     record {
@@ -156,7 +161,7 @@ has-collected s old new v looked named part accepted entries ops e step below ev
             ∙ sym (map-append replied_of entries (e ∷ []));
         answered = before-same 0 h e.id.0 (reply_of e.reply) ∙ t.answered;
         blocks = t.blocks;
-        linked = linked-more accepted entries e t.linked below event block;
+        linked = linked-more accepted entries e t.linked own;
       };
       course = goes s old new v looked named part h (Take_reply e.id.0 (reply_of e.reply)) (record {}) step x.course;
     }

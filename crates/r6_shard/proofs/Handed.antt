@@ -2,6 +2,8 @@
 use Rattle.std.proofs.Common.{◌≡◌, ℕ, ◌<◌, ◌≤◌, zero, suc, List, [], ◌∷◌, ◌++◌, length, get_or, Bool, true, false, inl, inr, refl, sym, ap, ◌∙◌, arith, Option, Some, None}
 use Rattle.std.specs.Prelude.{slice_set, ◌==◌, ◌&&◌, nat_lt, cond}
 use Rattle.std.specs.List.{position, position_or_len}
+use Rattle.std.proofs.Math.Seq.{map-set_same}
+use Rattle.std.proofs.lemmas.List.{map-append}
 use Rattle.std.proofs.lemmas.List.Quantifiers.{position-Some}
 use Rattle.std.proofs.lemmas.Bool.{cases_Bool, ltb-false, eq-eqb}
 use Rattle.r6_dev.specs.History.{Telling}
@@ -22,10 +24,10 @@ use Rattle.r6_course.proofs.Handing.{handing_goes_on, letting_goes_on}
 use Rattle.r6_shard.specs.declared.parts.Part.{Part}
 use Rattle.r6_shard.specs.declared.ledger.Asked.{Asked as Accepted}
 use Rattle.r6_shard.specs.declared.ledger.Entry.{Entry}
-use Rattle.r6_shard.specs.Parts.{is_of, part_in, part_of, TakesIn}
+use Rattle.r6_shard.specs.Parts.{is_of, label_of, part_in, part_of, TakesIn}
 use Rattle.r6_shard.specs.Courses.{stand_of, HasCourse}
 use Rattle.r6_shard.proofs.Courses.{put-alike}
-use Rattle.r6_shard.proofs.Places.{first-of, behind, replaced, elsewhere, not-both}
+use Rattle.r6_shard.proofs.Places.{first-of, behind, replaced, elsewhere, not-both, label-is}
 
 pub of-first : {D : Type 0} (part : Part D) (parts : List (Part D)) (slot generation : ℕ) → is_of slot generation part ≡ true
     → part_of (part ∷ parts) slot generation ≡ Some part
@@ -78,6 +80,10 @@ takes-place told parts at earlier part place here =
     let p = position-Some (is_of part.slot part.generation) parts at earlier place in
     let was : is_of part.slot part.generation earlier ≡ true = ap (is_of part.slot part.generation) (sym here) ∙ p.1 in
     record {
+      labels = (
+        label-is earlier part.slot part.generation was,
+        map-set_same label_of parts at part earlier (sym (label-is earlier part.slot part.generation was) ∙ ap label_of (sym here)),
+      );
       back = ap Some (sym here) ∙ sym (part-found parts at earlier part.slot part.generation p.0 p.1 p.2);
       there = part-replaced parts at earlier part part.slot part.generation p.0 (own part) p.2;
       tells = replaced told parts at earlier part part.slot part.generation p.0 (own part) p.2;
@@ -158,6 +164,7 @@ pub takes-behind : {D : Type 0} (told : D → Telling) (parts : List (Part D)) (
     → TakesIn told part None parts (parts ++ part ∷ [])
 takes-behind told parts part none =
     record {
+      labels = map-append label_of parts (part ∷ []);
       back = sym none;
       there = part-added parts part none;
       tells = tells-added told parts part none;

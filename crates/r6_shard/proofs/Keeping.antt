@@ -73,7 +73,7 @@ IsPlain (Take_call call) = ⊥
 IsPlain (Told call answer) = ⊥
 IsPlain event = record {}
 
-plain-submits : (event : Event) → IsPlain event → (op : Op) (id : ℕ) → event ≡ Submit op id → ⊥
+pub plain-submits : (event : Event) → IsPlain event → (op : Op) (id : ℕ) → event ≡ Submit op id → ⊥
 plain-submits event k op id e = subst IsPlain e k
 
 plain-takes : (event : Event) → IsPlain event → (call : Call) → event ≡ Take_call call → ⊥

@@ -17,7 +17,8 @@ use Rattle.r6_core.specs.declared.turn.Turn.{Turn}
 use Rattle.r6_core.specs.Refusals.{HasSubmitFault, submit_faults, most_unanswered, IsFirstFault, HasNone}
 use Rattle.r6_core.specs.Shards.{CoreView, SameShard, Step, core_layout, world_shard}
 use Rattle.r6_core.specs.Effects.{TakesTurn}
-use Rattle.r6_shard.specs.Refusing.{Lasts, own_faults, ending_faults, IsEnding, IsRefusedFor}
+use Rattle.r6_shard.proofs.Rising.{rise-none, rise-on, still-risen}
+use Rattle.r6_shard.specs.Refusing.{CountsRise, Lasts, own_faults, ending_faults, IsEnding, IsRefusedFor}
 use Rattle.r6_shard.proofs.Keeping.{turned}
 
 -- ---- each step
@@ -34,39 +35,64 @@ still-past l n first event s (Read_direct buffer id block g) within a x = (x.0, 
 still-past l n first event s See_failed within a x = (λ saw. refl, x.1, x.2)
 still-past l n first event s change within a x = x
 
-pub lasts_by : (old : CoreView) (event : Event) (new : CoreView) → Step old event new → Lasts old new
-lasts_by old event new step =
+pub lasts_by : (old : CoreView) (event : Event) (new : CoreView) → new.window ≡ old.window → Step old event new → Lasts old new
+lasts_by old event new window step =
     let now = world_shard old in
     let p = step-kept (core_layout old) old.shard (IsPast now) event (still-past (core_layout old) old.shard now event) now (world_shard new) step.1
     (λ saw. saw, omega arith, omega arith) in
-    record { same = step.0; failure = p.0; tokens = p.1; accepted = p.2 }
+    record {
+      same = step.0;
+      window = window;
+      failure = p.0;
+      tokens = p.1;
+      accepted = p.2;
+      counts = step-kept (core_layout old) old.shard (λ s. CountsRise now.counts s.counts) event (still-risen (core_layout old) old.shard now.counts event)
+          now (world_shard new) step.1 (rise-none now.counts);
+    }
 
 pub lasts_same : (old new : CoreView) → new ≡ old → Lasts old new
 lasts_same old new same =
     subst (Lasts old) (sym same)
-    (record { same = (refl, refl); failure = λ saw. saw; tokens = omega arith; accepted = omega arith })
+    (record {
+      same = (refl, refl);
+      window = refl;
+      failure = λ saw. saw;
+      tokens = omega arith;
+      accepted = omega arith;
+      counts = rise-none (world_shard old).counts;
+    })
 
 pub lasts_still : (core : CoreView) → Lasts core core
 lasts_still core = lasts_same core core refl
 
 pub lasts_none : (core : CoreView) → Lasts core core
-lasts_none core = record { same = (refl, refl); failure = λ saw. saw; tokens = omega arith; accepted = omega arith }
+lasts_none core = record {
+  same = (refl, refl);
+  window = refl;
+  failure = λ saw. saw;
+  tokens = omega arith;
+  accepted = omega arith;
+  counts = rise-none (world_shard core).counts;
+}
 
 pub lasts_on : (old mid new : CoreView) → Lasts old mid → Lasts mid new → Lasts old new
 lasts_on old mid new x y =
     record {
       same = (y.same.0 ∙ x.same.0, y.same.1 ∙ x.same.1);
+      window = y.window ∙ x.window;
       failure = λ saw. y.failure (x.failure saw);
       tokens = omega (arith, x.tokens, y.tokens);
       accepted = omega (arith, x.accepted, y.accepted);
+      counts = rise-on (world_shard old).counts (world_shard mid).counts (world_shard new).counts x.counts y.counts;
     }
 
-pub lasts_twice : (old : CoreView) (first : Event) (mid : CoreView) (second : Event) (new : CoreView) → Step old first mid
-    → Step mid second new → Lasts old new
-lasts_twice old first mid second new x y = lasts_on old mid new (lasts_by old first mid x) (lasts_by mid second new y)
+pub lasts_twice : (old : CoreView) (first : Event) (mid : CoreView) (second : Event) (new : CoreView) → mid.window ≡ old.window
+    → new.window ≡ mid.window → Step old first mid → Step mid second new → Lasts old new
+lasts_twice old first mid second new window window' x y = lasts_on old mid new (lasts_by old first mid window x) (lasts_by mid second new window' y)
 
-pub lasts_turned : (old : CoreView) (task : Task) (turn : Turn) (new : CoreView) → TakesTurn old task turn new → Lasts old new
-lasts_turned old task turn new x = let p = turned old task turn new x in lasts_by old p.0 new p.5
+pub lasts_turned : (old : CoreView) (task : Task) (turn : Turn) (new : CoreView) → new.window ≡ old.window → TakesTurn old task turn new
+    → Lasts old new
+lasts_turned old task turn new window x = let p = turned old task turn new x in lasts_by old p.0 new window p.5
 
 -- ---- what a request has wrong in itself
 

@@ -4,6 +4,9 @@ pub mod Courses
 pub mod Places
 pub mod Handed
 pub mod Keeping
+pub mod Answering
+pub mod Here
+pub mod Looked
 pub mod Own
 pub mod Sound
 pub mod Whole
@@ -13,7 +16,9 @@ pub mod Counting
 pub mod Lasting
 pub mod Going
 pub mod Advances
+pub mod Seeing
 pub mod Beginnings
 pub mod Ledgers
 pub mod FromStarts
 pub mod Behind
+pub mod Rising

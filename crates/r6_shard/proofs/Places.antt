@@ -2,6 +2,7 @@
 use Rattle.std.proofs.Common.{◌≡◌, ℕ, ◌<◌, zero, suc, List, [], ◌∷◌, length, get_or, true, false, inl, inr, sym, ap, ◌∙◌, arith, Some, Result, Ok, Err}
 use Rattle.std.specs.Prelude.{slice_set, MatchResult, ◌==◌, ◌&&◌}
 use Rattle.std.specs.List.{position}
+use Rattle.std.proofs.Math.Seq.{map-set_same}
 use Rattle.std.proofs.lemmas.List.Quantifiers.{position-Some}
 use Rattle.std.proofs.lemmas.Bool.{cases_Bool, and_parts, eqb-true}
 use Rattle.r6_dev.specs.History.{Telling}
@@ -10,7 +11,7 @@ use Rattle.r6_core.specs.declared.Command.{Command}
 use Rattle.r6_world.specs.declared.values.DeviceFault.{DeviceFault}
 use Rattle.r6_course.specs.Steps.{Does}
 use Rattle.r6_shard.specs.declared.parts.Part.{Part}
-use Rattle.r6_shard.specs.Parts.{is_of, part_in}
+use Rattle.r6_shard.specs.Parts.{is_of, label_of, labels_of, part_in}
 use Rattle.r6_shard.specs.Performing.{Performed, Failed}
 
 pub first-of : {D : Type 0} (told : D → Telling) (part : Part D) (parts : List (Part D)) (slot generation : ℕ) → is_of slot generation part ≡ true
@@ -63,6 +64,18 @@ not-both part slot generation other g is ne = elim (cases_Bool (is_of other g pa
       absurd (ne (sym (eqb-true part.slot other q.0) ∙ eqb-true part.slot slot p.0, sym (eqb-true part.generation g q.1) ∙ eqb-true part.generation generation p.1))
   | inr no' ↦ no'
 ]
+
+pub label-is : {D : Type 0} (part : Part D) (slot generation : ℕ) → is_of slot generation part ≡ true → label_of part ≡ (slot, generation)
+label-is part slot generation is =
+    let p = and_parts (part.slot == slot) (part.generation == generation) is in
+    ap (λ y. (y, part.generation)) (eqb-true part.slot slot p.0) ∙ ap (λ y. (slot, y)) (eqb-true part.generation generation p.1)
+
+-- a part goes on where it stands
+pub labels-kept : {D : Type 0} (parts : List (Part D)) (at : ℕ) (before behind' : Part D) → get_or parts at before ≡ before
+    → behind'.slot ≡ before.slot → behind'.generation ≡ before.generation → labels_of (slice_set parts at behind') ≡ labels_of parts
+labels-kept parts at before behind' here slot generation =
+    map-set_same label_of parts at behind' before
+    (ap (λ y. (y, behind'.generation)) slot ∙ ap (λ y. (before.slot, y)) generation ∙ ap label_of (sym here))
 
 pub performed-there : {D : Type 0} (told : D → Telling) (parts : List (Part D)) (at : ℕ) (before behind' : Part D) (c : Command)
     (completion : Result (List ℕ) DeviceFault) → position (is_of c.slot c.generation) parts ≡ Some at → get_or parts at before ≡ before

@@ -1,9 +1,9 @@
 -- What parts in a list promise.
 use Rattle.std.proofs.Common.{◌≡◌, ◌<◌, ◌≤◌, ◌+◌, ℕ, suc, List, [], ◌∷◌, get_or, All, true, inl, inr, refl, sym, ap, subst, ◌∙◌, arith, Option, Some, None}
-use Rattle.std.specs.Prelude.{slice_set, ◌==◌, ◌&&◌, Bool, option_map, unwrap_or, is_some}
+use Rattle.std.specs.Prelude.{slice_set, ◌==◌, ◌&&◌, Bool, option_map, unwrap_or}
 use Rattle.std.specs.List.{position}
 use Rattle.std.proofs.lemmas.List.Quantifiers.{position-Some}
-use Rattle.std.proofs.lemmas.Bool.{cases_Bool, cases_eq, and_parts, eqb-true, false≢true}
+use Rattle.std.proofs.lemmas.Bool.{cases_Bool, cases_eq, and_parts, eqb-true}
 use Rattle.r6_dev.specs.History.{Telling}
 use Rattle.r6_dev.specs.Promises.{Promise, FailsNone, no_promise}
 use Rattle.r6_layout.specs.Shape.{Shape}
@@ -18,7 +18,7 @@ use Rattle.r6_shard.specs.declared.parts.Part.{Part}
 use Rattle.r6_shard.specs.Parts.{is_of, part_in, part_of, promise_in, TakesIn}
 use Rattle.r6_shard.specs.Performing.{ArePromised}
 use Rattle.r6_shard.specs.Sound.{HasPart, DeviceFailsNone, IsSound, BeginsSound, StartsSound, MemoryLaw}
-use Rattle.r6_shard.proofs.Places.{first-of, behind, found, not-both}
+use Rattle.r6_shard.proofs.Places.{first-of, behind, not-both}
 use Rattle.r6_shard.proofs.Handed.{of-first, of-behind, part-found, part-replaced, part-elsewhere}
 
 -- this slot and generation, or another
@@ -38,15 +38,6 @@ pub part-at : {D : Type 0} (parts : List (Part D)) (at : ℕ) (here : Part D) (s
 part-at parts at here slot generation place is =
     let p = position-Some (is_of slot generation) parts at here place in
     part-found parts at here slot generation p.0 p.1 p.2 ∙ ap Some is
-
--- a part that is found is there
-pub here-part : {D : Type 0} (told : D → Telling) (parts : List (Part D)) (slot generation : ℕ) (o : Option ℕ)
-    → o ≡ position (is_of slot generation) parts → is_some o ≡ true → HasPart (part_in told parts) slot generation
-here-part told parts slot generation None e some = absurd (false≢true some)
-here-part told [] slot generation (Some at) e some = absurd (None-not_Some at (sym e))
-here-part told (part ∷ parts) slot generation (Some at) e some = λ none.
-    let p = position-Some (is_of slot generation) (part ∷ parts) at part (sym e) in
-    None-not_Some _ (sym none ∙ found told (part ∷ parts) at part slot generation p.0 p.1 p.2)
 
 pub same-new : (g g' : ℕ) (reported reported' : ShardSet) → Rebuilding g reported ≡ Rebuilding g' reported' → g ≡ g'
 same-new g g' reported reported' e = cc

@@ -31,7 +31,8 @@ use Rattle.r6_core.specs.Effects.{IsMade, IsCommandOf}
 use Rattle.r6_core.specs.Shards.{CoreView, Step, world_shard}
 use Rattle.r6_shard.specs.Kept.{named_by}
 use Rattle.r6_shard.specs.Performing.{Performed, Failed, ArePromised}
-use Rattle.r6_shard.specs.Sound.{UsesOnly, HasPart, IsSound, BeginsSound, HasNew}
+use Rattle.r6_shard.specs.Here.{UsesOnly}
+use Rattle.r6_shard.specs.Sound.{HasPart, IsSound, BeginsSound, HasNew}
 
 -- ---- each small change
 
@@ -72,14 +73,14 @@ with-row-used Missing row generation u = u
 with-row-used (Building current built) row generation u = u
 
 -- one slot's state is put
-put-used : (states : ℕ → SlotState) (d : ℕ) (state : SlotState) (slot generation : ℕ) {A : Type 0}
+pub put-used : (states : ℕ → SlotState) (d : ℕ) (state : SlotState) (slot generation : ℕ) {A : Type 0}
     → (slot ≡ d → IsInUse state generation → A) → (IsInUse (states slot) generation → A) → IsInUse (put states d state slot) generation → A
 put-used states d state slot generation here there u = elim (put-cases states d state slot (put states d state slot) refl) [
   | inl p ↦ here p.0 (subst (λ y. IsInUse y generation) (sym p.1) u)
   | inr p ↦ there (subst (λ y. IsInUse y generation) (sym p.1) u)
 ]
 
-finished-used : (s : world.Shard) (h : Hold) (task : Task) (outcome : Outcome) (slot generation : ℕ)
+pub finished-used : (s : world.Shard) (h : Hold) (task : Task) (outcome : Outcome) (slot generation : ℕ)
     → IsInUse (slots_after s h task outcome slot) generation → IsInUse (s.slot slot) generation
 finished-used s h (Rebuild target g) Rebuilt slot generation u =
     put-used s.slot target (with_row (s.slot target) h.row) slot generation
@@ -202,7 +203,7 @@ module _ (l : Layout) (n : ℕ) (Has : ℕ → Type 0) (slot : ℕ) where
 
 -- ---- each call of the core
 
-finds-none : (l : Layout) (n : ℕ) (Has : ℕ → Type 0) (slot : ℕ) (event : Event) → IsNoLook event → Finds l n Has slot event
+pub finds-none : (l : Layout) (n : ℕ) (Has : ℕ → Type 0) (slot : ℕ) (event : Event) → IsNoLook event → Finds l n Has slot event
 finds-none l n Has slot (Look seen) k = absurd k
 finds-none l n Has slot event k = record {}
 

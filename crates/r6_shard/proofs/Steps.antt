@@ -1,5 +1,5 @@
 -- What steps of a shard keep, of what its thread relies on.
-use Rattle.std.proofs.Common.{◌≡◌, ◌≢◌, ℕ, ◌+◌, List, [], ◌∷◌, Bool, true, false, inl, inr, refl, sym, ap, subst, ◌∙◌, arith, Option, Some, None}
+use Rattle.std.proofs.Common.{◌≡◌, ◌≢◌, ℕ, ◌+◌, ◌<◌, List, [], ◌∷◌, Bool, true, false, inl, inr, refl, sym, ap, subst, ◌∙◌, arith, Option, Some, None}
 use Rattle.std.specs.Prelude.{◌==◌, ◌||◌}
 use Rattle.std.proofs.lemmas.Bool.{cases_Bool, true≢false}
 use Rattle.r6_world.specs.Tables.{put}
@@ -14,6 +14,7 @@ use Rattle.r6_world.proofs.Tables.{put-other, put-cases, not_both, Some-inj}
 use Rattle.r6_world.proofs.Acts.Requests.{held_now-served, held_now-other}
 use Rattle.r6_world.proofs.Changes.{Keeps, step-kept, through-scans}
 use Rattle.r6_shard.specs.Kept.{AreNumbered, NoneIsTaken, NoneIsOut}
+use Rattle.r6_shard.specs.Answering.{IsGone}
 
 -- ---- numbers of requests
 
@@ -50,37 +51,39 @@ IsBeside (Deliver token completion receipt) = ⊥
 IsBeside event = record {}
 
 module _ (l : Layout) (n : ℕ) where
+  -- each request that is there has such a number
+  abbrev Only : (ℕ → Type 0) → Shard → Type 0
+  Only Q s = (id : ℕ) (request : Request) → s.request id ≡ Some request → Q id
+
+  only-kept : (Q : ℕ → Type 0) (event : Event) → ((op : Op) (id : ℕ) → event ≡ Submit op id → ⊥) → Keeps l n (Only Q) event
+  only-kept Q event none s (Accept op) within a x = absurd (none op within.0 within.1)
+  only-kept Q event none s (Start f row task) within a x = λ id request e. elim (cases_Bool (serves task id)) [
+    | inl yes' ↦ staged-was (s.request id) (Held f) request (sym (held_now-served s.request task f id yes') ∙ e) (x id)
+    | inr no' ↦ x id request (sym (held_now-other s.request task f id no') ∙ e)
+  ]
+  only-kept Q event none s (Read_direct buffer i block g) within a x = λ id request e.
+      elim (put-cases s.request i _ id (Some request) e) [ inl p ↦ x id _ (ap s.request p.0 ∙ a.1) | inr p ↦ x id request p.1 ]
+  only-kept Q event none s (Give_direct t c i block b) within a x = λ id request e.
+      elim (put-cases s.request i _ id (Some request) e) [ inl p ↦ x id _ (ap s.request p.0 ∙ a.2) | inr p ↦ x id request p.1 ]
+  only-kept Q event none s (Lose t c) within a x = λ id request e. read-was _ (s.request id) request e (x id)
+  only-kept Q event none s (Adopt slot status) within a x = λ id request e. read-was _ (s.request id) request e (x id)
+  only-kept Q event none s See_failed within a x = λ id request e. failed-was (s.request id) request e (x id)
+  only-kept Q event none s (Finish f h outcome) within a x = λ id request e. finished-was f outcome (s.request id) request e (x id)
+  only-kept Q event none s Release within a x = λ id request e. released-was (s.request id) request e (x id)
+  only-kept Q event none s (Hand_reply i op reply) within a x = λ id request e.
+      elim (put-cases s.request i None id (Some request) e) [ inl p ↦ absurd (not_both None request refl p.1) | inr p ↦ x id request p.1 ]
+  only-kept Q event none s change within a x = x
+
+  accepted-kept : (count : ℕ) (event : Event) → ((op : Op) (id : ℕ) → event ≡ Submit op id → ⊥) → Keeps l n (λ s. s.accepted ≡ count) event
+  accepted-kept count event none s (Accept op) within a x = absurd (none op within.0 within.1)
+  accepted-kept count event none s change within a x = x
+
   numbered-kept : (count : ℕ) (event : Event) → ((op : Op) (id : ℕ) → event ≡ Submit op id → ⊥)
       → Keeps l n (λ s. AreNumbered s count) event
-  numbered-kept count event none s (Accept op) within a x = absurd (none op within.0 within.1)
-  numbered-kept count event none s (Start f row task) within a x = (
-    x.0,
-    λ id request e. elim (cases_Bool (serves task id)) [
-      | inl yes' ↦ staged-was (s.request id) (Held f) request (sym (held_now-served s.request task f id yes') ∙ e) (x.1 id)
-      | inr no' ↦ x.1 id request (sym (held_now-other s.request task f id no') ∙ e)
-    ],
+  numbered-kept count event none s change within a x = (
+    accepted-kept count event none s change within a x.0,
+    only-kept (λ id. id < count) event none s change within a x.1,
   )
-  numbered-kept count event none s (Read_direct buffer i block g) within a x = (
-    x.0,
-    λ id request e.
-        elim (put-cases s.request i _ id (Some request) e) [ inl p ↦ x.1 id _ (ap s.request p.0 ∙ a.1) | inr p ↦ x.1 id request p.1 ],
-  )
-  numbered-kept count event none s (Give_direct t c i block b) within a x = (
-    x.0,
-    λ id request e.
-        elim (put-cases s.request i _ id (Some request) e) [ inl p ↦ x.1 id _ (ap s.request p.0 ∙ a.2) | inr p ↦ x.1 id request p.1 ],
-  )
-  numbered-kept count event none s (Lose t c) within a x = (x.0, λ id request e. read-was _ (s.request id) request e (x.1 id))
-  numbered-kept count event none s (Adopt slot status) within a x = (x.0, λ id request e. read-was _ (s.request id) request e (x.1 id))
-  numbered-kept count event none s See_failed within a x = (x.0, λ id request e. failed-was (s.request id) request e (x.1 id))
-  numbered-kept count event none s (Finish f h outcome) within a x = (x.0, λ id request e. finished-was f outcome (s.request id) request e (x.1 id))
-  numbered-kept count event none s Release within a x = (x.0, λ id request e. released-was (s.request id) request e (x.1 id))
-  numbered-kept count event none s (Hand_reply i op reply) within a x = (
-    x.0,
-    λ id request e.
-        elim (put-cases s.request i None id (Some request) e) [ inl p ↦ absurd (not_both None request refl p.1) | inr p ↦ x.1 id request p.1 ],
-  )
-  numbered-kept count event none s change within a x = x
 
   pub still-numbered : (event : Event) → ((op : Op) (id : ℕ) → event ≡ Submit op id → ⊥) → (old new : Shard) (count : ℕ)
       → Step l n old event new → AreNumbered old count → AreNumbered new count
@@ -102,6 +105,23 @@ module _ (l : Layout) (n : ℕ) where
       ],
     ),
   )
+
+  -- a request whose reply was taken is there no more
+  pub still-gone : (event : Event) → ((op : Op) (id : ℕ) → event ≡ Submit op id → ⊥) → (old new : Shard) → Step l n old event new
+      → (number : ℕ) → IsGone old number → IsGone new number
+  still-gone event none old new step number x request e =
+      step-kept l n (Only (λ id. id ≢ number)) event (only-kept (λ id. id ≢ number) event none) old new step
+      (λ id r there same. x r (ap old.request (sym same) ∙ there)) number request e refl
+
+  pub still-gone-submitting : (old new : Shard) (op : Op) (id number : ℕ) → number < old.accepted → Step l n old (Submit op id) new
+      → IsGone old number → IsGone new number
+  still-gone-submitting old new op id number below step x request e =
+      let Q = (λ (k : ℕ). k ≢ number) in
+      through-scans l n (Only Q) No_command (only-kept Q No_command not-submitted) (after l old (Accept op)) new step.2
+      (λ k r there same. elim (put-cases old.request old.accepted _ k (Some r) there) [
+        | inl p ↦ let at = p.0 in omega (arith, at, same, below)
+        | inr p ↦ x r (ap old.request (sym same) ∙ p.1)
+      ]) number request e refl
 
   -- ---- commands that were taken
 

@@ -14,9 +14,11 @@ IsInService core = IsLive (core_layout core) (world_shard core)
 abbrev pub counted_in : CoreView → ℕ
 counted_in core = all_counted (world_shard core)
 
--- the core's shard has passed so many rows, and in service it has counted so many of them, or more; or it has stopped
+-- the core's shard has passed so many rows, and has counted no more; and in service it has counted so many of them, or
+-- more; or it has stopped
 pub record HasPassedRows (stopped : Bool) (counted rows : ℕ) (core : CoreView) : Type 0 where
   pub shard : HasPassed (core_layout core) core.shard rows (world_shard core)
+  pub most : counted_in core ≤ rows
   pub least : IsInService core → counted ≤ counted_in core
   pub out : stopped ≡ true → IsInService core → ⊥
 

@@ -1,5 +1,5 @@
 -- That all that a shard's thread did is a course of its shard.
-use Rattle.std.specs.Prelude.{◌≡◌, ℕ, ◌<◌, Bool, List, [], ◌∷◌, length, map, slice_index_or, Option}
+use Rattle.std.specs.Prelude.{◌≡◌, ℕ, ◌<◌, Bool, List, length, map, All, slice_index_or, Option}
 use Rattle.r6_dev.specs.History.{Telling}
 use Rattle.r6_health.specs.declared.history.View.{View}
 use Rattle.r6_health.specs.Histories.{held}
@@ -40,14 +40,15 @@ pub record Course (s : Start) (core : CoreView) (v : View) (looked : ℕ) (named
 abbrev pub replied_of : Entry → ℕ × Reply
 replied_of e = (e.id.0, reply_of e.reply)
 
--- each entry is of one of the requests, by its number
-abbrev pub AreOf : List Accepted → List Entry → Type 0
-AreOf accepted [] = record {}
-AreOf accepted (e ∷ entries) =
+-- an entry has the number, the event and the block of one of the requests
+abbrev pub IsOf : List Accepted → Entry → Type 0
+IsOf accepted e =
     (e.id.0 < length accepted)
     × (slice_index_or (map (λ a. a.event) accepted) e.id.0 0 ≡ e.event)
     × (slice_index_or (map (λ a. a.block) accepted) e.id.0 0 ≡ e.block)
-    × AreOf accepted entries
+
+abbrev pub AreOf : List Accepted → List Entry → Type 0
+AreOf accepted entries = All (IsOf accepted) entries
 
 -- the thread's lists tell a history in which these ops were handed in, in this order
 pub record Tells (accepted : List Accepted) (entries : List Entry) (ops : List Op) (history : List Mark) : Type 0 where

@@ -1,9 +1,13 @@
 pub mod Parts
 pub mod Performing
 pub mod Kept
+pub mod Here
+pub mod Looked
+pub mod Looking
 pub mod Own
 pub mod Histories
 pub mod Courses
+pub mod Answering
 pub mod Beginnings
 pub mod Shards
 pub mod Naming

@@ -1,5 +1,5 @@
 -- The parts that a shard has.
-use Rattle.std.specs.Prelude.{◌≡◌, ℕ, ◌≤◌, ◌==◌, ◌&&◌, Bool, List, [], ◌∷◌, length, if◌then◌else◌, Option, Some, None, option_map, unwrap_or}
+use Rattle.std.specs.Prelude.{◌≡◌, ℕ, ◌≤◌, ◌==◌, ◌&&◌, Bool, List, [], ◌∷◌, ◌++◌, length, map, if◌then◌else◌, Option, Some, None, option_map, unwrap_or}
 use Rattle.r6_dev.specs.History.{Telling}
 use Rattle.r6_dev.specs.Promises.{Promise, no_promise}
 use Rattle.r6_course.specs.Steps.{OthersAreKept}
@@ -20,16 +20,29 @@ part_of [] slot generation = None
 part_of (part ∷ parts) slot generation =
     if is_of slot generation part then Some part else part_of parts slot generation
 
+-- of which slot and generation each is
+abbrev pub label_of : {D : Type 0} → Part D → ℕ × ℕ
+label_of part = (part.slot, part.generation)
+
+abbrev pub labels_of : {D : Type 0} → List (Part D) → List (ℕ × ℕ)
+labels_of parts = map label_of parts
+
 -- what it promises
 abbrev pub promise_in : {D : Type 0} → (D → Promise) → List (Part D) → (slot generation : ℕ) → Promise
 promise_in promised parts slot generation =
     unwrap_or (option_map (λ part. promised part.device) (part_of parts slot generation)) no_promise
+
+-- one part more stands behind the others, or that which came back stood where the new one stands
+abbrev pub StandsIn : {D : Type 0} → Part D → (earlier : Option (Part D)) → (old new : List (ℕ × ℕ)) → Type 0
+StandsIn part None old new = new ≡ old ++ label_of part ∷ []
+StandsIn part (Some earlier) old new = (label_of earlier ≡ label_of part) × (new ≡ old)
 
 -- a part is taken in: from now on it is the one of its slot and generation, no other changes, and back comes the one
 -- that was there
 pub record TakesIn {D : Type 0} (told : D → Telling) (part : Part D) (earlier : Option (Part D))
     (old new : List (Part D)) : Type 0 where
   pub back : earlier ≡ part_of old part.slot part.generation
+  pub labels : StandsIn part earlier (labels_of old) (labels_of new)
   pub there : part_of new part.slot part.generation ≡ Some part
   pub tells : part_in told new part.slot part.generation ≡ Some (told part.device)
   pub others : OthersAreKept part.slot part.generation (part_in told old) (part_in told new)

@@ -1,9 +1,7 @@
 -- All requests of a shard, from its start to its end.
-use Rattle.std.specs.Prelude.{◌≡◌, ℕ, ◌⊎◌, List, [], ◌∷◌, ◌++◌, true, Option}
+use Rattle.std.specs.Prelude.{◌≡◌, ℕ, ◌⊎◌, List, [], ◌∷◌, true, Option}
 use Rattle.r6_dev.specs.History.{Telling}
 use Rattle.r6_layout.specs.Shape.{Shape}
-use Rattle.r6_health.specs.declared.history.View.{View}
-use Rattle.r6_health.specs.Histories.{held}
 use Rattle.r6_health.specs.Passes.{view_of}
 use Rattle.r6_world.specs.PlainArray as world
 use Rattle.r6_world.specs.PlainArray.{ArrayFailed}
@@ -19,12 +17,13 @@ use Rattle.r6_core.specs.Refusals.{HasSubmitFault, HasNone}
 use Rattle.r6_course.specs.Courses.{Start, Mark, Replied}
 use Rattle.r6_course.specs.Ledgers.{IsIn, HasLedger}
 use Rattle.r6_shard.specs.declared.ledger.Asked.{Asked}
-use Rattle.r6_shard.specs.declared.run.Asking.{Asking}
+use Rattle.r6_shard.specs.declared.ledger.Asking.{Asking}
 use Rattle.r6_shard.specs.declared.shard.Shard.{Shard}
 use Rattle.r6_shard.specs.Beginnings.{Hold, start_of}
 use Rattle.r6_shard.specs.Courses.{stand_of, Tells}
-use Rattle.r6_shard.specs.Shards.{CourseOf, GoesOn, Rests}
-use Rattle.r6_shard.specs.Refusing.{Lasts, own_faults, ending_faults, IsEnding, IsRefusedFor}
+use Rattle.r6_shard.specs.Looked.{seen_by}
+use Rattle.r6_shard.specs.Shards.{Rests}
+use Rattle.r6_shard.specs.Refusing.{own_faults, IsEnding, IsRefusedFor}
 
 -- each request was accepted, in their order, with its event and what it asks, and had nothing wrong in itself; or its
 -- event stands among the refused, in their order too, with the reason; and once the service had ended none was
@@ -40,30 +39,6 @@ AreServed core (asking ∷ askings) asked ops refused =
     × IsRefusedFor core asking.op refusal × (IsEnding refusal → asked ≡ [])
     × AreServed core askings asked ops others)
 
--- a request is accepted behind the others, while the shard goes on
-pub record HandsOver {P : Type 0} (tells : P → ℕ → ℕ → Option Telling) (asking : Asking) (old new : Shard P)
-    : Type 0 where
-  pub lasts : Lasts old.core new.core
-  pub right : HasNone (HasSubmitFault old.core asking.op) own_faults
-  pub serving : HasNone (HasSubmitFault old.core asking.op) ending_faults
-  pub course : (s : Start) (ops : List world.Op) → CourseOf tells s ops old
-      → CourseOf tells s (ops ++ op_of asking.op ∷ []) new
-  pub accepted : Asked
-  pub event : accepted.event ≡ asking.event
-  pub asked : new.asked.items ≡ old.asked.items ++ accepted ∷ []
-
--- it is refused, while the shard goes on
-pub record Refuses {P : Type 0} (tells : P → ℕ → ℕ → Option Telling) (asking : Asking) (old : Shard P)
-    (refusal : Refusal) (new : Shard P) : Type 0 where
-  pub lasts : Lasts old.core new.core
-  pub reason : IsRefusedFor new.core asking.op refusal
-  pub course : GoesOn tells old new
-  pub asked : new.asked.items ≡ old.asked.items
-
--- the register as a pass saw it last
-abbrev pub seen_by : View → Snapshot
-seen_by v = held v.start v.seen
-
 -- the ledger of a shard in which these ops were handed in, in this order: it is explained by one plain array that the
 -- parts hold; only a shard that saw the failure answers so, and it sees so only where its pass did; and with nothing
 -- left to do all rows of a live one are idle
@@ -72,7 +47,7 @@ pub record IsLedger {P : Type 0} (tells : P → ℕ → ℕ → Option Telling) 
   pub history : List Mark
   pub told : Tells shard.asked.items shard.entries.items ops history
   pub explained : HasLedger s
-      (stand_of shard.core (view_of shard.pass) shard.looked shard.named (tells shard.parts) history)
+      (stand_of shard.core (view_of shard.pass) shard.last.attaches shard.named (tells shard.parts) history)
   pub failure : (id : ℕ) → IsIn (Replied id ArrayFailed) history → (world_shard shard.core).saw_failed ≡ true
   pub seen : (world_shard shard.core).saw_failed ≡ true → (seen_by (view_of shard.pass)).failed ≡ true
   pub idle : Rests shard → IsLive s.layout (world_shard shard.core) → (row : ℕ) → IsIdle (world_shard shard.core) row
@@ -84,14 +59,3 @@ HasLedgerFrom tells geometry number snapshot before ops shard =
     (device : Devices) (array : world.Array) → IsLawfulStart (layout_of geometry) snapshot device array
     → Hold (start_of geometry number snapshot device array) before
     → IsLedger tells (start_of geometry number snapshot device array) ops shard
-
--- a shard has served these requests
-pub record Serves {P : Type 0} (tells : P → ℕ → ℕ → Option Telling) (geometry : Shape) (number : ℕ)
-    (snapshot : Snapshot) (before : ℕ → ℕ → Option Telling) (askings : List Asking) (shard : Shard P)
-    (refused : List (ℕ × Refusal)) : Type 0 where
-  pub ops : List world.Op
-  pub shape : shard.core.shape ≡ geometry
-  pub place : shard.core.shard ≡ number
-  pub served : AreServed shard.core askings shard.asked.items ops refused
-  pub rests : Rests shard
-  pub ledger : HasLedgerFrom tells geometry number snapshot before ops shard

@@ -14,18 +14,20 @@ use Rattle.r6_core.specs.Shards.{world_shard}
 use Rattle.r6_core.specs.declared.refusal.Refusal.{Refusal}
 use Rattle.r6_core.specs.declared.turn.Task.TheVariants as task
 use Rattle.r6_core.specs.Refusals.{IsFirstFault, turn_faults}
-use Rattle.r6_core.specs.Effects.{HasTaskFault}
+use Rattle.r6_core.specs.Effects.{HandsReply, HasTaskFault}
+use Rattle.r6_core.specs.Order.{HasNoReply}
 use Rattle.r6_course.specs.Courses.{Start}
 use Rattle.r6_shard.specs.Beginnings.{Hold, start_of}
 use Rattle.r6_shard.specs.declared.shard.Shard.{Shard}
 use Rattle.r6_shard.specs.declared.ledger.Entry.{Entry}
-use Rattle.r6_shard.specs.Courses.{HasCourse}
+use Rattle.r6_shard.specs.Courses.{HasCourse, IsOf}
+use Rattle.r6_shard.specs.Answering.{AnswersEach}
 use Rattle.r6_shard.specs.Kept.{NoneIsOut, NoneIsToTell}
 
 -- the shard has had a course from this start, in which these ops were handed in, in this order
 abbrev pub CourseOf : {P : Type 0} → (P → ℕ → ℕ → Option Telling) → Start → List world.Op → Shard P → Type 0
 CourseOf tells s ops shard =
-    HasCourse s shard.core (view_of shard.pass) shard.looked shard.named (tells shard.parts)
+    HasCourse s shard.core (view_of shard.pass) shard.last.attaches shard.named (tells shard.parts)
     shard.asked.items shard.entries.items ops
 
 -- whatever its course was, it has gone on
@@ -50,11 +52,15 @@ pub record Submits {P : Type 0} (tells : P → ℕ → ℕ → Option Telling) (
   pub entries : new.entries.items ≡ old.entries.items
   pub room : new.room ≡ old.room
   pub pass : new.pass ≡ old.pass
+  pub parts : new.parts ≡ old.parts
+  pub last : new.last ≡ old.last
 
--- a reply was taken, or none was there
+-- the reply to one of the requests was taken, or none was there
 abbrev pub Collects : {P : Type 0} → Bool → Shard P → Shard P → Type 0
-Collects true old new = (entry : Entry) × (new.entries.items ≡ old.entries.items ++ entry ∷ [])
-Collects false old new = new.entries.items ≡ old.entries.items
+Collects true old new =
+    (entry : Entry) × IsOf old.asked.items entry × HandsReply old.core entry.id.0 entry.reply new.core
+    × (new.entries.items ≡ old.entries.items ++ entry ∷ [])
+Collects false old new = (new.entries.items ≡ old.entries.items) × HasNoReply new.core
 
 -- from every lawful start whose devices hold what is told here a course leads to the shard, in which these ops were
 -- handed in
@@ -69,10 +75,11 @@ ComesFrom tells geometry number snapshot taken ops shard =
 abbrev pub Begins : {P : Type 0} → (P → ℕ → ℕ → Option Telling) → Shape → (number : ℕ) → Snapshot → Shard P → Type 0
 Begins tells geometry number snapshot shard = ComesFrom tells geometry number snapshot (tells shard.parts) [] shard
 
--- nothing is left to do: each request is answered, no command is out, no call is to be made, and no row is to be
+-- nothing is left to do: each request is answered, once, no command is out, no call is to be made, and no row is to be
 -- rebuilt
 pub record Rests {P : Type 0} (shard : Shard P) : Type 0 where
   pub answered : length shard.entries.items ≡ length shard.asked.items
+  pub each : AnswersEach shard.asked.items shard.entries.items
   pub none_out : NoneIsOut (world_shard shard.core)
   pub none_to_tell : NoneIsToTell (world_shard shard.core)
   pub refusal : Refusal

@@ -1,6 +1,6 @@
 -- Slots whose devices fail no command: a shard names none of them (md(4): a device is failed where it answers a command
 -- by an error; the promises are this project's own).
-use Rattle.std.specs.Prelude.{◌≡◌, ◌≢◌, ℕ, ◌+◌, ◌<◌, ◌≤◌, Bool, false, List, All, length, Option, Some, None, slice_index_or}
+use Rattle.std.specs.Prelude.{◌≡◌, ◌≢◌, ℕ, ◌+◌, ◌<◌, ◌≤◌, Bool, false, List, All, length, Option, None, slice_index_or}
 use Rattle.r6_dev.specs.History.{Telling}
 use Rattle.r6_dev.specs.Promises.{Promise, FailsNone}
 use Rattle.r6_dev.specs.Memory.{Memory, promised_by}
@@ -9,21 +9,13 @@ use Rattle.r6_layout.specs.Layout.{first_row}
 use Rattle.r6_world.specs.Geometries.{layout_of}
 use Rattle.r6_world.specs.Layouts.{IsRowOf}
 use Rattle.r6_world.specs.Registers.{Snapshot, ShardSet, InSync, Rebuilding, status_of}
-use Rattle.r6_world.specs.ShardStates as world
-use Rattle.r6_world.specs.ShardStates.{Command}
-use Rattle.r6_course.specs.Ends.{IsInUse}
 use Rattle.r6_core.specs.Shards.{CoreView, world_shard}
 use Rattle.r6_shard.specs.declared.parts.Part.{Part}
 use Rattle.r6_shard.specs.declared.parts.Parts.{Parts}
 use Rattle.r6_shard.specs.declared.shard.Shard.{Shard}
 use Rattle.r6_shard.specs.Parts.{part_of, promise_in}
+use Rattle.r6_shard.specs.Here.{UsesOnly}
 use Rattle.r6_shard.specs.Handing.{parts_tell}
-
--- the devices of this slot that a shard uses, and those that it has given commands, are among these
-abbrev pub UsesOnly : (slots : ℕ) → (Has : ℕ → Type 0) → (slot : ℕ) → world.Shard → Type 0
-UsesOnly slots Has slot s =
-    (slot < slots → (generation : ℕ) → IsInUse (s.slot slot) generation → Has generation)
-    × ((token : ℕ) (c : Command) → s.command token ≡ Some c → c.slot ≡ slot → Has c.generation)
 
 -- a part is there
 abbrev pub HasPart : (ℕ → ℕ → Option Telling) → (slot generation : ℕ) → Type 0

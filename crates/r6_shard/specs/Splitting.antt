@@ -12,5 +12,5 @@ pub record KeepsAll {P : Type 0} (old new : Shard P) : Type 0 where
   pub entries : new.entries.items ≡ old.entries.items
   pub room : new.room ≡ old.room
   pub named : new.named ≡ old.named
-  pub looked : new.looked ≡ old.looked
+  pub last : new.last ≡ old.last
   pub saw_out : new.saw_out ≡ old.saw_out

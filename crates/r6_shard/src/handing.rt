@@ -47,6 +47,7 @@ impl<D: BlockDevice + Drop> Parts<D> {
     fn take_in(&mut self, part: Part<D>) -> Result<Option<Part<D>>, Part<D>>
         ensures taken { IfOk result (λ earlier.
             TakesIn D.told part earlier self.old.parts.items self.new.parts.items) }
+        ensures room { vec_capacity self.new.parts ≡ vec_capacity self.old.parts }
         ensures full { IfErr result (λ back.
             (back ≡ part) × (self.new ≡ self.old)
             × HasNoRoom part self.old.parts.items (vec_capacity self.old.parts)) }
@@ -62,6 +63,7 @@ impl<D: BlockDevice + Drop> Parts<D> {
         requires { part_of self.old.parts.items part.slot part.generation ≡ None }
         ensures taken { IfOk result (λ earlier.
             TakesIn D.told part earlier self.old.parts.items self.new.parts.items) }
+        ensures room { vec_capacity self.new.parts ≡ vec_capacity self.old.parts }
         ensures full { IfErr result (λ back.
             (back ≡ part) × (self.new ≡ self.old)
             × HasNoRoom part self.old.parts.items (vec_capacity self.old.parts)) }
@@ -90,7 +92,7 @@ impl<D: BlockDevice + Drop> Shard<Parts<D>> {
         ensures sound { IfOk result (λ _. TakesSound D.told D.promised part self.old self.new) }
         ensures refused { IfErr result (λ r. RefusesPart part self.old r self.new) }
     {
-        if part.generation <= self.looked {
+        if part.generation <= self.last.attaches() {
             return Err(RefusedPart {
                 refusal: PartRefusal::Looked,
                 part,

@@ -1,6 +1,13 @@
 //! What a shard keeps of its requests.
 
-use r6_core::{OpId, Reply};
+use r6_core::{Op, OpId, Reply};
+
+/// A request, and the number of its event.
+#[derive(Drop)]
+pub struct Asking {
+    pub event: u64,
+    pub op: Op,
+}
 
 /// A request that the shard accepted. The first has the number 0, the next 1.
 #[derive(Clone, Copy, PartialEq, Eq, Debug)]

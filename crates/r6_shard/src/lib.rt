@@ -9,14 +9,12 @@ mod parts;
 mod performs;
 mod readiness;
 mod rounds;
-mod run;
 mod shard;
 mod splitting;
 
 pub use handing::{PartRefusal, RefusedPart};
 pub use laws::{behind_law, handed_law, ledger_law, memory_law};
-pub use ledger::{Asked, Entry};
+pub use ledger::{Asked, Asking, Entry};
 pub use parts::{Part, Parts};
 pub use performs::Performs;
-pub use run::{Asking, Job, Served, serve};
 pub use shard::{Place, Shard};

@@ -5,6 +5,7 @@ ghost use Rattle.std.specs.List.{position};
 ghost use Rattle.r6_world.specs.Values.{given_transfer};
 ghost use Rattle.r6_dev.specs.Promises.{Covers};
 ghost use Rattle.r6_course.specs.Steps.{Does};
+ghost use Rattle.r6_shard.specs.Performing.{kind_of};
 
 use crate::performs::Performs;
 use r6_core::{Command, CommandKind, DeviceFault, FaultKind};
@@ -36,7 +37,9 @@ pub struct Parts<D> {
     pub parts: Vec<Part<D>>,
 }
 
-fn kind_of(fault: Fault) -> FaultKind {
+fn kind_of(fault: Fault) -> FaultKind
+    ensures { result ≡ kind_of fault }
+{
     match fault {
         Fault::ReadFault => FaultKind::ReadFault,
         Fault::WriteFault => FaultKind::WriteFault,
@@ -87,12 +90,17 @@ impl<D: BlockDevice + Drop> Parts<D> {
 }
 
 impl<D: BlockDevice + Drop> Performs for Parts<D> {
-    ghost use Rattle.r6_shard.specs.Parts.{part_in, promise_in};
+    ghost use Rattle.std.specs.Prelude.{vec_capacity};
+    ghost use Rattle.r6_shard.specs.Parts.{labels_of, part_in, promise_in};
     ghost use Rattle.r6_shard.specs.Performing.{Performed, Failed, ArePromised};
 
     ghost tells = { λ parts. part_in D.told parts.parts.items };
 
     ghost promised = { λ parts. promise_in D.promised parts.parts.items };
+
+    ghost labels = { λ parts. labels_of parts.parts.items };
+
+    ghost part_room = { λ parts. vec_capacity parts.parts };
 
     fn perform(&mut self, command: Command) -> Result<Buffer, DeviceFault>
         ensures performed { MatchResult result
@@ -102,6 +110,8 @@ impl<D: BlockDevice + Drop> Performs for Parts<D> {
             (length command.buffer) → IsOk result }
         ensures promised { ArePromised (promise_in D.promised self.old.parts.items)
             (promise_in D.promised self.new.parts.items) }
+        ensures labels { labels_of self.new.parts.items ≡ labels_of self.old.parts.items }
+        ensures part_room { vec_capacity self.new.parts ≡ vec_capacity self.old.parts }
     {
         let Command {
             token: _,

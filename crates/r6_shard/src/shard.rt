@@ -1,14 +1,17 @@
 //! A shard in its thread.
 
+ghost use Rattle.std.proofs.Props.{props};
 ghost use Rattle.std.specs.Prelude.{◌≡◌, ◌+◌, ◌<◌, ◌≤◌, ◌++◌, length, vec_capacity, IfOk, IfErr, false};
 ghost use Rattle.r6_health.specs.Passes.{view_of, IsPassOf};
 ghost use Rattle.r6_health.specs.Histories.{held};
-ghost use Rattle.r6_health.specs.Registers.{attaches_of};
 ghost use Rattle.r6_health.specs.Views.{Answered, made_by};
 ghost use Rattle.r6_world.specs.Worlds.{as_made};
 ghost use Rattle.r6_core.specs.Shards.{world_shard, call_of};
 ghost use Rattle.r6_shard.specs.Kept.{IsKept, named_by};
 ghost use Rattle.r6_shard.specs.Own.{AreOwn, SeesFailure};
+ghost use Rattle.r6_shard.specs.Courses.{AreOf};
+ghost use Rattle.r6_shard.specs.Answering.{AreOnce};
+ghost use Rattle.r6_shard.specs.Looked.{KnowsLast};
 ghost use Rattle.r6_shard.specs.Refusing.{Lasts};
 ghost use Rattle.r6_shard.specs.Whole.{SkipsNone, AreAllInSync, SawWithPass, Remembers};
 
@@ -47,8 +50,8 @@ pub struct Shard<P> {
     pub room: usize,
     /// The slots of which a command that wasn't abandoned failed here.
     pub named: [bool; MOST_SLOTS],
-    /// The attaches that the core saw when it looked last; at first 0.
-    pub looked: u32,
+    /// The register as the core looked at it last; at first as the array began.
+    pub last: Snapshot,
     /// Whether a slot wasn't in sync where the core looked, or at the start.
     pub saw_out: bool,
     pub ghost kept: { IsKept core number named (length asked.items) },
@@ -56,6 +59,9 @@ pub struct Shard<P> {
     pub ghost failure: { SeesFailure core (view_of pass) entries.items },
     pub ghost whole: { SkipsNone core named saw_out },
     pub ghost saw: { SawWithPass saw_out (view_of pass) },
+    pub ghost knows: { KnowsLast core last },
+    pub ghost linked: { AreOf asked.items entries.items },
+    pub ghost once: { AreOnce (world_shard core) entries.items } by { Prim.hlevel props },
     pub ghost counted: { core.unanswered + length entries.items ≡ length asked.items },
     pub ghost within: { length asked.items ≤ room },
     pub ghost asked_room: { room ≤ vec_capacity asked },
@@ -95,17 +101,6 @@ fn name(named: &mut [bool; MOST_SLOTS], slot: usize, failed: bool, receipt: Rece
     }
 }
 
-// The attaches that were looked at last, once a look was accepted or refused.
-fn looked_by(look: Result<(), Refusal>, snapshot: &Snapshot, looked: u32) -> u32
-    ensures accepted { IfOk look (λ _. result ≡ attaches_of snapshot.now) }
-    ensures refused { IfErr look (λ _. result ≡ looked) }
-{
-    match look {
-        Ok(()) => snapshot.attaches(),
-        Err(_) => looked,
-    }
-}
-
 // Whether a slot isn't in sync.
 fn has_out(snapshot: &Snapshot) -> bool
     ensures none { result ≡ false → AreAllInSync snapshot.now }
@@ -140,6 +135,8 @@ impl<P: Performs + Drop> Shard<P> {
     ghost use Rattle.r6_shard.specs.Advances.{Advances};
     ghost use Rattle.r6_shard.specs.Sound.{BeginsSound, HasNew, IsSoundIn, StaysSound};
     ghost use Rattle.r6_shard.specs.Naming.{NamesFailures};
+    ghost use Rattle.r6_shard.specs.Here.{BeginsHere, HasNewHere, HasUsed, StaysHere};
+    ghost use Rattle.r6_shard.specs.Looking.{Sees};
 
     /// A shard of the array as it begins, with room for so many requests.
     ///
@@ -171,6 +168,9 @@ impl<P: Performs + Drop> Shard<P> {
         ensures sound { IfOk result (λ shard. (slot : _)
             → BeginsSound (P.tells parts) (P.promised parts) place.geometry place.number snapshot.now slot
             → IsSoundIn P.tells P.promised place.geometry place.number slot shard) }
+        ensures here { IfOk result (λ shard. (slot : _)
+            → BeginsHere (P.labels parts) place.geometry.slots snapshot.now slot
+            → HasUsed (P.labels parts) slot shard.core) }
 
         // what it was made of
         ensures parts { IfOk result (λ shard. shard.parts ≡ parts) }
@@ -179,6 +179,7 @@ impl<P: Performs + Drop> Shard<P> {
         ensures room { IfOk result (λ shard. shard.room ≡ room) }
         ensures shape { IfOk result (λ shard. shard.core.shape ≡ place.geometry) }
         ensures place { IfOk result (λ shard. shard.core.shard ≡ place.number) }
+        ensures window { IfOk result (λ shard. shard.core.window ≡ place.window) }
     {
         let asked = Vec::with_capacity(alloc, room)?;
         let entries = Vec::with_capacity(alloc, room)?;
@@ -199,16 +200,9 @@ impl<P: Performs + Drop> Shard<P> {
             entries,
             room,
             named: [false; MOST_SLOTS],
-            looked: 0,
+            last: *snapshot,
             saw_out: has_out(snapshot),
         })
-    }
-
-    /// Whether one more request may be accepted.
-    pub fn has_room(&self) -> bool
-        ensures { IsTrue result ↔ (length self.now.asked.items < self.now.room) }
-    {
-        self.asked.len() < self.room
     }
 
     /// Hands a request in, of an event with this number.
@@ -229,6 +223,7 @@ impl<P: Performs + Drop> Shard<P> {
         ensures remembers { Remembers self.old.named self.old.saw_out self.new.named self.new.saw_out }
         ensures named { self.new.named ≡ self.old.named }
         ensures sound { StaysSound P.tells P.promised self.old self.new }
+        ensures here { StaysHere P.labels self.old self.new }
         ensures passed { PassesNone self.old.core self.new.core }
     {
         let block = op.block();
@@ -248,11 +243,12 @@ impl<P: Performs + Drop> Shard<P> {
 
     /// Performs the command that was put out first, in place, and delivers its completion; whether there was one.
     pub fn perform_next(&mut self) -> bool
-        ensures advances { Advances P.tells P.promised self.old self.new }
+        ensures advances { Advances P.tells P.promised P.labels P.part_room self.old self.new }
         ensures named { NamesFailures P.tells self.old self.new }
         ensures passed { PassesNone self.old.core self.new.core }
         ensures ledger { SameLedger self.old self.new }
         ensures pass { self.new.pass ≡ self.old.pass }
+        ensures last { self.new.last ≡ self.old.last }
         ensures none { result ≡ false → NoneIsOut (world_shard self.new.core) }
     {
         let Some(command) = self.core.take_command() else {
@@ -269,20 +265,6 @@ impl<P: Performs + Drop> Shard<P> {
         true
     }
 
-    /// Looks at the register as it is. Once every call was told, the core sees it.
-    pub fn look<R: Wait>(&mut self, rt: &R, register: &Register)
-        requires { IsPassOf register.now self.old.pass }
-        ensures pass { IsPassOf register.now self.new.pass }
-        ensures course { GoesOn P.tells self.old self.new }
-        ensures lasts { Lasts self.old.core self.new.core }
-        ensures named { self.new.named ≡ self.old.named }
-        ensures passed { PassesNone self.old.core self.new.core }
-        ensures ledger { SameLedger self.old self.new }
-    {
-        let snapshot = self.read(rt, register);
-        self.see(&snapshot);
-    }
-
     // What the register holds.
     pub(crate) fn read<R: Wait>(&mut self, rt: &R, register: &Register) -> Snapshot
         requires { IsPassOf register.now self.old.pass }
@@ -297,6 +279,7 @@ impl<P: Performs + Drop> Shard<P> {
         ensures named { self.new.named ≡ self.old.named }
         ensures sound { StaysSound P.tells P.promised self.old self.new }
         ensures parts { self.new.parts ≡ self.old.parts }
+        ensures last { self.new.last ≡ self.old.last }
         ensures ledger { SameLedger self.old self.new }
 
         ensures snapshot { result ≡ held (view_of self.new.pass).start (view_of self.new.pass).seen }
@@ -304,8 +287,8 @@ impl<P: Performs + Drop> Shard<P> {
         register.read(rt, &mut self.pass)
     }
 
-    // The core looks at what the register held when it was read last, once every call was told.
-    pub(crate) fn see(&mut self, snapshot: &Snapshot)
+    // The core looks at what the register held when it was read last, once every call was told; whether it did.
+    pub(crate) fn see(&mut self, snapshot: &Snapshot) -> bool
         requires { snapshot.now ≡ held (view_of self.old.pass).start (view_of self.old.pass).seen }
 
         // its course goes on
@@ -317,14 +300,27 @@ impl<P: Performs + Drop> Shard<P> {
             → (slot < shape.slots → HasNew (P.tells self.old.parts) snapshot.now slot)
             → IsSoundIn P.tells P.promised shape number slot self.old
             → IsSoundIn P.tells P.promised shape number slot self.new }
+        ensures here { (slot : _)
+            → (slot < self.old.core.shape.slots → HasNewHere (P.labels self.old.parts) snapshot.now slot)
+            → HasUsed (P.labels self.old.parts) slot self.old.core
+            → HasUsed (P.labels self.old.parts) slot self.new.core }
 
-        // and no row is passed, and the ledger stays
+        // and no row is passed, and the ledger and the parts stay
         ensures passed { PassesNone self.old.core self.new.core }
         ensures ledger { SameLedger self.old self.new }
+        ensures parts { self.new.parts ≡ self.old.parts }
         ensures pass { self.new.pass ≡ self.old.pass }
+
+        ensures looked { Sees result snapshot.now self.old self.new }
     {
-        self.looked = looked_by(self.core.look(snapshot), snapshot, self.looked);
-        self.saw_out = saw_by(self.saw_out, snapshot);
+        match self.core.look(snapshot) {
+            Ok(()) => {
+                self.last = *snapshot;
+                self.saw_out = saw_by(self.saw_out, snapshot);
+                true
+            }
+            Err(_) => false,
+        }
     }
 
     /// Makes the call at the register that is to be made next, and tells the core the answer; whether there was one. A
@@ -332,12 +328,13 @@ impl<P: Performs + Drop> Shard<P> {
     pub fn tell_next<R: Wait>(&mut self, rt: &R, register: &Register) -> bool
         requires { IsPassOf register.now self.old.pass }
         ensures pass { IsPassOf register.now self.new.pass }
-        ensures advances { Advances P.tells P.promised self.old self.new }
+        ensures advances { Advances P.tells P.promised P.labels P.part_room self.old self.new }
         ensures named { self.new.named ≡ self.old.named }
         ensures passed { PassesNone self.old.core self.new.core }
         ensures ledger { SameLedger self.old self.new }
+        ensures last { self.new.last ≡ self.old.last }
         ensures none { result ≡ false → (world_shard self.new.core ≡ world_shard self.old.core)
-            × NoneIsToTell (world_shard self.new.core) }
+            × (self.new.pass ≡ self.old.pass) × NoneIsToTell (world_shard self.new.core) }
     {
         let Some(call) = self.core.take_call() else {
             return false;
@@ -351,13 +348,14 @@ impl<P: Performs + Drop> Shard<P> {
 
     /// Takes the reply that was released first into the ledger; whether there was one.
     pub fn collect(&mut self) -> bool
-        ensures advances { Advances P.tells P.promised self.old self.new }
+        ensures advances { Advances P.tells P.promised P.labels P.part_room self.old self.new }
         ensures named { self.new.named ≡ self.old.named }
         ensures passed { PassesNone self.old.core self.new.core }
         ensures ledger { Collects result self.old self.new }
         ensures asked { self.new.asked ≡ self.old.asked }
         ensures room { self.new.room ≡ self.old.room }
         ensures pass { self.new.pass ≡ self.old.pass }
+        ensures last { self.new.last ≡ self.old.last }
     {
         let Some((id, reply)) = self.core.take_reply() else {
             return false;
@@ -377,11 +375,12 @@ impl<P: Performs + Drop> Shard<P> {
     /// # Errors
     /// Those of [`Core::turn`]. Nothing changes.
     pub fn turn(&mut self, task: Task) -> Result<Turn, Refusal>
-        ensures advances { Advances P.tells P.promised self.old self.new }
+        ensures advances { Advances P.tells P.promised P.labels P.part_room self.old self.new }
         ensures named { self.new.named ≡ self.old.named }
         ensures passed { IfOk result (λ _. PassesMore (rows_of task) self.old.core self.new.core) }
         ensures ledger { SameLedger self.old self.new }
         ensures pass { self.new.pass ≡ self.old.pass }
+        ensures last { self.new.last ≡ self.old.last }
         ensures refused { IfErr result (λ refusal. RefusesTurn self.old.core task refusal self.new.core) }
     {
         self.core.turn(task)

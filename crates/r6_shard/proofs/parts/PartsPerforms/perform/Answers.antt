@@ -2,7 +2,7 @@ use Rattle.std.proofs.Common.{◌<◌, length, refl, sym, subst}
 use Rattle.std.specs.Prelude.{option_map, unwrap_or}
 use Rattle.r6_dev.specs.Promises.{Covers, no_promise}
 use Rattle.r6_shard.specs.declared.parts.Part.{Part}
-use Rattle.r6_shard.proofs.Places.{performed-there}
+use Rattle.r6_shard.proofs.Places.{labels-kept, performed-there}
 use Rattle.r6_shard.proofs.Handed.{none-of}
 use Rattle.r6_shard.proofs.Promises.{part-at, promise-of, still-promised, no-row}
 use Rattle.r6_shard.proofs.parts.PartsPerforms.perform.Goals as goal
@@ -36,3 +36,9 @@ returns-clause-promised g c =
     still-promised g.D.BlockDevice.promised c.args.self.now.parts.items c.in-Some.at c.index_mut-part.result.now
     (record { slot = c.index_mut-part.result.now.slot; generation = c.index_mut-part.result.now.generation; device = c.perform_on.new.device })
     command.slot command.generation (sym c.in-Some.ensures.place) (sym c.index_mut-part.ensures.value) refl refl c.perform_on.ensures.promised
+
+pub returns-clause-labels : goal.returns-clause-labels
+returns-clause-labels g c =
+    labels-kept c.args.self.now.parts.items c.in-Some.at c.index_mut-part.result.now
+    (record { slot = c.index_mut-part.result.now.slot; generation = c.index_mut-part.result.now.generation; device = c.perform_on.new.device })
+    (sym c.index_mut-part.ensures.value) refl refl

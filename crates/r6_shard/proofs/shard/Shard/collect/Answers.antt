@@ -1,19 +1,23 @@
-use Rattle.std.proofs.Common.{◌<◌, length, sym, ap, subst, ◌∙◌, refl}
-use Rattle.std.proofs.lemmas.List.{get_or-map}
+use Rattle.std.proofs.Common.{◌<◌, length, sym, subst, refl}
 use Rattle.r6_health.specs.Passes.{view_of}
 use Rattle.r6_world.specs.Steps.{No_reply, Take_reply}
+use Rattle.r6_core.specs.Order.{HasNoReply}
 use Rattle.r6_world.specs.Values.{reply_of}
-use Rattle.r6_shard.specs.declared.ledger.Asked.{Asked}
+use Rattle.r6_core.specs.Shards.{world_shard}
 use Rattle.r6_shard.specs.declared.ledger.Entry.{Entry}
-use Rattle.r6_shard.specs.Courses.{HasCourse}
+use Rattle.r6_shard.specs.Courses.{AreOf, HasCourse}
 use Rattle.r6_shard.proofs.Counting.{passes-none}
 use Rattle.r6_shard.proofs.Keeping.{kept-plainly}
 use Rattle.r6_shard.proofs.Lasting.{lasts_by}
-use Rattle.r6_shard.proofs.Going.{has-gone, has-collected}
+use Rattle.r6_shard.proofs.Going.{has-gone, has-collected, is-of, linked-more}
 use Rattle.r6_shard.specs.Own.{SeesFailure}
 use Rattle.r6_shard.proofs.Own.{failure-on, failure-replied}
 use Rattle.r6_shard.proofs.Sound.{sound-by}
 use Rattle.r6_shard.proofs.Whole.{skips-by}
+use Rattle.r6_shard.specs.Answering.{AreOnce}
+use Rattle.r6_shard.proofs.Answering.{once-on, once-replied}
+use Rattle.r6_shard.proofs.Here.{here-by}
+use Rattle.r6_shard.proofs.Looked.{knows-on}
 use Rattle.r6_shard.proofs.shard.Shard.collect.Goals as goal
 
 pub invariant_of-self-clause-kept : goal.invariant_of-self-clause-kept
@@ -66,12 +70,15 @@ returns-in_default-clause-advances g c =
     let step = c.in_default.ensures.reply.step in
     record {
       course = λ s ops x.
-          has-gone s old.core new (view_of old.pass) old.looked old.named tells old.asked.items old.entries.items ops No_reply (record {})
+          has-gone s old.core new (view_of old.pass) old.last.attaches old.named tells old.asked.items old.entries.items ops No_reply (record {})
           (λ history. refl) step x;
-      lasts = lasts_by old.core No_reply new step;
+      lasts = lasts_by old.core No_reply new c.take_reply.ensures.window step;
       remembers = λ x. x;
       sound = λ shape number slot x.
           sound-by tells (g.P.Performs.promised old.parts) shape number slot old.core No_reply new old.named (record {}) step x;
+      labels_stay = refl;
+      room_stays = refl;
+      here = λ slot x. here-by (g.P.Performs.labels old.parts) slot old.core No_reply new (record {}) step x;
     }
 
 pub returns-clause-advances : goal.returns-clause-advances
@@ -88,12 +95,62 @@ returns-clause-advances g c =
     let below : id < length old.asked.items = old.kept.2.1 id _ step.1.1 in
     record {
       course = λ s ops x.
-          subst (λ z. HasCourse s new v old.looked old.named part old.asked.items z ops) (sym c.push_reserved.ensures.items)
-          (has-collected s old.core new v old.looked old.named part old.asked.items old.entries.items ops entry step below
-          (get_or-map (λ (a : Asked). a.event) old.asked.items id _ 0 below ∙ ap (λ (a : Asked). a.event) (sym c.index-asked.ensures))
-          (get_or-map (λ (a : Asked). a.block) old.asked.items id _ 0 below ∙ ap (λ (a : Asked). a.block) (sym c.index-asked.ensures)) x);
-      lasts = lasts_by old.core taking new step;
+          subst (λ z. HasCourse s new v old.last.attaches old.named part old.asked.items z ops) (sym c.push_reserved.ensures.items)
+          (has-collected s old.core new v old.last.attaches old.named part old.asked.items old.entries.items ops entry step
+          (is-of old.asked.items id below asked (sym c.index-asked.ensures) entry refl refl refl) x);
+      lasts = lasts_by old.core taking new c.take_reply.ensures.window step;
       remembers = λ x. x;
       sound = λ shape number slot x.
           sound-by part (g.P.Performs.promised old.parts) shape number slot old.core taking new old.named (record {}) step x;
+      labels_stay = refl;
+      room_stays = refl;
+      here = λ slot x. here-by (g.P.Performs.labels old.parts) slot old.core taking new (record {}) step x;
     }
+
+pub invariant_of-self-clause-knows : goal.invariant_of-self-clause-knows
+invariant_of-self-clause-knows g c =
+    let old = c.args.self.now in
+    knows-on old.core No_reply c.take_reply.new.self old.last (record {}) c.in_default.ensures.reply.step old.knows
+
+pub invariant_of-self-2-clause-knows : goal.invariant_of-self-2-clause-knows
+invariant_of-self-2-clause-knows g c =
+    let old = c.args.self.now in
+    knows-on old.core (Take_reply c.in-Some.id.0 (reply_of c.in-Some.reply)) c.take_reply.new.self old.last (record {}) c.in-Some.ensures.reply.step old.knows
+
+pub invariant_of-self-2-clause-linked : goal.invariant_of-self-2-clause-linked
+invariant_of-self-2-clause-linked g c =
+    let old = c.args.self.now in
+    let asked = c.index-asked.result.now in
+    let entry : Entry = record { event = asked.event; id = c.in-Some.id; block = asked.block; reply = c.in-Some.reply } in
+    subst (AreOf old.asked.items) (sym c.push_reserved.ensures.items)
+    (linked-more old.asked.items old.entries.items entry old.linked
+    (is-of old.asked.items c.in-Some.id.0 (old.kept.2.1 c.in-Some.id.0 _ c.in-Some.ensures.reply.step.1.1) asked (sym c.index-asked.ensures) entry refl refl refl))
+
+pub invariant_of-self-clause-once : goal.invariant_of-self-clause-once
+invariant_of-self-clause-once g c =
+    let old = c.args.self.now in
+    once-on old.core No_reply c.take_reply.new.self old.entries.items (λ op id e. cc) c.in_default.ensures.reply.step old.once
+
+pub invariant_of-self-2-clause-once : goal.invariant_of-self-2-clause-once
+invariant_of-self-2-clause-once g c =
+    let old = c.args.self.now in
+    let asked = c.index-asked.result.now in
+    let entry : Entry = record { event = asked.event; id = c.in-Some.id; block = asked.block; reply = c.in-Some.reply } in
+    subst (AreOnce (world_shard c.take_reply.new.self)) (sym c.push_reserved.ensures.items)
+    (once-replied old.core c.take_reply.new.self old.entries.items entry c.in-Some.ensures.reply.step old.once)
+
+pub returns-clause-ledger : goal.returns-clause-ledger
+returns-clause-ledger g c =
+    let old = c.args.self.now in
+    let asked = c.index-asked.result.now in
+    let entry : Entry = record { event = asked.event; id = c.in-Some.id; block = asked.block; reply = c.in-Some.reply } in (
+      entry,
+      is-of old.asked.items c.in-Some.id.0 (old.kept.2.1 c.in-Some.id.0 _ c.in-Some.ensures.reply.step.1.1) asked (sym c.index-asked.ensures) entry refl refl refl,
+      c.in-Some.ensures.reply,
+      c.push_reserved.ensures.items,
+    )
+
+pub returns-in_default-clause-ledger : goal.returns-in_default-clause-ledger
+returns-in_default-clause-ledger g c =
+    let reply = c.in_default.ensures.reply in
+    (refl, subst HasNoReply (sym reply.same) reply.none)

@@ -10,6 +10,10 @@ use Rattle.r6_shard.proofs.Own.{failure-at-first}
 use Rattle.r6_shard.proofs.Sound.{sound-begun, none-named}
 use Rattle.r6_shard.specs.Whole.{AreAllInSync}
 use Rattle.r6_shard.proofs.Whole.{skips-at-first}
+use Rattle.r6_shard.specs.Courses.{AreOf, IsOf}
+use Rattle.r6_shard.proofs.Answering.{once-at-first}
+use Rattle.r6_shard.proofs.Here.{here-begun}
+use Rattle.r6_shard.proofs.Looked.{knows-first}
 use Rattle.r6_shard.proofs.shard.Shard.new.Goals as goal
 
 pub invariant_of-result-clause-kept : goal.invariant_of-result-clause-kept
@@ -34,10 +38,11 @@ returns-clause-begins g c = λ device array lawful hold.
     let part = g.P.Performs.tells c.args.parts in
     let named = replicate 32 false in
     let s = start_of place.geometry place.number snapshot device array in
-    subst (λ y. HasCourse s core v 0 named part y c.in_ok-entries.entries.items []) (sym c.in_ok-asked.ensures.items)
+    subst (λ y. HasCourse s core v y named part c.in_ok-asked.asked.items c.in_ok-entries.entries.items []) (sym c.requires.no_attach)
+    (subst (λ y. HasCourse s core v 0 named part y c.in_ok-entries.entries.items []) (sym c.in_ok-asked.ensures.items)
     (subst (λ y. HasCourse s core v 0 named part [] y []) (sym c.in_ok-entries.ensures.items)
     (begun place.geometry place.number snapshot device array core v named part c.requires.limits c.requires.number lawful hold c.in-Ok.ensures.made c.requires.pass
-    (none-named 32)))
+    (none-named 32))))
 
 pub returns-clause-passed : goal.returns-clause-passed
 returns-clause-passed g c = none-passed c.args.place.geometry c.args.snapshot.now c.args.place.number c.in-Ok.core c.in-Ok.ensures.made
@@ -58,3 +63,21 @@ pub invariant_of-result-clause-saw : goal.invariant_of-result-clause-saw
 invariant_of-result-clause-saw g c = λ were.
     let first = c.requires.pass in
     c.has_out.ensures.one (subst AreAllInSync first.began (were [] ((view_of c.args.pass).seen, refl)))
+
+pub invariant_of-result-clause-knows : goal.invariant_of-result-clause-knows
+invariant_of-result-clause-knows g c =
+    knows-first c.args.place.geometry c.args.snapshot.now c.args.place.number c.in-Ok.core c.requires.unfailed c.in-Ok.ensures.made
+
+pub invariant_of-result-clause-linked : goal.invariant_of-result-clause-linked
+invariant_of-result-clause-linked g c =
+    subst (AreOf c.in_ok-asked.asked.items) (sym c.in_ok-entries.ensures.items) (All-nil (IsOf c.in_ok-asked.asked.items))
+
+pub invariant_of-result-clause-once : goal.invariant_of-result-clause-once
+invariant_of-result-clause-once g c =
+    once-at-first c.args.place.geometry c.args.snapshot.now c.args.place.number c.in-Ok.core c.in_ok-entries.entries.items c.in-Ok.ensures.made
+    c.in_ok-entries.ensures.items
+
+pub returns-clause-here : goal.returns-clause-here
+returns-clause-here g c = λ slot x.
+    let place = c.args.place in
+    here-begun (g.P.Performs.labels c.args.parts) slot place.geometry c.args.snapshot.now place.number c.in-Ok.core c.in-Ok.ensures.made x

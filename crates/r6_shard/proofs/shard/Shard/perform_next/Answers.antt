@@ -1,4 +1,4 @@
-use Rattle.std.proofs.Common.{◌<◌, length, inl, inr, sym, subst, arith, refl, ◌∙◌}
+use Rattle.std.proofs.Common.{ℕ, ◌<◌, List, length, inl, inr, sym, subst, arith, refl, ◌∙◌}
 use Rattle.r6_world.specs.Steps.{No_command, Take_command, Deliver}
 use Rattle.r6_world.specs.Values.{world_command, completion_of, receipt_of}
 use Rattle.r6_core.specs.Shards.{core_layout, world_shard}
@@ -16,6 +16,10 @@ use Rattle.r6_shard.specs.Sound.{IsSound}
 use Rattle.r6_shard.proofs.Sound.{sound-by, sound-performed, named-how}
 use Rattle.r6_shard.specs.Whole.{SkipsNone, Remembers}
 use Rattle.r6_shard.proofs.Whole.{skips-by, skips-performed, clean-before}
+use Rattle.r6_shard.specs.Here.{HasUsed}
+use Rattle.r6_shard.proofs.Answering.{once-on}
+use Rattle.r6_shard.proofs.Here.{here-by, here-twice}
+use Rattle.r6_shard.proofs.Looked.{knows-on, knows-twice}
 use Rattle.r6_shard.proofs.shard.Shard.perform_next.Goals as goal
 
 pub invariant_of-self-clause-kept : goal.invariant_of-self-clause-kept
@@ -129,12 +133,15 @@ returns-in_default-clause-advances g c =
     let step = c.in_default.ensures.step in
     record {
       course = λ s ops x.
-          has-gone s old.core new (view_of old.pass) old.looked old.named tells old.asked.items old.entries.items ops No_command (record {})
+          has-gone s old.core new (view_of old.pass) old.last.attaches old.named tells old.asked.items old.entries.items ops No_command (record {})
           (λ history. refl) step x;
-      lasts = lasts_by old.core No_command new step;
+      lasts = lasts_by old.core No_command new c.take_command.ensures.window step;
       remembers = λ x. x;
       sound = λ shape number slot x.
           sound-by tells (g.P.Performs.promised old.parts) shape number slot old.core No_command new old.named (record {}) step x;
+      labels_stay = refl;
+      room_stays = refl;
+      here = λ slot x. here-by (g.P.Performs.labels old.parts) slot old.core No_command new (record {}) step x;
     }
 
 pub returns-clause-advances : goal.returns-clause-advances
@@ -155,11 +162,12 @@ returns-clause-advances g c =
     let below : command.slot < length old.named = let some = c.in-Some.ensures.there.slot in let few = old.kept.1 in let many = old.kept.6 in omega arith in
     record {
       course = λ s ops x.
-          has-performed s old.core mid new (view_of old.pass) old.looked old.named _ (tells old.parts) (tells parts)
+          has-performed s old.core mid new (view_of old.pass) old.last.attaches old.named _ (tells old.parts) (tells parts)
           old.asked.items old.entries.items ops command t.0 t.1 (receipt_of receipt) completion t.2 delivers done.performed
           (names-by old.named _ failed.result receipt command.slot completion failed.ensures.value c.name.ensures) x;
       lasts = lasts_twice old.core (Take_command command.token (world_command t.0 t.1 command)) mid
-          (Deliver command.token (completion_of completion) (receipt_of receipt)) new t.2 delivers;
+          (Deliver command.token (completion_of completion) (receipt_of receipt)) new c.take_command.ensures.window c.deliver.ensures.window
+          t.2 delivers;
       remembers = subst (λ y. Remembers old.named old.saw_out y old.saw_out) (sym c.name.ensures)
           (clean-before failed.result receipt command.slot old.named old.saw_out below);
       sound = λ shape number slot x.
@@ -167,4 +175,38 @@ returns-clause-advances g c =
           (sound-performed (tells old.parts) (tells parts) (promised old.parts) (promised parts) shape number slot old.core mid new
           command t.0 t.1 completion receipt failed.result old.named t.2 delivers
           c.in-Some.ensures.there done.performed done.sound done.promised failed.ensures.value x);
+      labels_stay = done.labels;
+      room_stays = done.part_room;
+      here = λ slot x.
+          subst (λ (y : List (ℕ × ℕ)). HasUsed y slot new) (sym done.labels)
+          (here-twice (g.P.Performs.labels old.parts) slot old.core (Take_command command.token (world_command t.0 t.1 command)) mid
+          (Deliver command.token (completion_of completion) (receipt_of receipt)) new (record {}) (record {}) t.2 delivers x);
     }
+
+pub invariant_of-self-clause-knows : goal.invariant_of-self-clause-knows
+invariant_of-self-clause-knows g c =
+    let old = c.args.self.now in
+    knows-on old.core No_command c.take_command.new.self old.last (record {}) c.in_default.ensures.step old.knows
+
+pub invariant_of-self-2-clause-knows : goal.invariant_of-self-2-clause-knows
+invariant_of-self-2-clause-knows g c =
+    let old = c.args.self.now in
+    let command = c.in-Some.command in
+    let t = c.in-Some.ensures.step in
+    knows-twice old.core (Take_command command.token (world_command t.0 t.1 command)) c.take_command.new.self
+    (Deliver command.token (completion_of c.perform-completion.result) (receipt_of c.in-Ok.receipt)) c.deliver.new.self old.last (record {}) (record {})
+    t.2 c.in-Ok.ensures.received.step old.knows
+
+pub invariant_of-self-clause-once : goal.invariant_of-self-clause-once
+invariant_of-self-clause-once g c =
+    let old = c.args.self.now in
+    once-on old.core No_command c.take_command.new.self old.entries.items (λ op id e. cc) c.in_default.ensures.step old.once
+
+pub invariant_of-self-2-clause-once : goal.invariant_of-self-2-clause-once
+invariant_of-self-2-clause-once g c =
+    let old = c.args.self.now in
+    let command = c.in-Some.command in
+    let t = c.in-Some.ensures.step in
+    once-on c.take_command.new.self (Deliver command.token (completion_of c.perform-completion.result) (receipt_of c.in-Ok.receipt)) c.deliver.new.self
+    old.entries.items (λ op id e. cc) c.in-Ok.ensures.received.step
+    (once-on old.core (Take_command command.token (world_command t.0 t.1 command)) c.take_command.new.self old.entries.items (λ op id e. cc) t.2 old.once)

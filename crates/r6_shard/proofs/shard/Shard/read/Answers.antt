@@ -26,7 +26,7 @@ invariant_of-self-clause-saw g c =
 pub returns-clause-course : goal.returns-clause-course
 returns-clause-course g c = λ s ops x.
     let old = c.args.self.now in
-    has-seen s old.core (view_of old.pass) (view_of c.read.new.pass) old.looked old.named (g.P.Performs.tells old.parts) old.asked.items old.entries.items ops
+    has-seen s old.core (view_of old.pass) (view_of c.read.new.pass) old.last.attaches old.named (g.P.Performs.tells old.parts) old.asked.items old.entries.items ops
     c.read.ensures.looks x
 
 pub returns-clause-sound : goal.returns-clause-sound

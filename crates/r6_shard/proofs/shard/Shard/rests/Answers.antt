@@ -8,6 +8,8 @@ use Rattle.r6_shard.specs.Counted.{HasPassedRows, PassesMore, rows_of}
 use Rattle.r6_shard.proofs.Advances.{advances-on}
 use Rattle.r6_shard.proofs.Counting.{none-more, passes-same}
 use Rattle.r6_shard.proofs.Going.{either_way, refused_of}
+use Rattle.r6_shard.specs.Answering.{AnswersEach}
+use Rattle.r6_shard.proofs.Answering.{answers-each}
 use Rattle.r6_shard.proofs.shard.Shard.rests.Goals as goal
 
 pub returns-clause-rests : goal.returns-clause-rests
@@ -17,17 +19,20 @@ returns-clause-rests g c = λ e.
     let told = c.tell_next.new.self in
     let new = c.turn.new.self in
     let none = c.tell_next.ensures.none c.if-tell_next.false in
+    let asked-same = c.turn.ensures.ledger.asked ∙ c.tell_next.ensures.ledger.asked ∙ c.perform_next.ensures.ledger.asked in
+    let entries-same = c.turn.ensures.ledger.entries ∙ c.tell_next.ensures.ledger.entries ∙ c.perform_next.ensures.ledger.entries in
     let refused = refused_of c.turn.result (λ refusal. RefusesTurn told.core task.Rebuild refusal new.core) (sym c.is_err.ensures.value ∙ e) c.turn.ensures.refused in
     let entries : vec_len old.entries ≡ length old.entries.items = search rules in
     let asked : vec_len old.asked ≡ length old.asked.items = search rules in
     let here : length old.entries.items ≡ length old.asked.items = omega (arith, c.if-len.false, c.len.ensures, c.len-2.ensures, entries, asked) in
     record {
-      answered =
-          ap length (c.turn.ensures.ledger.entries ∙ c.tell_next.ensures.ledger.entries ∙ c.perform_next.ensures.ledger.entries) ∙ here
-          ∙ sym (ap length (c.turn.ensures.ledger.asked ∙ c.tell_next.ensures.ledger.asked ∙ c.perform_next.ensures.ledger.asked));
+      answered = ap length entries-same ∙ here ∙ sym (ap length asked-same);
+      each = subst (λ xs. AnswersEach xs new.entries.items) (sym asked-same)
+          (subst (AnswersEach old.asked.items) (sym entries-same)
+          (answers-each (world_shard old.core) old.asked.items old.entries.items old.linked old.once here));
       none_out = subst (λ (y : CoreView). NoneIsOut (world_shard y)) (sym refused.1.same)
           (subst NoneIsOut (sym none.0) (c.perform_next.ensures.none c.if-perform_next.false));
-      none_to_tell = subst (λ (y : CoreView). NoneIsToTell (world_shard y)) (sym refused.1.same) none.1;
+      none_to_tell = subst (λ (y : CoreView). NoneIsToTell (world_shard y)) (sym refused.1.same) none.2;
       refusal = refused.0;
       none_to_rebuild = subst (λ (y : CoreView). IsFirstFault (HasTaskFault y task.Rebuild) turn_faults refused.0) (sym refused.1.same) refused.1.fault;
     }
@@ -47,15 +52,22 @@ returns-clause-passed g c = λ stopped counted rows x.
 
 pub returns-then-tell_next-clause-advances : goal.returns-then-tell_next-clause-advances
 returns-then-tell_next-clause-advances g c =
-    advances-on g.P.Performs.tells g.P.Performs.promised c.args.self.now c.perform_next.new.self c.tell_next.new.self
+    advances-on g.P.Performs.tells g.P.Performs.promised g.P.Performs.labels g.P.Performs.part_room c.args.self.now c.perform_next.new.self c.tell_next.new.self
     c.perform_next.ensures.advances c.tell_next.ensures.advances
 
 pub returns-clause-advances : goal.returns-clause-advances
 returns-clause-advances g c =
     let tells = g.P.Performs.tells in
     let promised = g.P.Performs.promised in
+    let labels = g.P.Performs.labels in
+    let part_room = g.P.Performs.part_room in
     let old = c.args.self.now in
     let told = c.tell_next.new.self in
-    advances-on tells promised old told c.turn.new.self
-    (advances-on tells promised old c.perform_next.new.self told c.perform_next.ensures.advances c.tell_next.ensures.advances)
+    advances-on tells promised labels part_room old told c.turn.new.self
+    (advances-on tells promised labels part_room old c.perform_next.new.self told c.perform_next.ensures.advances c.tell_next.ensures.advances)
     c.turn.ensures.advances
+
+pub returns-clause-still : goal.returns-clause-still
+returns-clause-still g c = λ e.
+    let none = c.tell_next.ensures.none c.if-tell_next.false in
+    c.turn.ensures.pass ∙ none.1 ∙ c.perform_next.ensures.pass

@@ -1,121 +1,44 @@
-use Rattle.std.proofs.Common.{◌≡◌, ◌≤◌, ℕ, ◌+◌, length, refl, sym, ap, subst, ◌∙◌}
+use Rattle.std.proofs.Common.{◌≤◌, ◌+◌, length, refl, sym, ap, subst, ◌∙◌}
 use Rattle.r6_health.specs.Passes.{view_of}
 use Rattle.r6_health.proofs.Histories.{starts_with_itself}
 use Rattle.r6_world.specs.Steps.{Look}
 use Rattle.r6_core.specs.Shards.{CoreView}
-use Rattle.r6_core.specs.Effects.{LooksAt, RefusesLook}
 use Rattle.r6_shard.specs.Kept.{IsKept}
-use Rattle.r6_shard.specs.Courses.{HasCourse}
-use Rattle.r6_shard.specs.Counted.{PassesNone}
+use Rattle.r6_shard.proofs.Again.{shard-again}
+use Rattle.r6_shard.proofs.Answering.{once-on, once-same}
 use Rattle.r6_shard.proofs.Counting.{passes-none, passes-same}
+use Rattle.r6_shard.proofs.Going.{has-gone}
+use Rattle.r6_shard.proofs.Here.{here-looked, here-same}
 use Rattle.r6_shard.proofs.Keeping.{kept-plainly}
-use Rattle.r6_shard.specs.Refusing.{Lasts}
 use Rattle.r6_shard.proofs.Lasting.{lasts_by, lasts_same}
-use Rattle.r6_shard.proofs.Going.{has-gone, either_way, both_ok, both_err}
-use Rattle.r6_shard.specs.Own.{SeesFailure}
+use Rattle.r6_shard.proofs.Looked.{knows-looked, knows-same}
 use Rattle.r6_shard.proofs.Own.{failure-looked, failure-same}
-use Rattle.r6_shard.specs.Sound.{IsSound}
 use Rattle.r6_shard.proofs.Sound.{sound-looked, sound-same}
-use Rattle.r6_shard.specs.Whole.{AreAllInSync, SkipsNone}
+use Rattle.r6_shard.specs.Courses.{HasCourse}
+use Rattle.r6_shard.specs.Whole.{AreAllInSync}
 use Rattle.r6_shard.proofs.Whole.{skips-looked, skips-same, seen-whole}
 use Rattle.r6_shard.proofs.shard.Shard.see.Goals as goal
+
+-- ---- it looked
 
 pub invariant_of-self-clause-kept : goal.invariant_of-self-clause-kept
 invariant_of-self-clause-kept g c =
     let old = c.args.self.now in
-    let new = c.look.new.self in
-    let snapshot = c.args.snapshot.now in
-    either_way c.look.result (λ _. LooksAt old.core snapshot new) (λ refusal. RefusesLook old.core refusal new)
-    (IsKept new old.number old.named (length old.asked.items)) c.look.ensures.looked c.look.ensures.refused
-    (λ _ looked. kept-plainly old.core (Look snapshot) new old.number old.named (length old.asked.items) (record {}) looked.step old.kept)
-    (λ refusal refused. subst (λ y. IsKept y old.number old.named (length old.asked.items)) (sym refused.same) old.kept)
-
-pub invariant_of-self-clause-counted : goal.invariant_of-self-clause-counted
-invariant_of-self-clause-counted g c =
-    let old = c.args.self.now in
-    let new = c.look.new.self in
-    let snapshot = c.args.snapshot.now in
-    either_way c.look.result (λ _. LooksAt old.core snapshot new) (λ refusal. RefusesLook old.core refusal new)
-    (new.unanswered + length old.entries.items ≡ length old.asked.items) c.look.ensures.looked c.look.ensures.refused
-    (λ _ looked. ap (λ y. y + length old.entries.items) looked.unanswered ∙ old.counted)
-    (λ refusal refused. ap (λ (y : CoreView). y.unanswered + length old.entries.items) refused.same ∙ old.counted)
+    kept-plainly old.core (Look c.args.snapshot.now) c.look.new.self old.number old.named (length old.asked.items) (record {}) c.in-Ok.ensures.looked.step old.kept
 
 pub invariant_of-self-clause-failure : goal.invariant_of-self-clause-failure
 invariant_of-self-clause-failure g c =
     let old = c.args.self.now in
-    let new = c.look.new.self in
-    let snapshot = c.args.snapshot.now in
-    let v = view_of old.pass in
-    either_way c.look.result (λ _. LooksAt old.core snapshot new) (λ refusal. RefusesLook old.core refusal new)
-    (SeesFailure new v old.entries.items) c.look.ensures.looked c.look.ensures.refused
-    (λ _ looked. failure-looked old.core snapshot new v old.entries.items c.requires looked.step old.failure)
-    (λ refusal refused. failure-same old.core new v old.entries.items refused.same old.failure)
-
-pub returns-clause-course : goal.returns-clause-course
-returns-clause-course g c = λ s ops x.
-    let old = c.args.self.now in
-    let new = c.look.new.self in
-    let part = g.P.Performs.tells old.parts in
-    let w = view_of old.pass in
-    let snapshot = c.args.snapshot.now in
-    let attaches : ℕ = snapshot.attaches in
-    either_way c.look.result (λ _. LooksAt old.core snapshot new × (c.looked_by-self.result ≡ attaches))
-    (λ refusal. RefusesLook old.core refusal new × (c.looked_by-self.result ≡ old.looked))
-    (HasCourse s new w c.looked_by-self.result old.named part old.asked.items old.entries.items ops)
-    (both_ok c.look.result (λ _. LooksAt old.core snapshot new) (λ _. c.looked_by-self.result ≡ attaches) c.look.ensures.looked c.looked_by-self.ensures.accepted)
-    (both_err c.look.result (λ refusal. RefusesLook old.core refusal new) (λ _. c.looked_by-self.result ≡ old.looked) c.look.ensures.refused c.looked_by-self.ensures.refused)
-    (λ _ looked.
-    subst (λ z. HasCourse s new w z old.named part old.asked.items old.entries.items ops) (sym looked.1)
-    (has-gone s old.core new w old.looked old.named part old.asked.items old.entries.items ops (Look snapshot) c.requires (λ history. refl)
-    looked.0.step x))
-    (λ refusal refused.
-    subst (λ z. HasCourse s new w z old.named part old.asked.items old.entries.items ops) (sym refused.1)
-    (subst (λ z. HasCourse s z w old.looked old.named part old.asked.items old.entries.items ops) (sym refused.0.same) x))
-
-pub returns-clause-lasts : goal.returns-clause-lasts
-returns-clause-lasts g c =
-    let old = c.args.self.now.core in
-    let new = c.look.new.self in
-    let snapshot = c.args.snapshot.now in
-    either_way c.look.result (λ _. LooksAt old snapshot new) (λ refusal. RefusesLook old refusal new) (Lasts old new)
-    c.look.ensures.looked c.look.ensures.refused
-    (λ _ looked. lasts_by old (Look snapshot) new looked.step)
-    (λ refusal refused. lasts_same old new refused.same)
-
-pub returns-clause-passed : goal.returns-clause-passed
-returns-clause-passed g c =
-    let old = c.args.self.now.core in
-    let new = c.look.new.self in
-    let snapshot = c.args.snapshot.now in
-    either_way c.look.result (λ _. LooksAt old snapshot new) (λ refusal. RefusesLook old refusal new) (PassesNone old new)
-    c.look.ensures.looked c.look.ensures.refused
-    (λ _ looked. passes-none old (Look snapshot) new refl looked.step)
-    (λ refusal refused. passes-same old new refused.same)
-
-pub returns-clause-sound : goal.returns-clause-sound
-returns-clause-sound g c = λ shape number slot here x.
-    let tells = g.P.Performs.tells in
-    let promised = g.P.Performs.promised in
-    let old = c.args.self.now in
-    let new = c.look.new.self in
-    let snapshot = c.args.snapshot.now in
-    either_way c.look.result (λ _. LooksAt old.core snapshot new) (λ refusal. RefusesLook old.core refusal new)
-    (IsSound (tells old.parts) (promised old.parts) shape number slot new old.named) c.look.ensures.looked c.look.ensures.refused
-    (λ _ looked. sound-looked (tells old.parts) (promised old.parts) shape number slot old.core snapshot new old.named here looked.step x)
-    (λ refusal refused. sound-same (tells old.parts) (promised old.parts) shape number slot old.core new old.named refused.same x)
+    failure-looked old.core c.args.snapshot.now c.look.new.self (view_of old.pass) old.entries.items c.requires c.in-Ok.ensures.looked.step old.failure
 
 pub invariant_of-self-clause-whole : goal.invariant_of-self-clause-whole
 invariant_of-self-clause-whole g c =
     let old = c.args.self.now in
-    let new = c.look.new.self in
     let snapshot = c.args.snapshot.now in
     let few : old.core.shape.slots ≤ 32 = old.kept.1 in
     let now = c.saw_by-self.result in
-    let sees = seen-whole old.saw_out now snapshot old.core.shape.slots few c.saw_by-self.ensures.none in
-    either_way c.look.result (λ _. LooksAt old.core snapshot new) (λ refusal. RefusesLook old.core refusal new)
-    (SkipsNone new old.named now) c.look.ensures.looked c.look.ensures.refused
-    (λ _ looked. skips-looked old.core snapshot new old.named old.saw_out now sees looked.step old.whole)
-    (λ refusal refused. λ clean. skips-same old.named old.saw_out old.core new refused.same old.whole (clean.0, (sees clean.1).0))
+    skips-looked old.core snapshot c.look.new.self old.named old.saw_out now
+    (seen-whole old.saw_out now snapshot old.core.shape.slots few c.saw_by-self.ensures.none) c.in-Ok.ensures.looked.step old.whole
 
 pub invariant_of-self-clause-saw : goal.invariant_of-self-clause-saw
 invariant_of-self-clause-saw g c = λ were.
@@ -124,5 +47,95 @@ invariant_of-self-clause-saw g c = λ were.
     c.saw_by-self.ensures.one (old.saw were)
     (subst AreAllInSync (sym c.requires) (were v.seen (starts_with_itself v.seen)))
 
-pub returns-clause-remembers : goal.returns-clause-remembers
-returns-clause-remembers g c = λ x. (x.0, (c.saw_by-self.ensures.none x.1).0)
+pub invariant_of-self-clause-knows : goal.invariant_of-self-clause-knows
+invariant_of-self-clause-knows g c =
+    let old = c.args.self.now in
+    knows-looked old.core c.args.snapshot.now c.look.new.self (view_of old.pass) old.entries.items c.requires c.in-Ok.ensures.looked.step old.failure
+
+pub invariant_of-self-clause-once : goal.invariant_of-self-clause-once
+invariant_of-self-clause-once g c =
+    let old = c.args.self.now in
+    once-on old.core (Look c.args.snapshot.now) c.look.new.self old.entries.items (λ op id e. cc) c.in-Ok.ensures.looked.step old.once
+
+pub invariant_of-self-clause-counted : goal.invariant_of-self-clause-counted
+invariant_of-self-clause-counted g c =
+    let old = c.args.self.now in
+    ap (λ y. y + length old.entries.items) c.in-Ok.ensures.looked.unanswered ∙ old.counted
+
+pub returns-in-Ok-clause-course : goal.returns-in-Ok-clause-course
+returns-in-Ok-clause-course g c = λ s ops x.
+    let old = c.args.self.now in
+    has-gone s old.core c.look.new.self (view_of old.pass) old.last.attaches old.named (g.P.Performs.tells old.parts) old.asked.items old.entries.items ops
+    (Look c.args.snapshot.now) c.requires (λ history. refl) c.in-Ok.ensures.looked.step x
+
+pub returns-in-Ok-clause-lasts : goal.returns-in-Ok-clause-lasts
+returns-in-Ok-clause-lasts g c =
+    lasts_by c.args.self.now.core (Look c.args.snapshot.now) c.look.new.self c.look.ensures.window c.in-Ok.ensures.looked.step
+
+pub returns-in-Ok-clause-passed : goal.returns-in-Ok-clause-passed
+returns-in-Ok-clause-passed g c =
+    passes-none c.args.self.now.core (Look c.args.snapshot.now) c.look.new.self refl c.in-Ok.ensures.looked.step
+
+pub returns-in-Ok-clause-sound : goal.returns-in-Ok-clause-sound
+returns-in-Ok-clause-sound g c = λ shape number slot here x.
+    let old = c.args.self.now in
+    sound-looked (g.P.Performs.tells old.parts) (g.P.Performs.promised old.parts) shape number slot old.core c.args.snapshot.now c.look.new.self old.named
+    here c.in-Ok.ensures.looked.step x
+
+pub returns-in-Ok-clause-here : goal.returns-in-Ok-clause-here
+returns-in-Ok-clause-here g c = λ slot has x.
+    let old = c.args.self.now in
+    here-looked (g.P.Performs.labels old.parts) slot old.core c.args.snapshot.now c.look.new.self has c.in-Ok.ensures.looked.step x
+
+pub returns-in-Ok-clause-remembers : goal.returns-in-Ok-clause-remembers
+returns-in-Ok-clause-remembers g c = λ x. (x.0, (c.saw_by-self.ensures.none x.1).0)
+
+-- ---- it didn't
+
+pub invariant_of-self-in-Err : goal.invariant_of-self-in-Err
+invariant_of-self-in-Err g c =
+    let old = c.args.self.now in
+    let new = c.look.new.self in
+    let same = c.in-Err.ensures.refused.same in
+    record {
+      kept = subst (λ y. IsKept y old.number old.named (length old.asked.items)) (sym same) old.kept;
+      own = old.own;
+      failure = failure-same old.core new (view_of old.pass) old.entries.items same old.failure;
+      whole = skips-same old.named old.saw_out old.core new same old.whole;
+      saw = old.saw;
+      knows = knows-same old.core new old.last same old.knows;
+      linked = old.linked;
+      once = once-same old.core new old.entries.items same old.once;
+      counted = ap (λ (y : CoreView). y.unanswered + length old.entries.items) same ∙ old.counted;
+      within = old.within;
+      asked_room = old.asked_room;
+      entries_room = old.entries_room;
+    }
+
+pub returns-in-Err-clause-course : goal.returns-in-Err-clause-course
+returns-in-Err-clause-course g c = λ s ops x.
+    let old = c.args.self.now in
+    subst (λ z. HasCourse s z (view_of old.pass) old.last.attaches old.named (g.P.Performs.tells old.parts) old.asked.items old.entries.items ops)
+    (sym c.in-Err.ensures.refused.same) x
+
+pub returns-in-Err-clause-lasts : goal.returns-in-Err-clause-lasts
+returns-in-Err-clause-lasts g c = lasts_same c.args.self.now.core c.look.new.self c.in-Err.ensures.refused.same
+
+pub returns-in-Err-clause-passed : goal.returns-in-Err-clause-passed
+returns-in-Err-clause-passed g c = passes-same c.args.self.now.core c.look.new.self c.in-Err.ensures.refused.same
+
+pub returns-in-Err-clause-sound : goal.returns-in-Err-clause-sound
+returns-in-Err-clause-sound g c = λ shape number slot here x.
+    let old = c.args.self.now in
+    sound-same (g.P.Performs.tells old.parts) (g.P.Performs.promised old.parts) shape number slot old.core c.look.new.self old.named
+    c.in-Err.ensures.refused.same x
+
+pub returns-in-Err-clause-here : goal.returns-in-Err-clause-here
+returns-in-Err-clause-here g c = λ slot has x.
+    let old = c.args.self.now in
+    here-same (g.P.Performs.labels old.parts) slot old.core c.look.new.self c.in-Err.ensures.refused.same x
+
+pub returns-in-Err-clause-looked : goal.returns-in-Err-clause-looked
+returns-in-Err-clause-looked g c =
+    let old = c.args.self.now in
+    (c.in-Err.ensures.refused.untold, shard-again old c.look.new.self old.parts (sym c.in-Err.ensures.refused.same) refl _ _ _ _ _ _ _ _ _ _ _ _)

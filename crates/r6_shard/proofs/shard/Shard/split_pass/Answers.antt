@@ -28,6 +28,6 @@ returns-clause-kept g c =
       entries = refl;
       room = refl;
       named = refl;
-      looked = refl;
+      last = refl;
       saw_out = refl;
     }

@@ -10,12 +10,16 @@ use Rattle.r6_shard.specs.Courses.{HasCourse}
 use Rattle.r6_shard.proofs.Counting.{passes-none, passes-same}
 use Rattle.r6_shard.proofs.Steps.{one-more}
 use Rattle.r6_shard.proofs.Keeping.{kept-submitting}
-use Rattle.r6_shard.proofs.Going.{has-submitted}
+use Rattle.r6_shard.proofs.Going.{has-submitted, linked-longer}
 use Rattle.r6_shard.proofs.Lasting.{lasts_by, lasts_same}
 use Rattle.r6_shard.proofs.Own.{failure-on, failure-same}
 use Rattle.r6_shard.proofs.Sound.{sound-by, sound-same}
 use Rattle.r6_shard.proofs.Whole.{skips-by, skips-same}
 use Rattle.r6_shard.proofs.Again.{shard-again}
+use Rattle.r6_shard.specs.Courses.{AreOf}
+use Rattle.r6_shard.proofs.Answering.{once-same, once-submitted}
+use Rattle.r6_shard.proofs.Here.{here-by, here-same}
+use Rattle.r6_shard.proofs.Looked.{knows-on, knows-same}
 use Rattle.r6_shard.proofs.shard.Shard.submit.Goals as goal
 
 pub invariant_of-self-clause-kept : goal.invariant_of-self-clause-kept
@@ -35,6 +39,9 @@ invariant_of-self-in-Err-1 g c =
       failure = failure-same old.core c.submit.new.self (view_of old.pass) old.entries.items same old.failure;
       whole = skips-same old.named old.saw_out old.core c.submit.new.self same old.whole;
       saw = old.saw;
+      knows = knows-same old.core c.submit.new.self old.last same old.knows;
+      linked = old.linked;
+      once = once-same old.core c.submit.new.self old.entries.items same old.once;
       counted = ap (λ (y : CoreView). y.unanswered + length old.entries.items) same ∙ old.counted;
       within = old.within;
       asked_room = old.asked_room;
@@ -66,18 +73,20 @@ returns-in-Ok-clause-accepted g c =
     ∙ ap (λ (n : ℕ). old.asked.items ++ record { event = c.args.event; block = block_of (op_of op); answered = n } ∷ []) (c.len-answered.ensures ∙ many) in
     record {
       course = λ s ops x.
-          subst (λ z. HasCourse s new v old.looked old.named part z old.entries.items (ops ++ op_of op ∷ [])) (sym asked)
-          (has-submitted s old.core new v old.looked old.named part old.asked.items old.entries.items ops c.args.event (op_of op) id number step x);
+          subst (λ z. HasCourse s new v old.last.attaches old.named part z old.entries.items (ops ++ op_of op ∷ [])) (sym asked)
+          (has-submitted s old.core new v old.last.attaches old.named part old.asked.items old.entries.items ops c.args.event (op_of op) id number step x);
       number = number;
       asked = asked;
       entries = refl;
       room = refl;
       pass = refl;
+      parts = refl;
+      last = refl;
     }
 
 pub returns-in-Ok-clause-lasts : goal.returns-in-Ok-clause-lasts
 returns-in-Ok-clause-lasts g c =
-    lasts_by c.args.self.now.core (Submit (op_of c.args.op) c.in-Ok.id.0) c.submit.new.self c.in-Ok.ensures.accepted.step
+    lasts_by c.args.self.now.core (Submit (op_of c.args.op) c.in-Ok.id.0) c.submit.new.self c.submit.ensures.window c.in-Ok.ensures.accepted.step
 
 pub returns-in-Err-clause-lasts : goal.returns-in-Err-clause-lasts
 returns-in-Err-clause-lasts g c = lasts_same c.args.self.now.core c.submit.new.self c.in-Err.ensures.refused.same
@@ -110,4 +119,31 @@ invariant_of-self-clause-whole g c =
     skips-by old.named old.saw_out old.core (Submit (op_of c.args.op) c.in-Ok.id.0) c.submit.new.self (λ y. record {}) c.in-Ok.ensures.accepted.step old.whole
 
 pub returns-in-Err-clause-same : goal.returns-in-Err-clause-same
-returns-in-Err-clause-same g c = shard-again c.args.self.now c.submit.new.self c.args.self.now.parts (sym c.in-Err.ensures.refused.same) refl _ _ _ _ _ _ _ _ _
+returns-in-Err-clause-same g c = shard-again c.args.self.now c.submit.new.self c.args.self.now.parts (sym c.in-Err.ensures.refused.same) refl _ _ _ _ _ _ _ _ _ _ _ _
+
+pub invariant_of-self-clause-knows : goal.invariant_of-self-clause-knows
+invariant_of-self-clause-knows g c =
+    let old = c.args.self.now in
+    knows-on old.core (Submit (op_of c.args.op) c.in-Ok.id.0) c.submit.new.self old.last (record {}) c.in-Ok.ensures.accepted.step old.knows
+
+pub invariant_of-self-clause-linked : goal.invariant_of-self-clause-linked
+invariant_of-self-clause-linked g c =
+    let old = c.args.self.now in
+    subst (λ y. AreOf y old.entries.items) (sym c.push_reserved.ensures.items) (linked-longer old.asked.items _ old.entries.items old.linked)
+
+pub invariant_of-self-clause-once : goal.invariant_of-self-clause-once
+invariant_of-self-clause-once g c =
+    let old = c.args.self.now in
+    once-submitted old.core (op_of c.args.op) c.in-Ok.id.0 c.submit.new.self old.asked.items old.entries.items c.in-Ok.ensures.accepted.step
+    old.kept.2 old.linked old.once
+
+pub returns-in-Ok-clause-here : goal.returns-in-Ok-clause-here
+returns-in-Ok-clause-here g c = λ slot x.
+    let old = c.args.self.now in
+    here-by (g.P.Performs.labels old.parts) slot old.core (Submit (op_of c.args.op) c.in-Ok.id.0) c.submit.new.self (record {})
+    c.in-Ok.ensures.accepted.step x
+
+pub returns-in-Err-clause-here : goal.returns-in-Err-clause-here
+returns-in-Err-clause-here g c = λ slot x.
+    let old = c.args.self.now in
+    here-same (g.P.Performs.labels old.parts) slot old.core c.submit.new.self c.in-Err.ensures.refused.same x

@@ -5,7 +5,7 @@ use Rattle.r6_shard.specs.Kept.{IsKept}
 use Rattle.r6_health.specs.Passes.{view_of}
 use Rattle.r6_world.specs.Worlds.{as_made}
 use Rattle.r6_world.specs.Steps.{No_call, Take_call, Told}
-use Rattle.r6_core.specs.Shards.{call_of}
+use Rattle.r6_core.specs.Shards.{call_of, world_shard}
 use Rattle.r6_shard.proofs.Counting.{passes-none}
 use Rattle.r6_shard.proofs.Keeping.{kept-plainly, kept-telling}
 use Rattle.r6_shard.proofs.Lasting.{lasts_by, lasts_twice}
@@ -16,6 +16,11 @@ use Rattle.r6_shard.proofs.Own.{own-told, failure-on, failure-later}
 use Rattle.r6_shard.proofs.Sound.{sound-by, sound-twice}
 use Rattle.r6_shard.specs.Whole.{SkipsNone}
 use Rattle.r6_shard.proofs.Whole.{skips-by, saw-later}
+use Rattle.r6_shard.specs.Answering.{AreOnce}
+use Rattle.r6_shard.specs.Looked.{KnowsLast}
+use Rattle.r6_shard.proofs.Answering.{once-on}
+use Rattle.r6_shard.proofs.Here.{here-by, here-twice}
+use Rattle.r6_shard.proofs.Looked.{knows-on, knows-twice}
 use Rattle.r6_shard.proofs.shard.Shard.tell_next.Goals as goal
 
 pub invariant_of-self-clause-kept : goal.invariant_of-self-clause-kept
@@ -112,12 +117,15 @@ returns-in_default-clause-advances g c =
     let step = c.in_default.ensures.step in
     record {
       course = λ s ops x.
-          has-gone s old.core new (view_of old.pass) old.looked old.named tells old.asked.items old.entries.items ops No_call (record {})
+          has-gone s old.core new (view_of old.pass) old.last.attaches old.named tells old.asked.items old.entries.items ops No_call (record {})
           (λ history. refl) step x;
-      lasts = lasts_by old.core No_call new step;
+      lasts = lasts_by old.core No_call new c.take_call.ensures.window step;
       remembers = λ x. x;
       sound = λ shape number slot x.
           sound-by tells (g.P.Performs.promised old.parts) shape number slot old.core No_call new old.named (record {}) step x;
+      labels_stay = refl;
+      room_stays = refl;
+      here = λ slot x. here-by (g.P.Performs.labels old.parts) slot old.core No_call new (record {}) step x;
     }
 
 pub returns-clause-advances : goal.returns-clause-advances
@@ -132,11 +140,55 @@ returns-clause-advances g c =
     let hears = c.in-Ok.ensures.heard.step in
     record {
       course = λ s ops x.
-          has-told s old.core mid new (view_of old.pass) (view_of c.make-answer.new.pass) old.looked old.named tells old.asked.items
+          has-told s old.core mid new (view_of old.pass) (view_of c.make-answer.new.pass) old.last.attaches old.named tells old.asked.items
           old.entries.items ops old.number call answer old.kept.0 takes hears c.make-answer.ensures.answered x;
-      lasts = lasts_twice old.core (Take_call (call_of call)) mid (Told (call_of call) answer) new takes hears;
+      lasts = lasts_twice old.core (Take_call (call_of call)) mid (Told (call_of call) answer) new c.take_call.ensures.window c.told.ensures.window takes hears;
       remembers = λ x. x;
       sound = λ shape number slot x.
           sound-twice tells (g.P.Performs.promised old.parts) shape number slot old.core (Take_call (call_of call)) mid
           (Told (call_of call) answer) new old.named (record {}) (record {}) takes hears x;
+      labels_stay = refl;
+      room_stays = refl;
+      here = λ slot x.
+          here-twice (g.P.Performs.labels old.parts) slot old.core (Take_call (call_of call)) mid (Told (call_of call) answer) new
+          (record {}) (record {}) takes hears x;
     }
+
+pub invariant_of-self-clause-knows : goal.invariant_of-self-clause-knows
+invariant_of-self-clause-knows g c =
+    let old = c.args.self.now in
+    knows-on old.core No_call c.take_call.new.self old.last (record {}) c.in_default.ensures.step old.knows
+
+pub invariant_of-self-2-clause-knows : goal.invariant_of-self-2-clause-knows
+invariant_of-self-2-clause-knows g c =
+    let old = c.args.self.now in
+    let mid = c.take_call.new.self in
+    let new = c.told.new.self in
+    let call = c.in-Some.call in
+    let answer = c.make-answer.result in
+    let takes = c.in-Some.ensures.step in
+    either_way c.told.result (λ _. Hears mid call answer new) (λ refusal. RefusesAnswer mid call refusal new)
+    (KnowsLast new old.last) c.told.ensures.heard c.told.ensures.refused
+    (λ _ heard.
+    knows-twice old.core (Take_call (call_of call)) mid (Told (call_of call) answer) new old.last (record {}) (record {}) takes heard.step old.knows)
+    (λ refusal refused. absurd (refused.unknown (ap (λ (y : Shard). y.untold) takes.1.2)))
+
+pub invariant_of-self-clause-once : goal.invariant_of-self-clause-once
+invariant_of-self-clause-once g c =
+    let old = c.args.self.now in
+    once-on old.core No_call c.take_call.new.self old.entries.items (λ op id e. cc) c.in_default.ensures.step old.once
+
+pub invariant_of-self-2-clause-once : goal.invariant_of-self-2-clause-once
+invariant_of-self-2-clause-once g c =
+    let old = c.args.self.now in
+    let mid = c.take_call.new.self in
+    let new = c.told.new.self in
+    let call = c.in-Some.call in
+    let answer = c.make-answer.result in
+    let takes = c.in-Some.ensures.step in
+    either_way c.told.result (λ _. Hears mid call answer new) (λ refusal. RefusesAnswer mid call refusal new)
+    (AreOnce (world_shard new) old.entries.items) c.told.ensures.heard c.told.ensures.refused
+    (λ _ heard.
+    once-on mid (Told (call_of call) answer) new old.entries.items (λ op id e. cc) heard.step
+    (once-on old.core (Take_call (call_of call)) mid old.entries.items (λ op id e. cc) takes old.once))
+    (λ refusal refused. absurd (refused.unknown (ap (λ (y : Shard). y.untold) takes.1.2)))

@@ -1,8 +1,8 @@
-use Rattle.std.proofs.Common.{◌≡◌, ◌+◌, length, sym, ap, subst, ◌∙◌, Ok, Err}
+use Rattle.std.proofs.Common.{◌≡◌, ◌+◌, length, refl, sym, ap, subst, ◌∙◌, Ok, Err}
 use Rattle.std.specs.Prelude.{IfOk}
 use Rattle.r6_health.specs.Passes.{view_of}
 use Rattle.r6_health.specs.Histories.{held}
-use Rattle.r6_core.specs.Shards.{CoreView}
+use Rattle.r6_core.specs.Shards.{CoreView, world_shard}
 use Rattle.r6_core.specs.Effects.{Turns, RefusesTurn}
 use Rattle.r6_shard.specs.Kept.{IsKept}
 use Rattle.r6_shard.specs.Courses.{HasCourse}
@@ -20,6 +20,12 @@ use Rattle.r6_shard.proofs.Keeping.{turned-no-look}
 use Rattle.r6_shard.proofs.Sound.{sound-by, sound-same}
 use Rattle.r6_shard.specs.Whole.{SkipsNone}
 use Rattle.r6_shard.proofs.Whole.{skips-by, skips-same, turned-calm}
+use Rattle.r6_shard.specs.Answering.{AreOnce}
+use Rattle.r6_shard.specs.Here.{HasUsed}
+use Rattle.r6_shard.specs.Looked.{KnowsLast}
+use Rattle.r6_shard.proofs.Answering.{once-same, once-turned}
+use Rattle.r6_shard.proofs.Here.{here-same, here-turned}
+use Rattle.r6_shard.proofs.Looked.{knows-same, knows-turned}
 use Rattle.r6_shard.proofs.shard.Shard.turn.Goals as goal
 
 pub invariant_of-self-clause-kept : goal.invariant_of-self-clause-kept
@@ -91,15 +97,15 @@ returns-clause-advances g c =
     record {
       course = λ s ops x.
           either_way c.turn.result (λ turn. Turns old.core task turn new) (λ refusal. RefusesTurn old.core task refusal new)
-          (HasCourse s new v old.looked old.named part old.asked.items old.entries.items ops) c.turn.ensures.turned c.turn.ensures.refused
+          (HasCourse s new v old.last.attaches old.named part old.asked.items old.entries.items ops) c.turn.ensures.turned c.turn.ensures.refused
           (λ turn t.
           let p = turned old.core task turn new t.taken in
-          subst (λ y. HasCourse s new v y old.named part old.asked.items old.entries.items ops) (p.4 old.looked)
-          (has-gone s old.core new v old.looked old.named part old.asked.items old.entries.items ops p.0 (p.2 (held v.start v.seen)) p.3 p.5 x))
-          (λ refusal refused. subst (λ z. HasCourse s z v old.looked old.named part old.asked.items old.entries.items ops) (sym refused.same) x);
+          subst (λ y. HasCourse s new v y old.named part old.asked.items old.entries.items ops) (p.4 old.last.attaches)
+          (has-gone s old.core new v old.last.attaches old.named part old.asked.items old.entries.items ops p.0 (p.2 (held v.start v.seen)) p.3 p.5 x))
+          (λ refusal refused. subst (λ z. HasCourse s z v old.last.attaches old.named part old.asked.items old.entries.items ops) (sym refused.same) x);
       lasts = either_way c.turn.result (λ turn. Turns old.core task turn new) (λ refusal. RefusesTurn old.core task refusal new)
           (Lasts old.core new) c.turn.ensures.turned c.turn.ensures.refused
-          (λ turn t. lasts_turned old.core task turn new t.taken)
+          (λ turn t. lasts_turned old.core task turn new c.turn.ensures.window t.taken)
           (λ refusal refused. lasts_same old.core new refused.same);
       remembers = λ x. x;
       sound = λ shape number slot x.
@@ -109,7 +115,35 @@ returns-clause-advances g c =
           let p = turned old.core task turn new t.taken in
           sound-by part promised shape number slot old.core p.0 new old.named (turned-no-look old.core task turn new t.taken) p.5 x)
           (λ refusal refused. sound-same part promised shape number slot old.core new old.named refused.same x);
+      labels_stay = refl;
+      room_stays = refl;
+      here = λ slot x.
+          let labels = g.P.Performs.labels old.parts in
+          either_way c.turn.result (λ turn. Turns old.core task turn new) (λ refusal. RefusesTurn old.core task refusal new)
+          (HasUsed labels slot new) c.turn.ensures.turned c.turn.ensures.refused
+          (λ turn t. here-turned labels slot old.core task turn new t.taken x)
+          (λ refusal refused. here-same labels slot old.core new refused.same x);
     }
 
 pub returns-clause-refused : goal.returns-clause-refused
 returns-clause-refused g c = c.turn.ensures.refused
+
+pub invariant_of-self-clause-knows : goal.invariant_of-self-clause-knows
+invariant_of-self-clause-knows g c =
+    let old = c.args.self.now in
+    let new = c.turn.new.self in
+    let task = c.args.task in
+    either_way c.turn.result (λ turn. Turns old.core task turn new) (λ refusal. RefusesTurn old.core task refusal new)
+    (KnowsLast new old.last) c.turn.ensures.turned c.turn.ensures.refused
+    (λ turn t. knows-turned old.core task turn new old.last t.taken old.knows)
+    (λ refusal refused. knows-same old.core new old.last refused.same old.knows)
+
+pub invariant_of-self-clause-once : goal.invariant_of-self-clause-once
+invariant_of-self-clause-once g c =
+    let old = c.args.self.now in
+    let new = c.turn.new.self in
+    let task = c.args.task in
+    either_way c.turn.result (λ turn. Turns old.core task turn new) (λ refusal. RefusesTurn old.core task refusal new)
+    (AreOnce (world_shard new) old.entries.items) c.turn.ensures.turned c.turn.ensures.refused
+    (λ turn t. once-turned old.core task turn new old.entries.items t.taken old.once)
+    (λ refusal refused. once-same old.core new old.entries.items refused.same old.once)

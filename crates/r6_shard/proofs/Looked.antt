@@ -1,0 +1,143 @@
+-- What a shard knows by its last look, as it goes on.
+use Rattle.std.proofs.Common.{◌≡◌, ℕ, ◌<◌, List, Bool, true, false, inl, inr, refl, sym, ap, subst, ◌∙◌}
+use Rattle.std.specs.Prelude.{◌==◌}
+use Rattle.std.proofs.lemmas.Bool.{cases_Bool, eqb-true, false≢true}
+use Rattle.r6_layout.specs.Shape.{Shape}
+use Rattle.r6_health.specs.declared.history.View.{View}
+use Rattle.r6_health.specs.Histories.{held}
+use Rattle.r6_world.specs.Layouts.{Layout}
+use Rattle.r6_world.specs.Registers.{Snapshot, ShardSet, Status, Lost, Rebuilding, status_of}
+use Rattle.r6_world.specs.ShardStates.{Shard, SlotState, Synced, Missing, Building}
+use Rattle.r6_world.specs.Changes.{Adopt, Bring_in, Finish, Lose, Release, adopted, after}
+use Rattle.r6_world.specs.Steps as steps
+use Rattle.r6_world.specs.Steps.{Event, Look, Looks, No_command}
+use Rattle.r6_world.specs.Worlds.{slot_at_start}
+use Rattle.r6_world.specs.Refusals.{IsNoLook, SeesNoFailure}
+use Rattle.r6_world.proofs.Changes.{Keeps, step-kept, through-goes, through-scans}
+use Rattle.r6_world.proofs.Refused.Refusals.{stops_only_when_seen}
+use Rattle.r6_course.specs.Ends.{IsInUse}
+use Rattle.r6_course.proofs.Ends.{look-sees}
+use Rattle.r6_core.specs.declared.turn.Task.{Task}
+use Rattle.r6_core.specs.declared.turn.Turn.{Turn}
+use Rattle.r6_core.specs.Effects.{IsMade, TakesTurn}
+use Rattle.r6_core.specs.Shards.{CoreView, Step, core_layout, world_shard}
+use Rattle.r6_shard.specs.declared.ledger.Entry.{Entry}
+use Rattle.r6_shard.specs.Looked.{KnowsLast}
+use Rattle.r6_shard.specs.Own.{SeesFailure}
+use Rattle.r6_shard.proofs.Keeping.{turned, turned-no-look}
+use Rattle.r6_shard.proofs.Sound.{put-used, finished-used}
+
+-- ---- each small change
+
+-- what is in use in a slot was in use there, but where a look found a new device
+abbrev WasInUse : (slot : ℕ) → (first now : Shard) → Type 0
+WasInUse slot first now = (g : ℕ) → IsInUse (now.slot slot) g → IsInUse (first.slot slot) g
+
+in-use-kept : (l : Layout) (n slot : ℕ) (first : Shard) (event : Event) → IsNoLook event → Keeps l n (WasInUse slot first) event
+in-use-kept l n slot first event none s (Lose t c) within a x = λ g u. put-used s.slot c.slot Missing slot g (λ same v. absurd v) (x g) u
+in-use-kept l n slot first event none s (Adopt d status) within a x = absurd (subst IsNoLook within.1 none)
+in-use-kept l n slot first event none s (Finish f h outcome) within a x = λ g u. x g (finished-used s h h.task outcome slot g u)
+in-use-kept l n slot first event none s (Bring_in d new) within a x = λ g u.
+    put-used s.slot d (Synced new) slot g
+    (λ same v. x g (subst (λ y. IsInUse (s.slot y) g) (sym same) (subst (λ y. IsInUse y g) (sym a.1) v))) (x g) u
+in-use-kept l n slot first event none s change within a x = x
+
+-- ---- a look
+
+used-then : (l : Layout) (n : ℕ) (failed : Bool) (mid new : Shard) → Looks l n failed mid new → (slot : ℕ) → WasInUse slot mid new
+used-then l n true mid new p slot = subst (WasInUse slot mid) (sym p) (λ g u. u)
+used-then l n false mid new p slot =
+    let kept = in-use-kept l n slot mid No_command (record {}) in
+    through-scans l n (WasInUse slot mid) No_command kept (after l p.0 Release) new p.2
+    (through-goes l n (WasInUse slot mid) No_command kept mid p.0 p.1 (λ g u. u))
+
+used-after : (l : Layout) (n : ℕ) (old : Shard) (seen : Snapshot) (new : Shard) → steps.Step l n old (Look seen) new → (slot : ℕ) → slot < l.slots
+    → (status : Status) → status_of seen slot ≡ status → (g : ℕ) → IsInUse (new.slot slot) g → IsInUse (adopted (old.slot slot) status) g
+used-after l n old seen new st slot below status e g u =
+    subst (λ y. IsInUse (adopted (old.slot slot) y) g) e
+    (subst (λ y. IsInUse y g) (st.4 slot below) (used-then l n seen.failed st.2 new st.5 slot g u))
+
+lost-none : (now : SlotState) (g : ℕ) → IsInUse (adopted now Lost) g → ⊥
+lost-none (Synced current) g u = u
+lost-none Missing g u = u
+lost-none (Building current built) g u = u
+
+new-alone : (now : SlotState) (new : ℕ) (reported : ShardSet) (g : ℕ) → IsInUse (adopted now (Rebuilding new reported)) g → g ≡ new
+new-alone (Synced current) new reported g u = at (current == new) refl u
+  where
+    at : (b : Bool) → (current == new) ≡ b → IsInUse (Rattle.std.specs.Prelude.cond b (Synced current) (Building new (λ row. false))) g → g ≡ new
+    at true e v = v ∙ eqb-true current new e
+    at false e v = v
+new-alone Missing new reported g u = u
+new-alone (Building current built) new reported g u = at (current == new) refl u
+  where
+    at : (b : Bool) → (current == new) ≡ b → IsInUse (Rattle.std.specs.Prelude.cond b (Building current built) (Building new (λ row. false))) g → g ≡ new
+    at true e v = v ∙ eqb-true current new e
+    at false e v = v
+
+-- ---- each call of the core
+
+sees-none : (event : Event) → IsNoLook event → SeesNoFailure event
+sees-none (Look seen) k = absurd k
+sees-none event k = record {}
+
+-- any call but a look
+pub knows-on : (old : CoreView) (event : Event) (new : CoreView) (last : Snapshot) → IsNoLook event → Step old event new → KnowsLast old last → KnowsLast new last
+knows-on old event new last none step x =
+    let l = core_layout old in
+    let used : (slot : ℕ) → WasInUse slot (world_shard old) (world_shard new) =
+    (λ slot. step-kept l old.shard (WasInUse slot (world_shard old)) event (in-use-kept l old.shard slot (world_shard old) event none) (world_shard old)
+    (world_shard new) step.1 (λ g u. u)) in
+    let low : (slot : ℕ) → slot < new.shape.slots → slot < old.shape.slots = (λ slot below. subst (λ (y : Shape). slot < y.slots) step.0.0 below) in
+    record {
+      failed = stops_only_when_seen l old.shard (world_shard old) (world_shard new) event (sees-none event none) step.1 ∙ x.failed;
+      lost = λ slot below e g u. x.lost slot (low slot below) e g (used slot g u);
+      rebuilt = λ slot below new' reported e g u. x.rebuilt slot (low slot below) new' reported e g (used slot g u);
+    }
+
+pub knows-twice : (old : CoreView) (event : Event) (mid : CoreView) (event' : Event) (new : CoreView) (last : Snapshot) → IsNoLook event → IsNoLook event'
+    → Step old event mid → Step mid event' new → KnowsLast old last → KnowsLast new last
+knows-twice old event mid event' new last none none' first second x = knows-on mid event' new last none' second (knows-on old event mid last none first x)
+
+pub knows-same : (old new : CoreView) (last : Snapshot) → new ≡ old → KnowsLast old last → KnowsLast new last
+knows-same old new last same x = subst (λ y. KnowsLast y last) (sym same) x
+
+pub knows-turned : (old : CoreView) (task : Task) (turn : Turn) (new : CoreView) (last : Snapshot) → TakesTurn old task turn new → KnowsLast old last
+    → KnowsLast new last
+knows-turned old task turn new last t x =
+    let p = turned old task turn new t in knows-on old p.0 new last (turned-no-look old task turn new t) p.5 x
+
+-- the core looks at what the pass saw last: what it saw failed before has failed there
+pub knows-looked : (old : CoreView) (seen : Snapshot) (new : CoreView) (v : View) (entries : List Entry) → seen ≡ held v.start v.seen
+    → Step old (Look seen) new → SeesFailure old v entries → KnowsLast new seen
+knows-looked old seen new v entries is step failure =
+    let l = core_layout old in
+    let low : (slot : ℕ) → slot < new.shape.slots → slot < old.shape.slots = (λ slot below. subst (λ (y : Shape). slot < y.slots) step.0.0 below) in
+    record {
+      failed = elim (cases_Bool seen.failed) [
+        | inl failed ↦ look-sees l old.shard (world_shard old) seen (world_shard new) step.1 failed ∙ sym failed
+        | inr fine ↦
+            stops_only_when_seen l old.shard (world_shard old) (world_shard new) (Look seen) fine step.1 ∙ elim (cases_Bool (world_shard old).saw_failed) [
+              | inl saw ↦ absurd (false≢true (sym fine ∙ ap (λ (y : Snapshot). y.failed) is ∙ failure.there saw))
+              | inr unseen ↦ unseen ∙ sym fine
+            ]
+      ];
+      lost = λ slot below e g u. lost-none ((world_shard old).slot slot) g
+          (used-after l old.shard (world_shard old) seen (world_shard new) step.1 slot (low slot below) Lost e g u);
+      rebuilt = λ slot below new' reported e g u. new-alone ((world_shard old).slot slot) new' reported g
+          (used-after l old.shard (world_shard old) seen (world_shard new) step.1 slot (low slot below) (Rebuilding new' reported) e g u);
+    }
+
+-- ---- the start
+
+pub knows-first : (shape : Shape) (snapshot : Snapshot) (number : ℕ) (core : CoreView) → snapshot.failed ≡ false → IsMade shape snapshot number core
+    → KnowsLast core snapshot
+knows-first shape snapshot number core fine made =
+    record {
+      failed = ap (λ (y : Shard). y.saw_failed) made.start ∙ sym fine;
+      lost = λ slot below e g u. at slot g Lost e u;
+      rebuilt = λ slot below new reported e g u. absurd (at slot g (Rebuilding new reported) e u);
+    }
+  where
+    at : (slot g : ℕ) (status : Status) → status_of snapshot slot ≡ status → IsInUse ((world_shard core).slot slot) g → IsInUse (slot_at_start status) g
+    at slot g status e u = subst (λ y. IsInUse (slot_at_start y) g) e (subst (λ (y : Shard). IsInUse (y.slot slot) g) made.start u)
