@@ -3,6 +3,7 @@
 
 mod consumer;
 mod events;
+mod generations;
 mod item;
 mod laws;
 mod list;
@@ -14,6 +15,7 @@ mod work;
 
 pub use consumer::Consumer;
 pub use events::Events;
+pub use generations::{Generations, Given, agree_all};
 pub use item::Item;
 pub use laws::event_law;
 pub use list::List;
