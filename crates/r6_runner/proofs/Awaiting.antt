@@ -190,4 +190,4 @@ pub handed-awaited : {D : Type 0} (told : D → Telling) (events : List Event) (
     → IsHandedIn told number part old new → HasAwaited events old → HasAwaited events new
 handed-awaited told events old new number part h x =
     alike events old.waits new.waits old.shard.asked.items new.shard.asked.items old.due.items new.due.items h.waits
-    (asked-on told h.taken part old.shard new.shard h.shard) h.due x
+    (asked-on told h.taken part h.back old.shard new.shard h.shard) h.due x

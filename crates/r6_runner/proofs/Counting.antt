@@ -1,5 +1,5 @@
 -- What the counts of checks and repairs add up to, as their shard goes on.
-use Rattle.std.proofs.Common.{◌≡◌, ℕ, ◌+◌, ◌≤◌, ◌⊎◌, List, [], ◌∷◌, ◌++◌, All, Bool, true, false, inl, inr, refl, sym, ap, subst, ◌∙◌, arith, Option, Some, None}
+use Rattle.std.proofs.Common.{◌≡◌, ℕ, ◌+◌, ◌-◌, ◌≤◌, ◌⊎◌, List, [], ◌∷◌, ◌++◌, All, Bool, true, false, inl, inr, refl, sym, ap, subst, ◌∙◌, arith, Option, Some, None}
 use Rattle.std.proofs.lemmas.Bool.{false≢true}
 use Rattle.std.proofs.lemmas.List.Elements.{All-push}
 use Rattle.r6_world.specs.ShardStates as world
@@ -21,7 +21,10 @@ use Rattle.r6_shard.proofs.Counting.{was-in-service}
 use Rattle.r6_runner.specs.declared.pass.Passing.{Passing}
 use Rattle.r6_runner.specs.declared.pass.Passed.{Passed}
 use Rattle.r6_runner.specs.declared.runner.Runner.{Runner}
-use Rattle.r6_runner.specs.Counted.{AddUp, AreCounted, HasCounted, HasTurned, IsCounting, IsUsedUp, IsWhole, StandsAt, rows_in}
+use Rattle.r6_shard.specs.Refusing.{CountsRise}
+use Rattle.r6_shard.proofs.Rising.{rise-none, rise-on}
+use Rattle.r6_runner.specs.Classes.{classed_in}
+use Rattle.r6_runner.specs.Counted.{AddUp, AreClassed, AreCounted, AreWithin, HasCounted, HasTurned, IsCounting, IsUsedUp, LeavesNoneOut, IsWithin, StandsAt, rows_in}
 
 -- ---- a shard goes on
 
@@ -38,7 +41,7 @@ used-on old new lasts later used = elim used [
 
 -- rows that are counted now are counted then
 counted-now : (counted rows : ℕ) (core : CoreView) → HasPassedRows false counted rows core → HasPassedRows false (counted_in core) rows core
-counted-now counted rows core x = record { shard = x.shard; least = λ live. omega arith; out = x.out }
+counted-now counted rows core x = record { shard = x.shard; most = x.most; least = λ live. omega arith; out = x.out }
 
 carries-by : (counted gone gone' : ℕ) (old new : CoreView)
     → ((stopped : Bool) (counted : ℕ) → HasPassedRows stopped counted gone old → HasPassedRows stopped counted gone' new)
@@ -73,18 +76,36 @@ stands-on rows gone old new c live passed None x = x
 stands-on rows gone old new c live passed (Some p) x =
     (x.0, record { one = x.1.one; left = x.1.left; ended = λ e. c.used live (x.1.ended e) })
 
-whole-on : (old new : CoreView) → Carries old new → IsInService new → (passed : List Passed) → All (IsWhole old) passed → All (IsWhole new) passed
+whole-on : (old new : CoreView) → Carries old new → IsInService new → (passed : List Passed) → All (LeavesNoneOut old) passed → All (LeavesNoneOut new) passed
 whole-on old new c live passed x k d below = elim (x k d below) [
   | inl none ↦ inl none
   | inr used ↦ inr (c.used live used)
 ]
 
+-- whatever it has gone over, it is still within its rows
+within-on : (rows : ℕ) (old new : CoreView) → ((counted gone : ℕ) → HasPassedRows false counted gone old → (n : ℕ) × HasPassedRows false n gone new)
+    → Lasts old new → (passing : Option Passing) → AreWithin rows old passing → AreWithin rows new passing
+within-on rows old new passes lasts None x = x
+within-on rows old new passes lasts (Some p) x =
+    let now = passes x.counted x.gone x.passes in
+    record {
+      one = x.one;
+      counted = now.0;
+      gone = x.gone;
+      passes = now.1;
+      left = x.left;
+      rise = rise-on (counts_of p.before) (world_shard old).counts (world_shard new).counts x.rise lasts.counts;
+    }
+
 counting-on : (rows counted counted' gone : ℕ) (old new : CoreView) (passing : Option Passing) (passed : List Passed) → Carries old new
+    → ((counted gone : ℕ) → HasPassedRows false counted gone old → (n : ℕ) × HasPassedRows false n gone new) → Lasts old new
     → HasPassedRows false counted' gone new → IsCounting rows counted gone old passing passed → IsCounting rows counted' gone new passing passed
-counting-on rows counted counted' gone old new passing passed c now x = record {
+counting-on rows counted counted' gone old new passing passed c passes lasts now x = record {
   passes = now;
   stands = λ live. stands-on rows gone old new c live passed passing (x.stands (c.service live));
   whole = λ live. whole-on old new c live passed (x.whole (c.service live));
+  within = within-on rows old new passes lasts passing x.within;
+  classed = x.classed;
 }
 
 counting-none : (rows counted gone : ℕ) (old new : CoreView) (passing : Option Passing) (passed : List Passed) → PassesNone old new → Lasts old new
@@ -92,6 +113,7 @@ counting-none : (rows counted gone : ℕ) (old new : CoreView) (passing : Option
 counting-none rows counted gone old new passing passed passes lasts x =
     counting-on rows counted counted gone old new passing passed
     (carries-by counted gone gone old new (λ stopped counted. passes stopped counted gone) lasts x.passes)
+    (λ counted gone p. (counted, passes false counted gone p)) lasts
     (passes false counted gone x.passes) x
 
 -- ---- as calls do it, which keep how many rows the shard has
@@ -119,7 +141,8 @@ pub counts-all : (own : ℕ) (old new : CoreView) (passing : Option Passing) (pa
 counts-all own old new passing passed counts lasts rows x = (
   x.0,
   x.2,
-  counting-on rows x.1 x.2 x.2 old new passing passed (carries-all x.1 x.2 old new counts lasts x.3.passes) (counts false x.1 x.2 x.3.passes) x.3,
+  counting-on rows x.1 x.2 x.2 old new passing passed (carries-all x.1 x.2 old new counts lasts x.3.passes)
+      (λ counted gone p. (gone, counts false counted gone p)) lasts (counts false x.1 x.2 x.3.passes) x.3,
 )
 
 -- ---- a check or repair
@@ -127,6 +150,21 @@ counts-all own old new passing passed counts lasts rows x = (
 pub rows-counted : (k : Counts) (core : CoreView) → counts_of k ≡ (world_shard core).counts → rows_in k ≡ counted_in core
 rows-counted k core same =
     ap (λ (c : world.Counts). c.consistent + c.wrong_p + c.wrong_q + c.wrong_data + c.many + c.skipped) same
+
+-- in service or not, it may be said to have passed just those that are counted
+as-counted : (gone : ℕ) (core : CoreView) → HasPassedRows false gone gone core → HasPassedRows false (counted_in core) (counted_in core) core
+as-counted gone core x = record {
+  shard = (
+    x.shard.0,
+    x.shard.1,
+    λ live.
+        let all = all-counted gone core x live in
+        let most : counted_in core + checks_held (world_shard core) ≡ gone = x.shard.2 live in omega (arith, all, most),
+  );
+  most = omega arith;
+  least = λ live. omega arith;
+  out = x.out;
+}
 
 -- it begins
 pub counting-begun : (rows gone : ℕ) (core : CoreView) (passed : List Passed) (p : Passing) → rows_of p.task ≡ 1 → p.left ≡ rows → p.given_up ≡ false
@@ -139,6 +177,15 @@ counting-begun rows gone core passed p one left going before x = record {
         record { one = one; left = omega (arith, at, left); ended = λ e. absurd (false≢true (sym going ∙ e)) },
       );
   whole = x.whole;
+  within = record {
+    one = one;
+    counted = counted_in core;
+    gone = counted_in core;
+    passes = as-counted gone core x.passes;
+    left = let same = rows-counted p.before core before in omega (arith, same, left);
+    rise = subst (λ (k : world.Counts). CountsRise k (world_shard core).counts) (sym before) (rise-none (world_shard core).counts);
+  };
+  classed = x.classed;
 }
 
 -- it goes on
@@ -161,7 +208,28 @@ counting-turned rows counted gone p q old new passed t x =
             },
           );
       whole = λ live. whole-on old new c live passed (x.whole (c.service live));
+      within = let w = x.within in
+          let before : rows_in q.before ≡ rows_in p.before = ap rows_in t.before in
+          let less = t.left w.one in
+          let left = w.left in
+          record {
+            one = ap rows_of t.task ∙ w.one;
+            counted = w.counted;
+            gone = w.gone + t.more;
+            passes = t.passes false w.counted w.gone w.passes;
+            left = omega (arith, before, less, left);
+            rise = subst (λ (k : Counts). CountsRise (counts_of k) (world_shard new).counts) (sym t.before)
+                (rise-on (counts_of p.before) (world_shard old).counts (world_shard new).counts w.rise t.lasts.counts);
+          };
+      classed = x.classed;
     }
+
+-- what it classed and skipped is all of its rows
+classes-all : (rows gone left : ℕ) (before after : Counts) → CountsRise (counts_of before) (counts_of after) → rows_in after ≤ gone
+    → gone + left ≡ rows_in before + rows → classed_in before after + (rows - classed_in before after) ≡ rows
+classes-all rows gone left before after rise most is =
+    let a = rise.consistent in let b = rise.wrong_p in let c = rise.wrong_q in let d = rise.wrong_data in let e = rise.many in
+    let f = rise.skipped in omega (arith, a, b, c, d, e, f, most, is)
 
 add-up-more : (rows from to : ℕ) (passed : List Passed) (p : Passed) → AddUp rows from passed to → rows_in p.before ≡ to
     → rows_in p.after + p.left_out ≡ rows_in p.before + rows → AddUp rows from (passed ++ p ∷ []) (rows_in p.after)
@@ -170,9 +238,10 @@ add-up-more rows from to (first ∷ passed) p x before adds = (x.0, x.1, add-up-
 
 -- it is over
 pub counting-over : (rows gone : ℕ) (core : CoreView) (passed : List Passed) (p : Passing) (q : Passed) → (p.left ≡ 0) ⊎ (p.given_up ≡ true)
-    → q.before ≡ p.before → q.left_out ≡ p.left → counts_of q.after ≡ (world_shard core).counts
+    → q.before ≡ p.before → q.left_out ≡ p.left → q.skipped ≡ rows - classed_in p.before q.after
+    → counts_of q.after ≡ (world_shard core).counts
     → IsCounting rows gone gone core (Some p) passed → IsCounting rows gone gone core None (passed ++ q ∷ [])
-counting-over rows gone core passed p q over same left now x = record {
+counting-over rows gone core passed p q over same left skipped now x = record {
   passes = x.passes;
   stands = λ live.
       let was = x.stands live in
@@ -181,10 +250,17 @@ counting-over rows gone core passed p q over same left now x = record {
       let yet = was.1.left in
       subst (AddUp rows 0 (passed ++ q ∷ [])) after
       (add-up-more rows 0 (rows_in p.before) passed q was.0 before (omega (arith, after, before, left, yet)));
-  whole = λ live. All-push (IsWhole core) passed q (x.whole live) (elim over [
+  whole = λ live. All-push (LeavesNoneOut core) passed q (x.whole live) (elim over [
     | inl none ↦ inl (left ∙ none)
     | inr given ↦ inr ((x.stands live).1.ended given)
   ]);
+  within = tt;
+  classed = All-push (λ (q : Passed). classed_in q.before q.after + q.skipped ≡ rows) passed q x.classed
+      (ap (λ (k : Counts). classed_in k q.after + q.skipped) same
+      ∙ ap (λ (n : ℕ). classed_in p.before q.after + n) skipped
+      ∙ classes-all rows x.within.gone p.left p.before q.after
+      (subst (λ (k : world.Counts). CountsRise (counts_of p.before) k) (sym now) x.within.rise)
+      (subst (λ (n : ℕ). n ≤ x.within.gone) (sym (rows-counted q.after core now)) x.within.passes.most) x.within.left);
 }
 
 -- ---- a run
@@ -194,6 +270,8 @@ counting-first rows core x = record {
   passes = x;
   stands = λ live. refl;
   whole = λ live k d below. absurd (omega (arith, below));
+  within = tt;
+  classed = λ k d below. absurd (omega (arith, below));
 }
 
 -- all is over
@@ -206,6 +284,10 @@ counted-at-end rows runner none home x live =
       subst (AddUp rows 0 passed) (sym all) (subst (StandsAt rows x.2 core passed) none (x.3.stands live)),
       x.3.whole live,
     )
+
+-- whatever is over, in service or not
+pub classed-at-end : {D : Type 0} (rows : ℕ) (runner : Runner D) → HasCounted rows runner → AreClassed rows runner.passed.items
+classed-at-end rows runner x = x.3.classed
 
 -- ---- as calls of the runner do it
 
@@ -220,14 +302,14 @@ begun-counted own core before passed p is one left going counts rows x = (
 
 pub over-counted : (own : ℕ) (core : CoreView) (some : Option Passing) (passed passed' : List Passed) (p : Passing) (q : Passed) → some ≡ Some p
     → (p.left ≡ 0) ⊎ (p.given_up ≡ true) → passed' ≡ passed ++ q ∷ [] → q.before ≡ p.before → q.left_out ≡ p.left
-    → counts_of q.after ≡ (world_shard core).counts
+    → q.skipped ≡ own - classed_in p.before q.after → counts_of q.after ≡ (world_shard core).counts
     → (rows : ℕ) → CountedAll rows own core some passed → Counted rows own core None passed'
-over-counted own core some passed passed' p q is over more before left after rows x = (
+over-counted own core some passed passed' p q is over more before left skipped after rows x = (
   x.0,
   x.1,
   x.1,
   subst (IsCounting rows x.1 x.1 core None) (sym more)
-      (counting-over rows x.1 core passed p q over before left after (subst (λ o. IsCounting rows x.1 x.1 core o passed) is x.2)),
+      (counting-over rows x.1 core passed p q over before left (skipped ∙ ap (λ (n : ℕ). n - classed_in p.before q.after) x.0) after (subst (λ o. IsCounting rows x.1 x.1 core o passed) is x.2)),
 )
 
 pub turned-counted : (own own' : ℕ) (old new : CoreView) (some : Option Passing) (passed passed' : List Passed) (p q : Passing) → some ≡ Some p

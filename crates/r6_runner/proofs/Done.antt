@@ -22,7 +22,7 @@ use Rattle.r6_shard.specs.Shards as shards
 use Rattle.r6_shard.specs.Shards.{ComesFrom}
 use Rattle.r6_shard.specs.Beginnings.{start_of}
 use Rattle.r6_shard.specs.Handing.{parts_tell}
-use Rattle.r6_shard.specs.declared.run.Asking.{Asking}
+use Rattle.r6_shard.specs.declared.ledger.Asking.{Asking}
 use Rattle.r6_shard.specs.Refusing.{Lasts}
 use Rattle.r6_shard.specs.Runs.{AreServed}
 use Rattle.r6_shard.proofs.FromStarts.{handed_law}
@@ -34,7 +34,7 @@ use Rattle.r6_runner.specs.declared.pass.Passed.{Passed}
 use Rattle.r6_runner.specs.declared.runner.Handed.{Handed}
 use Rattle.r6_runner.specs.declared.runner.Runner.{Runner}
 use Rattle.r6_runner.specs.Tasks.{NewPart, request_in, pass_in, part_in, requests_in, passes_in, parts_in, due_requests, due_passes, request_of, pass_of, under_way, passed_of, slot_of, handed_of}
-use Rattle.r6_runner.specs.Runners.{taken_up, AllTell, IsDone, IsPartTaken, IsOutcome, HasDone, GoesOn, IsPut, IsHandedIn, IsPassing, ShardGoesOn, KeepsSelf}
+use Rattle.r6_runner.specs.Runners.{taken_up, NoneIsSilent, IsDone, IsPartTaken, IsOutcome, HasDone, GoesOn, IsPut, IsHandedIn, IsPassing, ShardGoesOn, KeepsSelf}
 use Rattle.r6_runner.proofs.Tasks.{of_tasks-more, taken_up-more, tell-less, none-silent, put_if}
 
 -- ---- the same, of equal things
@@ -88,17 +88,17 @@ is-put told shape events geometry number snapshot before numbers shard refused p
       parts = ap (λ y. map slot_of y) same ∙ x.parts;
       comes = λ all.
           subst (λ y. ComesFrom (parts_tell told) geometry number snapshot (taken_up before y handed) x.ops shard) (sym same)
-          (x.comes (subst (AllTell before) same all));
+          (x.comes (subst (NoneIsSilent before) same all));
     }
 
 part-on : {D : Type 0} (told : D → Telling) (geometry : Shape) (number : ℕ) (snapshot : Snapshot) (at : ℕ → ℕ → Option Telling)
-    (ops : List world.Op) (taken : Bool) (part : Part D) (old new : Shard (Parts D)) (p : NewPart) (h : Handed)
+    (ops : List world.Op) (taken : Bool) (part : Part D) (back : List (Part D)) (old new : Shard (Parts D)) (p : NewPart) (h : Handed)
     → p.slot ≡ part.slot → p.telling ≡ told part.device → h.generation ≡ part.generation → h.taken ≡ taken
     → ((d g : ℕ) → at d g ≢ Some None)
-    → IsPartTaken taken told part old new
+    → IsPartTaken taken told part back old new
     → ComesFrom (parts_tell told) geometry number snapshot at ops old
     → ComesFrom (parts_tell told) geometry number snapshot (put_if at p h) ops new
-part-on {D = D} told geometry number snapshot at ops true part old new p h slot telling generation is none taken comes =
+part-on {D = D} told geometry number snapshot at ops true part back old new p h slot telling generation is none taken comes =
     let there : put_if at p h ≡ put_in at part.slot part.generation (Some (told part.device)) =
     ap (λ (b : Bool). if b then put_in at p.slot h.generation (Some p.telling) else at) is
     ∙ ap (λ (k : ℕ). put_in at k h.generation (Some p.telling)) slot
@@ -106,38 +106,38 @@ part-on {D = D} told geometry number snapshot at ops true part old new p h slot 
     ∙ ap (λ (t : Telling). put_in at part.slot part.generation (Some t)) telling in
     subst (λ y. ComesFrom (parts_tell told) geometry number snapshot y ops new) (sym there)
     (handed_law told part taken.0 old new taken.1 geometry number snapshot at ops (none part.slot part.generation) comes)
-part-on told geometry number snapshot at ops false part old new p h slot telling generation is none same comes =
+part-on told geometry number snapshot at ops false part back old new p h slot telling generation is none same comes =
     let there : put_if at p h ≡ at = ap (λ (b : Bool). if b then put_in at p.slot h.generation (Some p.telling) else at) is in
     subst (λ y. ComesFrom (parts_tell told) geometry number snapshot y ops new) (sym there)
-    (subst (λ y. ComesFrom (parts_tell told) geometry number snapshot at ops y) (sym same) comes)
+    (subst (λ y. ComesFrom (parts_tell told) geometry number snapshot at ops y) (sym same.0) comes)
 
-pub asked-on : {D : Type 0} (told : D → Telling) (taken : Bool) (part : Part D) (old new : Shard (Parts D)) → IsPartTaken taken told part old new
-    → new.asked.items ≡ old.asked.items
-asked-on told true part old new taken = taken.1.ledger.asked
-asked-on told false part old new same = ap (λ (y : Shard _). y.asked.items) same
+pub asked-on : {D : Type 0} (told : D → Telling) (taken : Bool) (part : Part D) (back : List (Part D)) (old new : Shard (Parts D))
+    → IsPartTaken taken told part back old new → new.asked.items ≡ old.asked.items
+asked-on told true part back old new taken = taken.1.ledger.asked
+asked-on told false part back old new same = ap (λ (y : Shard _). y.asked.items) same.0
 
-pub core-on : {D : Type 0} (told : D → Telling) (taken : Bool) (part : Part D) (old new : Shard (Parts D)) → IsPartTaken taken told part old new
-    → new.core ≡ old.core
-core-on told true part old new taken = taken.1.core
-core-on told false part old new same = ap (λ (y : Shard _). y.core) same
+pub core-on : {D : Type 0} (told : D → Telling) (taken : Bool) (part : Part D) (back : List (Part D)) (old new : Shard (Parts D))
+    → IsPartTaken taken told part back old new → new.core ≡ old.core
+core-on told true part back old new taken = taken.1.core
+core-on told false part back old new same = ap (λ (y : Shard _). y.core) same.0
 
 pub is-handed : {D : Type 0} (told : D → Telling) (shape : Shape) (events : List Event) (geometry : Shape) (number : ℕ) (snapshot : Snapshot)
     (before : ℕ → ℕ → Option Telling) (numbers : List ℕ) (shard shard' : Shard (Parts D)) (refused : List (ℕ × Refusal))
     (passing : Option Passing) (passed : List Passed) (handed : List Handed) (due : List Due)
-    (n waits : ℕ) (part : Part D) (taken : Bool)
+    (n waits : ℕ) (part : Part D) (taken : Bool) (back : List (Part D))
     → task_at shape number events n ≡ Some (task n waits (Takes_up part.slot (told part.device)))
-    → IsPartTaken taken told part shard shard'
+    → IsPartTaken taken told part back shard shard'
     → IsDone told shape events geometry number snapshot before numbers shard refused passing passed handed due
     → IsDone told shape events geometry number snapshot before (numbers ++ n ∷ []) shard' refused passing passed
     (handed ++ record { event = n; slot = part.slot; generation = part.generation; taken = taken } ∷ []) due
-is-handed told shape events geometry number snapshot before numbers shard shard' refused passing passed handed due n waits part taken at into x =
+is-handed told shape events geometry number snapshot before numbers shard shard' refused passing passed handed due n waits part taken back at into x =
     let duty : Duty = Takes_up part.slot (told part.device) in
     let p : NewPart = record { event = n; slot = part.slot; telling = told part.device } in
     let h : Handed = record { event = n; slot = part.slot; generation = part.generation; taken = taken } in
     let ps : List NewPart = parts_in shape number events numbers in
     let more : parts_in shape number events (numbers ++ n ∷ []) ≡ ps ++ p ∷ [] =
     of_tasks-more part_in shape number events numbers n waits duty at in
-    let core : shard'.core ≡ shard.core = core-on told taken part shard shard' into in
+    let core : shard'.core ≡ shard.core = core-on told taken part back shard shard' into in
     let long : length ps ≡ length handed =
     sym (length-map ps slot_of) ∙ ap length x.parts ∙ length-map handed handed_of in
     record {
@@ -147,7 +147,7 @@ is-handed told shape events geometry number snapshot before numbers shard shard'
       ops = x.ops;
       requests = of_tasks-more request_in shape number events numbers n waits duty at
           ∙ append-nil (requests_in shape number events numbers) ∙ x.requests;
-      served = subst (λ y. AreServed shard'.core x.begun y x.ops refused) (sym (asked-on told taken part shard shard' into))
+      served = subst (λ y. AreServed shard'.core x.begun y x.ops refused) (sym (asked-on told taken part back shard shard' into))
           (subst (λ y. AreServed y x.begun shard.asked.items x.ops refused) (sym core) x.served);
       passes = of_tasks-more pass_in shape number events numbers n waits duty at
           ∙ append-nil (passes_in shape number events numbers) ∙ x.passes;
@@ -156,10 +156,10 @@ is-handed told shape events geometry number snapshot before numbers shard shard'
           ∙ ap (λ y. y ++ (n, part.slot) ∷ []) x.parts
           ∙ sym (map-append handed_of handed (h ∷ []));
       comes = λ all.
-          let told-all = tell-less before ps p (subst (AllTell before) more all) in
+          let told-all = tell-less before ps p (subst (NoneIsSilent before) more all) in
           subst (λ y. ComesFrom (parts_tell told) geometry number snapshot (taken_up before y (handed ++ h ∷ [])) x.ops shard') (sym more)
           (subst (λ y. ComesFrom (parts_tell told) geometry number snapshot y x.ops shard') (sym (taken_up-more before ps handed p h long))
-          (part-on told geometry number snapshot (taken_up before ps handed) x.ops taken part shard shard' p h refl refl refl refl
+          (part-on told geometry number snapshot (taken_up before ps handed) x.ops taken part back shard shard' p h refl refl refl refl
           (none-silent before ps handed told-all.0) into (x.comes told-all.0)));
     }
 
@@ -357,7 +357,7 @@ handed-on told shape events geometry number snapshot before numbers old new n wa
     old.passing new.passing old.passed.items new.passed.items more new.handed.items old.due.items new.due.items
     refl h.refused h.passing h.passed h.handed h.due
     (is-handed told shape events geometry number snapshot before numbers old.shard new.shard old.refused.items old.passing old.passed.items
-    old.handed.items old.due.items n waits part h.taken at h.shard x)
+    old.handed.items old.due.items n waits part h.taken h.back at h.shard x)
 
 pub served-on : {D : Type 0} (told : D → Telling) (shape : Shape) (events : List Event) (geometry : Shape) (number : ℕ) (snapshot : Snapshot)
     (before : ℕ → ℕ → Option Telling) (numbers : List ℕ) (old new : Runner D) (d : Due) (due : List Due) (event : ℕ) (op : Op)
@@ -409,6 +409,7 @@ shard-on told a b c x y =
         passing = y.kept.passing ∙ x.kept.passing;
         passed = y.kept.passed ∙ x.kept.passed;
         handed = y.kept.handed ∙ x.kept.handed;
+        others = y.kept.others ∙ x.kept.others;
         room = y.kept.room ∙ x.kept.room;
         rows = y.kept.rows ∙ x.kept.rows;
       };

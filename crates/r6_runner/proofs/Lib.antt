@@ -5,3 +5,6 @@ pub mod Sound
 pub mod Counting
 pub mod Awaiting
 pub mod Taken
+pub mod Parts
+pub mod Lost
+pub mod Serving

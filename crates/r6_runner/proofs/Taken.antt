@@ -55,10 +55,10 @@ put-count old new d h =
 
 -- ---- a part came
 
-pass-on : {D : Type 0} (told : D → Telling) (taken : Bool) (part : Part D) (old new : Shard (Parts D)) → IsPartTaken taken told part old new
-    → new.pass ≡ old.pass
-pass-on told true part old new taken = taken.1.pass
-pass-on told false part old new same = ap (λ (y : Shard _). y.pass) same
+pass-on : {D : Type 0} (told : D → Telling) (taken : Bool) (part : Part D) (back : List (Part D)) (old new : Shard (Parts D))
+    → IsPartTaken taken told part back old new → new.pass ≡ old.pass
+pass-on told true part back old new taken = taken.1.pass
+pass-on told false part back old new same = ap (λ (y : Shard _). y.pass) same.0
 
 -- what stays of a shard to which a part is handed in, taken or not
 pub record KeepsRest {D : Type 0} (old new : Shard (Parts D)) : Type 0 where
@@ -86,13 +86,13 @@ was-clean old new kept clean =
 pub handed-counted : {D : Type 0} (told : D → Telling) (old new : Runner D) (number : ℕ) (part : Part D) → IsHandedIn told number part old new
     → KeepsCounted old new
 handed-counted told old new number part h =
-    counted-alike old new (core-on told h.taken part old.shard new.shard h.shard) h.passing h.passed h.rows
+    counted-alike old new (core-on told h.taken part h.back old.shard new.shard h.shard) h.passing h.passed h.rows
 
 pub handed-self : {D : Type 0} (told : D → Telling) (old new : Runner D) (number : ℕ) (part : Part D) → IsHandedIn told number part old new
     → KeepsSelf old new
 handed-self told old new number part h = record {
-  pass = pass-on told h.taken part old.shard new.shard h.shard;
-  place = ap (λ (y : CoreView). y.shard) (core-on told h.taken part old.shard new.shard h.shard);
+  pass = pass-on told h.taken part h.back old.shard new.shard h.shard;
+  place = ap (λ (y : CoreView). y.shard) (core-on told h.taken part h.back old.shard new.shard h.shard);
   room = h.room;
 }
 
@@ -102,7 +102,7 @@ handed-count told old new number part h =
     let more : Handed = record { event = number; slot = part.slot; generation = part.generation; taken = h.taken } in
     let handed = ap length h.handed ∙ length-append old.handed.items (more ∷ []) in
     let refused = ap length h.refused in
-    let asked = ap length (asked-on told h.taken part old.shard new.shard h.shard) in
+    let asked = ap length (asked-on told h.taken part h.back old.shard new.shard h.shard) in
     let passing = ap (λ (y : Option Passing). length (option_to_list y)) h.passing in
     let passed = ap length h.passed in
     let due = ap length h.due in omega (arith, due, refused, asked, passing, passed, handed)

@@ -11,7 +11,7 @@ use Rattle.r6_lists.specs.Events.{Event, Duty, Task, task, task_at}
 use Rattle.r6_shard.proofs.FromStarts.{put-there, put-elsewhere}
 use Rattle.r6_runner.specs.declared.runner.Handed.{Handed}
 use Rattle.r6_runner.specs.Tasks.{of_tasks, NewPart}
-use Rattle.r6_runner.specs.Runners.{taken_up, AllTell}
+use Rattle.r6_runner.specs.Runners.{taken_up, NoneIsSilent}
 
 pub of_tasks-more : {A : Type 0} (pick : ℕ → Duty → Option A) (shape : Shape) (shard : ℕ) (events : List Event) (numbers : List ℕ)
     (number waits : ℕ) (duty : Duty) → task_at shape shard events number ≡ Some (task number waits duty)
@@ -33,8 +33,8 @@ taken_up-more before (first ∷ parts) [] p h same = cc
 taken_up-more before (first ∷ parts) (other ∷ handed) p h same =
     taken_up-more (put_if before first other) parts handed p h (omega (arith, same))
 
-pub tell-less : (before : ℕ → ℕ → Option Telling) (parts : List NewPart) (p : NewPart) → AllTell before (parts ++ p ∷ [])
-    → AllTell before parts × (p.telling ≢ None)
+pub tell-less : (before : ℕ → ℕ → Option Telling) (parts : List NewPart) (p : NewPart) → NoneIsSilent before (parts ++ p ∷ [])
+    → NoneIsSilent before parts × (p.telling ≢ None)
 tell-less before [] p all = (all.1, all.0)
 tell-less before (first ∷ parts) p all = ((all.0, (tell-less before parts p all.1).0), (tell-less before parts p all.1).1)
 
@@ -54,16 +54,16 @@ tells-if : (taken : _) (f : ℕ → ℕ → Option Telling) (slot generation : �
 tells-if true f slot generation telling some all = tells-put f slot generation telling some all
 tells-if false f slot generation telling some all = all
 
-silent-nowhere : (before : ℕ → ℕ → Option Telling) (parts : List NewPart) → AllTell before parts → (d g : ℕ) → before d g ≢ Some None
+silent-nowhere : (before : ℕ → ℕ → Option Telling) (parts : List NewPart) → NoneIsSilent before parts → (d g : ℕ) → before d g ≢ Some None
 silent-nowhere before [] all = all
 silent-nowhere before (p ∷ parts) all = silent-nowhere before parts all.1
 
-tell-from : (before after : ℕ → ℕ → Option Telling) (parts : List NewPart) → ((d g : ℕ) → after d g ≢ Some None) → AllTell before parts
-    → AllTell after parts
+tell-from : (before after : ℕ → ℕ → Option Telling) (parts : List NewPart) → ((d g : ℕ) → after d g ≢ Some None) → NoneIsSilent before parts
+    → NoneIsSilent after parts
 tell-from before after [] all x = all
 tell-from before after (p ∷ parts) all x = (x.0, tell-from before after parts all x.1)
 
-pub none-silent : (before : ℕ → ℕ → Option Telling) (parts : List NewPart) (handed : List Handed) → AllTell before parts
+pub none-silent : (before : ℕ → ℕ → Option Telling) (parts : List NewPart) (handed : List Handed) → NoneIsSilent before parts
     → (d g : ℕ) → taken_up before parts handed d g ≢ Some None
 none-silent before [] handed all = all
 none-silent before (p ∷ parts) [] all = silent-nowhere before parts all.1

@@ -4,12 +4,13 @@ use Rattle.r6_layout.specs.Shape.{Shape}
 use Rattle.r6_layout.specs.Layout.{first_row}
 use Rattle.r6_world.specs.ShardStates.{limit}
 use Rattle.r6_core.specs.declared.counts.Counts.{Counts}
-use Rattle.r6_core.specs.Shards.{CoreView, world_shard}
+use Rattle.r6_core.specs.Shards.{CoreView, counts_of, world_shard}
 use Rattle.r6_shard.specs.Counted.{HasPassedRows, IsInService, PassesMore, counted_in, rows_of}
-use Rattle.r6_shard.specs.Refusing.{Lasts}
+use Rattle.r6_shard.specs.Refusing.{CountsRise, Lasts}
 use Rattle.r6_runner.specs.declared.pass.Passing.{Passing}
 use Rattle.r6_runner.specs.declared.pass.Passed.{Passed}
 use Rattle.r6_runner.specs.declared.runner.Runner.{Runner}
+use Rattle.r6_runner.specs.Classes.{classed_in}
 
 -- as many rows as a shard has
 abbrev pub rows_of_shard : Shape → (shard : ℕ) → ℕ
@@ -32,13 +33,18 @@ AddUp rows from (p ∷ passed) to =
     × AddUp rows (rows_in p.after) passed to
 
 -- it left none out, or the shard is used up
-abbrev pub IsWhole : CoreView → Passed → Type 0
-IsWhole core p = (p.left_out ≡ 0) ⊎ IsUsedUp core
+abbrev pub LeavesNoneOut : CoreView → Passed → Type 0
+LeavesNoneOut core p = (p.left_out ≡ 0) ⊎ IsUsedUp core
 
 -- in service a shard has counted what its checks and repairs add up to
 abbrev pub AreCounted : (rows : ℕ) → CoreView → List Passed → Type 0
 AreCounted rows core passed =
-    IsInService core → AddUp rows 0 passed (counted_in core) × All (IsWhole core) passed
+    IsInService core → AddUp rows 0 passed (counted_in core) × All (LeavesNoneOut core) passed
+
+-- of each check and repair the rows that it classed and those that it skipped are the rows of the shard, also once its
+-- service has ended
+abbrev pub AreClassed : (rows : ℕ) → List Passed → Type 0
+AreClassed rows passed = All (λ p. classed_in p.before p.after + p.skipped ≡ rows) passed
 
 -- ---- while they are made
 
@@ -47,6 +53,19 @@ pub record IsUnderWay (rows gone : ℕ) (core : CoreView) (p : Passing) : Type 0
   pub one : rows_of p.task ≡ 1
   pub left : rows_in p.before + rows ≡ gone + p.left
   pub ended : p.given_up ≡ true → IsUsedUp core
+
+-- in service or not, it has gone over no more of them, and no count has fallen since
+pub record IsWithin (rows : ℕ) (core : CoreView) (p : Passing) : Type 0 where
+  pub one : rows_of p.task ≡ 1
+  pub counted : ℕ
+  pub gone : ℕ
+  pub passes : HasPassedRows false counted gone core
+  pub left : gone + p.left ≡ rows_in p.before + rows
+  pub rise : CountsRise (counts_of p.before) (world_shard core).counts
+
+abbrev pub AreWithin : (rows : ℕ) → CoreView → Option Passing → Type 0
+AreWithin rows core None = Unit {0}
+AreWithin rows core (Some p) = IsWithin rows core p
 
 abbrev pub StandsAt : (rows gone : ℕ) → CoreView → List Passed → Option Passing → Type 0
 StandsAt rows gone core passed None = AddUp rows 0 passed gone
@@ -57,7 +76,9 @@ pub record IsCounting (rows counted gone : ℕ) (core : CoreView) (passing : Opt
     : Type 0 where
   pub passes : HasPassedRows false counted gone core
   pub stands : IsInService core → StandsAt rows gone core passed passing
-  pub whole : IsInService core → All (IsWhole core) passed
+  pub whole : IsInService core → All (LeavesNoneOut core) passed
+  pub within : AreWithin rows core passing
+  pub classed : AreClassed rows passed
 
 abbrev pub HasCounted : {D : Type 0} → (rows : ℕ) → Runner D → Type 0
 HasCounted rows runner =

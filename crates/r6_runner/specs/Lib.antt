@@ -1,7 +1,9 @@
 pub mod Tasks
+pub mod Parts
 pub mod Runners
 pub mod Sound
 pub mod Splitting
 pub mod Counted
 pub mod Skipping
 pub mod Waits
+pub mod Classes

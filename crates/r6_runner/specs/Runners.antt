@@ -1,5 +1,5 @@
 -- What a shard's thread has done of what it took from its list.
-use Rattle.std.specs.Prelude.{◌≡◌, ◌≢◌, ℕ, ◌⊎◌, List, [], ◌∷◌, ◌++◌, map, if◌then◌else◌, Bool, true, false, Option, Some, None}
+use Rattle.std.specs.Prelude.{◌≡◌, ◌≢◌, ℕ, ◌≤◌, ◌⊎◌, List, [], ◌∷◌, ◌++◌, map, if◌then◌else◌, Bool, true, false, Option, Some, None, option_to_list}
 use Rattle.r6_dev.specs.History.{Telling}
 use Rattle.r6_layout.specs.Shape.{Shape}
 use Rattle.r6_world.specs.PlainArray as world
@@ -8,7 +8,7 @@ use Rattle.r6_world.specs.Tables.{put_in}
 use Rattle.r6_core.specs.declared.refusal.Refusal.{Refusal}
 use Rattle.r6_core.specs.Refusals.{HasSubmitFault, submit_faults, HasNone}
 use Rattle.r6_lists.specs.Events.{Event}
-use Rattle.r6_shard.specs.declared.run.Asking.{Asking}
+use Rattle.r6_shard.specs.declared.ledger.Asking.{Asking}
 use Rattle.r6_world.specs.declared.values.Op.{Op}
 use Rattle.r6_core.specs.declared.turn.Task.{Task as Pass}
 use Rattle.r6_shard.specs.declared.parts.Part.{Part}
@@ -35,9 +35,9 @@ taken_up before (p ∷ parts) (h ∷ handed) =
     taken_up (if h.taken then put_in before p.slot h.generation (Some p.telling) else before) parts handed
 
 -- each of these parts tells what its device holds, as parts on files do not
-abbrev pub AllTell : (before : ℕ → ℕ → Option Telling) → List NewPart → Type 0
-AllTell before [] = (slot generation : ℕ) → before slot generation ≢ Some None
-AllTell before (p ∷ parts) = (p.telling ≢ None) × AllTell before parts
+abbrev pub NoneIsSilent : (before : ℕ → ℕ → Option Telling) → List NewPart → Type 0
+NoneIsSilent before [] = (slot generation : ℕ) → before slot generation ≢ Some None
+NoneIsSilent before (p ∷ parts) = (p.telling ≢ None) × NoneIsSilent before parts
 
 -- What was done of the events of these numbers, which were taken from the list of the shard
 pub record IsDone {D : Type 0} (told : D → Telling) (shape : Shape) (events : List Event) (geometry : Shape)
@@ -53,7 +53,7 @@ pub record IsDone {D : Type 0} (told : D → Telling) (shape : Shape) (events : 
   pub passes : passes_in shape number events numbers
       ≡ map passed_of passed ++ (under_way passing ++ due_passes due)
   pub parts : map slot_of (parts_in shape number events numbers) ≡ map handed_of handed
-  pub comes : AllTell before (parts_in shape number events numbers)
+  pub comes : NoneIsSilent before (parts_in shape number events numbers)
       → ComesFrom (parts_tell told) geometry number snapshot
       (taken_up before (parts_in shape number events numbers) handed) ops shard
 
@@ -97,21 +97,29 @@ pub record IsPut {D : Type 0} (due : Due) (old new : Runner D) : Type 0 where
   pub passing : new.passing ≡ old.passing
   pub passed : new.passed.items ≡ old.passed.items
   pub handed : new.handed.items ≡ old.handed.items
+  pub others : new.others.items ≡ old.others.items
   pub room : new.room ≡ old.room
   pub waits : new.waits ≡ old.waits
   pub rows : new.rows ≡ old.rows
 
-abbrev pub IsPartTaken : {D : Type 0} → (taken : Bool) → (D → Telling) → Part D → (old new : Shard (Parts D)) → Type 0
-IsPartTaken {D = D} true told part old new = (earlier : Option (Part D)) × HandsIn told part earlier old new
-IsPartTaken {D = D} false told part old new = new ≡ old
+-- The shard has taken the part in, and back came the one that it had for this slot and generation; or its core has
+-- looked at an attach of that generation or a later one, and the part itself came back. There is no other reason
+abbrev pub IsPartTaken : {D : Type 0} → (taken : Bool) → (D → Telling) → Part D → (back : List (Part D))
+    → (old new : Shard (Parts D)) → Type 0
+IsPartTaken {D = D} true told part back old new =
+    (earlier : Option (Part D)) × HandsIn told part earlier old new × (back ≡ option_to_list earlier)
+IsPartTaken {D = D} false told part back old new =
+    (new ≡ old) × (part.generation ≤ old.last.attaches) × (back ≡ part ∷ [])
 
--- a part came by the list, and nothing else changes
+-- a part came by the list; what came back stands behind the others, and nothing else changes
 pub record IsHandedIn {D : Type 0} (told : D → Telling) (event : ℕ) (part : Part D) (old new : Runner D) : Type 0 where
   pub taken : Bool
+  pub back : List (Part D)
   pub handed : new.handed.items
       ≡ old.handed.items
       ++ record { event = event; slot = part.slot; generation = part.generation; taken = taken } ∷ []
-  pub shard : IsPartTaken taken told part old.shard new.shard
+  pub shard : IsPartTaken taken told part back old.shard new.shard
+  pub others : new.others.items ≡ old.others.items ++ back
   pub due : new.due.items ≡ old.due.items
   pub refused : new.refused.items ≡ old.refused.items
   pub passing : new.passing ≡ old.passing
@@ -126,6 +134,7 @@ pub record KeepsTasks {D : Type 0} (old new : Runner D) : Type 0 where
   pub passing : new.passing ≡ old.passing
   pub passed : new.passed.items ≡ old.passed.items
   pub handed : new.handed.items ≡ old.handed.items
+  pub others : new.others.items ≡ old.others.items
   pub room : new.room ≡ old.room
   pub rows : new.rows ≡ old.rows
 
@@ -153,6 +162,7 @@ pub record IsPassing {D : Type 0} (event : ℕ) (task : Pass) (old new : Runner 
   pub due : new.due.items ≡ old.due.items
   pub passed : new.passed.items ≡ old.passed.items
   pub handed : new.handed.items ≡ old.handed.items
+  pub others : new.others.items ≡ old.others.items
   pub room : new.room ≡ old.room
   pub waits : new.waits ≡ old.waits
   pub rows : new.rows ≡ old.rows

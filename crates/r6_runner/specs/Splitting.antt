@@ -14,5 +14,6 @@ pub record KeepsAll {D : Type 0} (told : D → Telling) (old new : Runner D) : T
   pub passing : new.passing ≡ old.passing
   pub passed : new.passed.items ≡ old.passed.items
   pub handed : new.handed.items ≡ old.handed.items
+  pub others : new.others.items ≡ old.others.items
   pub waits : new.waits ≡ old.waits
   pub over : IsOver old → IsOver new

@@ -7,7 +7,7 @@ use Rattle.r6_core.specs.declared.turn.Task.TheVariants as pass
 use Rattle.r6_core.specs.declared.refusal.Refusal.{Refusal}
 use Rattle.r6_lists.specs.Events.{Event, Duty, Serves, Takes_up, Checks, Repairs, task_at}
 use Rattle.r6_shard.specs.declared.ledger.Asked.{Asked}
-use Rattle.r6_shard.specs.declared.run.Asking.{Asking}
+use Rattle.r6_shard.specs.declared.ledger.Asking.{Asking}
 use Rattle.r6_runner.specs.declared.due.Due.{Due}
 use Rattle.r6_runner.specs.declared.due.Duty.{Duty as DueDuty}
 use Rattle.r6_runner.specs.declared.due.Duty.TheVariants as due

@@ -5,6 +5,7 @@ ghost use Rattle.r6_core.specs.Refusals.{most_unanswered};
 ghost use Rattle.r6_lists.specs.Events.{waits_before};
 ghost use Rattle.r6_shard.specs.Counted.{rows_of};
 ghost use Rattle.r6_runner.specs.Counted.{StaysCounted};
+ghost use Rattle.r6_runner.specs.Parts.{KeepsParts};
 ghost use Rattle.r6_runner.specs.Runners.{GoesOnSame, IsServed, IsPassing, KeepsSelf, taken_by};
 ghost use Rattle.r6_runner.specs.Sound.{KeepsSound};
 ghost use Rattle.r6_runner.specs.Waits.{HasAwaited, KeepsAwaited, MayFollow};
@@ -27,6 +28,7 @@ impl<D: BlockDevice + Drop> Runner<D> {
         requires follows { MayFollow waits self.old }
 
         ensures served { IsServed D.told event op self.old self.new }
+        ensures parts { KeepsParts self.old self.new }
 
         ensures counted { StaysCounted self.old self.new }
         ensures sound { KeepsSound D.told D.promised self.old self.new }
@@ -46,6 +48,7 @@ impl<D: BlockDevice + Drop> Runner<D> {
         requires none { self.old.passing ≡ None }
         requires task { rows_of task ≡ 1 }
         ensures begun { IsPassing event task self.old self.new }
+        ensures parts { KeepsParts self.old self.new }
         ensures counted { StaysCounted self.old self.new }
         ensures sound { KeepsSound D.told D.promised self.old self.new }
         ensures awaited { KeepsAwaited self.old self.new }
@@ -87,6 +90,7 @@ impl<D: BlockDevice + Drop> Runner<D> {
         ensures sound { KeepsSound D.told D.promised self.old self.new }
         ensures awaited { KeepsAwaited self.old self.new }
         ensures same { KeepsSelf self.old self.new }
+        ensures parts { KeepsParts self.old self.new }
         ensures count { taken_by self.new ≡ taken_by self.old }
     {
         if !self.may_begin() {
@@ -111,6 +115,7 @@ impl<D: BlockDevice + Drop> Runner<D> {
         ensures sound { KeepsSound D.told D.promised self.old self.new }
         ensures awaited { KeepsAwaited self.old self.new }
         ensures same { KeepsSelf self.old self.new }
+        ensures parts { KeepsParts self.old self.new }
         ensures count { taken_by self.new ≡ taken_by self.old }
     {
         for _ in rt.forever() {

@@ -1,13 +1,14 @@
 //! How a shard begins that takes from a list.
 
-ghost use Rattle.std.specs.Prelude.{◌≡◌, ◌<◌, ◌≤◌, [], false, vec_capacity, IfOk};
+ghost use Rattle.std.specs.Prelude.{◌≡◌, ◌+◌, ◌<◌, ◌≤◌, [], false, length, vec_capacity, IfOk};
 ghost use Rattle.std.specs.VecDeque.{deque_capacity};
 ghost use Rattle.r6_layout.specs.Shape.{IsShape};
 ghost use Rattle.r6_health.specs.Passes.{view_of};
 ghost use Rattle.r6_shard.specs.Beginnings.{IsFirstPass};
-ghost use Rattle.r6_shard.specs.Handing.{parts_tell};
+ghost use Rattle.r6_shard.specs.Handing.{parts_labels, parts_tell};
 ghost use Rattle.r6_shard.specs.Sound.{StartsSound};
 ghost use Rattle.r6_runner.specs.Counted.{HasCounted, rows_of_shard};
+ghost use Rattle.r6_runner.specs.Parts.{BeginsOwn};
 ghost use Rattle.r6_runner.specs.Runners.{HasDone, taken_by};
 ghost use Rattle.r6_runner.specs.Sound.{IsSoundIn};
 ghost use Rattle.r6_runner.specs.Waits.{HasAwaited};
@@ -49,7 +50,8 @@ fn rooms_of<D: Drop>(alloc: Global, room: usize) -> Result<Rooms<D>, AllocError>
 }
 
 impl<D: BlockDevice + Drop> Runner<D> {
-    /// A shard of the array as it begins, with room for so many tasks.
+    /// A shard of the array as it begins, with room for so many tasks. Each may bring a part of a new device, so the
+    /// vector of the parts must have room for as many more.
     ///
     /// # Errors
     /// `AllocError` where there is no memory for all room.
@@ -64,6 +66,7 @@ impl<D: BlockDevice + Drop> Runner<D> {
         requires limits { IsShape place.geometry }
         requires number { place.number < place.geometry.shards }
         requires window { (1 ≤ place.window) × (place.window ≤ 8) }
+        requires parts_room { length parts.parts.items + room ≤ vec_capacity parts.parts }
 
         // the register as it began
         requires no_attach { snapshot.now.attaches ≡ 0 }
@@ -79,6 +82,8 @@ impl<D: BlockDevice + Drop> Runner<D> {
             → StartsSound D.promised place.geometry place.number snapshot.now slot parts.parts.items
             → IsSoundIn D.told D.promised place.geometry place.number slot runner) }
         ensures awaited { IfOk result (λ runner. (events : _) → HasAwaited events runner) }
+        ensures own { IfOk result
+            (BeginsOwn (parts_labels parts) place.geometry.slots snapshot.now place.window) }
 
         // what it was made of
         ensures pass { IfOk result (λ runner. runner.shard.pass ≡ pass) }

@@ -5,6 +5,7 @@ ghost use Rattle.r6_core.specs.Effects.{RefusesTurn};
 ghost use Rattle.r6_shard.specs.Counted.{PassesMore, rows_of};
 ghost use Rattle.r6_shard.specs.Refusing.{IsEnding, Lasts};
 ghost use Rattle.r6_runner.specs.Counted.{CountsOn, HasTurned};
+ghost use Rattle.r6_runner.specs.Parts.{KeepsParts};
 ghost use Rattle.r6_runner.specs.Runners.{GoesOnSame, KeepsSelf, ShardGoesOn, taken_by};
 ghost use Rattle.r6_runner.specs.Sound.{KeepsSound};
 ghost use Rattle.r6_runner.specs.Waits.{KeepsAwaited};
@@ -25,6 +26,7 @@ impl<D: BlockDevice + Drop> Runner<D> {
     // Takes up or passes over the next row.
     fn turn_one(&mut self, task: Task) -> Result<Turn, Refusal>
         ensures course { ShardGoesOn D.told self.old self.new }
+        ensures parts { KeepsParts self.old self.new }
         ensures sound { KeepsSound D.told D.promised self.old self.new }
         ensures pass { self.new.shard.pass ≡ self.old.shard.pass }
         ensures passed { IfOk result (λ _. PassesMore (rows_of task) self.old.shard.core self.new.shard.core) }
@@ -38,6 +40,7 @@ impl<D: BlockDevice + Drop> Runner<D> {
     fn turn(&mut self, passing: Passing) -> Passing
         requires { passing.given_up ≡ false }
         ensures course { ShardGoesOn D.told self.old self.new }
+        ensures parts { KeepsParts self.old self.new }
         ensures sound { KeepsSound D.told D.promised self.old self.new }
         ensures pass { self.new.shard.pass ≡ self.old.shard.pass }
         ensures counted { HasTurned passing result self.old.shard.core self.new.shard.core }
@@ -62,6 +65,7 @@ impl<D: BlockDevice + Drop> Runner<D> {
         ensures sound { KeepsSound D.told D.promised self.old self.new }
         ensures awaited { KeepsAwaited self.old self.new }
         ensures same { KeepsSelf self.old self.new }
+        ensures parts { KeepsParts self.old self.new }
         ensures count { taken_by self.new ≡ taken_by self.old }
     {
         let Some(passing) = self.passing else {
@@ -70,7 +74,7 @@ impl<D: BlockDevice + Drop> Runner<D> {
         if passing.is_over() {
             self.passing = None;
             self.passed
-                .push_reserved(passing.over(self.shard.core.counts()));
+                .push_reserved(passing.over(self.rows, self.shard.core.counts()));
         } else {
             let turned = self.turn(passing);
             self.passing = Some(turned);

@@ -3,7 +3,8 @@
 ghost use Rattle.std.specs.Prelude.{◌≡◌, ◌≤◌, [], length, None, true, false};
 ghost use Rattle.r6_health.specs.Passes.{IsPassOf};
 ghost use Rattle.r6_lists.specs.Events.{tasks_of};
-ghost use Rattle.r6_runner.specs.Counted.{AreCounted, CountsAll, HasCounted, KeepsCounted};
+ghost use Rattle.r6_runner.specs.Counted.{AreClassed, AreCounted, CountsAll, HasCounted, KeepsCounted};
+ghost use Rattle.r6_runner.specs.Parts.{KeepsOwn, KeepsParts};
 ghost use Rattle.r6_runner.specs.Runners.{GoesOn, GoesOnSame, IsOver, KeepsSelf, taken_by};
 ghost use Rattle.r6_runner.specs.Sound.{KeepsPromised, KeepsSound};
 ghost use Rattle.r6_runner.specs.Waits.{HasAwaited, KeepsAwaited};
@@ -12,7 +13,7 @@ use crate::runner::Runner;
 use r6_core::Task;
 use r6_dev::BlockDevice;
 use r6_health::Register;
-use r6_lists::{Consumer, Events, List, Rest};
+use r6_lists::{Consumer, Events, Generations, List, Rest};
 use std::sync::{Mutex, Wait};
 use std::thread;
 
@@ -45,6 +46,7 @@ impl<D: BlockDevice + Drop> Runner<D> {
         ensures awaited { KeepsAwaited self.old self.new }
 
         // and nothing more is taken
+        ensures parts { KeepsParts self.old self.new }
         ensures count { taken_by self.new ≡ taken_by self.old }
         ensures room { self.new.room ≡ self.old.room }
         ensures place { self.new.shard.core.shard ≡ self.old.shard.core.shard }
@@ -69,6 +71,7 @@ impl<D: BlockDevice + Drop> Runner<D> {
         ensures awaited { KeepsAwaited self.old self.new }
 
         // and nothing more is taken
+        ensures parts { KeepsParts self.old self.new }
         ensures count { taken_by self.new ≡ taken_by self.old }
         ensures room { self.new.room ≡ self.old.room }
         ensures place { self.new.shard.core.shard ≡ self.old.shard.core.shard }
@@ -87,6 +90,7 @@ impl<D: BlockDevice + Drop> Runner<D> {
         ensures awaited { KeepsAwaited self.old self.new }
 
         // and nothing more is taken
+        ensures parts { KeepsParts self.old self.new }
         ensures count { taken_by self.new ≡ taken_by self.old }
         ensures room { self.new.room ≡ self.old.room }
         ensures place { self.new.shard.core.shard ≡ self.old.shard.core.shard }
@@ -107,6 +111,7 @@ impl<D: BlockDevice + Drop> Runner<D> {
         ensures awaited { KeepsAwaited self.old self.new }
 
         // and nothing more is taken
+        ensures parts { KeepsParts self.old self.new }
         ensures count { taken_by self.new ≡ taken_by self.old }
         ensures room { self.new.room ≡ self.old.room }
         ensures place { self.new.shard.core.shard ≡ self.old.shard.core.shard }
@@ -117,8 +122,9 @@ impl<D: BlockDevice + Drop> Runner<D> {
         self.rebuild();
     }
 
-    // Goes on with what was taken; whether nothing is left to do of it.
-    fn go_round<R: Wait>(&mut self, rt: &R, register: &Register) -> bool
+    /// Goes on with what was taken; whether nothing is left to do of it. The core looks at the register if the part of
+    /// each device is here that is rebuilt there.
+    pub fn go_round<R: Wait>(&mut self, rt: &R, register: &Register) -> bool
         requires { IsPassOf register.now self.old.shard.pass }
         ensures pass { IsPassOf register.now self.new.shard.pass }
 
@@ -129,6 +135,7 @@ impl<D: BlockDevice + Drop> Runner<D> {
         ensures awaited { KeepsAwaited self.old self.new }
 
         // and nothing more is taken
+        ensures parts { KeepsParts self.old self.new }
         ensures count { taken_by self.new ≡ taken_by self.old }
         ensures room { self.new.room ≡ self.old.room }
         ensures place { self.new.shard.core.shard ≡ self.old.shard.core.shard }
@@ -151,7 +158,12 @@ impl<L: Events, D: BlockDevice + Drop> Taking<L, D> {
     }
 
     // Takes the oldest item of the list; whether there was one.
-    fn take_one<R: Wait>(&mut self, rt: &R, list: &Mutex<List<L, D>>) -> bool
+    fn take_one<R: Wait>(
+        &mut self,
+        rt: &R,
+        list: &Mutex<List<L, D>>,
+        generations: &Generations<L>,
+    ) -> bool
         requires { self.old.consumer.finished ≡ false }
 
         // its course goes on with what was taken
@@ -159,6 +171,7 @@ impl<L: Events, D: BlockDevice + Drop> Taking<L, D> {
             self.new.consumer.numbers.items self.old.runner self.new.runner }
         ensures counted { KeepsCounted self.old.runner self.new.runner }
         ensures awaited { HasAwaited L.events self.old.runner → HasAwaited L.events self.new.runner }
+        ensures own { KeepsOwn self.old.runner self.new.runner }
         ensures sound { KeepsPromised D.told D.promised L.shape L.sound self.old.consumer.shard
             self.old.runner self.new.runner }
 
@@ -170,42 +183,44 @@ impl<L: Events, D: BlockDevice + Drop> Taking<L, D> {
         let Some(item) = list.lock(rt).take(&mut self.consumer) else {
             return false;
         };
-        self.runner.take_up(item);
+        self.runner.take_up(rt, generations, item);
         true
     }
 
     // Takes what stands in the list.
-    fn take_all<R: Wait>(&mut self, rt: &R, list: &Mutex<List<L, D>>)
+    fn take_all<R: Wait>(&mut self, rt: &R, list: &Mutex<List<L, D>>, generations: &Generations<L>)
         requires { self.old.consumer.finished ≡ false }
         ensures course { GoesOn D.told L.shape L.events self.old.consumer.shard self.old.consumer.numbers.items
             self.new.consumer.numbers.items self.old.runner self.new.runner }
         ensures counted { KeepsCounted self.old.runner self.new.runner }
         ensures awaited { HasAwaited L.events self.old.runner → HasAwaited L.events self.new.runner }
+        ensures own { KeepsOwn self.old.runner self.new.runner }
         ensures sound { KeepsPromised D.told D.promised L.shape L.sound self.old.consumer.shard
             self.old.runner self.new.runner }
         ensures same { KeepsSelf self.old.runner self.new.runner }
         ensures shard { self.new.consumer.shard ≡ self.old.consumer.shard }
     {
         for _ in rt.forever() {
-            if !self.take_one(rt, list) {
+            if !self.take_one(rt, list, generations) {
                 break;
             }
         }
     }
 
     // Takes what stands in the list, unless it was finished.
-    fn take_in<R: Wait>(&mut self, rt: &R, list: &Mutex<List<L, D>>)
+    fn take_in<R: Wait>(&mut self, rt: &R, list: &Mutex<List<L, D>>, generations: &Generations<L>)
         ensures course { GoesOn D.told L.shape L.events self.old.consumer.shard self.old.consumer.numbers.items
             self.new.consumer.numbers.items self.old.runner self.new.runner }
         ensures counted { KeepsCounted self.old.runner self.new.runner }
         ensures awaited { HasAwaited L.events self.old.runner → HasAwaited L.events self.new.runner }
+        ensures own { KeepsOwn self.old.runner self.new.runner }
         ensures sound { KeepsPromised D.told D.promised L.shape L.sound self.old.consumer.shard
             self.old.runner self.new.runner }
         ensures same { KeepsSelf self.old.runner self.new.runner }
         ensures shard { self.new.consumer.shard ≡ self.old.consumer.shard }
     {
         if !self.consumer.finished {
-            self.take_all(rt, list);
+            self.take_all(rt, list, generations);
         }
     }
 
@@ -232,6 +247,7 @@ impl<L: Events, D: BlockDevice + Drop> Taking<L, D> {
         register: &Register,
         list: &Mutex<List<L, D>>,
         rest: &Rest,
+        generations: &Generations<L>,
     ) -> bool
         requires { IsPassOf register.now self.old.runner.shard.pass }
         ensures pass { IsPassOf register.now self.new.runner.shard.pass }
@@ -241,6 +257,7 @@ impl<L: Events, D: BlockDevice + Drop> Taking<L, D> {
             self.new.consumer.numbers.items self.old.runner self.new.runner }
         ensures counted { KeepsCounted self.old.runner self.new.runner }
         ensures awaited { HasAwaited L.events self.old.runner → HasAwaited L.events self.new.runner }
+        ensures own { KeepsOwn self.old.runner self.new.runner }
         ensures sound { KeepsPromised D.told D.promised L.shape L.sound self.old.consumer.shard
             self.old.runner self.new.runner }
 
@@ -251,7 +268,7 @@ impl<L: Events, D: BlockDevice + Drop> Taking<L, D> {
         ensures over { result ≡ true → IsOver self.new.runner × (self.new.consumer.finished ≡ true) }
     {
         let asked = rest.asked();
-        self.take_in(rt, list);
+        self.take_in(rt, list, generations);
         if !self.runner.go_round(rt, register) {
             return false;
         }
@@ -260,13 +277,15 @@ impl<L: Events, D: BlockDevice + Drop> Taking<L, D> {
     }
 
     /// Takes what the list has, as it comes, and does it, until the list was ended and all is done. Whenever nothing
-    /// is left to do of what was taken, `rest` is told so.
+    /// is left to do of what was taken, `rest` is told so. Of each part that comes, `generations` tells under which
+    /// generation it does.
     pub fn run<R: Wait>(
         &mut self,
         rt: &R,
         register: &Register,
         list: &Mutex<List<L, D>>,
         rest: &Rest,
+        generations: &Generations<L>,
     )
         requires { IsPassOf register.now self.old.runner.shard.pass }
         ensures pass { IsPassOf register.now self.new.runner.shard.pass }
@@ -276,7 +295,9 @@ impl<L: Events, D: BlockDevice + Drop> Taking<L, D> {
             self.new.consumer.numbers.items self.old.runner self.new.runner }
         ensures counted { (rows : _) → HasCounted rows self.old.runner
             → AreCounted rows self.new.runner.shard.core self.new.runner.passed.items }
+        ensures classed { (rows : _) → HasCounted rows self.old.runner → AreClassed rows self.new.runner.passed.items }
         ensures awaited { HasAwaited L.events self.old.runner → HasAwaited L.events self.new.runner }
+        ensures own { KeepsOwn self.old.runner self.new.runner }
         ensures sound { KeepsPromised D.told D.promised L.shape L.sound self.old.consumer.shard
             self.old.runner self.new.runner }
 
@@ -289,7 +310,7 @@ impl<L: Events, D: BlockDevice + Drop> Taking<L, D> {
         ensures over { IsOver self.new.runner }
     {
         for _ in rt.forever() {
-            if self.go_on(rt, register, list, rest) {
+            if self.go_on(rt, register, list, rest, generations) {
                 return;
             }
             thread::yield_now();

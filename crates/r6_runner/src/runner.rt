@@ -1,6 +1,6 @@
 //! A shard with what its thread was handed.
 
-ghost use Rattle.std.specs.Prelude.{◌≤◌, length, vec_capacity};
+ghost use Rattle.std.specs.Prelude.{◌+◌, ◌≤◌, length, vec_capacity};
 ghost use Rattle.std.specs.VecDeque.{deque_capacity};
 ghost use Rattle.r6_runner.specs.Skipping.{SkipNone};
 ghost use Rattle.r6_runner.specs.Tasks.{count_of};
@@ -55,4 +55,5 @@ pub struct Runner<D> {
     ghost passed_room: { room ≤ vec_capacity passed },
     ghost handed_room: { room ≤ vec_capacity handed },
     ghost others_room: { room ≤ vec_capacity others },
+    ghost parts_room: { length shard.parts.parts.items + room ≤ vec_capacity shard.parts.parts + length handed.items },
 }

@@ -1,8 +1,9 @@
 //! What came by the list is taken up.
 
-ghost use Rattle.std.specs.Prelude.{◌≡◌, ◌+◌, ◌<◌, ◌++◌, ◌∷◌, []};
+ghost use Rattle.std.specs.Prelude.{◌≡◌, ℕ, ◌+◌, ◌<◌, ◌++◌, ◌∷◌, [], option_map, option_to_list};
 ghost use Rattle.r6_shard.specs.Sound.{TakesSound};
 ghost use Rattle.r6_runner.specs.Counted.{KeepsCounted};
+ghost use Rattle.r6_runner.specs.Parts.{KeepsOwn};
 ghost use Rattle.r6_runner.specs.Runners.{GoesOn, IsPut, IsHandedIn, KeepsSelf, taken_by};
 ghost use Rattle.r6_runner.specs.Sound.{KeepsPromised};
 ghost use Rattle.r6_runner.specs.Waits.{HasAwaited};
@@ -11,8 +12,9 @@ use crate::due::{Due, Duty};
 use crate::runner::{Handed, Runner};
 use r6_core::Op;
 use r6_dev::BlockDevice;
-use r6_lists::{Events, Item, Work};
+use r6_lists::{Events, Generations, Item, Work};
 use r6_shard::Part;
+use std::sync::Wait;
 
 impl<D: BlockDevice + Drop> Runner<D> {
     // It is due behind what was taken before.
@@ -50,8 +52,14 @@ impl<D: BlockDevice + Drop> Runner<D> {
         });
     }
 
-    // What came by the list is due, or, the part of a new device, handed in at once.
-    pub(crate) fn take_up<L: Events>(&mut self, item: Item<L, D>)
+    // What came by the list is due, or, the part of a new device, handed in at once, under the generation that the
+    // calling thread wrote.
+    pub(crate) fn take_up<L: Events, R: Wait>(
+        &mut self,
+        rt: &R,
+        generations: &Generations<L>,
+        item: Item<L, D>,
+    )
         requires { taken_by self.old < self.old.room }
         ensures course { (numbers : _) → GoesOn D.told L.shape L.events item.shard numbers
             (numbers ++ item.number ∷ []) self.old self.new }
@@ -59,34 +67,28 @@ impl<D: BlockDevice + Drop> Runner<D> {
         ensures sound { KeepsPromised D.told D.promised L.shape L.sound item.shard self.old self.new }
         ensures awaited { HasAwaited L.events self.old → HasAwaited L.events self.new }
         ensures same { KeepsSelf self.old self.new }
+        ensures own { KeepsOwn self.old self.new }
         ensures count { taken_by self.new ≡ taken_by self.old + 1 }
     {
         let event = item.number;
         let waits = item.waits;
         let work = item.work;
         match work {
-            Work::Read(block, buffer) => self.put(
-                event,
-                waits,
-                Duty::Serve(Op::Read(block, buffer)),
-            ),
-            Work::Write(block, buffer) => self.put(
-                event,
-                waits,
-                Duty::Serve(Op::Write(block, buffer)),
-            ),
-            Work::Attach {
-                slot,
-                generation,
-                part: device,
-            } => self.hand_in(
-                event,
-                Part {
+            Work::Read(block, buffer) => {
+                self.put(event, waits, Duty::Serve(Op::Read(block, buffer)));
+            }
+            Work::Write(block, buffer) => {
+                self.put(event, waits, Duty::Serve(Op::Write(block, buffer)));
+            }
+            Work::Attach { slot, part: device } => {
+                let given = generations.read(rt, event);
+                let part = Part {
                     slot,
-                    generation,
+                    generation: given.generation,
                     device,
-                },
-            ),
+                };
+                self.hand_in(event, part);
+            }
             Work::Check => self.put(event, waits, Duty::Check),
             Work::Repair => self.put(event, waits, Duty::Repair),
         }

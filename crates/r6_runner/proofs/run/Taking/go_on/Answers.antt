@@ -4,6 +4,8 @@ use Rattle.r6_runner.specs.Runners.{HasDone, IsOver}
 use Rattle.r6_runner.specs.Waits.{HasAwaited}
 use Rattle.r6_runner.specs.declared.runner.Runner.{Runner}
 use Rattle.r6_runner.specs.Sound.{IsSoundIn}
+use Rattle.r6_runner.specs.Parts.{KeepsOwn}
+use Rattle.r6_runner.proofs.Parts.{own-on, own-same}
 use Rattle.r6_runner.proofs.run.Taking.go_on.Goals as goal
 
 pub returns-then-not-go_round-clause-course : goal.returns-then-not-go_round-clause-course
@@ -54,3 +56,17 @@ returns-clause-sound g c = λ slot promise x.
     let number = c.args.self.now.consumer.shard in
     subst (IsSoundIn g.D.BlockDevice.told g.D.BlockDevice.promised shape number slot) (sym c.is_finished.ensures.runner)
     (c.go_round.ensures.sound shape number slot (c.take_in.ensures.sound slot promise x))
+
+pub returns-then-not-go_round-clause-own : goal.returns-then-not-go_round-clause-own
+returns-then-not-go_round-clause-own g c =
+    let mid = c.take_in.new.self.runner in
+    let new = c.go_round.new.self in
+    own-on c.args.self.now.runner mid new c.take_in.ensures.own (own-same mid new c.go_round.ensures.parts)
+
+pub returns-clause-own : goal.returns-clause-own
+returns-clause-own g c =
+    let old = c.args.self.now.runner in
+    let mid = c.take_in.new.self.runner in
+    let new = c.go_round.new.self in
+    subst (KeepsOwn old) (sym c.is_finished.ensures.runner)
+    (own-on old mid new c.take_in.ensures.own (own-same mid new c.go_round.ensures.parts))

@@ -1,7 +1,8 @@
 use Rattle.std.proofs.Common.{◌∙◌}
-use Rattle.r6_runner.proofs.Counting.{counted-at-end}
+use Rattle.r6_runner.proofs.Counting.{classed-at-end, counted-at-end}
 use Rattle.r6_runner.proofs.Done.{goes-then}
 use Rattle.r6_runner.proofs.Sound.{promised-on}
+use Rattle.r6_runner.proofs.Parts.{own-on}
 use Rattle.r6_runner.proofs.run.Taking.run.Goals as goal
 
 pub returns-then-go_on-clause-counted : goal.returns-then-go_on-clause-counted
@@ -25,6 +26,7 @@ loop-preserved g c =
         sound = promised-on g.D.BlockDevice.told g.D.BlockDevice.promised g.L.Events.shape g.L.Events.sound c.args.self.now.consumer.shard c.loop.self.consumer.shard
             c.args.self.now.runner c.loop.self.runner c.go_on.new.self.runner before.shard before.sound now.sound;
         awaited = λ x. now.awaited (before.awaited x);
+        own = own-on c.args.self.now.runner c.loop.self.runner c.go_on.new.self.runner before.own now.own;
         shard = now.shard ∙ before.shard;
         place = now.place ∙ before.place;
       },
@@ -60,3 +62,11 @@ returns-then-go_on-clause-place g c = c.go_on.ensures.place ∙ c.loop.invariant
 
 pub returns-then-go_on-clause-finished : goal.returns-then-go_on-clause-finished
 returns-then-go_on-clause-finished g c = (c.go_on.ensures.over c.if-go_on.true).1
+
+pub returns-then-go_on-clause-own : goal.returns-then-go_on-clause-own
+returns-then-go_on-clause-own g c =
+    own-on c.args.self.now.runner c.loop.self.runner c.go_on.new.self.runner c.loop.invariant.2.own c.go_on.ensures.own
+
+pub returns-then-go_on-clause-classed : goal.returns-then-go_on-clause-classed
+returns-then-go_on-clause-classed g c = λ rows x.
+    classed-at-end rows c.go_on.new.self.runner (c.go_on.ensures.counted rows (c.loop.invariant.2.counted rows x))

@@ -1,6 +1,7 @@
 use Rattle.std.proofs.Common.{◌≡◌}
 use Rattle.r6_health.specs.Passes.{IsPassOf}
 use Rattle.r6_runner.specs.Counted.{KeepsCounted}
+use Rattle.r6_runner.specs.Parts.{KeepsOwn}
 use Rattle.r6_runner.specs.Runners.{GoesOn}
 use Rattle.r6_runner.specs.Sound.{KeepsPromised}
 use Rattle.r6_runner.specs.Waits.{HasAwaited}
@@ -16,6 +17,7 @@ invariant-loop g l =
       sound : KeepsPromised g.D.BlockDevice.told g.D.BlockDevice.promised g.L.Events.shape g.L.Events.sound l.fn.self.consumer.shard
           l.fn.self.runner l.self.runner;
       awaited : HasAwaited g.L.Events.events l.fn.self.runner → HasAwaited g.L.Events.events l.self.runner;
+      own : KeepsOwn l.fn.self.runner l.self.runner;
       shard : l.self.consumer.shard ≡ l.fn.self.consumer.shard;
       place : l.self.runner.shard.core.shard ≡ l.fn.self.runner.shard.core.shard;
     }

@@ -5,6 +5,8 @@ use Rattle.r6_runner.specs.Waits.{HasAwaited}
 use Rattle.r6_runner.proofs.Done.{goes-then}
 use Rattle.r6_runner.specs.Sound.{IsSoundIn}
 use Rattle.r6_runner.proofs.Sound.{promised-on}
+use Rattle.r6_runner.specs.Parts.{KeepsOwn}
+use Rattle.r6_runner.proofs.Parts.{own-on}
 use Rattle.r6_runner.proofs.run.Taking.take_all.Goals as goal
 use Rattle.r6_runner.proofs.run.Taking.take_all.Goals.{in-None, in-Some+then-not-take_one}
 
@@ -59,6 +61,7 @@ loop-preserved g c =
         sound = promised-on g.D.BlockDevice.told g.D.BlockDevice.promised g.L.Events.shape g.L.Events.sound c.args.self.now.consumer.shard c.loop.self.consumer.shard
             c.args.self.now.runner c.loop.self.runner c.take_one.new.self.runner before.shard before.sound now.sound;
         awaited = λ x. now.awaited (before.awaited x);
+        own = own-on c.args.self.now.runner c.loop.self.runner c.take_one.new.self.runner before.own now.own;
         same = record {
           pass = now.same.pass ∙ before.same.pass;
           place = now.same.place ∙ before.same.place;
@@ -104,4 +107,15 @@ returns-clause-shard g c =
     elim c.match-next.branch [
       | in-None w ↦ subst (λ s. s.consumer.shard ≡ old) (sym w.self-is) before
       | in-Some+then-not-take_one w ↦ subst (λ s. s.consumer.shard ≡ old) (sym w.self-is) (w.take_one.ensures.shard ∙ before)
+    ]
+
+pub returns-clause-own : goal.returns-clause-own
+returns-clause-own g c =
+    let old = c.args.self.now.runner in
+    let before = c.loop.invariant.2.own in
+    elim c.match-next.branch [
+      | in-None w ↦ subst (λ s. KeepsOwn old s.runner) (sym w.self-is) before
+      | in-Some+then-not-take_one w ↦
+          subst (λ s. KeepsOwn old s.runner) (sym w.self-is)
+          (own-on old c.loop.self.runner w.take_one.new.self.runner before w.take_one.ensures.own)
     ]

@@ -1,5 +1,6 @@
 use Rattle.std.proofs.Common.{◌≡◌, false}
 use Rattle.r6_runner.specs.Counted.{KeepsCounted}
+use Rattle.r6_runner.specs.Parts.{KeepsOwn}
 use Rattle.r6_runner.specs.Runners.{GoesOn, KeepsSelf}
 use Rattle.r6_runner.specs.Sound.{KeepsPromised}
 use Rattle.r6_runner.specs.Waits.{HasAwaited}
@@ -14,6 +15,7 @@ invariant-loop g l =
       sound : KeepsPromised g.D.BlockDevice.told g.D.BlockDevice.promised g.L.Events.shape g.L.Events.sound l.fn.self.consumer.shard
           l.fn.self.runner l.self.runner;
       awaited : HasAwaited g.L.Events.events l.fn.self.runner → HasAwaited g.L.Events.events l.self.runner;
+      own : KeepsOwn l.fn.self.runner l.self.runner;
       same : KeepsSelf l.fn.self.runner l.self.runner;
       shard : l.self.consumer.shard ≡ l.fn.self.consumer.shard;
       open_yet : l.self.consumer.finished ≡ false;

@@ -1,5 +1,6 @@
-use Rattle.std.proofs.Common.{◌≡◌, ℕ, ◌+◌, ◌≤◌, ◌∷◌, [], length, ap, sym, subst, ◌++◌, ◌∙◌, arith}
-use Rattle.std.proofs.lemmas.List.{length-append}
+use Rattle.std.proofs.Common.{◌≡◌, ℕ, List, ◌+◌, ◌<◌, ◌≤◌, ◌∷◌, [], length, ap, sym, subst, ◌++◌, ◌∙◌, arith}
+use Rattle.std.proofs.lemmas.List.{length-append, length-map}
+use Rattle.r6_runner.specs.declared.runner.Handed.{Handed}
 use Rattle.r6_lists.specs.Events.{tasks_of}
 use Rattle.r6_lists.proofs.Tasks.{all_taken}
 use Rattle.r6_runner.specs.Runners.{HasDone}

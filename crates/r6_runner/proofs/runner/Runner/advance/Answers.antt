@@ -1,3 +1,4 @@
+use Rattle.r6_runner.proofs.Parts.{parts-on}
 use Rattle.r6_runner.proofs.runner.Runner.advance.Goals as goal
 
 pub returns-clause-awaited : goal.returns-clause-awaited
@@ -19,3 +20,13 @@ returns-clause-course g c = λ shape events number numbers geometry snapshot bef
     (c.go_on.ensures.course shape events number numbers geometry snapshot before
     (c.begin_all.ensures.course shape events number numbers geometry snapshot before
     (c.round.ensures.course shape events number numbers geometry snapshot before x)))
+
+pub returns-clause-parts : goal.returns-clause-parts
+returns-clause-parts g c =
+    let old = c.args.self.now in
+    let round = c.round.new.self in
+    let begun = c.begin_all.new.self in
+    let gone = c.go_on.new.self in
+    let new = c.rebuild.new.self in
+    parts-on old gone new (parts-on old begun gone (parts-on old round begun c.round.ensures.parts c.begin_all.ensures.parts)
+    c.go_on.ensures.parts) c.rebuild.ensures.parts

@@ -4,6 +4,8 @@ use Rattle.r6_runner.specs.Runners.{HasDone, KeepsSelf, taken_by}
 use Rattle.r6_runner.specs.Waits.{HasAwaited}
 use Rattle.r6_runner.proofs.Done.{self-on}
 use Rattle.r6_runner.specs.Sound.{IsSoundIn}
+use Rattle.r6_runner.specs.Parts.{KeepsParts}
+use Rattle.r6_runner.proofs.Parts.{parts-on}
 use Rattle.r6_runner.proofs.runner.Runner.begin_all.Goals as goal
 use Rattle.r6_runner.proofs.runner.Runner.begin_all.Goals.{in-None, in-Some+then-not-begin_next}
 
@@ -37,6 +39,7 @@ loop-preserved g c =
         sound = λ shape number slot x. now.sound shape number slot (before.sound shape number slot x);
         awaited = λ events x. now.awaited events (before.awaited events x);
         same = self-on c.args.self.now c.loop.self c.begin_next.new.self before.same now.same;
+        parts = parts-on c.args.self.now c.loop.self c.begin_next.new.self before.parts now.parts;
         count = now.count ∙ before.count;
       },
     )
@@ -73,6 +76,7 @@ loop-init g c = (
     sound = λ shape number slot x. x;
     awaited = λ events x. x;
     same = record { pass = refl; place = refl; room = refl };
+    parts = record { labels = refl; room = refl; handed = refl; others = refl; here = λ slot x. x; window = refl };
     count = refl;
   },
 )
@@ -94,4 +98,14 @@ returns-clause-count g c =
     elim c.match-next.branch [
       | in-None w ↦ subst (λ s. taken_by s ≡ taken_by old) (sym w.self-is) before
       | in-Some+then-not-begin_next w ↦ subst (λ s. taken_by s ≡ taken_by old) (sym w.self-is) (w.begin_next.ensures.count ∙ before)
+    ]
+
+pub returns-clause-parts : goal.returns-clause-parts
+returns-clause-parts g c =
+    let old = c.args.self.now in
+    let before = c.loop.invariant.2.parts in
+    elim c.match-next.branch [
+      | in-None w ↦ subst (KeepsParts old) (sym w.self-is) before
+      | in-Some+then-not-begin_next w ↦
+          subst (KeepsParts old) (sym w.self-is) (parts-on old c.loop.self w.begin_next.new.self before w.begin_next.ensures.parts)
     ]

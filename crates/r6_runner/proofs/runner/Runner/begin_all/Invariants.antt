@@ -1,5 +1,6 @@
 use Rattle.std.proofs.Common.{◌≡◌}
 use Rattle.r6_runner.specs.Counted.{StaysCounted}
+use Rattle.r6_runner.specs.Parts.{KeepsParts}
 use Rattle.r6_runner.specs.Runners.{GoesOnSame, KeepsSelf, taken_by}
 use Rattle.r6_runner.specs.Sound.{KeepsSound}
 use Rattle.r6_runner.specs.Waits.{KeepsAwaited}
@@ -13,5 +14,6 @@ invariant-loop g l =
       sound : KeepsSound g.D.BlockDevice.told g.D.BlockDevice.promised l.fn.self l.self;
       awaited : KeepsAwaited l.fn.self l.self;
       same : KeepsSelf l.fn.self l.self;
+      parts : KeepsParts l.fn.self l.self;
       count : taken_by l.self ≡ taken_by l.fn.self;
     }

@@ -124,4 +124,20 @@ invariant_of-self g c =
       passed_room = old.passed_room;
       handed_room = old.handed_room;
       others_room = old.others_room;
+      parts_room = old.parts_room;
     }
+
+pub returns-in-Serve-clause-parts : goal.returns-in-Serve-clause-parts
+returns-in-Serve-clause-parts g c =
+    let kept = c.hand_over.ensures.parts in
+    record { labels = kept.labels; room = kept.room; handed = kept.handed; others = kept.others; here = kept.here; window = kept.window }
+
+pub returns-in-Check-clause-parts : goal.returns-in-Check-clause-parts
+returns-in-Check-clause-parts g c =
+    let kept = c.begin_pass.ensures.parts in
+    record { labels = kept.labels; room = kept.room; handed = kept.handed; others = kept.others; here = kept.here; window = kept.window }
+
+pub returns-in-Repair-clause-parts : goal.returns-in-Repair-clause-parts
+returns-in-Repair-clause-parts g c =
+    let kept = c.begin_pass-in-Repair.ensures.parts in
+    record { labels = kept.labels; room = kept.room; handed = kept.handed; others = kept.others; here = kept.here; window = kept.window }

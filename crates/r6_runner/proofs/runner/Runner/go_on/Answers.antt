@@ -1,9 +1,11 @@
-use Rattle.std.proofs.Common.{◌≡◌, ◌≤◌, ℕ, All, Bool, Option, true, false, ap, arith, inr, length, refl, sym, subst, ◌∙◌}
+use Rattle.std.proofs.Common.{◌≡◌, ◌-◌, ◌≤◌, ℕ, All, Bool, Option, true, false, ap, arith, inr, length, refl, sym, subst, ◌∙◌}
 use Rattle.std.specs.Prelude.{option_to_list}
 use Rattle.std.proofs.lemmas.Bool.{false≢true}
 use Rattle.std.proofs.lemmas.List.{length_push}
 use Rattle.std.proofs.lemmas.List.Elements.{All-push}
-use Rattle.r6_world.specs.ShardStates.{Counts}
+use Rattle.r6_world.specs.ShardStates as world
+use Rattle.r6_core.specs.declared.counts.Counts.{Counts}
+use Rattle.r6_runner.specs.Classes.{classed_in}
 use Rattle.r6_runner.specs.declared.pass.Passed.{Passed}
 use Rattle.r6_runner.specs.declared.pass.Passing.{Passing}
 use Rattle.r6_core.specs.Shards.{counts_of}
@@ -18,6 +20,8 @@ returns-then-is_over-clause-counted g c =
     let q = c.over.result in
     over-counted old.rows old.shard.core old.passing old.passed.items c.push_reserved.new.self.items c.in-Some.passing q c.in-Some.is
     (c.is_over.ensures.0 c.if-is_over.true) c.push_reserved.ensures.items (ap (λ r. r.before) c.over.ensures) (ap (λ r. r.left_out) c.over.ensures)
+    (ap (λ (r : Passed). r.skipped) c.over.ensures
+    ∙ ap (λ (k : Counts). old.rows - classed_in c.in-Some.passing.before k) (sym (ap (λ (r : Passed). r.after) c.over.ensures)))
     (ap (λ r. counts_of r.after) c.over.ensures ∙ c.counts.ensures)
 
 pub returns-then-is_over-clause-course : goal.returns-then-is_over-clause-course
@@ -64,7 +68,7 @@ invariant_of-self-then-is_over-clause-unskipped g c = λ clean.
     let q = c.over.result in
     subst (All (λ (p : Passed). p.after.skipped ≡ 0)) (sym c.push_reserved.ensures.items)
     (All-push (λ (p : Passed). p.after.skipped ≡ 0) old.passed.items q (old.unskipped clean)
-    (ap (λ (p : Passed). p.after.skipped) c.over.ensures ∙ ap (λ (k : Counts). k.skipped) c.counts.ensures ∙ (old.shard.whole clean).unskipped))
+    (ap (λ (p : Passed). p.after.skipped) c.over.ensures ∙ ap (λ (k : world.Counts). k.skipped) c.counts.ensures ∙ (old.shard.whole clean).unskipped))
 
 pub returns-then-is_over-clause-count : goal.returns-then-is_over-clause-count
 returns-then-is_over-clause-count g c =
@@ -107,6 +111,7 @@ invariant_of-self-else-is_over g c =
       passed_room = now.passed_room;
       handed_room = now.handed_room;
       others_room = now.others_room;
+      parts_room = now.parts_room;
     }
 
 -- what is not over was not given up
@@ -136,3 +141,8 @@ pub returns-else-is_over-clause-same : goal.returns-else-is_over-clause-same
 returns-else-is_over-clause-same g c =
     let h = c.turn-turned.ensures.course in
     record { pass = c.turn-turned.ensures.pass; place = h.lasts.same.1; room = h.kept.room }
+
+pub returns-else-is_over-clause-parts : goal.returns-else-is_over-clause-parts
+returns-else-is_over-clause-parts g c =
+    let kept = c.turn-turned.ensures.parts in
+    record { labels = kept.labels; room = kept.room; handed = kept.handed; others = kept.others; here = kept.here; window = kept.window }

@@ -1,3 +1,4 @@
+use Rattle.r6_runner.proofs.Parts.{parts-on}
 use Rattle.r6_runner.proofs.runner.Runner.go_round.Goals as goal
 
 pub returns-clause-course : goal.returns-clause-course
@@ -13,3 +14,6 @@ returns-clause-awaited g c = λ events x. c.rests.ensures.awaited events (c.adva
 
 pub returns-clause-sound : goal.returns-clause-sound
 returns-clause-sound g c = λ shape number slot x. c.rests.ensures.sound shape number slot (c.advance.ensures.sound shape number slot x)
+
+pub returns-clause-parts : goal.returns-clause-parts
+returns-clause-parts g c = parts-on c.args.self.now c.advance.new.self c.rests.new.self c.advance.ensures.parts c.rests.ensures.parts

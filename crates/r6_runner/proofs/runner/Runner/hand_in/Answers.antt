@@ -1,9 +1,15 @@
-use Rattle.std.proofs.Common.{◌≡◌, ◌≤◌, ◌+◌, ◌∙◌, ◌++◌, ◌∷◌, [], ℕ, List, ap, arith, length, refl, subst, sym, vec_capacity}
-use Rattle.std.proofs.lemmas.List.{length_push}
+use Rattle.std.proofs.Common.{◌≡◌, ◌<◌, ◌≤◌, ◌+◌, ◌∙◌, ◌++◌, ◌∷◌, [], ℕ, List, ap, arith, length, refl, subst, sym, vec_capacity}
+use Rattle.std.specs.Prelude.{option_to_list}
+use Rattle.std.proofs.lemmas.List.{append-nil, length_push}
+use Rattle.r6_shard.specs.declared.parts.Part.{Part}
 use Rattle.r6_shard.specs.Handing.{HandsIn, RefusesPart, parts_tell}
 use Rattle.r6_shard.specs.Sound.{IsSoundIn, TakesSound, parts_promise}
 use Rattle.r6_shard.proofs.Going.{either_way}
-use Rattle.r6_runner.specs.Runners.{IsPartTaken}
+use Rattle.r6_shard.specs.declared.parts.Parts.{Parts}
+use Rattle.r6_shard.specs.declared.shard.Shard.{Shard}
+use Rattle.r6_runner.specs.declared.runner.Runner.{Runner}
+use Rattle.r6_runner.specs.Runners.{IsPartTaken, taken_by}
+use Rattle.r6_runner.proofs.Parts.{one-more, only-looked}
 use Rattle.r6_runner.proofs.Keeping.{still-sound}
 use Rattle.r6_runner.proofs.Taken.{KeepsRest, keeps-rest, keeps-same, was-clean}
 use Rattle.r6_runner.proofs.runner.Runner.hand_in.Goals as goal
@@ -38,20 +44,49 @@ push_reserved-requires-2 g c =
     let long = old.handed.ok.0 in
     omega (arith, long, old.handed_room, c.requires)
 
+-- the parts that came are among what was taken
+handed-within : {D : Type 0} (runner : Runner D) → length runner.handed.items ≤ taken_by runner
+handed-within runner = omega arith
+
 pub returns-clause-handed : goal.returns-clause-handed
 returns-clause-handed g c =
     let told = g.D.BlockDevice.told in
     let part = c.args.part in
-    let old = c.args.self.now.shard in
+    let self = c.args.self.now in
+    let old = self.shard in
     let new = c.hand_in.new.self in
+    let others = c.match-hand_in.self.1.1.1.1.1.1.1.0 in
+    let count = handed-within self in
+    let few : length old.parts.parts.items < vec_capacity old.parts.parts = omega (arith, count, self.parts_room, c.requires) in
+    let came : (back : List (Part g.row.D.Denot)) × IsPartTaken c.match-hand_in.taken told part back old new
+    × (others.items ≡ self.others.items ++ back) =
+    elim c.match-hand_in.branch [
+      | in-Ok-Some w ↦ (
+        w.in-Ok-Some.earlier ∷ [],
+        subst (λ is. IsPartTaken is told part (w.in-Ok-Some.earlier ∷ []) old new) (sym w.taken-is)
+            (_, w.in-Ok-Some.ensures.handed, sym (ap option_to_list w.in-Ok-Some.field-0-is)),
+        subst (λ s. s.1.1.1.1.1.1.1.0.items ≡ self.others.items ++ w.in-Ok-Some.earlier ∷ []) (sym w.self-is) w.push_reserved.ensures.items,
+      )
+      | in-Ok-None w ↦ (
+        [],
+        subst (λ is. IsPartTaken is told part [] old new) (sym w.taken-is)
+            (_, w.in-Ok-None.ensures.handed, sym (ap option_to_list w.in-Ok-None.field-0-is)),
+        subst (λ s. s.1.1.1.1.1.1.1.0.items ≡ self.others.items ++ []) (sym w.self-is) (sym (append-nil self.others.items)),
+      )
+      | in-Err w ↦ (
+        part ∷ [],
+        subst (λ is. IsPartTaken is told part (part ∷ []) old new) (sym w.taken-is)
+            (w.in-Err.ensures.refused.same, only-looked w.in-Err.refused.refusal part old w.in-Err.ensures.refused.reason few, refl),
+        subst (λ s. s.1.1.1.1.1.1.1.0.items ≡ self.others.items ++ part ∷ []) (sym w.self-is)
+            (w.push_reserved-in-Err.ensures.items ∙ ap (λ (p : Part _). self.others.items ++ p ∷ []) w.in-Err.ensures.refused.back),
+      )
+    ] in
     record {
       taken = c.match-hand_in.taken;
+      back = came.0;
       handed = c.push_reserved-2.ensures.items;
-      shard = elim c.match-hand_in.branch [
-        | in-Ok-Some w ↦ subst (λ is. IsPartTaken is told part old new) (sym w.taken-is) (_, w.in-Ok-Some.ensures.handed)
-        | in-Ok-None w ↦ subst (λ is. IsPartTaken is told part old new) (sym w.taken-is) (_, w.in-Ok-None.ensures.handed)
-        | in-Err w ↦ subst (λ is. IsPartTaken is told part old new) (sym w.taken-is) w.in-Err.ensures.refused.same
-      ];
+      shard = came.1;
+      others = came.2;
       due = refl;
       refused = refl;
       passing = refl;
@@ -66,6 +101,12 @@ at-most-one : {A : Type 0} (before after : List A) (x : A) (capacity capacity' :
     → (length after ≤ length before + 1) × (capacity' ≡ capacity)
 at-most-one before after x capacity capacity' more same =
     let long = ap length more ∙ length_push before x in (omega (arith, long), same)
+
+at-most-same : {D : Type 0} (old new : Shard (Parts D)) → new ≡ old
+    → (length new.parts.parts.items ≤ length old.parts.parts.items + 1) × (vec_capacity new.parts.parts ≡ vec_capacity old.parts.parts)
+at-most-same old new same =
+    let long = ap (λ (s : Shard _). length s.parts.parts.items) same in
+    (omega (arith, long), ap (λ (s : Shard _). vec_capacity s.parts.parts) same)
 
 pub invariant_of-self : goal.invariant_of-self
 invariant_of-self g c =
@@ -88,6 +129,11 @@ invariant_of-self g c =
           subst (λ s. (length s.1.1.1.1.1.1.1.0.items ≤ length old.others.items + 1) × (vec_capacity s.1.1.1.1.1.1.1.0 ≡ vec_capacity old.others))
           (sym w.self-is) (at-most-one old.others.items _ _ _ _ w.push_reserved-in-Err.ensures.items w.push_reserved-in-Err.ensures.capacity)
     ] in
+    let room = either_way c.hand_in.result (λ e. HandsIn g.D.BlockDevice.told part e old.shard new) (λ r. RefusesPart part old.shard r new)
+    ((length new.parts.parts.items ≤ length old.shard.parts.parts.items + 1) × (vec_capacity new.parts.parts ≡ vec_capacity old.shard.parts.parts))
+    c.hand_in.ensures.handed c.hand_in.ensures.refused
+    (λ e h. (one-more part e old.shard.parts new.parts h.taken.labels, h.part_room))
+    (λ r refused. at-most-same old.shard new refused.same) in
     let asked = ap length kept.asked in
     let handed = ap length c.push_reserved-2.ensures.items ∙ length_push old.handed.items _ in
     let most = few.0 in
@@ -101,4 +147,5 @@ invariant_of-self g c =
       passed_room = old.passed_room;
       handed_room = subst (λ (room : ℕ). old.room ≤ room) (sym c.push_reserved-2.ensures.capacity) old.handed_room;
       others_room = subst (λ (room : ℕ). old.room ≤ room) (sym few.1) old.others_room;
+      parts_room = let parts = room.0 in let more = room.1 in omega (arith, parts, more, handed, old.parts_room);
     }

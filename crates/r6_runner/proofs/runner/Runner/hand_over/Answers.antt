@@ -7,6 +7,9 @@ use Rattle.r6_shard.specs.declared.shard.Shard.{Shard}
 use Rattle.r6_shard.proofs.Lasting.{refused-so}
 use Rattle.r6_runner.proofs.Awaiting.{accepted, alike}
 use Rattle.r6_runner.proofs.Counting.{stays-counted}
+use Rattle.r6_shard.specs.declared.parts.Parts.{Parts}
+use Rattle.r6_shard.specs.Handing.{parts_labels, parts_room}
+use Rattle.r6_runner.proofs.Parts.{still-room}
 use Rattle.r6_runner.proofs.runner.Runner.hand_over.Goals as goal
 
 pub returns-in-Ok-clause-counted : goal.returns-in-Ok-clause-counted
@@ -34,7 +37,7 @@ invariant_of-self-clause-unskipped g c = λ clean. c.args.self.now.unskipped (c.
 
 pub returns-in-Ok-clause-served : goal.returns-in-Ok-clause-served
 returns-in-Ok-clause-served g c = record {
-  kept = record { due = refl; passing = refl; passed = refl; handed = refl; room = refl; rows = refl };
+  kept = record { due = refl; passing = refl; passed = refl; handed = refl; others = refl; room = refl; rows = refl };
   outcome = inl (_, c.in-Ok.ensures.accepted, c.in-Ok.ensures.right, c.submit.ensures.lasts, refl);
 }
 
@@ -42,7 +45,7 @@ pub returns-in-Err-clause-served : goal.returns-in-Err-clause-served
 returns-in-Err-clause-served g c =
     let refusal = c.in-Err.refused.refusal in
     record {
-      kept = record { due = refl; passing = refl; passed = refl; handed = refl; room = refl; rows = refl };
+      kept = record { due = refl; passing = refl; passed = refl; handed = refl; others = refl; room = refl; rows = refl };
       outcome = inr (
         refusal,
         c.in-Err.ensures.same,
@@ -92,4 +95,36 @@ invariant_of-self-in-Err g c =
       passed_room = old.passed_room;
       handed_room = old.handed_room;
       others_room = old.others_room;
+      parts_room = still-room old.shard.parts c.submit.new.self.parts old.room (length old.handed.items) (ap (λ (y : Shard _). parts_labels y.parts) same)
+          (ap (λ (y : Shard _). parts_room y.parts) same) old.parts_room;
     }
+
+pub returns-in-Ok-clause-parts : goal.returns-in-Ok-clause-parts
+returns-in-Ok-clause-parts g c =
+    let parts = c.in-Ok.ensures.accepted.parts in
+    record {
+      labels = ap parts_labels parts;
+      room = ap parts_room parts;
+      handed = refl;
+      others = refl;
+      here = c.submit.ensures.here;
+      window = c.submit.ensures.lasts.window;
+    }
+
+pub returns-in-Err-clause-parts : goal.returns-in-Err-clause-parts
+returns-in-Err-clause-parts g c =
+    let same = c.in-Err.ensures.same in
+    record {
+      labels = ap (λ (y : Shard _). parts_labels y.parts) same;
+      room = ap (λ (y : Shard _). parts_room y.parts) same;
+      handed = refl;
+      others = refl;
+      here = c.submit.ensures.here;
+      window = c.submit.ensures.lasts.window;
+    }
+
+pub invariant_of-self-clause-parts_room : goal.invariant_of-self-clause-parts_room
+invariant_of-self-clause-parts_room g c =
+    let old = c.args.self.now in
+    let parts = c.in-Ok.ensures.accepted.parts in
+    still-room old.shard.parts c.submit.new.self.parts old.room (length old.handed.items) (ap parts_labels parts) (ap parts_room parts) old.parts_room

@@ -1,4 +1,14 @@
-use Rattle.std.proofs.Common.{◌≡◌, ◌-◌, [], All, None, ap, arith, length, refl, sym, subst}
+use Rattle.std.specs.Prelude.{IsPermutation, vec_capacity}
+use Rattle.std.proofs.lemmas.List.{append-nil}
+use Rattle.std.proofs.lemmas.List.Sorted.{IsPermutation-refl}
+use Rattle.r6_shard.specs.declared.parts.Part.{Part}
+use Rattle.r6_shard.specs.declared.parts.Parts.{Parts}
+use Rattle.r6_shard.specs.Handing.{parts_labels}
+use Rattle.r6_shard.specs.Here.{HasUsed}
+use Rattle.r6_shard.specs.Parts.{labels_of}
+use Rattle.r6_runner.specs.declared.runner.Handed.{Handed}
+use Rattle.r6_runner.specs.Parts.{labels_in}
+use Rattle.std.proofs.Common.{◌≡◌, ℕ, ◌+◌, ◌≤◌, ◌++◌, List, ◌-◌, [], All, None, ap, arith, length, refl, sym, subst}
 use Rattle.std.proofs.lemmas.List.Elements.{All-nil}
 use Rattle.r6_shard.specs.Handing.{parts_tell}
 use Rattle.r6_runner.specs.declared.pass.Passed.{Passed}
@@ -67,4 +77,20 @@ invariant_of-result g c =
       passed_room = rooms.5;
       handed_room = rooms.7;
       others_room = rooms.9;
+      parts_room = subst (λ (p : Parts _). length p.parts.items + c.args.room ≤ vec_capacity p.parts + length c.in_ok-rooms.rooms.handed.items)
+          (sym shard.parts) (omega (arith, c.requires.parts_room));
+    }
+
+pub returns-clause-own : goal.returns-clause-own
+returns-clause-own g c =
+    let rooms = c.in_ok-rooms.ensures in
+    let shard = c.in_ok-shard.ensures in
+    let first = parts_labels c.args.parts in
+    record {
+      all = subst (λ (p : Parts _). IsPermutation (first ++ labels_in c.in_ok-rooms.rooms.handed.items)
+          (parts_labels p ++ labels_of c.in_ok-rooms.rooms.others.items)) (sym shard.parts)
+          (subst (λ (h : List Handed). IsPermutation (first ++ labels_in h) (first ++ labels_of c.in_ok-rooms.rooms.others.items)) (sym rooms.6)
+          (subst (λ (o : List (Part _)). IsPermutation (first ++ []) (first ++ labels_of o)) (sym rooms.8) (IsPermutation-refl (first ++ []))));
+      here = λ slot x. subst (λ (p : Parts _). HasUsed (parts_labels p) slot c.in_ok-shard.shard.core) (sym shard.parts) (shard.here slot x);
+      window_is = shard.window;
     }

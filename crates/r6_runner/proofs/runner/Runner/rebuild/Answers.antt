@@ -1,4 +1,4 @@
-use Rattle.std.proofs.Common.{refl}
+use Rattle.std.proofs.Common.{length, refl}
 use Rattle.r6_runner.proofs.Awaiting.{alike}
 use Rattle.r6_runner.proofs.Done.{has-gone}
 use Rattle.r6_core.specs.declared.turn.Task.TheVariants as task
@@ -7,6 +7,7 @@ use Rattle.r6_shard.specs.Counted.{HasPassedRows, PassesMore, rows_of}
 use Rattle.r6_shard.proofs.Counting.{none-more, passes-same}
 use Rattle.r6_shard.proofs.Going.{either_way}
 use Rattle.r6_runner.proofs.Counting.{keeps-counted}
+use Rattle.r6_runner.proofs.Parts.{still-room}
 use Rattle.r6_runner.proofs.runner.Runner.rebuild.Goals as goal
 
 pub returns-clause-course : goal.returns-clause-course
@@ -30,3 +31,14 @@ pub returns-clause-awaited : goal.returns-clause-awaited
 returns-clause-awaited g c = λ events x.
     let old = c.args.self.now in
     alike events old.waits old.waits old.shard.asked.items c.turn.new.self.asked.items old.due.items old.due.items refl c.turn.ensures.ledger.asked refl x
+
+pub returns-clause-parts : goal.returns-clause-parts
+returns-clause-parts g c =
+    let on = c.turn.ensures.advances in
+    record { labels = on.labels_stay; room = on.room_stays; handed = refl; others = refl; here = on.here; window = on.lasts.window }
+
+pub invariant_of-self-clause-parts_room : goal.invariant_of-self-clause-parts_room
+invariant_of-self-clause-parts_room g c =
+    let old = c.args.self.now in
+    let on = c.turn.ensures.advances in
+    still-room old.shard.parts c.turn.new.self.parts old.room (length old.handed.items) on.labels_stay on.room_stays old.parts_room

@@ -1,9 +1,10 @@
-use Rattle.std.proofs.Common.{◌≤◌, ℕ, List, ap, refl, subst, sym}
+use Rattle.std.proofs.Common.{◌≤◌, ℕ, List, ap, length, refl, subst, sym}
 use Rattle.r6_shard.specs.declared.ledger.Asked.{Asked}
 use Rattle.r6_runner.specs.Tasks.{count_of}
 use Rattle.r6_runner.proofs.Awaiting.{alike}
 use Rattle.r6_runner.proofs.Done.{has-gone}
 use Rattle.r6_runner.proofs.Counting.{keeps-counted}
+use Rattle.r6_runner.proofs.Parts.{still-room}
 use Rattle.r6_runner.proofs.runner.Runner.rests.Goals as goal
 
 pub returns-clause-course : goal.returns-clause-course
@@ -53,4 +54,11 @@ invariant_of-self g c =
       passed_room = old.passed_room;
       handed_room = old.handed_room;
       others_room = old.others_room;
+      parts_room = still-room old.shard.parts c.rests.new.self.parts old.room (length old.handed.items) c.rests.ensures.advances.labels_stay
+          c.rests.ensures.advances.room_stays old.parts_room;
     }
+
+pub returns-clause-parts : goal.returns-clause-parts
+returns-clause-parts g c =
+    let on = c.rests.ensures.advances in
+    record { labels = on.labels_stay; room = on.room_stays; handed = refl; others = refl; here = on.here; window = on.lasts.window }

@@ -1,7 +1,8 @@
-use Rattle.std.proofs.Common.{refl}
+use Rattle.std.proofs.Common.{length, refl}
 use Rattle.r6_runner.proofs.Awaiting.{alike}
 use Rattle.r6_runner.proofs.Done.{has-gone}
 use Rattle.r6_runner.proofs.Counting.{counts-all}
+use Rattle.r6_runner.proofs.Parts.{still-room}
 use Rattle.r6_runner.proofs.runner.Runner.round.Goals as goal
 
 pub returns-clause-course : goal.returns-clause-course
@@ -21,3 +22,17 @@ pub returns-clause-awaited : goal.returns-clause-awaited
 returns-clause-awaited g c = λ events x.
     let old = c.args.self.now in
     alike events old.waits old.waits old.shard.asked.items c.round_when_here.new.self.asked.items old.due.items old.due.items refl c.round_when_here.ensures.asked refl x
+
+pub returns-clause-parts : goal.returns-clause-parts
+returns-clause-parts g c =
+    let on = c.round_when_here.ensures.advances in
+    record { labels = on.labels_stay; room = on.room_stays; handed = refl; others = refl; here = on.here; window = on.lasts.window }
+
+pub invariant_of-self-clause-parts_room : goal.invariant_of-self-clause-parts_room
+invariant_of-self-clause-parts_room g c =
+    let old = c.args.self.now in
+    let on = c.round_when_here.ensures.advances in
+    still-room old.shard.parts c.round_when_here.new.self.parts old.room (length old.handed.items) on.labels_stay on.room_stays old.parts_room
+
+pub invariant_of-self-clause-unskipped : goal.invariant_of-self-clause-unskipped
+invariant_of-self-clause-unskipped g c = λ clean. c.args.self.now.unskipped (c.round_when_here.ensures.advances.remembers clean)

@@ -5,6 +5,7 @@ use Rattle.r6_shard.proofs.Counting.{passes-same}
 use Rattle.r6_shard.proofs.Lasting.{lasts_on}
 use Rattle.r6_runner.proofs.Counting.{refused-core}
 use Rattle.r6_runner.proofs.Done.{shard-on}
+use Rattle.r6_runner.proofs.Parts.{parts-on}
 use Rattle.r6_runner.proofs.runner.Runner.turn.Goals as goal
 
 pub returns-in-Err-clause-course : goal.returns-in-Err-clause-course
@@ -58,6 +59,7 @@ loop-turned-preserved g c =
     let passed = c.in_default.ensures.passed in
     record {
       course = shard-on g.D.BlockDevice.told c.args.self.now c.loop-turned.self c.turn_one.new.self at.course c.turn_one.ensures.course;
+      parts = parts-on c.args.self.now c.loop-turned.self c.turn_one.new.self at.parts c.turn_one.ensures.parts;
       sound = λ shape number slot x. c.turn_one.ensures.sound shape number slot (at.sound shape number slot x);
       pass = c.turn_one.ensures.pass ∙ at.pass;
       more = at.more + rows_of task;
@@ -71,3 +73,7 @@ loop-turned-preserved g c =
 pub returns-in-Err-clause-sound : goal.returns-in-Err-clause-sound
 returns-in-Err-clause-sound g c = λ shape number slot x.
     c.turn_one.ensures.sound shape number slot (c.loop-turned.invariant.sound shape number slot x)
+
+pub returns-in-Err-clause-parts : goal.returns-in-Err-clause-parts
+returns-in-Err-clause-parts g c =
+    parts-on c.args.self.now c.loop-turned.self c.turn_one.new.self c.loop-turned.invariant.parts c.turn_one.ensures.parts

@@ -1,6 +1,7 @@
 use Rattle.std.proofs.Common.{◌≡◌, ℕ}
 use Rattle.r6_shard.specs.Counted.{PassesMore, rows_of}
 use Rattle.r6_shard.specs.Refusing.{Lasts}
+use Rattle.r6_runner.specs.Parts.{KeepsParts}
 use Rattle.r6_runner.specs.Runners.{ShardGoesOn}
 use Rattle.r6_runner.specs.Sound.{KeepsSound}
 use Rattle.r6_runner.proofs.runner.Runner.turn.Given as goal
@@ -8,6 +9,7 @@ use Rattle.r6_runner.proofs.runner.Runner.turn.Given as goal
 abbrev pub invariant-loop-turned : goal.invariant-loop-turned
 invariant-loop-turned g l = record {
   course : ShardGoesOn g.D.BlockDevice.told l.fn.self l.self;
+  parts : KeepsParts l.fn.self l.self;
   sound : KeepsSound g.D.BlockDevice.told g.D.BlockDevice.promised l.fn.self l.self;
   pass : l.self.shard.pass ≡ l.fn.self.shard.pass;
   more : ℕ;
