@@ -1,5 +1,5 @@
 -- What is left to hand out of a run's events, and what those are answered that no shard answers (this project's own).
-use Rattle.std.specs.Prelude.{◌≡◌, ℕ, ◌-◌, ◌<◌, nat_lt, List, [], ◌∷◌, ◌++◌, length, filter_map, flat_map, Option, Some, None, Err, option_map, option_and_then, slice_get, slice_index_or, if◌then◌else◌, All, Bool, true, false, Result}
+use Rattle.std.specs.Prelude.{◌≡◌, ℕ, ◌-◌, ◌<◌, nat_lt, List, [], ◌∷◌, ◌++◌, length, filter_map, flat_map, Option, Some, None, Ok, Err, option_map, option_and_then, slice_get, slice_index_or, if◌then◌else◌, All, Bool, true, false, Result}
 use Rattle.std.specs.List.{range_with_len}
 use Rattle.r6_layout.specs.Shape.{Shape, blocks}
 use Rattle.r6_world.specs.PlainArray.{block_of}
@@ -71,6 +71,11 @@ asking_in (Attached slot answer) = Attaches slot
 
 abbrev pub asked_in : EventAnswer → ℕ × Asking
 asked_in answer = (answer.event, asking_in answer.outcome)
+
+-- the generation that an attach was answered, 0 where it was refused
+abbrev pub generation_of : Result ℕ Refusal → ℕ
+generation_of (Ok generation) = generation
+generation_of (Err refusal) = 0
 
 -- the calls that the register took
 abbrev pub calls_in : Outcome → List Made

@@ -19,11 +19,10 @@ pub(crate) struct Position {
     pub(crate) waits: u64,
 }
 
-/// A slot's new device, under the generation that the register gave it, or 0.
+/// A slot's new device.
 #[derive(Drop)]
 pub(crate) struct NewDevice<D> {
     pub(crate) slot: usize,
-    pub(crate) generation: u32,
     /// Its parts, one for each shard, from the first on.
     pub(crate) parts: Vec<D>,
 }
@@ -64,18 +63,10 @@ impl<'a, L: Events, D: BlockDevice + Drop> Shards<'a, L, D> {
         requires left { IsAt (λ p. p.lists) (λ p. p.left) L.shape L.events at.number producers.old }
         ensures left { IsAt (λ p. p.lists) (λ p. p.left) L.shape L.events (at.number + 1) producers.new }
     {
-        let NewDevice {
-            slot,
-            generation,
-            parts,
-        } = device;
+        let NewDevice { slot, parts } = device;
         let mut shard = 0;
         for part in parts {
-            let work = Work::Attach {
-                slot,
-                generation,
-                part,
-            };
+            let work = Work::Attach { slot, part };
             let item = Item::new(shard, at.number, at.waits, work);
             self.put(rt, item, &mut producers[shard]);
             shard += 1;

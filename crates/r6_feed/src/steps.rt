@@ -8,7 +8,7 @@ ghost use Rattle.r6_lists.specs.Events.{Request, Attach, Fail, Check, Repair, Wa
 ghost use Rattle.r6_layout.specs.Shape.{blocks};
 ghost use Rattle.r6_layout.specs.Layout.{shard_of, row_of};
 ghost use Rattle.r6_feed.specs.Events.{part_for, event_of_pass, work_for, PartFailsNone};
-ghost use Rattle.r6_feed.specs.Feeds.{TellsOn};
+ghost use Rattle.r6_feed.specs.Feeds.{TellsOn, generation_of};
 
 use crate::answer::{EventAnswer, Outcome};
 use crate::calling;
@@ -16,9 +16,20 @@ use crate::feed::Feed;
 use crate::handing::{NewDevice, PassOver, Position};
 use crate::shards::Shards;
 use r6_dev::BlockDevice;
+use r6_health::Refusal;
 use r6_lists::{Events, Item, Work};
 use r6_world::Op;
 use std::sync::Wait;
+
+// The generation that an attach was answered, 0 where it was refused.
+fn generation_of(answer: Result<u32, Refusal>) -> u32
+    ensures { result ≡ generation_of answer }
+{
+    match answer {
+        Ok(generation) => generation,
+        Err(_) => 0,
+    }
+}
 
 fn work_of<D>(op: Op) -> Work<D>
     ensures { result ≡ work_for op }
@@ -118,9 +129,9 @@ impl<L: Events> Feed<L> {
         self.number += 1;
     }
 
-    // A slot gets a new device. Its parts are handed over under the generation that the register gave it, so that none
-    // stands for another device: no shard looks at a generation whose part it has not. Where the register refused it,
-    // they are handed over under generation 0, which each shard has looked at, and come back.
+    // A slot gets a new device. Its parts come under the generation that the register answered, so that none stands for
+    // another device: no shard looks at a generation whose part it has not. Where the register refused it, they come
+    // under generation 0, which each shard has looked at, and come back.
     pub(crate) fn attach<D: BlockDevice + Drop, R: Wait>(
         &mut self,
         rt: &R,
@@ -139,12 +150,10 @@ impl<L: Events> Feed<L> {
     {
         let at = self.position();
         let answer = calling::attach(rt, shards.register, &mut self.pass, slot);
-        let device = NewDevice {
-            slot,
-            generation: answer.unwrap_or(0),
-            parts,
-        };
-        shards.hand_parts(rt, &mut self.producers, at, device);
+        let _ = shards
+            .generations
+            .write(rt, self.number, generation_of(answer));
+        shards.hand_parts(rt, &mut self.producers, at, NewDevice { slot, parts });
         self.answers.push_reserved(EventAnswer {
             event: self.number,
             outcome: Outcome::Attached(slot, answer),

@@ -1,5 +1,4 @@
-use Rattle.std.proofs.Common.{◌≡◌, ◌∙◌, map, false, refl, sym, ap}
-use Rattle.std.proofs.lemmas.List.{append-nil}
+use Rattle.std.proofs.Common.{◌≡◌, ◌∙◌, append-nil, map, false, refl, sym, ap}
 use Rattle.r6_lists.specs.Events.{Request}
 use Rattle.r6_lists.proofs.Elements.{all_pushed}
 use Rattle.r6_feed.specs.declared.answer.Outcome.TheVariants.{OutOfRange}

@@ -1,4 +1,5 @@
-use Rattle.std.proofs.Common.{◌≡◌, ◌+◌, ◌∙◌, ◌++◌, map, false, refl, sym, subst, ap}
+use Rattle.std.proofs.Common.{◌≡◌, ℕ, ◌+◌, ◌∙◌, List, [], ◌∷◌, ◌++◌, length, map, false, refl, sym, subst, ap, arith}
+use Rattle.std.proofs.lemmas.List.{map-append}
 use Rattle.r6_health.specs.Views.{attached_by}
 use Rattle.r6_lists.specs.Events.{Attach}
 use Rattle.r6_lists.proofs.Elements.{all_pushed}
