@@ -8,10 +8,12 @@ use Rattle.r6_layout.specs.Shape.{Shape, IsShape}
 use Rattle.r6_world.specs.Registers.{Snapshot}
 use Rattle.r6_lists.specs.Events.{Event, tasks_of, numbers_of}
 use Rattle.r6_shard.specs.declared.parts.Parts.{Parts}
-use Rattle.r6_shard.specs.Handing.{parts_tell}
+use Rattle.r6_shard.specs.Handing.{parts_labels, parts_tell}
+use Rattle.r6_shard.specs.Here.{BeginsHere, HasUsed}
+use Rattle.r6_runner.specs.Parts.{HasAll}
 use Rattle.r6_runner.specs.declared.runner.Runner.{Runner}
 use Rattle.r6_runner.specs.Tasks.{passes_in, passed_of, under_way, due_passes, requests_in, due_requests}
-use Rattle.r6_runner.specs.Counted.{AreCounted, rows_of_shard}
+use Rattle.r6_runner.specs.Counted.{AreClassed, AreCounted, rows_of_shard}
 use Rattle.r6_runner.specs.Runners.{HasDone, IsOver}
 use Rattle.r6_runner.specs.Waits.{AreBehindWaits, HasAwaited}
 use Rattle.r6_health.specs.declared.history.View.{View}
@@ -29,7 +31,7 @@ pub some_same : {A : Type 0} (x y : A) → Some x ≡ Some y → x ≡ y
 some_same x y is = ap (λ o. elim o [ None ↦ x | Some z ↦ z ]) is
 
 -- what each is made of
-mapped_at : {A B : Type 0} (f : A → B) (xs : List A) (k : ℕ) (y : B) → slice_get (map f xs) k ≡ Some y
+pub mapped_at : {A B : Type 0} (f : A → B) (xs : List A) (k : ℕ) (y : B) → slice_get (map f xs) k ≡ Some y
     → (x : A) × (slice_get xs k ≡ Some x) × (f x ≡ y)
 mapped_at f [] k y at = absurd (none-some y at)
 mapped_at f (x ∷ xs) zero y at = (x, refl, some_same (f x) y at)
@@ -44,7 +46,7 @@ partner_at R (x ∷ xs) [] k y all at = absurd all
 partner_at R (x ∷ xs) (z ∷ ys) zero y all at = (x, refl, subst (R x) (some_same z y at) all.0)
 partner_at R (x ∷ xs) (z ∷ ys) (suc k) y all at = partner_at R xs ys k y all.1 at
 
-here_at : {A : Type 0} (xs : List A) (k : ℕ) (d : A) → k < length xs → slice_get xs k ≡ Some (slice_index_or xs k d)
+pub here_at : {A : Type 0} (xs : List A) (k : ℕ) (d : A) → k < length xs → slice_get xs k ≡ Some (slice_index_or xs k d)
 here_at xs k d below = slice_get-get_or xs k d below
 
 pub number_at : {T : Type 0} (number : T → ℕ) (threads : List T) (k : ℕ) (t : T) → slice_get threads k ≡ Some t
@@ -98,7 +100,7 @@ each_served : {D T : Type 0} (told : D → Telling) (shape : Shape) (events : Li
     → ((shard : ℕ) (t : T) → slice_get news shard ≡ Some t → numbers t ≡ numbers_of (tasks_of shape shard events))
     → runners ≡ map runner news → (shard : ℕ) (own : Parts D) (r : Runner D) → slice_get parts shard ≡ Some own
     → slice_get runners shard ≡ Some r → HasServed told shape events start own shard r
-each_served told shape events start number numbers finished runner parts olds news runners begins run numbered taken is shard own r part_at runner_at =
+each_served {D = D} told shape events start number numbers finished runner parts olds news runners begins run numbered taken is shard own r part_at runner_at =
     let new = mapped_at runner news shard r (ap (λ all. slice_get all shard) (sym is) ∙ runner_at) in
     let old = partner_at (λ a b. HasRun told shape events (number a) (numbers a) (runner a) (number b) (numbers b) (finished b) (runner b)) olds news shard new.0 run new.1 in
     let first = partner_at (λ p t. Begins told shape events start p (number t) (numbers t) (runner t)) parts olds shard old.0 begins old.1 in
@@ -111,6 +113,8 @@ each_served told shape events start number numbers finished runner parts olds ne
     let all = subst (λ ns. HasDone told shape events shape shard start (parts_tell told own) ns (runner new.0)) (taken shard new.0 new.1) here in
     let counted = subst (λ n. AreCounted (rows_of_shard shape n) (runner new.0).shard.core (runner new.0).passed.items) there
     (old.2.counted (rows_of_shard shape (number old.0)) first.2.counted) in
+    let classed = subst (λ n. AreClassed (rows_of_shard shape n) (runner new.0).passed.items) there
+    (old.2.classed (rows_of_shard shape (number old.0)) first.2.counted) in
     let right = subst (IsRight shape events) new.2
     (is_right told shape events start own shard (runner new.0) all old.2.over (old.2.awaited first.2.awaited)) in
     record {
@@ -118,7 +122,11 @@ each_served told shape events start number numbers finished runner parts olds ne
       refused = right.refused;
       right = right.right;
       behind = right.behind;
+      all = subst (HasAll (parts_labels own)) new.2 (subst (λ p. HasAll (parts_labels p) (runner new.0)) part (old.2.own.all (parts_labels first.0) first.2.all));
+      here = λ slot begun'. subst (λ (r : Runner D). HasUsed (parts_labels r.shard.parts) slot r.shard.core) new.2
+          (old.2.own.here slot (first.2.here slot (subst (λ p. BeginsHere (parts_labels p) shape.slots start slot) (sym part) begun')));
       counted = subst (λ (r : Runner _). AreCounted (rows_of_shard shape shard) r.shard.core r.passed.items) new.2 counted;
+      classed = subst (λ (r : Runner _). AreClassed (rows_of_shard shape shard) r.passed.items) new.2 classed;
       over = subst IsOver new.2 old.2.over;
     }
 
@@ -143,7 +151,7 @@ part_there told shape events start number numbers finished runner parts olds new
     (first.0, first.1)
 
 -- its passes are its checks and repairs, all of them
-all_passed : {D : Type 0} (told : D → Telling) (shape : Shape) (events : List Event) (start : Snapshot) (own : Parts D) (shard : ℕ) (r : Runner D)
+pub all_passed : {D : Type 0} (told : D → Telling) (shape : Shape) (events : List Event) (start : Snapshot) (own : Parts D) (shard : ℕ) (r : Runner D)
     → HasServed told shape events start own shard r
     → passes_in shape shard events (numbers_of (tasks_of shape shard events)) ≡ map passed_of r.passed.items
 all_passed told shape events start own shard r served =

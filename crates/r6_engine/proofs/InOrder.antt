@@ -12,7 +12,7 @@ use Rattle.r6_lists.specs.Events.{Event, Duty, Serves, Takes_up, Checks, Repairs
 use Rattle.r6_lists.proofs.Rising.{RisesFrom, rises_from, range_rises}
 use Rattle.r6_lists.proofs.Tasks.{numbers_of_tasks}
 use Rattle.r6_shard.specs.declared.ledger.Asked.{Asked}
-use Rattle.r6_shard.specs.declared.run.Asking.{Asking}
+use Rattle.r6_shard.specs.declared.ledger.Asking.{Asking}
 use Rattle.r6_shard.specs.Runs.{AreServed}
 use Rattle.r6_runner.specs.Tasks.{request_in, requests_in}
 use Rattle.r6_runner.specs.Waits.{AreBehindWaits, IsBehindWait}

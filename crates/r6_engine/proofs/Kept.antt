@@ -1,5 +1,5 @@
 -- What the shards did stays so where passes are split from theirs.
-use Rattle.std.proofs.Common.{◌≡◌, ◌∙◌, ℕ, ◌+◌, List, [], ◌∷◌, map, sum_by, All, refl, ap, sym, subst, option_map}
+use Rattle.std.proofs.Common.{◌≡◌, ◌∙◌, ℕ, ◌+◌, ◌++◌, List, [], ◌∷◌, map, sum_by, All, refl, ap, sym, subst, option_map}
 use Rattle.std.specs.List.{AllZip}
 use Rattle.std.proofs.lemmas.List.{length-map}
 use Rattle.std.proofs.lemmas.List.Elements.{All-nil, All-cons, All-head, All-tail}
@@ -11,15 +11,32 @@ use Rattle.r6_world.specs.Registers.{Snapshot}
 use Rattle.r6_core.specs.Shards.{CoreView}
 use Rattle.r6_lists.specs.Events.{Event, tasks_of, numbers_of}
 use Rattle.r6_shard.specs.declared.parts.Parts.{Parts}
-use Rattle.r6_shard.specs.Handing.{parts_tell}
+use Rattle.std.specs.List.Sorted.{IsPermutation}
+use Rattle.r6_shard.specs.declared.parts.Part.{Part}
+use Rattle.r6_shard.specs.Handing.{parts_labels, parts_tell}
+use Rattle.r6_shard.specs.Here.{HasUsed}
+use Rattle.r6_shard.specs.Parts.{labels_of}
+use Rattle.r6_runner.specs.Parts.{HasAll, labels_in}
 use Rattle.r6_runner.specs.declared.runner.Runner.{Runner}
-use Rattle.r6_runner.specs.Counted.{AreCounted, rows_of_shard}
+use Rattle.r6_runner.specs.Counted.{AreClassed, AreCounted, rows_of_shard}
 use Rattle.r6_runner.specs.Splitting.{KeepsAll}
 use Rattle.r6_runner.specs.Waits.{AreBehindWaits}
 use Rattle.r6_engine.specs.Counted.{MayGoOn, rows_for}
 use Rattle.r6_engine.specs.Refusals.{HadReasons, WereRight}
 use Rattle.r6_engine.specs.Serves.{HasServed, HaveServed}
 use Rattle.r6_engine.proofs.EachShard.{partner_at, zip-length}
+
+has-all-still : {D : Type 0} {told : D → Telling} (first : List (ℕ × ℕ)) (old new : Runner D) → KeepsAll told old new → HasAll first old → HasAll first new
+has-all-still first old new kept x =
+    subst (λ (ps : List (Part _)). IsPermutation (first ++ labels_in new.handed.items) (parts_labels new.shard.parts ++ labels_of ps)) (sym kept.others)
+    (subst (λ ps. IsPermutation (first ++ labels_in new.handed.items) (parts_labels ps ++ labels_of old.others.items)) (sym kept.shard.parts)
+    (subst (λ hs. IsPermutation (first ++ labels_in hs) (parts_labels old.shard.parts ++ labels_of old.others.items)) (sym kept.handed) x))
+
+here-still : {D : Type 0} {told : D → Telling} (slot : ℕ) (old new : Runner D) → KeepsAll told old new
+    → HasUsed (parts_labels old.shard.parts) slot old.shard.core → HasUsed (parts_labels new.shard.parts) slot new.shard.core
+here-still slot old new kept x =
+    subst (λ ps. HasUsed (parts_labels ps) slot new.shard.core) (sym kept.shard.parts)
+    (subst (HasUsed (parts_labels old.shard.parts) slot) (sym kept.shard.core) x)
 
 has_still : {D : Type 0} (told : D → Telling) (shape : Shape) (events : List Event) (start : Snapshot) (parts : Parts D) (shard : ℕ)
     (old new : Runner D) → KeepsAll told old new → HasServed told shape events start parts shard old
@@ -30,8 +47,11 @@ has_still told shape events start parts shard old new kept x = record {
       (subst (HadReasons shape.block events old.shard.core) (sym kept.refused) x.refused);
   right = subst (WereRight shape.block events) (sym kept.shard.asked) x.right;
   behind = subst (AreBehindWaits events) (sym kept.shard.asked) x.behind;
+  all = has-all-still (parts_labels parts) old new kept x.all;
+  here = λ slot begun. here-still slot old new kept (x.here slot begun);
   counted = subst (λ (y : CoreView). AreCounted (rows_of_shard shape shard) y new.passed.items) (sym kept.shard.core)
       (subst (AreCounted (rows_of_shard shape shard) old.shard.core) (sym kept.passed) x.counted);
+  classed = subst (AreClassed (rows_of_shard shape shard)) (sym kept.passed) x.classed;
   over = kept.over x.over;
 }
 

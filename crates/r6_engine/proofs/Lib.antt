@@ -6,3 +6,12 @@ mod Rows
 mod Reasons
 mod InOrder
 mod Named
+mod Saying
+mod Known
+mod Numbered
+mod Says
+mod Answered
+mod Replied
+mod Told
+mod InSync
+mod Popped

@@ -14,7 +14,7 @@ use Rattle.r6_core.specs.Refusals.{HasSubmitFault, HasNone}
 use Rattle.r6_lists.specs.Events.{Event, Request, Attach, Fail, Check, Repair, Wait, Serves, Task, task, task_at, duty_of, is_block_of, waits_before}
 use Rattle.r6_lists.proofs.Sharing.{IsBlockOf, block_of_shard}
 use Rattle.r6_shard.specs.declared.ledger.Asked.{Asked}
-use Rattle.r6_shard.specs.declared.run.Asking.{Asking}
+use Rattle.r6_shard.specs.declared.ledger.Asking.{Asking}
 use Rattle.r6_shard.specs.Refusing.{own_faults, IsEnding, IsRefusedFor}
 use Rattle.r6_shard.specs.Runs.{AreServed}
 use Rattle.r6_runner.specs.Tasks.{request_in, requests_in}

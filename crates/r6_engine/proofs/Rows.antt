@@ -15,7 +15,7 @@ use Rattle.r6_lists.specs.Events.{Event, Check, Repair, Duty, Serves, Takes_up, 
 use Rattle.r6_runner.specs.declared.pass.Passed.{Passed}
 use Rattle.r6_runner.specs.declared.runner.Runner.{Runner}
 use Rattle.r6_runner.specs.Tasks.{pass_in, passes_in, passed_of}
-use Rattle.r6_runner.specs.Counted.{AddUp, AreCounted, IsUsedUp, IsWhole, rows_in, rows_of_shard}
+use Rattle.r6_runner.specs.Counted.{AddUp, AreCounted, IsUsedUp, LeavesNoneOut, rows_in, rows_of_shard}
 use Rattle.r6_engine.specs.Counted.{CountEachRow, MayGoOn, rows_for}
 
 -- ---- in one shard
@@ -25,17 +25,17 @@ abbrev for_event : (event rows : ℕ) → ℕ → ℕ
 for_event event rows number = if number == event then rows else 0
 
 -- each check and repair counts each row
-each-row : (core : CoreView) (event rows from to : ℕ) (passed : List Passed) → (IsUsedUp core → ⊥) → All (IsWhole core) passed → AddUp rows from passed to
+each-row : (core : CoreView) (event rows from to : ℕ) (passed : List Passed) → (IsUsedUp core → ⊥) → All (LeavesNoneOut core) passed → AddUp rows from passed to
     → rows_for event passed ≡ sum_by (λ (q : ℕ × Pass). for_event event rows q.0) (map passed_of passed)
 each-row core event rows from to [] more whole x = refl
 each-row core event rows from to (p ∷ passed) more whole x =
-    let none : p.left_out ≡ 0 = elim (All-head (IsWhole core) p passed whole) [ inl none ↦ none | inr used ↦ absurd (more used) ] in
+    let none : p.left_out ≡ 0 = elim (All-head (LeavesNoneOut core) p passed whole) [ inl none ↦ none | inr used ↦ absurd (more used) ] in
     let adds = x.1 in
     let counts : rows_in p.after - rows_in p.before ≡ rows = omega (arith, none, adds) in
     sum_by-cons (λ (q : Passed). if q.event == event then rows_in q.after - rows_in q.before else 0) p passed
     ∙ ap (λ (n : ℕ). (if p.event == event then n else 0) + rows_for event passed) counts
     ∙ ap (λ n. for_event event rows p.event + n)
-    (each-row core event rows (rows_in p.after) to passed more (All-tail (IsWhole core) p passed whole) x.2)
+    (each-row core event rows (rows_in p.after) to passed more (All-tail (LeavesNoneOut core) p passed whole) x.2)
     ∙ sym (sum_by-cons (λ (q : ℕ × Pass). for_event event rows q.0) (p.event, p.task) (map passed_of passed))
 
 -- whether a shard's part of an event is a check or repair
@@ -91,7 +91,7 @@ none-there measure at from (suc many) others below =
     let both = sum_by-cons measure from (range_with_len (from + 1) many) in
     omega (arith, here, behind, both)
 
-one-there : (measure : ℕ → ℕ) (at from many : ℕ) → ((k : ℕ) → k ≢ at → measure k ≡ 0) → from ≤ at → at < from + many
+pub one-there : (measure : ℕ → ℕ) (at from many : ℕ) → ((k : ℕ) → k ≢ at → measure k ≡ 0) → from ≤ at → at < from + many
     → sum_by measure (range_with_len from many) ≡ measure at
 one-there measure at from zero others first last = absurd (omega (arith, first, last))
 one-there measure at from (suc many) others first last =
@@ -141,7 +141,7 @@ at-end mark from =
     (omega (arith, here), omega (arith, here))
 
 -- what is between neighbours is between the first and the last
-between : {X : Type 0} (measure : X → ℕ) (mark : ℕ → ℕ) (from : ℕ) (xs : List X) → ((k : ℕ) → mark k ≤ mark (k + 1))
+pub between : {X : Type 0} (measure : X → ℕ) (mark : ℕ → ℕ) (from : ℕ) (xs : List X) → ((k : ℕ) → mark k ≤ mark (k + 1))
     → ((k : ℕ) (x : X) → slice_get xs k ≡ Some x → measure x ≡ mark (from + k + 1) - mark (from + k))
     → (sum_by measure xs + mark from ≡ mark (from + length xs)) × (mark from ≤ mark (from + length xs))
 between measure mark from [] grows each = at-end mark from

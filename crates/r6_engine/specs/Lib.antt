@@ -1,5 +1,10 @@
 pub mod Counted
+pub mod Found
+pub mod Replies
+pub mod Answered
+pub mod Ledgers
 pub mod Refusals
 pub mod Serves
 pub mod Passes
 pub mod Named
+pub mod ServedArrays

@@ -6,11 +6,13 @@ use Rattle.r6_health.specs.declared.history.View.{View}
 use Rattle.r6_world.specs.Registers.{Snapshot}
 use Rattle.r6_lists.specs.Events.{Event, tasks_of, numbers_of}
 use Rattle.r6_shard.specs.declared.parts.Parts.{Parts}
-use Rattle.r6_shard.specs.Handing.{parts_tell}
+use Rattle.r6_shard.specs.Handing.{parts_labels, parts_tell}
+use Rattle.r6_shard.specs.Here.{BeginsHere, HasUsed}
 use Rattle.r6_feed.specs.declared.answer.EventAnswer.{EventAnswer}
 use Rattle.r6_feed.specs.Feeds.{asked_before, asked_in, calls_of, is_unsettled, WereTold}
 use Rattle.r6_runner.specs.declared.runner.Runner.{Runner}
-use Rattle.r6_runner.specs.Counted.{AreCounted, HasCounted, rows_of_shard}
+use Rattle.r6_runner.specs.Counted.{AreClassed, AreCounted, HasCounted, rows_of_shard}
+use Rattle.r6_runner.specs.Parts.{HasAll, KeepsOwn}
 use Rattle.r6_runner.specs.Runners.{GoesOn, HasDone, IsOver}
 use Rattle.r6_runner.specs.Waits.{AreBehindWaits, HasAwaited}
 use Rattle.r6_engine.specs.Counted.{CountEachRow}
@@ -24,9 +26,18 @@ pub record HasRun {D : Type 0} (told : D → Telling) (shape : Shape) (events : 
   pub place : new.shard.core.shard ≡ old.shard.core.shard
   pub course : GoesOn told shape events shard numbers numbers' old new
   pub counted : (rows : ℕ) → HasCounted rows old → AreCounted rows new.shard.core new.passed.items
+  pub classed : (rows : ℕ) → HasCounted rows old → AreClassed rows new.passed.items
   pub awaited : HasAwaited events old → HasAwaited events new
+  pub own : KeepsOwn old new
   pub all_taken : finished ≡ true
   pub over : IsOver new
+
+-- the part of each device that the shard uses, or has given a command, is there, if that of each slot that wasn't lost
+-- was there at the start
+abbrev pub StartsHere : {D : Type 0} → Shape → (start : Snapshot) → Parts D → Runner D → Type 0
+StartsHere shape start parts runner =
+    (slot : ℕ) → BeginsHere (parts_labels parts) shape.slots start slot
+    → HasUsed (parts_labels runner.shard.parts) slot runner.shard.core
 
 -- the thread of a shard begins: nothing was taken yet
 pub record Begins {D : Type 0} (told : D → Telling) (shape : Shape) (events : List Event) (start : Snapshot)
@@ -36,6 +47,8 @@ pub record Begins {D : Type 0} (told : D → Telling) (shape : Shape) (events : 
   pub done : HasDone told shape events shape shard start (parts_tell told parts) [] runner
   pub counted : HasCounted (rows_of_shard shape shard) runner
   pub awaited : HasAwaited events runner
+  pub all : HasAll (parts_labels parts) runner
+  pub here : StartsHere shape start parts runner
 
 -- the numbers of the shards, from 0 on
 abbrev pub AreNumbered : {T : Type 0} → (T → ℕ) → List T → Type 0
@@ -50,7 +63,10 @@ pub record HasServed {D : Type 0} (told : D → Telling) (shape : Shape) (events
   pub refused : HadReasons shape.block events runner.shard.core runner.refused.items
   pub right : WereRight shape.block events runner.shard.asked.items
   pub behind : AreBehindWaits events runner.shard.asked.items
+  pub all : HasAll (parts_labels parts) runner
+  pub here : StartsHere shape start parts runner
   pub counted : AreCounted (rows_of_shard shape shard) runner.shard.core runner.passed.items
+  pub classed : AreClassed (rows_of_shard shape shard) runner.passed.items
   pub over : IsOver runner
 
 -- each shard did so, from its parts on, and has its runner

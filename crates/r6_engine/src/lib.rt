@@ -2,10 +2,22 @@
 #![tactic(auto)]
 
 mod beginning;
+mod found;
+mod handback;
+mod ledger;
 mod making;
+mod part;
+mod replies;
+mod reply;
 mod running;
+mod served;
 mod serving;
 mod settling;
 mod worker;
 
-pub use serving::{Config, Served, serve};
+pub use found::Found;
+pub use ledger::{Ledger, LedgerEntry};
+pub use part::ShardParts;
+pub use reply::EventReply;
+pub use served::{Served, serve};
+pub use serving::Config;

@@ -1,6 +1,6 @@
 //! What the threads begin with is made, before any of them is there.
 
-ghost use Rattle.std.specs.Prelude.{◌≡◌, ◌+◌, ◌<◌, ◌≤◌, All, length, IfOk, OnOk, false};
+ghost use Rattle.std.specs.Prelude.{◌≡◌, ◌+◌, ◌<◌, ◌≤◌, All, length, vec_capacity, IfOk, OnOk, false};
 ghost use Rattle.r6_layout.specs.Shape.{IsShape};
 ghost use Rattle.std.specs.List.{AllZip};
 ghost use Rattle.r6_health.specs.Passes.{IsPassOf, view_of};
@@ -52,17 +52,10 @@ pub(crate) fn rests_of(alloc: Global, shards: usize) -> Result<Vec<Rest>, AllocE
     Ok(rests)
 }
 
-/// For how much a shard's thread has room.
-#[derive(Clone, Copy)]
-pub(crate) struct Room {
-    pub(crate) tasks: usize,
-    /// Parts of new devices, which come beside those that are there.
-    pub(crate) parts: usize,
-}
-
 // The same parts, with room for so many more.
 fn with_room<D: Drop>(parts: Parts<D>, more: usize) -> Result<Parts<D>, AllocError>
-    ensures { IfOk result (λ roomy. roomy.parts.items ≡ parts.parts.items) }
+    ensures items { IfOk result (λ roomy. roomy.parts.items ≡ parts.parts.items) }
+    ensures room { IfOk result (λ roomy. length parts.parts.items + more ≤ vec_capacity roomy.parts) }
 {
     let Parts { mut parts } = parts;
     parts.reserve(more)?;
@@ -76,11 +69,11 @@ pub(crate) fn taking_of<L: Events, D: BlockDevice + Drop>(
     start: &Snapshot,
     pass: Pass,
     parts: Parts<D>,
-    room: Room,
+    tasks: usize,
     share: Share<L>,
 ) -> Result<Taking<L, D>, AllocError>
     requires shape { place.geometry ≡ L.shape }
-    requires room { length (tasks_of L.shape place.number L.events) ≤ room.tasks }
+    requires room { length (tasks_of L.shape place.number L.events) ≤ tasks }
     requires part { (share.parts ≡ 1) × (share.amount ≡ 0) }
     requires limits { IsShape place.geometry }
     requires number { place.number < place.geometry.shards }
@@ -100,9 +93,9 @@ pub(crate) fn taking_of<L: Events, D: BlockDevice + Drop>(
     ensures number { IfOk result (λ taking. taking.consumer.shard ≡ place.number) }
     ensures pass { IfOk result (λ taking. taking.runner.shard.pass ≡ pass) }
 {
-    let consumer = Consumer::with_capacity(alloc, place.number, room.tasks, share)?;
-    let roomy = with_room(parts, room.parts)?;
-    let runner = Runner::new(alloc, place, start, pass, roomy, room.tasks)?;
+    let consumer = Consumer::with_capacity(alloc, place.number, tasks, share)?;
+    let roomy = with_room(parts, tasks)?;
+    let runner = Runner::new(alloc, place, start, pass, roomy, tasks)?;
     Ok(Taking::new(runner, consumer))
 }
 
@@ -120,14 +113,6 @@ fn room_for<D: BlockDevice>(geometry: &Geometry, events: &[Event<D>], shard: usi
     ensures { result ≡ length (tasks_of geometry.now shard (events_of D.told events.now)) }
 {
     count_tasks(geometry, events, shard) as usize
-}
-
-// How many new devices come.
-fn attaches_in<D: BlockDevice>(events: &[Event<D>]) -> usize {
-    events
-        .iter()
-        .filter(|event| matches!(event, Event::Attach(..)))
-        .count()
 }
 
 // The shards as their threads begin, from the first on, each with a pass of its own.
@@ -179,12 +164,9 @@ pub(crate) fn takings_of<L: Events, D: BlockDevice + Drop>(
             window: opening.window,
         };
         let pass = opening.register.split(first);
-        let room = Room {
-            tasks: room_for(opening.geometry, events, place.number),
-            parts: attaches_in(events),
-        };
+        let tasks = room_for(opening.geometry, events, place.number);
         let part = share.split_off(1, 0);
-        let taking = taking_of(alloc, place, opening.start, pass, parts, room, part)?;
+        let taking = taking_of(alloc, place, opening.start, pass, parts, tasks, part)?;
         takings.push_reserved(taking);
     }
     Ok(takings)

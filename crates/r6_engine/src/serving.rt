@@ -1,6 +1,6 @@
-//! An array is served.
+//! The shards of an array run, each in a thread of its own.
 
-ghost use Rattle.std.specs.Prelude.{◌≡◌, ◌↔◌, ℕ, ◌*◌, ◌≤◌, ◌<◌, ◌^◌, All, IfOk, count_ones, length};
+ghost use Rattle.std.specs.Prelude.{◌≡◌, ◌↔◌, ℕ, ◌*◌, ◌≤◌, ◌<◌, ◌^◌, All, IfOk, count_ones, length, map};
 ghost use Rattle.r6_layout.specs.Shape.{IsShape};
 ghost use Rattle.r6_health.specs.Passes.{view_of};
 ghost use Rattle.r6_health.specs.Histories.{start_losing, held};
@@ -20,14 +20,14 @@ use r6_dev::BlockDevice;
 use r6_feed::{Event, EventAnswer, Shards};
 use r6_health::{Pass, Snapshot};
 use r6_layout::Geometry;
-use r6_lists::Events;
+use r6_lists::{Events, Generations};
 use r6_runner::Runner;
 use r6_shard::Parts;
 use r6_threads::Refused;
-use std::alloc::Global;
+use std::alloc::{AllocError, Global};
 use std::marker::Brand;
-use std::sync::Wait;
 use std::sync::ledger::Blank;
+use std::sync::{OnceLock, Wait};
 use std::thread::Threads;
 
 /// How an array is served.
@@ -40,27 +40,28 @@ pub struct Config {
     pub lost: u32,
 }
 
-/// What became of an array that was served.
+/// What the shards of an array did.
 #[derive(Drop)]
-pub struct Served<D> {
+pub(crate) struct Ran<D> {
     /// The shards, from the first on, each with what it did of the events.
-    pub runners: Vec<Runner<D>>,
+    pub(crate) runners: Vec<Runner<D>>,
     /// What those events were answered that no shard answers, in the order of the events.
-    pub answers: Vec<EventAnswer>,
+    pub(crate) answers: Vec<EventAnswer>,
     /// What the calling thread saw and did at the register.
-    pub pass: Pass,
+    pub(crate) pass: Pass,
     /// What the register held once all threads had ended.
-    pub snapshot: Snapshot,
+    pub(crate) snapshot: Snapshot,
 }
 
-fn serve_as<L, D, R>(
+fn run_as<L, D, R>(
     rt: &R,
     alloc: Global,
     blank: Blank,
     config: Config,
     parts: Vec<Parts<D>>,
     events: Vec<Event<D>>,
-) -> Result<Served<D>, Refused>
+    locks: &[OnceLock<u32>],
+) -> Result<Ran<D>, Refused>
 where
     L: Events + Send + Sync,
     D: BlockDevice + Drop + Send,
@@ -68,6 +69,7 @@ where
     requires blank { (blank.name ≡ L.name) × (blank.parts ≡ L.parts) × (L.parts ≡ 3 * L.shape.shards) }
     requires shape { config.geometry ≡ L.shape }
     requires events { events_of D.told events.items ≡ L.events }
+    requires locks { (map (λ lock. lock.id) locks.now ≡ L.locks) × (length L.events ≤ length L.locks) }
 
     // the array and its parts
     requires limits { IsShape L.shape }
@@ -114,12 +116,14 @@ where
         lists,
         rests,
     } = rooms;
+    let generations = Generations::new(locks);
     let station = Station {
         shards: Shards {
             geometry: &geometry,
             register: &register,
             lists: &lists,
             rests: &rests,
+            generations,
         },
     };
     let ((mut pass, answers), ended) = run_all(rt, alloc, &station, takings, feed, events)?;
@@ -132,7 +136,7 @@ where
         &mut runners,
     );
     let snapshot = register.read(rt, &mut pass);
-    Ok(Served {
+    Ok(Ran {
         runners,
         answers,
         pass,
@@ -140,22 +144,26 @@ where
     })
 }
 
-/// Serves an array: its shards, each in a thread of its own with its parts of the devices, take the events from the
-/// first to the last, while this thread hands them out and fails and attaches slots. It returns once all is done, as
-/// after a wait.
-///
-/// Each shard must have its parts, and each new device a part for every shard. All memory is taken, and all threads
-/// are there, before the first command.
-///
-/// # Errors
-/// `NoMemory` or `ThreadRefused`: no device was written, and the parts and events are dropped.
-pub fn serve<D, R>(
+// Where the calling thread writes which generation each attach is answered: one lock for each event.
+fn locks_of(alloc: Global, events: usize) -> Result<Vec<OnceLock<u32>>, AllocError>
+    ensures { IfOk result (λ locks. length locks.items ≡ events) }
+{
+    let mut locks = Vec::with_capacity(alloc, events)?;
+    for _ in 0..events {
+        locks.push_reserved(OnceLock::new());
+    }
+    Ok(locks)
+}
+
+// The shards of an array run, each in a thread of its own with its parts of the devices: they take the events from the
+// first to the last, while this thread hands them out and fails and attaches slots.
+pub(crate) fn run_array<D, R>(
     rt: &R,
     alloc: Global,
     config: Config,
     parts: Vec<Parts<D>>,
     events: Vec<Event<D>>,
-) -> Result<Served<D>, Refused>
+) -> Result<Ran<D>, Refused>
 where
     D: BlockDevice + Drop + Send,
     R: Threads + Wait + Sync,
@@ -186,5 +194,6 @@ where
     ensures failure { IfOk result (λ served. All (IsShown served.snapshot) served.runners.items) }
 {
     let blank = Blank::new(3 * config.geometry.shards() as u64);
-    serve_as::<Brand, D, R>(rt, alloc, blank, config, parts, events)
+    let locks = locks_of(alloc, events.len())?;
+    run_as::<Brand, D, R>(rt, alloc, blank, config, parts, events, &locks)
 }

@@ -35,7 +35,13 @@ fn run_on<L: Events, D: BlockDevice + Drop, R: Wait>(
 {
     let shard = taking.consumer.shard;
     let list = &shards.lists[shard];
-    taking.run(rt, shards.register, list, &shards.rests[shard]);
+    taking.run(
+        rt,
+        shards.register,
+        list,
+        &shards.rests[shard],
+        &shards.generations,
+    );
 }
 
 impl<'a, L: Events, D: BlockDevice + Drop> Work<Station<'a, L, D>> for Taking<L, D> {

@@ -1,7 +1,7 @@
 //! What the events of a test are answered.
 
 use r6_core::{Refusal, Reply};
-use r6_feed::Outcome;
+use r6_health::{Answer as Told, Refusal as Declined};
 use r6_kernels::Buffer;
 use r6_shard::Entry;
 use std::process::Abort;
@@ -18,8 +18,10 @@ pub(crate) enum Answer {
     ArrayFailed,
     /// Refused, by this number.
     Refused(u8),
-    /// By no shard.
-    Outcome(Outcome),
+    /// A loss, by the register.
+    Failed(Result<Told, Declined>),
+    /// A new device, by the register.
+    Attached(Result<u32, Declined>),
     /// A check or repair: the rows that are consistent, have a wrong P, Q or block of data, or many, were skipped, and
     /// were repaired.
     Rows([u64; 7]),
@@ -35,7 +37,8 @@ fn read_of(block: &Buffer) -> Answer {
     }
 }
 
-fn answer_of(reply: &Reply) -> Answer {
+/// What a shard answered to a request that it had accepted.
+pub(crate) fn answer_of(reply: &Reply) -> Answer {
     match reply {
         Reply::Data(block) => read_of(block),
         Reply::Done(_) => Answer::Done,

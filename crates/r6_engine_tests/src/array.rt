@@ -4,10 +4,10 @@ ghost use Rattle.std.specs.Prelude.{◌≡◌, ◌<◌, length};
 
 use crate::blocks::{BLOCK, ROWS, SLOTS, filled};
 use r6_dev::{BlockDevice, MemoryDevice};
+use r6_engine::ShardParts;
 use r6_kernels::Buffer;
 use r6_layout::Geometry;
-use r6_runner::Runner;
-use r6_shard::{Part, Parts, Shard};
+use r6_shard::{Part, Parts};
 use std::alloc::Global;
 use std::process::Abort;
 
@@ -152,14 +152,16 @@ pub(crate) struct Found {
 
 /// Looks at all parts, where those of the device that came back had this byte throughout.
 pub(crate) fn find(
-    runners: Vec<Runner<MemoryDevice>>,
+    devices: Vec<ShardParts<MemoryDevice>>,
     room: &mut Buffer,
     held: &Held,
     byte: u8,
 ) -> Found {
     let mut found = Found { right: 0, back: 0 };
-    for runner in runners {
-        let (mut parts, mut others) = parts_at_end(runner);
+    for ShardParts {
+        mut parts,
+        mut others,
+    } in devices {
         for part in parts.iter_mut() {
             found.right = found.right.wrapping_add(rows_right(part, room, held));
         }
@@ -171,14 +173,4 @@ pub(crate) fn find(
         }
     }
     found
-}
-
-// The parts of a shard, and those that came back.
-fn parts_at_end(
-    runner: Runner<MemoryDevice>,
-) -> (Vec<Part<MemoryDevice>>, Vec<Part<MemoryDevice>>) {
-    let Runner { shard, others, .. } = runner;
-    let Shard { parts, core, .. } = shard;
-    drop(core);
-    (parts.parts, others)
 }

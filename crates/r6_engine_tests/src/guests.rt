@@ -7,7 +7,6 @@ use crate::answers::Answer;
 use crate::blocks::filled;
 use crate::meeting::Meeting;
 use crate::serve_bench::check_answer;
-use crate::steps::Ask;
 use r6_core::Op;
 use r6_dev::{BlockDevice, Fault, MemoryDevice};
 use r6_engine::{Config, Served, serve};
@@ -158,10 +157,10 @@ fn serve_guests<'h, R: Threads + Wait + Abort + Sync>(
 
 // Both writes were done, and no command failed.
 fn check_met<R: Abort>(rt: &R, served: &Served<Guest<'_>>) {
-    check_answer(rt, "guests", served, 0, Ask::Write(0, 0x5a), &Answer::Done);
-    check_answer(rt, "guests", served, 1, Ask::Write(4, 0x5a), &Answer::Done);
-    let mut runners = served.runners.iter();
-    assert!(rt; runners.all(|runner| runner.shard.named == [false; 32]));
+    check_answer(rt, "guests", served, 0, &Answer::Done);
+    check_answer(rt, "guests", served, 1, &Answer::Done);
+    let mut ledgers = served.ledgers.iter();
+    assert!(rt; ledgers.all(|ledger| ledger.named == [false; 32]));
 }
 
 // Where memory or a thread is wanting, no device was told anything.

@@ -1,12 +1,12 @@
 //! An array of zeros is served, and what its events were answered.
 
-use crate::answers::{Answer, answer_in, check};
+use crate::answers::{Answer, answer_of, check};
 use crate::array::parts_of;
 use crate::blocks::geometry_of;
-use crate::steps::{Ask, Step, events_of, rows_of};
+use crate::steps::{Step, events_of};
+use r6_core::Refusal;
 use r6_dev::MemoryDevice;
-use r6_engine::{Config, Served, serve};
-use r6_runner::{Passed, Runner};
+use r6_engine::{Config, EventReply, Found, Served, serve};
 use std::alloc::Global;
 use std::process::Abort;
 use std::sync::Wait;
@@ -31,53 +31,30 @@ pub(crate) fn play<R: Threads + Wait + Abort + Sync>(
     serve(rt, alloc, config, parts, events).expect(rt, "an array that is served")
 }
 
-// What a shard answered to an event. A request may be refused or answered so where the array has failed.
-fn answer_by<D>(runner: &Runner<D>, event: u64) -> Answer {
-    let entries = runner.shard.entries.as_slice();
-    match answer_in(entries, runner.refused.as_slice(), event) {
-        Answer::Refused(5) => Answer::ArrayFailed,
-        other => other,
-    }
+// The rows that were found, in the order of [`Answer::Rows`].
+fn rows_of(found: &Found) -> [u64; 7] {
+    [
+        found.consistent,
+        found.wrong_p,
+        found.wrong_q,
+        found.wrong_data,
+        found.many,
+        found.skipped,
+        found.repaired,
+    ]
 }
 
-// The rows that a check or repair counted in one shard are added.
-fn add(rows: &mut [u64; 7], passed: &Passed) {
-    let after = rows_of(&passed.after);
-    let before = rows_of(&passed.before);
-    for class in 0..7 {
-        rows[class] = rows[class].wrapping_add(after[class].wrapping_sub(before[class]));
+// What an event was answered. A request may be refused or answered so where the array has failed.
+fn answer_to<D>(served: &Served<D>, event: usize) -> Answer {
+    match served.replies.get(event) {
+        None | Some(EventReply::Waited) => Answer::Nothing,
+        Some(EventReply::Replied(reply)) => answer_of(reply),
+        Some(EventReply::Refused(Refusal::ArrayFailed)) => Answer::ArrayFailed,
+        Some(EventReply::Refused(refusal)) => Answer::Refused(refusal.number()),
+        Some(EventReply::Failed(answer)) => Answer::Failed(*answer),
+        Some(EventReply::Attached(answer)) => Answer::Attached(*answer),
+        Some(EventReply::Counted(found)) => Answer::Rows(rows_of(found)),
     }
-}
-
-// The rows that the check or repair of an event counted in all shards.
-fn rows_passed<D>(runners: &[Runner<D>], event: u64) -> [u64; 7] {
-    let mut rows = [0; 7];
-    for runner in runners {
-        for passed in runner.passed.iter() {
-            if passed.event == event {
-                add(&mut rows, passed);
-            }
-        }
-    }
-    rows
-}
-
-// What an event was answered.
-fn answer_to<D>(served: &Served<D>, ask: Ask, event: u64) -> Answer {
-    if let Ask::Check | Ask::Repair = ask {
-        return Answer::Rows(rows_passed(served.runners.as_slice(), event));
-    }
-    let mut answers = served.answers.iter();
-    if let Some(answer) = answers.find(|answer| answer.event == event) {
-        return Answer::Outcome(answer.outcome);
-    }
-    for runner in served.runners.iter() {
-        let answer = answer_by(runner, event);
-        if answer != Answer::Nothing {
-            return answer;
-        }
-    }
-    Answer::Nothing
 }
 
 /// Asserts that an event was answered so.
@@ -85,11 +62,10 @@ pub(crate) fn check_answer<D, R: Abort>(
     rt: &R,
     name: &str,
     served: &Served<D>,
-    event: u64,
-    ask: Ask,
+    event: usize,
     wanted: &Answer,
 ) {
-    check(rt, name, event, &answer_to(served, ask, event), wanted);
+    check(rt, name, event as u64, &answer_to(served, event), wanted);
 }
 
 /// Asserts that each event was answered as its step says.
@@ -99,7 +75,8 @@ pub(crate) fn check_steps<R: Abort>(
     served: &Served<MemoryDevice>,
     steps: &[Step],
 ) {
-    for (event, (ask, wanted)) in steps.iter().enumerate() {
-        check_answer(rt, name, served, event as u64, *ask, wanted);
+    assert!(rt; served.replies.len() == steps.len(), "{name}");
+    for (event, (_, wanted)) in steps.iter().enumerate() {
+        check_answer(rt, name, served, event, wanted);
     }
 }

@@ -7,7 +7,6 @@ use crate::serve_bench::{check_steps, play};
 use crate::steps::{Ask, Step};
 use r6_dev::MemoryDevice;
 use r6_engine::Served;
-use r6_feed::Outcome;
 use r6_health::{Answer as Told, Refusal, Snapshot};
 use std::process::Abort;
 
@@ -40,10 +39,7 @@ const WAIT: Step = (Ask::Wait, Answer::Nothing);
 // Rows that are all consistent.
 const CONSISTENT: Answer = Answer::Rows([4, 0, 0, 0, 0, 0, 0]);
 
-const SLOT_1_LOST: Step = (
-    Ask::Fail(1),
-    Answer::Outcome(Outcome::Failed(1, Ok(Told::Degraded))),
-);
+const SLOT_1_LOST: Step = (Ask::Fail(1), Answer::Failed(Ok(Told::Degraded)));
 
 const ARRAYS: &[Array<'static>] = &[
     Array {
@@ -80,24 +76,15 @@ const ARRAYS: &[Array<'static>] = &[
         is_spoiled: false,
         steps: &[
             (Ask::Write(0, 0x5a), Answer::Done),
-            (Ask::Read(8), Answer::Outcome(Outcome::OutOfRange)),
+            (Ask::Read(8), Answer::Refused(1)),
             WAIT,
-            (
-                Ask::Fail(0),
-                Answer::Outcome(Outcome::Failed(0, Ok(Told::Degraded))),
-            ),
+            (Ask::Fail(0), Answer::Failed(Ok(Told::Degraded))),
             SLOT_1_LOST,
-            (
-                Ask::Fail(2),
-                Answer::Outcome(Outcome::Failed(2, Ok(Told::Failed))),
-            ),
+            (Ask::Fail(2), Answer::Failed(Ok(Told::Failed))),
             (Ask::Read(0), Answer::ArrayFailed),
             (Ask::Write(4, 1), Answer::ArrayFailed),
-            (
-                Ask::Fail(3),
-                Answer::Outcome(Outcome::Failed(3, Err(Refusal::ArrayFailed))),
-            ),
-            (Ask::Check, Answer::Rows([0; 7])),
+            (Ask::Fail(3), Answer::Failed(Err(Refusal::ArrayFailed))),
+            (Ask::Check, Answer::Rows([0, 0, 0, 0, 0, 4, 0])),
         ],
         end: End::Failed,
     },
@@ -130,7 +117,7 @@ fn has_ended(served: &Served<MemoryDevice>, end: End) -> bool {
         End::WithoutSlot1 => snapshot.slot(1).is_lost() && !snapshot.failed(),
         End::Failed => snapshot.failed(),
         End::Unasked => {
-            is_whole(snapshot) && served.answers.is_empty() && served.runners.len() == 4
+            is_whole(snapshot) && served.replies.is_empty() && served.ledgers.len() == 4
         }
     }
 }
@@ -160,13 +147,10 @@ const REBUILT: &Array<'static> = &Array {
         (Ask::Write(3, 0xa5), Answer::Done),
         (
             Ask::Attach(1, 0x11),
-            Answer::Outcome(Outcome::Attached(1, Err(Refusal::NotLost))),
+            Answer::Attached(Err(Refusal::NotLost)),
         ),
         SLOT_1_LOST,
-        (
-            Ask::Attach(1, 0x22),
-            Answer::Outcome(Outcome::Attached(1, Ok(1))),
-        ),
+        (Ask::Attach(1, 0x22), Answer::Attached(Ok(1))),
         (Ask::Write(4, 0x77), Answer::Done),
         (Ask::Write(7, 0x81), Answer::Done),
         WAIT,
@@ -195,7 +179,7 @@ fn a_new_device_is_rebuilt(rt: HostRuntime) {
     for shards in REBUILT.shards {
         let served = play(&rt, rt.alloc(), *shards, false, REBUILT.steps);
         check_array(&rt, REBUILT, &served);
-        let found = find(served.runners, &mut room, &HELD, 0x11);
+        let found = find(served.devices, &mut room, &HELD, 0x11);
         assert!(rt; (found.right, found.back) == (16, 4), "{shards} shards");
     }
 }

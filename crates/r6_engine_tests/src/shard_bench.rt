@@ -1,6 +1,6 @@
 //! The shards of an array of zeros, over devices in memory and beside its register, from the array's beginning on.
 
-ghost use Rattle.std.specs.Prelude.{◌≡◌, ◌<◌, length};
+ghost use Rattle.std.specs.Prelude.{◌≡◌, ◌<◌, length, true};
 ghost use Rattle.r6_layout.specs.Shape.{IsShape};
 ghost use Rattle.r6_health.specs.Passes.{view_of, IsPassOf};
 ghost use Rattle.r6_health.specs.Registers.{starting};
@@ -8,13 +8,12 @@ ghost use Rattle.r6_shard.specs.Beginnings.{IsFirstPass};
 
 use crate::answers::{Answer, answer_in, check, check_all};
 use crate::blocks::{BLOCK, SLOTS, filled, geometry_of, register_of};
-use r6_core::{Op, Refused};
+use r6_core::{Op, Refusal, Refused};
 use r6_dev::MemoryDevice;
 use r6_health::{Pass, Register, Snapshot};
 use r6_kernels::Buffer;
-use r6_shard::{Asking, Job, Part, PartRefusal, Parts, Place, Served, Shard, serve};
+use r6_shard::{Part, PartRefusal, Parts, Place, Shard};
 use std::alloc::Global;
-use std::collections::VecDeque;
 use std::process::Abort;
 use std::sync::Wait;
 
@@ -101,17 +100,6 @@ fn op_of<R: Abort>(rt: &R, alloc: Global, request: Request) -> Op {
     }
 }
 
-// The requests, of events with the numbers from 0 on.
-fn askings_of<R: Abort>(rt: &R, alloc: Global, requests: &[Request]) -> VecDeque<Asking> {
-    let mut askings = VecDeque::new(alloc);
-    for (event, request) in requests.iter().enumerate() {
-        let event = event as u64;
-        let op = op_of(rt, alloc, *request);
-        askings.push_back(Asking { event, op }).expect(rt, "memory");
-    }
-    askings
-}
-
 // A device of zeros with so many rows, which a slot has after so many attaches.
 fn part_of<R: Abort>(
     rt: &R,
@@ -139,22 +127,35 @@ pub(crate) fn parts_of<R: Abort>(rt: &R, alloc: Global, rows: &DeviceRows) -> Pa
     Parts { parts }
 }
 
-// Hands a request in; the number of its refusal, if it is refused.
-fn submit(shard: &mut MemoryShard, event: u64, op: Op) -> Option<u8>
+// Hands a request in; why it is refused, if it is.
+fn submit(shard: &mut MemoryShard, event: u64, op: Op) -> Option<Refusal>
     requires { length shard.old.asked.items < shard.old.room }
     ensures { shard.new.pass ≡ shard.old.pass }
 {
     match shard.submit(event, op) {
         Ok(_) => None,
-        Err(Refused { refusal, back: _ }) => Some(refusal.number()),
+        Err(Refused { refusal, back: _ }) => Some(refusal),
     }
 }
 
+// Goes on until nothing is left to do.
 fn run<R: Wait>(rt: &R, shard: &mut MemoryShard, register: &Register)
     requires { IsPassOf register.now shard.old.pass }
     ensures { IsPassOf register.now shard.new.pass }
 {
-    shard.run(rt, register);
+    for _ in rt.forever() {
+        shard.round_when_here(rt, register);
+        if shard.rests(rt, register) {
+            break;
+        }
+    }
+}
+
+// Whether one more request may be accepted.
+fn has_room(shard: &MemoryShard) -> bool
+    ensures { result ≡ true → length shard.now.asked.items < shard.now.room }
+{
+    shard.asked.len() < shard.room
 }
 
 // What a request is answered, once nothing is left to do.
@@ -168,13 +169,13 @@ fn answer<R: Wait>(
     requires { IsPassOf register.now shard.old.pass }
     ensures { IsPassOf register.now shard.new.pass }
 {
-    if !shard.has_room() {
+    if !has_room(shard) {
         return Answer::Nothing;
     }
     let refused = submit(shard, event, op);
     run(rt, shard, register);
     match refused {
-        Some(number) => Answer::Refused(number),
+        Some(refusal) => Answer::Refused(refusal.number()),
         None => answer_in(shard.entries.as_slice(), &[], event),
     }
 }
@@ -287,21 +288,27 @@ fn play_in_turn<R: Wait + Abort>(
     drop(shard);
 }
 
-// The requests are served, from the beginning of the shard to its end.
-fn serve_all<R: Wait + Abort>(
+// Hands all requests in, of events with the numbers from 0 on; those that were refused. Its pass stays what it was.
+fn hand_all<R: Abort>(
     rt: &R,
     alloc: Global,
-    register: &Register,
-    job: Job<Parts<MemoryDevice>>,
-) -> Served<Parts<MemoryDevice>>
-    requires limits { IsShape job.place.geometry }
-    requires number { job.place.number < job.place.geometry.shards }
-    requires window { job.place.window ≡ 1 }
-    requires pass { IsPassOf register.now job.pass }
-    requires first { IsFirstPass job.place.geometry (starting 0) (view_of job.pass) }
+    shard: &mut MemoryShard,
+    requests: &[Request],
+) -> Vec<(u64, Refusal)>
+    ensures { shard.new.pass ≡ shard.old.pass }
 {
-    let snapshot = Snapshot::start(&job.place.geometry, 0);
-    serve(rt, alloc, &snapshot, register, job).expect(rt, "memory")
+    let mut refused = Vec::new(alloc);
+    for (event, request) in requests.iter().enumerate() {
+        let event = event as u64;
+        let op = op_of(rt, alloc, *request);
+        if !has_room(shard) {
+            break;
+        }
+        if let Some(refusal) = submit(shard, event, op) {
+            refused.push((event, refusal)).expect(rt, "memory");
+        }
+    }
+    refused
 }
 
 fn play_at_once<R: Wait + Abort>(
@@ -320,24 +327,22 @@ fn play_at_once<R: Wait + Abort>(
     requires pass { IsPassOf register.now pass }
     requires first { IsFirstPass place.geometry (starting 0) (view_of pass) }
 {
+    let snapshot = Snapshot::start(&place.geometry, 0);
     let parts = parts_of(rt, alloc, rows);
-    let askings = askings_of(rt, alloc, requests);
-    let job = Job {
-        place,
-        pass,
-        parts,
-        askings,
-    };
-    let ended = serve_all(rt, alloc, register, job);
+    let mut shard = Shard::new(alloc, place, &snapshot, pass, parts, requests.len()).expect(
+        rt, "memory",
+    );
+    let refused = hand_all(rt, alloc, &mut shard, requests);
+    run(rt, &mut shard, register);
     check_all(
         rt,
         "a shard",
-        ended.shard.entries.as_slice(),
-        ended.refused.as_slice(),
+        shard.entries.as_slice(),
+        refused.as_slice(),
         wanted,
     );
-    check_named(rt, &ended.shard, rows[1] == 0);
-    drop(ended);
+    check_named(rt, &shard, rows[1] == 0);
+    drop(shard);
 }
 
 // No slot was named, but slot 1 if it is lost.

@@ -46,22 +46,6 @@ fn reads_beside_writes_give_what_the_devices_have(rt: HostRuntime) {
     );
 }
 
-// Only 256 requests may be open at one time.
-#[test]
-fn more_requests_are_served_than_may_be_open(rt: HostRuntime) {
-    let mut requests = [Request::Read(5); 300];
-    requests[0] = Request::Write(0, 3);
-    requests[299] = Request::Read(0);
-    let mut wanted = [Answer::Data(0); 300];
-    wanted[0] = Answer::Done;
-    wanted[299] = Answer::Data(3);
-    play(
-        &rt,
-        rt.alloc(),
-        &[(Devices::Whole, Course::AtOnce(&requests, &wanted))],
-    );
-}
-
 #[test]
 fn a_request_of_another_length_is_refused(rt: HostRuntime) {
     let requests = &[

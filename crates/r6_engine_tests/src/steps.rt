@@ -5,7 +5,7 @@ ghost use Rattle.r6_feed.specs.Events.{IsWhole, AreWhole};
 use crate::answers::Answer;
 use crate::array::device_of;
 use crate::blocks::filled;
-use r6_core::{Counts, Op};
+use r6_core::Op;
 use r6_dev::MemoryDevice;
 use r6_feed::Event;
 use r6_layout::Geometry;
@@ -30,19 +30,6 @@ pub(crate) enum Ask {
 
 /// What an event asks, and what it is to be answered.
 pub(crate) type Step = (Ask, Answer);
-
-/// The rows that were counted, in the order of [`Answer::Rows`].
-pub(crate) fn rows_of(counts: &Counts) -> [u64; 7] {
-    [
-        counts.consistent,
-        counts.wrong_p,
-        counts.wrong_q,
-        counts.wrong_data,
-        counts.many,
-        counts.skipped,
-        counts.repaired,
-    ]
-}
 
 fn event_of<R: Abort>(rt: &R, alloc: Global, geometry: &Geometry, ask: Ask) -> Event<MemoryDevice>
     ensures { IsWhole geometry.now.shards result }

@@ -1,7 +1,12 @@
-use Rattle.std.proofs.Common.{◌≡◌, ◌≤◌, ◌∙◌, ℕ, [], ap, length, subst, sym}
+use Rattle.std.proofs.Common.{arith, ◌≡◌, ◌≤◌, ◌∙◌, ℕ, [], ap, length, subst, sym}
 use Rattle.r6_lists.specs.Events.{tasks_of}
 use Rattle.r6_shard.specs.Parts.{part_in}
-use Rattle.r6_shard.specs.Handing.{parts_tell}
+use Rattle.r6_layout.specs.Shape.{Shape}
+use Rattle.r6_shard.specs.Handing.{parts_labels, parts_tell}
+use Rattle.r6_shard.specs.Here.{BeginsHere, HasUsed}
+use Rattle.r6_shard.specs.Parts.{labels_of}
+use Rattle.r6_runner.specs.declared.runner.Runner.{Runner}
+use Rattle.r6_runner.specs.Parts.{HasAll}
 use Rattle.r6_runner.specs.Counted.{HasCounted, rows_of_shard}
 use Rattle.r6_runner.specs.Runners.{HasDone}
 use Rattle.r6_runner.specs.Waits.{HasAwaited}
@@ -26,12 +31,18 @@ returns-clause-begins g c =
           (subst (λ n. HasDone told shape events c.args.place.geometry n c.args.start.now (parts_tell told c.args.parts) [] c.in_ok-runner.runner)
           (sym own)
           (subst (λ items. HasDone told shape events c.args.place.geometry c.args.place.number c.args.start.now (part_in told items) []
-          c.in_ok-runner.runner) c.in_ok-roomy.ensures done)));
+          c.in_ok-runner.runner) c.in_ok-roomy.ensures.items done)));
       counted = subst (λ r. HasCounted (rows_of_shard shape c.new-2.result.consumer.shard) r) (sym c.new-2.ensures.0)
           (subst (λ s. HasCounted (rows_of_shard s c.new-2.result.consumer.shard) c.in_ok-runner.runner) c.requires.shape
           (subst (λ n. HasCounted (rows_of_shard c.args.place.geometry n) c.in_ok-runner.runner) (sym own)
           c.in_ok-runner.ensures.counted));
       awaited = subst (HasAwaited events) (sym c.new-2.ensures.0) (c.in_ok-runner.ensures.awaited events);
+      all = subst (HasAll (parts_labels c.args.parts)) (sym c.new-2.ensures.0)
+          (subst (λ items. HasAll (labels_of items) c.in_ok-runner.runner) c.in_ok-roomy.ensures.items c.in_ok-runner.ensures.own.all);
+      here = λ slot begun. subst (λ (r : Runner _). HasUsed (parts_labels r.shard.parts) slot r.shard.core) (sym c.new-2.ensures.0)
+          (c.in_ok-runner.ensures.own.here slot
+          (subst (λ (s : Shape). BeginsHere (labels_of c.in_ok-roomy.roomy.parts.items) s.slots c.args.start.now slot) (sym c.requires.shape)
+          (subst (λ items. BeginsHere (labels_of items) shape.slots c.args.start.now slot) (sym c.in_ok-roomy.ensures.items) begun)));
     }
 
 pub returns-clause-sound : goal.returns-clause-sound
@@ -42,7 +53,7 @@ returns-clause-sound g c = λ slot x.
     let start = c.args.start.now in
     let number = c.new-2.result.consumer.shard in
     let own : number ≡ c.args.place.number = ap (λ consumer. consumer.shard) c.new-2.ensures.1 ∙ c.in_ok-consumer.ensures.shard in
-    let roomy = subst (λ items. StartsSound promised shape number start slot items) (sym c.in_ok-roomy.ensures) x in
+    let roomy = subst (λ items. StartsSound promised shape number start slot items) (sym c.in_ok-roomy.ensures.items) x in
     subst (λ r. IsSoundIn told promised shape number slot r) (sym c.new-2.ensures.0)
     (subst (λ n. IsSoundIn told promised shape n slot c.in_ok-runner.runner) (sym own)
     (subst (λ s. IsSoundIn told promised s c.args.place.number slot c.in_ok-runner.runner) c.requires.shape
@@ -88,4 +99,9 @@ new-requires-2-clause-room g c =
     let shape = g.L.Events.shape in
     let events = g.L.Events.events in
     subst (λ (n : ℕ). length (tasks_of shape c.in_ok-consumer.consumer.shard events) ≤ n) (sym c.in_ok-runner.ensures.room.0)
-    (subst (λ (n : ℕ). length (tasks_of shape n events) ≤ c.args.room.tasks) (sym c.in_ok-consumer.ensures.shard) c.requires.room)
+    (subst (λ (n : ℕ). length (tasks_of shape n events) ≤ c.args.tasks) (sym c.in_ok-consumer.ensures.shard) c.requires.room)
+
+pub new-requires-clause-parts_room : goal.new-requires-clause-parts_room
+new-requires-clause-parts_room g c =
+    let room = c.in_ok-roomy.ensures.room in
+    let same = ap length c.in_ok-roomy.ensures.items in omega (arith, room, same)

@@ -159,8 +159,8 @@ split-pass-requires g c = c.loop-parts.invariant.2.pass
 pub taking_of-requires-clause-room : goal.taking_of-requires-clause-room
 taking_of-requires-clause-room g c =
     let number = c.len-in-loop-parts.result in
-    let same : c.room_for.result ≡ length (tasks_of g.L.Events.shape number g.L.Events.events) =
-    c.room_for.ensures ∙ ap (λ (s : Shape). length (tasks_of s number (events_of g.D.BlockDevice.told c.args.events.now))) c.requires.shape
+    let same : c.room_for-tasks.result ≡ length (tasks_of g.L.Events.shape number g.L.Events.events) =
+    c.room_for-tasks.ensures ∙ ap (λ (s : Shape). length (tasks_of s number (events_of g.D.BlockDevice.told c.args.events.now))) c.requires.shape
     ∙ ap (λ events. length (tasks_of g.L.Events.shape number events)) c.requires.events in
     omega (arith, same)
 

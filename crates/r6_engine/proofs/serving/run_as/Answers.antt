@@ -9,7 +9,7 @@ use Rattle.r6_engine.proofs.Kept.{have_still}
 use Rattle.r6_engine.proofs.Passes.{call_as_they_may, each_saw_with_pass, is_shown}
 use Rattle.r6_runner.specs.Sound.{KeepsPromised}
 use Rattle.r6_engine.proofs.Named.{are-promised, leave_sound_alone}
-use Rattle.r6_engine.proofs.serving.serve_as.Goals as goal
+use Rattle.r6_engine.proofs.serving.run_as.Goals as goal
 
 pub run_all-requires-clause-ready : goal.run_all-requires-clause-ready
 run_all-requires-clause-ready g c κs within = λ k d below.

@@ -1,0 +1,46 @@
+-- The ledger of a shard, as its thread left it (this project's own).
+use Rattle.std.specs.Prelude.{◌≡◌, ℕ, ◌≤◌, List, [], length, vec_capacity, Option, option_map, filter_map}
+use Rattle.std.specs.List.{range_with_len}
+use Rattle.r6_core.specs.Shards.{CoreView, synced, world_shard}
+use Rattle.r6_runner.specs.declared.runner.Runner.{Runner}
+use Rattle.r6_engine.specs.Replies.{ledger_entries}
+use Rattle.r6_engine.specs.declared.handback.Page.{Page}
+use Rattle.r6_engine.specs.declared.ledger.Ledger.{Ledger}
+use Rattle.r6_engine.specs.declared.part.ShardParts.{ShardParts}
+
+-- the slots that a core has in sync, each with the generation of its device
+abbrev pub in_sync_at : CoreView → (slot : ℕ) → Option (ℕ × ℕ)
+in_sync_at core slot = option_map (λ generation. (slot, generation)) (synced ((world_shard core).slot slot))
+
+abbrev pub in_sync_in : CoreView → List (ℕ × ℕ)
+in_sync_in core = filter_map (in_sync_at core) (range_with_len 0 core.shape.slots)
+
+-- it tells what the shard did, and how it is
+pub record IsLedgerOf {D : Type 0} (r : Runner D) (ledger : Ledger) : Type 0 where
+  pub requests : ledger.requests.items ≡ r.shard.asked.items
+  pub entries : ledger.entries.items ≡ ledger_entries r.shard.entries.items
+  pub in_sync : ledger.in_sync.items ≡ in_sync_in r.shard.core
+  pub named : ledger.named ≡ r.shard.named
+  pub saw_failed : ledger.saw_failed ≡ (world_shard r.shard.core).saw_failed
+  pub saw_out : ledger.saw_out ≡ r.shard.saw_out
+  pub tokens : ledger.tokens ≡ (world_shard r.shard.core).tokens
+  pub last_look : ledger.last_look ≡ r.shard.last
+
+-- the shard's parts, as it gives them back
+pub record AreBack {D : Type 0} (r : Runner D) (back : ShardParts D) : Type 0 where
+  pub parts : back.parts.items ≡ r.shard.parts.parts.items
+  pub others : back.others.items ≡ r.others.items
+
+-- ---- while they are handed back
+
+-- a page that is empty, with room for so many entries and slots
+pub record IsPage (entries slots : ℕ) (page : Page) : Type 0 where
+  pub no_entry : page.entries.items ≡ []
+  pub no_slot : page.in_sync.items ≡ []
+  pub entries_room : entries ≤ vec_capacity page.entries
+  pub slots_room : slots ≤ vec_capacity page.in_sync
+
+-- a shard's ledger needs no more room
+pub record FitsPage {D : Type 0} (entries slots : ℕ) (r : Runner D) : Type 0 where
+  pub told : length r.shard.entries.items ≤ entries
+  pub shape : slots ≡ r.shard.core.shape.slots
