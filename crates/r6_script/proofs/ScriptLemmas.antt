@@ -1,10 +1,16 @@
 -- What the words and lines of a script are, and how they are told apart.
-use Rattle.std.proofs.Common.{◌≡◌, ◌≢◌, ◌≤◌, ◌<◌, ◌+◌, ◌-◌, ◌++◌, ◌==◌, ℕ, suc, eqb, Bool, true, false, not, List, [], ◌∷◌, Option, Some, None, Result, Ok, Err, IfOk, IfErr, length, get_or, map, take, drop, nat_lt, codes, decimal, refl, ap, sym, ◌∙◌, subst, arith, append_assoc, lit≤}
+use Rattle.std.proofs.Common.{◌≡◌, ◌≢◌, ◌≤◌, ◌<◌, ◌+◌, ◌-◌, ◌++◌, ◌==◌, ℕ, suc, eqb, Bool, true, false, not, List, [], ◌∷◌, Option, Some, None, Result, Ok, Err, IfOk, IfErr, length, get_or, map, take, drop, nat_lt, codes, decimal, refl, ap, sym, ◌∙◌, subst, arith, append_assoc, lit≤, lit<}
 use Rattle.std.proofs.lemmas.Bool.Decides.{Decides-eqb, nat_tests}
 use Rattle.std.proofs.lemmas.Slice.Eq.{slice_eq-Decides}
 use Rattle.std.specs.Cmp.Lexicographic.{pointwise}
 use Rattle.std.proofs.lemmas.Fmt.{decimal-digits_value, decimal_injective, decimal_nonempty, digits_decimal, first_decimal, parse-decimal}
-use Rattle.std.proofs.lemmas.List.{append-nil, length-map, get_or-map, take_all}
+use Rattle.std.proofs.lemmas.List.{append-nil, take_all}
+use Rattle.std.proofs.lemmas.Iterator.{YieldsList}
+use Rattle.std.proofs.lemmas.Iterator.Consumers.{YieldsList-at, YieldsList-end, YieldsList-turn}
+use Rattle.std.proofs.lemmas.Iterator.Splits.{YieldsList-from_str_split}
+use Rattle.std.specs.Iterator.{Yields}
+use Rattle.std.specs.Str.Iter.{split_has_more, split_pattern, split_steps, split_text}
+use Rattle.std.specs.declared.str.Split.{Split}
 use Rattle.std.proofs.lemmas.List.Elements.{filter_more}
 use Rattle.std.proofs.lemmas.Str.Parse.{IsNumeralModel, digit_at, numerals_by_value, tells_digits, parse_plain, not_in_digits}
 use Rattle.std.proofs.lemmas.Str.Pattern.{IsSplitOnceResult, split_after}
@@ -14,7 +20,7 @@ use Rattle.std.specs.Int.{IsInRange}
 use Rattle.std.specs.List.{All}
 use Rattle.std.specs.Result.{result_ok}
 use Rattle.std.specs.Str.Parse.{AllDigits, digits_value, ParsesUnsigned}
-use Rattle.std.specs.Str.Pattern.{FindsTextPrefix}
+use Rattle.std.specs.Str.Pattern.{FindsChar, FindsTextPrefix}
 use denote.Ref.{Bor}
 use Rattle.r6_layout.specs.Limits as limits
 use Rattle.r6_layout.specs.Shape.{Shape, IsShape, shape_of}
@@ -290,6 +296,25 @@ pub cannot_add_array : (line : Text) → ((shape : Shape) → IsShape shape → 
 cannot_add_array line none None h = cc
 cannot_add_array line none (Some said) h = none said.0 h.0.0 (cc)
 
+-- the lines of a text, as they are gone over
+module _ {s t : Split ℕ} (text : Text) (from : t ≡ s) (begun : split_text s ≡ text) (more : split_has_more s ≡ true) (cut : split_pattern s ≡ 10)
+    (passed : List (Bor Text)) (u : Split ℕ) (run : Yields (split_steps FindsChar (λ a b. b ≡ a)) t passed u) (i : ℕ) (count : i ≡ length passed) where
+  lines_come : YieldsList (split_steps FindsChar (λ a b. b ≡ a)) (λ (line : Bor Text). line.now) t (lines_of text)
+  lines_come = YieldsList-at from (YieldsList-from_str_split {s = s} 10 text (lit< tt) begun more cut)
+
+  -- there is a line more, and it is this one
+  pub next_line : (answer : Option (Bor Text)) (w : Split ℕ) (line : Bor Text) → answer ≡ Some line → split_steps FindsChar (λ a b. b ≡ a) u answer w
+      → (i < length (lines_of text)) × (line.now ≡ get_or (lines_of text) i line.now)
+  next_line answer w line is step =
+      let here = YieldsList-turn lines_come passed u run answer w line is step in
+      subst (λ k. (k < length (lines_of text)) × (line.now ≡ get_or (lines_of text) k line.now)) (sym count) here
+
+  -- there is none more
+  pub no_line : (answer : Option (Bor Text)) (w : Split ℕ) → answer ≡ None → split_steps FindsChar (λ a b. b ≡ a) u answer w → length (lines_of text) ≤ i
+  no_line answer w is step =
+      let end = YieldsList-end lines_come passed u run answer w is step in
+      omega (arith, end.1, count)
+
 -- one more line
 pub filter_one : (lines : List Text) (i : ℕ) (d : Text) → i < length lines → is_passed_over (get_or lines i d) ≡ false → without_comments (take (i + 1) lines) ≡ without_comments (take i lines) ++ get_or lines i d ∷ []
 filter_one lines i d within counts = filter_more (λ line. not (is_passed_over line)) lines i d within ∙ rw counts refl
@@ -298,31 +323,29 @@ pub filter_none : (lines : List Text) (i : ℕ) (d : Text) → i < length lines 
 filter_none lines i d within counts = filter_more (λ line. not (is_passed_over line)) lines i d within ∙ rw (counts, append-nil) refl
 
 -- the lines of a text, some of which were read
-pub record HasRead (items : List (Bor Text)) (text : Text) (count : ℕ) (script : Option Script) : Type 0 where
-  pub lines : map (λ (line : Bor Text). line.now) items ≡ lines_of text
-  pub say : Say (take count (map (λ (line : Bor Text). line.now) items)) (said_of script)
+pub record HasRead (lines : List Text) (count : ℕ) (script : Option Script) : Type 0 where
+  pub say : Say (take count lines) (said_of script)
 
-module _ (items : List (Bor Text)) (text : Text) (i : ℕ) (d : Bor Text) (script : Option Script) (read : HasRead items text i script) (within : i < length items) where
-  abbrev lines : List Text
-  lines = map (λ (line : Bor Text). line.now) items
+pub none_read : (lines : List Text) → HasRead lines 0 None
+none_read lines = record { say = (tt, refl) }
 
-  within_lines : i < length lines
-  within_lines = omega (arith, length-map items (λ (line : Bor Text). line.now))
+-- at the end all lines were read
+pub all_read : (lines : List Text) (i : ℕ) (script : Option Script) → HasRead lines i script → length lines ≤ i → Say lines (said_of script)
+all_read lines i script read end = subst (λ (all : List Text). Say all (said_of script)) (take_all i lines end) read.say
 
-  here : get_or lines i d.now ≡ (get_or items i d).now
-  here = get_or-map (λ (line : Bor Text). line.now) items i d d.now within
-
-  module _ (counts : false ≡ is_passed_over (get_or items i d).now) where
-    one_more : without_comments (take (i + 1) lines) ≡ lines_saying (said_of script) ++ (get_or items i d).now ∷ []
+module _ (lines : List Text) (i : ℕ) (line : Text) (script : Option Script) (read : HasRead lines i script)
+    (here : (i < length lines) × (line ≡ get_or lines i line)) where
+  module _ (counts : false ≡ is_passed_over line) where
+    one_more : without_comments (take (i + 1) lines) ≡ lines_saying (said_of script) ++ line ∷ []
     one_more =
-        filter_one lines i d.now within_lines (ap is_passed_over here ∙ sym counts)
-        ∙ ap (λ (line : Text). without_comments (take i lines) ++ line ∷ []) here
-        ∙ ap (λ (before : List Text). before ++ (get_or items i d).now ∷ []) read.say.1
+        filter_one lines i line here.0 (ap is_passed_over (sym here.1) ∙ sym counts)
+        ∙ ap (λ (last : Text). without_comments (take i lines) ++ last ∷ []) (sym here.1)
+        ∙ ap (λ (before : List Text). before ++ line ∷ []) read.say.1
 
-    pub read_line : (next : Option Script) → Adds (said_of script) (get_or items i d).now (said_of next) → HasRead items text (i + 1) next
-    read_line next adds = record { lines = read.lines; say = (adds.0, one_more ∙ sym adds.1) }
+    pub read_line : (next : Option Script) → Adds (said_of script) line (said_of next) → HasRead lines (i + 1) next
+    read_line next adds = record { say = (adds.0, one_more ∙ sym adds.1) }
 
-    pub explained : (fault : ScriptFault) → (fault ≢ Memory → (fault ≡ Line (i + 1)) × CannotAdd (said_of script) (get_or items i d).now) → Explains (lines_of text) fault
+    pub explained : (fault : ScriptFault) → (fault ≢ Memory → (fault ≡ Line (i + 1)) × CannotAdd (said_of script) line) → Explains lines fault
     explained Memory h = tt
     explained (Line n) h =
         let why = h (λ (e : Line n ≡ Memory). cc) in
@@ -330,19 +353,7 @@ module _ (items : List (Bor Text)) (text : Text) (i : ℕ) (d : Bor Text) (scrip
         let n_is : n ≡ i + 1 = cc in
         let first : IsScript (take (n - 1) lines) = let back : i + 1 - 1 ≡ i = omega arith in rw (n_is, back) (said_of script, read.say) in
         let last : ¬ IsScript (take n lines) = rw n_is (λ script_is. why.1 script_is.0 (script_is.1.0, sym script_is.1.1 ∙ one_more)) in
-        rw (← read.lines) (first, last)
+        (first, last)
 
-  module _ (passed : true ≡ is_passed_over (get_or items i d).now) where
-    pub pass_line : HasRead items text (i + 1) script
-    pass_line = record { lines = read.lines; say = (read.say.0, filter_none lines i d.now within_lines (ap is_passed_over here ∙ sym passed) ∙ read.say.1) }
-
--- at the end all lines were read
-pub all_read : (items : List (Bor Text)) (text : Text) (i : ℕ) (script : Option Script) → HasRead items text i script → length items ≤ i → Say (lines_of text) (said_of script)
-all_read items text i script read end =
-    let past : length (map (λ (line : Bor Text). line.now) items) ≤ i = omega (arith, length-map items (λ (line : Bor Text). line.now)) in
-    let whole : take i (map (λ (line : Bor Text). line.now) items) ≡ map (λ (line : Bor Text). line.now) items = take_all i (map (λ (line : Bor Text). line.now) items) past in
-    let say : Say (map (λ (line : Bor Text). line.now) items) (said_of script) = rw whole at read.say in
-    rw read.lines at say
-
-pub none_read : (items : List (Bor Text)) (text : Text) → map (λ (line : Bor Text). line.now) items ≡ lines_of text → HasRead items text 0 None
-none_read items text e = record { lines = e; say = (tt, refl) }
+  pub pass_line : true ≡ is_passed_over line → HasRead lines (i + 1) script
+  pass_line passed = record { say = (read.say.0, filter_none lines i line here.0 (ap is_passed_over (sym here.1) ∙ sym passed) ∙ read.say.1) }

@@ -1,2 +1,3 @@
+pub mod RunScript
 pub mod Script
 pub mod Texts

@@ -11,7 +11,7 @@ use r6_layout::Geometry;
 use std::alloc::Global;
 
 /// A decimal number without leading zeros, below 2^64.
-pub fn parse_number(word: &str) -> Option<u64>
+pub(crate) fn parse_number(word: &str) -> Option<u64>
     ensures { Reads decimal IsNumber word.now result }
 {
     if word.starts_with('+') {
@@ -24,7 +24,7 @@ pub fn parse_number(word: &str) -> Option<u64>
 }
 
 /// A number with the text after the character that ends it.
-pub fn parse_number_before(text: &str, end: char) -> Option<(u64, &str)>
+pub(crate) fn parse_number_before(text: &str, end: char) -> Option<(u64, &str)>
     requires ascii { end < 128 }
     requires no_digit { 10 ≤ digit_value end }
     ensures { MatchOption result
@@ -47,7 +47,7 @@ fn parse_digit(byte: u8) -> Option<u8>
 }
 
 /// A byte of two hexadecimal digits.
-pub fn parse_byte(word: &str) -> Option<u8>
+pub(crate) fn parse_byte(word: &str) -> Option<u8>
     ensures { Reads byte_word IsByte word.now result }
 {
     match word.as_bytes() {
@@ -199,7 +199,7 @@ fn parse_array(line: &str) -> Option<Geometry>
 }
 
 /// Whether a line is empty or a comment.
-pub fn is_passed_over(line: &str) -> bool
+pub(crate) fn is_passed_over(line: &str) -> bool
     ensures { result ≡ is_passed_over line.now }
 {
     line.is_empty() || line.starts_with('#')
@@ -245,11 +245,12 @@ pub fn parse_script(alloc: Global, text: &str) -> Result<Option<Script>, ScriptF
     ensures ok { IfOk result (λ script. Say (lines_of text.now) (said_of script)) }
     ensures err { IfErr result (Explains (lines_of text.now)) }
 {
-    let lines: Vec<&str> = text.split('\n').collect(alloc)?;
     let mut script = None;
-    for (index, line) in lines.iter().enumerate() {
+    let mut number = 0;
+    for line in text.split('\n') {
+        number += 1;
         if !is_passed_over(line) {
-            script = Some(followed(alloc, script, line, index as u64 + 1)?);
+            script = Some(followed(alloc, script, line, number)?);
         }
     }
     Ok(script)

@@ -1,34 +1,46 @@
-use Rattle.std.proofs.Common.{◌≡◌, ◌≤◌, Bor, Err, Global, Ok, Result, Some, Vec, length, rules, arith, lit<}
-use Rattle.std.specs.declared.alloc.AllocError.{AllocError}
-use Rattle.r6_script.specs.Script.{Text}
-use Rattle.std.proofs.lemmas.Iterator.Consumers.{map_from_collect}
-use Rattle.std.proofs.lemmas.Iterator.Splits.{YieldsList-from_str_split}
-use Rattle.r6_script.proofs.ScriptLemmas.{all_read, explained, none_read, pass_line, read_line}
+use Rattle.std.proofs.Common.{◌≡◌, Err, Some, arith, rules}
+use Rattle.std.proofs.lemmas.List.{length_push}
+use Rattle.r6_script.specs.Script.{lines_of}
+use Rattle.r6_script.proofs.ScriptLemmas.{all_read, explained, next_line, no_line, pass_line, read_line}
 use Rattle.r6_script.proofs.parser.parse_script.Goals as goal
-use Rattle.r6_script.proofs.parser.parse_script.Goals.{then-not-is_passed_over+in_ok-followed, else-not-is_passed_over}
-
-pub loop-index-init : goal.loop-index-init
-loop-index-init c =
-    let made : Result (Vec (Bor Text) Global) AllocError = Ok c.in_ok-lines.lines in
-    none_read c.deref-line-items.result.now c.args.text.now
-    (rw c.deref-line-items.ensures.value (map_from_collect made c.in_ok-lines.ensures.ran
-    (YieldsList-from_str_split {s = c.split.result} 10 c.args.text.now (lit< tt) c.split.ensures.text c.split.ensures.has_more c.split.ensures.pattern)))
 
 pub followed-requires : goal.followed-requires
-followed-requires c = c.loop-index.invariant.say.0
+followed-requires c = c.loop-line.invariant.1.say.0
 
 pub returns-in_err-followed-clause-err : goal.returns-in_err-followed-clause-err
 returns-in_err-followed-clause-err c =
-    let is : c.from_residual-in_err-followed.result ≡ Err c.in_err-followed.field-0.0 = search rules in
-    rw is (explained c.deref-line-items.result.now c.args.text.now c.loop-index.index _ c.loop-index.script c.loop-index.invariant c.loop-index-test.true c.if-not-is_passed_over.ensures c.in_err-followed.field-0.0 c.in_err-followed.ensures.err)
+    let here = next_line {s = c.split-line-items.result} c.args.text.now c.into_iter-line-iterator.ensures.into_iter_gives
+    c.split-line-items.ensures.text c.split-line-items.ensures.has_more c.split-line-items.ensures.pattern
+    c.loop-line.yielded _ c.loop-line.yielded_by c.loop-line.number c.loop-line.invariant.0 _ _ c.in-Some.line c.in-Some.is c.next.ensures.steps in
+    let is : c.from_residual.result ≡ Err c.in_err-followed.field-0.0 = search rules in
+    rw is (explained (lines_of c.args.text.now) c.loop-line.number c.in-Some.line.now c.loop-line.script c.loop-line.invariant.1
+    here c.if-not-is_passed_over.ensures c.in_err-followed.field-0.0 c.in_err-followed.ensures.err)
 
-pub loop-index-preserved : goal.loop-index-preserved
-loop-index-preserved c = elim c.if-not-is_passed_over.branch [
-  | then-not-is_passed_over+in_ok-followed w ↦ rw w.script-is (read_line c.deref-line-items.result.now c.args.text.now c.loop-index.index _ c.loop-index.script c.loop-index.invariant c.loop-index-test.true w.if-not-is_passed_over.ensures (Some w.in_ok-followed.field-0) w.in_ok-followed.ensures.ok)
-  | else-not-is_passed_over w ↦ rw w.script-is (pass_line c.deref-line-items.result.now c.args.text.now c.loop-index.index _ c.loop-index.script c.loop-index.invariant c.loop-index-test.true w.if-not-is_passed_over.ensures)
-]
+pub loop-line-preserved-then-not-is_passed_over : goal.loop-line-preserved-then-not-is_passed_over
+loop-line-preserved-then-not-is_passed_over c =
+    let here = next_line {s = c.split-line-items.result} c.args.text.now c.into_iter-line-iterator.ensures.into_iter_gives
+    c.split-line-items.ensures.text c.split-line-items.ensures.has_more c.split-line-items.ensures.pattern
+    c.loop-line.yielded _ c.loop-line.yielded_by c.loop-line.number c.loop-line.invariant.0 _ _ c.in-Some.line c.in-Some.is c.next.ensures.steps in
+    let one = length_push c.loop-line.yielded c.in-Some.line in (
+      omega (arith, one, c.loop-line.invariant.0),
+      read_line (lines_of c.args.text.now) c.loop-line.number c.in-Some.line.now c.loop-line.script c.loop-line.invariant.1
+          here c.if-not-is_passed_over.ensures (Some c.in_ok-followed.field-0) c.in_ok-followed.ensures.ok,
+    )
+
+pub loop-line-preserved : goal.loop-line-preserved
+loop-line-preserved c =
+    let here = next_line {s = c.split-line-items.result} c.args.text.now c.into_iter-line-iterator.ensures.into_iter_gives
+    c.split-line-items.ensures.text c.split-line-items.ensures.has_more c.split-line-items.ensures.pattern
+    c.loop-line.yielded _ c.loop-line.yielded_by c.loop-line.number c.loop-line.invariant.0 _ _ c.in-Some.line c.in-Some.is c.next.ensures.steps in
+    let one = length_push c.loop-line.yielded c.in-Some.line in (
+      omega (arith, one, c.loop-line.invariant.0),
+      pass_line (lines_of c.args.text.now) c.loop-line.number c.in-Some.line.now c.loop-line.script c.loop-line.invariant.1
+          here c.if-not-is_passed_over.ensures,
+    )
 
 pub returns-clause-ok : goal.returns-clause-ok
 returns-clause-ok c =
-    let end : length c.deref-line-items.result.now ≤ c.loop-index.index = omega arith in
-    all_read c.deref-line-items.result.now c.args.text.now c.loop-index.index c.loop-index.script c.loop-index.invariant end
+    let end = no_line {s = c.split-line-items.result} c.args.text.now c.into_iter-line-iterator.ensures.into_iter_gives
+    c.split-line-items.ensures.text c.split-line-items.ensures.has_more c.split-line-items.ensures.pattern
+    c.loop-line.yielded _ c.loop-line.yielded_by c.loop-line.number c.loop-line.invariant.0 _ _ c.in-None.is c.next.ensures.steps in
+    all_read (lines_of c.args.text.now) c.loop-line.number c.loop-line.script c.loop-line.invariant.1 end

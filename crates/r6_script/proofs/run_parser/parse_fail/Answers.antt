@@ -1,6 +1,6 @@
 use Rattle.std.proofs.Common.{◌++◌, ◌∷◌, ap, codes}
 use Rattle.r6_script.specs.Script.{Text}
-use Rattle.r6_run_script.proofs.parser.parse_fail.Goals as goal
+use Rattle.r6_script.proofs.run_parser.parse_fail.Goals as goal
 
 pub returns : goal.returns
 returns c = (

@@ -1,7 +1,7 @@
 use Rattle.std.proofs.Common.{lit≤, sym, ◌∙◌}
 use Rattle.r6_script.proofs.ScriptLemmas.{cut_number}
-use Rattle.r6_run_script.proofs.EventLemmas.{is_empty, only_attach}
-use Rattle.r6_run_script.proofs.parser.parse_attach.Goals as goal
+use Rattle.r6_script.proofs.RunLemmas.{is_empty, only_attach}
+use Rattle.r6_script.proofs.run_parser.parse_attach.Goals as goal
 
 pub returns-then-is_empty : goal.returns-then-is_empty
 returns-then-is_empty c event is e =

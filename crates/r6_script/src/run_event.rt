@@ -1,8 +1,8 @@
-//! What a script says.
+//! What a script of `run` says.
 
-/// An event of a script.
+/// An event of a script of `run`.
 #[derive(Clone, Copy)]
-pub enum Event<'a> {
+pub enum RunEvent<'a> {
     /// A block is read.
     Read(u64),
     /// A block is written; all its bytes are this one.

@@ -1,8 +1,8 @@
 use Rattle.std.proofs.Common.{lit≤, sym, ◌∙◌}
 use Rattle.r6_script.specs.Script.{byte_word}
 use Rattle.r6_script.proofs.ScriptLemmas.{cut_number}
-use Rattle.r6_run_script.proofs.EventLemmas.{only_write}
-use Rattle.r6_run_script.proofs.parser.parse_write.Goals as goal
+use Rattle.r6_script.proofs.RunLemmas.{only_write}
+use Rattle.r6_script.proofs.run_parser.parse_write.Goals as goal
 
 pub returns-in_err-parse_byte : goal.returns-in_err-parse_byte
 returns-in_err-parse_byte c =
