@@ -4,7 +4,7 @@ use Rattle.std.proofs.lemmas.Option.{same_Some}
 use Rattle.std.specs.Str.{bytes_eq}
 use Rattle.clap.specs.Kinds.{FailsBy, Kinds, or_else}
 use Rattle.clap.specs.Walk.{Held, Names, Row, Rule, Text, Walk, finished, first_of, idle, nothing_held, rows_after, settled, subcommand_met, walked}
-use Rattle.clap.specs.Simple.{App, Shape, built, built_leaf, entered, filled, help_rule, inherited, marked_built, names_of, on_top, subcommand_of, with_leaf_noted}
+use Rattle.clap.specs.Simple.{App, Shape, built, built_leaf, entered, filled, help_rule, inherited, marked_built, names_of, on_top, subcommand_of, version_rule, with_leaf_noted}
 use Rattle.clap.specs.Faults.{check_fault, defaults_fault, entered_fault, fault_of, level_fault, long_fault, react_fault, settle_fault, short_fault, use_fault, walk_fault}
 use Rattle.clap.proofs.WalkLemmas.{walk_stopped}
 use Rattle.clap.specs.declared.error.Error.{Error}
@@ -28,7 +28,10 @@ top = (built grammar).top
 abbrev help : Rule
 help = filled help_rule
 
--- ---- help is the only option
+abbrev version : Rule
+version = filled version_rule
+
+-- ---- help is the only option of a command, and above the commands there is the version
 
 not_nil : {A : Type 0} {x : A} {xs : List A} → x ∷ xs ≡ [] → ⊥
 not_nil e = cc
@@ -45,6 +48,21 @@ help_short rules true rest h next e =
     let reacts : react_fault rules false help [] h ≡ [] = or_else_first _ _ e in
     let asked : use_fault false help [] (settled rules h).rows ≡ [] = or_else_next (settle_fault rules false h) _ reacts in not_nil asked
 
+top_long : (rules : List Rule) (b also : Bool) (v : Option Text) (h : Held) → long_fault rules false (cond b (Some help) (cond also (Some version) None)) v h ≡ [] → ⊥
+top_long rules true also v h e = help_long rules true v h e
+top_long rules false false v h e = not_nil e
+top_long rules false true None h e =
+    let asked : use_fault false version [] (settled rules h).rows ≡ [] = or_else_next (settle_fault rules false h) _ e in not_nil asked
+top_long rules false true (Some v) h e = not_nil e
+
+top_short : (rules : List Rule) (b also : Bool) (rest : Text) (h : Held) (next : Held → Kinds)
+    → short_fault rules false (cond b (Some help) (cond also (Some version) None)) rest h next ≡ [] → ⊥
+top_short rules true also rest h next e = help_short rules true rest h next e
+top_short rules false false rest h next e = not_nil e
+top_short rules false true rest h next e =
+    let reacts : react_fault rules false version [] h ≡ [] = or_else_first _ _ e in
+    let asked : use_fault false version [] (settled rules h).rows ≡ [] = or_else_next (settle_fault rules false h) _ reacts in not_nil asked
+
 one_has_no_option : (name : Text) → NoOption (one_path name)
 one_has_no_option name = record {
   no_long = λ n v h e. help_long (one_path name).rules (bytes_eq (codes "help") n || false) v h e;
@@ -59,8 +77,8 @@ two_have_no_option name = record {
 
 top_has_no_option : NoOption top
 top_has_no_option = record {
-  no_long = λ n v h e. help_long top.rules (bytes_eq (codes "help") n || false) v h e;
-  no_short = λ x rest h next e. help_short top.rules ((104 == x) || false) rest h next e;
+  no_long = λ n v h e. top_long top.rules (bytes_eq (codes "help") n || false) (bytes_eq (codes "version") n || false) v h e;
+  no_short = λ x rest h next e. top_short top.rules ((104 == x) || false) ((86 == x) || false) rest h next e;
 }
 
 -- ---- the paths of a command

@@ -16,7 +16,7 @@ with_one_path name = with_rule (new_app name) (path_rule (codes "first"))
 abbrev pub with_two_paths : (name : Text) → App
 with_two_paths name = with_rule (with_one_path name) (path_rule (codes "second"))
 
--- a command has to be named, help is the answer to no word at all, and `help` is no command
+-- a command has to be named, help is the answer to no word at all, `help` is no command, and there is a version
 abbrev pub program : App
 program =
     let app = new_app (codes "raid6") in
@@ -25,6 +25,7 @@ program =
         subcommand_required = true;
         arg_required_else_help = true;
         disable_help_subcommand = true;
+        has_version = true;
       };
     }
 

@@ -63,6 +63,11 @@ enum Paths {
     Both,
 }
 
+// The program's name, whatever its file is called.
+const NAME: &str = "raid6";
+
+const VERSION: &str = "0.1.0";
+
 // The ids of a command's paths: the first and, where it has one, the second.
 const FIRST: &str = "first";
 
@@ -99,14 +104,16 @@ fn with_both<'a>(alloc: Global, name: &'a str) -> Result<Command<'a>, AllocError
     with_config(alloc, name)?.arg(path(alloc, SECOND, "SCRIPT", "The script"))
 }
 
-fn program<'a>(alloc: Global) -> Command<'a>
-    ensures { app_of result ≡ program }
+fn program<'a>(alloc: Global) -> Result<Command<'a>, AllocError>
+    ensures { IfOk result (λ made. app_of made ≡ program) }
 {
-    Command::new(alloc, "raid6")
+    Command::new(alloc, NAME)
+        .version(VERSION)
         .about("A RAID-6 array over 4 to 32 slots, laid out as Linux md lays it out.")
         .subcommand_required(true)
         .arg_required_else_help(true)
         .disable_help_subcommand(true)
+        .bin_name(NAME)
 }
 
 fn with_paths<'a>(alloc: Global, name: &'a str, paths: Paths) -> Result<Command<'a>, AllocError>
@@ -163,7 +170,7 @@ fn with_settings<'a>(alloc: Global, program: Command<'a>) -> Result<Command<'a>,
 fn grammar<'a>(alloc: Global) -> Result<Command<'a>, AllocError>
     ensures { IfOk result (λ made. app_of made ≡ grammar) }
 {
-    let program = with_settings(alloc, program(alloc))?;
+    let program = with_settings(alloc, program(alloc)?)?;
     let program = with_shown(
         alloc,
         program,

@@ -12,7 +12,7 @@ pub returns : goal.returns
 returns c =
     IfOk-weaker c.with_shown-2.result _ _
     (λ made is. is
-    ∙ ap (λ (a : App). with_command a Both (codes "run")) (c.in_ok-program-2.ensures
-    ∙ ap (λ (a : App). with_command a Script (codes "simulate")) (c.in_ok-program.ensures
-    ∙ ap with_three c.program.ensures)))
+    ∙ ap (λ (a : App). with_command a Both (codes "run")) (c.in_ok-program-3.ensures
+    ∙ ap (λ (a : App). with_command a Script (codes "simulate")) (c.in_ok-program-2.ensures
+    ∙ ap with_three c.in_ok-program.ensures)))
     c.with_shown-2.ensures
