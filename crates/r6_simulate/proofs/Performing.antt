@@ -1,6 +1,7 @@
 -- The device of a command in flight performs it.
 use Rattle.std.proofs.Common.{◌≡◌, ◌∙◌, ℕ, ap, false, true, refl, subst, slice_set, Some}
 use Rattle.std.proofs.lemmas.List.{set-get_or}
+use Rattle.r6_core.specs.Shards.{CoreView}
 use Rattle.r6_core.specs.declared.Command.{Command}
 use Rattle.r6_simulate.specs.AtShards.{place_of, Performs, PerformsAt}
 use Rattle.r6_simulate.specs.Devices.{IsAt, PerformsOn}
@@ -23,4 +24,4 @@ pub performed : (old new : Shard) (devices : Devices) (token place : ℕ) (f : I
     → Performs token old devices PerformedAlready new devices
 performed old new devices token place f named there already items number core =
     subst (λ p. PerformsAt p old devices PerformedAlready new devices) named
-    (f, there, already, (core, (number, items ∙ ap (slice_set old.in_flight.items place) there.1 ∙ set-get_or old.in_flight.items place f)), refl)
+    (f, there, already, (core, ((number, ap (λ (view : CoreView). view.window) core), items ∙ ap (slice_set old.in_flight.items place) there.1 ∙ set-get_or old.in_flight.items place f)), refl)

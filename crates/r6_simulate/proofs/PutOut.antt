@@ -9,7 +9,7 @@ use Rattle.r6_world.specs.declared.values.OpId.{OpId}
 use Rattle.r6_world.specs.declared.values.Reply.{Reply}
 use Rattle.r6_simulate.specs.declared.shard.InFlight.{InFlight}
 use Rattle.r6_simulate.specs.declared.shard.Shard.{Shard}
-use Rattle.r6_simulate.specs.AtShards.{KeepsFlight, HandsReplies, HandsCommands, TakesReplies, TakesCommands, taken}
+use Rattle.r6_simulate.specs.AtShards.{KeepsFlight, KeepsPlace, HandsReplies, HandsCommands, TakesReplies, TakesCommands, taken}
 use Rattle.r6_simulate.specs.Lines.{reply_text, command_text}
 
 one_more_reply : (old middle new : CoreView) (replies : List (OpId × Reply)) (r : OpId × Reply) → HandsReplies old replies middle → HandsReply middle (r.0).0 r.1 new
@@ -37,20 +37,20 @@ puts_reply old middle new text before after r puts step kept printed =
       replies = puts.replies ++ r ∷ [];
       handed = one_more_reply old.core middle.core new.core puts.replies r puts.handed step;
       printed = printed_more (λ (q : OpId × Reply). reply_text old.number (q.0).0 q.1) puts.replies r text before after puts.printed
-          (printed ∙ ap (λ n. before ++ reply_text n (r.0).0 r.1) puts.kept.0);
-      kept = (kept.0 ∙ puts.kept.0, kept.1 ∙ puts.kept.1);
+          (printed ∙ ap (λ n. before ++ reply_text n (r.0).0 r.1) puts.kept.0.0);
+      kept = ((kept.0.0 ∙ puts.kept.0.0, kept.0.1 ∙ puts.kept.0.1), kept.1 ∙ puts.kept.1);
     }
 
 pub puts_command : (old middle new : Shard) (text before after : List ℕ) (c : Command) → TakesCommands old text middle before
-    → HandsCommand middle.core c new.core → new.number ≡ middle.number → new.in_flight.items ≡ middle.in_flight.items ++ taken c ∷ []
+    → HandsCommand middle.core c new.core → KeepsPlace middle new → new.in_flight.items ≡ middle.in_flight.items ++ taken c ∷ []
     → after ≡ before ++ command_text middle.number c → TakesCommands old text new after
-puts_command old middle new text before after c puts step number flight printed =
+puts_command old middle new text before after c puts step place flight printed =
     record {
       commands = puts.commands ++ c ∷ [];
       handed = one_more_command old.core middle.core new.core puts.commands c puts.handed step;
       printed = printed_more (command_text old.number) puts.commands c text before after puts.printed
-          (printed ∙ ap (λ n. before ++ command_text n c) puts.number);
-      number = number ∙ puts.number;
+          (printed ∙ ap (λ n. before ++ command_text n c) puts.place.0);
+      place = (place.0 ∙ puts.place.0, place.1 ∙ puts.place.1);
       flight = flight ∙ ap (λ (items : List InFlight). items ++ taken c ∷ []) puts.flight ∙ append_assoc old.in_flight.items (map taken puts.commands) (taken c ∷ [])
           ∙ ap (λ (items : List InFlight). old.in_flight.items ++ items) (sym (map-append taken puts.commands (c ∷ [])));
     }

@@ -43,9 +43,13 @@ use Rattle.r6_simulate.specs.Lines.{outcome_text, replies_text, commands_text}
 abbrev pub place_of : (token : ℕ) → List InFlight → Option ℕ
 place_of token in_flight = position (λ f. f.command.token == token) in_flight
 
--- a shard stays the one that it is; what is in flight stays so
+-- a shard stays the one that it is, and its rebuilds hold as many rows at one time
+abbrev pub KeepsPlace : Shard → Shard → Type 0
+KeepsPlace old new = (new.number ≡ old.number) × (new.core.window ≡ old.core.window)
+
+-- what is in flight stays so
 abbrev pub KeepsFlight : Shard → Shard → Type 0
-KeepsFlight old new = (new.number ≡ old.number) × (new.in_flight.items ≡ old.in_flight.items)
+KeepsFlight old new = KeepsPlace old new × (new.in_flight.items ≡ old.in_flight.items)
 
 -- and its core too
 abbrev pub IsSame : Shard → Shard → Type 0
@@ -250,7 +254,7 @@ pub record TakesCommands (old : Shard) (text : List ℕ) (new : Shard) (text' : 
   pub commands : List Command
   pub handed : HandsCommands old.core commands new.core
   pub printed : text' ≡ text ++ commands_text old.number commands
-  pub number : new.number ≡ old.number
+  pub place : KeepsPlace old new
   pub flight : new.in_flight.items ≡ old.in_flight.items ++ map taken commands
 
 -- and then it has none

@@ -10,10 +10,12 @@ use Rattle.r6_core.specs.Effects.{IsMade}
 use Rattle.r6_simulate.specs.Devices.{IsAt}
 use Rattle.r6_simulate.specs.declared.shard.Shard.{Shard}
 
--- a shard as it begins: its core is made over a register with no slot lost, and nothing is in flight
+-- a shard as it begins: its core is made over a register with no slot lost, with a window of one row, and nothing is in
+-- flight
 pub record IsFirstShard (shape : Shape) (number : ℕ) (shard : Shard) : Type 0 where
   pub number_is : shard.number ≡ number
   pub core : IsMade shape (starting 0) number shard.core
+  pub window : shard.core.window ≡ 1
   pub in_flight : shard.in_flight.items ≡ []
 
 pub record AreFirstShards (shape : Shape) (shards : List Shard) : Type 0 where
