@@ -2,12 +2,13 @@
 use Rattle.std.proofs.Common.{◌≡◌, ◌∙◌, ℕ, ◌+◌, ◌<◌, List, [], ◌∷◌, ◌++◌, length, take, get_or, All, Result, Ok, Err, OnOk, suc, zero, ap, append_assoc, sym, subst, arith}
 use Rattle.std.specs.List.{AllZip}
 use Rattle.std.proofs.lemmas.List.{take_more}
+use Rattle.r6_dev.specs.FilePart.{FilePart}
 use Rattle.r6_layout.specs.Shape.{Shape}
 use Rattle.r6_feed.specs.Events.{AreWhole, IsWhole}
 use Rattle.r6_feed.specs.declared.event.Event as feed
 use Rattle.r6_feed.specs.declared.event.Event.TheVariants as fed
-use Rattle.r6_run_script.specs.declared.event.Event.{Event}
-use Rattle.r6_run_script.specs.declared.event.Event.TheVariants.{Read, Write, Wait, Fail, Attach, Check, Repair}
+use Rattle.r6_script.specs.declared.run_event.RunEvent.{RunEvent}
+use Rattle.r6_script.specs.declared.run_event.RunEvent.TheVariants.{Read, Write, Wait, Fail, Attach, Check, Repair}
 use Rattle.r6_run.specs.Runs.{IsAsked}
 
 -- one pair more
@@ -24,7 +25,7 @@ next_more R xs ys more y i d within all holds is =
     (subst (λ these. AllZip R these (ys ++ y ∷ [])) (sym (take_more xs i d within)) (one_more R (take i xs) ys (get_or xs i d) y all holds))
 
 -- each has its parts
-whole_one : {D : Type 0} (shape : Shape) (event : Event) (given : feed.Event D) → IsAsked shape event given → IsWhole shape.shards given
+whole_one : (shape : Shape) (event : RunEvent) (given : feed.Event FilePart) → IsAsked shape event given → IsWhole shape.shards given
 whole_one shape event (fed.Request op) is = tt
 whole_one shape event fed.Wait is = tt
 whole_one shape event (fed.Fail failed) is = tt
@@ -42,7 +43,7 @@ all_cons : {X : Type 0} (P : X → Type 0) (x : X) (xs : List X) → P x → All
 all_cons P x xs holds rest zero d within = holds
 all_cons P x xs holds rest (suc k) d within = rest k d (omega (arith, within))
 
-pub are_whole : {D : Type 0} (shape : Shape) (script : List Event) (events : List (feed.Event D)) → AllZip (IsAsked shape) script events
+pub are_whole : (shape : Shape) (script : List RunEvent) (events : List (feed.Event FilePart)) → AllZip (IsAsked shape) script events
     → AreWhole shape.shards events
 are_whole shape [] [] all = λ k d within. absurd (omega (arith, within))
 are_whole shape [] (given ∷ events) all = absurd all

@@ -1,2 +1,4 @@
 pub mod Masks
 pub mod Given
+pub mod Giving
+pub mod Printing

@@ -1,4 +1,5 @@
 pub mod Arrays
 pub mod Ends
 pub mod Faults
+pub mod Lines
 pub mod Runs

@@ -1,13 +1,14 @@
 //! An array as it begins: the slots that are lost, and the parts of each shard.
 
-ghost use Rattle.std.specs.Prelude.{◌≡◌, ◌≤◌, ◌<◌, ◌^◌, count_ones, length, IfOk};
+ghost use Rattle.std.specs.Prelude.{◌≡◌, ◌≤◌, ◌<◌, ◌+◌, ◌*◌, ◌^◌, count_ones, drop, length, take, IfOk};
+ghost use Rattle.std.specs.Vec.Iter.{into_iter_items, into_iter_len};
 ghost use Rattle.r6_settings.specs.Settings.{MayBeLost};
 ghost use Rattle.r6_offline.specs.Parts.{is_lost};
-ghost use Rattle.r6_run.specs.Arrays.{mask_of};
+ghost use Rattle.r6_run.specs.Arrays.{AreGiven, mask_of, parts_from};
 
-use r6_layout::Geometry;
 use r6_shard::{Part, Parts};
 use std::alloc::{AllocError, Global};
+use std::vec::IntoIter;
 
 fn is_lost(lost: &[u32], slot: usize) -> bool
     requires { slot < 32 }
@@ -31,38 +32,48 @@ pub(crate) fn mask_of(slots: usize, lost: &[u32]) -> u32
     mask
 }
 
-// The parts of a shard, of the last ones: that of slot 0 is the last.
-fn last_parts<D: Drop>(
+// The parts of a shard, whose devices come next, by slot.
+fn next_parts<D: Drop>(
     alloc: Global,
     slots: usize,
-    opened: &mut Vec<Option<D>>,
-) -> Result<Parts<D>, AllocError> {
+    devices: &mut IntoIter<Option<D>>,
+) -> Result<Parts<D>, AllocError>
+    requires { slots ≤ into_iter_len devices.old }
+    ensures parts { IfOk result
+        (λ parts. parts.parts.items ≡ parts_from 0 (take slots (into_iter_items devices.old))) }
+    ensures rest { IfOk result (λ _. into_iter_items devices.new ≡ drop slots (into_iter_items devices.old)) }
+    ensures left { IfOk result (λ _. into_iter_len devices.new + slots ≡ into_iter_len devices.old) }
+{
     let mut parts = Vec::with_capacity(alloc, slots)?;
     for slot in 0..slots {
-        if let Some(Some(device)) = opened.pop() {
-            parts.push(Part {
+        match devices.next() {
+            Some(Some(device)) => parts.push(Part {
                 slot,
                 generation: 0,
                 device,
-            })?;
+            })?,
+            Some(None) => {}
+            None => {}
         }
     }
     Ok(Parts { parts })
 }
 
-/// The parts of each shard, from the first on, of those of all shards and slots: first those of shard 0, by slot.
+/// The parts of each shard, from the first on, of those of all shards and slots: first those of shard 0, by slot. Each
+/// is of the first device that its slot has; of a slot without a device there is none.
 pub(crate) fn parts_of<D: Drop>(
     alloc: Global,
-    geometry: &Geometry,
-    mut opened: Vec<Option<D>>,
+    shards: usize,
+    slots: usize,
+    opened: Vec<Option<D>>,
 ) -> Result<Vec<Parts<D>>, AllocError>
-    ensures { IfOk result (λ parts. length parts.items ≡ geometry.now.shards) }
+    requires { length opened.items ≡ shards * slots }
+    ensures { IfOk result (λ parts. AreGiven shards slots opened.items parts.items) }
 {
-    opened.reverse();
-    let shards = geometry.shards();
+    let mut devices = opened.into_iter();
     let mut parts = Vec::with_capacity(alloc, shards)?;
     for _ in 0..shards {
-        parts.push_reserved(last_parts(alloc, geometry.slots(), &mut opened)?);
+        parts.push_reserved(next_parts(alloc, slots, &mut devices)?);
     }
     Ok(parts)
 }

@@ -1,10 +1,11 @@
 //! A script's events, as an array's threads are given them.
 
-ghost use Rattle.std.specs.Prelude.{◌≡◌, length, replicate, IfOk};
+ghost use Rattle.std.specs.Prelude.{◌≡◌, [], ◌∷◌, length, replicate, IfErr, IfOk};
 ghost use Rattle.std.specs.List.{AllZip};
 ghost use Rattle.r6_world.specs.Values.{op_of, buffer_of};
 ghost use Rattle.r6_world.specs.PlainArray.{Read as Reads, Write as Writes};
-ghost use Rattle.r6_run_script.specs.declared.event.Event.TheVariants.{Attach as Attaches};
+ghost use Rattle.r6_script.specs.declared.run_event.RunEvent.TheVariants.{Attach as Attaches};
+ghost use Rattle.r6_run.specs.Faults.{IsRunningFault};
 ghost use Rattle.r6_run.specs.Runs.{IsAsked};
 
 use crate::fault::RunFault;
@@ -13,7 +14,7 @@ use r6_feed::Event;
 use r6_kernels::Buffer;
 use r6_layout::Geometry;
 use r6_offline::open_slot;
-use r6_run_script::Event as Entry;
+use r6_script::RunEvent;
 use r6_world::Op;
 use std::alloc::{AllocError, Global};
 use std::io::Seek;
@@ -43,7 +44,8 @@ fn attach_of<F: FileExt + Seek + Drop, R: Files<File = F>>(
     slot: u64,
     path: &str,
 ) -> Result<Event<FileDevice<F>>, RunFault>
-    ensures { IfOk result (IsAsked geometry.now (Attaches slot path.entry)) }
+    ensures ok { IfOk result (IsAsked geometry.now (Attaches slot path.entry)) }
+    ensures err { IfErr result (IsRunningFault 0 [] (Attaches slot path.entry ∷ [])) }
 {
     let slot = slot as usize;
     let parts = open_slot(files, alloc, geometry, slot, path, Access::ReadWrite)?;
@@ -55,23 +57,24 @@ fn event_of<F: FileExt + Seek + Drop, R: Files<File = F>>(
     files: &R,
     alloc: Global,
     geometry: &Geometry,
-    entry: Entry<'_>,
+    entry: RunEvent<'_>,
 ) -> Result<Event<FileDevice<F>>, RunFault>
-    ensures { IfOk result (IsAsked geometry.now entry.entry) }
+    ensures ok { IfOk result (IsAsked geometry.now entry.entry) }
+    ensures err { IfErr result (IsRunningFault 0 [] (entry.entry ∷ [])) }
 {
     match entry {
-        Entry::Read(block) => Ok(Event::Request(read_of(alloc, geometry.block(), block)?)),
-        Entry::Write(block, byte) => Ok(Event::Request(write_of(
+        RunEvent::Read(block) => Ok(Event::Request(read_of(alloc, geometry.block(), block)?)),
+        RunEvent::Write(block, byte) => Ok(Event::Request(write_of(
             alloc,
             geometry.block(),
             block,
             byte,
         )?)),
-        Entry::Wait => Ok(Event::Wait),
-        Entry::Fail(slot) => Ok(Event::Fail(slot as usize)),
-        Entry::Attach(slot, path) => attach_of(files, alloc, geometry, slot, path),
-        Entry::Check => Ok(Event::Check),
-        Entry::Repair => Ok(Event::Repair),
+        RunEvent::Wait => Ok(Event::Wait),
+        RunEvent::Fail(slot) => Ok(Event::Fail(slot as usize)),
+        RunEvent::Attach(slot, path) => attach_of(files, alloc, geometry, slot, path),
+        RunEvent::Check => Ok(Event::Check),
+        RunEvent::Repair => Ok(Event::Repair),
     }
 }
 
@@ -80,9 +83,10 @@ pub(crate) fn events_of<F: FileExt + Seek + Drop, R: Files<File = F>>(
     files: &R,
     alloc: Global,
     geometry: &Geometry,
-    script: &[Entry<'_>],
+    script: &[RunEvent<'_>],
 ) -> Result<Vec<Event<FileDevice<F>>>, RunFault>
-    ensures { IfOk result (λ events. AllZip (IsAsked geometry.now) script.now events.items) }
+    ensures ok { IfOk result (λ events. AllZip (IsAsked geometry.now) script.now events.items) }
+    ensures err { IfErr result (IsRunningFault 0 [] script.now) }
 {
     let mut events = Vec::with_capacity(alloc, script.len())?;
     for entry in script {

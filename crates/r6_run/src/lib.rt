@@ -6,6 +6,7 @@ mod array;
 mod ending;
 mod events;
 mod fault;
+mod lines;
 mod running;
 
 pub use ending::Ending;

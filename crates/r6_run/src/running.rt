@@ -1,23 +1,27 @@
 //! A script is run.
 
-ghost use Rattle.std.specs.Prelude.{◌≡◌, ◌≢◌, ◌++◌, Option, IfErr, IfOk, OnOk, length, replicate, string_bytes};
+ghost use Rattle.std.specs.Prelude.{◌≡◌, ◌≢◌, ◌++◌, List, [], Option, IfErr, IfOk, OnOk, length, string_bytes};
 ghost use Rattle.std.specs.Io.KnownBytes.{Appends};
 ghost use Rattle.r6_script.specs.Script.{Text};
 ghost use Rattle.r6_settings.specs.Settings.{AreInRange, values_of};
-ghost use Rattle.r6_outcomes.specs.declared.outcome.Outcome.TheVariants.{Unanswered};
+ghost use Rattle.r6_dev.specs.FilePart.{FilePart};
+ghost use Rattle.r6_offline.specs.Files.{AreOpened};
+ghost use Rattle.r6_run.specs.Arrays.{AreGiven};
 ghost use Rattle.r6_run.specs.Ends.{ending_of};
+ghost use Rattle.r6_run.specs.Faults.{IsRunningFault};
 ghost use Rattle.r6_run.specs.Runs.{HasRun, report_text};
 
 use crate::array::{mask_of, parts_of};
 use crate::ending::Ending;
 use crate::events::events_of;
 use crate::fault::RunFault;
-use r6_dev::{Access, BlockDevice, FileDevice};
-use r6_engine::{Config as ServeConfig, Served, serve};
+use crate::lines::{room_for, write_lines, write_state};
+use r6_dev::{Access, FileDevice};
+use r6_engine::{Config as ServeConfig, EventReply, Served, serve};
+use r6_health::Snapshot;
 use r6_layout::Geometry;
 use r6_offline::open_parts;
-use r6_outcomes::{Table, room_for, write_lines, write_state};
-use r6_run_script::Event;
+use r6_script::RunEvent;
 use r6_settings::Config;
 use r6_shard::Parts;
 use std::alloc::{AllocError, Global};
@@ -28,27 +32,19 @@ use std::sync::Wait;
 use std::thread::Threads;
 
 // Writes the lines of a run.
-fn write_report<D: BlockDevice + Drop>(
+fn write_report(
     text: &mut String,
     geometry: &Geometry,
-    script: &[Event<'_>],
-    mut table: Table,
-    served: Served<D>,
+    script: &[RunEvent<'_>],
+    replies: &[EventReply],
+    snapshot: &Snapshot,
 ) -> Result<(), AllocError>
-    requires { table.outcomes.items ≡ replicate (length script.now) Unanswered }
+    requires { length replies.now ≡ length script.now }
     ensures { OnOk result (string_bytes text.new ≡ string_bytes text.old
-        ++ report_text geometry.now script.now served.runners.items served.answers.items served.snapshot) }
+        ++ report_text geometry.now script.now replies.now snapshot.now) }
 {
-    let Served {
-        runners,
-        answers,
-        pass: _,
-        snapshot,
-    } = served;
-    table.add_runners(runners);
-    table.add_answers(answers.as_slice());
-    write_lines(text, geometry, script, table.outcomes.as_slice())?;
-    write_state(text, geometry, &snapshot)
+    write_lines(text, script, replies)?;
+    write_state(text, geometry, snapshot)
 }
 
 // The parts of each shard of an array of files, opened.
@@ -60,17 +56,21 @@ fn opened<F, R>(
 where
     F: FileExt + Seek + Drop,
     R: Files<File = F>,
-    ensures { IfOk result (λ parts. length parts.items ≡ config.now.geometry.shards) }
+    ensures ok { IfOk result (λ parts. (devices : List (Option FilePart))
+        × AreOpened config.now.geometry (values_of config.now).devices config.now.lost.items Access.ReadWrite devices
+        × AreGiven config.now.geometry.shards config.now.geometry.slots devices parts.items) }
+    ensures err { IfErr result (IsRunningFault config.now.geometry.slots config.now.lost.items []) }
 {
+    let geometry = &config.geometry;
     let opened = open_parts(
         files,
         alloc,
-        &config.geometry,
+        geometry,
         config.devices.as_slice(),
         config.lost.as_slice(),
         Access::ReadWrite,
     )?;
-    Ok(parts_of(alloc, &config.geometry, opened)?)
+    Ok(parts_of(alloc, geometry.shards(), geometry.slots(), opened)?)
 }
 
 // Gives the events of a script to the array of the settings: who prints the report of this has run the script.
@@ -78,16 +78,17 @@ fn served<F, R>(
     rt: &R,
     alloc: Global,
     config: &Config,
-    script: &[Event<'_>],
+    script: &[RunEvent<'_>],
 ) -> Result<Served<FileDevice<F>>, RunFault>
 where
     F: FileExt + Seek + Drop + Send,
     R: Wait + Threads + Files<File = F> + Sync,
     requires { AreInRange (values_of config.now) }
-    ensures { IfOk result (λ served. (old new : Option Text)
-        → Appends old new
-        (report_text config.now.geometry script.now served.runners.items served.answers.items served.snapshot)
-        → HasRun config.now.geometry config.now.lost.items script.now old new (ending_of served.snapshot)) }
+    ensures err { IfErr result (IsRunningFault config.now.geometry.slots config.now.lost.items script.now) }
+    ensures ok { IfOk result (λ served. (old new : Option Text)
+        → Appends old new (report_text config.now.geometry script.now served.replies.items served.snapshot)
+        → HasRun (values_of config.now) script.now old new (ending_of served.snapshot)) }
+    ensures each { IfOk result (λ served. length served.replies.items ≡ length script.now) }
 {
     let geometry = &config.geometry;
     let parts = opened(rt, alloc, config)?;
@@ -113,7 +114,7 @@ pub fn run<F, R, W>(
     rt: &R,
     alloc: Global,
     config: &Config,
-    script: &[Event<'_>],
+    script: &[RunEvent<'_>],
     out: &mut W,
 ) -> Result<Ending, RunFault>
 where
@@ -121,16 +122,21 @@ where
     R: Wait + Threads + Files<File = F> + Sync,
     W: Write,
     requires { AreInRange (values_of config.now) }
-    ensures ok { IfOk result (HasRun config.now.geometry config.now.lost.items script.now
-        (W.contents out.old) (W.contents out.new)) }
+    ensures ok { IfOk result (HasRun (values_of config.now) script.now (W.contents out.old) (W.contents out.new)) }
+    ensures err { IfErr result (IsRunningFault config.now.geometry.slots config.now.lost.items script.now) }
     ensures kept { IfErr result (λ fault. fault ≢ RunFault.Output → W.contents out.new ≡ W.contents out.old) }
 {
     let geometry = &config.geometry;
-    let table = Table::new(alloc, script.len())?;
     let mut text = String::with_capacity(alloc, room_for(geometry, script))?;
     let served = served(rt, alloc, config, script)?;
     let ending = Ending::of(&served.snapshot);
-    write_report(&mut text, geometry, script, table, served)?;
+    write_report(
+        &mut text,
+        geometry,
+        script,
+        &served.replies,
+        &served.snapshot,
+    )?;
     match out.write_all(text.as_bytes()) {
         Ok(()) => Ok(ending),
         Err(_) => Err(RunFault::Output),

@@ -1,7 +1,0 @@
-use Rattle.std.proofs.Common.{string_bytes}
-use Rattle.r6_outcomes.proofs.Printing.{Prints}
-use Rattle.r6_outcomes.proofs.lines.write_lines.Given as goal
-
-abbrev pub invariant-loop-place : goal.invariant-loop-place
-invariant-loop-place l =
-    Prints l.rows l.events l.outcomes (string_bytes l.initial.text) (string_bytes l.text) l.number l.place
