@@ -1,24 +1,27 @@
 -- Devices that were verified.
 use Rattle.std.proofs.Common.{◌≡◌, true, ℕ, List, Option, None, Result, Ok, Err, IfOk, IfSome}
-use Rattle.r6_offline.specs.Parts.{Parts, AreThoseNotLost}
+use Rattle.r6_dev.specs.FilePart.{FilePart}
+use Rattle.r6_dev.specs.declared.file.Access.TheVariants.{Read}
+use Rattle.r6_offline.specs.Files.{AreOpened}
+use Rattle.r6_offline.specs.Parts.{parts_of, tells_nothing}
 use Rattle.r6_offline.specs.Reports.{IsReport}
 use Rattle.r6_offline.specs.declared.report.Report.{Report}
-use Rattle.r6_layout.specs.Shape.{Shape}
 use Rattle.r6_settings.specs.Settings.{Values, settings_in}
 use Rattle.r6_execute.specs.declared.ending.Ending.{Ending}
 use Rattle.r6_execute.specs.Commands.{HasReported, HasVerified}
 
--- the parts of the slots that aren't lost, and a report of them
-abbrev pub IsOfThoseNotLost : Shape → (lost : List ℕ) → Report → Type 0
-IsOfThoseNotLost shape lost report = (parts : Parts) × AreThoseNotLost shape lost parts × IsReport shape parts report
+-- a report of the devices of the slots that aren't lost, opened for reading alone
+abbrev pub IsOfThoseNotLost : Values → Report → Type 0
+IsOfThoseNotLost values report = (devices : List (Option FilePart)) × AreOpened values.shape values.devices values.lost Read devices
+    × IsReport values.shape (parts_of tells_nothing devices) report
 
-pub gone_over : {E : Type 0} (result : Result Report E) (shape : Shape) (lost : List ℕ) (parts : Parts) → AreThoseNotLost shape lost parts
-    → IfOk result (IsReport shape parts) → IfOk result (IsOfThoseNotLost shape lost)
-gone_over (Ok report) shape lost parts there is = (parts, there, is)
-gone_over (Err error) shape lost parts there is = tt
+pub checked : {E : Type 0} (result : Result Report E) (values : Values) (devices : List (Option FilePart)) → AreOpened values.shape values.devices values.lost Read devices
+    → IfOk result (IsReport values.shape (parts_of tells_nothing devices)) → IfOk result (IsOfThoseNotLost values)
+checked (Ok report) values devices opened is = (devices, opened, is)
+checked (Err error) values devices opened is = tt
 
--- the report that was printed is that of the parts of the slots that aren't lost
+-- the report that was printed is that of these devices
 pub verified : (text old new : Option (List ℕ)) (values : Values) (report : Report)
-    → IfSome text (λ t. settings_in true t ≡ Ok values) → IsOfThoseNotLost values.shape values.lost report
+    → IfSome text (λ t. settings_in true t ≡ Ok values) → IsOfThoseNotLost values report
     → report.fault ≡ None → (end : Ending) → HasReported values.shape report old new end → HasVerified text old new end
-verified text old new values report said of_parts whole end printed = (values, of_parts.0, report, said, of_parts.1, of_parts.2, whole, printed)
+verified text old new values report said of_devices whole end printed = (values, of_devices.0, report, said, of_devices.1, of_devices.2, whole, printed)

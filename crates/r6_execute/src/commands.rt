@@ -3,7 +3,7 @@
 ghost use Rattle.std.specs.Prelude.{◌≡◌, ◌≢◌, true, Option, Ok, IfErr, IfOk, IfSome, OnOk};
 ghost use Rattle.r6_command.specs.CommandLine.{asked_of};
 ghost use Rattle.r6_settings.specs.Settings.{AreInRange, settings_in, values_of};
-ghost use Rattle.r6_execute.specs.Commands.{EndsAs, EndsBy, HasPlayed, HasPrinted, HasServed, IsAmiss, IsDone, StopsGeometry, StopsPlay, StopsServing, Text};
+ghost use Rattle.r6_execute.specs.Commands.{EndsAs, AreWrong, EndsBy, HasPlayed, HasPrinted, HasServed, IsAmiss, IsDone, IsSilent, IsTold, IsUnread, StopsGeometry, StopsPlay, StopsServing, Text};
 ghost use Rattle.r6_execute.specs.Status.{status_of};
 
 use crate::devices::{create, verify};
@@ -15,7 +15,7 @@ use crate::output::{finish, print};
 use crate::read::{read_script, read_settings, read_text};
 use r6_command::Invocation;
 use r6_run::run;
-use r6_run_script::parse_run_script;
+use r6_script::parse_run_script;
 use r6_settings::Config;
 use r6_simulate::simulate;
 use std::alloc::Global;
@@ -74,7 +74,9 @@ where
         → IfSome settings (λ held. settings_in true held ≡ Ok (values_of config.now))
         → IfSome script (λ held. text.now ≡ held)
         → HasServed settings script (W.contents out.old) (W.contents out.new) ending) }
-    ensures err { IfErr result (λ fault. (settings script : Option Text) → IfSome script (λ held. text.now ≡ held)
+    ensures err { IfErr result (λ fault. (settings script : Option Text)
+        → IfSome settings (λ held. settings_in true held ≡ Ok (values_of config.now))
+        → IfSome script (λ held. text.now ≡ held)
         → StopsServing settings script (W.contents out.old) (W.contents out.new) fault) }
 {
     let events = parse_run_script(alloc, text)?;
@@ -83,7 +85,32 @@ where
     Ok(Ending::from(ending))
 }
 
-// Runs a script on the devices of the settings.
+// Runs a script on the devices of these settings.
+fn run_script<F, R, T, W>(
+    rt: &R,
+    alloc: Global,
+    config: &Config,
+    script: &mut T,
+    out: &mut W,
+) -> Result<Ending, Fault>
+where
+    F: FileExt + Seek + Drop + Send,
+    R: Wait + Threads + Files<File = F> + Sync,
+    T: Read,
+    W: Write,
+    requires { AreInRange (values_of config.now) }
+    ensures ok { IfOk result (λ ending. (settings : Option Text)
+        → IfSome settings (λ held. settings_in true held ≡ Ok (values_of config.now))
+        → HasServed settings (T.remaining script.old) (W.contents out.old) (W.contents out.new) ending) }
+    ensures err { IfErr result (λ fault. (settings : Option Text)
+        → IfSome settings (λ held. settings_in true held ≡ Ok (values_of config.now))
+        → StopsServing settings (T.remaining script.old) (W.contents out.old) (W.contents out.new) fault) }
+{
+    let text = read_text(alloc, script, Input::Script)?;
+    run_text(rt, alloc, config, text.as_str(), out)
+}
+
+// Runs a script on the devices of the settings, and reads it once they are right.
 fn serve<F, R, S, T, W>(
     rt: &R,
     alloc: Global,
@@ -101,10 +128,10 @@ where
         (W.contents out.old) (W.contents out.new)) }
     ensures err { IfErr result (StopsServing (S.remaining settings.old) (T.remaining script.old)
         (W.contents out.old) (W.contents out.new)) }
+    ensures unread { AreWrong true (S.remaining settings.old) → script.new ≡ script.old }
 {
     let config = read_settings(alloc, settings, true)?;
-    let text = read_text(alloc, script, Input::Script)?;
-    run_text(rt, alloc, &config, text.as_str(), out)
+    run_script(rt, alloc, &config, script, out)
 }
 
 fn carry_out<F, R, S, T, W, E>(
@@ -127,6 +154,8 @@ where
         (W.contents out.old) (W.contents out.new)) }
     ensures err { IfErr result (EndsBy (asked_of invocation.now) (S.remaining settings.old) (T.remaining script.old)
         (W.contents out.old) (W.contents out.new)) }
+    ensures unread { IsUnread (asked_of invocation.now) (S.remaining settings.old) script.old script.new }
+    ensures silent { IsSilent (asked_of invocation.now) (E.contents err.old.writer) (E.contents err.new.writer) }
 {
     match invocation {
         Invocation::Geometry { .. } => print_geometry(alloc, settings, out).and(Ok(Ending::Good)),
@@ -138,8 +167,8 @@ where
 }
 
 /// Carries a command out over its settings file and its script, each of which is read only where the
-/// command uses it, and gives the status with which the program ends. What the command prints goes to
-/// `out`; a fault is one line on `err`. The status is 0 if all is well, 1 if the array of a script has failed at its
+/// command uses it, the script of `run` once the settings are right, and gives the status with which the program ends. What the command prints goes to
+/// `out`; a fault is one line on `err`, the last that is written there, unless it refuses that. The status is 0 if all is well, 1 if the array of a script has failed at its
 /// end or a row that was read isn't consistent, and else that of a fault. A fault of the settings, of the script or of
 /// a device file comes before anything is written to `out`.
 pub fn execute<F, R, S, T, W, E>(
@@ -162,15 +191,17 @@ where
         (W.contents out.old) (W.contents out.new) }
     ensures amiss { result ≡ 1 → IsAmiss (asked_of invocation.now) (S.remaining settings.old) (T.remaining script.old)
         (W.contents out.old) (W.contents out.new) }
+    ensures unread { IsUnread (asked_of invocation.now) (S.remaining settings.old) script.old script.new }
     ensures refused { result ≢ 0 → result ≢ 1 → (fault : Fault) × (result ≡ status_of fault)
         × EndsBy (asked_of invocation.now) (S.remaining settings.old) (T.remaining script.old)
-        (W.contents out.old) (W.contents out.new) fault }
+        (W.contents out.old) (W.contents out.new) fault
+        × IsTold (asked_of invocation.now) (E.contents err.old.writer) (E.contents err.new.writer) err.new.is_refused fault }
 {
     match carry_out(rt, alloc, invocation, settings, script, out, err) {
         Ok(ending) => ending.status(),
         Err(fault) => {
             // A line that standard error refuses is lost: the status still says what went wrong.
-            let _ = err.report(fault);
+            err.report(fault);
             fault.status()
         }
     }

@@ -1,8 +1,10 @@
 //! The commands `create` and `verify`, on the files of an array's devices.
 
-ghost use Rattle.std.specs.Prelude.{◌≡◌, IfErr, IfOk, OnOk, string_bytes};
+ghost use Rattle.std.specs.Prelude.{◌≡◌, List, Option, IfErr, IfOk, OnOk, string_bytes};
+ghost use Rattle.r6_dev.specs.FilePart.{FilePart};
 ghost use Rattle.r6_offline.specs.Errors.{IsOpeningFault};
-ghost use Rattle.r6_offline.specs.Parts.{Parts, AreThoseNotLost};
+ghost use Rattle.r6_offline.specs.Files.{AreOpened};
+ghost use Rattle.r6_offline.specs.Parts.{parts_of, tells_nothing};
 ghost use Rattle.r6_offline.specs.Reports.{IsReport};
 ghost use Rattle.r6_settings.specs.Settings.{values_of};
 ghost use Rattle.r6_execute.specs.Commands.{HasCreated, HasReported, HasVerified, IsMakingFault, StopsCreate, StopsReport, StopsVerify};
@@ -75,8 +77,8 @@ fn print_report<W: Write>(
     Ok(Ending::of_report(report))
 }
 
-// Goes over every row of the devices of the slots that aren't lost, opened for reading alone.
-fn gone_over<F, R, E>(
+// Checks every row of the devices of the slots that aren't lost, opened for reading alone.
+fn check_devices<F, R, E>(
     rt: &R,
     alloc: Global,
     config: &Config,
@@ -86,8 +88,9 @@ where
     F: FileExt + Seek + Drop + Send,
     R: Files<File = F> + Threads + Sync,
     E: Write,
-    ensures ok { IfOk result (λ report. (parts : Parts)
-        × AreThoseNotLost config.now.geometry config.now.lost.items parts × IsReport config.now.geometry parts report) }
+    ensures ok { IfOk result (λ report. (devices : List (Option FilePart))
+        × AreOpened config.now.geometry (values_of config.now).devices config.now.lost.items Access.Read devices
+        × IsReport config.now.geometry (parts_of tells_nothing devices) report) }
     ensures err { IfErr result (IsOpeningFault config.now.geometry.slots config.now.lost.items) }
 {
     let mut parts = open_parts(
@@ -120,7 +123,7 @@ where
     ensures err { IfErr result (StopsVerify (S.remaining settings.old) (W.contents out.old) (W.contents out.new)) }
 {
     let config = read_settings(alloc, settings, true)?;
-    let report = gone_over(rt, alloc, &config, err)?;
+    let report = check_devices(rt, alloc, &config, err)?;
     match report.fault {
         Some(met) => Err(Fault::Device(met.slot, met.fault)),
         None => print_report(alloc, &config.geometry, &report, out),

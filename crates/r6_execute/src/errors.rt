@@ -1,12 +1,12 @@
 //! Standard error: the line of a fault, and word of how far a command has come.
 
-ghost use Rattle.std.specs.Prelude.{◌≡◌, ◌∷◌, ◌++◌, [], OnOk, false};
+ghost use Rattle.std.specs.Prelude.{◌≡◌, ◌∷◌, ◌++◌, [], false};
 ghost use Rattle.std.specs.Io.KnownBytes.{Appends};
 ghost use Rattle.r6_execute.specs.Faults.{fault_text};
 
 use crate::fault::Fault;
 use r6_offline::Watch;
-use std::io::{self, Write};
+use std::io::Write;
 
 /// Standard error. Where it is a terminal, long work shows on it how far it has come.
 #[derive(Drop)]
@@ -15,25 +15,28 @@ pub struct ErrorOutput<W> {
     is_terminal: bool,
     // A line of progress stands on it.
     has_progress: bool,
+    /// It refused the line of a fault.
+    pub is_refused: bool,
 }
 
 impl<W: Write> ErrorOutput<W> {
     pub fn new(writer: W, is_terminal: bool) -> ErrorOutput<W>
-        ensures { result ≡ record { writer = writer; is_terminal = is_terminal; has_progress = false } }
+        ensures { result ≡ record { writer = writer; is_terminal = is_terminal; has_progress = false; is_refused = false } }
     {
         ErrorOutput {
             writer,
             is_terminal,
             has_progress: false,
+            is_refused: false,
         }
     }
 
-    /// Writes the line of a fault.
-    pub(crate) fn report(&mut self, fault: Fault) -> io::Result<()>
-        ensures { OnOk result
-            (Appends (W.contents self.old.writer) (W.contents self.new.writer) (fault_text fault ++ 10 ∷ [])) }
+    /// Writes the line of a fault. One that it refuses is lost.
+    pub(crate) fn report(&mut self, fault: Fault)
+        ensures { self.new.is_refused ≡ false
+            → Appends (W.contents self.old.writer) (W.contents self.new.writer) (fault_text fault ++ 10 ∷ []) }
     {
-        writeln!(self.writer, "{fault}")
+        self.is_refused = writeln!(self.writer, "{fault}").is_err();
     }
 }
 

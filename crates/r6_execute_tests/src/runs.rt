@@ -105,8 +105,7 @@ fn status_of<F, R>(
     rt: &R,
     alloc: Global,
     invocation: &Invocation<'_>,
-    mut settings: Text<'_>,
-    mut script: Text<'_>,
+    (settings, script): (&mut Text<'_>, &mut Text<'_>),
     out: &mut Room,
     err: &mut ErrorOutput<Room>,
 ) -> u8
@@ -114,7 +113,7 @@ where
     F: FileExt + Seek + Drop + Send,
     R: Wait + Threads + Files<File = F> + Sync,
 {
-    execute(rt, alloc, invocation, &mut settings, &mut script, out, err)
+    execute(rt, alloc, invocation, settings, script, out, err)
 }
 
 fn room_of(alloc: Global, left: usize) -> Room {
@@ -160,9 +159,33 @@ pub(crate) fn is_so<F: FileExt + Seek + Drop + Send, R: Wait + Threads + Files<F
 ) -> bool {
     let mut out = room_of(alloc, how.rooms.0);
     let mut err = ErrorOutput::new(room_of(alloc, how.rooms.1), how.is_terminal);
-    let (settings, script) = (text_of(settings, how), text_of(script.as_str(), how));
-    let status = status_of(rt, alloc, invocation, settings, script, &mut out, &mut err);
+    let (mut settings, mut script) = (text_of(settings, how), text_of(script.as_str(), how));
+    let texts = (&mut settings, &mut script);
+    let status = status_of(rt, alloc, invocation, texts, &mut out, &mut err);
     is_taken(&out, wanted.0) && is_taken(&err.writer, wanted.1) && status == wanted.2
+}
+
+/// Whether a run whose settings are these leaves its script unread.
+fn leaves_script<F: FileExt + Seek + Drop + Send, R: Wait + Threads + Files<File = F> + Sync>(
+    rt: &R,
+    alloc: Global,
+    settings: &str,
+) -> bool {
+    let mut out = room_of(alloc, usize::MAX);
+    let mut err = ErrorOutput::new(room_of(alloc, usize::MAX), false);
+    let (mut settings, mut script) = (text_of(settings, &WELL), text_of("wait\n", &WELL));
+    let texts = (&mut settings, &mut script);
+    status_of(rt, alloc, &RUN, texts, &mut out, &mut err) == 3 && script.left.len() == 5
+}
+
+/// Each run whose settings are one of these has to leave its script unread.
+pub(crate) fn leave_script<
+    F: FileExt + Seek + Drop + Send,
+    R: Abort + Wait + Threads + Files<File = F> + Sync,
+>(rt: &R, alloc: Global, settings: &[&str]) {
+    for text in settings {
+        assert!(rt; leaves_script(rt, alloc, text), "{text}");
+    }
 }
 
 /// It has to end so; a failing test tells which it is, by this text.

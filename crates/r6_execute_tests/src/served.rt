@@ -105,20 +105,16 @@ pub(crate) fn refused() -> &'static [Course<'static>] {
     REFUSED
 }
 
-const COURSES: &[Course<'static>] = &[
-    // The new device has FF in every byte at first. The one that slot 2 has isn't lost. In the end slot 1 keeps block 0
-    // in row 0, and in the other rows all is zero.
-    Course {
-        name: "a-new-device-is-rebuilt",
-        settings: FOUR_ROWS,
-        steps: &[
-            Step::Fill(SPARE, &[(0xff, 64)]),
-            Step::Create(CREATED),
-            Step::Fill(1, &[(1, 1), (0, 63)]),
-            Step::Run(
-                "write 0 5a\nwait\nfail 1\nwait\nattach 1 @\nwait\nread 0\nattach 2 @\nwait\ncheck",
-                (
-                    "0 done
+// The new device has FF in every byte at first. The one that slot 2 has isn't lost. In the end slot 1 keeps block 0 in
+// row 0, and in the other rows all is zero.
+const REBUILT: &[Step<'static>] = &[
+    Step::Fill(SPARE, &[(0xff, 64)]),
+    Step::Create(CREATED),
+    Step::Fill(1, &[(1, 1), (0, 63)]),
+    Step::Run(
+        "write 0 5a\nwait\nfail 1\nwait\nattach 1 @\nwait\nread 0\nattach 2 @\nwait\ncheck",
+        (
+            "0 done
 1 degraded
 2 generation 1
 3 data 5a
@@ -126,14 +122,31 @@ const COURSES: &[Course<'static>] = &[
 5 consistent 4 wrong_p 0 wrong_q 0 wrong_data 0 many 0 skipped 0 repaired 0
 state good
 ",
-                    "",
-                    0,
-                ),
-            ),
-            Step::Holds(SPARE, &[(0x5a, 16), (0, 48)]),
-            Step::Remove(SPARE),
-            Step::RemoveAll,
-        ],
+            "",
+            0,
+        ),
+    ),
+    Step::Holds(SPARE, &[(0x5a, 16), (0, 48)]),
+    Step::Remove(SPARE),
+    Step::RemoveAll,
+];
+
+const COURSES: &[Course<'static>] = &[
+    Course {
+        name: "a-new-device-is-rebuilt",
+        settings: FOUR_ROWS,
+        steps: REBUILT,
+    },
+    // with more rows under way at one time than one, and with more than there are
+    Course {
+        name: "a-new-device-is-rebuilt-two-rows-at-a-time",
+        settings: "slots = 4\nchunk = 1\nblock = 16\nrows = 4\nshards = 1\nwindow = 2\n",
+        steps: REBUILT,
+    },
+    Course {
+        name: "a-new-device-is-rebuilt-eight-rows-at-a-time",
+        settings: "slots = 4\nchunk = 1\nblock = 16\nrows = 4\nshards = 1\nwindow = 8\n",
+        steps: REBUILT,
     },
     // Settings come before the script, and the script before the devices; then the devices of the slots before those
     // that are attached. Nothing is printed, and no file is changed: the rows are consistent as before.

@@ -1,6 +1,6 @@
 //! Commands over texts.
 
-use crate::runs::{CREATE, GEOMETRY, RUN, SIMULATE, VERIFY, end_so, lines_end_so};
+use crate::runs::{CREATE, GEOMETRY, RUN, SIMULATE, VERIFY, end_so, leave_script, lines_end_so};
 use crate::{devices, geometries, served, simulated};
 
 #[test]
@@ -24,4 +24,17 @@ fn commands_over_texts_end_so(rt: HostRuntime) {
 fn the_first_line_that_is_no_event_is_named(rt: HostRuntime) {
     lines_end_so(&rt, rt.alloc(), &SIMULATE, simulated::no_events());
     lines_end_so(&rt, rt.alloc(), &RUN, served::no_events());
+}
+
+#[test]
+fn a_script_is_unread_while_the_settings_are_wrong(rt: HostRuntime) {
+    leave_script(
+        &rt,
+        rt.alloc(),
+        &[
+            "slots",
+            "slots = 3",
+            "slots = 4\nchunk = 1\nblock = 16\nrows = 4\nshards = 1\n",
+        ],
+    );
 }

@@ -36,7 +36,7 @@ const LINES: &[(&str, Option<i32>, &str)] = &[
         None,
         "Run { config: \"a\", script: \"--\" }",
     ),
-    // what clap refuses ends with 2, and a call for help with 0
+    // what clap refuses ends with 2, and a call for help or the version with 0
     ("raid6", Some(2), ""),
     ("raid6 layout a", Some(2), ""),
     ("raid6 geometry", Some(2), ""),
@@ -51,6 +51,12 @@ const LINES: &[(&str, Option<i32>, &str)] = &[
     ("raid6 --help", Some(0), "verify"),
     ("raid6 --help", Some(0), "simulate"),
     ("raid6 --help", Some(0), "  run "),
+    ("raid6 --version", Some(0), "raid6 0.1.0\n"),
+    ("raid6 -V", Some(0), "raid6 0.1.0\n"),
+    ("raid6 geometry --version", Some(2), ""),
+    // whatever the program's file is called
+    ("out/r6_tool geometry", Some(2), "Usage: raid6 geometry"),
+    ("out/r6_tool --help", Some(0), "Usage: raid6 <COMMAND>"),
 ];
 
 /// Whether words are read so, or refused with this status.

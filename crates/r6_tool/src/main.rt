@@ -5,51 +5,77 @@ ghost use Rattle.std.specs.Prelude.{◌≡◌, ◌≢◌, ◌⊎◌, None};
 ghost use Rattle.clap.specs.Values.{kind_of};
 ghost use Rattle.clap.specs.declared.error.kind.ErrorKind.TheVariants.{DisplayHelp, DisplayVersion};
 ghost use Rattle.r6_execute.specs.Status.{status_of};
+ghost use Rattle.std.specs.Io.{ReadsAtMost};
+ghost use Rattle.r6_tool.specs.Source.{Opens, Reads};
 
 use clap::Error;
 use r6_command::{CommandFault, Invocation, command};
 use r6_execute::{ErrorOutput, Fault, execute};
 use std::fs::{self, File};
 use std::io::{self, ErrorKind, IsTerminal, Read};
+use std::os::unix::fs::FileTypeExt;
 use std::process::ExitCode;
 use std::rt::Files;
 use std::sync::Wait;
 use std::thread::Threads;
 
-/// A file that a command reads. One that can't be opened fails at every read, and so does one that the
-/// command does not name.
+/// A file that a command reads. It is opened where it is first read. One that can't be opened fails at every read, and
+/// so does one that the command does not name.
 #[derive(Drop)]
-enum Source {
+enum Source<'a> {
+    Closed(&'a HostRuntime, &'a str),
     Open(File),
     Refused(ErrorKind),
 }
 
-impl Source {
-    fn open(rt: &HostRuntime, path: Option<&str>) -> Source
+// A file; but a FIFO, which nobody may ever write to, is refused by its own name.
+fn opened(rt: &HostRuntime, path: &str) -> io::Result<File> {
+    let kind = fs::symlink_metadata(rt, path)?.file_type();
+    if kind.is_fifo() {
+        return Err(io::Error::from(ErrorKind::InvalidInput));
+    }
+    fs::open(rt, path)
+}
+
+impl<'a> Source<'a> {
+    fn of(rt: &'a HostRuntime, path: Option<&'a str>) -> Source<'a>
         ensures { path.entry ≡ None → result ≡ Source.Refused ErrorKind.NotFound }
     {
         match path {
-            Some(path) => match fs::open(rt, path) {
+            Some(path) => Source::Closed(rt, path),
+            None => Source::Refused(ErrorKind::NotFound),
+        }
+    }
+
+    // Opens it, if it isn't open yet.
+    fn open(&mut self)
+        ensures { Opens self.old self.new }
+    {
+        if let Source::Closed(rt, path) = *self {
+            *self = match opened(rt, path) {
                 Ok(file) => Source::Open(file),
                 Err(error) => Source::Refused(error.kind()),
-            },
-            None => Source::Refused(ErrorKind::NotFound),
+            };
+        }
+    }
+
+    // Reads of the file, which is opened first if it isn't open yet.
+    fn take(&mut self, buf: &mut [u8]) -> io::Result<usize>
+        ensures bound { ReadsAtMost result buf.new }
+        ensures refused { Reads self.old self.new result }
+    {
+        self.open();
+        match self {
+            Source::Closed(..) => unreachable!(),
+            Source::Open(file) => file.read(buf),
+            Source::Refused(kind) => Err(io::Error::from(*kind)),
         }
     }
 }
 
-impl Read for Source {
-    ghost use Rattle.std.specs.Io.{ReadsAtMost};
-    ghost use Rattle.r6_tool.specs.Source.{Reads};
-
-    fn read(&mut self, buf: &mut [u8]) -> io::Result<usize>
-        ensures bound { ReadsAtMost result buf.new }
-        ensures refused { Reads self.old self.new result }
-    {
-        match self {
-            Source::Open(file) => file.read(buf),
-            Source::Refused(kind) => Err(io::Error::from(*kind)),
-        }
+impl Read for Source<'_> {
+    fn read(&mut self, buf: &mut [u8]) -> io::Result<usize> {
+        self.take(buf)
     }
 }
 
@@ -76,20 +102,20 @@ fn explained(rt: &HostRuntime, error: &Error) -> u8
     }
 }
 
-// `waits` is the right to wait and to start threads, which `main` has.
+// `threads` is the right to wait and to start threads, which `main` has.
 fn perform<R: Wait + Threads + Files<File = File> + Sync>(
     rt: &HostRuntime,
-    waits: &R,
+    threads: &R,
     invocation: &Invocation<'_>,
 ) -> u8 {
-    let mut settings = Source::open(rt, invocation.config());
-    let mut script = Source::open(rt, invocation.script());
+    let mut settings = Source::of(rt, invocation.config());
+    let mut script = Source::of(rt, invocation.script());
     let mut out = rt.stdout();
     let stderr = rt.stderr();
     let is_terminal = stderr.is_terminal();
     let mut err = ErrorOutput::new(stderr, is_terminal);
     execute(
-        waits,
+        threads,
         rt.alloc(),
         invocation,
         &mut settings,
@@ -99,7 +125,7 @@ fn perform<R: Wait + Threads + Files<File = File> + Sync>(
     )
 }
 
-fn status<R: Wait + Threads + Files<File = File> + Sync>(rt: &HostRuntime, waits: &R) -> u8 {
+fn status<R: Wait + Threads + Files<File = File> + Sync>(rt: &HostRuntime, threads: &R) -> u8 {
     let words: Vec<String> = match std::env::args(rt) {
         Ok(words) => match words.collect(rt.alloc()) {
             Ok(words) => words,
@@ -109,7 +135,7 @@ fn status<R: Wait + Threads + Files<File = File> + Sync>(rt: &HostRuntime, waits
         Err(_) => return refused(rt, Fault::NotText),
     };
     match command(rt.alloc(), words.as_slice()) {
-        Ok(invocation) => perform(rt, waits, &invocation),
+        Ok(invocation) => perform(rt, threads, &invocation),
         Err(CommandFault::Refused(error)) => explained(rt, &error),
         Err(CommandFault::Memory) => refused(rt, Fault::Memory),
     }

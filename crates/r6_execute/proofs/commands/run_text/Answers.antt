@@ -1,6 +1,7 @@
 use Rattle.std.proofs.Common.{List, ℕ, subst}
+use Rattle.r6_run.specs.Faults.{IsRunningFault}
 use Rattle.r6_run.specs.Runs.{HasRun}
-use Rattle.r6_run_script.specs.Script.{Say}
+use Rattle.r6_script.specs.RunScript.{SayRun}
 use Rattle.r6_script.specs.Script.{lines_of}
 use Rattle.r6_settings.specs.Settings.{values_of}
 use Rattle.r6_execute.specs.Faults.{fault_of_run}
@@ -17,39 +18,44 @@ returns-clause-ok g c settings script said read =
     let ending = c.in_ok-ending.ending in
     let old = g.W.Write.contents c.args.out.now in
     let mid = g.W.Write.contents c.run.new.out in
-    let has_run = subst (λ script. HasRun config.geometry config.lost.items script old mid ending) c.as_slice.ensures.value c.in_ok-ending.ensures.ok in (
+    let has_run = subst (λ script. HasRun (values_of config) script old mid ending) c.as_slice.ensures.value c.in_ok-ending.ensures.ok in (
       values_of config,
       events,
       ending,
       said,
-      of_file (λ (text : List ℕ). Say (lines_of text) events) script c.args.text.now read c.in_ok-events.ensures.ok,
-      run_kept config.geometry config.lost.items events ending old mid (g.W.Write.contents c.finish.new.out) has_run c.finish.ensures.kept,
+      of_file (λ (text : List ℕ). SayRun (lines_of text) events) script c.args.text.now read c.in_ok-events.ensures.ok,
+      run_kept (values_of config) events ending old mid (g.W.Write.contents c.finish.new.out) has_run c.finish.ensures.kept,
       c.from.ensures,
     )
 
 pub returns-in_err-events-clause-err : goal.returns-in_err-events-clause-err
 returns-in_err-events-clause-err g c =
+    let values = values_of c.args.config.now in
     let text = c.args.text.now in
     let held = g.W.Write.contents c.args.out.now in
     let fault = c.in_err-events.field-0.0 in
-    told_on (StopsAnyhow text held held) c.from_residual.result (Script fault)
-    (λ settings script read. by_script settings script held text fault read c.in_err-events.ensures.err)
+    told_on (StopsAnyhow values text held held) c.from_residual.result (Script fault)
+    (λ settings script said read. by_script settings script values said held text fault read c.in_err-events.ensures.err)
     c.from_residual.ensures.1
 
 pub returns-in_err-ending-clause-err : goal.returns-in_err-ending-clause-err
 returns-in_err-ending-clause-err g c =
+    let values = values_of c.args.config.now in
+    let events = c.in_ok-events.events.items in
     let old = g.W.Write.contents c.args.out.now in
     let new = g.W.Write.contents c.run.new.out in
     let fault = c.in_err-ending.field-0.0 in
-    told_on (StopsAnyhow c.args.text.now old new) c.from_residual-in_err-ending.result (fault_of_run fault)
-    (λ settings script read. by_run settings script old new fault c.in_err-ending.ensures.kept)
+    let is = subst (λ script. IsRunningFault values.shape.slots values.lost script fault) c.as_slice.ensures.value c.in_err-ending.ensures.err in
+    told_on (StopsAnyhow values c.args.text.now old new) c.from_residual-in_err-ending.result (fault_of_run fault)
+    (λ settings script said read. by_run settings script values said old new c.args.text.now events read c.in_ok-events.ensures.ok fault is c.in_err-ending.ensures.kept)
     c.from_residual-in_err-ending.ensures.1
 
 pub returns-in_err-finish-clause-err : goal.returns-in_err-finish-clause-err
 returns-in_err-finish-clause-err g c =
+    let values = values_of c.args.config.now in
     let old = g.W.Write.contents c.args.out.now in
     let new = g.W.Write.contents c.finish.new.out in
     let fault = c.in_err-finish.field-0.0 in
-    told_on (StopsAnyhow c.args.text.now old new) c.from_residual-in_err-finish.result fault
-    (λ settings script read. by_output settings script old new fault c.in_err-finish.ensures.refused)
+    told_on (StopsAnyhow values c.args.text.now old new) c.from_residual-in_err-finish.result fault
+    (λ settings script said read. by_output settings script values said old new c.args.text.now c.in_ok-events.events.items read c.in_ok-events.ensures.ok fault c.in_err-finish.ensures.refused)
     c.from_residual-in_err-finish.ensures.1

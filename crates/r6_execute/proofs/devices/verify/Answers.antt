@@ -1,5 +1,6 @@
 use Rattle.std.proofs.Common.{IfSome, subst}
 use Rattle.std.proofs.lemmas.Result.{IfErr-weaker, IfOk-weaker}
+use Rattle.r6_offline.specs.Parts.{parts_of, tells_nothing}
 use Rattle.r6_offline.specs.Reports.{IsReadFault}
 use Rattle.r6_settings.specs.Settings.{values_of}
 use Rattle.r6_execute.specs.Commands.{HasReported, HasVerified, IsReadingFault, StopsReport, StopsVerify}
@@ -50,6 +51,7 @@ pub returns-in-Some-clause-err : goal.returns-in-Some-clause-err
 returns-in-Some-clause-err g c =
     let values = values_of c.in_ok-config.config in
     let met = c.in-Some.met in
-    let of_parts = c.in_ok-report.ensures.ok in
+    let of_devices = c.in_ok-report.ensures.ok in
+    let parts = parts_of tells_nothing of_devices.0 in
     stops_by IsReadingFault (g.S.Read.remaining c.args.settings.now) (g.W.Write.contents c.args.out.now) values _ c.in_ok-config.ensures.ok
-    (reading values of_parts.0 met (subst (λ fault. IfSome fault (IsReadFault values.shape of_parts.0)) c.in-Some.is of_parts.2.fault))
+    (reading values parts met (subst (λ fault. IfSome fault (IsReadFault values.shape parts)) c.in-Some.is of_devices.2.fault))
