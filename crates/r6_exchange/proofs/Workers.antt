@@ -1,0 +1,120 @@
+-- A worker goes on by one task.
+use Rattle.std.proofs.Common.{◌≡◌, ◌≤◌, ◌+◌, arith, List, [], ◌∷◌, ◌++◌, length, vec_capacity, sym, ap, subst, ◌∙◌}
+use Rattle.r6_dev.specs.History.{Telling}
+use Rattle.r6_dev.specs.Promises.{Promise}
+use Rattle.r6_world.specs.declared.values.Command.{Command}
+use Rattle.r6_exchange.specs.declared.task.Served.{Served}
+use Rattle.r6_exchange.specs.declared.task.Task.TheVariants.{Perform, TakeUp, End}
+use Rattle.r6_exchange.specs.declared.completion.Completion.{Completion}
+use Rattle.r6_exchange.specs.declared.pass.WorkerPass.{WorkerPass}
+use Rattle.r6_exchange.specs.declared.exchange.Exchange.{Exchange}
+use Rattle.r6_exchange.specs.declared.worker.Worker.{Worker}
+use Rattle.r6_exchange.specs.Answering.{State, nothing, Answered, state_after, unanswered, parts_in}
+use Rattle.r6_exchange.specs.Exchanges.{IsWorkerPass, taken_by, given_by, room_of}
+use Rattle.r6_exchange.specs.Parts.{part_in, Holds, Does, TakesUp}
+use Rattle.r6_exchange.specs.Workers.{IsWorker}
+use Rattle.r6_exchange.proofs.Answering.{one-more, state-performed, state-taken-up, state-ended, unanswered-performed, unanswered-taken-up, unanswered-ended, parts-more}
+
+module _ {D : Type 0} (told : D → Telling) (promised : D → Promise) (ex : Exchange D) where
+  known-by : WorkerPass D → State
+  known-by p = state_after told promised nothing (taken_by p) (given_by p)
+
+  -- the completion of the command that was taken last is honest
+  pub honest-answer : (w : Worker D) (p : WorkerPass D) (c : Command) (a : Completion) (parts' : List (Served D)) → IsWorker told promised ex w
+      → taken_by p ≡ taken_by w.pass ++ Perform c ∷ [] → given_by p ≡ given_by w.pass
+      → Does told promised c a w.parts.items parts' → Answered told promised nothing (given_by p ++ a ∷ []) (taken_by p)
+  honest-answer w p c a parts' x taken given does =
+      let is = (does (state_after told promised nothing (taken_by w.pass) (given_by w.pass)) x.holds).0 in
+      subst (λ ts. Answered told promised nothing (given_by p ++ a ∷ []) ts) (sym taken)
+      (subst (λ ys. Answered told promised nothing (ys ++ a ∷ []) (taken_by w.pass ++ Perform c ∷ [])) (sym given)
+      (one-more told promised nothing (given_by w.pass) (taken_by w.pass) c a x.pass.honest x.none_owed is))
+
+  pub worker-performed : (w w' : Worker D) (c : Command) (a : Completion) → IsWorker told promised ex w → IsWorkerPass told promised ex w'.pass
+      → taken_by w'.pass ≡ taken_by w.pass ++ Perform c ∷ [] → given_by w'.pass ≡ given_by w.pass ++ a ∷ []
+      → room_of w'.pass ≡ room_of w.pass
+      → Does told promised c a w.parts.items w'.parts.items → length w'.parts.items ≡ length w.parts.items
+      → vec_capacity w'.parts ≡ vec_capacity w.parts → w'.replaced ≡ w.replaced
+      → IsWorker told promised ex w'
+  worker-performed w w' c a x pass taken given room does many capacity replaced =
+      let before = taken_by w.pass in
+      let answers = given_by w.pass in
+      let did = does (state_after told promised nothing before answers) x.holds in
+      let few = x.few in
+      let room-was = x.parts_room in
+      let room-was' = x.replaced_room in
+      record {
+        pass = pass;
+        none_owed = ap (λ ts. unanswered ts (given_by w'.pass)) taken ∙ ap (unanswered (before ++ Perform c ∷ [])) given
+            ∙ unanswered-performed told promised nothing answers before c a x.pass.honest x.none_owed;
+        holds = subst (λ s. Holds s (part_in told promised w'.parts.items))
+            (sym (ap (λ ts. state_after told promised nothing ts (given_by w'.pass)) taken ∙ ap (state_after told promised nothing (before ++ Perform c ∷ [])) given
+            ∙ state-performed told promised nothing answers before c a x.pass.honest x.none_owed)) did.1;
+        few = let same : parts_in (taken_by w'.pass) ≡ parts_in before + 0 = ap parts_in taken ∙ parts-more before (Perform c ∷ []) in
+            let same' : length w'.replaced.items ≡ length w.replaced.items = ap (λ v. length v.items) replaced in
+            omega arith;
+        parts_room = omega arith;
+        replaced_room = let same' : vec_capacity w'.replaced ≡ vec_capacity w.replaced = ap vec_capacity replaced in omega arith;
+      }
+
+  pub worker-took-up : (w w' : Worker D) (served : Served D) → IsWorker told promised ex w → IsWorkerPass told promised ex w'.pass
+      → taken_by w'.pass ≡ taken_by w.pass ++ TakeUp served ∷ [] → given_by w'.pass ≡ given_by w.pass
+      → room_of w'.pass ≡ room_of w.pass
+      → TakesUp told promised served w.parts.items w'.parts.items
+      → length w'.parts.items + length w'.replaced.items ≡ 1 + (length w.parts.items + length w.replaced.items)
+      → vec_capacity w'.parts ≡ vec_capacity w.parts → vec_capacity w'.replaced ≡ vec_capacity w.replaced
+      → IsWorker told promised ex w'
+  worker-took-up w w' served x pass taken given room takes many capacity capacity' =
+      let before = taken_by w.pass in
+      let answers = given_by w.pass in
+      let few = x.few in
+      let room-was = x.parts_room in
+      let room-was' = x.replaced_room in
+      record {
+        pass = pass;
+        none_owed = ap (λ ts. unanswered ts (given_by w'.pass)) taken ∙ ap (unanswered (before ++ TakeUp served ∷ [])) given
+            ∙ unanswered-taken-up answers before served ∙ x.none_owed;
+        holds = subst (λ s. Holds s (part_in told promised w'.parts.items))
+            (sym (ap (λ ts. state_after told promised nothing ts (given_by w'.pass)) taken ∙ ap (state_after told promised nothing (before ++ TakeUp served ∷ [])) given
+            ∙ state-taken-up told promised nothing answers before served)) (takes (state_after told promised nothing before answers) x.holds);
+        few = let same : parts_in (taken_by w'.pass) ≡ parts_in before + (1 + 0) = ap parts_in taken ∙ parts-more before (TakeUp served ∷ []) in omega arith;
+        parts_room = omega arith;
+        replaced_room = omega arith;
+      }
+
+  -- there is room for the part that was taken last
+  pub room-there : (w : Worker D) (p : WorkerPass D) (served : Served D) → IsWorker told promised ex w → IsWorkerPass told promised ex p
+      → taken_by p ≡ taken_by w.pass ++ TakeUp served ∷ [] → room_of p ≡ room_of w.pass
+      → (length w.parts.items + 1 ≤ vec_capacity w.parts) × (length w.replaced.items + 1 ≤ vec_capacity w.replaced)
+  room-there w p served x pass taken room =
+      let few = x.few in
+      let room-was = x.parts_room in
+      let room-was' = x.replaced_room in
+      let most = pass.room in
+      let same : parts_in (taken_by p) ≡ parts_in (taken_by w.pass) + (1 + 0) = ap parts_in taken ∙ parts-more (taken_by w.pass) (TakeUp served ∷ []) in
+      (omega arith, omega arith)
+
+  pub worker-ended : (w w' : Worker D) → IsWorker told promised ex w → IsWorkerPass told promised ex w'.pass
+      → taken_by w'.pass ≡ taken_by w.pass ++ End ∷ [] → given_by w'.pass ≡ given_by w.pass → room_of w'.pass ≡ room_of w.pass
+      → w'.parts ≡ w.parts → w'.replaced ≡ w.replaced → IsWorker told promised ex w'
+  worker-ended w w' x pass taken given room parts replaced =
+      let before = taken_by w.pass in
+      let answers = given_by w.pass in
+      let few = x.few in
+      let room-was = x.parts_room in
+      let room-was' = x.replaced_room in
+      let many : length w'.parts.items ≡ length w.parts.items = ap (λ v. length v.items) parts in
+      let many' : length w'.replaced.items ≡ length w.replaced.items = ap (λ v. length v.items) replaced in
+      let capacity : vec_capacity w'.parts ≡ vec_capacity w.parts = ap vec_capacity parts in
+      let capacity' : vec_capacity w'.replaced ≡ vec_capacity w.replaced = ap vec_capacity replaced in
+      record {
+        pass = pass;
+        none_owed = ap (λ ts. unanswered ts (given_by w'.pass)) taken ∙ ap (unanswered (before ++ End ∷ [])) given
+            ∙ unanswered-ended answers before ∙ x.none_owed;
+        holds = subst (λ s. Holds s (part_in told promised w'.parts.items))
+            (sym (ap (λ ts. state_after told promised nothing ts (given_by w'.pass)) taken ∙ ap (state_after told promised nothing (before ++ End ∷ [])) given
+            ∙ state-ended told promised nothing answers before))
+            (subst (λ v. Holds (state_after told promised nothing before answers) (part_in told promised v.items)) (sym parts) x.holds);
+        few = let same : parts_in (taken_by w'.pass) ≡ parts_in before + 0 = ap parts_in taken ∙ parts-more before (End ∷ []) in omega arith;
+        parts_room = omega arith;
+        replaced_room = omega arith;
+      }
