@@ -1,15 +1,16 @@
 -- A course begins, and goes on by calls of the core alone.
-use Rattle.std.proofs.Common.{◌≡◌, ℕ, ◌<◌, Bool, true, false, if◌then◌else◌, refl, sym, ap, subst, ◌∙◌, Some, None}
+use Rattle.std.proofs.Common.{◌≡◌, ℕ, ◌<◌, Bool, true, false, if◌then◌else◌, refl, sym, ap, subst, ◌∙◌, Option, Some, None}
 use Rattle.std.proofs.lemmas.Bool.{true≢false}
 use Rattle.r6_dev.specs.History.{Telling}
 use Rattle.r6_layout.specs.PlainArray.{Block}
 use Rattle.r6_world.specs.Layouts.{Layout, IsRowOf}
 use Rattle.r6_world.specs.Registers.{Snapshot}
-use Rattle.r6_world.specs.ShardStates.{Shard}
+use Rattle.r6_world.specs.Tables.{put}
+use Rattle.r6_world.specs.ShardStates.{Shard, Command}
 use Rattle.r6_world.specs.Steps.{Event, Submit, Look, Turn_started, Turn_skipped, No_command, No_call, Take_reply, No_reply, Step}
-use Rattle.r6_world.specs.Worlds.{World, Happening, Core, Moment, MayCome, happened, next, broken_by}
-use Rattle.r6_world.proofs.Tables.{put-same}
-use Rattle.r6_course.specs.Courses.{Start, first_world, marked, looked_by, Stand, Tells, Follows}
+use Rattle.r6_world.specs.Worlds.{World, Happening, Core, Moment, MayCome, happened, next, broken_by, flown}
+use Rattle.r6_world.proofs.Tables.{put-same, None-not_Some}
+use Rattle.r6_course.specs.Courses.{Start, first_world, marked, looked_by, Stand, Tells, AreInFlight, Follows}
 use Rattle.r6_course.specs.Steps.{CoursesBegin, IsPlainCall, CallsGoOn}
 use Rattle.r6_course.proofs.Reached.{begins, reach, begins-looked, reach-looked, reach-named}
 
@@ -21,6 +22,7 @@ courses_begin s part named tells none = record {
   register = refl;
   looked = begins-looked s;
   named = λ slot e. absurd (true≢false (sym e ∙ none slot));
+  in_flight = λ token c e. absurd (None-not_Some c e);
   parts = tells;
 }
 
@@ -59,6 +61,18 @@ may-come w n register same (Take_reply id reply) k = record {}
 may-come w n register same No_reply k = record {}
 may-come w n register same event k = absurd k
 
+-- it takes no command
+flies-none : (register : Snapshot) (event : Event) → IsPlainCall register event → (flight : ℕ → Option Command) → flown event flight ≡ flight
+flies-none register (Submit op id) k flight = refl
+flies-none register (Look seen) k flight = refl
+flies-none register (Turn_started task) k flight = refl
+flies-none register (Turn_skipped task row) k flight = refl
+flies-none register No_command k flight = refl
+flies-none register No_call k flight = refl
+flies-none register (Take_reply id reply) k flight = refl
+flies-none register No_reply k flight = refl
+flies-none register event k flight = absurd k
+
 breaks-none : (register : Snapshot) (event : Event) → IsPlainCall register event → (s : Shard) (parts : ℕ → ℕ → Bool)
     → broken_by s event parts ≡ parts
 breaks-none register (Submit op id) k s parts = refl
@@ -72,12 +86,14 @@ breaks-none register No_reply k s parts = refl
 breaks-none register event k s parts = absurd k
 
 -- the core goes on, and breaks no part
-calls : (s : Start) (at : Stand) (x : Follows s at) (event : Event) (new : Shard) → s.number < s.layout.shards
+pub calls : (s : Start) (at : Stand) (x : Follows s at) (event : Event) (new : Shard) → s.number < s.layout.shards
     → MayCome x.world s.number event
     → Step s.layout s.number at.shard event new
     → broken_by (x.world.shard s.number) event (x.world.broken s.number) ≡ x.world.broken s.number
-    → Follows s (record at { shard = new; looked = looked_by event at.looked; history = marked event at.history })
-calls s at x event new below come step unbroken =
+    → (out : ℕ → Option Command)
+    → AreInFlight s.number (record x.world { flight = put x.world.flight s.number (flown event (x.world.flight s.number)) }) out
+    → Follows s (record at { shard = new; looked = looked_by event at.looked; out = out; history = marked event at.history })
+calls s at x event new below come step unbroken out in_flight =
     let n = s.number in
     let w = x.world in
     let l = s.layout in
@@ -89,6 +105,7 @@ calls s at x event new below come step unbroken =
       register = x.register;
       looked = reach-looked s w at.history x.reached m _ _ at.looked x.looked;
       named = reach-named s w at.history x.reached m _ _ at.named x.named;
+      in_flight = in_flight;
       parts = λ slot g telling there ok.
           shown-tells s w (Core n event new) (λ slot g row. refl) slot g telling
           (x.parts slot g telling there (ap (λ (y : ℕ → ℕ → Bool). y slot g) (sym (put-same w.broken n _ n refl ∙ unbroken)) ∙ ok));
@@ -97,4 +114,11 @@ calls s at x event new below come step unbroken =
 pub calls_go_on : CallsGoOn
 calls_go_on s lawful at event new x plain step =
     calls s at x event new lawful.number (may-come x.world s.number at.register x.register event plain) step
-    (breaks-none at.register event plain (x.world.shard s.number) (x.world.broken s.number))
+    (breaks-none at.register event plain (x.world.shard s.number) (x.world.broken s.number)) at.out
+    (λ token c e.
+    let f = x.in_flight token c e in (
+      ap (λ (y : ℕ → Option Command). y token)
+          (put-same x.world.flight s.number (flown event (x.world.flight s.number)) s.number refl
+          ∙ flies-none at.register event plain (x.world.flight s.number)) ∙ f.0,
+      f.1,
+    ))

@@ -264,13 +264,13 @@ command_law s lawful at x token c there on =
     let there' : (w.shard n).command token ≡ Some c = ap (λ (z : Shard). z.command token) x.shard ∙ there in
     let live : IsLive l (w.shard n) = y.2 token c there' on in
     let sound = y.1.sounds n refl in
-    let flying = restored-is (w.shard n).command (w.flight n) (w.shard n).tokens sound.flies token c there' in
-    let k : Command = record c { transfer = flying.transfer } in
+    let in_flight = restored-is (w.shard n).command (w.flight n) (w.shard n).tokens sound.flies token c there' in
+    let k : Command = record c { transfer = in_flight.transfer } in
     let rows = sound.rows live in
     let out : (c.slot < l.slots) × Uses ((w.shard n).slot c.slot) c.generation = elim (cases_lt c.frame frames) [
       | inl low ↦
-          let framed = rows.framed token k flying.there on low in
-          let held = (rows.held c.frame framed.0 framed.1).commands token k flying.there on refl in (held.in_range, held.uses)
+          let framed = rows.framed token k in_flight.there on low in
+          let held = (rows.held c.frame framed.0 framed.1).commands token k in_flight.there on refl in (held.in_range, held.uses)
       | inr direct ↦ sound.directs.used token c there' direct on
     ] in (
       subst (IsLive l) x.shard live,

@@ -18,7 +18,7 @@ use Rattle.r6_world.proofs.Changes.{step-kept}
 use Rattle.r6_world.proofs.Uses.{generation_of}
 use Rattle.r6_world.proofs.Register.Renewals.{renewed-call}
 use Rattle.r6_course.specs.Courses.{Start, IsLawful, Mark, Reached, Tells, first_world, looked_by, looked_after, looked_of}
-use Rattle.r6_course.specs.Steps.{OthersAreAlike, HandingGoesOn, LettingGoesOn}
+use Rattle.r6_course.specs.Steps.{OthersAreAlike, HandingGoesOn, LettingGoesOn, SeenLaw}
 use Rattle.r6_course.proofs.Reached.{IsKept, run-append, holds-along, looked-more}
 use Rattle.r6_course.proofs.Calls.{tells-alike}
 use Rattle.r6_course.proofs.Performing.{stands-elsewhere, part-cases}
@@ -226,9 +226,9 @@ module _ (s : Start) (lawful : IsLawful s) where
       elsewhere : (k token : ℕ) (c : Command) → Possible l IsByAnyone w (Perform k token c) → k ≡ s.number → (other g' : ℕ) → (other ≡ slot) × (g' ≡ g)
           → (other ≡ c.slot) × (g' ≡ c.generation) → ⊥
       elsewhere k token c p o other g' there here =
-          let flying = ap (λ y. w.flight y token) (sym o) ∙ p.1 in
+          let in_flight = ap (λ y. w.flight y token) (sym o) ∙ p.1 in
           let out = some-command ((w.shard s.number).command token) (λ e. p.2 (ap (λ y. (w.shard y).command token) o ∙ e)) in
-          let same = ((x.sounds s.number refl).flies.same token c out.0 flying out.1).generation in
+          let same = ((x.sounds s.number refl).flies.same token c out.0 in_flight out.1).generation in
           let low = command-below looked (w.shard s.number) token out.0 y.shard out.1 in
           let a = there.1 in
           let b = here.1 in
@@ -327,6 +327,7 @@ handing_goes_on s lawful device at slot g telling x above alike tells =
       register = x.register;
       looked = x.looked;
       named = x.named;
+      in_flight = x.in_flight;
       parts = λ other g' found there ok. elim (part-cases at.part slot g telling other g' found there) [
         | inl q ↦
             subst (λ y. Tells t (z.devices y g') found) (sym q.0)
@@ -347,5 +348,31 @@ letting_goes_on s at part x fewer =
       register = x.register;
       looked = x.looked;
       named = x.named;
+      in_flight = x.in_flight;
       parts = λ slot g telling there ok. x.parts slot g telling (fewer slot g telling there) ok;
     }
+
+-- ---- commands go to devices that were looked at
+
+heard-along : (s : Start) (lawful : IsLawful s) (w : World) (history : List Mark) (x : Reached s w history) → Heard s (looked_of 0 x.moments) w
+heard-along s lawful w history x =
+    (holds-along s lawful (λ w before plain. Heard s (looked_of 0 before) w)
+    (record {
+      counted = omega arith;
+      shard = ((λ slot. at-start (status_of s.register slot)), λ token. record {});
+      broke = λ slot g e. absurd (false≢true e);
+    })
+    (λ w before plain m k p possible own k'.
+    subst (λ z. Heard s z (next s.layout w m)) (sym (looked-more 0 before m))
+    (heard-next s lawful w plain m (looked_of 0 before) k possible own p).1) w history x).2
+  where
+    at-start : (status : Status) → generation_of (slot_at_start status) ≤ 0
+    at-start InSync = omega arith
+    at-start Lost = omega arith
+    at-start (Rebuilding g by) = omega arith
+
+pub seen_law : SeenLaw
+seen_law s lawful at token c x e =
+    let h = heard-along s lawful x.world at.history x.reached in
+    subst (λ y. c.generation ≤ y) x.looked
+    (command-below (looked_of 0 x.reached.moments) (x.world.shard s.number) token c h.shard (ap (λ (y : Shard). y.command token) x.shard ∙ e))

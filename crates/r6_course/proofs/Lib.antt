@@ -2,6 +2,7 @@ pub mod Lists
 pub mod Reached
 pub mod Calls
 pub mod Performing
+pub mod Working
 pub mod Register
 pub mod Looked
 pub mod Handing

@@ -20,7 +20,7 @@ use Rattle.r6_course.proofs.Reached.{reach, reach-looked, reach-moments, reach-n
 use Rattle.r6_course.proofs.Calls.{both, shown, tells-alike}
 
 -- a command that isn't taken is not in flight, so it was not performed
-unperformed : (s : Start) (lawful : IsLawful s) (at : Stand) (x : Follows s at) (token : ℕ) (c : Command) (middle : Shard)
+pub unperformed : (s : Start) (lawful : IsLawful s) (at : Stand) (x : Follows s at) (token : ℕ) (c : Command) (middle : Shard)
     → Step s.layout s.number at.shard (Take_command token c) middle → x.world.performed s.number token ≡ None
 unperformed s lawful at x token c middle step =
     let n = s.number in
@@ -56,11 +56,11 @@ record Taken (s : Start) (at : Stand) (x : Follows s at) (token : ℕ) (c : Comm
   noisy : (d g row : ℕ) → s.layout.shard_of row ≡ s.number → x.world.broken s.number d g ≡ true
       → world.device d g row ≡ block
 
-unless : {A : Type 0} (b : Bool) (x y : A) → b ≡ false → (if b then x else y) ≡ y
+pub unless : {A : Type 0} (b : Bool) (x y : A) → b ≡ false → (if b then x else y) ≡ y
 unless true x y e = absurd (true≢false e)
 unless false x y e = refl
 
-when : {A : Type 0} (b : Bool) (x y : A) → b ≡ true → (if b then x else y) ≡ x
+pub when : {A : Type 0} (b : Bool) (x y : A) → b ≡ true → (if b then x else y) ≡ x
 when true x y e = refl
 when false x y e = absurd (false≢true e)
 
@@ -127,7 +127,7 @@ put-rows f g key b row e = elim (cases_eq row key) [
 ]
 
 -- what stands on its part after it, as far as it is not broken
-stands : (s : Start) (device : Devices) (c : Command) (before behind : Telling) (block : Block) (transfer : Transfer)
+pub stands : (s : Start) (device : Devices) (c : Command) (before behind : Telling) (block : Block) (transfer : Transfer)
     → Does before transfer c.row block behind → Tells s (device c.slot c.generation) before
     → Tells s (performed_on device c transfer c.slot c.generation) behind
 stands s device c None behind block transfer does tells = absurd tells
@@ -173,7 +173,19 @@ part-cases part slot g behind other g' found e = elim (cases_eq other slot) [
 still-out : (l : Layout) (s : Shard) (token : ℕ) (c : Command) → (after l s (Hand_command token c)).command token ≢ None
 still-out l s token c e = None-not_Some _ (sym e ∙ put-same s.command token (Some (record c { taken = true; transfer = handed c.transfer })) token refl)
 
+-- a command that isn't taken is not among those that are out
+not-out : (s : Start) (lawful : IsLawful s) (at : Stand) (x : Follows s at) (token : ℕ) (c : Command) (middle : Shard)
+    → Step s.layout s.number at.shard (Take_command token c) middle → (t : ℕ) (d : Command) → at.out t ≡ Some d → t ≢ token
+not-out s lawful at x token c middle step t d e same =
+    let n = s.number in
+    let w = x.world in
+    let flies = ((kept s lawful w at.history x.reached).1.sounds n refl).flies in
+    let there : (w.shard n).command token ≡ Some c = ap (λ (y : Shard). y.command token) x.shard ∙ step.0.0 in
+    None-not_Some d (sym (not-flying (w.shard n).command (w.flight n) (w.shard n).tokens flies token c there step.0.1)
+    ∙ ap (w.flight n) (sym same) ∙ (x.in_flight t d e).0)
+
 pub performing_goes_on : PerformingGoesOn
+unfolding takes
 performing_goes_on s lawful at token c block receipt new behind x p =
     let n = s.number in
     let l = s.layout in
@@ -210,6 +222,15 @@ performing_goes_on s lawful at token c block receipt new behind x p =
       looked = reach-looked s w' at.history reached' m' _ _ at.looked (reach-looked s w at.history t.reached m _ _ at.looked t.looked);
       named = reach-named s w' at.history reached' m' _ _ at.named
           (reach-named s w at.history t.reached m _ _ at.named (named-before s at x token c p.middle block t));
+      in_flight = λ t d e.
+          let f = x.in_flight t d e in
+          let ne = not-out s lawful at x token c p.middle p.taken t d e in (
+            ap (λ (y : ℕ → Option Command). y t) (put-same w'.flight n (w'.flight n) n refl)
+                ∙ ap (λ (y : ℕ → Option Command). y t) (put-same x.world.flight n (put (x.world.flight n) token (Some c)) n refl)
+                ∙ put-other (x.world.flight n) token (Some c) t ne ∙ f.0,
+            ap (λ (y : ℕ → Option Block). y t) (put-same x.world.performed n (put (x.world.performed n) token (Some (given w.device c c.transfer))) n refl)
+                ∙ put-other (x.world.performed n) token (Some (given w.device c c.transfer)) t ne ∙ f.1,
+          );
       parts = λ slot g found there ok.
           tells-alike s (performed_on w.device c c.transfer slot g) (w''.device slot g) found (λ row in'. device-is slot g row)
           (elim (part-cases at.part c.slot c.generation behind slot g found there) [
@@ -229,7 +250,7 @@ performing_goes_on s lawful at token c block receipt new behind x p =
 -- ---- it fails
 
 -- parts that have answered an error are broken from then on
-broken-was : (o : Option Command) (parts : ℕ → ℕ → Bool) (slot g : ℕ) → break o parts slot g ≡ false
+pub broken-was : (o : Option Command) (parts : ℕ → ℕ → Bool) (slot g : ℕ) → break o parts slot g ≡ false
     → parts slot g ≡ false
 broken-was None parts slot g e = e
 broken-was (Some c) parts slot g e = elim (cases_eq slot c.slot) [
@@ -243,7 +264,7 @@ broken-was (Some c) parts slot g e = elim (cases_eq slot c.slot) [
   | inr ne ↦ sym (ap (λ (y : ℕ → Bool). y g) (put_in-apart parts c.slot c.generation true slot ne)) ∙ e
 ]
 
-broken-own : (o : Option Command) (c : Command) (parts : ℕ → ℕ → Bool) → o ≡ Some c
+pub broken-own : (o : Option Command) (c : Command) (parts : ℕ → ℕ → Bool) → o ≡ Some c
     → break o parts c.slot c.generation ≡ true
 broken-own o c parts e = ap (λ y. break y parts c.slot c.generation) e ∙ put_in-same parts c.slot c.generation true c.generation refl
 
@@ -277,6 +298,7 @@ fails-now s at x token c middle receipt new noise moments slot is same own =
     }
 
 pub failure_goes_on : FailureGoesOn
+unfolding takes
 failure_goes_on s lawful at token c receipt new part named x p others names =
     let n = s.number in
     let l = s.layout in
@@ -307,6 +329,14 @@ failure_goes_on s lawful at token c receipt new part named x p others names =
                 fails-now s at x token c p.middle receipt new m.noise reached'.moments slot
                 (reach-moments s w at.history t.reached m _ _ ∙ ap (λ y. y ++ m ∷ []) t.moments) own.0 own.1
           ];
+      in_flight = λ u d e.
+          let f = x.in_flight u d e in
+          let ne = not-out s lawful at x token c p.middle p.taken u d e in (
+            ap (λ (y : ℕ → Option Command). y u) (put-same w.flight n (w.flight n) n refl)
+                ∙ ap (λ (y : ℕ → Option Command). y u) (put-same x.world.flight n (put (x.world.flight n) token (Some c)) n refl)
+                ∙ put-other (x.world.flight n) token (Some c) u ne ∙ f.0,
+            f.1,
+          );
       parts = λ slot g found at' ok.
           let other : (slot ≡ c.slot) × (g ≡ c.generation) → ⊥ =
           (λ same. true≢false (sym (broken-own out (record c { taken = true; transfer = handed c.transfer }) (w.broken n) there)

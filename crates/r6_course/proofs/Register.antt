@@ -50,6 +50,7 @@ outside s at x call reply answered =
       register = ap (λ y. register_after l y call (answer_to l y call)) x.register ∙ ap (register_after l at.register call) answered;
       looked = reach-looked s w at.history x.reached m _ _ at.looked x.looked;
       named = reach-named s w at.history x.reached m _ _ at.named x.named;
+      in_flight = x.in_flight;
       parts = λ slot g telling there ok.
           shown-tells s w (Outside call) (λ slot g row. refl) slot g telling (x.parts slot g telling there ok);
     }
@@ -119,6 +120,7 @@ tells s lawful at x call answer middle new is takes tells' =
       register = ap (λ y. register_after l y (as_made n call) answer) x.register;
       looked = reach-looked s w at.history x.reached m _ _ at.looked x.looked;
       named = reach-named s w at.history x.reached m _ _ at.named x.named;
+      in_flight = x.in_flight;
       parts = λ slot g telling there ok.
           shown-tells s w (Tell n call answer middle new) (λ slot g row. refl) slot g telling (x.parts slot g telling there ok);
     }

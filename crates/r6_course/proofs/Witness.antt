@@ -13,6 +13,7 @@ use Rattle.r6_world.specs.Worlds.{World, Devices, Moment, slot_at_start}
 use Rattle.r6_world.specs.Witness.{small, after_all, CourseFrom}
 use Rattle.r6_world.proofs.Tables.{not_both, Some-inj, count-le}
 use Rattle.r6_world.proofs.Witness.Course as world
+use Rattle.r6_world.proofs.Tables.{None-not_Some}
 use Rattle.r6_course.specs.Courses.{Start, first_world, IsLawful, marked, history_of, looked_of, Stand, Tells, Follows}
 use Rattle.r6_course.specs.Witness.{all_tell, small_start, BeginsHeld, AnswersFrom, WitnessLaw}
 use Rattle.r6_course.proofs.Calls.{calls_go_on}
@@ -87,6 +88,7 @@ answers r device array new_data lawful c =
       register = w.register;
       looked = looked_of 0 moments;
       named = [];
+      out = λ token. None;
       part = all_tell w.device;
       history = history_of [] moments;
     } in
@@ -97,6 +99,7 @@ answers r device array new_data lawful c =
       register = refl;
       looked = refl;
       named = λ slot e. absurd (false≢true e);
+      in_flight = λ token c e. absurd (None-not_Some c e);
       parts = λ slot g telling there ok. tells-all s w.device slot g telling there;
     } in
     let new : Shard = after small (w.shard 0) (Hand_reply 2 (Read 0) (Data new_data)) in

@@ -99,14 +99,21 @@ pub record Reached (s : Start) (w : World) (history : List Mark) : Type 0 where
   pub world : after_all s.layout (first_world s) moments ≡ w
   pub marks : history_of [] moments ≡ history
 
+-- these commands, which were taken and aren't answered, are in flight, each with its block; no device has performed one
+-- so far
+abbrev pub AreInFlight : (n : ℕ) → World → (out : ℕ → Option Command) → Type 0
+AreInFlight n w out =
+    (token : ℕ) (c : Command) → out token ≡ Some c → (w.flight n token ≡ Some c) × (w.performed n token ≡ None)
+
 -- where a shard stands: its core, the register as its pass saw it last, the attaches that its core saw when it looked
--- last, the slots that it names as failed, what its parts tell by slot and generation (none: no part is there), and
--- what its users saw
+-- last, the slots that it names as failed, the commands that are out with its workers by token, what its parts tell by
+-- slot and generation once the completions that came were answered (none: no part is there), and what its users saw
 pub record Stand : Type 0 where
   pub shard : Shard
   pub register : Snapshot
   pub looked : ℕ
   pub named : List Bool
+  pub out : ℕ → Option Command
   pub part : ℕ → ℕ → Option Telling
   pub history : List Mark
 
@@ -129,6 +136,7 @@ pub record Follows (s : Start) (at : Stand) : Type 0 where
   pub register : world.register ≡ at.register
   pub looked : looked_of 0 reached.moments ≡ at.looked
   pub named : AreFailed s.number at.named reached.moments
+  pub in_flight : AreInFlight s.number world at.out
   pub parts : AreParts s world.device (world.broken s.number) at.part
 
 -- at the start the core is made with the register, no slot is named, and its users saw nothing
@@ -139,6 +147,7 @@ first_stand s part =
       register = s.register;
       looked = 0;
       named = [];
+      out = λ token. None;
       part = part;
       history = [];
     }

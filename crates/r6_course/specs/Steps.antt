@@ -1,11 +1,11 @@
--- How the course of a shard begins, and how it goes on: by calls of its core, by commands that are performed in place,
--- and by calls at the register, others' and its own (this project's own).
-use Rattle.std.specs.Prelude.{◌≡◌, ◌<◌, ◌⊎◌, ℕ, List, Bool, true, false, Option, Some}
+-- How the course of a shard begins, and how it goes on: by calls of its core, by commands that are performed in place or
+-- by workers, and by calls at the register, others' and its own (this project's own).
+use Rattle.std.specs.Prelude.{◌≡◌, ◌<◌, ◌≤◌, ◌⊎◌, ℕ, List, Bool, true, false, Option, Some, None}
 use Rattle.r6_dev.specs.History.{Telling, Reads, Writes, Answers}
 use Rattle.r6_health.specs.declared.history.View.{View}
 use Rattle.r6_health.specs.Histories.{held}
 use Rattle.r6_health.specs.Views.{Looks, Answered}
-use Rattle.r6_world.specs.Tables.{put_in}
+use Rattle.r6_world.specs.Tables.{put, put_in}
 use Rattle.r6_layout.specs.PlainArray.{Block}
 use Rattle.r6_world.specs.Registers.{Snapshot, Told as Answer}
 use Rattle.r6_world.specs.ShardStates.{Shard, Command, Transfer, Fetch, Store, Storing, Call}
@@ -85,6 +85,45 @@ FailureGoesOn =
     (part : ℕ → ℕ → Option Telling) (named : List Bool) → Follows s at → Fails s at token c receipt new
     → OthersAreKept c.slot c.generation at.part part → NamesIt c.slot receipt at.named named
     → Follows s (record at { shard = new; part = part; named = named })
+
+-- ---- commands that workers perform
+
+-- a command is taken, and from then on it is out with a worker
+abbrev pub TakingGoesOn : Type 0
+TakingGoesOn =
+    (s : Start) → IsLawful s → (at : Stand) (token : ℕ) (c : Command) (new : Shard) → Follows s at
+    → Step s.layout s.number at.shard (Take_command token c) new
+    → Follows s (record at { shard = new; out = put at.out token (Some c) })
+
+-- The good completion of a command that is out is delivered: its part has done what the command says, as its worker's
+-- history tells. Nothing is asked of when: the run that leads there has it performed just before, and whatever other
+-- parts do meanwhile, the devices hold what all parts tell
+abbrev pub AnsweringGoesOn : Type 0
+AnsweringGoesOn =
+    (s : Start) → IsLawful s → (at : Stand) (token : ℕ) (c : Command) (block : Block) (receipt : Receipt) (new : Shard)
+    (before after : Telling) → Follows s at → at.out token ≡ Some c
+    → Step s.layout s.number at.shard (Deliver token (Good block) receipt) new
+    → at.part c.slot c.generation ≡ Some before → Does before c.transfer c.row block after
+    → Follows s (record at {
+      shard = new;
+      out = put at.out token None;
+      part = put_in at.part c.slot c.generation (Some after);
+    })
+
+-- the error of a command that is out is delivered, whatever its part did and tells from then on
+abbrev pub LosingGoesOn : Type 0
+LosingGoesOn =
+    (s : Start) → IsLawful s → (at : Stand) (token : ℕ) (c : Command) (receipt : Receipt) (new : Shard)
+    (part : ℕ → ℕ → Option Telling) (named : List Bool) → Follows s at → at.out token ≡ Some c
+    → Step s.layout s.number at.shard (Deliver token Error receipt) new
+    → OthersAreKept c.slot c.generation at.part part → NamesIt c.slot receipt at.named named
+    → Follows s (record at { shard = new; named = named; out = put at.out token None; part = part })
+
+-- commands go only to devices whose attach the core has looked at
+abbrev pub SeenLaw : Type 0
+SeenLaw =
+    (s : Start) → IsLawful s → (at : Stand) (token : ℕ) (c : Command) → Follows s at
+    → at.shard.command token ≡ Some c → c.generation ≤ at.looked
 
 -- a pass knows the register as the shard last saw it
 pub record Knows (s : Start) (v : View) (register : Snapshot) : Type 0 where

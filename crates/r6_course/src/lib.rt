@@ -6,6 +6,7 @@ ghost use Rattle.r6_course.specs.Ends.{CommandLaw, FailureLaw, IdleLaw, LossLaw}
 ghost use Rattle.r6_course.specs.Ledgers.{MergeLaw, OrderLaw};
 ghost use Rattle.r6_course.specs.Steps.{CoursesBegin, CallsGoOn, PerformingGoesOn, FailureGoesOn, OthersGoOn};
 ghost use Rattle.r6_course.specs.Steps.{TellingGoesOn, HandingGoesOn, LettingGoesOn};
+ghost use Rattle.r6_course.specs.Steps.{TakingGoesOn, AnsweringGoesOn, LosingGoesOn, SeenLaw};
 ghost use Rattle.r6_course.specs.Witness.{WitnessLaw};
 
 /// Parts that tell what the devices have are where a course begins. It goes on by each call of the core; by a
@@ -25,6 +26,14 @@ pub fn courses_go_on()
     ensures telling { TellingGoesOn }
     ensures handing { HandingGoesOn }
     ensures letting { LettingGoesOn }
+{}
+
+/// A course goes on by a command that is taken for a worker, and by its completion, good or not, whenever it comes.
+pub fn workers_go_on()
+    ensures taking { TakingGoesOn }
+    ensures answering { AnsweringGoesOn }
+    ensures losing { LosingGoesOn }
+    ensures seen { SeenLaw }
 {}
 
 /// Wherever a course has led, the requests that the shard answered are, in an order that keeps to the time, what
