@@ -43,6 +43,7 @@ begun geometry number snapshot device array core v named part limits below lawfu
           register = y.register ∙ sym now;
           looked = y.looked;
           named = y.named;
+          in_flight = y.in_flight;
           parts = y.parts;
         };
       };

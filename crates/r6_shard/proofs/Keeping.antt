@@ -159,6 +159,7 @@ dummy-stand core = record {
   register = record { slots = []; attaches = 0; failed = false };
   looked = 0;
   named = [];
+  out = λ token. None;
   part = λ d g. None;
   history = [];
 }

@@ -1,5 +1,5 @@
 -- That all that a shard's thread did is a course of its shard.
-use Rattle.std.specs.Prelude.{◌≡◌, ℕ, ◌<◌, Bool, List, length, map, All, slice_index_or, Option}
+use Rattle.std.specs.Prelude.{◌≡◌, ℕ, ◌<◌, Bool, List, length, map, All, slice_index_or, Option, None}
 use Rattle.r6_dev.specs.History.{Telling}
 use Rattle.r6_health.specs.declared.history.View.{View}
 use Rattle.r6_health.specs.Histories.{held}
@@ -22,6 +22,7 @@ stand_of core v looked named part history =
       register = held v.start v.seen;
       looked = looked;
       named = named;
+      out = λ token. None;
       part = part;
       history = history;
     }
