@@ -91,17 +91,6 @@ asks event = false
 abbrev pub asks_at : List Event → (number : ℕ) → Bool
 asks_at events number = unwrap_or (option_map asks (slice_get events number)) false
 
--- the numbers of the events by which slots get new devices
-abbrev pub attaches : Event → Bool
-attaches (Attach slot part) = true
-attaches event = false
-
-abbrev pub attaches_at : List Event → (number : ℕ) → Bool
-attaches_at events number = unwrap_or (option_map attaches (slice_get events number)) false
-
-abbrev pub attaches_in : List Event → List ℕ
-attaches_in events = filter (attaches_at events) (range_with_len 0 (length events))
-
 abbrev pub numbers_of : List Task → List ℕ
 numbers_of tasks = map (λ t. t.number) tasks
 

@@ -13,11 +13,11 @@ use Rattle.r6_lists.specs.declared.stage.Stage.{Stage}
 use Rattle.r6_lists.specs.declared.stage.Stage.TheVariants.{Open, Ended, Finished}
 use Rattle.r6_lists.specs.Events.{Event, has_task, Duty, Serves, Takes_up, Checks, Repairs}
 
--- the duty that a piece of work is, by what parts of devices tell
+-- the duty that a piece of work is, by what parts of devices tell, whatever generation a part comes under
 abbrev pub duty_in : {D : Type 0} → (D → Telling) → Work D → Duty
 duty_in told (Read block buffer) = Serves (op.Read block buffer)
 duty_in told (Write block buffer) = Serves (op.Write block buffer)
-duty_in told (Attach slot part) = Takes_up slot (told part)
+duty_in told (Attach slot generation part) = Takes_up slot (told part)
 duty_in told Check = Checks
 duty_in told Repair = Repairs
 
@@ -25,7 +25,7 @@ duty_in told Repair = Repairs
 abbrev pub IsAsPromised : {D : Type 0} → (promised : D → Promise) → Shape → (Sound : (shard slot : ℕ) → Type 0)
     → (shard : ℕ) → Work D → Type 0
 IsAsPromised {D = D} promised shape Sound shard work =
-    (slot : ℕ) (part : D) → work ≡ Attach slot part → Sound shard slot
+    (slot generation : ℕ) (part : D) → work ≡ Attach slot generation part → Sound shard slot
     → FailsNone (promised part) (IsRowOf (layout_of shape) shard) shape.block
 
 -- Of the three parts that each list has of the ledger one is its own, one that of who puts and one that of who takes.

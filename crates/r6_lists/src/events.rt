@@ -15,9 +15,6 @@ pub trait Events: Ledger {
 
     /// Of which slots the parts of new devices fail no command of this shard, as their devices promise.
     ghost sound: { ℕ → ℕ → Type 0 };
-
-    /// By what the locks are known, one for each event, in which it is written which generation an attach was answered.
-    ghost locks: { List ℕ };
 }
 
 impl Events for Brand {
@@ -29,6 +26,4 @@ impl Events for Brand {
     ghost events = { [] };
 
     ghost sound = { λ shard slot. ⊥ };
-
-    ghost locks = { [] };
 }

@@ -3,7 +3,6 @@
 
 mod consumer;
 mod events;
-mod generations;
 mod item;
 mod laws;
 mod list;
@@ -15,7 +14,6 @@ mod work;
 
 pub use consumer::Consumer;
 pub use events::Events;
-pub use generations::{Generations, Given, agree_all};
 pub use item::Item;
 pub use laws::event_law;
 pub use list::List;

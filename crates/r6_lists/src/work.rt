@@ -9,8 +9,13 @@ pub enum Work<D> {
     Read(u64, Buffer),
     /// Write the buffer's bytes to the block of this number.
     Write(u64, Buffer),
-    /// Take up the shard's part of the device that the slot gets, under the generation that its attach was answered.
-    Attach { slot: usize, part: D },
+    /// Take up the shard's part of the device that the slot gets, under the generation that its attach was answered,
+    /// 0 where it was refused.
+    Attach {
+        slot: usize,
+        generation: u32,
+        part: D,
+    },
     /// Check every row.
     Check,
     /// Repair every row.
