@@ -1,6 +1,6 @@
 //! Events are handed out, one after another.
 
-ghost use Rattle.std.specs.Prelude.{◌≡◌, ℕ, ◌+◌, ◌≤◌, All, length, map, slice_get, vec_capacity, Some, false};
+ghost use Rattle.std.specs.Prelude.{◌≡◌, ◌+◌, ◌≤◌, All, length, map, slice_get, vec_capacity, Some, false};
 ghost use Rattle.r6_health.specs.Passes.{IsPassOf, view_of};
 ghost use Rattle.r6_lists.specs.Events.{waits_before};
 ghost use Rattle.r6_feed.specs.Events.{event_of, events_of, IsWhole, AreWhole, IsPromised, ArePromised};

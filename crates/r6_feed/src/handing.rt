@@ -23,6 +23,8 @@ pub(crate) struct Position {
 #[derive(Drop)]
 pub(crate) struct NewDevice<D> {
     pub(crate) slot: usize,
+    /// The generation that its attach was answered, 0 where it was refused.
+    pub(crate) generation: u32,
     /// Its parts, one for each shard, from the first on.
     pub(crate) parts: Vec<D>,
 }
@@ -63,10 +65,18 @@ impl<'a, L: Events, D: BlockDevice + Drop> Shards<'a, L, D> {
         requires left { IsAt (λ p. p.lists) (λ p. p.left) L.shape L.events at.number producers.old }
         ensures left { IsAt (λ p. p.lists) (λ p. p.left) L.shape L.events (at.number + 1) producers.new }
     {
-        let NewDevice { slot, parts } = device;
+        let NewDevice {
+            slot,
+            generation,
+            parts,
+        } = device;
         let mut shard = 0;
         for part in parts {
-            let work = Work::Attach { slot, part };
+            let work = Work::Attach {
+                slot,
+                generation,
+                part,
+            };
             let item = Item::new(shard, at.number, at.waits, work);
             self.put(rt, item, &mut producers[shard]);
             shard += 1;

@@ -5,12 +5,11 @@ ghost use Rattle.std.specs.Prelude.{◌≡◌, ◌+◌, ◌<◌, length};
 use r6_dev::BlockDevice;
 use r6_health::Register;
 use r6_layout::Geometry;
-use r6_lists::{Events, Generations, Item, List, Producer, Rest};
+use r6_lists::{Events, Item, List, Producer, Rest};
 use std::sync::{Mutex, Wait};
 use std::thread;
 
-/// The shards of an array, as other threads meet them: the list of each, what it says of its rest, the register, and
-/// which generations the attaches were answered.
+/// The shards of an array, as other threads meet them: the list of each, what it says of its rest, and the register.
 #[derive(Drop)]
 pub struct Shards<'a, L: Events, D: BlockDevice> {
     /// The array's shape.
@@ -21,8 +20,6 @@ pub struct Shards<'a, L: Events, D: BlockDevice> {
     pub lists: &'a [Mutex<List<L, D>>],
     /// Where each shard is asked for its rest, from the first on.
     pub rests: &'a [Rest],
-    /// Which generation each attach was answered.
-    pub generations: Generations<'a, L>,
     ghost shape: { geometry.now ≡ L.shape },
     ghost slots: { (register.now.slots ≡ L.shape.slots) × (register.now.shards ≡ L.shape.shards) },
     ghost shards: { length lists.now ≡ L.shape.shards },

@@ -150,10 +150,12 @@ impl<L: Events> Feed<L> {
     {
         let at = self.position();
         let answer = calling::attach(rt, shards.register, &mut self.pass, slot);
-        let _ = shards
-            .generations
-            .write(rt, self.number, generation_of(answer));
-        shards.hand_parts(rt, &mut self.producers, at, NewDevice { slot, parts });
+        let device = NewDevice {
+            slot,
+            generation: generation_of(answer),
+            parts,
+        };
+        shards.hand_parts(rt, &mut self.producers, at, device);
         self.answers.push_reserved(EventAnswer {
             event: self.number,
             outcome: Outcome::Attached(slot, answer),

@@ -61,7 +61,7 @@ new-item-requires-clause-promised g c =
     (c.into_iter-part-iterator.ensures.into_iter_gives.1 ∙ c.args.device.parts.ok.0))
     c.loop-part.yielded c.loop-part.part-iterator c.loop-part.yielded_by c.next.result c.next.new.self c.in-Some.part c.in-Some.is
     c.next.ensures.steps in
-    part-promised g.D.BlockDevice.promised g.L.Events.shape g.L.Events.sound c.loop-part.shard c.args.device.slot c.in-Some.part
+    part-promised g.D.BlockDevice.promised g.L.Events.shape g.L.Events.sound c.loop-part.shard c.args.device.slot c.args.device.generation c.in-Some.part
     (λ sound. c.requires.promised c.loop-part.shard sound c.in-Some.part
     (subst (λ n. slice_get parts n ≡ Some c.in-Some.part) (sym c.loop-part.invariant.2.shard_is)
     (slice_get_read parts (length parts) (length c.loop-part.yielded) c.in-Some.part refl turn.0 turn.1)))
