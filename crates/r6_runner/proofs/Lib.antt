@@ -8,3 +8,4 @@ pub mod Taken
 pub mod Parts
 pub mod Lost
 pub mod Serving
+pub mod Going

@@ -2,6 +2,7 @@ pub mod Tasks
 pub mod Parts
 pub mod Runners
 pub mod Sound
+pub mod Going
 pub mod Splitting
 pub mod Counted
 pub mod Skipping

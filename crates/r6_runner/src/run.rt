@@ -3,7 +3,8 @@
 ghost use Rattle.std.specs.Prelude.{◌≡◌, ◌≤◌, [], length, None, true, false};
 ghost use Rattle.r6_health.specs.Passes.{IsPassOf};
 ghost use Rattle.r6_lists.specs.Events.{tasks_of};
-ghost use Rattle.r6_runner.specs.Counted.{AreClassed, AreCounted, CountsAll, HasCounted, KeepsCounted};
+ghost use Rattle.r6_runner.specs.Counted.{CountsAll, KeepsCounted};
+ghost use Rattle.r6_runner.specs.Going.{TakesNoMore};
 ghost use Rattle.r6_runner.specs.Parts.{KeepsOwn, KeepsParts};
 ghost use Rattle.r6_runner.specs.Runners.{GoesOn, GoesOnSame, IsOver, KeepsSelf, taken_by};
 ghost use Rattle.r6_runner.specs.Sound.{KeepsPromised, KeepsSound};
@@ -13,7 +14,7 @@ use crate::runner::Runner;
 use r6_core::Task;
 use r6_dev::BlockDevice;
 use r6_health::Register;
-use r6_lists::{Consumer, Events, Generations, List, Rest};
+use r6_lists::{Consumer, Events, List, Rest};
 use std::sync::{Mutex, Wait};
 use std::thread;
 
@@ -39,17 +40,9 @@ impl<D: BlockDevice + Drop> Runner<D> {
         requires { IsPassOf register.now self.old.shard.pass }
         ensures pass { IsPassOf register.now self.new.shard.pass }
 
-        // its course goes on
-        ensures course { GoesOnSame D.told self.old self.new }
-        ensures sound { KeepsSound D.told D.promised self.old self.new }
-        ensures counted { KeepsCounted self.old self.new }
-        ensures awaited { KeepsAwaited self.old self.new }
-
-        // and nothing more is taken
-        ensures parts { KeepsParts self.old self.new }
+        ensures goes { TakesNoMore D.told D.promised self.old self.new }
         ensures count { taken_by self.new ≡ taken_by self.old }
         ensures room { self.new.room ≡ self.old.room }
-        ensures place { self.new.shard.core.shard ≡ self.old.shard.core.shard }
 
         ensures over { result ≡ true → IsOver self.new }
     {
@@ -83,17 +76,9 @@ impl<D: BlockDevice + Drop> Runner<D> {
     fn rebuild(&mut self)
         ensures pass { self.new.shard.pass ≡ self.old.shard.pass }
 
-        // its course goes on
-        ensures course { GoesOnSame D.told self.old self.new }
-        ensures sound { KeepsSound D.told D.promised self.old self.new }
-        ensures counted { KeepsCounted self.old self.new }
-        ensures awaited { KeepsAwaited self.old self.new }
-
-        // and nothing more is taken
-        ensures parts { KeepsParts self.old self.new }
+        ensures goes { TakesNoMore D.told D.promised self.old self.new }
         ensures count { taken_by self.new ≡ taken_by self.old }
         ensures room { self.new.room ≡ self.old.room }
-        ensures place { self.new.shard.core.shard ≡ self.old.shard.core.shard }
     {
         let _ = self.shard.turn(Task::Rebuild);
     }
@@ -104,17 +89,9 @@ impl<D: BlockDevice + Drop> Runner<D> {
         requires { IsPassOf register.now self.old.shard.pass }
         ensures pass { IsPassOf register.now self.new.shard.pass }
 
-        // its course goes on
-        ensures course { GoesOnSame D.told self.old self.new }
-        ensures sound { KeepsSound D.told D.promised self.old self.new }
-        ensures counted { KeepsCounted self.old self.new }
-        ensures awaited { KeepsAwaited self.old self.new }
-
-        // and nothing more is taken
-        ensures parts { KeepsParts self.old self.new }
+        ensures goes { TakesNoMore D.told D.promised self.old self.new }
         ensures count { taken_by self.new ≡ taken_by self.old }
         ensures room { self.new.room ≡ self.old.room }
-        ensures place { self.new.shard.core.shard ≡ self.old.shard.core.shard }
     {
         self.round(rt, register);
         self.begin_all(rt);
@@ -128,17 +105,9 @@ impl<D: BlockDevice + Drop> Runner<D> {
         requires { IsPassOf register.now self.old.shard.pass }
         ensures pass { IsPassOf register.now self.new.shard.pass }
 
-        // its course goes on
-        ensures course { GoesOnSame D.told self.old self.new }
-        ensures sound { KeepsSound D.told D.promised self.old self.new }
-        ensures counted { KeepsCounted self.old self.new }
-        ensures awaited { KeepsAwaited self.old self.new }
-
-        // and nothing more is taken
-        ensures parts { KeepsParts self.old self.new }
+        ensures goes { TakesNoMore D.told D.promised self.old self.new }
         ensures count { taken_by self.new ≡ taken_by self.old }
         ensures room { self.new.room ≡ self.old.room }
-        ensures place { self.new.shard.core.shard ≡ self.old.shard.core.shard }
 
         ensures over { result ≡ true → IsOver self.new }
     {
@@ -158,12 +127,7 @@ impl<L: Events, D: BlockDevice + Drop> Taking<L, D> {
     }
 
     // Takes the oldest item of the list; whether there was one.
-    fn take_one<R: Wait>(
-        &mut self,
-        rt: &R,
-        list: &Mutex<List<L, D>>,
-        generations: &Generations<L>,
-    ) -> bool
+    fn take_one<R: Wait>(&mut self, rt: &R, list: &Mutex<List<L, D>>) -> bool
         requires { self.old.consumer.finished ≡ false }
 
         // its course goes on with what was taken
@@ -183,12 +147,12 @@ impl<L: Events, D: BlockDevice + Drop> Taking<L, D> {
         let Some(item) = list.lock(rt).take(&mut self.consumer) else {
             return false;
         };
-        self.runner.take_up(rt, generations, item);
+        self.runner.take_up(item);
         true
     }
 
     // Takes what stands in the list.
-    fn take_all<R: Wait>(&mut self, rt: &R, list: &Mutex<List<L, D>>, generations: &Generations<L>)
+    fn take_all<R: Wait>(&mut self, rt: &R, list: &Mutex<List<L, D>>)
         requires { self.old.consumer.finished ≡ false }
         ensures course { GoesOn D.told L.shape L.events self.old.consumer.shard self.old.consumer.numbers.items
             self.new.consumer.numbers.items self.old.runner self.new.runner }
@@ -201,14 +165,14 @@ impl<L: Events, D: BlockDevice + Drop> Taking<L, D> {
         ensures shard { self.new.consumer.shard ≡ self.old.consumer.shard }
     {
         for _ in rt.forever() {
-            if !self.take_one(rt, list, generations) {
+            if !self.take_one(rt, list) {
                 break;
             }
         }
     }
 
     // Takes what stands in the list, unless it was finished.
-    fn take_in<R: Wait>(&mut self, rt: &R, list: &Mutex<List<L, D>>, generations: &Generations<L>)
+    fn take_in<R: Wait>(&mut self, rt: &R, list: &Mutex<List<L, D>>)
         ensures course { GoesOn D.told L.shape L.events self.old.consumer.shard self.old.consumer.numbers.items
             self.new.consumer.numbers.items self.old.runner self.new.runner }
         ensures counted { KeepsCounted self.old.runner self.new.runner }
@@ -220,7 +184,7 @@ impl<L: Events, D: BlockDevice + Drop> Taking<L, D> {
         ensures shard { self.new.consumer.shard ≡ self.old.consumer.shard }
     {
         if !self.consumer.finished {
-            self.take_all(rt, list, generations);
+            self.take_all(rt, list);
         }
     }
 
@@ -247,7 +211,6 @@ impl<L: Events, D: BlockDevice + Drop> Taking<L, D> {
         register: &Register,
         list: &Mutex<List<L, D>>,
         rest: &Rest,
-        generations: &Generations<L>,
     ) -> bool
         requires { IsPassOf register.now self.old.runner.shard.pass }
         ensures pass { IsPassOf register.now self.new.runner.shard.pass }
@@ -268,7 +231,7 @@ impl<L: Events, D: BlockDevice + Drop> Taking<L, D> {
         ensures over { result ≡ true → IsOver self.new.runner × (self.new.consumer.finished ≡ true) }
     {
         let asked = rest.asked();
-        self.take_in(rt, list, generations);
+        self.take_in(rt, list);
         if !self.runner.go_round(rt, register) {
             return false;
         }
@@ -277,15 +240,13 @@ impl<L: Events, D: BlockDevice + Drop> Taking<L, D> {
     }
 
     /// Takes what the list has, as it comes, and does it, until the list was ended and all is done. Whenever nothing
-    /// is left to do of what was taken, `rest` is told so. Of each part that comes, `generations` tells under which
-    /// generation it does.
+    /// is left to do of what was taken, `rest` is told so.
     pub fn run<R: Wait>(
         &mut self,
         rt: &R,
         register: &Register,
         list: &Mutex<List<L, D>>,
         rest: &Rest,
-        generations: &Generations<L>,
     )
         requires { IsPassOf register.now self.old.runner.shard.pass }
         ensures pass { IsPassOf register.now self.new.runner.shard.pass }
@@ -293,9 +254,7 @@ impl<L: Events, D: BlockDevice + Drop> Taking<L, D> {
         // all that was taken is done
         ensures course { GoesOn D.told L.shape L.events self.old.consumer.shard self.old.consumer.numbers.items
             self.new.consumer.numbers.items self.old.runner self.new.runner }
-        ensures counted { (rows : _) → HasCounted rows self.old.runner
-            → AreCounted rows self.new.runner.shard.core self.new.runner.passed.items }
-        ensures classed { (rows : _) → HasCounted rows self.old.runner → AreClassed rows self.new.runner.passed.items }
+        ensures counted { KeepsCounted self.old.runner self.new.runner }
         ensures awaited { HasAwaited L.events self.old.runner → HasAwaited L.events self.new.runner }
         ensures own { KeepsOwn self.old.runner self.new.runner }
         ensures sound { KeepsPromised D.told D.promised L.shape L.sound self.old.consumer.shard
@@ -310,7 +269,7 @@ impl<L: Events, D: BlockDevice + Drop> Taking<L, D> {
         ensures over { IsOver self.new.runner }
     {
         for _ in rt.forever() {
-            if self.go_on(rt, register, list, rest, generations) {
+            if self.go_on(rt, register, list, rest) {
                 return;
             }
             thread::yield_now();

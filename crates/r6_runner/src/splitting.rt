@@ -16,7 +16,7 @@ impl<D: BlockDevice + Drop> Runner<D> {
         ensures pass { IsPassOf register.now self.new.shard.pass }
         ensures new { IsPassOf register.now result }
         ensures newcomer { view_of result ≡ newcomer (view_of self.old.shard.pass) }
-        ensures kept { KeepsAll D.told self.old self.new }
+        ensures kept { KeepsAll D.told D.promised self.old self.new }
     {
         self.shard.split_pass(register)
     }

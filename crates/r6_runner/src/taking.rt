@@ -12,9 +12,8 @@ use crate::due::{Due, Duty};
 use crate::runner::{Handed, Runner};
 use r6_core::Op;
 use r6_dev::BlockDevice;
-use r6_lists::{Events, Generations, Item, Work};
+use r6_lists::{Events, Item, Work};
 use r6_shard::Part;
-use std::sync::Wait;
 
 impl<D: BlockDevice + Drop> Runner<D> {
     // It is due behind what was taken before.
@@ -52,14 +51,9 @@ impl<D: BlockDevice + Drop> Runner<D> {
         });
     }
 
-    // What came by the list is due, or, the part of a new device, handed in at once, under the generation that the
-    // calling thread wrote.
-    pub(crate) fn take_up<L: Events, R: Wait>(
-        &mut self,
-        rt: &R,
-        generations: &Generations<L>,
-        item: Item<L, D>,
-    )
+    // What came by the list is due, or, the part of a new device, handed in at once, under the generation that came
+    // with it.
+    pub(crate) fn take_up<L: Events>(&mut self, item: Item<L, D>)
         requires { taken_by self.old < self.old.room }
         ensures course { (numbers : _) → GoesOn D.told L.shape L.events item.shard numbers
             (numbers ++ item.number ∷ []) self.old self.new }
@@ -80,11 +74,14 @@ impl<D: BlockDevice + Drop> Runner<D> {
             Work::Write(block, buffer) => {
                 self.put(event, waits, Duty::Serve(Op::Write(block, buffer)));
             }
-            Work::Attach { slot, part: device } => {
-                let given = generations.read(rt, event);
+            Work::Attach {
+                slot,
+                generation,
+                part: device,
+            } => {
                 let part = Part {
                     slot,
-                    generation: given.generation,
+                    generation,
                     device,
                 };
                 self.hand_in(event, part);

@@ -1,15 +1,11 @@
 use Rattle.std.proofs.Common.{◌∙◌}
-use Rattle.r6_runner.proofs.Counting.{classed-at-end, counted-at-end}
 use Rattle.r6_runner.proofs.Done.{goes-then}
 use Rattle.r6_runner.proofs.Sound.{promised-on}
 use Rattle.r6_runner.proofs.Parts.{own-on}
 use Rattle.r6_runner.proofs.run.Taking.run.Goals as goal
 
 pub returns-then-go_on-clause-counted : goal.returns-then-go_on-clause-counted
-returns-then-go_on-clause-counted g c = λ rows x.
-    let over = (c.go_on.ensures.over c.if-go_on.true).0 in
-    counted-at-end rows c.go_on.new.self.runner over.no_pass over.rests.none_out
-    (c.go_on.ensures.counted rows (c.loop.invariant.2.counted rows x))
+returns-then-go_on-clause-counted g c = λ rows x. c.go_on.ensures.counted rows (c.loop.invariant.2.counted rows x)
 
 pub loop-preserved : goal.loop-preserved
 loop-preserved g c =
@@ -66,7 +62,3 @@ returns-then-go_on-clause-finished g c = (c.go_on.ensures.over c.if-go_on.true).
 pub returns-then-go_on-clause-own : goal.returns-then-go_on-clause-own
 returns-then-go_on-clause-own g c =
     own-on c.args.self.now.runner c.loop.self.runner c.go_on.new.self.runner c.loop.invariant.2.own c.go_on.ensures.own
-
-pub returns-then-go_on-clause-classed : goal.returns-then-go_on-clause-classed
-returns-then-go_on-clause-classed g c = λ rows x.
-    classed-at-end rows c.go_on.new.self.runner (c.go_on.ensures.counted rows (c.loop.invariant.2.counted rows x))

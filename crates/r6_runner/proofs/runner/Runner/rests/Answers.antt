@@ -4,27 +4,30 @@ use Rattle.r6_runner.specs.Tasks.{count_of}
 use Rattle.r6_runner.proofs.Awaiting.{alike}
 use Rattle.r6_runner.proofs.Done.{has-gone}
 use Rattle.r6_runner.proofs.Counting.{keeps-counted}
+use Rattle.r6_runner.proofs.Going.{none-same}
 use Rattle.r6_runner.proofs.Parts.{still-room}
 use Rattle.r6_runner.proofs.runner.Runner.rests.Goals as goal
 
-pub returns-clause-course : goal.returns-clause-course
-returns-clause-course g c = λ shape events number numbers geometry snapshot before x.
+pub returns-clause-goes : goal.returns-clause-goes
+returns-clause-goes g c =
     let old = c.args.self.now in
-    has-gone g.D.BlockDevice.told shape events geometry number snapshot before numbers old.shard c.rests.new.self old.refused.items old.passing
-    old.passed.items old.handed.items old.due.items c.rests.ensures.advances.course c.rests.ensures.advances.lasts c.rests.ensures.ledger.asked x
+    let new = c.rests.new.self in
+    let on = c.rests.ensures.advances in
+    let asked = c.rests.ensures.ledger.asked in
+    record {
+      course = λ shape events number numbers geometry snapshot before x.
+          has-gone g.D.BlockDevice.told shape events geometry number snapshot before numbers old.shard new old.refused.items old.passing
+          old.passed.items old.handed.items old.due.items on.course on.lasts asked x;
+      sound = on.sound;
+      counted = keeps-counted old.rows old.shard.core new.core old.passing old.passed.items c.rests.ensures.passed on.lasts;
+      awaited = λ events x.
+          alike events old.waits old.waits old.shard.asked.items new.asked.items old.due.items old.due.items refl asked refl x;
+      parts = record { labels = on.labels_stay; room = on.room_stays; handed = refl; others = refl; here = on.here; window = on.lasts.window };
+      place = on.lasts.same.1;
+    }
 
-pub returns-clause-counted : goal.returns-clause-counted
-returns-clause-counted g c =
-    let old = c.args.self.now in
-    keeps-counted old.rows old.shard.core c.rests.new.self.core old.passing old.passed.items c.rests.ensures.passed c.rests.ensures.advances.lasts
-
-pub returns-clause-awaited : goal.returns-clause-awaited
-returns-clause-awaited g c = λ events x.
-    let old = c.args.self.now in
-    alike events old.waits old.waits old.shard.asked.items c.rests.new.self.asked.items old.due.items old.due.items refl c.rests.ensures.ledger.asked refl x
-
-pub returns-clause-sound : goal.returns-clause-sound
-returns-clause-sound g c = c.rests.ensures.advances.sound
+pub returns-then-has_more-clause-goes : goal.returns-then-has_more-clause-goes
+returns-then-has_more-clause-goes g c = none-same g.D.BlockDevice.told g.D.BlockDevice.promised c.args.self.now
 
 pub returns-clause-over : goal.returns-clause-over
 returns-clause-over g c = λ all.
@@ -57,8 +60,3 @@ invariant_of-self g c =
       parts_room = still-room old.shard.parts c.rests.new.self.parts old.room (length old.handed.items) c.rests.ensures.advances.labels_stay
           c.rests.ensures.advances.room_stays old.parts_room;
     }
-
-pub returns-clause-parts : goal.returns-clause-parts
-returns-clause-parts g c =
-    let on = c.rests.ensures.advances in
-    record { labels = on.labels_stay; room = on.room_stays; handed = refl; others = refl; here = on.here; window = on.lasts.window }

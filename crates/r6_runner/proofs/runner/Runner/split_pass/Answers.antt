@@ -1,7 +1,11 @@
-use Rattle.std.proofs.Common.{ap, length, refl}
+use Rattle.std.proofs.Common.{ap, length, refl, subst, sym}
+use Rattle.r6_core.specs.Shards.{CoreView}
 use Rattle.r6_shard.specs.Handing.{parts_tell}
 use Rattle.r6_shard.proofs.Lasting.{lasts_same}
+use Rattle.r6_runner.specs.Counted.{IsCounting}
+use Rattle.r6_runner.proofs.Awaiting.{alike}
 use Rattle.r6_runner.proofs.Done.{has-gone}
+use Rattle.r6_runner.proofs.Going.{here-still, sound-still}
 use Rattle.r6_runner.proofs.Keeping.{shard-keeps, rests-still}
 use Rattle.r6_shard.specs.Handing.{parts_labels, parts_room}
 use Rattle.r6_runner.proofs.Parts.{still-room}
@@ -13,18 +17,28 @@ returns-clause-kept g c =
     let old = c.args.self.now in
     let new = c.split_pass.new.self in
     let kept = c.split_pass.ensures.kept in
+    let same = kept.core in
     record {
       shard = kept;
-      course = λ shape events number numbers geometry snapshot before x.
-          has-gone told shape events geometry number snapshot before numbers old.shard new old.refused.items old.passing old.passed.items
-          old.handed.items old.due.items (shard-keeps (parts_tell told) old.shard new kept) (lasts_same old.shard.core new.core kept.core) kept.asked x;
-      due = refl;
-      refused = refl;
-      passing = refl;
-      passed = refl;
-      handed = refl;
-      others = refl;
-      waits = refl;
+      goes = record {
+        course = λ shape events number numbers geometry snapshot before x.
+            has-gone told shape events geometry number snapshot before numbers old.shard new old.refused.items old.passing old.passed.items
+            old.handed.items old.due.items (shard-keeps (parts_tell told) old.shard new kept) (lasts_same old.shard.core new.core same) kept.asked x;
+        sound = sound-still told g.D.BlockDevice.promised old.shard new kept;
+        counted = λ rows x.
+            (x.0, x.1, x.2, subst (λ (y : CoreView). IsCounting rows x.1 x.2 y old.passing old.passed.items) (sym same) x.3);
+        awaited = λ events x.
+            alike events old.waits old.waits old.shard.asked.items new.asked.items old.due.items old.due.items refl kept.asked refl x;
+        parts = record {
+          labels = ap parts_labels kept.parts;
+          room = ap parts_room kept.parts;
+          handed = refl;
+          others = refl;
+          here = here-still old.shard new kept;
+          window = ap (λ (y : CoreView). y.window) same;
+        };
+        place = ap (λ (y : CoreView). y.shard) same;
+      };
       over = λ x. record { none_due = x.none_due; no_pass = x.no_pass; rests = rests-still old.shard new kept x.rests };
     }
 

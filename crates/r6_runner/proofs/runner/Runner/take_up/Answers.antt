@@ -1,5 +1,5 @@
-use Rattle.std.proofs.Common.{◌≡◌, ◌∙◌, [], ◌∷◌, ◌++◌, Option, Some, is_some, refl, ap, sym, subst}
-use Rattle.r6_lists.specs.Events.{Serves, Checks, Repairs, Task, task}
+use Rattle.std.proofs.Common.{◌≡◌, ◌∙◌, [], ◌∷◌, ◌++◌, Some, refl, ap, sym, subst}
+use Rattle.r6_lists.specs.Events.{Serves, Checks, Repairs, task}
 use Rattle.r6_lists.specs.Lists.{duty_in}
 use Rattle.r6_world.specs.declared.values.Op.TheVariants as op
 use Rattle.r6_shard.specs.declared.parts.Part.{Part}
@@ -7,7 +7,6 @@ use Rattle.r6_runner.proofs.Awaiting.{put-awaited, handed-awaited}
 use Rattle.r6_runner.proofs.Done.{put-on, handed-on}
 use Rattle.r6_runner.proofs.Keeping.{still-sound}
 use Rattle.r6_runner.proofs.Taken.{put-counted, put-self, put-count, handed-counted, handed-self, handed-count}
-use Rattle.r6_lists.proofs.Tasks.{has_event}
 use Rattle.r6_runner.proofs.Parts.{handed-own, put-own}
 use Rattle.r6_runner.proofs.runner.Runner.take_up.Goals as goal
 
@@ -30,7 +29,7 @@ returns-in-Write-clause-course g c = λ numbers geometry snapshot before x.
 pub returns-in-Attach-clause-course : goal.returns-in-Attach-clause-course
 returns-in-Attach-clause-course g c = λ numbers geometry snapshot before x.
     let i = c.args.item in
-    let part : Part _ = record { slot = c.in-Attach.slot; generation = c.read-given.result.generation; device = c.in-Attach.device } in
+    let part : Part _ = record { slot = c.in-Attach.slot; generation = c.in-Attach.generation; device = c.in-Attach.device } in
     handed-on g.D.BlockDevice.told g.L.Events.shape g.L.Events.events geometry i.shard snapshot before numbers c.args.self.now c.hand_in.new.self
     i.number i.waits part
     (i.of_event ∙ ap (λ w. Some (task i.number i.waits (duty_in g.D.BlockDevice.told w))) c.in-Attach.is)
@@ -74,7 +73,7 @@ returns-in-Repair-clause-awaited g c =
 
 pub returns-in-Attach-clause-awaited : goal.returns-in-Attach-clause-awaited
 returns-in-Attach-clause-awaited g c =
-    let part : Part _ = record { slot = c.in-Attach.slot; generation = c.read-given.result.generation; device = c.in-Attach.device } in
+    let part : Part _ = record { slot = c.in-Attach.slot; generation = c.in-Attach.generation; device = c.in-Attach.device } in
     handed-awaited g.D.BlockDevice.told g.L.Events.events c.args.self.now c.hand_in.new.self c.args.item.number part c.hand_in.ensures.handed
 
 pub returns-in-Read-clause-sound : goal.returns-in-Read-clause-sound
@@ -102,7 +101,7 @@ returns-in-Attach-clause-sound g c = λ slot promise x.
     let i = c.args.item in
     let own = c.in-Attach.slot in
     c.hand_in.ensures.sound g.L.Events.shape i.shard slot
-    (λ same. i.promised own c.in-Attach.device c.in-Attach.is (subst (g.L.Events.sound i.shard) (sym same) promise)) x
+    (λ same. i.promised own c.in-Attach.generation c.in-Attach.device c.in-Attach.is (subst (g.L.Events.sound i.shard) (sym same) promise)) x
 
 pub returns-in-Read-clause-counted : goal.returns-in-Read-clause-counted
 returns-in-Read-clause-counted g c = put-counted c.args.self.now c.put.new.self _ c.put.ensures
@@ -142,22 +141,18 @@ returns-in-Repair-clause-count g c = put-count c.args.self.now c.put-in-Repair.n
 
 pub returns-in-Attach-clause-counted : goal.returns-in-Attach-clause-counted
 returns-in-Attach-clause-counted g c =
-    let part : Part _ = record { slot = c.in-Attach.slot; generation = c.read-given.result.generation; device = c.in-Attach.device } in
+    let part : Part _ = record { slot = c.in-Attach.slot; generation = c.in-Attach.generation; device = c.in-Attach.device } in
     handed-counted g.D.BlockDevice.told c.args.self.now c.hand_in.new.self c.args.item.number part c.hand_in.ensures.handed
 
 pub returns-in-Attach-clause-same : goal.returns-in-Attach-clause-same
 returns-in-Attach-clause-same g c =
-    let part : Part _ = record { slot = c.in-Attach.slot; generation = c.read-given.result.generation; device = c.in-Attach.device } in
+    let part : Part _ = record { slot = c.in-Attach.slot; generation = c.in-Attach.generation; device = c.in-Attach.device } in
     handed-self g.D.BlockDevice.told c.args.self.now c.hand_in.new.self c.args.item.number part c.hand_in.ensures.handed
 
 pub returns-in-Attach-clause-count : goal.returns-in-Attach-clause-count
 returns-in-Attach-clause-count g c =
-    let part : Part _ = record { slot = c.in-Attach.slot; generation = c.read-given.result.generation; device = c.in-Attach.device } in
+    let part : Part _ = record { slot = c.in-Attach.slot; generation = c.in-Attach.generation; device = c.in-Attach.device } in
     handed-count g.D.BlockDevice.told c.args.self.now c.hand_in.new.self c.args.item.number part c.hand_in.ensures.handed
-
-pub read-given-requires : goal.read-given-requires
-read-given-requires g c =
-    has_event g.L.Events.shape c.args.item.shard g.L.Events.events c.args.item.number (ap (λ (t : Option Task). is_some t) c.args.item.of_event)
 
 pub returns-in-Read-clause-own : goal.returns-in-Read-clause-own
 returns-in-Read-clause-own g c = put-own c.args.self.now c.put.new.self _ c.put.ensures
@@ -173,5 +168,5 @@ returns-in-Repair-clause-own g c = put-own c.args.self.now c.put-in-Repair.new.s
 
 pub returns-in-Attach-clause-own : goal.returns-in-Attach-clause-own
 returns-in-Attach-clause-own g c =
-    let part : Part _ = record { slot = c.in-Attach.slot; generation = c.read-given.result.generation; device = c.in-Attach.device } in
+    let part : Part _ = record { slot = c.in-Attach.slot; generation = c.in-Attach.generation; device = c.in-Attach.device } in
     handed-own g.D.BlockDevice.told c.args.self.now c.hand_in.new.self c.args.item.number part c.hand_in.ensures.handed
