@@ -1,18 +1,15 @@
 -- What each event was answered, from how often something was said of it.
-use Rattle.std.proofs.Common.{◌≡◌, ◌≢◌, ◌∙◌, ℕ, ◌+◌, ◌<◌, ◌≤◌, ◌==◌, ◌&&◌, ◌⊎◌, nat_lt, List, [], ◌∷◌, ◌++◌, length, map, replicate, zero, suc, cond, Bool, true, false, inl, inr, refl, sym, ap, subst, arith, Option, Some, None, option_map, option_and_then, slice_get, slice_index_or, sum_by, if◌then◌else◌}
-use Rattle.std.specs.List.{cons_option, range_with_len, filter_map, flat_map}
-use Rattle.std.proofs.lemmas.Bool.{cases_eq, cases_lt, eq-eqb, ne_eqb}
+use Rattle.std.proofs.Common.{◌≡◌, ◌≢◌, ◌∙◌, ℕ, ◌+◌, ◌<◌, ◌≤◌, ◌==◌, ◌&&◌, ◌⊎◌, nat_lt, List, [], ◌∷◌, ◌++◌, length, map, replicate, zero, suc, Bool, true, false, inl, inr, refl, sym, ap, subst, arith, Option, Some, None, option_map, option_and_then, slice_get, slice_index_or, if◌then◌else◌}
+use Rattle.std.specs.List.{cons_option, range_with_len, filter_map}
+use Rattle.std.proofs.lemmas.Bool.{cases_lt, eq-eqb, ne_eqb}
 use Rattle.std.proofs.lemmas.Bool.Decides.{nat_tests}
 use Rattle.std.proofs.lemmas.List.{get_or-replicate, length-replicate}
 use Rattle.std.proofs.lemmas.List.Sums.{sum_by-append}
 use Rattle.std.proofs.lemmas.Option.{none-some, slice_get-map, slice_get_within}
 use Rattle.r6_core.specs.declared.refusal.Refusal.{Refusal}
-use Rattle.r6_layout.specs.Shape.{Shape, IsShape, blocks}
-use Rattle.r6_layout.specs.Layout.{shard_of, row_of}
-use Rattle.r6_world.specs.PlainArray as world
+use Rattle.r6_layout.specs.Shape.{Shape, blocks}
 use Rattle.r6_world.specs.declared.values.Op.{Op}
-use Rattle.r6_world.specs.Values.{op_of}
-use Rattle.r6_lists.specs.Events.{Event, Request, Attach, Fail, Check, Repair, Wait, Duty, Serves, Takes_up, Checks, Repairs, is_block_of, duty_of}
+use Rattle.r6_lists.specs.Events.{Event, Request, Serves, is_block_of, duty_of}
 use Rattle.r6_shard.specs.declared.ledger.Entry.{Entry}
 use Rattle.r6_feed.specs.declared.answer.EventAnswer.{EventAnswer}
 use Rattle.r6_feed.specs.Feeds.{asked_before, asked_in, asking_at, asking_of}
@@ -25,9 +22,9 @@ use Rattle.r6_engine.specs.declared.reply.EventReply.TheVariants.{Waited, Replie
 use Rattle.r6_engine.specs.Answered.{block_in, shard_with}
 use Rattle.r6_engine.specs.Found.{found_in}
 use Rattle.r6_engine.specs.Replies.{Said, known_with, replies_of, reply_of_answer, said_by, said_by_all, said_of_answer, said_of_entry, said_of_pass, said_of_refusal, with_all}
-use Rattle.r6_engine.proofs.EachShard.{here_at, mapped_at, some_same}
+use Rattle.r6_engine.proofs.EachShard.{mapped_at, some_same}
 use Rattle.r6_engine.proofs.Known.{found-time, is_of, is-of, known, known-at, known-both, none-known, one-known, some-times, times}
-use Rattle.r6_engine.proofs.Numbered.{duty_at, weigh}
+use Rattle.r6_engine.proofs.Numbered.{weigh}
 use Rattle.r6_engine.proofs.Saying.{as_many}
 use Rattle.r6_engine.proofs.Says.{HasSaid, answer-number, SaysOften, asks_of, no-shard, one-shard, passes_of, says-often, thread-says}
 
@@ -59,7 +56,7 @@ picked-cons n pick None rest later is k a stands = later k a stands
 picked-cons n pick (Some b) rest later is zero a stands = (n, is ∙ stands)
 picked-cons n pick (Some b) rest later is (suc k) a stands = later k a stands
 
-picked-at : {A : Type 0} (pick : ℕ → Option A) (numbers : List ℕ) (k : ℕ) (a : A) → slice_get (filter_map pick numbers) k ≡ Some a
+pub picked-at : {A : Type 0} (pick : ℕ → Option A) (numbers : List ℕ) (k : ℕ) (a : A) → slice_get (filter_map pick numbers) k ≡ Some a
     → (n : ℕ) × (pick n ≡ Some a)
 picked-at pick [] k a stands = absurd (none-some a stands)
 picked-at pick (n ∷ numbers) k a stands =
@@ -67,7 +64,7 @@ picked-at pick (n ∷ numbers) k a stands =
 
 -- ---- a table of what was said
 
-stands-mapped : {X : Type 0} (g : X → Said) (xs : List X) (k : ℕ) (x : X) → slice_get xs k ≡ Some x → slice_get (map g xs) k ≡ Some (g x)
+pub stands-mapped : {X : Type 0} (g : X → Said) (xs : List X) (k : ℕ) (x : X) → slice_get xs k ≡ Some x → slice_get (map g xs) k ≡ Some (g x)
 stands-mapped g xs k x at = slice_get-map g xs k ∙ ap (option_map g) at
 
 both-none : (event : ℕ) (xs ys : List Said) → times event xs ≡ 0 → times event ys ≡ 0 → times event (xs ++ ys) ≡ 0
@@ -109,7 +106,7 @@ module _ {D : Type 0} (shape : Shape) (events : List Event) (runners : List (Run
       as_many (with_all (replicate (length events) Waited) (said_by_all runners)) (map said_of_answer answers)
       ∙ as_many (replicate (length events) Waited) (said_by_all runners) ∙ length-replicate (length events) Waited
 
-  at-event : (event : ℕ) → event < length events
+  pub at-event : (event : ℕ) → event < length events
       → at event ≡ known event (known event Waited (said_by_all runners)) (map said_of_answer answers)
   at-event event below =
       let fresh = replicate (length events) Waited in
@@ -126,7 +123,7 @@ module _ {D : Type 0} (shape : Shape) (events : List Event) (runners : List (Run
       subst (λ o. SaysOften event o r) (ap (option_and_then (duty_of shape k)) is)
       (says-often shape k events r event (slice_get_within events event ev is) (said k r there))
 
-  thread : (event : ℕ) (ev : Event) → slice_get events event ≡ Some ev
+  pub thread : (event : ℕ) (ev : Event) → slice_get events event ≡ Some ev
       → times event (map said_of_answer answers)
       ≡ weigh (λ (q : ℕ × feeds.Asking). is_of event q.0) (option_map (λ asking. (event, asking)) (asking_of shape ev))
   thread event ev is =

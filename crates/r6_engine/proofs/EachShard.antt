@@ -1,31 +1,34 @@
 -- What the threads of an array's shards did, shard by shard (this project's own).
-use Rattle.std.proofs.Common.{◌≡◌, ◌∙◌, ℕ, List, [], ◌∷◌, ◌++◌, ◌<◌, length, map, All, Bool, Some, None, zero, suc, ap, sym, subst, slice_get, slice_index_or, refl}
+use Rattle.std.proofs.Common.{◌≡◌, ◌∙◌, ℕ, List, [], ◌∷◌, ◌++◌, ◌+◌, ◌<◌, ◌≤◌, length, map, All, Bool, inl, inr, Some, None, zero, suc, ap, arith, drop, set, sym, subst, take, slice_get, slice_index_or, refl}
 use Rattle.std.specs.List.{AllByRecursion, AllZip}
-use Rattle.std.proofs.lemmas.List.{append-nil, length-map}
+use Rattle.std.proofs.lemmas.Bool.{cases_lt}
+use Rattle.std.proofs.lemmas.List.{append-nil, drop_all, take_all, get_or-set_other, get_or-set_same}
 use Rattle.std.proofs.lemmas.Option.{none-some, get_or_from_slice_get, slice_get_within, slice_get-get_or}
 use Rattle.r6_dev.specs.History.{Telling}
+use Rattle.r6_dev.specs.Promises.{Promise}
 use Rattle.r6_layout.specs.Shape.{Shape, IsShape}
 use Rattle.r6_world.specs.Registers.{Snapshot}
 use Rattle.r6_lists.specs.Events.{Event, tasks_of, numbers_of}
 use Rattle.r6_shard.specs.declared.parts.Parts.{Parts}
 use Rattle.r6_shard.specs.Handing.{parts_labels, parts_tell}
-use Rattle.r6_shard.specs.Here.{BeginsHere, HasUsed}
+use Rattle.r6_shard.specs.Here.{BeginsHere}
 use Rattle.r6_runner.specs.Parts.{HasAll}
 use Rattle.r6_runner.specs.declared.runner.Runner.{Runner}
 use Rattle.r6_runner.specs.Tasks.{passes_in, passed_of, under_way, due_passes, requests_in, due_requests}
-use Rattle.r6_runner.specs.Counted.{AreClassed, AreCounted, rows_of_shard}
+use Rattle.r6_runner.specs.Counted.{HasCounted, rows_of_shard}
+use Rattle.r6_runner.specs.Going.{TakesNoMore}
 use Rattle.r6_runner.specs.Runners.{HasDone, IsOver}
 use Rattle.r6_runner.specs.Waits.{AreBehindWaits, HasAwaited}
 use Rattle.r6_health.specs.declared.history.View.{View}
-use Rattle.r6_health.specs.Views.{Looks}
 use Rattle.r6_feed.specs.declared.answer.EventAnswer.{EventAnswer}
-use Rattle.r6_feed.specs.Feeds.{Sees}
 use Rattle.r6_engine.specs.Passes.{TakesBack}
 use Rattle.r6_engine.specs.Serves.{AreNumbered, Begins, HasAnswered, HasRun, HasServed, HaveServed}
 use Rattle.r6_engine.specs.Refusals.{HadReasons, WereRight}
 use Rattle.r6_engine.proofs.InOrder.{are-behind}
 use Rattle.r6_engine.proofs.Reasons.{IsOf, each-of, reasons}
 use Rattle.r6_engine.proofs.Rows.{count-each-row}
+use Rattle.r6_runner.proofs.Counting.{classed-at-end, counted-at-end}
+use Rattle.r6_runner.proofs.Parts.{own-same}
 
 pub some_same : {A : Type 0} (x y : A) → Some x ≡ Some y → x ≡ y
 some_same x y is = ap (λ o. elim o [ None ↦ x | Some z ↦ z ]) is
@@ -48,6 +51,9 @@ partner_at R (x ∷ xs) (z ∷ ys) (suc k) y all at = partner_at R xs ys k y all
 
 pub here_at : {A : Type 0} (xs : List A) (k : ℕ) (d : A) → k < length xs → slice_get xs k ≡ Some (slice_index_or xs k d)
 here_at xs k d below = slice_get-get_or xs k d below
+
+pub all_at : {A : Type 0} (P : A → Type 0) (xs : List A) (k : ℕ) (x : A) → All P xs → slice_get xs k ≡ Some x → P x
+all_at P xs k x all at = subst P (get_or_from_slice_get xs k x x at) (all k x (slice_get_within xs k x at))
 
 pub number_at : {T : Type 0} (number : T → ℕ) (threads : List T) (k : ℕ) (t : T) → slice_get threads k ≡ Some t
     → AreNumbered number threads → number t ≡ k
@@ -90,20 +96,21 @@ is_right told shape events start own shard r done over awaited =
       behind = are-behind shape shard events r.shard.core done.begun r.shard.asked.items done.ops r.refused.items begun done.served awaited.behind;
     }
 
--- each shard's thread began with its parts, ran, and took all of the shard's tasks
-each_served : {D T : Type 0} (told : D → Telling) (shape : Shape) (events : List Event) (start : Snapshot)
+-- each shard's thread began with its parts, ran, and took all of the shard's tasks; then the shard went on to its end
+each_served : {D T : Type 0} (told : D → Telling) (promised : D → Promise) (shape : Shape) (events : List Event) (start : Snapshot) (window : ℕ)
     (number : T → ℕ) (numbers : T → List ℕ) (finished : T → Bool) (runner : T → Runner D)
     (parts : List (Parts D)) (olds news : List T) (runners : List (Runner D))
-    → AllZip (λ p t. Begins told shape events start p (number t) (numbers t) (runner t)) parts olds
+    → AllZip (λ p t. Begins told shape events start window p (number t) (numbers t) (runner t)) parts olds
     → AllZip (λ old new. HasRun told shape events (number old) (numbers old) (runner old) (number new) (numbers new) (finished new) (runner new)) olds news
     → AreNumbered number olds
     → ((shard : ℕ) (t : T) → slice_get news shard ≡ Some t → numbers t ≡ numbers_of (tasks_of shape shard events))
-    → runners ≡ map runner news → (shard : ℕ) (own : Parts D) (r : Runner D) → slice_get parts shard ≡ Some own
-    → slice_get runners shard ≡ Some r → HasServed told shape events start own shard r
-each_served {D = D} told shape events start number numbers finished runner parts olds news runners begins run numbered taken is shard own r part_at runner_at =
-    let new = mapped_at runner news shard r (ap (λ all. slice_get all shard) (sym is) ∙ runner_at) in
+    → AllZip (λ t r. TakesNoMore told promised (runner t) r) news runners → All IsOver runners
+    → (shard : ℕ) (own : Parts D) (r : Runner D) → slice_get parts shard ≡ Some own
+    → slice_get runners shard ≡ Some r → HasServed told shape events start window own shard r
+each_served {D = D} told promised shape events start window number numbers finished runner parts olds news runners begins run numbered taken goes overs shard own r part_at runner_at =
+    let new = partner_at (λ t y. TakesNoMore told promised (runner t) y) news runners shard r goes runner_at in
     let old = partner_at (λ a b. HasRun told shape events (number a) (numbers a) (runner a) (number b) (numbers b) (finished b) (runner b)) olds news shard new.0 run new.1 in
-    let first = partner_at (λ p t. Begins told shape events start p (number t) (numbers t) (runner t)) parts olds shard old.0 begins old.1 in
+    let first = partner_at (λ p t. Begins told shape events start window p (number t) (numbers t) (runner t)) parts olds shard old.0 begins old.1 in
     let part : first.0 ≡ own = some_same first.0 own (sym first.1 ∙ part_at) in
     let there : number old.0 ≡ shard = number_at number olds shard old.0 old.1 numbered in
     let begun = subst (λ p. HasDone told shape events shape (number old.0) start (parts_tell told p) [] (runner old.0)) part first.2.done in
@@ -111,23 +118,24 @@ each_served {D = D} told shape events start number numbers finished runner parts
     (subst (λ ns. HasDone told shape events shape (number old.0) start (parts_tell told own) ns (runner old.0)) (sym first.2.none_taken) begun) in
     let here = subst (λ n. HasDone told shape events shape n start (parts_tell told own) (numbers new.0) (runner new.0)) there ran in
     let all = subst (λ ns. HasDone told shape events shape shard start (parts_tell told own) ns (runner new.0)) (taken shard new.0 new.1) here in
-    let counted = subst (λ n. AreCounted (rows_of_shard shape n) (runner new.0).shard.core (runner new.0).passed.items) there
-    (old.2.counted (rows_of_shard shape (number old.0)) first.2.counted) in
-    let classed = subst (λ n. AreClassed (rows_of_shard shape n) (runner new.0).passed.items) there
-    (old.2.classed (rows_of_shard shape (number old.0)) first.2.counted) in
-    let right = subst (IsRight shape events) new.2
-    (is_right told shape events start own shard (runner new.0) all old.2.over (old.2.awaited first.2.awaited)) in
+    let done = new.2.course shape events shard (numbers_of (tasks_of shape shard events)) shape start (parts_tell told own) all in
+    let over = all_at IsOver runners shard r overs runner_at in
+    let counted = subst (λ n. HasCounted (rows_of_shard shape n) r) there
+    (new.2.counted (rows_of_shard shape (number old.0)) (old.2.counted (rows_of_shard shape (number old.0)) first.2.counted)) in
+    let right = is_right told shape events start own shard r done over (new.2.awaited events (old.2.awaited first.2.awaited)) in
     record {
-      done = subst (HasDone told shape events shape shard start (parts_tell told own) (numbers_of (tasks_of shape shard events))) new.2 all;
+      done = done;
       refused = right.refused;
       right = right.right;
       behind = right.behind;
-      all = subst (HasAll (parts_labels own)) new.2 (subst (λ p. HasAll (parts_labels p) (runner new.0)) part (old.2.own.all (parts_labels first.0) first.2.all));
-      here = λ slot begun'. subst (λ (r : Runner D). HasUsed (parts_labels r.shard.parts) slot r.shard.core) new.2
+      all = subst (λ p. HasAll (parts_labels p) r) part
+          ((own-same (runner new.0) r new.2.parts).all (parts_labels first.0) (old.2.own.all (parts_labels first.0) first.2.all));
+      here = λ slot begun'. new.2.parts.here slot
           (old.2.own.here slot (first.2.here slot (subst (λ p. BeginsHere (parts_labels p) shape.slots start slot) (sym part) begun')));
-      counted = subst (λ (r : Runner _). AreCounted (rows_of_shard shape shard) r.shard.core r.passed.items) new.2 counted;
-      classed = subst (λ (r : Runner _). AreClassed (rows_of_shard shape shard) r.passed.items) new.2 classed;
-      over = subst IsOver new.2 old.2.over;
+      window_is = new.2.parts.window ∙ old.2.own.window ∙ first.2.window_is;
+      counted = counted-at-end (rows_of_shard shape shard) r over.no_pass over.rests.none_out counted;
+      classed = classed-at-end (rows_of_shard shape shard) r counted;
+      over = over;
     }
 
 pub zip-length : {A B : Type 0} (R : A → B → Type 0) (xs : List A) (ys : List B) → AllZip R xs ys → length xs ≡ length ys
@@ -136,25 +144,19 @@ zip-length R [] (y ∷ ys) all = absurd all
 zip-length R (x ∷ xs) [] all = absurd all
 zip-length R (x ∷ xs) (y ∷ ys) all = ap suc (zip-length R xs ys all.1)
 
--- and its parts
-part_there : {D T : Type 0} (told : D → Telling) (shape : Shape) (events : List Event) (start : Snapshot)
-    (number : T → ℕ) (numbers : T → List ℕ) (finished : T → Bool) (runner : T → Runner D)
-    (parts : List (Parts D)) (olds news : List T) (runners : List (Runner D))
-    → AllZip (λ p t. Begins told shape events start p (number t) (numbers t) (runner t)) parts olds
-    → AllZip (λ old new. HasRun told shape events (number old) (numbers old) (runner old) (number new) (numbers new) (finished new) (runner new)) olds news
-    → runners ≡ map runner news → (shard : ℕ) (r : Runner D) → slice_get runners shard ≡ Some r
-    → (own : Parts D) × (slice_get parts shard ≡ Some own)
-part_there told shape events start number numbers finished runner parts olds news runners begins run is shard r at =
-    let new = mapped_at runner news shard r (ap (λ all. slice_get all shard) (sym is) ∙ at) in
-    let old = partner_at (λ a b. HasRun told shape events (number a) (numbers a) (runner a) (number b) (numbers b) (finished b) (runner b)) olds news shard new.0 run new.1 in
-    let first = partner_at (λ p t. Begins told shape events start p (number t) (numbers t) (runner t)) parts olds shard old.0 begins old.1 in
-    (first.0, first.1)
+-- what stands where its partner's partner does
+pub partner_of : {A B C : Type 0} (R : A → B → Type 0) (S : B → C → Type 0) (xs : List A) (ys : List B) (zs : List C) (k : ℕ) (z : C)
+    → AllZip R xs ys → AllZip S ys zs → slice_get zs k ≡ Some z → (x : A) × (y : B) × (slice_get xs k ≡ Some x) × R x y × S y z
+partner_of R S xs ys zs k z one other at =
+    let mid = partner_at S ys zs k z other at in
+    let first = partner_at R xs ys k mid.0 one mid.1 in (first.0, mid.0, first.1, first.2, mid.2)
 
 -- its passes are its checks and repairs, all of them
-pub all_passed : {D : Type 0} (told : D → Telling) (shape : Shape) (events : List Event) (start : Snapshot) (own : Parts D) (shard : ℕ) (r : Runner D)
-    → HasServed told shape events start own shard r
+pub all_passed : {D : Type 0} (told : D → Telling) (shape : Shape) (events : List Event) (start : Snapshot) (window : ℕ) (own : Parts D) (shard : ℕ)
+    (r : Runner D)
+    → HasServed told shape events start window own shard r
     → passes_in shape shard events (numbers_of (tasks_of shape shard events)) ≡ map passed_of r.passed.items
-all_passed told shape events start own shard r served =
+all_passed told shape events start window own shard r served =
     let passed = map passed_of r.passed.items in
     served.done.passes
     ∙ ap (λ o. passed ++ (under_way o ++ due_passes r.due.items)) served.over.no_pass
@@ -162,25 +164,28 @@ all_passed told shape events start own shard r served =
     ∙ append-nil passed
 
 -- and each shard has its thread
-pub have_served : {D T : Type 0} (told : D → Telling) (shape : Shape) (events : List Event) (start : Snapshot)
+pub have_served : {D T : Type 0} (told : D → Telling) (promised : D → Promise) (shape : Shape) (events : List Event) (start : Snapshot) (window : ℕ)
     (number : T → ℕ) (numbers : T → List ℕ) (finished : T → Bool) (runner : T → Runner D)
     (parts : List (Parts D)) (olds news : List T) (runners : List (Runner D))
     → IsShape shape → length parts ≡ shape.shards
-    → AllZip (λ p t. Begins told shape events start p (number t) (numbers t) (runner t)) parts olds
+    → AllZip (λ p t. Begins told shape events start window p (number t) (numbers t) (runner t)) parts olds
     → AllZip (λ old new. HasRun told shape events (number old) (numbers old) (runner old) (number new) (numbers new) (finished new) (runner new)) olds news
     → AreNumbered number olds
     → ((shard : ℕ) (t : T) → slice_get news shard ≡ Some t → numbers t ≡ numbers_of (tasks_of shape shard events))
-    → runners ≡ map runner news → HaveServed told shape events start parts runners
-have_served told shape events start number numbers finished runner parts olds news runners lawful whole begins run numbered taken is =
-    let as_many = ap length is ∙ length-map news runner ∙ sym (zip-length _ olds news run) ∙ sym (zip-length _ parts olds begins) in
-    let each = each_served told shape events start number numbers finished runner parts olds news runners begins run numbered taken is in
+    → AllZip (λ t r. TakesNoMore told promised (runner t) r) news runners → All IsOver runners
+    → HaveServed told shape events start window parts runners
+have_served told promised shape events start window number numbers finished runner parts olds news runners lawful whole begins run numbered taken goes over =
+    let as_many = sym (zip-length _ news runners goes) ∙ sym (zip-length _ olds news run) ∙ sym (zip-length _ parts olds begins) in
+    let each = each_served told promised shape events start window number numbers finished runner parts olds news runners begins run numbered taken
+    goes over in
     record {
       as_many = as_many;
       each = each;
       counted = count-each-row shape events runners lawful (as_many ∙ whole) (λ shard r at.
-          let own = part_there told shape events start number numbers finished runner parts olds news runners begins run is shard r at in
+          let mid = partner_of _ _ olds news runners shard r run goes at in
+          let own = partner_at _ parts olds shard mid.0 begins mid.2 in
           let served = each shard own.0 r own.1 at in
-          (all_passed told shape events start own.0 shard r served, served.counted));
+          (all_passed told shape events start window own.0 shard r served, served.counted));
     }
 
 -- what ties each to its partner, or less
@@ -192,11 +197,99 @@ less R S follows (x ∷ xs) [] all = all
 less R S follows (x ∷ xs) (y ∷ ys) all = (follows x y all.0, less R S follows xs ys all.1)
 
 -- what was answered stands once other passes are taken back and the register is read again
-pub read_again : (shape : Shape) (events : List Event) (first : View) (answers : List EventAnswer) (last heard now : View)
-    → HasAnswered shape events first answers last → TakesBack last heard → Looks heard now → HasAnswered shape events first answers now
-read_again shape events first answers last heard now answered back looks = record {
+pub read_again : (shape : Shape) (events : List Event) (first : View) (answers : List EventAnswer) (last now : View)
+    → HasAnswered shape events first answers last → TakesBack last now → HasAnswered shape events first answers now
+read_again shape events first answers last now answered back = record {
   asked = answered.asked;
-  own = looks.grows.mine ∙ back.mine ∙ answered.own;
+  own = back.mine ∙ answered.own;
   settled = answered.settled;
-  told = Sees answers heard now (back.told first answers answered.told) looks.grows;
+  told = back.told first answers answered.told;
 }
+
+-- ---- lists whose items change one after another
+
+pub zip-same : {A : Type 0} (R : A → A → Type 0) → ((x : A) → R x x) → (xs : List A) → AllZip R xs xs
+zip-same R same [] = tt
+zip-same R same (x ∷ xs) = (same x, zip-same R same xs)
+
+pub zip-then : {A B C : Type 0} (R : A → B → Type 0) (S : B → C → Type 0) (T : A → C → Type 0)
+    → ((x : A) (y : B) (z : C) → R x y → S y z → T x z) → (xs : List A) (ys : List B) (zs : List C)
+    → AllZip R xs ys → AllZip S ys zs → AllZip T xs zs
+zip-then R S T on [] [] [] one other = tt
+zip-then R S T on [] [] (z ∷ zs) one other = absurd other
+zip-then R S T on [] (y ∷ ys) zs one other = absurd one
+zip-then R S T on (x ∷ xs) [] zs one other = absurd one
+zip-then R S T on (x ∷ xs) (y ∷ ys) [] one other = absurd other
+zip-then R S T on (x ∷ xs) (y ∷ ys) (z ∷ zs) one other = (on x y z one.0 other.0, zip-then R S T on xs ys zs one.1 other.1)
+
+pub zip-set : {A B : Type 0} (R : A → B → Type 0) (xs : List A) (ys : List B) (k : ℕ) (y new : B) → AllZip R xs ys
+    → k < length ys → y ≡ slice_index_or ys k y → ((x : A) → R x y → R x new) → AllZip R xs (set ys k new)
+zip-set R [] [] k y new all below is on = absurd (omega (arith, below))
+zip-set R [] (z ∷ ys) k y new all below is on = absurd all
+zip-set R (x ∷ xs) [] k y new all below is on = absurd all
+zip-set R (x ∷ xs) (z ∷ ys) zero y new all below is on = (on x (subst (R x) (sym is) all.0), all.1)
+zip-set R (x ∷ xs) (z ∷ ys) (suc k) y new all below is on =
+    (all.0, zip-set R xs ys k y new all.1 (omega (arith, below)) is on)
+
+-- of all items up to one
+abbrev pub AllBelow : {A : Type 0} → (k : ℕ) → (A → Type 0) → List A → Type 0
+AllBelow {A = A} k P xs = (i : ℕ) (d : A) → i < k → P (slice_index_or xs i d)
+
+pub all-map : {A B : Type 0} (f : A → B) (P : B → Type 0) (xs : List A) → All (λ x. P (f x)) xs → All P (map f xs)
+all-map f P [] all k d below = absurd (omega (arith, below))
+all-map f P (x ∷ xs) all zero d below = all 0 x (omega arith)
+all-map f P (x ∷ xs) all (suc k) d below =
+    all-map f P xs (λ i y low. all (suc i) y (omega (arith, low))) k d (omega (arith, below))
+
+pub zip-map : {A B C : Type 0} (f : A → B) (R : B → C → Type 0) (xs : List A) (ys : List C) → AllZip R (map f xs) ys
+    → AllZip (λ x y. R (f x) y) xs ys
+zip-map f R [] [] all = tt
+zip-map f R [] (y ∷ ys) all = absurd all
+zip-map f R (x ∷ xs) [] all = absurd all
+zip-map f R (x ∷ xs) (y ∷ ys) all = (all.0, zip-map f R xs ys all.1)
+
+pub map-all : {A B : Type 0} (f : A → B) (P : B → Type 0) (xs : List A) → All P (map f xs) → All (λ x. P (f x)) xs
+map-all f P [] all k d below = absurd (omega (arith, below))
+map-all f P (x ∷ xs) all zero d below = all 0 (f d) (omega arith)
+map-all f P (x ∷ xs) all (suc k) d below =
+    map-all f P xs (λ i y low. all (suc i) y (omega (arith, low))) k d (omega (arith, below))
+
+-- one item more
+pub below-more : {A : Type 0} (P : A → Type 0) (xs : List A) (k : ℕ) (x : A) → k < length xs → x ≡ slice_index_or xs k x → AllBelow k P xs
+    → P x → AllBelow (k + 1) P xs
+below-more P xs k x within is before here i d less = elim (cases_lt i k) [
+  | inl low ↦ before i d low
+  | inr not ↦
+      let same : k ≡ i = omega (arith, less, not) in
+      subst P
+      (some_same x (slice_index_or xs i d)
+      (ap Some is ∙ sym (here_at xs k x within) ∙ ap (slice_get xs) same ∙ here_at xs i d (omega (arith, within, same)))) here
+]
+
+pub below-next : {A : Type 0} (P : A → Type 0) (xs : List A) (k : ℕ) (e : A) → k < length xs → AllBelow k P xs
+    → P (slice_index_or xs k e) → AllBelow (k + 1) P xs
+below-next P xs k e within before here =
+    below-more P xs k (slice_index_or xs k e) within (some_same (slice_index_or xs k e) (slice_index_or xs k (slice_index_or xs k e))
+    (sym (here_at xs k e within) ∙ here_at xs k (slice_index_or xs k e) within)) before here
+
+-- one item more, which has changed
+pub below-set : {A : Type 0} (P : A → Type 0) (xs : List A) (k : ℕ) (new : A) → k < length xs → AllBelow k P xs → P new
+    → AllBelow (k + 1) P (set xs k new)
+below-set P xs k new within before here i d less = elim (cases_lt i k) [
+  | inl low ↦ subst P (sym (get_or-set_other xs k i new d (λ same. omega (arith, same, low)))) (before i d low)
+  | inr not ↦
+      let same : k ≡ i = omega (arith, less, not) in
+      subst (λ (n : ℕ). P (slice_index_or (set xs k new) n d)) same (subst P (sym (get_or-set_same xs k new d within)) here)
+]
+
+pub all-below : {A : Type 0} (P : A → Type 0) (xs : List A) (k : ℕ) → length xs ≤ k → AllBelow k P xs → All P xs
+all-below P xs k most all i d below = all i d (omega (arith, most, below))
+
+-- a vector whose items were changed as a slice has the items of the slice
+pub all-again : {A : Type 0} (new old : List A) (len : ℕ) → length new ≡ length old → len ≡ length old
+    → take len (new ++ drop (length new) old) ≡ new
+all-again new old len same long =
+    ap (λ (n : ℕ). take len (new ++ drop n old)) same
+    ∙ ap (λ rest. take len (new ++ rest)) (drop_all (length old) old (omega arith))
+    ∙ ap (take len) (append-nil new)
+    ∙ take_all len new (omega (arith, same, long))

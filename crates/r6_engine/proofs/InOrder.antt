@@ -1,7 +1,8 @@
 -- Requests are accepted in the order of their events.
-use Rattle.std.proofs.Common.{◌≡◌, ℕ, ◌+◌, ◌<◌, ◌≤◌, zero, suc, List, [], ◌∷◌, map, length, take, filter, cond, Bool, true, false, inl, inr, refl, sym, ap, subst, ◌∙◌, arith, Option, Some, None, slice_get, option_and_then, sum_by}
+use Rattle.std.proofs.Common.{◌≡◌, ℕ, ◌+◌, ◌<◌, ◌≤◌, zero, suc, All, List, [], ◌∷◌, map, length, take, filter, cond, Bool, true, false, inl, inr, refl, sym, ap, subst, ◌∙◌, arith, Option, Some, None, slice_get, option_and_then, sum_by}
 use Rattle.std.specs.List.{cons_option, range_with_len}
 use Rattle.std.proofs.lemmas.Bool.{cases_lt}
+use Rattle.std.proofs.lemmas.Option.{none-some}
 use Rattle.std.proofs.lemmas.List.Sums.{sum_by-cons}
 use Rattle.r6_layout.specs.Shape.{Shape}
 use Rattle.r6_world.specs.PlainArray as world
@@ -13,9 +14,11 @@ use Rattle.r6_lists.proofs.Rising.{RisesFrom, rises_from, range_rises}
 use Rattle.r6_lists.proofs.Tasks.{numbers_of_tasks}
 use Rattle.r6_shard.specs.declared.ledger.Asked.{Asked}
 use Rattle.r6_shard.specs.declared.ledger.Asking.{Asking}
+use Rattle.r6_shard.specs.Refusing.{IsEnding}
 use Rattle.r6_shard.specs.Runs.{AreServed}
 use Rattle.r6_runner.specs.Tasks.{request_in, requests_in}
 use Rattle.r6_runner.specs.Waits.{AreBehindWaits, IsBehindWait}
+use Rattle.r6_engine.specs.ServedShards.{AreInOrder}
 
 -- ---- numbers that rise
 
@@ -97,6 +100,40 @@ in-order low (c ∷ asked) (suc i) zero a b rises at at' less =
     let more = above-at (c.event + 1) asked i a rises.1 at in omega (arith, same, more)
 in-order low (c ∷ asked) (suc i) (suc j) a b rises at at' less = in-order (c.event + 1) asked i j a b rises.1 at at' (omega (arith, less))
 
+strict-order : (low : ℕ) (asked : List Asked) (i j : ℕ) (a b : Asked) → RisesFrom low (map (λ a. a.event) asked) → slice_get asked i ≡ Some a
+    → slice_get asked j ≡ Some b → i < j → a.event < b.event
+strict-order low [] i j a b rises at at' less = cc
+strict-order low (c ∷ asked) zero zero a b rises at at' less = absurd (omega (arith, less))
+strict-order low (c ∷ asked) zero (suc j) a b rises at at' less =
+    let same : c.event ≡ a.event = ap (λ (y : Asked). y.event) (Some-inj c a at) in
+    let more = above-at (c.event + 1) asked j b rises.1 at' in omega (arith, same, more)
+strict-order low (c ∷ asked) (suc i) zero a b rises at at' less = absurd (omega (arith, less))
+strict-order low (c ∷ asked) (suc i) (suc j) a b rises at at' less =
+    strict-order (c.event + 1) asked i j a b rises.1 at at' (omega (arith, less))
+
+-- a shard's requests are of rising events
+rises-begun : (shape : Shape) (shard : ℕ) (events : List Event) (begun : List Asking)
+    → begun ≡ requests_in shape shard events (numbers_of (tasks_of shape shard events)) → RisesFrom 0 (events-of begun)
+rises-begun shape shard events begun is =
+    let n = length events in
+    let rising : RisesFrom 0 (numbers_of (tasks_of shape shard events)) =
+    subst (RisesFrom 0) (sym (numbers_of_tasks shape shard events))
+    (rises-filter (has_task shape shard events) 0 (range_with_len 0 n) (rises_from 0 (range_with_len 0 n) (range_rises 0 n) (λ _. omega arith))) in
+    subst (λ y. RisesFrom 0 (events-of y)) (sym is) (rise-requests shape shard events 0 (numbers_of (tasks_of shape shard events)) rising)
+
+-- and so are those that it accepted
+rises-all : (shape : Shape) (shard : ℕ) (events : List Event) (core : CoreView) (begun : List Asking) (asked : List Asked) (ops : List world.Op)
+    (refused : List (ℕ × Refusal)) → begun ≡ requests_in shape shard events (numbers_of (tasks_of shape shard events))
+    → AreServed core begun asked ops refused → RisesFrom 0 (map (λ (y : Asked). y.event) asked)
+rises-all shape shard events core begun asked ops refused is served =
+    rise-served 0 core begun asked ops refused served (rises-begun shape shard events begun is)
+
+pub are-in-order : (shape : Shape) (shard : ℕ) (events : List Event) (core : CoreView) (begun : List Asking) (asked : List Asked)
+    (ops : List world.Op) (refused : List (ℕ × Refusal)) → begun ≡ requests_in shape shard events (numbers_of (tasks_of shape shard events))
+    → AreServed core begun asked ops refused → AreInOrder asked
+are-in-order shape shard events core begun asked ops refused is served earlier later a b less at at' =
+    strict-order 0 asked earlier later a b (rises-all shape shard events core begun asked ops refused is served) at at' less
+
 -- ---- waits
 
 sum-grows : {X : Type 0} (f : X → ℕ) (xs : List X) (m n : ℕ) → m ≤ n → sum_by f (take m xs) ≤ sum_by f (take n xs)
@@ -119,13 +156,7 @@ pub are-behind : (shape : Shape) (shard : ℕ) (events : List Event) (core : Cor
     → AreServed core begun asked ops refused → ((earlier later : ℕ) → earlier < later → IsBehindWait events asked earlier later)
     → AreBehindWaits events asked
 are-behind shape shard events core begun asked ops refused is served apart earlier later a b at at' less =
-    let n = length events in
-    let rising : RisesFrom 0 (numbers_of (tasks_of shape shard events)) =
-    subst (RisesFrom 0) (sym (numbers_of_tasks shape shard events))
-    (rises-filter (has_task shape shard events) 0 (range_with_len 0 n) (rises_from 0 (range_with_len 0 n) (range_rises 0 n) (λ _. omega arith))) in
-    let rises : RisesFrom 0 (map (λ (y : Asked). y.event) asked) =
-    rise-served 0 core begun asked ops refused served
-    (subst (λ y. RisesFrom 0 (events-of y)) (sym is) (rise-requests shape shard events 0 (numbers_of (tasks_of shape shard events)) rising)) in
+    let rises = rises-all shape shard events core begun asked ops refused is served in
     elim (cases_lt earlier later) [
       | inl before ↦ apart earlier later before a b at at' less
       | inr not ↦
@@ -133,3 +164,67 @@ are-behind shape shard events core begun asked ops refused is served apart earli
           let most = waits-grow events b.event a.event order in
           absurd (omega (arith, less, most))
     ]
+
+-- ---- once the service has ended
+
+-- what is refused is of events from here on
+refused-rest : (low event : ℕ) (refusal : Refusal) (rest : List (ℕ × Refusal)) → low ≤ event
+    → ((k : ℕ) (r : ℕ × Refusal) → slice_get rest k ≡ Some r → event + 1 ≤ r.0) → (k : ℕ) (r : ℕ × Refusal)
+    → slice_get ((event, refusal) ∷ rest) k ≡ Some r → low ≤ r.0
+refused-rest low event refusal rest least later zero r at =
+    let same : event ≡ r.0 = ap (λ (y : ℕ × Refusal). y.0) (Some-inj (event, refusal) r at) in omega (arith, same, least)
+refused-rest low event refusal rest least later (suc k) r at = let more = later k r at in omega (arith, more, least)
+
+refused-from : (low : ℕ) (core : CoreView) (begun : List Asking) (asked : List Asked) (ops : List world.Op) (refused : List (ℕ × Refusal))
+    → AreServed core begun asked ops refused → RisesFrom low (events-of begun) → (k : ℕ) (r : ℕ × Refusal) → slice_get refused k ≡ Some r
+    → low ≤ r.0
+refused-from low core [] asked ops refused x rises k r at =
+    absurd (none-some r (ap (λ (rs : List (ℕ × Refusal)). slice_get rs k) (sym x.2) ∙ at))
+refused-from low core (g ∷ begun) asked ops refused x rises k r at = elim x [
+  | inl p ↦
+      let more = refused-from (g.event + 1) core begun p.1 p.2 refused p.7 rises.1 k r at in
+      let least = rises.0 in omega (arith, more, least)
+  | inr p ↦
+      refused-rest low g.event p.0 p.1 rises.0 (λ j y. refused-from (g.event + 1) core begun asked ops p.1 p.5 rises.1 j y) k r
+      (ap (λ (rs : List (ℕ × Refusal)). slice_get rs k) (sym p.2) ∙ at)
+]
+
+abbrev AllBefore : (event : ℕ) → List Asked → Type 0
+AllBefore event asked = All (λ (a : Asked). a.event < event) asked
+
+none-asked : (event : ℕ) (asked : List Asked) → asked ≡ [] → AllBefore event asked
+none-asked event asked is = subst (AllBefore event) (sym is) (λ k d below. absurd (omega (arith, below)))
+
+one-before : (event : ℕ) (a : Asked) (asked : List Asked) → a.event < event → AllBefore event asked → AllBefore event (a ∷ asked)
+one-before event a asked here rest zero d below = here
+one-before event a asked here rest (suc k) d below = rest k d (omega (arith, below))
+
+ended-rest : (event : ℕ) (refusal : Refusal) (rest : List (ℕ × Refusal)) (asked : List Asked) → (IsEnding refusal → asked ≡ [])
+    → ((k : ℕ) (r : ℕ × Refusal) → slice_get rest k ≡ Some r → IsEnding r.1 → AllBefore r.0 asked)
+    → (k : ℕ) (r : ℕ × Refusal) → slice_get ((event, refusal) ∷ rest) k ≡ Some r → IsEnding r.1 → AllBefore r.0 asked
+ended-rest event refusal rest asked none later zero r at ending =
+    none-asked r.0 asked (none (subst (λ (y : ℕ × Refusal). IsEnding y.1) (sym (Some-inj (event, refusal) r at)) ending))
+ended-rest event refusal rest asked none later (suc k) r at ending = later k r at ending
+
+-- each request that was accepted stands before one that was refused since the service had ended
+ended-at : (low : ℕ) (core : CoreView) (begun : List Asking) (asked : List Asked) (ops : List world.Op) (refused : List (ℕ × Refusal))
+    → AreServed core begun asked ops refused → RisesFrom low (events-of begun) → (k : ℕ) (r : ℕ × Refusal) → slice_get refused k ≡ Some r
+    → IsEnding r.1 → AllBefore r.0 asked
+ended-at low core [] asked ops refused x rises k r at ending = none-asked r.0 asked x.0
+ended-at low core (g ∷ begun) asked ops refused x rises k r at ending = elim x [
+  | inl p ↦
+      let from = refused-from (g.event + 1) core begun p.1 p.2 refused p.7 rises.1 k r at in
+      let same : p.0.event ≡ g.event = p.4 in
+      subst (AllBefore r.0) (sym p.3)
+      (one-before r.0 p.0 p.1 (omega (arith, from, same)) (ended-at (g.event + 1) core begun p.1 p.2 refused p.7 rises.1 k r at ending))
+  | inr p ↦
+      ended-rest g.event p.0 p.1 asked p.4 (λ j y. ended-at (g.event + 1) core begun asked ops p.1 p.5 rises.1 j y) k r
+      (ap (λ (rs : List (ℕ × Refusal)). slice_get rs k) (sym p.2) ∙ at) ending
+]
+
+pub ended-before : (shape : Shape) (shard : ℕ) (events : List Event) (core : CoreView) (begun : List Asking) (asked : List Asked)
+    (ops : List world.Op) (refused : List (ℕ × Refusal)) → begun ≡ requests_in shape shard events (numbers_of (tasks_of shape shard events))
+    → AreServed core begun asked ops refused → (k : ℕ) (r : ℕ × Refusal) → slice_get refused k ≡ Some r → IsEnding r.1
+    → All (λ (a : Asked). a.event < r.0) asked
+ended-before shape shard events core begun asked ops refused is served =
+    ended-at 0 core begun asked ops refused served (rises-begun shape shard events begun is)

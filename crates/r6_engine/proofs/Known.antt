@@ -1,5 +1,5 @@
 -- What is known of one event, once all was said.
-use Rattle.std.proofs.Common.{◌≡◌, ◌≢◌, ◌∙◌, ℕ, ◌+◌, ◌<◌, ◌≤◌, ◌==◌, List, [], ◌∷◌, ◌++◌, length, map, zero, suc, cond, Bool, true, false, inl, inr, refl, sym, ap, subst, arith, Option, Some, None, slice_get, slice_index_or, slice_set, get_or-set_same, get_or-set_other, sum_by}
+use Rattle.std.proofs.Common.{◌≡◌, ◌∙◌, ℕ, ◌+◌, ◌<◌, ◌≤◌, ◌==◌, List, [], ◌∷◌, ◌++◌, length, map, zero, suc, cond, inl, inr, refl, sym, ap, subst, arith, Some, slice_get, slice_index_or, slice_set, get_or-set_same, get_or-set_other, sum_by}
 use Rattle.std.proofs.lemmas.Bool.{cases_eq, eq-eqb, ne_eqb}
 use Rattle.std.proofs.lemmas.List.{length-set}
 use Rattle.std.proofs.lemmas.List.Sums.{sum_by-cons}

@@ -1,5 +1,4 @@
 mod EachShard
-mod Kept
 mod Numbers
 mod Passes
 mod Rows
@@ -15,3 +14,9 @@ mod Replied
 mod Told
 mod InSync
 mod Popped
+mod Stands
+mod Explains
+mod ServedShard
+mod Unskipped
+mod ServedArray
+mod Alike

@@ -19,11 +19,11 @@ use Rattle.r6_feed.specs.declared.event.Event.TheVariants.{Request, Wait, Fail, 
 use Rattle.r6_feed.specs.Events.{IsPromised, ArePromised}
 use Rattle.r6_runner.specs.declared.runner.Runner.{Runner}
 use Rattle.r6_runner.specs.Sound.{KeepsPromised}
-use Rattle.r6_runner.specs.Splitting.{KeepsAll}
+use Rattle.r6_runner.specs.Going.{TakesNoMore}
 use Rattle.r6_engine.specs.Named.{AttachFailsNone, AttachesFailNone, declares, LeaveSoundAlone, BeginsSound}
 use Rattle.r6_engine.specs.Passes.{CallAsTheyMay}
 use Rattle.r6_engine.specs.Serves.{AreNumbered}
-use Rattle.r6_engine.proofs.EachShard.{partner_at, number_at, some_same}
+use Rattle.r6_engine.proofs.EachShard.{number_at, partner_at, partner_of, some_same}
 
 one-promised : {D : Type 0} (promised : D → Promise) (shape : Shape) (Sound : ℕ → ℕ → Type 0) (event : Event D)
     → ((shard slot : ℕ) → Sound shard slot → AttachFailsNone promised shape shard slot event) → IsPromised promised shape Sound event
@@ -57,20 +57,19 @@ pub leave_sound_alone : {D T : Type 0} (told : D → Telling) (promised : D → 
     (events : List (Event D)) (number : T → ℕ) (runner : T → Runner D) (parts : List (Parts D)) (olds news : List T) (runners : List (Runner D))
     → AllZip (λ p t. BeginsSound told promised shape start p (number t) (runner t)) parts olds
     → AllZip (λ a b. KeepsPromised told promised shape Sound (number a) (runner a) (runner b)) olds news
-    → AreNumbered number olds → AllZip (λ t r. KeepsAll told (runner t) r) news runners → CallAsTheyMay runners
+    → AreNumbered number olds → AllZip (λ t r. TakesNoMore told promised (runner t) r) news runners → CallAsTheyMay runners
     → ((shard slot : ℕ) → AttachesFailNone promised shape shard slot events → Sound shard slot)
     → LeaveSoundAlone promised shape start parts events runners
-leave_sound_alone {D = D} told promised shape Sound start events number runner parts olds news runners begins run numbered kept calls sound shard slot own r part_at runner_at starts attaches =
-    let new = partner_at (λ t y. KeepsAll told (runner t) y) news runners shard r kept runner_at in
-    let old = partner_at (λ a b. KeepsPromised told promised shape Sound (number a) (runner a) (runner b)) olds news shard new.0 run new.1 in
-    let first = partner_at (λ p t. BeginsSound told promised shape start p (number t) (runner t)) parts olds shard old.0 begins old.1 in
+leave_sound_alone {D = D} told promised shape Sound start events number runner parts olds news runners begins run numbered goes calls sound shard slot own r part_at runner_at starts attaches =
+    let mid = partner_of _ _ olds news runners shard r run goes runner_at in
+    let first = partner_at (λ p t. BeginsSound told promised shape start p (number t) (runner t)) parts olds shard mid.0 begins mid.2 in
     let part : first.0 ≡ own = some_same first.0 own (sym first.1 ∙ part_at) in
-    let there : number old.0 ≡ shard = number_at number olds shard old.0 old.1 numbered in
+    let there : number mid.0 ≡ shard = number_at number olds shard mid.0 mid.2 numbered in
     let begun = first.2 slot
-    (subst (λ (y : Parts D). StartsSound promised shape (number old.0) start slot y.parts.items) (sym part)
+    (subst (λ (y : Parts D). StartsSound promised shape (number mid.0) start slot y.parts.items) (sym part)
     (subst (λ n. StartsSound promised shape n start slot own.parts.items) (sym there) starts)) in
-    let ran = old.2 slot (subst (λ n. Sound n slot) (sym there) (sound shard slot attaches)) begun in
-    let unnamed : slice_index_or r.shard.named slot false ≡ false = ap (λ y. slice_index_or y slot false) new.2.shard.named ∙ ran.unnamed in (
-      unnamed,
-      none-declared shard r.shard.named slot (view_of r.shard.pass).mine unnamed (calls shard r runner_at),
+    let ran = mid.3 slot (subst (λ n. Sound n slot) (sym there) (sound shard slot attaches)) begun in
+    let ended = mid.4.sound shape (number mid.0) slot ran in (
+      ended.unnamed,
+      none-declared shard r.shard.named slot (view_of r.shard.pass).mine ended.unnamed (calls shard r runner_at),
     )

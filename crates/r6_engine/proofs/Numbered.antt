@@ -1,7 +1,6 @@
 -- How many of the things that are picked of the events are of one event.
-use Rattle.std.proofs.Common.{◌≡◌, ◌≢◌, ◌∙◌, ℕ, ◌+◌, ◌<◌, ◌≤◌, ◌==◌, List, [], ◌∷◌, length, map, zero, suc, cond, Bool, true, false, inl, inr, refl, sym, ap, subst, arith, Option, Some, None, option_map, option_and_then, slice_get, sum_by}
+use Rattle.std.proofs.Common.{◌≡◌, ◌≢◌, ◌∙◌, ℕ, ◌+◌, ◌<◌, List, [], ◌∷◌, length, refl, sym, ap, arith, Option, Some, None, option_map, option_and_then, slice_get, sum_by}
 use Rattle.std.specs.List.{range_with_len, filter_map, cons_option}
-use Rattle.std.proofs.lemmas.Bool.{cases_eq}
 use Rattle.std.proofs.lemmas.List.Sums.{sum_by-cons}
 use Rattle.r6_layout.specs.Shape.{Shape}
 use Rattle.r6_lists.specs.Events.{Event, Duty, Task, task, task_at, tasks_of, numbers_of, duty_of, waits_before}

@@ -1,11 +1,11 @@
 -- Each event has its reply.
-use Rattle.std.proofs.Common.{◌≡◌, ◌≢◌, ◌∙◌, ℕ, ◌+◌, ◌-◌, ◌<◌, ◌≤◌, ◌==◌, ◌^◌, ◌⊎◌, min, nat_lt, List, [], ◌∷◌, All, count_by, length, map, zero, suc, cond, Bool, true, false, inl, inr, refl, sym, ap, subst, arith, Option, Some, None, slice_get, slice_index_or, sum_by, if◌then◌else◌}
+use Rattle.std.proofs.Common.{◌≡◌, ◌≢◌, ◌∙◌, ℕ, ◌+◌, ◌-◌, ◌<◌, ◌≤◌, ◌==◌, ◌^◌, ◌⊎◌, nat_lt, List, [], ◌∷◌, All, count_by, length, map, zero, suc, cond, true, false, inl, inr, refl, sym, ap, subst, arith, Some, None, slice_get, sum_by, if◌then◌else◌}
 use Rattle.std.specs.List.{AllZip}
 use Rattle.std.proofs.Math.Nat.{min-eq_left}
-use Rattle.std.proofs.lemmas.Bool.{cases_eq, cases_lt, eq-eqb, ne_eqb}
+use Rattle.std.proofs.lemmas.Bool.{cases_eq, cases_lt}
 use Rattle.std.proofs.lemmas.Bool.Decides.{nat_tests}
 use Rattle.std.proofs.lemmas.List.Sums.{sum_by-cons}
-use Rattle.std.proofs.lemmas.Option.{none-some, slice_get_within, get_or_from_slice_get}
+use Rattle.std.proofs.lemmas.Option.{none-some, get_or_from_slice_get}
 use Rattle.r6_layout.specs.Shape.{Shape, IsShape, blocks}
 use Rattle.r6_layout.specs.Layout.{first_row, row_of}
 use Rattle.r6_layout.proofs.Places.{row_of-lt}
@@ -34,12 +34,12 @@ use Rattle.r6_engine.specs.declared.reply.EventReply.{EventReply}
 use Rattle.r6_engine.specs.declared.reply.EventReply.TheVariants.{Waited, Counted}
 use Rattle.r6_engine.specs.declared.reply.EventReply.TheVariants as reply
 use Rattle.r6_engine.specs.Answered.{AreReplies, IsReason, IsReplyTo, Says, block_in, entries_for, shard_with}
-use Rattle.r6_engine.specs.Found.{classed_of, found_by, found_in, rows_of, sum_of}
+use Rattle.r6_engine.specs.Found.{found_by, found_in, rows_of, sum_of}
 use Rattle.r6_engine.specs.Ledgers.{IsLedgerOf}
 use Rattle.r6_engine.specs.Refusals as refusals
 use Rattle.r6_engine.specs.Refusals.{HadReason, HadReasons, WasRight, WereRight}
 use Rattle.r6_engine.specs.Replies.{known_with, ledger_entries, ledger_entry, replies_of, reply_of_answer, said_by, said_by_all, said_of_entry}
-use Rattle.r6_engine.proofs.EachShard.{partner_at, some_same}
+use Rattle.r6_engine.proofs.EachShard.{all_at, partner_at, some_same}
 use Rattle.r6_engine.proofs.Known.{is_of, known, known-both, times, times-cons}
 use Rattle.r6_engine.proofs.Answered.{IsEntry, IsRefusal, at, counted-at, no-block, nobody-answers, often, one-pass, other-block, request-known, silent, table-long, thread-answers}
 use Rattle.r6_engine.proofs.Rows.{between}
@@ -48,7 +48,7 @@ use Rattle.r6_engine.proofs.Says.{HasSaid, asks_of, passes_of}
 -- ---- what checks and repairs found
 
 -- counts that fit add up
-fits : (one other : ℕ) → one + other < 2 ^ 64 → sum_of one other ≡ one + other
+pub fits : (one other : ℕ) → one + other < 2 ^ 64 → sum_of one other ≡ one + other
 fits one other small = min-eq_left (omega (arith, small))
 
 found-both : (one other : Found) → rows_of one + rows_of other < 2 ^ 64 → rows_of (found_by one other) ≡ rows_of one + rows_of other
@@ -72,16 +72,13 @@ there-at [] k below = absurd (omega (arith, below))
 there-at (x ∷ xs) zero below = (x, refl)
 there-at (x ∷ xs) (suc k) below = there-at xs k (omega (arith, below))
 
-other-partner : {A B : Type 0} (R : A → B → Type 0) (xs : List A) (ys : List B) (k : ℕ) (x : A) → AllZip R xs ys
+pub other-partner : {A B : Type 0} (R : A → B → Type 0) (xs : List A) (ys : List B) (k : ℕ) (x : A) → AllZip R xs ys
     → slice_get xs k ≡ Some x → (y : B) × (slice_get ys k ≡ Some y) × R x y
 other-partner R [] [] k x all at = absurd (none-some x at)
 other-partner R [] (z ∷ ys) k x all at = absurd all
 other-partner R (z ∷ xs) [] k x all at = absurd all
 other-partner R (z ∷ xs) (y ∷ ys) zero x all at = (y, refl, subst (λ w. R w y) (some_same z x at) all.0)
 other-partner R (z ∷ xs) (y ∷ ys) (suc k) x all at = other-partner R xs ys k x all.1 at
-
-all-at : {A : Type 0} (P : A → Type 0) (xs : List A) (k : ℕ) (x : A) → All P xs → slice_get xs k ≡ Some x → P x
-all-at P xs k x all at = subst P (get_or_from_slice_get xs k x x at) (all k x (slice_get_within xs k x at))
 
 entries-times : (event : ℕ) (entries : List Entry)
     → count_by (λ (e : LedgerEntry). e.event == event) (ledger_entries entries) ≡ times event (map said_of_entry entries)
@@ -134,10 +131,10 @@ is-attach (Failed other answer) slot e = cc
 is-attach (Attached other answer) slot e = (answer, refl)
 
 -- what all shards found
-record PassedOnce {D : Type 0} (shape : Shape) (event : ℕ) (r : Runner D) : Type 0 where
-  passed : Passed
-  adds : (answer : EventReply) → known event answer (said_by r) ≡ known_with answer (Counted (found_in passed))
-  whole : rows_of (found_in passed) ≡ own_rows shape r
+pub record PassedOnce {D : Type 0} (shape : Shape) (event : ℕ) (r : Runner D) : Type 0 where
+  pub passed : Passed
+  pub adds : (answer : EventReply) → known event answer (said_by r) ≡ known_with answer (Counted (found_in passed))
+  pub whole : rows_of (found_in passed) ≡ own_rows shape r
 
 all-counted : {D : Type 0} (shape : Shape) (event : ℕ) (acc : Found) (rs : List (Runner D))
     → ((k : ℕ) (r : Runner D) → slice_get rs k ≡ Some r → PassedOnce shape event r) → rows_of acc + sum_by (own_rows shape) rs < 2 ^ 64
@@ -238,7 +235,7 @@ module _ {D : Type 0} (shape : Shape) (lawful : IsShape shape) (events : List Ev
         → slice_get runners (shard_with shape (block_in o)) ≡ Some r → (answer : EventReply) → IsRefusal event r answer
         → IsReplyTo shape ledgers event (Request o) answer
     refused event o is below r there answer x =
-        let had = all-at (HadReason shape.block events r.shard.core) r.refused.items x.k x.refused (reasons (shard_with shape (block_in o)) r there) x.stands in
+        let had = all_at (HadReason shape.block events r.shard.core) r.refused.items x.k x.refused (reasons (shard_with shape (block_in o)) r there) x.stands in
         let at : slice_get events event ≡ Some (Request had.0) = ap (slice_get events) (sym x.event_is) ∙ had.1 in
         let mine = subst (λ y. refusals.IsReason shape.block r.shard.core y x.refused.1) (same-op event o had.0 is at) had.2 in
         subst (IsReplyTo shape ledgers event (Request o)) (sym x.reply) (
@@ -256,22 +253,18 @@ module _ {D : Type 0} (shape : Shape) (lawful : IsShape shape) (events : List Ev
         → slice_get runners (shard_with shape (block_in o)) ≡ Some r → (answer : EventReply) → IsEntry event r answer
         → IsReplyTo shape ledgers event (Request o) answer
     answered event o is below r there answer x =
-        let asked-it = all-at (HasAsked r.shard.asked.items) r.shard.entries.items x.k x.entry (linked (shard_with shape (block_in o)) r there) x.stands in
-        let was = all-at (WasRight shape.block events) r.shard.asked.items x.entry.id.0 asked-it.0 (right (shard_with shape (block_in o)) r there) asked-it.1 in
+        let asked-it = all_at (HasAsked r.shard.asked.items) r.shard.entries.items x.k x.entry (linked (shard_with shape (block_in o)) r there) x.stands in
+        let was = all_at (WasRight shape.block events) r.shard.asked.items x.entry.id.0 asked-it.0 (right (shard_with shape (block_in o)) r there) asked-it.1 in
         let at : slice_get events event ≡ Some (Request was.0) = ap (slice_get events) (sym x.event_is ∙ sym asked-it.2) ∙ was.1 in
         let long = subst (λ y. length (buffer_of y) ≡ shape.block) (same-op event o was.0 is at) was.2 in
         subst (IsReplyTo shape ledgers event (Request o)) (sym x.reply) (
           (below, long),
-          λ k ledger stands. elim (cases_eq k (shard_with shape (block_in o))) [
-            | inl same ↦
-                let own = own-ledger k ledger stands in
-                let is-r : own.0 ≡ r = some_same own.0 r (sym own.1 ∙ ap (slice_get runners) same ∙ there) in
-                entries-same event own.0 ledger own.2 ∙ ap (λ (y : Runner D). times event (map said_of_entry y.shard.entries.items)) is-r ∙ x.one
-                ∙ sym (ap (λ b. cond b 1 0) (eq-eqb k (shard_with shape (block_in o)) same))
-            | inr ne ↦
-                no-entries event (Request o) is k ledger stands (other-asks k o ne)
-                ∙ sym (ap (λ b. cond b 1 0) (ne_eqb k (shard_with shape (block_in o)) ne))
-          ],
+          (let own = other-partner IsLedgerOf runners ledgers (shard_with shape (block_in o)) r tied there in record {
+            ledger = own.0;
+            own = own.1;
+            one = entries-same event r own.0 own.2 ∙ x.one;
+            others = λ k other ne stands. no-entries event (Request o) is k other stands (other-asks k o ne);
+          }),
         )
 
     pub request-replies : (event : ℕ) (o : Op) → slice_get events event ≡ Some (Request o)
@@ -342,7 +335,7 @@ module _ {D : Type 0} (shape : Shape) (lawful : IsShape shape) (events : List Ev
           passed = one.passed;
           adds = one.adds;
           whole =
-              all-at (λ p. rows_of (found_in p) ≡ rows_of_shard shape k) r.passed.items one.k one.passed (classed k r there) one.stands
+              all_at (λ p. rows_of (found_in p) ≡ rows_of_shard shape k) r.passed.items one.k one.passed (classed k r there) one.stands
               ∙ ap (rows_of_shard shape) (sym (place k r there));
         })
         (let fit = lawful.rows_allowed.1 in omega (arith, all-rows, fit)) in

@@ -1,6 +1,5 @@
 -- How often the shards of an array, and the calling thread, say something of an event.
-use Rattle.std.proofs.Common.{◌≡◌, ◌≢◌, ◌∙◌, ℕ, ◌+◌, ◌<◌, ◌≤◌, ◌==◌, List, [], ◌∷◌, ◌++◌, length, map, zero, suc, cond, Bool, true, false, inl, inr, refl, sym, ap, subst, arith, Option, Some, None, option_map, option_and_then, slice_get, slice_index_or, sum_by}
-use Rattle.std.specs.List.{range_with_len, filter_map, flat_map}
+use Rattle.std.proofs.Common.{◌≡◌, ◌≢◌, ◌∙◌, ℕ, ◌+◌, ◌<◌, List, [], ◌∷◌, ◌++◌, length, map, zero, suc, inl, inr, refl, sym, ap, arith, Option, Some, None, option_map, option_and_then, slice_get, sum_by}
 use Rattle.std.proofs.lemmas.List.Sums.{sum_by-cons, sum_by-append}
 use Rattle.std.proofs.lemmas.Option.{none-some}
 use Rattle.r6_layout.specs.Shape.{Shape}
@@ -19,7 +18,6 @@ use Rattle.r6_runner.specs.declared.pass.Passed.{Passed}
 use Rattle.r6_runner.specs.declared.runner.Runner.{Runner}
 use Rattle.r6_runner.specs.Tasks.{request_in, requests_in, pass_in, passes_in, passed_of}
 use Rattle.r6_engine.specs.declared.reply.EventReply.{EventReply}
-use Rattle.r6_engine.specs.declared.reply.EventReply.TheVariants.{Waited}
 use Rattle.r6_engine.specs.Replies.{Said, said_by, said_by_all, said_of_answer, said_of_entry, said_of_pass, said_of_refusal}
 use Rattle.r6_engine.proofs.EachShard.{some_same}
 use Rattle.r6_engine.proofs.Known.{is_of, is-of, known, known-both, none-known, times, times-map}

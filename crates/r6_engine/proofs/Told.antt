@@ -58,7 +58,7 @@ has-asked asked e is =
           ∙ is.1,
     )
 
-linked : (asked : List Asked) (entries : List Entry) → AreOf asked entries → IsLinked asked entries
+pub linked : (asked : List Asked) (entries : List Entry) → AreOf asked entries → IsLinked asked entries
 linked asked entries all k d below = has-asked asked (slice_index_or entries k d) (all k d below)
 
 -- ---- how much a shard tells
@@ -73,7 +73,7 @@ served-long core (g ∷ begun) asked ops refused x = elim x [
   | inr p ↦ let rest = served-long core begun asked ops p.1 p.5 in omega (arith, rest)
 ]
 
-picked-long : {A : Type 0} (pick : ℕ → Option A) (numbers : List ℕ) → length (filter_map pick numbers) ≤ length numbers
+pub picked-long : {A : Type 0} (pick : ℕ → Option A) (numbers : List ℕ) → length (filter_map pick numbers) ≤ length numbers
 picked-long pick [] = omega arith
 picked-long {A = A} pick (n ∷ numbers) = by (pick n) (filter_map pick numbers) (picked-long pick numbers)
   where
@@ -83,9 +83,9 @@ picked-long {A = A} pick (n ∷ numbers) = by (pick n) (filter_map pick numbers)
 
 -- ---- one shard
 
-module _ {D : Type 0} (told : D → Telling) (shape : Shape) (events : List Event) (start : Snapshot) (own : Parts D) (shard : ℕ)
-    (r : Runner D) (x : HasServed told shape events start own shard r) where
-  begun-all : requests_in shape shard events (numbers_of (tasks_of shape shard events)) ≡ x.done.begun
+module _ {D : Type 0} (told : D → Telling) (shape : Shape) (events : List Event) (start : Snapshot) (window : ℕ) (own : Parts D)
+    (shard : ℕ) (r : Runner D) (x : HasServed told shape events start window own shard r) where
+  pub begun-all : requests_in shape shard events (numbers_of (tasks_of shape shard events)) ≡ x.done.begun
   begun-all =
       x.done.requests ∙ ap (λ due. x.done.begun ++ due_requests due) x.over.none_due ∙ append-nil x.done.begun
 
@@ -95,7 +95,7 @@ module _ {D : Type 0} (told : D → Telling) (shape : Shape) (events : List Even
     ops = x.done.ops;
     requests = begun-all;
     served = x.done.served;
-    passes = all_passed told shape events start own shard r x;
+    passes = all_passed told shape events start window own shard r x;
     entered = λ event. entered event r.shard.asked.items r.shard.entries.items x.over.rests.each.requests;
   }
 
@@ -114,23 +114,23 @@ module _ {D : Type 0} (told : D → Telling) (shape : Shape) (events : List Even
 
 -- ---- all shards
 
-module _ {D : Type 0} (told : D → Telling) (shape : Shape) (lawful : IsShape shape) (events : List Event) (start : Snapshot)
+module _ {D : Type 0} (told : D → Telling) (shape : Shape) (lawful : IsShape shape) (events : List Event) (start : Snapshot) (window : ℕ)
     (parts : List (Parts D)) (runners : List (Runner D)) (whole : length parts ≡ shape.shards)
-    (x : HaveServed told shape events start parts runners) where
+    (x : HaveServed told shape events start window parts runners) where
   has-parts : (shard : ℕ) (r : Runner D) → slice_get runners shard ≡ Some r → (own : Parts D) × (slice_get parts shard ≡ Some own)
   has-parts shard r there =
       let below = slice_get_within runners shard r there in
       let many = x.as_many in there-at parts shard (omega (arith, below, many))
 
   has-served : (shard : ℕ) (r : Runner D) (there : slice_get runners shard ≡ Some r)
-      → HasServed told shape events start (has-parts shard r there).0 shard r
+      → HasServed told shape events start window (has-parts shard r there).0 shard r
   has-served shard r there = let own = has-parts shard r there in x.each shard own.0 r own.1 there
 
   pub all-reply : (answers : List EventAnswer) (ledgers : List Ledger) → map asked_in answers ≡ asked_before shape events (length events)
       → AllZip IsLedgerOf runners ledgers → AreReplies shape events ledgers (replies_of (length events) runners answers)
   all-reply answers ledgers asked tied =
       are-replies shape lawful events runners answers ledgers
-      (λ shard r there. has-said told shape events start (has-parts shard r there).0 shard r (has-served shard r there))
+      (λ shard r there. has-said told shape events start window (has-parts shard r there).0 shard r (has-served shard r there))
       asked (x.as_many ∙ whole) tied
       (λ shard r there. (has-served shard r there).refused)
       (λ shard r there. (has-served shard r there).right)
@@ -142,5 +142,5 @@ module _ {D : Type 0} (told : D → Telling) (shape : Shape) (lawful : IsShape s
   all-fit most none k d below =
       let there = here_at runners k d below in
       let many = x.as_many in
-      fits-page told shape events start (has-parts k (slice_index_or runners k d) there).0 k (slice_index_or runners k d)
+      fits-page told shape events start window (has-parts k (slice_index_or runners k d) there).0 k (slice_index_or runners k d)
       (has-served k (slice_index_or runners k d) there) most (none k (omega (arith, below, many, whole)))

@@ -1,5 +1,5 @@
 -- What each event of an array was answered, and in which ledger its request stands (this project's own).
-use Rattle.std.specs.Prelude.{◌≡◌, ◌≢◌, ℕ, ◌<◌, ◌≤◌, ◌==◌, ◌⊎◌, List, count_by, length, slice_get, Some, true, if◌then◌else◌}
+use Rattle.std.specs.Prelude.{◌≡◌, ◌≢◌, ℕ, ◌<◌, ◌≤◌, ◌==◌, ◌⊎◌, List, count_by, length, slice_get, Some, true}
 use Rattle.r6_layout.specs.Shape.{Shape, blocks}
 use Rattle.r6_layout.specs.Layout.{shard_of, row_of}
 use Rattle.r6_world.specs.PlainArray.{block_of}
@@ -32,10 +32,12 @@ abbrev pub entries_for : (event : ℕ) → Ledger → ℕ
 entries_for event ledger = count_by (λ entry. entry.event == event) ledger.entries.items
 
 -- one entry, in the ledger of the block's shard, and none in another's
-abbrev pub StandsOnce : Shape → List Ledger → (event block : ℕ) → Type 0
-StandsOnce shape ledgers event block =
-    (shard : ℕ) (ledger : Ledger) → slice_get ledgers shard ≡ Some ledger
-    → entries_for event ledger ≡ (if shard == shard_with shape block then 1 else 0)
+pub record StandsOnce (shape : Shape) (ledgers : List Ledger) (event block : ℕ) : Type 0 where
+  pub ledger : Ledger
+  pub own : slice_get ledgers (shard_with shape block) ≡ Some ledger
+  pub one : entries_for event ledger ≡ 1
+  pub others : (shard : ℕ) (other : Ledger) → shard ≢ shard_with shape block → slice_get ledgers shard ≡ Some other
+      → entries_for event other ≡ 0
 
 abbrev pub StandsNowhere : List Ledger → (event : ℕ) → Type 0
 StandsNowhere ledgers event =

@@ -1,6 +1,7 @@
 -- The ledger of a shard, as its thread left it (this project's own).
 use Rattle.std.specs.Prelude.{◌≡◌, ℕ, ◌≤◌, List, [], length, vec_capacity, Option, option_map, filter_map}
 use Rattle.std.specs.List.{range_with_len}
+use Rattle.r6_world.specs.ShardStates.{Shard}
 use Rattle.r6_core.specs.Shards.{CoreView, synced, world_shard}
 use Rattle.r6_runner.specs.declared.runner.Runner.{Runner}
 use Rattle.r6_engine.specs.Replies.{ledger_entries}
@@ -8,12 +9,19 @@ use Rattle.r6_engine.specs.declared.handback.Page.{Page}
 use Rattle.r6_engine.specs.declared.ledger.Ledger.{Ledger}
 use Rattle.r6_engine.specs.declared.part.ShardParts.{ShardParts}
 
--- the slots that a core has in sync, each with the generation of its device
+-- the slots that a shard has in sync, of so many, each with the generation of its device
+abbrev pub synced_at : Shard → (slot : ℕ) → Option (ℕ × ℕ)
+synced_at s slot = option_map (λ generation. (slot, generation)) (synced (s.slot slot))
+
+abbrev pub synced_in : (slots : ℕ) → Shard → List (ℕ × ℕ)
+synced_in slots s = filter_map (synced_at s) (range_with_len 0 slots)
+
+-- those that a core has
 abbrev pub in_sync_at : CoreView → (slot : ℕ) → Option (ℕ × ℕ)
-in_sync_at core slot = option_map (λ generation. (slot, generation)) (synced ((world_shard core).slot slot))
+in_sync_at core = synced_at (world_shard core)
 
 abbrev pub in_sync_in : CoreView → List (ℕ × ℕ)
-in_sync_in core = filter_map (in_sync_at core) (range_with_len 0 core.shape.slots)
+in_sync_in core = synced_in core.shape.slots (world_shard core)
 
 -- it tells what the shard did, and how it is
 pub record IsLedgerOf {D : Type 0} (r : Runner D) (ledger : Ledger) : Type 0 where

@@ -1,5 +1,6 @@
 pub mod Counted
 pub mod Found
+pub mod Generations
 pub mod Replies
 pub mod Answered
 pub mod Ledgers
@@ -7,4 +8,8 @@ pub mod Refusals
 pub mod Serves
 pub mod Passes
 pub mod Named
+pub mod Ending
+pub mod Explained
+pub mod ServedShards
+pub mod RanArrays
 pub mod ServedArrays

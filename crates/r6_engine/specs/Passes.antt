@@ -3,6 +3,7 @@ use Rattle.std.specs.Prelude.{◌≡◌, ℕ, List, All, true, slice_get, Some}
 use Rattle.std.specs.List.{Contains}
 use Rattle.r6_health.specs.declared.history.View.{View}
 use Rattle.r6_health.specs.declared.register.Register.{Register}
+use Rattle.r6_health.specs.Histories.{StartsWith}
 use Rattle.r6_health.specs.Passes.{IsPassOf, view_of}
 use Rattle.r6_world.specs.PlainArray.{ArrayFailed}
 use Rattle.r6_world.specs.Registers.{Snapshot}
@@ -31,6 +32,11 @@ pub record IsShown {D : Type 0} (snapshot : Snapshot) (runner : Runner D) : Type
 pub record TakesBack (v w : View) : Type 0 where
   pub mine : w.mine ≡ v.mine
   pub told : (first : View) (answers : List EventAnswer) → WereTold first answers v → WereTold first answers w
+
+-- the pass that read last has seen all that the shard's has
+abbrev pub IsSeen : {D : Type 0} → (last : View) → Runner D → Type 0
+IsSeen last runner =
+    (last.start ≡ (view_of runner.shard.pass).start) × StartsWith last.seen (view_of runner.shard.pass).seen
 
 -- what the shard's pass has seen will be in each history that this one reads
 abbrev pub IsHeard : {D : Type 0} → Register → (by : View) → Runner D → Type 0

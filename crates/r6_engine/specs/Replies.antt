@@ -1,5 +1,5 @@
 -- What the events of an array were answered, from what the shards and the register said of each (this project's own).
-use Rattle.std.specs.Prelude.{ℕ, ◌≡◌, ◌==◌, List, [], ◌∷◌, ◌++◌, map, replicate, flat_map, slice_index_or, slice_set}
+use Rattle.std.specs.Prelude.{ℕ, List, [], ◌∷◌, ◌++◌, map, replicate, flat_map, slice_index_or, slice_set}
 use Rattle.r6_core.specs.declared.refusal.Refusal.{Refusal}
 use Rattle.r6_core.specs.declared.refusal.Refusal.TheVariants.{NoSuchBlock}
 use Rattle.r6_feed.specs.declared.answer.EventAnswer.{EventAnswer}

@@ -11,7 +11,7 @@ use Rattle.r6_shard.specs.Here.{BeginsHere, HasUsed}
 use Rattle.r6_feed.specs.declared.answer.EventAnswer.{EventAnswer}
 use Rattle.r6_feed.specs.Feeds.{asked_before, asked_in, calls_of, is_unsettled, WereTold}
 use Rattle.r6_runner.specs.declared.runner.Runner.{Runner}
-use Rattle.r6_runner.specs.Counted.{AreClassed, AreCounted, HasCounted, rows_of_shard}
+use Rattle.r6_runner.specs.Counted.{AreClassed, AreCounted, HasCounted, KeepsCounted, rows_of_shard}
 use Rattle.r6_runner.specs.Parts.{HasAll, KeepsOwn}
 use Rattle.r6_runner.specs.Runners.{GoesOn, HasDone, IsOver}
 use Rattle.r6_runner.specs.Waits.{AreBehindWaits, HasAwaited}
@@ -25,8 +25,7 @@ pub record HasRun {D : Type 0} (told : D → Telling) (shape : Shape) (events : 
   pub same : shard' ≡ shard
   pub place : new.shard.core.shard ≡ old.shard.core.shard
   pub course : GoesOn told shape events shard numbers numbers' old new
-  pub counted : (rows : ℕ) → HasCounted rows old → AreCounted rows new.shard.core new.passed.items
-  pub classed : (rows : ℕ) → HasCounted rows old → AreClassed rows new.passed.items
+  pub counted : KeepsCounted old new
   pub awaited : HasAwaited events old → HasAwaited events new
   pub own : KeepsOwn old new
   pub all_taken : finished ≡ true
@@ -41,7 +40,7 @@ StartsHere shape start parts runner =
 
 -- the thread of a shard begins: nothing was taken yet
 pub record Begins {D : Type 0} (told : D → Telling) (shape : Shape) (events : List Event) (start : Snapshot)
-    (parts : Parts D) (shard : ℕ) (numbers : List ℕ) (runner : Runner D) : Type 0 where
+    (window : ℕ) (parts : Parts D) (shard : ℕ) (numbers : List ℕ) (runner : Runner D) : Type 0 where
   pub none_taken : numbers ≡ []
   pub place : runner.shard.core.shard ≡ shard
   pub done : HasDone told shape events shape shard start (parts_tell told parts) [] runner
@@ -49,6 +48,7 @@ pub record Begins {D : Type 0} (told : D → Telling) (shape : Shape) (events : 
   pub awaited : HasAwaited events runner
   pub all : HasAll (parts_labels parts) runner
   pub here : StartsHere shape start parts runner
+  pub window_is : runner.shard.core.window ≡ window
 
 -- the numbers of the shards, from 0 on
 abbrev pub AreNumbered : {T : Type 0} → (T → ℕ) → List T → Type 0
@@ -57,7 +57,7 @@ AreNumbered {T} number threads = (k : ℕ) (d : T) → k < length threads → nu
 -- a shard was handed all of its part of these events, in their order, and nothing of it is left to do; it refused
 -- requests for these reasons alone, and those that it accepted were handed in behind the waits
 pub record HasServed {D : Type 0} (told : D → Telling) (shape : Shape) (events : List Event) (start : Snapshot)
-    (parts : Parts D) (shard : ℕ) (runner : Runner D) : Type 0 where
+    (window : ℕ) (parts : Parts D) (shard : ℕ) (runner : Runner D) : Type 0 where
   pub done : HasDone told shape events shape shard start (parts_tell told parts)
       (numbers_of (tasks_of shape shard events)) runner
   pub refused : HadReasons shape.block events runner.shard.core runner.refused.items
@@ -65,16 +65,17 @@ pub record HasServed {D : Type 0} (told : D → Telling) (shape : Shape) (events
   pub behind : AreBehindWaits events runner.shard.asked.items
   pub all : HasAll (parts_labels parts) runner
   pub here : StartsHere shape start parts runner
+  pub window_is : runner.shard.core.window ≡ window
   pub counted : AreCounted (rows_of_shard shape shard) runner.shard.core runner.passed.items
   pub classed : AreClassed (rows_of_shard shape shard) runner.passed.items
   pub over : IsOver runner
 
 -- each shard did so, from its parts on, and has its runner
 pub record HaveServed {D : Type 0} (told : D → Telling) (shape : Shape) (events : List Event) (start : Snapshot)
-    (parts : List (Parts D)) (runners : List (Runner D)) : Type 0 where
+    (window : ℕ) (parts : List (Parts D)) (runners : List (Runner D)) : Type 0 where
   pub as_many : length runners ≡ length parts
   pub each : (shard : ℕ) (own : Parts D) (runner : Runner D) → slice_get parts shard ≡ Some own
-      → slice_get runners shard ≡ Some runner → HasServed told shape events start own shard runner
+      → slice_get runners shard ≡ Some runner → HasServed told shape events start window own shard runner
   pub counted : CountEachRow shape events runners
 
 -- what no shard answers was answered, each event once and in the order of the events, to a thread whose pass knew this

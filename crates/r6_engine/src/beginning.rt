@@ -107,7 +107,7 @@ where
 
     // one shard for each part, in their order, as it begins
     ensures shards { IfOk result (λ begun. AllZip (λ parts taking. Begins D.told L.shape L.events
-        (starting config.lost) parts taking.consumer.shard taking.consumer.numbers.items taking.runner)
+        (starting config.lost) config.window parts taking.consumer.shard taking.consumer.numbers.items taking.runner)
         parts.items begun.takings.items
         × AllZip (λ parts taking. BeginsSound D.told D.promised L.shape (starting config.lost) parts
         taking.consumer.shard taking.runner) parts.items begun.takings.items
@@ -126,6 +126,7 @@ where
         geometry,
         window,
         lost,
+        workers: _,
     } = config;
     let Ok((register, mut first)) = Register::new(rt, alloc, &geometry, lost) else {
         return Err(Refused::NoMemory);

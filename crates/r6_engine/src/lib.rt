@@ -2,7 +2,9 @@
 #![tactic(auto)]
 
 mod beginning;
+mod ending;
 mod found;
+mod generations;
 mod handback;
 mod ledger;
 mod making;
@@ -18,6 +20,11 @@ mod worker;
 pub use found::Found;
 pub use ledger::{Ledger, LedgerEntry};
 pub use part::ShardParts;
+pub use r6_feed::Event;
+pub use r6_offline::{
+    Counts, EngineError, Rebuilt, Report, RowFault, Unwatched, Watch, WrongRow, check_all,
+    create_files, is_absent, open_parts, open_slot, rebuild_all, verify,
+};
 pub use reply::EventReply;
 pub use served::{Served, serve};
 pub use serving::Config;

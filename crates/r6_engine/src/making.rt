@@ -84,7 +84,7 @@ pub(crate) fn taking_of<L: Events, D: BlockDevice + Drop>(
     requires pass { IsFirstPass place.geometry start.now (view_of pass) }
 
     // the shard has nothing behind it, and is sound where its parts are
-    ensures begins { IfOk result (λ taking. Begins D.told L.shape L.events start.now parts taking.consumer.shard
+    ensures begins { IfOk result (λ taking. Begins D.told L.shape L.events start.now place.window parts taking.consumer.shard
         taking.consumer.numbers.items taking.runner) }
     ensures sound { IfOk result (λ taking. BeginsSound D.told D.promised L.shape start.now parts taking.consumer.shard
         taking.runner) }
@@ -144,7 +144,7 @@ pub(crate) fn takings_of<L: Events, D: BlockDevice + Drop>(
 
     // one shard for each part, in their order, as it begins
     ensures begins { IfOk result (λ takings. AllZip (λ parts taking. Begins D.told L.shape L.events
-        opening.now.start.now parts taking.consumer.shard taking.consumer.numbers.items taking.runner)
+        opening.now.start.now opening.now.window parts taking.consumer.shard taking.consumer.numbers.items taking.runner)
         parts.items takings.items) }
     ensures sound { IfOk result (λ takings. AllZip (λ parts taking. BeginsSound D.told D.promised L.shape
         opening.now.start.now parts taking.consumer.shard taking.runner) parts.items takings.items) }

@@ -1,14 +1,16 @@
 //! An array is served.
 
-ghost use Rattle.std.specs.Prelude.{◌≡◌, ◌*◌, ◌≤◌, ◌<◌, ◌^◌, [], IfOk, count_ones, length};
+ghost use Rattle.std.specs.Prelude.{◌≡◌, ◌*◌, ◌≤◌, ◌<◌, ◌^◌, [], IfErr, IfOk, count_ones, length};
 ghost use Rattle.r6_layout.specs.Shape.{IsShape};
 ghost use Rattle.r6_health.specs.Histories.{start_losing};
 ghost use Rattle.r6_health.specs.Registers.{starting};
 ghost use Rattle.r6_health.specs.Views.{first_of};
 ghost use Rattle.r6_feed.specs.Events.{events_of, AreWhole};
+ghost use Rattle.r6_offline.specs.Errors.{IsRefusal};
 ghost use Rattle.r6_engine.specs.Answered.{AreReplies};
 ghost use Rattle.r6_engine.specs.ServedArrays.{HasNoMore, HasServedArray};
 
+use crate::generations::await_agreement;
 use crate::handback::{HandedBack, hand_back, pages_of};
 use crate::ledger::Ledger;
 use crate::part::ShardParts;
@@ -19,8 +21,8 @@ use r6_dev::BlockDevice;
 use r6_feed::{Event, count_tasks};
 use r6_health::Snapshot;
 use r6_layout::Geometry;
+use r6_offline::EngineError;
 use r6_shard::Parts;
-use r6_threads::Refused;
 use std::alloc::Global;
 use std::sync::Wait;
 use std::thread::Threads;
@@ -57,19 +59,20 @@ fn most_tasks<D: BlockDevice>(geometry: &Geometry, events: &[Event<D>]) -> usize
 /// are there, before the first command.
 ///
 /// # Errors
-/// `NoMemory` or `ThreadRefused`: no device was written, and the parts and events are dropped.
+/// `NoMemory` or `ThreadRefused`, and never `Device`: no device was written, and the parts and events are dropped.
 pub fn serve<D, R>(
     rt: &R,
     alloc: Global,
     config: Config,
     parts: Vec<Parts<D>>,
     events: Vec<Event<D>>,
-) -> Result<Served<D>, Refused>
+) -> Result<Served<D>, EngineError>
 where
     D: BlockDevice + Drop + Send,
     R: Threads + Wait + Sync,
     requires limits { IsShape config.geometry }
     requires window { (1 ≤ config.window) × (config.window ≤ 8) }
+    requires workers { (1 ≤ config.workers) × (config.workers ≤ 8) }
     requires slots { config.lost < 2 ^ config.geometry.slots }
     requires few { count_ones config.lost ≤ 2 }
     requires parts { length parts.items ≡ config.geometry.shards }
@@ -81,6 +84,7 @@ where
         (first_of (start_losing config.geometry.slots config.geometry.shards config.lost)) parts.items) }
     ensures replies { IfOk result (λ served. AreReplies config.geometry (events_of D.told events.items)
         served.ledgers.items served.replies.items) }
+    ensures refused { IfErr result IsRefusal }
 {
     let geometry = config.geometry;
     let mut replies = Replies::new(alloc, events.len())?;
@@ -94,6 +98,7 @@ where
         pass: _,
         snapshot,
     } = ran;
+    await_agreement(rt, answers.as_slice(), runners.as_slice());
     let back = hand_back(runners, pages, geometry.slots(), &mut replies, back);
     replies.add_answers(answers.as_slice());
     Ok(Served {

@@ -1,18 +1,17 @@
 //! The shards of an array run, each in a thread of its own.
 
-ghost use Rattle.std.specs.Prelude.{◌≡◌, ◌↔◌, ℕ, ◌*◌, ◌≤◌, ◌<◌, ◌^◌, All, IfOk, count_ones, length, map};
+ghost use Rattle.std.specs.Prelude.{◌≡◌, ◌↔◌, ℕ, ◌*◌, ◌≤◌, ◌<◌, ◌^◌, IfOk, count_ones, length};
 ghost use Rattle.r6_layout.specs.Shape.{IsShape};
 ghost use Rattle.r6_health.specs.Passes.{view_of};
-ghost use Rattle.r6_health.specs.Histories.{start_losing, held};
+ghost use Rattle.r6_health.specs.Histories.{start_losing};
 ghost use Rattle.r6_health.specs.Registers.{starting};
 ghost use Rattle.r6_health.specs.Views.{first_of};
 ghost use Rattle.r6_feed.specs.Events.{events_of, AreWhole};
-ghost use Rattle.r6_engine.specs.Counted.{EachSkipsNone, EachSawWithPass};
-ghost use Rattle.r6_engine.specs.Named.{AttachesFailNone, LeaveSoundAlone};
-ghost use Rattle.r6_engine.specs.Passes.{CallAsTheyMay, IsShown};
-ghost use Rattle.r6_engine.specs.Serves.{HasAnswered, HaveServed};
+ghost use Rattle.r6_engine.specs.Named.{AttachesFailNone};
+ghost use Rattle.r6_engine.specs.RanArrays.{HasRunArray};
 
 use crate::beginning::{Begun, Rooms, begin};
+use crate::ending::end_all;
 use crate::running::run_all;
 use crate::settling::settle;
 use crate::worker::Station;
@@ -20,14 +19,14 @@ use r6_dev::BlockDevice;
 use r6_feed::{Event, EventAnswer, Shards};
 use r6_health::{Pass, Snapshot};
 use r6_layout::Geometry;
-use r6_lists::{Events, Generations};
+use r6_lists::Events;
 use r6_runner::Runner;
 use r6_shard::Parts;
 use r6_threads::Refused;
-use std::alloc::{AllocError, Global};
+use std::alloc::Global;
 use std::marker::Brand;
+use std::sync::Wait;
 use std::sync::ledger::Blank;
-use std::sync::{OnceLock, Wait};
 use std::thread::Threads;
 
 /// How an array is served.
@@ -36,6 +35,8 @@ pub struct Config {
     pub geometry: Geometry,
     /// Rows of a slot that may be rebuilt at one time, 1 to 8.
     pub window: usize,
+    /// Io workers of a shard, 1 to 8. Today each shard performs its commands in place, whatever it is.
+    pub workers: usize,
     /// The slots that are lost at the start, a bit each.
     pub lost: u32,
 }
@@ -60,7 +61,6 @@ fn run_as<L, D, R>(
     config: Config,
     parts: Vec<Parts<D>>,
     events: Vec<Event<D>>,
-    locks: &[OnceLock<u32>],
 ) -> Result<Ran<D>, Refused>
 where
     L: Events + Send + Sync,
@@ -69,7 +69,6 @@ where
     requires blank { (blank.name ≡ L.name) × (blank.parts ≡ L.parts) × (L.parts ≡ 3 * L.shape.shards) }
     requires shape { config.geometry ≡ L.shape }
     requires events { events_of D.told events.items ≡ L.events }
-    requires locks { (map (λ lock. lock.id) locks.now ≡ L.locks) × (length L.events ≤ length L.locks) }
 
     // the array and its parts
     requires limits { IsShape L.shape }
@@ -82,24 +81,9 @@ where
     requires sound { (shard : ℕ) (slot : ℕ)
         → L.sound shard slot ↔ AttachesFailNone D.promised L.shape shard slot events.items }
 
-    // what was done and answered
-    ensures served { IfOk result (λ served.
-        HaveServed D.told L.shape L.events (starting config.lost) parts.items served.runners.items) }
-    ensures answered { IfOk result (λ served. HasAnswered L.shape L.events
-        (first_of (start_losing L.shape.slots L.shape.shards config.lost)) served.answers.items
-        (view_of served.pass)) }
-    ensures snapshot { IfOk result (λ served.
-        served.snapshot ≡ held (view_of served.pass).start (view_of served.pass).seen) }
-    ensures calls { IfOk result (λ served. CallAsTheyMay served.runners.items) }
-
-    // slots whose parts fail none are left alone
-    ensures sound { IfOk result (λ served. LeaveSoundAlone D.promised L.shape (starting config.lost) parts.items
-        events.items served.runners.items) }
-
-    // what the shards skipped and saw
-    ensures unskipped { IfOk result (λ served. EachSkipsNone served.runners.items) }
-    ensures saw { IfOk result (λ served. EachSawWithPass (view_of served.pass) served.runners.items) }
-    ensures failure { IfOk result (λ served. All (IsShown served.snapshot) served.runners.items) }
+    ensures run { IfOk result (λ ran. HasRunArray D.told D.promised L.shape events.items (starting config.lost)
+        config.window (first_of (start_losing L.shape.slots L.shape.shards config.lost)) parts.items ran.runners.items
+        ran.answers.items (view_of ran.pass) ran.snapshot) }
 {
     let geometry = config.geometry;
     let begun = begin::<L, D, R>(rt, alloc, blank, config, parts, &events)?;
@@ -116,43 +100,23 @@ where
         lists,
         rests,
     } = rooms;
-    let generations = Generations::new(locks);
     let station = Station {
         shards: Shards {
             geometry: &geometry,
             register: &register,
             lists: &lists,
             rests: &rests,
-            generations,
         },
     };
     let ((mut pass, answers), ended) = run_all(rt, alloc, &station, takings, feed, events)?;
-    settle(
-        settlement,
-        &mut book,
-        &register,
-        &mut pass,
-        ended,
-        &mut runners,
-    );
-    let snapshot = register.read(rt, &mut pass);
+    settle(settlement, &mut book, ended, &mut runners);
+    let snapshot = end_all(rt, &register, &mut pass, &mut runners, geometry.slots());
     Ok(Ran {
         runners,
         answers,
         pass,
         snapshot,
     })
-}
-
-// Where the calling thread writes which generation each attach is answered: one lock for each event.
-fn locks_of(alloc: Global, events: usize) -> Result<Vec<OnceLock<u32>>, AllocError>
-    ensures { IfOk result (λ locks. length locks.items ≡ events) }
-{
-    let mut locks = Vec::with_capacity(alloc, events)?;
-    for _ in 0..events {
-        locks.push_reserved(OnceLock::new());
-    }
-    Ok(locks)
 }
 
 // The shards of an array run, each in a thread of its own with its parts of the devices: they take the events from the
@@ -174,26 +138,10 @@ where
     requires parts { length parts.items ≡ config.geometry.shards }
     requires whole { AreWhole config.geometry.shards events.items }
 
-    // what was done and answered
-    ensures served { IfOk result (λ served. HaveServed D.told config.geometry (events_of D.told events.items)
-        (starting config.lost) parts.items served.runners.items) }
-    ensures answered { IfOk result (λ served. HasAnswered config.geometry (events_of D.told events.items)
-        (first_of (start_losing config.geometry.slots config.geometry.shards config.lost)) served.answers.items
-        (view_of served.pass)) }
-    ensures snapshot { IfOk result (λ served.
-        served.snapshot ≡ held (view_of served.pass).start (view_of served.pass).seen) }
-    ensures calls { IfOk result (λ served. CallAsTheyMay served.runners.items) }
-
-    // slots whose parts fail none are left alone
-    ensures sound { IfOk result (λ served. LeaveSoundAlone D.promised config.geometry (starting config.lost) parts.items
-        events.items served.runners.items) }
-
-    // what the shards skipped and saw
-    ensures unskipped { IfOk result (λ served. EachSkipsNone served.runners.items) }
-    ensures saw { IfOk result (λ served. EachSawWithPass (view_of served.pass) served.runners.items) }
-    ensures failure { IfOk result (λ served. All (IsShown served.snapshot) served.runners.items) }
+    ensures run { IfOk result (λ ran. HasRunArray D.told D.promised config.geometry events.items (starting config.lost)
+        config.window (first_of (start_losing config.geometry.slots config.geometry.shards config.lost)) parts.items
+        ran.runners.items ran.answers.items (view_of ran.pass) ran.snapshot) }
 {
     let blank = Blank::new(3 * config.geometry.shards() as u64);
-    let locks = locks_of(alloc, events.len())?;
-    run_as::<Brand, D, R>(rt, alloc, blank, config, parts, events, &locks)
+    run_as::<Brand, D, R>(rt, alloc, blank, config, parts, events)
 }

@@ -35,13 +35,7 @@ fn run_on<L: Events, D: BlockDevice + Drop, R: Wait>(
 {
     let shard = taking.consumer.shard;
     let list = &shards.lists[shard];
-    taking.run(
-        rt,
-        shards.register,
-        list,
-        &shards.rests[shard],
-        &shards.generations,
-    );
+    taking.run(rt, shards.register, list, &shards.rests[shard]);
 }
 
 impl<'a, L: Events, D: BlockDevice + Drop> Work<Station<'a, L, D>> for Taking<L, D> {

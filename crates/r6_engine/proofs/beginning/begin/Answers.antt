@@ -51,7 +51,7 @@ returns-clause-calling g c =
 
 pub returns-clause-shards : goal.returns-clause-shards
 returns-clause-shards g c = (
-  subst (λ start. AllZip (λ p t. Begins g.D.BlockDevice.told g.L.Events.shape g.L.Events.events start p
+  subst (λ start. AllZip (λ p t. Begins g.D.BlockDevice.told g.L.Events.shape g.L.Events.events start c.args.config.window p
       t.consumer.shard t.consumer.numbers.items t.runner) c.args.parts.items c.in_ok-takings.takings.items)
       c.start-start.ensures c.in_ok-takings.ensures.begins,
   subst (λ start. AllZip (λ p t. BeginsSound g.D.BlockDevice.told g.D.BlockDevice.promised g.L.Events.shape start p

@@ -1,4 +1,4 @@
-use Rattle.std.proofs.Common.{arith, ◌≡◌, ◌≤◌, ◌<◌, ◌+◌, ◌∙◌, ◌++◌, [], ◌∷◌, ℕ, List, Some, None, length, ap, sym, append-nil, vec_capacity}
+use Rattle.std.proofs.Common.{arith, ◌≡◌, ◌<◌, ◌+◌, ◌∙◌, ◌++◌, [], ◌∷◌, ℕ, List, Some, None, length, ap, sym, append-nil, vec_capacity}
 use Rattle.std.proofs.lemmas.List.{length-append}
 use Rattle.r6_engine.proofs.InSync.{more-in-sync}
 use Rattle.r6_engine.proofs.handback.add_in_sync.Goals as goal

@@ -1,4 +1,4 @@
-use Rattle.std.proofs.Common.{◌≡◌, ◌∙◌, List, ap, map}
+use Rattle.std.proofs.Common.{◌∙◌, ap, map}
 use Rattle.r6_engine.specs.Replies.{said_of_entry, said_of_pass, said_of_refusal, with_all}
 use Rattle.r6_engine.proofs.Saying.{three_kinds}
 use Rattle.r6_engine.proofs.handback.turn_in.Goals as goal

@@ -43,6 +43,7 @@ returns-clause-begins g c =
           (c.in_ok-runner.ensures.own.here slot
           (subst (λ (s : Shape). BeginsHere (labels_of c.in_ok-roomy.roomy.parts.items) s.slots c.args.start.now slot) (sym c.requires.shape)
           (subst (λ items. BeginsHere (labels_of items) shape.slots c.args.start.now slot) (sym c.in_ok-roomy.ensures.items) begun)));
+      window_is = ap (λ (r : Runner _). r.shard.core.window) c.new-2.ensures.0 ∙ c.in_ok-runner.ensures.own.window_is;
     }
 
 pub returns-clause-sound : goal.returns-clause-sound

@@ -68,7 +68,7 @@ loop-parts-preserved g c =
         pass = c.split-pass.ensures.pass;
         same = c.split-pass.ensures.same ∙ kept.same;
         begins = rw pushed (all_zipped_more (λ parts t. Begins g.D.BlockDevice.told g.L.Events.shape g.L.Events.events
-            c.args.opening.now.start.now parts t.consumer.shard t.consumer.numbers.items t.runner)
+            c.args.opening.now.start.now c.args.opening.now.window parts t.consumer.shard t.consumer.numbers.items t.runner)
             c.loop-parts.yielded before c.in-Some.parts taking kept.begins c.in_ok-taking.ensures.begins);
         sound = rw pushed (all_zipped_more (λ parts t. BeginsSound g.D.BlockDevice.told g.D.BlockDevice.promised g.L.Events.shape
             c.args.opening.now.start.now parts t.consumer.shard t.runner)
@@ -92,7 +92,7 @@ returns-clause-begins g c =
     c.loop-parts.yielded c.loop-parts.parts-iterator c.loop-parts.yielded_by c.next.result c.next.new.self c.in-None.is
     c.next.ensures.steps in
     subst (λ parts. AllZip (λ p t. Begins g.D.BlockDevice.told g.L.Events.shape g.L.Events.events
-    c.args.opening.now.start.now p t.consumer.shard t.consumer.numbers.items t.runner) parts c.loop-parts.takings.items)
+    c.args.opening.now.start.now c.args.opening.now.window p t.consumer.shard t.consumer.numbers.items t.runner) parts c.loop-parts.takings.items)
     (sym (unchanged c.loop-parts.yielded) ∙ end.0) c.loop-parts.invariant.2.begins
 
 pub returns-clause-sound : goal.returns-clause-sound

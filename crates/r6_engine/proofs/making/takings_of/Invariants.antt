@@ -10,8 +10,8 @@ invariant-loop-parts g l =
     (goal.iterator-loop-parts g).can_next l.parts-iterator × (goal.iterator-loop-parts g).is_finite l.parts-iterator × record {
       pass : IsPassOf l.fn.opening.register.now l.first;
       same : view_of l.first ≡ view_of l.fn.first;
-      begins : AllZip (λ parts taking. Begins g.D.BlockDevice.told g.L.Events.shape g.L.Events.events l.fn.opening.start.now parts
-          taking.consumer.shard taking.consumer.numbers.items taking.runner) l.yielded l.takings.items;
+      begins : AllZip (λ parts taking. Begins g.D.BlockDevice.told g.L.Events.shape g.L.Events.events l.fn.opening.start.now l.fn.opening.window
+          parts taking.consumer.shard taking.consumer.numbers.items taking.runner) l.yielded l.takings.items;
       sound : AllZip (λ parts taking. BeginsSound g.D.BlockDevice.told g.D.BlockDevice.promised g.L.Events.shape l.fn.opening.start.now parts
           taking.consumer.shard taking.runner) l.yielded l.takings.items;
       numbered : AreNumbered (λ taking. taking.consumer.shard) l.takings.items;

@@ -1,4 +1,3 @@
-use Rattle.std.proofs.Common.{map}
 use Rattle.r6_feed.specs.Events.{events_of}
 use Rattle.r6_engine.specs.Named.{AttachesFailNone}
 use Rattle.r6_engine.proofs.serving.run_array.Given as goal
@@ -12,5 +11,4 @@ ghosts-run_as-L-Events g a =
       shape = a.config.geometry;
       events = events_of g.D.BlockDevice.told a.events.items;
       sound = λ shard slot. AttachesFailNone g.D.BlockDevice.promised a.config.geometry shard slot a.events.items;
-      locks = map (λ lock. lock.id) a.locks.now;
     }

@@ -1,14 +1,20 @@
-use Rattle.std.proofs.Common.{arith, ◌≡◌, ◌∙◌, ap, length, map, refl, slice_index_or, subst, true}
+use Rattle.std.proofs.Common.{arith, ◌≡◌, ◌∙◌, ◌++◌, ℕ, All, ap, drop, length, take, slice_index_or, subst, sym, true}
+use Rattle.std.specs.List.{AllZip}
 use Rattle.std.proofs.lemmas.Slice.Zip.{AllZip-long}
+use Rattle.r6_health.specs.Histories.{start_losing}
 use Rattle.r6_health.specs.Passes.{IsPassOf, view_of}
 use Rattle.r6_health.specs.Registers.{starting}
+use Rattle.r6_health.specs.Views.{first_of}
 use Rattle.r6_feed.specs.Events.{events_of}
-use Rattle.r6_engine.specs.Serves.{HasAnswered, HasRun}
-use Rattle.r6_engine.proofs.EachShard.{each_of, have_served, less, numbered_still, read_again}
-use Rattle.r6_engine.proofs.Kept.{have_still}
-use Rattle.r6_engine.proofs.Passes.{call_as_they_may, each_saw_with_pass, is_shown}
+use Rattle.r6_runner.specs.Going.{TakesNoMore}
 use Rattle.r6_runner.specs.Sound.{KeepsPromised}
+use Rattle.r6_layout.specs.Shape.{Shape}
+use Rattle.r6_engine.specs.Ending.{HaveInSync}
+use Rattle.r6_engine.specs.RanArrays.{HasRunArray}
+use Rattle.r6_engine.specs.Serves.{HasAnswered, HasRun, HaveServed}
+use Rattle.r6_engine.proofs.EachShard.{all-again, all-map, each_of, have_served, less, numbered_still, read_again, zip-map}
 use Rattle.r6_engine.proofs.Named.{are-promised, leave_sound_alone}
+use Rattle.r6_engine.proofs.Passes.{call_as_they_may, each_saw_with_pass, is_shown}
 use Rattle.r6_engine.proofs.serving.run_as.Goals as goal
 
 pub run_all-requires-clause-ready : goal.run_all-requires-clause-ready
@@ -36,81 +42,79 @@ settle-requires-clause-finished g c =
     each_of _ (λ t. t.consumer.finished ≡ true) (λ old new ran. ran.1.all_taken) c.in_ok-begun.begun.takings.items
     c.in_ok-pass.ended.items c.in_ok-pass.ensures.run
 
-pub settle-requires-clause-passes : goal.settle-requires-clause-passes
-settle-requires-clause-passes g c =
-    each_of _ (λ t. IsPassOf c.in_ok-begun.begun.register t.runner.shard.pass) (λ old new ran. ran.0) c.in_ok-begun.begun.takings.items
-    c.in_ok-pass.ended.items c.in_ok-pass.ensures.run
-
-pub returns-clause-served : goal.returns-clause-served
-returns-clause-served g c =
-    let told = g.D.BlockDevice.told in
-    let shape = g.L.Events.shape in
-    let events = g.L.Events.events in
-    let olds = c.in_ok-begun.begun.takings.items in
-    let news = c.in_ok-pass.ended.items in
-    have_still told shape events (starting c.args.config.lost) c.args.parts.items (λ t. t.runner) news c.settle.new.runners.items c.settle.ensures.runners
-    (have_served told shape events (starting c.args.config.lost) (λ t. t.consumer.shard) (λ t. t.consumer.numbers.items)
-    (λ t. t.consumer.finished) (λ t. t.runner) c.args.parts.items olds news (map (λ t. t.runner) news)
-    c.requires.limits c.requires.parts
-    c.in_ok-begun.ensures.shards.0
-    (less _ (λ old new. HasRun told shape events old.consumer.shard old.consumer.numbers.items old.runner new.consumer.shard
-    new.consumer.numbers.items new.consumer.finished new.runner) (λ old new ran. ran.1) olds news c.in_ok-pass.ensures.run)
-    c.in_ok-begun.ensures.shards.2 c.settle.ensures.taken refl)
-
-pub returns-clause-calls : goal.returns-clause-calls
-returns-clause-calls g c =
-    let told = g.D.BlockDevice.told in
-    let shape = g.L.Events.shape in
-    let events = g.L.Events.events in
-    let olds = c.in_ok-begun.begun.takings.items in
-    let news = c.in_ok-pass.ended.items in
-    call_as_they_may told shape events (starting c.args.config.lost) (λ t. t.consumer.shard) (λ t. t.consumer.numbers.items)
-    (λ t. t.consumer.finished) (λ t. t.runner) c.args.parts.items olds news c.settle.new.runners.items
-    c.in_ok-begun.ensures.shards.0
-    (less _ (λ old new. HasRun told shape events old.consumer.shard old.consumer.numbers.items old.runner new.consumer.shard
-    new.consumer.numbers.items new.consumer.finished new.runner) (λ old new ran. ran.1) olds news c.in_ok-pass.ensures.run)
-    c.in_ok-begun.ensures.shards.2 c.settle.ensures.runners
-
-pub returns-clause-failure : goal.returns-clause-failure
-returns-clause-failure g c =
-    is_shown c.in_ok-begun.begun.register (view_of c.settle.new.pass) (view_of c.read-snapshot.new.pass) c.read-snapshot.result c.settle.new.runners.items
-    c.settle.ensures.heard c.read-snapshot.ensures.looks c.read-snapshot.ensures.pass.same_start c.read-snapshot.ensures.snapshot
-
-pub returns-clause-answered : goal.returns-clause-answered
-returns-clause-answered g c =
-    let shape = g.L.Events.shape in
-    let events = g.L.Events.events in
-    let answers = c.in_ok-pass.answers.items in
-    let first = view_of c.in_ok-begun.begun.feed.pass in
-    subst (λ v. HasAnswered shape events v answers (view_of c.read-snapshot.new.pass)) c.in_ok-begun.ensures.calling.1
-    (read_again shape events first answers (view_of c.in_ok-pass.pass) (view_of c.settle.new.pass)
-    (view_of c.read-snapshot.new.pass) c.in_ok-pass.ensures.answered c.settle.ensures.back c.read-snapshot.ensures.looks)
-
 pub run_all-requires-clause-promised : goal.run_all-requires-clause-promised
 run_all-requires-clause-promised g c κs within =
     are-promised g.D.BlockDevice.promised g.L.Events.shape g.L.Events.sound c.args.events.items (λ shard slot. (c.requires.sound shard slot).0)
 
-pub returns-clause-sound : goal.returns-clause-sound
-returns-clause-sound g c =
+pub end_all-snapshot-requires-clause-pass : goal.end_all-snapshot-requires-clause-pass
+end_all-snapshot-requires-clause-pass g c = c.in_ok-pass.ensures.pass
+
+pub end_all-snapshot-requires-clause-runners : goal.end_all-snapshot-requires-clause-runners
+end_all-snapshot-requires-clause-runners g c =
+    subst (All (λ r. IsPassOf c.in_ok-begun.begun.register r.shard.pass)) (sym (c.deref_mut.ensures.value ∙ c.settle.ensures.runners))
+    (all-map (λ t. t.runner) (λ r. IsPassOf c.in_ok-begun.begun.register r.shard.pass) c.in_ok-pass.ended.items
+    (each_of _ (λ t. IsPassOf c.in_ok-begun.begun.register t.runner.shard.pass) (λ old new ran. ran.0) c.in_ok-begun.begun.takings.items
+    c.in_ok-pass.ended.items c.in_ok-pass.ensures.run))
+
+pub returns : goal.returns
+returns g c =
     let told = g.D.BlockDevice.told in
     let promised = g.D.BlockDevice.promised in
     let shape = g.L.Events.shape in
+    let events = g.L.Events.events in
+    let given = c.args.events.items in
+    let start = starting c.args.config.lost in
+    let window = c.args.config.window in
+    let parts = c.args.parts.items in
     let olds = c.in_ok-begun.begun.takings.items in
     let news = c.in_ok-pass.ended.items in
-    leave_sound_alone told promised shape g.L.Events.sound (starting c.args.config.lost) c.args.events.items (λ t. t.consumer.shard) (λ t. t.runner)
-    c.args.parts.items olds news c.settle.new.runners.items
-    c.in_ok-begun.ensures.shards.1
-    (less _ (λ old new. KeepsPromised told promised shape g.L.Events.sound old.consumer.shard old.runner new.runner) (λ old new ran. ran.2) olds news
-    c.in_ok-pass.ensures.run)
-    c.in_ok-begun.ensures.shards.2 c.settle.ensures.runners (returns-clause-calls g c) (λ shard slot. (c.requires.sound shard slot).1)
-
-pub returns-clause-unskipped : goal.returns-clause-unskipped
-returns-clause-unskipped g c = λ k d below. (slice_index_or c.settle.new.runners.items k d).unskipped
-
-pub returns-clause-saw : goal.returns-clause-saw
-returns-clause-saw g c =
-    each_saw_with_pass c.in_ok-begun.begun.register (view_of c.settle.new.pass) (view_of c.read-snapshot.new.pass) c.settle.new.runners.items
-    c.settle.ensures.heard c.read-snapshot.ensures.looks c.read-snapshot.ensures.pass.same_start
+    let ends = c.end_all-snapshot.new.runners in
+    let ended = c.end_all-snapshot.ensures in
+    let last = view_of c.end_all-snapshot.new.pass in
+    let answers = c.in_ok-pass.answers.items in
+    let begins = c.in_ok-begun.ensures.shards.0 in
+    let numbered = c.in_ok-begun.ensures.shards.2 in
+    let run = less _ (λ old new. HasRun told shape events old.consumer.shard old.consumer.numbers.items old.runner new.consumer.shard
+    new.consumer.numbers.items new.consumer.finished new.runner) (λ old new ran. ran.1) olds news c.in_ok-pass.ensures.run in
+    let goes : AllZip (λ t r. TakesNoMore told promised t.runner r) news ends =
+    zip-map (λ t. t.runner) (TakesNoMore told promised) news ends
+    (subst (λ rs. AllZip (TakesNoMore told promised) rs ends) (c.deref_mut.ensures.value ∙ c.settle.ensures.runners) ended.goes) in
+    let calls = call_as_they_may told promised shape events start window (λ t. t.consumer.shard) (λ t. t.consumer.numbers.items)
+    (λ t. t.consumer.finished) (λ t. t.runner) parts olds news ends begins run numbered goes in
+    let same : length ends ≡ length c.settle.new.runners.items =
+    AllZip-long (TakesNoMore told promised) c.settle.new.runners.items ends
+    (subst (λ rs. AllZip (TakesNoMore told promised) rs ends) c.deref_mut.ensures.value ended.goes) in
+    let whole : take c.settle.new.runners.len (ends ++ drop (length ends) c.settle.new.runners.items) ≡ ends =
+    all-again ends c.settle.new.runners.items c.settle.new.runners.len same c.settle.new.runners.ok.0 in
+    record {
+      run = subst (λ rs. HasRunArray told promised shape given start window
+          (first_of (start_losing shape.slots shape.shards c.args.config.lost)) parts rs answers last c.end_all-snapshot.result) (sym whole) (record {
+            done = subst (λ ev. HaveServed told shape ev start window parts ends) (sym c.requires.events)
+                (have_served told promised shape events start window (λ t. t.consumer.shard) (λ t. t.consumer.numbers.items)
+                (λ t. t.consumer.finished) (λ t. t.runner) parts olds news ends c.requires.limits c.requires.parts begins run numbered
+                c.settle.ensures.taken goes ended.over);
+            answered = subst (λ ev. HasAnswered shape ev (first_of (start_losing shape.slots shape.shards c.args.config.lost)) answers last)
+                (sym c.requires.events)
+                (subst (λ v. HasAnswered shape events v answers last) c.in_ok-begun.ensures.calling.1
+                (read_again shape events (view_of c.in_ok-begun.begun.feed.pass) answers (view_of c.in_ok-pass.pass) last
+                c.in_ok-pass.ensures.answered ended.back));
+            held = ended.snapshot.0;
+            legal = ended.snapshot.1;
+            calls = calls;
+            sound = leave_sound_alone told promised shape g.L.Events.sound start given (λ t. t.consumer.shard) (λ t. t.runner) parts olds news ends
+                c.in_ok-begun.ensures.shards.1
+                (less _ (λ old new. KeepsPromised told promised shape g.L.Events.sound old.consumer.shard old.runner new.runner)
+                (λ old new ran. ran.2) olds news c.in_ok-pass.ensures.run)
+                numbered goes calls (λ shard slot. (c.requires.sound shard slot).1);
+            unskipped = λ k d below. (slice_index_or ends k d).unskipped;
+            seen = ended.seen;
+            saw = each_saw_with_pass last ends ended.seen;
+            failure = is_shown last c.end_all-snapshot.result ends ended.seen ended.snapshot.0;
+            looked = ended.looked;
+            rebuilt = ended.rebuilt;
+            in_sync = subst (λ (n : ℕ). HaveInSync n c.end_all-snapshot.result ends) (c.slots.ensures.value ∙ ap (λ (s : Shape). s.slots) c.requires.shape) ended.in_sync;
+          });
+    }
 
 pub run_all-requires-clause-begins : goal.run_all-requires-clause-begins
 run_all-requires-clause-begins g c κs within = c.in_ok-begun.ensures.calling.2
@@ -118,17 +122,8 @@ run_all-requires-clause-begins g c κs within = c.in_ok-begun.ensures.calling.2
 pub run_all-requires-clause-pass : goal.run_all-requires-clause-pass
 run_all-requires-clause-pass g c κs within = c.in_ok-begun.ensures.calling.0
 
-pub settle-requires-clause-pass : goal.settle-requires-clause-pass
-settle-requires-clause-pass g c = c.in_ok-pass.ensures.pass
-
 pub settle-requires-clause-counted : goal.settle-requires-clause-counted
 settle-requires-clause-counted g c = c.in_ok-begun.ensures.calling.3
-
-pub read-snapshot-requires : goal.read-snapshot-requires
-read-snapshot-requires g c = c.settle.ensures.pass
-
-pub returns-clause-snapshot : goal.returns-clause-snapshot
-returns-clause-snapshot g c = c.read-snapshot.ensures.snapshot
 
 pub settle-requires-clause-empty : goal.settle-requires-clause-empty
 settle-requires-clause-empty g c = (c.in_ok-begun.ensures.rooms.2, c.in_ok-begun.ensures.rooms.3)

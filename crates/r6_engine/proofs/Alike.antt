@@ -1,0 +1,68 @@
+-- Snapshots that are equal by their parts are the same.
+use Rattle.std.proofs.Common.{◌≡◌, ◌∙◌, ◌&&◌, List, [], ◌∷◌, Bool, true, false, refl, sym}
+use Rattle.std.proofs.lemmas.Bool.{false≢true}
+use lib.Pointwise.{pointwise}
+use lib.Dec.{eqb}
+use denote.Enum.Compared as compared
+use Rattle.std.proofs.lemmas.Bool as bools
+use Rattle.r6_health.specs.declared.slots.SlotState.{SlotState}
+use Rattle.r6_health.specs.declared.slots.SlotState.TheVariants.{InSync, Lost, Rebuilding}
+use Rattle.r6_health.specs.declared.snapshot.Snapshot.{Snapshot}
+use Rattle.r6_health.specs.contracts.slots.SlotState as contracts
+
+both : (a b : Bool) → (a && b) ≡ true → (a ≡ true) × (b ≡ true)
+both true b is = (refl, is)
+both false b is = absurd (false≢true is)
+
+-- the derived comparison of two states
+abbrev same_state : SlotState → SlotState → Bool
+same_state x y =
+    compared.by false false contracts.enum.parts
+    (λ a b. true, (λ a b. true, (λ a b. eqb a.0 b.0 && eqb a.1.0.bits b.1.0.bits, tt))) (contracts.as_values x) (contracts.as_values y)
+
+states : (x y : SlotState) → same_state x y ≡ true → x ≡ y
+states InSync InSync is = refl
+states InSync Lost is = absurd (false≢true is)
+states InSync (Rebuilding g r) is = absurd (false≢true is)
+states Lost InSync is = absurd (false≢true is)
+states Lost Lost is = refl
+states Lost (Rebuilding g r) is = absurd (false≢true is)
+states (Rebuilding g r) InSync is = absurd (false≢true is)
+states (Rebuilding g r) Lost is = absurd (false≢true is)
+states (Rebuilding g r) (Rebuilding g' r') is =
+    let parts = both (eqb g g') (eqb r.bits r'.bits) is in
+    let one : g ≡ g' = bools.eqb-true g g' parts.0 in
+    let other : r.bits ≡ r'.bits = bools.eqb-true r.bits r'.bits parts.1 in
+    (λ i. Rebuilding (one i) (record { bits = other i }))
+
+pointwise-same : {A : Type 0} (E : A → A → Bool) → ((x y : A) → E x y ≡ true → x ≡ y) → (xs ys : List A) → pointwise E xs ys ≡ true → xs ≡ ys
+pointwise-same E same [] [] is = refl
+pointwise-same E same [] (y ∷ ys) is = absurd (false≢true is)
+pointwise-same E same (x ∷ xs) [] is = absurd (false≢true is)
+pointwise-same E same (x ∷ xs) (y ∷ ys) is =
+    let parts = both (E x y) (pointwise E xs ys) is in
+    let one = same x y parts.0 in
+    let rest = pointwise-same E same xs ys parts.1 in
+    (λ i. one i ∷ rest i)
+
+beq-true : (a b : Bool) → mathlib.Core.Bool.beq a b ≡ true → a ≡ b
+beq-true true true is = refl
+beq-true true false is = absurd (false≢true is)
+beq-true false true is = absurd (false≢true is)
+beq-true false false is = refl
+
+not-false : (a : Bool) → false ≡ mathlib.Core.Bool.not a → a ≡ true
+not-false true is = refl
+not-false false is = absurd (false≢true is)
+
+pub snapshots : (a b : Snapshot) (differs : Bool) → differs ≡ false
+    → differs ≡ mathlib.Core.Bool.not (pointwise same_state a.slots b.slots && (eqb a.attaches b.attaches && mathlib.Core.Bool.beq a.failed b.failed))
+    → a ≡ b
+snapshots a b differs not is =
+    let parts = both (pointwise same_state a.slots b.slots) (eqb a.attaches b.attaches && mathlib.Core.Bool.beq a.failed b.failed)
+    (not-false (pointwise same_state a.slots b.slots && (eqb a.attaches b.attaches && mathlib.Core.Bool.beq a.failed b.failed)) (sym not ∙ is)) in
+    let more = both (eqb a.attaches b.attaches) (mathlib.Core.Bool.beq a.failed b.failed) parts.1 in
+    let one = pointwise-same same_state states a.slots b.slots parts.0 in
+    let two : a.attaches ≡ b.attaches = bools.eqb-true a.attaches b.attaches more.0 in
+    let three : a.failed ≡ b.failed = beq-true a.failed b.failed more.1 in
+    (λ i. record { slots = one i; attaches = two i; failed = three i })

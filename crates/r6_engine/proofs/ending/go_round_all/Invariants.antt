@@ -1,0 +1,18 @@
+use Rattle.std.proofs.Common.{◌≡◌, All, true}
+use Rattle.std.specs.List.{AllZip}
+use Rattle.r6_health.specs.Passes.{IsPassOf, view_of}
+use Rattle.r6_runner.specs.Going.{TakesNoMore}
+use Rattle.r6_runner.specs.Runners.{IsOver}
+use Rattle.r6_engine.specs.Passes.{IsHeard, TakesBack}
+use Rattle.r6_engine.proofs.EachShard.{AllBelow}
+use Rattle.r6_engine.proofs.ending.go_round_all.Given as goal
+
+abbrev pub invariant-loop-k : goal.invariant-loop-k
+invariant-loop-k g l = record {
+  pass : IsPassOf l.register l.pass;
+  passes : All (λ runner. IsPassOf l.register runner.shard.pass) l.runners;
+  back : TakesBack (view_of l.fn.pass) (view_of l.pass);
+  goes : AllZip (TakesNoMore g.D.BlockDevice.told g.D.BlockDevice.promised) l.fn.runners l.runners;
+  heard : AllBelow l.k (IsHeard l.register (view_of l.pass)) l.runners;
+  over : l.over ≡ true → AllBelow l.k IsOver l.runners;
+}

@@ -1,0 +1,36 @@
+-- How an array ends that was served: as after a wait (md(4): a resync goes on until it is done).
+use Rattle.std.specs.Prelude.{◌≡◌, ℕ, ◌<◌, List, All, false, Some}
+use Rattle.r6_world.specs.Registers.{Snapshot, ShardSet, InSync, Rebuilding, status_of}
+use Rattle.r6_world.specs.ShardStates.{limit}
+use Rattle.r6_core.specs.Shards.{CoreView, synced, world_shard}
+use Rattle.r6_runner.specs.declared.runner.Runner.{Runner}
+
+abbrev pub NoneIsRebuilding : Snapshot → Type 0
+NoneIsRebuilding snapshot =
+    (slot generation : ℕ) (reported : ShardSet) → slot < 32
+    → status_of snapshot slot ≡ Rebuilding generation reported → ⊥
+
+-- no shard has given 2^60 tokens
+abbrev pub HaveTokens : (tokens : List ℕ) → Type 0
+HaveTokens tokens = All (λ given. given < limit) tokens
+
+-- unless the array has failed, or a shard has given 2^60 tokens, no slot is being rebuilt
+abbrev pub IsRebuilt : Snapshot → (tokens : List ℕ) → Type 0
+IsRebuilt snapshot tokens = snapshot.failed ≡ false → HaveTokens tokens → NoneIsRebuilding snapshot
+
+-- how many tokens a shard has given
+abbrev pub tokens_of : {D : Type 0} → Runner D → ℕ
+tokens_of runner = (world_shard runner.shard.core).tokens
+
+-- a core has the slot in sync, if it is so by the snapshot
+abbrev pub IsKept : (slot : ℕ) → Snapshot → CoreView → Type 0
+IsKept slot snapshot core =
+    status_of snapshot slot ≡ InSync → (generation : ℕ) × (synced ((world_shard core).slot slot) ≡ Some generation)
+
+abbrev pub HasInSync : (slots : ℕ) → Snapshot → CoreView → Type 0
+HasInSync slots snapshot core = (slot : ℕ) → slot < slots → IsKept slot snapshot core
+
+-- each core has, unless the array has failed
+abbrev pub HaveInSync : {D : Type 0} → (slots : ℕ) → Snapshot → List (Runner D) → Type 0
+HaveInSync slots snapshot runners =
+    snapshot.failed ≡ false → All (λ runner. HasInSync slots snapshot runner.shard.core) runners

@@ -1,0 +1,201 @@
+//! Once the threads have ended the shards go on in this one, until each has seen all that became of the array.
+
+ghost use Rattle.std.specs.Prelude.{◌≡◌, ◌<◌, ◌≤◌, All, map, true, false};
+ghost use Rattle.std.specs.List.{AllZip};
+ghost use Rattle.r6_health.specs.Histories.{IsLegal, held};
+ghost use Rattle.r6_health.specs.Passes.{IsPassOf, view_of};
+ghost use Rattle.r6_health.specs.Views.{joined, newcomer};
+ghost use Rattle.r6_runner.specs.Going.{TakesNoMore};
+ghost use Rattle.r6_runner.specs.Runners.{IsOver};
+ghost use Rattle.r6_engine.specs.Ending.{HasInSync, HaveInSync, HaveTokens, IsKept, IsRebuilt, NoneIsRebuilding, tokens_of};
+ghost use Rattle.r6_engine.specs.Passes.{IsHeard, IsSeen, TakesBack};
+
+use r6_core::Core;
+use r6_dev::BlockDevice;
+use r6_health::{Pass, Register, SlotState, Snapshot};
+use r6_layout::MOST_SLOTS;
+use r6_runner::Runner;
+use std::sync::Wait;
+
+// As many tokens are given in a shard.
+const MOST_TOKENS: u64 = 1 << 60;
+
+// One round of a shard; whether nothing is left to do of what it took. What its pass has seen is heard by this one.
+fn go_round<D: BlockDevice + Drop, R: Wait>(
+    rt: &R,
+    register: &Register,
+    pass: &mut Pass,
+    runner: &mut Runner<D>,
+) -> bool
+    requires pass { IsPassOf register.now pass.old }
+    requires runner { IsPassOf register.now runner.old.shard.pass }
+    ensures pass { IsPassOf register.now pass.new }
+    ensures heard { view_of pass.new ≡ joined (view_of pass.old) (newcomer (view_of runner.new.shard.pass)) }
+    ensures runner { IsPassOf register.now runner.new.shard.pass }
+    ensures goes { TakesNoMore D.told D.promised runner.old runner.new }
+    ensures over { result ≡ true → IsOver runner.new }
+{
+    let over = runner.go_round(rt, register);
+    let seen = runner.split_pass(register);
+    register.join(pass, seen);
+    over
+}
+
+// One round of each shard; whether nothing is left to do of any.
+fn go_round_all<D: BlockDevice + Drop, R: Wait>(
+    rt: &R,
+    register: &Register,
+    pass: &mut Pass,
+    runners: &mut [Runner<D>],
+) -> bool
+    requires pass { IsPassOf register.now pass.old }
+    requires runners { All (λ runner. IsPassOf register.now runner.shard.pass) runners.old }
+    ensures pass { IsPassOf register.now pass.new }
+    ensures back { TakesBack (view_of pass.old) (view_of pass.new) }
+    ensures heard { All (IsHeard register.now (view_of pass.new)) runners.new }
+    ensures goes { AllZip (TakesNoMore D.told D.promised) runners.old runners.new }
+    ensures over { result ≡ true → All IsOver runners.new }
+{
+    let mut over = true;
+    for k in 0..runners.len() {
+        if !go_round(rt, register, pass, &mut runners[k]) {
+            over = false;
+        }
+    }
+    over
+}
+
+// Whether a slot is being rebuilt.
+fn has_rebuilding(snapshot: &Snapshot) -> bool
+    ensures { result ≡ false → NoneIsRebuilding snapshot.now }
+{
+    for slot in 0..MOST_SLOTS {
+        if let SlotState::Rebuilding(..) = snapshot.slot(slot) {
+            return true;
+        }
+    }
+    false
+}
+
+// Whether each shard has tokens to give.
+fn have_tokens<D: BlockDevice + Drop>(runners: &[Runner<D>]) -> bool
+    ensures { result ≡ false → HaveTokens (map tokens_of runners.now) → ⊥ }
+{
+    for runner in runners {
+        if runner.shard.core.tokens() >= MOST_TOKENS {
+            return false;
+        }
+    }
+    true
+}
+
+// Whether each shard looked at this last.
+fn have_looked_at<D: BlockDevice + Drop>(runners: &[Runner<D>], snapshot: &Snapshot) -> bool
+    ensures { result ≡ true → All (λ runner. runner.shard.last ≡ snapshot.now) runners.now }
+{
+    for runner in runners {
+        if runner.shard.last != *snapshot {
+            return false;
+        }
+    }
+    true
+}
+
+// Whether nothing is left to rebuild: no slot is being rebuilt, or none can be.
+fn is_rebuilt<D: BlockDevice + Drop>(runners: &[Runner<D>], snapshot: &Snapshot) -> bool
+    ensures { result ≡ true → IsRebuilt snapshot.now (map tokens_of runners.now) }
+{
+    snapshot.failed() || !have_tokens(runners) || !has_rebuilding(snapshot)
+}
+
+// Whether a core has this slot in sync, if it is so by the snapshot.
+fn is_kept(core: &Core, slot: usize, snapshot: &Snapshot) -> bool
+    requires { slot < 32 }
+    ensures { result ≡ true → IsKept slot snapshot.now core.now }
+{
+    let SlotState::InSync = snapshot.slot(slot) else {
+        return true;
+    };
+    core.in_sync(slot).is_some()
+}
+
+// Whether it has each, of so many.
+fn has_in_sync(core: &Core, slots: usize, snapshot: &Snapshot) -> bool
+    requires { slots ≤ 32 }
+    ensures { result ≡ true → HasInSync slots snapshot.now core.now }
+{
+    for slot in 0..slots {
+        if !is_kept(core, slot, snapshot) {
+            return false;
+        }
+    }
+    true
+}
+
+// Whether each core has, unless the array has failed.
+fn have_in_sync<D: BlockDevice + Drop>(
+    runners: &[Runner<D>],
+    slots: usize,
+    snapshot: &Snapshot,
+) -> bool
+    requires { slots ≤ 32 }
+    ensures { result ≡ true → HaveInSync slots snapshot.now runners.now }
+{
+    if snapshot.failed() {
+        return true;
+    }
+    for runner in runners {
+        if !has_in_sync(&runner.shard.core, slots, snapshot) {
+            return false;
+        }
+    }
+    true
+}
+
+// Whether the array is as it stays: each shard has seen what it is, and nothing is left to rebuild.
+fn is_settled<D: BlockDevice + Drop>(
+    runners: &[Runner<D>],
+    slots: usize,
+    snapshot: &Snapshot,
+) -> bool
+    requires { slots ≤ 32 }
+    ensures looked { result ≡ true → All (λ runner. runner.shard.last ≡ snapshot.now) runners.now }
+    ensures rebuilt { result ≡ true → IsRebuilt snapshot.now (map tokens_of runners.now) }
+    ensures in_sync { result ≡ true → HaveInSync slots snapshot.now runners.now }
+{
+    have_looked_at(runners, snapshot)
+        && is_rebuilt(runners, snapshot)
+        && have_in_sync(runners, slots, snapshot)
+}
+
+// The shards go on by turns until nothing is left to do, and each has looked at the register as it is then.
+pub(crate) fn end_all<D: BlockDevice + Drop, R: Wait>(
+    rt: &R,
+    register: &Register,
+    pass: &mut Pass,
+    runners: &mut [Runner<D>],
+    slots: usize,
+) -> Snapshot
+    requires slots { slots ≤ 32 }
+    requires pass { IsPassOf register.now pass.old }
+    requires runners { All (λ runner. IsPassOf register.now runner.shard.pass) runners.old }
+    ensures pass { IsPassOf register.now pass.new }
+    ensures back { TakesBack (view_of pass.old) (view_of pass.new) }
+    ensures seen { All (IsSeen (view_of pass.new)) runners.new }
+    ensures snapshot { (result ≡ held (view_of pass.new).start (view_of pass.new).seen)
+        × IsLegal (view_of pass.new).start (view_of pass.new).seen }
+    ensures goes { AllZip (TakesNoMore D.told D.promised) runners.old runners.new }
+    ensures over { All IsOver runners.new }
+    ensures looked { All (λ runner. runner.shard.last ≡ result) runners.new }
+    ensures rebuilt { IsRebuilt result (map tokens_of runners.new) }
+    ensures in_sync { HaveInSync slots result runners.new }
+{
+    for _ in rt.forever() {
+        let over = go_round_all(rt, register, pass, runners);
+        let snapshot = register.read(rt, pass);
+        if over && is_settled(runners, slots, &snapshot) {
+            return snapshot;
+        }
+    }
+    unreachable!()
+}
