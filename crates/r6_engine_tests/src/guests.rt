@@ -9,12 +9,10 @@ use crate::meeting::Meeting;
 use crate::serve_bench::check_answer;
 use r6_core::Op;
 use r6_dev::{BlockDevice, Fault, MemoryDevice};
-use r6_engine::{Config, Served, serve};
-use r6_feed::Event;
+use r6_engine::{Config, EngineError, Event, Served, serve};
 use r6_kernels::Buffer;
 use r6_layout::Geometry;
 use r6_shard::{Part, Parts};
-use r6_threads::Refused;
 use std::alloc::Global;
 use std::process::Abort;
 use std::sync::Wait;
@@ -140,12 +138,13 @@ fn serve_guests<'h, R: Threads + Wait + Abort + Sync>(
     alloc: Global,
     geometry: &Geometry,
     house: &'h House,
-) -> Result<Served<Guest<'h>>, Refused>
+) -> Result<Served<Guest<'h>>, EngineError>
     requires { IsShape geometry.now }
 {
     let config = Config {
         geometry: *geometry,
         window: 1,
+        workers: 1,
         lost: 0,
     };
     let parts = parts_of(rt, alloc, geometry, house);
@@ -176,9 +175,9 @@ fn each_shard_has_a_thread_of_its_own(rt: HostRuntime) -> Result<(), Fail> {
             check_met(&rt, &served);
             drop(served);
         }
-        Err(refused) => {
+        Err(error) => {
             assert!(rt; house.commands.load(Ordering::SeqCst) == 0);
-            return Err(Fail::from(refused));
+            return Err(Fail::from(error));
         }
     }
     Ok(())

@@ -14,6 +14,10 @@ mod core_caller;
 #[cfg(test)]
 mod core_served;
 #[cfg(test)]
+mod engine_caller;
+#[cfg(test)]
+mod engine_served;
+#[cfg(test)]
 mod guests;
 #[cfg(test)]
 mod lists;

@@ -192,9 +192,13 @@ fn play<L: Events + Send + Sync, R: Threads + Wait + Abort + Sync>(
 }
 
 fn attach(part: MemoryDevice) -> Work<MemoryDevice>
-    ensures { result ≡ Work.Attach 1 part }
+    ensures { result ≡ Work.Attach 1 1 part }
 {
-    Work::Attach { slot: 1, part }
+    Work::Attach {
+        slot: 1,
+        generation: 1,
+        part,
+    }
 }
 
 fn are_theirs(taken: &[Vec<u64>]) -> bool {

@@ -1,6 +1,6 @@
 //! The one shard of an array of zeros takes events from its list, until all is done.
 
-ghost use Rattle.std.specs.Prelude.{◌≡◌, ℕ, ◌+◌, ◌-◌, ◌^◌, ◌<◌, ◌≤◌, [], IfSome, Some, if◌then◌else◌, length, map, replicate, slice_get, true, false};
+ghost use Rattle.std.specs.Prelude.{◌≡◌, ℕ, ◌+◌, ◌-◌, ◌^◌, ◌<◌, ◌≤◌, [], IfSome, Some, if◌then◌else◌, length, replicate, slice_get, true, false};
 ghost use Rattle.r6_dev.specs.Memory.{told_by};
 ghost use Rattle.r6_layout.specs.Shape.{IsShape};
 ghost use Rattle.r6_health.specs.Passes.{view_of, IsPassOf};
@@ -19,14 +19,14 @@ use r6_dev::MemoryDevice;
 use r6_health::{Pass, Register, Snapshot};
 use r6_kernels::Buffer;
 use r6_layout::Geometry;
-use r6_lists::{Consumer, Events, Generations, Item, List, Producer, Rest, Work};
+use r6_lists::{Consumer, Events, Item, List, Producer, Rest, Work};
 use r6_runner::{Runner, Taking};
 use r6_shard::{Parts, Place};
 use std::alloc::Global;
 use std::marker::Brand;
 use std::process::Abort;
 use std::sync::ledger::Blank;
-use std::sync::{Mutex, OnceLock, Wait};
+use std::sync::{Mutex, Wait};
 
 /// A shard that has taken its events, and what the register holds behind them.
 #[derive(Drop)]
@@ -69,9 +69,13 @@ fn work_of<R: Abort>(
             let room = Buffer::new(alloc, BLOCK).expect(rt, "memory");
             Some(Work::Read(block, room))
         }
-        Ask::Attach(slot, _) => {
+        Ask::Attach(slot, generation) => {
             let part = MemoryDevice::new(alloc, 0..ROWS as u64, BLOCK).expect(rt, "memory");
-            Some(Work::Attach { slot, part })
+            Some(Work::Attach {
+                slot,
+                generation,
+                part,
+            })
         }
         Ask::Check => Some(Work::Check),
         Ask::Repair => Some(Work::Repair),
@@ -176,7 +180,6 @@ fn run<L: Events, R: Wait>(
     register: &Register,
     list: &Mutex<List<L, MemoryDevice>>,
     rest: &Rest,
-    generations: &Generations<'_, L>,
     consumer: Consumer<L>,
     runner: Runner<MemoryDevice>,
 ) -> Runner<MemoryDevice>
@@ -185,30 +188,8 @@ fn run<L: Events, R: Wait>(
     requires pass { IsPassOf register.now runner.shard.pass }
 {
     let mut taking = Taking::new(runner, consumer);
-    taking.run(rt, register, list, rest, generations);
+    taking.run(rt, register, list, rest);
     taking.runner
-}
-
-// A lock for each event.
-fn locks_of<R: Abort>(rt: &R, alloc: Global, count: usize) -> Vec<OnceLock<u32>>
-    ensures { length result.items ≡ count }
-{
-    let mut locks = Vec::with_capacity(alloc, count).expect(rt, "memory");
-    for _ in 0..count {
-        locks.push_reserved(OnceLock::new());
-    }
-    locks
-}
-
-// Each attach is said to be answered the generation that the event names.
-fn write_all<L: Events, R: Wait>(rt: &R, generations: &Generations<'_, L>, asks: &[Ask])
-    requires { length L.events ≡ length asks.now }
-{
-    for number in 0..asks.len() {
-        if let Ask::Attach(_, generation) = asks[number] {
-            drop(generations.write(rt, number as u64, generation));
-        }
-    }
 }
 
 // The events are put into the shard's list, which is ended, and then it takes them.
@@ -221,12 +202,10 @@ fn play<L: Events, R: Wait + Abort>(
     pass: Pass,
     rest: &Rest,
     asks: &[Ask],
-    locks: &[OnceLock<u32>],
 ) -> Runner<MemoryDevice>
     requires blank { (blank.name ≡ L.name) × (blank.parts ≡ L.parts) × (L.parts ≡ 3) }
     requires shape { L.shape ≡ place.geometry }
     requires events { L.events ≡ events_of asks.now }
-    requires locks { (map (λ lock. lock.id) locks.now ≡ L.locks) × (length locks.now ≡ length asks.now) }
     requires none_promised { (shard : ℕ) (slot : ℕ) → L.sound shard slot → ⊥ }
 
     // the shard and its pass
@@ -245,10 +224,8 @@ fn play<L: Events, R: Wait + Abort>(
     let mut producer = Producer::new(&mut book, all, 1, works_of(asks));
     put_all(rt, alloc, &place.geometry, &list, asks, &mut producer);
     end(rt, &list, &mut producer);
-    let generations = Generations::new(locks);
-    write_all(rt, &generations, asks);
     let runner = runner_of(rt, alloc, place, pass, asks.len());
-    run(rt, register, &list, rest, &generations, consumer, runner)
+    run(rt, register, &list, rest, consumer, runner)
 }
 
 // These slots fail, and then these have new devices.
@@ -289,18 +266,7 @@ pub(crate) fn take<R: Wait + Abort>(
         window: 1,
     };
     let blank = Blank::new(3);
-    let locks = locks_of(rt, alloc, asks.len());
-    let runner = play::<Brand, R>(
-        rt,
-        alloc,
-        blank,
-        place,
-        &register,
-        first,
-        rest,
-        asks,
-        locks.as_slice(),
-    );
+    let runner = play::<Brand, R>(rt, alloc, blank, place, &register, first, rest, asks);
     let snapshot = register.read(rt, &mut caller);
     drop((register, caller));
     Ended { runner, snapshot }

@@ -24,6 +24,7 @@ pub(crate) fn play<R: Threads + Wait + Abort + Sync>(
     let config = Config {
         geometry,
         window: 1,
+        workers: 1,
         lost: 0,
     };
     let parts = parts_of(rt, alloc, &geometry, is_spoiled);

@@ -7,7 +7,7 @@ use crate::array::device_of;
 use crate::blocks::filled;
 use r6_core::Op;
 use r6_dev::MemoryDevice;
-use r6_feed::Event;
+use r6_engine::Event;
 use r6_layout::Geometry;
 use std::alloc::Global;
 use std::process::Abort;

@@ -16,5 +16,4 @@ ghosts-play-L-Events g a =
       events = Request (op.Write 0 (zeros 16)) ∷ Request (op.Read 4 (zeros 16)) ∷ Check ∷ Request (op.Read 7 (zeros 16))
           ∷ Attach 1 (λ shard. told_by (record { first = 2 * shard; block = 16; blocks = replicate 2 (zeros 16) })) ∷ [];
       sound = λ shard slot. ⊥;
-      locks = [];
     }

@@ -31,22 +31,22 @@ new-requires-5-clause-task g c =
     there 1 3 c.requires.shape c.requires.events (ap (λ (b : List ℕ). Some (task 3 1 (Serves (op.Read 7 b)))) (sym c.filled-far.ensures))
 
 pub new-requires-clause-promised : goal.new-requires-clause-promised
-new-requires-clause-promised g c = λ slot part e sound. absurd (c.requires.none_promised 0 slot sound)
+new-requires-clause-promised g c = λ slot generation part e sound. absurd (c.requires.none_promised 0 slot sound)
 
 pub new-requires-2-clause-promised : goal.new-requires-2-clause-promised
-new-requires-2-clause-promised g c = λ slot part e sound. absurd (c.requires.none_promised 1 slot sound)
+new-requires-2-clause-promised g c = λ slot generation part e sound. absurd (c.requires.none_promised 1 slot sound)
 
 pub new-requires-3-clause-promised : goal.new-requires-3-clause-promised
-new-requires-3-clause-promised g c = λ slot part e sound. absurd (c.requires.none_promised 0 slot sound)
+new-requires-3-clause-promised g c = λ slot generation part e sound. absurd (c.requires.none_promised 0 slot sound)
 
 pub new-requires-4-clause-promised : goal.new-requires-4-clause-promised
-new-requires-4-clause-promised g c = λ slot part e sound. absurd (c.requires.none_promised 1 slot sound)
+new-requires-4-clause-promised g c = λ slot generation part e sound. absurd (c.requires.none_promised 1 slot sound)
 
 pub new-requires-5-clause-promised : goal.new-requires-5-clause-promised
-new-requires-5-clause-promised g c = λ slot part e sound. absurd (c.requires.none_promised 1 slot sound)
+new-requires-5-clause-promised g c = λ slot generation part e sound. absurd (c.requires.none_promised 1 slot sound)
 
 pub new-requires-7-clause-promised : goal.new-requires-7-clause-promised
-new-requires-7-clause-promised g c = λ slot part e sound. absurd (c.requires.none_promised 0 slot sound)
+new-requires-7-clause-promised g c = λ slot generation part e sound. absurd (c.requires.none_promised 0 slot sound)
 
 pub new-requires-9-clause-promised : goal.new-requires-9-clause-promised
-new-requires-9-clause-promised g c = λ slot part e sound. absurd (c.requires.none_promised 1 slot sound)
+new-requires-9-clause-promised g c = λ slot generation part e sound. absurd (c.requires.none_promised 1 slot sound)

@@ -8,4 +8,4 @@ loop-number-preserved g c =
     c.waits_behind-waits.ensures
 
 pub new-requires-clause-promised : goal.new-requires-clause-promised
-new-requires-clause-promised g c = λ slot part e sound. absurd (c.requires.none_promised 0 slot sound)
+new-requires-clause-promised g c = λ slot generation part e sound. absurd (c.requires.none_promised 0 slot sound)

@@ -1,4 +1,3 @@
-use Rattle.std.proofs.Common.{map}
 use Rattle.r6_engine_tests.specs.Asks.{events_of}
 use Rattle.r6_engine_tests.proofs.runner_bench.take.Given as goal
 
@@ -10,5 +9,4 @@ ghosts-play-L-Events g a = record {
   shape = a.place.geometry;
   events = events_of a.asks.now;
   sound = λ shard slot. ⊥;
-  locks = map (λ lock. lock.id) a.locks.now;
 }
