@@ -185,6 +185,8 @@ MayBeLost slots lost = (length lost ≤ 2) × All (λ slot. slot < slots) lost
 pub record AreInRange (values : Values) : Type 0 where
   pub window_from : 1 ≤ values.window
   pub window_to : values.window ≤ 8
+  pub workers_from : 1 ≤ values.workers
+  pub workers_to : values.workers ≤ 8
   pub lost : MayBeLost values.shape.slots values.lost
 
 -- ---- what a fault says

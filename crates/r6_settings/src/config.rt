@@ -44,7 +44,8 @@ fn numbers_in(table: &Table) -> Result<Numbers, SettingsFault>
         (λ n. shape_of n.slots n.chunk n.block n.rows n.shards ≡ shape_in (table_view table.now)) }
     ensures window { IfOk result (λ n. n.window ≡ unwrap_or (one_to_eight Key.Window (table_view table.now)) 0) }
     ensures workers { IfOk result (λ n. n.workers ≡ unwrap_or (one_to_eight Key.Workers (table_view table.now)) 0) }
-    ensures range { IfOk result (λ n. (1 ≤ n.window) × (n.window ≤ 8)) }
+    ensures window_range { IfOk result (λ n. (1 ≤ n.window) × (n.window ≤ 8)) }
+    ensures workers_range { IfOk result (λ n. (1 ≤ n.workers) × (n.workers ≤ 8)) }
     ensures err { IfErr result (λ fault. first_found (take 8 (checks true (table_view table.now))) ≡ Some fault) }
 {
     if has_unknown_key(table) {
