@@ -8,8 +8,6 @@ use Rattle.r6_offline.specs.declared.error.EngineError.TheVariants as engine
 use Rattle.r6_offline.specs.Parts.{is_lost}
 use Rattle.r6_script.specs.declared.run_event.RunEvent.{RunEvent}
 use Rattle.r6_script.specs.declared.run_event.RunEvent.TheVariants.{Attach}
-use Rattle.r6_threads.specs.declared.run.Refused.{Refused}
-use Rattle.r6_threads.specs.declared.run.Refused.TheVariants as threads
 use Rattle.r6_run.specs.declared.fault.RunFault.{RunFault}
 use Rattle.r6_run.specs.declared.fault.RunFault.TheVariants.{Device, Memory, Output, Thread}
 
@@ -17,10 +15,6 @@ abbrev pub fault_of : EngineError → RunFault
 fault_of (engine.Device slot fault) = Device slot fault
 fault_of engine.NoMemory = Memory
 fault_of engine.ThreadRefused = Thread
-
-abbrev pub fault_of_threads : Refused → RunFault
-fault_of_threads threads.NoMemory = Memory
-fault_of_threads threads.ThreadRefused = Thread
 
 -- whether an event attaches a device to a slot
 abbrev pub attaches : (slot : ℕ) → RunEvent → Bool

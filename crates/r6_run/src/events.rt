@@ -10,10 +10,9 @@ ghost use Rattle.r6_run.specs.Runs.{IsAsked};
 
 use crate::fault::RunFault;
 use r6_dev::{Access, FileDevice};
-use r6_feed::Event;
+use r6_engine::{Event, open_slot};
 use r6_kernels::Buffer;
 use r6_layout::Geometry;
-use r6_offline::open_slot;
 use r6_script::RunEvent;
 use r6_world::Op;
 use std::alloc::{AllocError, Global};

@@ -3,8 +3,7 @@
 ghost use Rattle.std.specs.Prelude.{◌≡◌};
 
 use r6_dev::Fault as DeviceFault;
-use r6_offline::EngineError;
-use r6_threads::Refused;
+use r6_engine::EngineError;
 use std::alloc::{AllocError, AllocFailed};
 
 /// Why a script isn't run. But for `Output` no device was written.
@@ -30,19 +29,6 @@ impl From<EngineError> for RunFault {
             EngineError::Device { slot, fault } => RunFault::Device(slot, fault),
             EngineError::NoMemory => RunFault::Memory,
             EngineError::ThreadRefused => RunFault::Thread,
-        }
-    }
-}
-
-impl From<Refused> for RunFault {
-    ghost use Rattle.r6_run.specs.Faults.{fault_of_threads};
-
-    ghost from_gives = { λ refused fault. fault ≡ fault_of_threads refused };
-
-    fn from(refused: Refused) -> RunFault {
-        match refused {
-            Refused::NoMemory => RunFault::Memory,
-            Refused::ThreadRefused => RunFault::Thread,
         }
     }
 }

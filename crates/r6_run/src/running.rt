@@ -1,12 +1,13 @@
 //! A script is run.
 
-ghost use Rattle.std.specs.Prelude.{◌≡◌, ◌≢◌, ◌++◌, List, [], Option, IfErr, IfOk, OnOk, length, string_bytes};
+ghost use Rattle.std.specs.Prelude.{◌≡◌, ◌≢◌, ◌≤◌, ◌<◌, ◌^◌, ◌++◌, List, [], Option, IfErr, IfOk, OnOk, count_ones, length, string_bytes};
 ghost use Rattle.std.specs.Io.KnownBytes.{Appends};
 ghost use Rattle.r6_script.specs.Script.{Text};
 ghost use Rattle.r6_settings.specs.Settings.{AreInRange, values_of};
 ghost use Rattle.r6_dev.specs.FilePart.{FilePart};
 ghost use Rattle.r6_offline.specs.Files.{AreOpened};
-ghost use Rattle.r6_run.specs.Arrays.{AreGiven};
+ghost use Rattle.r6_layout.specs.Shape.{IsShape};
+ghost use Rattle.r6_run.specs.Arrays.{AreGiven, mask_of};
 ghost use Rattle.r6_run.specs.Ends.{ending_of};
 ghost use Rattle.r6_run.specs.Faults.{IsRunningFault};
 ghost use Rattle.r6_run.specs.Runs.{HasRun, report_text};
@@ -17,10 +18,9 @@ use crate::events::events_of;
 use crate::fault::RunFault;
 use crate::lines::{room_for, write_lines, write_state};
 use r6_dev::{Access, FileDevice};
-use r6_engine::{Config as ServeConfig, EventReply, Served, serve};
+use r6_engine::{Config as ServeConfig, EventReply, Served, open_parts, serve};
 use r6_health::Snapshot;
 use r6_layout::Geometry;
-use r6_offline::open_parts;
 use r6_script::RunEvent;
 use r6_settings::Config;
 use r6_shard::Parts;
@@ -73,6 +73,28 @@ where
     Ok(parts_of(alloc, geometry.shards(), geometry.slots(), opened)?)
 }
 
+// How the array of the settings is served.
+fn serving_of(config: &Config) -> ServeConfig
+    requires { AreInRange (values_of config.now) }
+    ensures is { result ≡ record {
+      geometry = config.now.geometry;
+      window = config.now.window;
+      workers = config.now.workers;
+      lost = mask_of config.now.geometry.slots config.now.lost.items;
+    } }
+    ensures limits { IsShape result.geometry }
+    ensures window { (1 ≤ result.window) × (result.window ≤ 8) }
+    ensures workers { (1 ≤ result.workers) × (result.workers ≤ 8) }
+    ensures lost { (result.lost < 2 ^ result.geometry.slots) × (count_ones result.lost ≤ 2) }
+{
+    ServeConfig {
+        geometry: config.geometry,
+        window: config.window as usize,
+        workers: config.workers as usize,
+        lost: mask_of(config.geometry.slots(), config.lost.as_slice()),
+    }
+}
+
 // Gives the events of a script to the array of the settings: who prints the report of this has run the script.
 fn served<F, R>(
     rt: &R,
@@ -93,12 +115,7 @@ where
     let geometry = &config.geometry;
     let parts = opened(rt, alloc, config)?;
     let events = events_of(rt, alloc, geometry, script)?;
-    let how = ServeConfig {
-        geometry: *geometry,
-        window: config.window as usize,
-        lost: mask_of(geometry.slots(), config.lost.as_slice()),
-    };
-    Ok(serve(rt, alloc, how, parts, events)?)
+    Ok(serve(rt, alloc, serving_of(config), parts, events)?)
 }
 
 /// Runs the events of a script on the array of the settings, each shard in a thread of its own, and prints a line for

@@ -1,4 +1,4 @@
-use Rattle.std.proofs.Common.{◌∙◌, refl, subst}
+use Rattle.std.proofs.Common.{◌≡◌, ◌∙◌, length, refl, subst, sym}
 use Rattle.std.proofs.lemmas.List.{length-map}
 use Rattle.std.proofs.lemmas.Slice.Zip.{AllZip-long}
 use Rattle.r6_health.specs.Histories.{start_losing}
@@ -6,21 +6,25 @@ use Rattle.r6_health.specs.Registers.{starting}
 use Rattle.r6_health.specs.Views.{first_of}
 use Rattle.r6_dev.specs.Promises.{no_promise}
 use Rattle.r6_offline.specs.Parts.{tells_nothing}
-use Rattle.r6_feed.specs.Events.{event_of}
+use Rattle.r6_feed.specs.Events.{AreWhole, event_of, events_of}
+use Rattle.r6_engine.specs.declared.serving.Config.{Config}
+use Rattle.r6_engine.specs.Answered.{AreReplies}
 use Rattle.r6_engine.specs.ServedArrays.{HasServedArray}
 use Rattle.r6_run.specs.Runs.{IsAsked}
 use Rattle.r6_run.proofs.Given.{are_whole}
 use Rattle.r6_run.proofs.Giving.{as_many_given}
-use Rattle.r6_run.proofs.Masks.{mask_same}
 use Rattle.r6_run.proofs.running.served.Goals as goal
 
 pub serve-requires-clause-whole : goal.serve-requires-clause-whole
-serve-requires-clause-whole g c lives bounds = are_whole c.args.config.now.geometry c.args.script.now c.in_ok-events.events.items c.in_ok-events.ensures.ok
+serve-requires-clause-whole g c lives bounds =
+    subst (λ (how : Config). AreWhole how.geometry.shards c.in_ok-events.events.items) (sym c.serving_of.ensures.is)
+    (are_whole c.args.config.now.geometry c.args.script.now c.in_ok-events.events.items c.in_ok-events.ensures.ok)
 
 pub serve-requires-clause-parts : goal.serve-requires-clause-parts
 serve-requires-clause-parts g c lives bounds =
     let shape = c.args.config.now.geometry in
-    as_many_given shape.shards shape.slots c.in_ok-parts.ensures.ok.0 c.in_ok-parts.parts.items c.in_ok-parts.ensures.ok.2
+    subst (λ (how : Config). length c.in_ok-parts.parts.items ≡ how.geometry.shards) (sym c.serving_of.ensures.is)
+    (as_many_given shape.shards shape.slots c.in_ok-parts.ensures.ok.0 c.in_ok-parts.parts.items c.in_ok-parts.ensures.ok.2)
 
 pub returns-clause-each : goal.returns-clause-each
 returns-clause-each g c =
@@ -32,8 +36,6 @@ returns-clause-ok g c old new printed =
     let shape = c.args.config.now.geometry in
     let served = c.in_ok-serve.field-0 in
     let events = c.in_ok-events.events.items in
-    let mask = mask_same c.mask_of.result c.slots.result shape.slots c.as_slice.result.now c.args.config.now.lost.items
-    c.mask_of.ensures.mask c.slots.ensures.value c.as_slice.ensures.value in
     record {
       devices = c.in_ok-parts.ensures.ok.0;
       opened = c.in_ok-parts.ensures.ok.1;
@@ -42,9 +44,11 @@ returns-clause-ok g c old new printed =
       events = events;
       asked = c.in_ok-events.ensures.ok;
       served = served;
-      done = subst (λ lost. HasServedArray tells_nothing (λ _. no_promise) shape events (starting lost) (first_of (start_losing shape.slots shape.shards lost))
-          c.in_ok-parts.parts.items served) mask c.in_ok-serve.ensures.served;
-      replied = c.in_ok-serve.ensures.replies;
+      done = subst (λ (how : Config). HasServedArray tells_nothing (λ _. no_promise) how.geometry events (starting how.lost)
+          (first_of (start_losing how.geometry.slots how.geometry.shards how.lost)) c.in_ok-parts.parts.items served) c.serving_of.ensures.is
+          c.in_ok-serve.ensures.served;
+      replied = subst (λ (how : Config). AreReplies how.geometry (events_of tells_nothing events) served.ledgers.items served.replies.items)
+          c.serving_of.ensures.is c.in_ok-serve.ensures.replies;
       printed = printed;
       ends = refl;
     }
