@@ -5,3 +5,4 @@ pub mod Passing
 pub mod Performing
 pub mod Places
 pub mod PutOut
+pub mod Serving

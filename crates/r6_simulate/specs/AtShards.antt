@@ -36,7 +36,7 @@ use Rattle.r6_simulate.specs.declared.devices.Devices.{Devices}
 use Rattle.r6_simulate.specs.declared.register.OwnRegister.{OwnRegister}
 use Rattle.r6_simulate.specs.declared.shard.InFlight.{InFlight}
 use Rattle.r6_simulate.specs.declared.shard.Shard.{Shard}
-use Rattle.r6_simulate.specs.Devices.{IsAt, PerformsOn}
+use Rattle.r6_simulate.specs.Devices.{IsAt, KeepsDevices, LacksDevice, PerformsOn}
 use Rattle.r6_simulate.specs.Lines.{outcome_text, replies_text, commands_text}
 
 -- where the command of a token stands among those in flight
@@ -126,7 +126,7 @@ AnswersWith blocks token completion.Error old outcome new = Completes blocks tok
 
 -- ---- devices
 
--- the device of a command in flight performs it, once
+-- the device of a command in flight performs it, once, if there is one that serves it
 abbrev pub PerformsAt : Option ℕ → Shard → Devices → Outcome → Shard → Devices → Type 0
 PerformsAt None old devices NoSuchCommand new devices' = IsSame old new × (devices' ≡ devices)
 PerformsAt (Some place) old devices PerformedAlready new devices' =
@@ -136,6 +136,9 @@ PerformsAt (Some place) old devices Performed new devices' =
     × (done : Command) × PerformsOn devices f.command devices' done
     × (new.in_flight.items ≡ slice_set old.in_flight.items place (record { command = done; performed = true }))
     × (new.number ≡ old.number) × (new.core ≡ old.core)
+PerformsAt (Some place) old devices NotPerformed new devices' =
+    (f : InFlight) × IsAt old.in_flight.items place f × (f.performed ≡ false) × LacksDevice devices f.command
+    × IsSame old new × KeepsDevices devices devices'
 PerformsAt place old devices outcome new devices' = ⊥
 
 abbrev pub Performs : (token : ℕ) → Shard → Devices → Outcome → Shard → Devices → Type 0

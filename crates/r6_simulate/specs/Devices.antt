@@ -1,8 +1,8 @@
 -- What the devices of an array in memory do. This is the project's own.
-use Rattle.std.specs.Prelude.{◌≡◌, ℕ, ◌==◌, ◌&&◌, ◌<◌, ◌++◌, List, [], ◌∷◌, length, map, replicate, slice_index_or, slice_set, Option, Some, Result, Ok, Err}
+use Rattle.std.specs.Prelude.{◌≡◌, ℕ, ◌==◌, ◌&&◌, ◌<◌, ◌++◌, List, [], ◌∷◌, length, map, replicate, slice_index_or, slice_set, Bool, true, false, Option, None, Some, Result, Ok, Err}
 use Rattle.std.specs.List.{position, range_with_len}
 use Rattle.r6_dev.specs.History.{Block, Entry, Reads, Writes, Answers}
-use Rattle.r6_dev.specs.Memory.{Memory, told_by}
+use Rattle.r6_dev.specs.Memory.{Memory, Serves, told_by}
 use Rattle.r6_health.specs.declared.refusal.Refusal.{Refusal}
 use Rattle.r6_layout.specs.Shape.{Shape}
 use Rattle.r6_core.specs.declared.Command.{Command}
@@ -18,6 +18,10 @@ IsAt items place item = (place < length items) × (item ≡ slice_index_or items
 -- the rows and the length of a block that all devices have stay as they are
 abbrev pub SameRows : Devices → Devices → Type 0
 SameRows old new = (new.rows ≡ old.rows) × (new.blocks ≡ old.blocks)
+
+-- and so do the devices
+abbrev pub KeepsDevices : Devices → Devices → Type 0
+KeepsDevices old new = (new.attached.items ≡ old.attached.items) × SameRows old new
 
 -- ---- devices that come
 
@@ -72,3 +76,30 @@ pub record PerformsOn (old : Devices) (command : Command) (new : Devices) (done 
   pub rows : SameRows old new
   pub same : done ≡ record command { buffer = done.buffer }
   pub written : command.kind ≡ Write → done.buffer ≡ command.buffer
+
+-- the device has the command's row, in blocks of its length
+abbrev pub ServesCommand : Memory → Command → Type 0
+ServesCommand device command = Serves device command.row × (length command.buffer ≡ device.block)
+
+-- a device performs a command, or doesn't serve it, and nothing changes
+abbrev pub MayPerformOn : (performed : Bool) → (before : Memory) → Command → (after : Memory) → Command → Type 0
+MayPerformOn true before command after done =
+    Answers (told_by before) (entry_of command.kind command.row done.buffer) (told_by after)
+    × (done ≡ record command { buffer = done.buffer }) × (command.kind ≡ Write → done.buffer ≡ command.buffer)
+MayPerformOn false before command after done =
+    (ServesCommand before command → ⊥) × (after ≡ before) × (done ≡ command)
+
+-- the device that a command names, if there is one at a place, doesn't serve it
+abbrev pub LacksAt : List Attached → Command → Option ℕ → Type 0
+LacksAt attached command None = Unit {0}
+LacksAt attached command (Some place) =
+    (named : Attached) × IsAt attached place named × (ServesCommand named.device command → ⊥)
+
+abbrev pub LacksDevice : Devices → Command → Type 0
+LacksDevice devices command = let attached = devices.attached.items in
+    LacksAt attached command (place_of command.slot command.generation attached)
+
+-- it performs the command, or there is none that serves it, and nothing changes
+abbrev pub MayPerform : (performed : Bool) → (old : Devices) → Command → (new : Devices) → Command → Type 0
+MayPerform true old command new done = PerformsOn old command new done
+MayPerform false old command new done = LacksDevice old command × KeepsDevices old new × (done ≡ command)

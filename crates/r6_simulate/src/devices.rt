@@ -1,11 +1,11 @@
 //! The devices of an array in memory.
 
 ghost use Rattle.std.specs.Prelude.{◌≡◌, ◌<◌, replicate, IfOk, OnOk};
-ghost use Rattle.r6_simulate.specs.Devices.{Adds, AddsAs, AreFirst, device_of, place_of, PerformsOn};
+ghost use Rattle.r6_simulate.specs.Devices.{Adds, AddsAs, AreFirst, device_of, place_of, MayPerform, MayPerformOn};
 
 use crate::fault::SimulationFault;
 use r6_core::{Command, CommandKind};
-use r6_dev::{BlockDevice, Fault as DeviceFault, MemoryDevice};
+use r6_dev::{BlockDevice, MemoryDevice};
 use r6_health::Refusal;
 use r6_kernels::Buffer;
 use r6_layout::Geometry;
@@ -45,6 +45,16 @@ pub struct Devices {
     pub attached: Vec<Attached>,
 }
 
+// A device performs a command. False: it doesn't serve it, and nothing changes.
+fn perform_on(device: &mut MemoryDevice, command: &mut Command) -> bool
+    ensures { MayPerformOn result device.old command.old device.new command.new }
+{
+    match command.kind {
+        CommandKind::Read => device.read(command.row, &mut command.buffer).is_ok(),
+        CommandKind::Write => device.write(command.row, &command.buffer).is_ok(),
+    }
+}
+
 impl Devices {
     /// In every slot a device of zeros, of generation 0.
     pub fn new(blocks: Blocks, geometry: &Geometry) -> Result<Devices, SimulationFault>
@@ -66,7 +76,7 @@ impl Devices {
     fn add(&mut self, slot: usize, generation: u32, byte: u8) -> Result<(), SimulationFault>
         ensures { OnOk result (Adds slot generation byte self.old self.new) }
     {
-        let device = self.device_of(slot, byte)?;
+        let device = self.device_of(byte)?;
         self.attached.push(Attached {
             slot,
             generation,
@@ -91,15 +101,13 @@ impl Devices {
     }
 
     // A device of which every byte is this one.
-    fn device_of(&self, slot: usize, byte: u8) -> Result<MemoryDevice, SimulationFault>
+    fn device_of(&self, byte: u8) -> Result<MemoryDevice, AllocError>
         ensures { IfOk result (λ device. device ≡ device_of self.now.rows self.now.blocks.len byte) }
     {
         let mut device = MemoryDevice::new(self.blocks.alloc, 0..self.rows, self.blocks.len)?;
         let block = self.blocks.of(byte)?;
         for row in 0..self.rows {
-            device
-                .write(row, &block)
-                .map_err(|fault| SimulationFault::Device(slot, fault))?;
+            device.write(row, &block).unwrap();
         }
         Ok(device)
     }
@@ -112,18 +120,13 @@ impl Devices {
             && attached.generation == generation)
     }
 
-    /// The device that a command names performs it.
-    pub fn perform(&mut self, command: &mut Command) -> Result<(), SimulationFault>
-        ensures { OnOk result (PerformsOn self.old command.old self.new command.new) }
+    /// The device that a command names performs it. False: it has no device that serves it, and nothing changes.
+    pub fn perform(&mut self, command: &mut Command) -> bool
+        ensures { MayPerform result self.old command.old self.new command.new }
     {
         let Some(place) = self.place_of(command.slot, command.generation) else {
-            return Err(SimulationFault::Device(command.slot, DeviceFault::Gone));
+            return false;
         };
-        let device = &mut self.attached[place].device;
-        let answer = match command.kind {
-            CommandKind::Read => device.read(command.row, &mut command.buffer),
-            CommandKind::Write => device.write(command.row, &command.buffer),
-        };
-        answer.map_err(|fault| SimulationFault::Device(command.slot, fault))
+        perform_on(&mut self.attached[place].device, command)
     }
 }

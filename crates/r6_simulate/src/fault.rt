@@ -2,14 +2,11 @@
 
 ghost use Rattle.std.specs.Prelude.{◌≡◌};
 
-use r6_dev::Fault as DeviceFault;
 use std::alloc::{AllocError, AllocFailed};
 
 /// Why a script isn't played to its end.
 #[derive(Clone, Copy, Debug)]
 pub enum SimulationFault {
-    /// The device of this slot did not do what it was told.
-    Device(usize, DeviceFault),
     /// The writer refused a line.
     Output,
     /// An allocation failed.

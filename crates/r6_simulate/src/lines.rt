@@ -40,7 +40,7 @@ pub enum Outcome {
     PerformedAlready,
     /// No command with this token is outstanding, and nothing was done.
     NoSuchCommand,
-    /// The command of a completion isn't performed, and nothing was delivered.
+    /// The command isn't performed, and nothing was delivered.
     NotPerformed,
     /// The shard received a completion.
     Received(Receipt),

@@ -60,20 +60,23 @@ impl Shard {
         }
     }
 
-    /// The device of a command in flight performs it, once.
-    pub fn perform(&mut self, devices: &mut Devices, token: u64) -> Result<Outcome, SimulationFault>
-        ensures { IfOk result (λ outcome. Performs token self.old devices.old outcome self.new devices.new) }
+    /// The device of a command in flight performs it, once, if there is one that serves it.
+    pub fn perform(&mut self, devices: &mut Devices, token: u64) -> Outcome
+        ensures { Performs token self.old devices.old result self.new devices.new }
     {
         let Some(place) = self.place_of(token) else {
-            return Ok(Outcome::NoSuchCommand);
+            return Outcome::NoSuchCommand;
         };
         let in_flight = &mut self.in_flight[place];
         if in_flight.performed {
-            return Ok(Outcome::PerformedAlready);
+            return Outcome::PerformedAlready;
         }
-        devices.perform(&mut in_flight.command)?;
-        in_flight.performed = true;
-        Ok(Outcome::Performed)
+        in_flight.performed = devices.perform(&mut in_flight.command);
+        if in_flight.performed {
+            Outcome::Performed
+        } else {
+            Outcome::NotPerformed
+        }
     }
 
     // Whether the command of this token is in flight, and its device has yet to perform it.
@@ -144,8 +147,7 @@ impl Shard {
     ) -> Result<Outcome, SimulationFault>
         ensures { IfOk result (λ outcome. Does blocks.now token self.old devices.old outcome self.new devices.new) }
     {
-        let performed = self.perform(devices, token)?;
-        match performed {
+        match self.perform(devices, token) {
             Outcome::Performed => self.answer_good(blocks, token),
             other => Ok(other),
         }
@@ -200,7 +202,7 @@ impl Shard {
             Makes call blocks.now self.old register.old devices.old outcome self.new register.new devices.new) }
     {
         match call {
-            Call::Perform(token) => self.perform(devices, token),
+            Call::Perform(token) => Ok(self.perform(devices, token)),
             Call::Answer(token, completion) => self.answer(blocks, token, completion),
             Call::Do(token) => self.perform_and_answer(devices, blocks, token),
             Call::Tell => Ok(self.tell(rt, register)),

@@ -84,7 +84,7 @@ fn play_all<R: Wait, W: Write>(
 /// register. A line for the array and for each event goes to `out`, when the event was played.
 ///
 /// # Errors
-/// `Memory`; `Output` where `out` refuses a line; `Device` where a device does not do what a core tells it.
+/// `Memory`; `Output` where `out` refuses a line.
 pub fn simulate<R: Wait, W: Write>(
     rt: &R,
     alloc: Global,

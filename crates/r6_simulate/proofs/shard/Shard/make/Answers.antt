@@ -3,7 +3,7 @@ use Rattle.r6_simulate.proofs.Passing.{if_ok}
 use Rattle.r6_simulate.proofs.shard.Shard.make.Goals as goal
 
 pub returns-in-Perform : goal.returns-in-Perform
-returns-in-Perform g c = rw c.in-Perform.is (if_ok c.perform.result _ _ (λ outcome done. (done, refl)) c.perform.ensures)
+returns-in-Perform g c = rw c.in-Perform.is (c.perform.ensures, refl)
 
 pub returns-in-Answer : goal.returns-in-Answer
 returns-in-Answer g c = rw c.in-Answer.is (if_ok c.answer.result _ _ (λ outcome done. (done, refl, refl)) c.answer.ensures)

@@ -8,10 +8,10 @@ returns-in-Performed c =
     if_ok c.answer_good.result _ _
     (λ outcome good. inl (
       c.perform.new.self,
-      subst (λ performed. Performs c.args.token c.args.self.now c.args.devices.now performed c.perform.new.self c.perform.new.devices) c.in-Performed.is c.in_ok-performed.ensures,
+      subst (λ performed. Performs c.args.token c.args.self.now c.args.devices.now performed c.perform.new.self c.perform.new.devices) c.in-Performed.is c.perform.ensures,
       good,
     ))
     c.answer_good.ensures
 
 pub returns-in_default : goal.returns-in_default
-returns-in_default c = inr (search rules, c.in_ok-performed.ensures)
+returns-in_default c = inr (search rules, c.perform.ensures)
