@@ -56,7 +56,6 @@ IsScriptFault Explains text _ = ⊥
 
 -- a script is not played to its end
 abbrev pub IsPlayingFault : Fault → Type 0
-IsPlayingFault (Device slot fault) = Unit {0}
 IsPlayingFault Output = Unit {0}
 IsPlayingFault Memory = Unit {0}
 IsPlayingFault _ = ⊥

@@ -32,7 +32,6 @@ fault_text Thread = codes "thread"
 
 -- the program's fault, where a script isn't played to its end
 abbrev pub fault_of : SimulationFault → Fault
-fault_of (simulation.Device slot fault) = Device slot fault
 fault_of simulation.Output = Output
 fault_of simulation.Memory = Memory
 

@@ -17,8 +17,8 @@ use crate::output::print;
 use crate::read::read_settings;
 use crate::report::reported;
 use r6_dev::Access;
+use r6_engine::{EngineError, Report, create_files, open_parts};
 use r6_layout::Geometry;
-use r6_offline::{EngineError, Report, create_files, open_parts};
 use r6_settings::Config;
 use std::alloc::{AllocError, Global};
 use std::fmt::Write as _;
@@ -101,7 +101,7 @@ where
         config.lost.as_slice(),
         Access::Read,
     )?;
-    r6_offline::verify(rt, alloc, &config.geometry, parts.as_mut_slice(), err)
+    r6_engine::verify(rt, alloc, &config.geometry, parts.as_mut_slice(), err)
 }
 
 /// Reads every row of the devices of the settings, classifies it in one of several threads, and prints how many rows

@@ -3,7 +3,7 @@
 ghost use Rattle.std.specs.Prelude.{◌≡◌};
 ghost use Rattle.r6_execute.specs.Status.{ending_of_report, status_of_ending};
 
-use r6_offline::Report;
+use r6_engine::Report;
 use r6_run::Ending as RunEnding;
 use r6_simulate::Ending as SimulationEnding;
 

@@ -5,7 +5,7 @@ ghost use Rattle.std.specs.Io.KnownBytes.{Appends};
 ghost use Rattle.r6_execute.specs.Faults.{fault_text};
 
 use crate::fault::Fault;
-use r6_offline::Watch;
+use r6_engine::Watch;
 use std::io::Write;
 
 /// Standard error. Where it is a terminal, long work shows on it how far it has come.

@@ -2,7 +2,7 @@
 ghost use Rattle.std.specs.Prelude.{◌≡◌};
 
 use r6_dev::Fault as DeviceFault;
-use r6_offline::EngineError;
+use r6_engine::EngineError;
 use r6_run::RunFault;
 use r6_script::ScriptFault;
 use r6_settings::SettingsFault;
@@ -120,7 +120,6 @@ impl From<SimulationFault> for Fault {
 
     fn from(fault: SimulationFault) -> Fault {
         match fault {
-            SimulationFault::Device(slot, fault) => Fault::Device(slot, fault),
             SimulationFault::Output => Fault::Output,
             SimulationFault::Memory => Fault::Memory,
         }

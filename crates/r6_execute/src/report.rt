@@ -3,8 +3,8 @@
 ghost use Rattle.std.specs.Prelude.{◌≡◌, ◌++◌, OnOk, IfOk, string_bytes};
 ghost use Rattle.r6_execute.specs.Reports.{class_text, first_text, others_text, parities_text, report_text};
 
+use r6_engine::{Counts, Report, WrongRow};
 use r6_layout::Geometry;
-use r6_offline::{Counts, Report, WrongRow};
 use r6_recover::RowClass;
 use std::alloc::{AllocError, Global};
 use std::fmt::Write;
