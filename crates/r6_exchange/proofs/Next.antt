@@ -82,6 +82,7 @@ module _ {D : Type 0} (told : D → Telling) (promised : D → Promise) where
         refl,
         record {
           token = x.0.token;
+          slot = x.0.slot;
           same_length = x.0.same_length;
           honest = subst (λ y. MayAnswer y e) (sym here) x.0.honest;
           sound = λ q. x.0.sound (subst (λ y. IsPromised y c) here q);

@@ -189,9 +189,9 @@ pub does-there : {D : Type 0} (told : D → Telling) (promised : D → Promise) 
     → Answers (told before.part.device) (entry_of c a) (told after.part.device)
     → promised after.part.device ≡ promised before.part.device
     → (Covers (promised before.part.device) c.row (length c.buffer) → IsOk a.result)
-    → a.token ≡ c.token → length (buffer_in a.result) ≡ length c.buffer
+    → a.token ≡ c.token → a.slot ≡ c.slot → length (buffer_in a.result) ≡ length c.buffer
     → Does told promised c a parts (slice_set parts at after)
-does-there told promised parts at before after c a place here slot generation steady did keeps-promise sound token same_length known holds =
+does-there told promised parts at before after c a place here slot generation steady did keeps-promise sound token own-slot same_length known holds =
     let p = position-Some (is_of c.slot c.generation) parts at before place in
     let was : is_of c.slot c.generation before ≡ true = ap (is_of c.slot c.generation) (sym here) ∙ p.1 in
     let is : is_of c.slot c.generation after ≡ true =
@@ -206,6 +206,7 @@ does-there told promised parts at before after c a place here slot generation st
     (ap (λ (y : Bool). promise_if y (promised after.part.device)) steady ∙ ap (promise_if before.steady) keeps-promise) in (
       record {
         token = token;
+        slot = own-slot;
         same_length = same_length;
         honest = both.0;
         sound = λ x. sound (if-promised before.steady (promised before.part.device) c.row (length c.buffer)
@@ -243,7 +244,7 @@ does-gone : {D : Type 0} (told : D → Telling) (promised : D → Promise) (part
     → Does told promised c (gone_for c) parts parts
 does-gone told promised parts c none known holds =
     let kept = fault-kept (known c.slot c.generation) (part_in told promised parts c.slot c.generation) c (holds c.slot c.generation) none in (
-      record { token = refl; same_length = refl; honest = kept.0; sound = λ x. absurd (kept.2 x) },
+      record { token = refl; slot = refl; same_length = refl; honest = kept.0; sound = λ x. absurd (kept.2 x) },
       holds-put known (part_in told promised parts) (part_in told promised parts) c.slot c.generation
           (known_after (known c.slot c.generation) Fails) holds kept.1 (λ d h ne. refl),
     )

@@ -86,17 +86,18 @@ abbrev pub known_after : Option Known → Entry → Option Known
 known_after None entry = None
 known_after (Some known) entry = Some (record { telling = telling_after known.telling entry; promise = known.promise })
 
--- A command is answered under its token, and its buffer comes home, as its part may answer; and without a fault if the
+-- A command is answered under its token and its slot, and its buffer comes home, as its part may answer; and without a fault if the
 -- part promises that
 pub record IsAnswer (state : State) (c : Command) (a : Completion) : Type 0 where
   pub token : a.token ≡ c.token
+  pub slot : a.slot ≡ c.slot
   pub same_length : length (buffer_in a.result) ≡ length c.buffer
   pub honest : MayAnswer (state c.slot c.generation) (entry_of c a)
   pub sound : IsPromised (state c.slot c.generation) c → IsOk a.result
 
 -- the answer to a command that no device performs
 abbrev pub gone_for : Command → Completion
-gone_for c = record { token = c.token; result = Err (record { kind = Gone; buffer = c.buffer }) }
+gone_for c = record { token = c.token; slot = c.slot; result = Err (record { kind = Gone; buffer = c.buffer }) }
 
 abbrev pub performed : State → Command → Completion → State
 performed state c a = put_at state c.slot c.generation (known_after (state c.slot c.generation) (entry_of c a))

@@ -10,6 +10,8 @@ use r6_world::DeviceFault;
 pub struct Completion {
     /// The command's.
     pub token: u64,
+    /// The command's.
+    pub slot: usize,
     /// The command's buffer, with the block that was read, or the fault of the device.
     pub result: Result<Buffer, DeviceFault>,
 }

@@ -88,6 +88,7 @@ fn gone(command: Command) -> Completion
 {
     Completion {
         token: command.token,
+        slot: command.slot,
         result: Err(DeviceFault {
             kind: FaultKind::Gone,
             buffer: command.buffer,
@@ -196,7 +197,7 @@ impl<D: BlockDevice + Drop> Worker<D> {
     {
         let Command {
             token,
-            slot: _,
+            slot,
             generation: _,
             row,
             kind,
@@ -204,7 +205,11 @@ impl<D: BlockDevice + Drop> Worker<D> {
         } = command;
         let served = &mut self.parts[at];
         let result = perform_on(&mut served.part.device, row, kind, buffer);
-        Completion { token, result }
+        Completion {
+            token,
+            slot,
+            result,
+        }
     }
 
     // Performs a command. Where the part isn't there it fails, and so it does once the worker has stopped, but where the

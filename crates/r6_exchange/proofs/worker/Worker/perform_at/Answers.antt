@@ -8,5 +8,5 @@ returns-clause-does g c =
     let done = c.perform_on-result.ensures in
     does-there g.D.BlockDevice.told g.D.BlockDevice.promised c.args.self.now.parts.items c.args.at here
     (record { part = record { slot = here.part.slot; generation = here.part.generation; device = c.perform_on-result.new.device }; steady = here.steady })
-    c.args.command (record { token = c.args.command.token; result = c.perform_on-result.result })
-    c.requires.place (sym c.index_mut-served.ensures.value) refl refl refl done.answers done.promised done.sound refl done.same_length
+    c.args.command (record { token = c.args.command.token; slot = c.args.command.slot; result = c.perform_on-result.result })
+    c.requires.place (sym c.index_mut-served.ensures.value) refl refl refl done.answers done.promised done.sound refl refl done.same_length
