@@ -338,15 +338,8 @@ opens l n s token c Late (Come_home t d) here k a slot g i = inl i
 opens l n s token c receipt change here k a slot g i = absurd k
 
 pub loss_law : LossLaw
-loss_law s at token c receipt new p slot g i =
-    let l = s.layout in
-    let n = s.number in
-    let st = p.delivered in
-    let c' : Command = record c { taken = true; transfer = handed c.transfer } in
-    let there : p.middle.command token ≡ Some c' =
-    ap (λ (y : Shard). y.command token) p.taken.1 ∙ put-same at.shard.command token (Some c') token refl in
-    let first = after l p.middle st.0 in
+loss_law l n old token c receipt new there st slot g i =
+    let first = after l old st.0 in
     let went = through-goes l n (LossesOf first) No_command (losses-kept l n first) first st.3 st.4 (λ slot g i. i) in
     let scanned = through-scans l n (LossesOf first) No_command (losses-kept l n first) st.3 new st.5 went in
-    subst (λ (y : Shard). IsToTell y (LossOf slot g) ⊎ ((slot ≡ c.slot) × (g ≡ c.generation) × (c.abandoned ≡ false) × (receipt ≡ Taken)))
-    p.taken.1 (opens l n p.middle token c' receipt st.0 there st.1 st.2 slot g (scanned slot g i))
+    opens l n old token c receipt st.0 there st.1 st.2 slot g (scanned slot g i)

@@ -1,24 +1,21 @@
 -- Commands that workers perform: taken now, answered later.
-use Rattle.std.proofs.Common.{◌≡◌, ◌≢◌, ℕ, List, [], ◌∷◌, ◌++◌, ◌⊎◌, append_assoc, Bool, true, false, if◌then◌else◌, inl, inr, refl, sym, ap, subst, ◌∙◌, arith, Option, Some, None, Ok, Err}
-use Rattle.std.proofs.lemmas.Bool.{cases_eq, cases_Bool, false≢true, true≢false, le-leb}
-use Rattle.r6_dev.specs.History as dev
-use Rattle.r6_dev.specs.History.{Telling, Blocks}
+use Rattle.std.proofs.Common.{◌≡◌, ◌≢◌, ℕ, List, [], ◌∷◌, ◌++◌, append_assoc, Bool, true, false, inl, inr, refl, sym, ap, subst, ◌∙◌, arith, Option, Some, None, Err}
+use Rattle.std.proofs.lemmas.Bool.{cases_Bool, true≢false, le-leb}
+use Rattle.r6_dev.specs.History.{Telling}
 use Rattle.r6_layout.specs.PlainArray.{Block}
-use Rattle.r6_world.specs.Tables.{put, put_in}
-use Rattle.r6_world.specs.PlainArray.{Plain}
+use Rattle.r6_world.specs.Tables.{put}
 use Rattle.r6_world.specs.Layouts.{Layout, IsRowOf}
 use Rattle.r6_world.specs.Registers.{Snapshot, Fail, NoSuchSlot, answer_to, register_after}
 use Rattle.r6_health.specs.Registers.{is_beyond}
-use Rattle.r6_world.specs.ShardStates.{Shard, Command, Transfer, Fetch, Store, Storing, handed}
+use Rattle.r6_world.specs.ShardStates.{Shard, Command, Transfer, Fetch, Store, Storing}
 use Rattle.r6_world.specs.Changes.{Change, Learn, Confirm, Give_direct, Come_home, Lose, Allowed}
 use Rattle.r6_world.specs.Steps as steps
 use Rattle.r6_world.specs.Steps.{Event, Deliver, Completion, Good, Error, Receipt, Late, Take_command, Takes, Step}
-use Rattle.r6_world.specs.Worlds.{World, Devices, Happening, Core, Perform, Tell, Outside, Moment, Possible, next, break, given, performed_on, flown, Brings, IsBrought}
-use Rattle.r6_world.specs.Laws.{IsByAnyone, IsOfShard}
-use Rattle.r6_world.proofs.Tables.{put-same, put-other, put-cases, None-not_Some, Some-inj, not_both}
-use Rattle.r6_world.proofs.Acts.Points.{put_in-same, put_in-other, put_in-apart}
-use Rattle.r6_world.proofs.Rows.Flights.{Flies}
-use Rattle.r6_course.specs.Courses.{Start, IsLawful, Mark, Reached, looked_of, HasFailed, AreFailed, Stand, Tells, AreInFlight, Follows}
+use Rattle.r6_world.specs.Worlds.{World, Happening, Core, Perform, Tell, Outside, Moment, next, break, given, performed_on, flown, Brings, IsBrought}
+use Rattle.r6_world.specs.Laws.{IsOfShard}
+use Rattle.r6_world.proofs.Tables.{put-same, put-other, put-cases, None-not_Some, Some-inj}
+use Rattle.r6_world.proofs.Acts.Points.{put_in-same}
+use Rattle.r6_course.specs.Courses.{Start, IsLawful, Mark, Reached, Stand, Tells, Follows}
 use Rattle.r6_course.specs.Steps.{Does, TakingGoesOn, AnsweringGoesOn, LosingGoesOn}
 use Rattle.r6_course.proofs.Reached.{reach, reach-looked, reach-moments, reach-named, holds-along, kept}
 use Rattle.r6_course.proofs.Calls.{both, shown, tells-alike, calls}

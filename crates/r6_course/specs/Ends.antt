@@ -2,12 +2,12 @@
 use Rattle.std.specs.Prelude.{◌≡◌, ℕ, ◌<◌, ◌⊎◌, true, false, Some}
 use Rattle.r6_world.specs.PlainArray.{ArrayFailed}
 use Rattle.r6_world.specs.ShardStates.{Shard, SlotState, Synced, Missing, Building, Command, LossOf, IsLive}
-use Rattle.r6_world.specs.Steps.{Receipt, Taken}
+use Rattle.r6_world.specs.Layouts.{Layout}
+use Rattle.r6_world.specs.Steps.{Deliver, Error, Receipt, Taken, Step}
 use Rattle.r6_world.specs.Claims.{IsIdle}
 use Rattle.r6_world.specs.Refusals.{IsToTell}
 use Rattle.r6_course.specs.Courses.{Start, IsLawful, Replied, Stand, Follows}
 use Rattle.r6_course.specs.Ledgers.{IsIn}
-use Rattle.r6_course.specs.Steps.{Fails}
 
 -- a shard answers that the array has failed only once it saw so, and it sees so only once the register has it
 abbrev pub FailureLaw : Type 0
@@ -44,8 +44,8 @@ CommandLaw =
 -- device, if the command was not abandoned
 abbrev pub LossLaw : Type 0
 LossLaw =
-    (s : Start) (at : Stand) (token : ℕ) (c : Command) (receipt : Receipt) (new : Shard)
-    → Fails s at token c receipt new
+    (l : Layout) (n : ℕ) (old : Shard) (token : ℕ) (c : Command) (receipt : Receipt) (new : Shard)
+    → old.command token ≡ Some c → Step l n old (Deliver token Error receipt) new
     → (slot generation : ℕ) → IsToTell new (LossOf slot generation)
-    → IsToTell at.shard (LossOf slot generation)
+    → IsToTell old (LossOf slot generation)
     ⊎ ((slot ≡ c.slot) × (generation ≡ c.generation) × (c.abandoned ≡ false) × (receipt ≡ Taken))

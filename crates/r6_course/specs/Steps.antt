@@ -1,5 +1,5 @@
--- How the course of a shard begins, and how it goes on: by calls of its core, by commands that are performed in place or
--- by workers, and by calls at the register, others' and its own (this project's own).
+-- How the course of a shard begins, and how it goes on: by calls of its core, by commands that are taken and later
+-- answered, and by calls at the register, others' and its own (this project's own).
 use Rattle.std.specs.Prelude.{◌≡◌, ◌<◌, ◌≤◌, ◌⊎◌, ℕ, List, Bool, true, false, Option, Some, None}
 use Rattle.r6_dev.specs.History.{Telling, Reads, Writes, Answers}
 use Rattle.r6_health.specs.declared.history.View.{View}
@@ -46,28 +46,6 @@ Does telling Fetch row block new = Answers telling (Reads row block) new
 Does telling (Store new_data) row block new = Answers telling (Writes row new_data) new
 Does telling Storing row block new = ⊥
 
--- a command is taken, its part performs it, and its good completion is delivered
-pub record Performs (s : Start) (at : Stand) (token : ℕ) (c : Command) (block : Block) (receipt : Receipt)
-    (new : Shard) (behind : Telling) : Type 0 where
-  pub middle : Shard
-  pub taken : Step s.layout s.number at.shard (Take_command token c) middle
-  pub delivered : Step s.layout s.number middle (Deliver token (Good block) receipt) new
-  pub before : Telling
-  pub there : at.part c.slot c.generation ≡ Some before
-  pub does : Does before c.transfer c.row block behind
-
-abbrev pub PerformingGoesOn : Type 0
-PerformingGoesOn =
-    (s : Start) → IsLawful s → (at : Stand) (token : ℕ) (c : Command) (block : Block) (receipt : Receipt) (new : Shard)
-    (behind : Telling) → Follows s at → Performs s at token c block receipt new behind
-    → Follows s (record at { shard = new; part = put_in at.part c.slot c.generation (Some behind) })
-
--- a command is taken, and its error is delivered
-pub record Fails (s : Start) (at : Stand) (token : ℕ) (c : Command) (receipt : Receipt) (new : Shard) : Type 0 where
-  pub middle : Shard
-  pub taken : Step s.layout s.number at.shard (Take_command token c) middle
-  pub delivered : Step s.layout s.number middle (Deliver token Error receipt) new
-
 -- the other parts are as they were
 abbrev pub OthersAreKept : (slot generation : ℕ) → (old new : ℕ → ℕ → Option Telling) → Type 0
 OthersAreKept slot generation old new =
@@ -78,25 +56,14 @@ abbrev pub NamesIt : (slot : ℕ) → Receipt → (old new : List Bool) → Type
 NamesIt slot receipt old new =
     (other : ℕ) → is_named new other ≡ true → (is_named old other ≡ true) ⊎ ((other ≡ slot) × (receipt ≡ Taken))
 
--- from then on that part may tell anything, and its slot may be named
-abbrev pub FailureGoesOn : Type 0
-FailureGoesOn =
-    (s : Start) → IsLawful s → (at : Stand) (token : ℕ) (c : Command) (receipt : Receipt) (new : Shard)
-    (part : ℕ → ℕ → Option Telling) (named : List Bool) → Follows s at → Fails s at token c receipt new
-    → OthersAreKept c.slot c.generation at.part part → NamesIt c.slot receipt at.named named
-    → Follows s (record at { shard = new; part = part; named = named })
-
--- ---- commands that workers perform
-
--- a command is taken, and from then on it is out with a worker
+-- a command is taken, and from then on it is out
 abbrev pub TakingGoesOn : Type 0
 TakingGoesOn =
     (s : Start) → IsLawful s → (at : Stand) (token : ℕ) (c : Command) (new : Shard) → Follows s at
     → Step s.layout s.number at.shard (Take_command token c) new
     → Follows s (record at { shard = new; out = put at.out token (Some c) })
 
--- The good completion of a command that is out is delivered: its part has done what the command says, as its worker's
--- history tells. Nothing is asked of when: the run that leads there has it performed just before, and whatever other
+-- The good completion of a command that is out is delivered: its part has done what the command says. Nothing is asked of when: the run that leads there has it performed just before, and whatever other
 -- parts do meanwhile, the devices hold what all parts tell
 abbrev pub AnsweringGoesOn : Type 0
 AnsweringGoesOn =

@@ -4,22 +4,19 @@
 
 ghost use Rattle.r6_course.specs.Ends.{CommandLaw, FailureLaw, IdleLaw, LossLaw};
 ghost use Rattle.r6_course.specs.Ledgers.{MergeLaw, OrderLaw};
-ghost use Rattle.r6_course.specs.Steps.{CoursesBegin, CallsGoOn, PerformingGoesOn, FailureGoesOn, OthersGoOn};
+ghost use Rattle.r6_course.specs.Steps.{CoursesBegin, CallsGoOn, OthersGoOn};
 ghost use Rattle.r6_course.specs.Steps.{TellingGoesOn, HandingGoesOn, LettingGoesOn};
 ghost use Rattle.r6_course.specs.Steps.{TakingGoesOn, AnsweringGoesOn, LosingGoesOn, SeenLaw};
 ghost use Rattle.r6_course.specs.Witness.{WitnessLaw};
 
-/// Parts that tell what the devices have are where a course begins. It goes on by each call of the core; by a
-/// command that is taken, performed in place and delivered; by one that fails, whatever its part tells from then
-/// on; by a look at the register, which others may have changed; by the shard's own call there; by a part that is
-/// handed in of a device which the core hasn't looked at yet; and by parts that are let go.
+/// Parts that tell what the devices have are where a course begins. It goes on by each call of the core; by a look at
+/// the register, which others may have changed; by the shard's own call there; by a part that is handed in of a device
+/// which the core hasn't looked at yet; and by parts that are let go.
 pub fn courses_go_on()
     ensures begins { CoursesBegin }
     ensures calls { CallsGoOn }
 
     // what comes to the shard
-    ensures performing { PerformingGoesOn }
-    ensures failure { FailureGoesOn }
     ensures others { OthersGoOn }
 
     // parts
@@ -28,8 +25,9 @@ pub fn courses_go_on()
     ensures letting { LettingGoesOn }
 {}
 
-/// A course goes on by a command that is taken for a worker, and by its completion, good or not, whenever it comes.
-pub fn workers_go_on()
+/// A course goes on by a command that is taken, and by its completion, good or not, whenever it comes: from the error of
+/// a command on its part may tell anything. Commands go only to devices whose attach the core has looked at.
+pub fn commands_go_on()
     ensures taking { TakingGoesOn }
     ensures answering { AnsweringGoesOn }
     ensures losing { LosingGoesOn }
