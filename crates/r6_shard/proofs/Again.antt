@@ -3,17 +3,18 @@ use Rattle.std.proofs.Common.{◌≡◌, ◌+◌, ◌≤◌, length, subst, vec_
 use Rattle.std.proofs.Props.{props}
 use Rattle.r6_health.specs.Passes.{view_of}
 use Rattle.r6_core.specs.Shards.{CoreView, world_shard}
+use Rattle.r6_shard.specs.declared.performs.Performs.{Ghosts}
 use Rattle.r6_shard.specs.declared.shard.Shard.{Shard}
 use Rattle.r6_shard.specs.Kept.{IsKept}
 use Rattle.r6_shard.specs.Own.{AreOwn, SeesFailure}
 use Rattle.r6_shard.specs.Whole.{SkipsNone, SawWithPass}
 use Rattle.r6_shard.specs.Courses.{AreOf}
 use Rattle.r6_shard.specs.Answering.{AreOnce}
-use Rattle.r6_shard.specs.Looked.{KnowsLast}
+use Rattle.r6_shard.specs.Looked.{KnowsLast, seen_by}
 
-module _ {P : Type 0} (old : Shard P) where
-  abbrev Kept : CoreView → Type 0
-  Kept core = IsKept core old.number old.named (length old.asked.items)
+module _ {P : Type 0} {g : Ghosts P} (old : Shard P g) where
+  abbrev Kept : CoreView → P → Type 0
+  Kept core parts = IsKept core (g.performer parts).out old.number old.named (length old.asked.items)
 
   abbrev Fails : CoreView → Type 0
   Fails core = SeesFailure core (view_of old.pass) old.entries.items
@@ -26,6 +27,9 @@ module _ {P : Type 0} (old : Shard P) where
 
   abbrev Knows : CoreView → Type 0
   Knows core = KnowsLast core old.last
+
+  abbrev Seen : Type 0
+  Seen = old.last.attaches ≤ (seen_by (view_of old.pass)).attaches
 
   abbrev Linked : Type 0
   Linked = AreOf old.asked.items old.entries.items
@@ -50,17 +54,19 @@ module _ {P : Type 0} (old : Shard P) where
 
   abbrev Again : CoreView → P → Type 0
   Again core parts =
-      (kept : Kept core) (own : Own) (failure : Fails core) (whole : Whole core) (saw : Saw) (knows : Knows core)
+      (kept : Kept core parts) (held : g.holds parts) (own : Own) (failure : Fails core) (whole : Whole core) (saw : Saw) (knows : Knows core) (seen : Seen)
       (linked : Linked) (once : Once core) (counted : Counted core) (within : Within) (asked_room : AskedRoom)
       (entries_room : EntriesRoom) → record old {
         core = core;
         parts = parts;
         kept = kept;
+        held = held;
         own = own;
         failure = failure;
         whole = whole;
         saw = saw;
         knows = knows;
+        seen = seen;
         linked = linked;
         once = once;
         counted = counted;
@@ -70,13 +76,15 @@ module _ {P : Type 0} (old : Shard P) where
       } ≡ old
 
   pub shard-again : (core : CoreView) (parts : P) → old.core ≡ core → old.parts ≡ parts → Again core parts
-  shard-again core parts e e' = subst (Again core) e' (subst (λ (y : CoreView). Again y old.parts) e (λ kept own failure whole saw knows linked once counted within asked_room entries_room.
-      let k : IsProp (Kept old.core) = Prim.hlevel props in
+  shard-again core parts e e' = subst (Again core) e' (subst (λ (y : CoreView). Again y old.parts) e (λ kept held own failure whole saw knows seen linked once counted within asked_room entries_room.
+      let k : IsProp (Kept old.core old.parts) = Prim.hlevel props in
+      let h : IsProp (g.holds old.parts) = g.holds_is_prop old.parts in
       let o : IsProp Own = Prim.hlevel props in
       let f : IsProp (Fails old.core) = Prim.hlevel props in
       let w : IsProp (Whole old.core) = Prim.hlevel props in
       let s : IsProp Saw = Prim.hlevel props in
       let m : IsProp (Knows old.core) = Prim.hlevel props in
+      let u : IsProp Seen = Prim.hlevel props in
       let d : IsProp Linked = Prim.hlevel props in
       let e : IsProp (Once old.core) = Prim.hlevel props in
       let n : IsProp (Counted old.core) = Prim.hlevel props in
@@ -85,11 +93,13 @@ module _ {P : Type 0} (old : Shard P) where
       let r : IsProp EntriesRoom = Prim.hlevel props in
       λ i. record old {
         kept = k kept old.kept i;
+        held = h held old.held i;
         own = o own old.own i;
         failure = f failure old.failure i;
         whole = w whole old.whole i;
         saw = s saw old.saw i;
         knows = m knows old.knows i;
+        seen = u seen old.seen i;
         linked = d linked old.linked i;
         once = e once old.once i;
         counted = n counted old.counted i;

@@ -1,5 +1,5 @@
 -- A shard's course begins.
-use Rattle.std.proofs.Common.{◌≡◌, ℕ, ◌<◌, List, [], Bool, false, refl, sym, ap, ◌∙◌, Option}
+use Rattle.std.proofs.Common.{◌≡◌, ℕ, ◌<◌, List, [], Bool, false, refl, sym, ap, ◌∙◌, Option, None}
 use Rattle.std.proofs.lemmas.List.Elements.{All-nil}
 use Rattle.r6_dev.specs.History.{Telling}
 use Rattle.r6_layout.specs.Shape.{Shape, IsShape}
@@ -11,6 +11,8 @@ use Rattle.r6_world.specs.Registers.{Snapshot}
 use Rattle.r6_world.specs.Worlds.{Devices}
 use Rattle.r6_world.specs.Claims.{IsLawfulStart}
 use Rattle.r6_world.proofs.Geometries.{layouts}
+use Rattle.r6_world.proofs.Tables.{None-not_Some}
+use Rattle.r6_world.specs.declared.values.Command.{Command}
 use Rattle.r6_core.specs.Shards.{CoreView}
 use Rattle.r6_core.specs.Effects.{IsMade}
 use Rattle.r6_course.specs.Courses.{is_named}
@@ -20,11 +22,11 @@ use Rattle.r6_shard.specs.Beginnings.{IsFirstPass, start_of, Hold}
 use Rattle.r6_shard.specs.Courses.{HasCourse}
 
 pub begun : (geometry : Shape) (number : ℕ) (snapshot : Snapshot) (device : Devices) (array : Array) (core : CoreView) (v : View)
-    (named : List Bool) (part : ℕ → ℕ → Option Telling) → IsShape geometry → number < geometry.shards → IsLawfulStart (layout_of geometry) snapshot device array
+    (named : List Bool) (out : ℕ → Option Command) (part : ℕ → ℕ → Option Telling) → ((token : ℕ) → out token ≡ None) → IsShape geometry → number < geometry.shards → IsLawfulStart (layout_of geometry) snapshot device array
     → Hold (start_of geometry number snapshot device array) part → IsMade geometry snapshot number core → IsFirstPass geometry snapshot v
     → ((slot : ℕ) → is_named named slot ≡ false)
-    → HasCourse (start_of geometry number snapshot device array) core v 0 named part [] [] []
-begun geometry number snapshot device array core v named part limits below lawful hold made first none =
+    → HasCourse (start_of geometry number snapshot device array) core v 0 named out part [] [] []
+begun geometry number snapshot device array core v named out part idle limits below lawful hold made first none =
     let s = start_of geometry number snapshot device array in
     let now : held v.start v.seen ≡ snapshot = ap (held v.start) first.seen ∙ first.began in
     let y = courses_begin s part named (λ slot generation telling there ok. hold slot generation telling there) none in
@@ -36,6 +38,8 @@ begun geometry number snapshot device array core v named part limits below lawfu
         layout = ap layout_of (sym made.geometry);
         number = sym made.number;
         pass = record { slots = first.slots; shards = first.shards; now = refl };
+        taken = λ token. None;
+        among = λ token c e. absurd (None-not_Some c (sym (idle token) ∙ e));
         follows = record {
           world = y.world;
           reached = y.reached;

@@ -1,5 +1,5 @@
 -- Requests that were handed in when all before them were answered.
-use Rattle.std.proofs.Common.{◌≡◌, ◌≢◌, ◌⊎◌, ℕ, ◌+◌, ◌<◌, ◌≤◌, zero, suc, List, [], ◌∷◌, ◌++◌, map, length, Bool, true, false, ◌||◌, eqb, inl, inr, refl, sym, ap, subst, ◌∙◌, arith, Option, Some, slice_get, option_map}
+use Rattle.std.proofs.Common.{◌≡◌, ◌≢◌, ◌⊎◌, ℕ, ◌+◌, ◌<◌, ◌≤◌, zero, suc, List, [], ◌∷◌, ◌++◌, map, length, Bool, true, false, ◌||◌, eqb, inl, inr, refl, sym, ap, subst, ◌∙◌, arith, Some, slice_get, option_map}
 use Rattle.std.specs.List.{AllByRecursion, IsDistinct, list_any}
 use Rattle.std.proofs.lemmas.Bool.{cases_Bool}
 use Rattle.std.proofs.lemmas.Bool.Decides.{nat_tests}
@@ -7,7 +7,6 @@ use Rattle.std.proofs.lemmas.List.{length-map}
 use Rattle.std.proofs.lemmas.Map.Keys.{IsDistinct-cons}
 use Rattle.std.proofs.lemmas.Map.Steps.{length-le_from_distinct_below}
 use Rattle.std.proofs.lemmas.Option.{slice_get-map}
-use Rattle.r6_dev.specs.History.{Telling}
 use Rattle.r6_world.specs.PlainArray.{Op, Reply}
 use Rattle.r6_world.proofs.Tables.{Some-inj}
 use Rattle.r6_course.specs.Courses.{Mark, Asked, Replied}
@@ -15,6 +14,7 @@ use Rattle.r6_course.specs.Ledgers.{IsIn, IsBefore, IsWellFormed}
 use Rattle.r6_course.proofs.Lists.{in-front, in-either, before-more, before-across}
 use Rattle.r6_shard.specs.declared.ledger.Asked.{Asked as Accepted}
 use Rattle.r6_shard.specs.Histories.{asked_in, replied_in, answered_before, numbered}
+use Rattle.r6_shard.specs.declared.performs.Performs.{Ghosts}
 use Rattle.r6_shard.specs.Behind.{BehindLaw}
 
 -- ---- numbers, all of them below one another
@@ -194,8 +194,8 @@ answered-before history before rest number is well many below earlier later smal
           ]),
     )
 
-pub behind_law : {P : Type 0} (tells : P → ℕ → ℕ → Option Telling) → BehindLaw tells
-behind_law tells s ops shard ledger number (a, at, all) earlier later small large =
+pub behind_law : {P : Type 0} (g : Ghosts P) → BehindLaw g
+behind_law g s ops shard ledger number (a, at, all) earlier later small large =
     let history = ledger.history in
     let told = ledger.told in
     let n : slice_get (answered_before 0 history) number ≡ Some number =

@@ -11,6 +11,8 @@ use Rattle.r6_world.proofs.Acts.Points.{put_in-same, put_in-other, put_in-apart}
 use Rattle.r6_course.specs.Courses as courses
 use Rattle.r6_course.specs.Courses.{Start}
 use Rattle.r6_course.specs.Steps.{OthersAreAlike}
+use Rattle.r6_dev.specs.Promises.{Promise}
+use Rattle.r6_shard.specs.declared.performs.Performs.{Ghosts}
 use Rattle.r6_shard.specs.Beginnings.{start_of, Hold}
 use Rattle.r6_shard.specs.Laws.{HandedLaw, LedgerLaw}
 use Rattle.r6_shard.proofs.Handed.{still-start}
@@ -43,8 +45,8 @@ tells-blocks s (Some None) some now telling e = absurd (some refl)
 tells-blocks s (Some (Some blocks)) some now telling e =
     subst (courses.Tells s blocks) (Some-inj (Some blocks) telling e) (λ row there. refl)
 
-pub handed_law : {D : Type 0} (told : D → Telling) → HandedLaw told
-handed_law told part earlier old new h geometry number snapshot taken ops some comes device array lawful hold =
+pub handed_law : {P D : Type 0} (g : Ghosts P) (told : D → Telling) (promised : D → Promise) → HandedLaw g told promised
+handed_law g told promised part earlier old new h geometry number snapshot taken ops some comes device array lawful hold =
     let slot = part.slot in
     let generation = part.generation in
     let now : ℕ → Block = device slot generation in
@@ -77,6 +79,6 @@ handed_law told part earlier old new h geometry number snapshot taken ops some c
         (sym (put-elsewhere device part.slot part.generation before d g ne))
         (hold d g telling (put-elsewhere taken part.slot part.generation (Some (told part.device)) d g ne ∙ there))
 
-pub ledger_law : {P : Type 0} (tells : P → ℕ → ℕ → Option Telling) → LedgerLaw tells
-ledger_law tells shard geometry number snapshot taken ops comes device array lawful hold =
-    ledger tells (start_of geometry number snapshot device array) ops shard (comes device array lawful hold)
+pub ledger_law : {P : Type 0} (g : Ghosts P) → LedgerLaw g
+ledger_law g shard geometry number snapshot taken ops comes device array lawful hold =
+    ledger (start_of geometry number snapshot device array) ops shard (comes device array lawful hold)

@@ -1,5 +1,5 @@
 -- The thread's lists and its course go on together.
-use Rattle.std.proofs.Common.{◌≡◌, ℕ, ◌+◌, ◌<◌, inl, inr, Bool, true, false, List, [], ◌∷◌, ◌++◌, length, map, get_or, get_or-set_other, refl, sym, ap, subst, ◌∙◌, arith, Option, Result, Ok, Err, IfOk, IfErr}
+use Rattle.std.proofs.Common.{◌≡◌, ℕ, ◌+◌, ◌<◌, inl, inr, Bool, true, false, List, [], ◌∷◌, ◌++◌, length, map, get_or, get_or-set_other, refl, sym, ap, subst, ◌∙◌, arith, Option, Some, None, Result, Ok, Err, IfOk, IfErr}
 use Rattle.std.specs.Prelude.{MatchResult, slice_index_or, slice_set, is_err}
 use Rattle.std.proofs.lemmas.Bool.{cases_eq, false≢true, true≢false}
 use Rattle.std.proofs.lemmas.List.{length-map, map-append, get_or-map, get_or_append_left, length-append}
@@ -15,7 +15,8 @@ use Rattle.r6_world.specs.Steps as steps
 use Rattle.r6_world.specs.Steps.{Event, Submit, Deliver, Take_command, Take_call, Told, Take_reply}
 use Rattle.r6_world.specs.Worlds.{as_made}
 use Rattle.r6_world.specs.Values.{world_command, completion_of, receipt_of, reply_of}
-use Rattle.r6_core.specs.declared.Command.{Command}
+use Rattle.r6_world.specs.Tables.{put}
+use Rattle.r6_world.specs.declared.values.Command.{Command}
 use Rattle.r6_core.specs.declared.call.Call.{Call}
 use Rattle.r6_world.specs.declared.values.DeviceFault.{DeviceFault}
 use Rattle.r6_world.specs.declared.values.Receipt.{Receipt}
@@ -25,34 +26,39 @@ use Rattle.r6_course.specs.Courses.{Start, Mark, Asked, Replied, marked, looked_
 use Rattle.r6_course.specs.Steps.{IsPlainCall, NamesIt}
 use Rattle.r6_shard.specs.declared.ledger.Asked.{Asked as Accepted}
 use Rattle.r6_shard.specs.declared.ledger.Entry.{Entry}
-use Rattle.r6_shard.specs.Performing.{Performed, Failed}
+use Rattle.r6_shard.specs.Performing.{Did}
 use Rattle.r6_shard.specs.Kept.{named_by}
 use Rattle.r6_shard.specs.Histories.{replied_in, numbered}
 use Rattle.r6_shard.specs.Courses.{Course, AreOf, IsOf, HasCourse, replied_of}
 use Rattle.r6_shard.proofs.Histories.{asked-more, replied-same, before-more, numbered-more, asked-same, replied-more, before-same}
-use Rattle.r6_shard.proofs.Courses.{goes, performed, seen, told}
+use Rattle.r6_shard.proofs.Courses.{goes, taken, answered, seen, told}
 
-pub has-gone : (s : Start) (old new : CoreView) (v : View) (looked : ℕ) (named : List Bool) (part : ℕ → ℕ → Option Telling) (accepted : List Accepted) (entries : List Entry)
+pub has-gone : (s : Start) (old new : CoreView) (v : View) (looked : ℕ) (named : List Bool) (out : ℕ → Option Command) (part : ℕ → ℕ → Option Telling) (accepted : List Accepted) (entries : List Entry)
     (ops : List world.Op) (event : Event) → IsPlainCall (held v.start v.seen) event → ((history : List Mark) → marked event history ≡ history)
-    → Step old event new → HasCourse s old v looked named part accepted entries ops → HasCourse s new v (looked_by event looked) named part accepted entries ops
-has-gone s old new v looked named part accepted entries ops event plain unmarked step x =
+    → Step old event new → HasCourse s old v looked named out part accepted entries ops → HasCourse s new v (looked_by event looked) named out part accepted entries ops
+has-gone s old new v looked named out part accepted entries ops event plain unmarked step x =
     record {
       history = x.history;
       tells = x.tells;
-      course = subst (Course s new v (looked_by event looked) named part) (unmarked x.history) (goes s old new v looked named part x.history event plain step x.course);
+      course = subst (Course s new v (looked_by event looked) named out part) (unmarked x.history) (goes s old new v looked named out part x.history event plain step x.course);
     }
 
-pub has-performed : (s : Start) (old mid new : CoreView) (v : View) (looked : ℕ) (named named' : List Bool) (part part' : ℕ → ℕ → Option Telling) (accepted : List Accepted)
-    (entries : List Entry) (ops : List world.Op) (c : Command) (frame : ℕ) (abandoned : Bool) (receipt : steps.Receipt)
-    (completion : Result (List ℕ) DeviceFault) → Step old (Take_command c.token (world_command frame abandoned c)) mid
-    → Step mid (Deliver c.token (completion_of completion) receipt) new → MatchResult completion (Performed part part' c) (Failed part part' c)
-    → MatchResult completion (λ _. named' ≡ named) (λ _. NamesIt c.slot receipt named named')
-    → HasCourse s old v looked named part accepted entries ops → HasCourse s new v looked named' part' accepted entries ops
-has-performed s old mid new v looked named named' part part' accepted entries ops c frame abandoned receipt completion takes delivers did names x =
+pub has-taken : (s : Start) (old new : CoreView) (v : View) (looked : ℕ) (named : List Bool) (out : ℕ → Option Command) (part : ℕ → ℕ → Option Telling) (accepted : List Accepted)
+    (entries : List Entry) (ops : List world.Op) (c : Command) (frame : ℕ) (abandoned : Bool) → Step old (Take_command c.token (world_command frame abandoned c)) new
+    → HasCourse s old v looked named out part accepted entries ops → HasCourse s new v looked named (put out c.token (Some c)) part accepted entries ops
+has-taken s old new v looked named out part accepted entries ops c frame abandoned step x =
+    record { history = x.history; tells = x.tells; course = taken s old new v looked named out part x.history c frame abandoned step x.course }
+
+pub has-answered : (s : Start) (old new : CoreView) (v : View) (looked : ℕ) (named named' : List Bool) (out : ℕ → Option Command) (part part' : ℕ → ℕ → Option Telling)
+    (accepted : List Accepted) (entries : List Entry) (ops : List world.Op) (token : ℕ) (c : Command) (receipt : steps.Receipt)
+    (completion : Result (List ℕ) DeviceFault) → out token ≡ Some c → Step old (Deliver token (completion_of completion) receipt) new
+    → Did part part' c completion → MatchResult completion (λ _. named' ≡ named) (λ _. NamesIt c.slot receipt named named')
+    → HasCourse s old v looked named out part accepted entries ops → HasCourse s new v looked named' (put out token None) part' accepted entries ops
+has-answered s old new v looked named named' out part part' accepted entries ops token c receipt completion was delivers did names x =
     record {
       history = x.history;
       tells = x.tells;
-      course = performed s old mid new v looked named named' part part' x.history c frame abandoned receipt completion takes delivers did names x.course;
+      course = answered s old new v looked named named' out part part' x.history token c receipt completion was delivers did names x.course;
     }
 
 -- a slot is named where its command's error was taken, and no other is
@@ -71,21 +77,21 @@ names-by named named' true core-receipt.Taken slot (Err fault) is same = subst (
 names-by named named' true core-receipt.Late slot (Err fault) is same = subst (NamesIt slot steps.Late named) (sym same) (λ other e. inl e)
 names-by named named' false receipt slot (Err fault) is same = absurd (false≢true is)
 
-pub has-seen : (s : Start) (core : CoreView) (v w : View) (looked : ℕ) (named : List Bool) (part : ℕ → ℕ → Option Telling) (accepted : List Accepted) (entries : List Entry)
-    (ops : List world.Op) → Looks v w → HasCourse s core v looked named part accepted entries ops → HasCourse s core w looked named part accepted entries ops
-has-seen s core v w looked named part accepted entries ops look x =
-    record { history = x.history; tells = x.tells; course = seen s core v w looked named part x.history look x.course }
+pub has-seen : (s : Start) (core : CoreView) (v w : View) (looked : ℕ) (named : List Bool) (out : ℕ → Option Command) (part : ℕ → ℕ → Option Telling) (accepted : List Accepted) (entries : List Entry)
+    (ops : List world.Op) → Looks v w → HasCourse s core v looked named out part accepted entries ops → HasCourse s core w looked named out part accepted entries ops
+has-seen s core v w looked named out part accepted entries ops look x =
+    record { history = x.history; tells = x.tells; course = seen s core v w looked named out part x.history look x.course }
 
-pub has-told : (s : Start) (old mid new : CoreView) (v w : View) (looked : ℕ) (named : List Bool) (part : ℕ → ℕ → Option Telling) (accepted : List Accepted)
+pub has-told : (s : Start) (old mid new : CoreView) (v w : View) (looked : ℕ) (named : List Bool) (out : ℕ → Option Command) (part : ℕ → ℕ → Option Telling) (accepted : List Accepted)
     (entries : List Entry) (ops : List world.Op) (number : ℕ) (call : Call) (answer : Answer) → number ≡ old.shard
     → Step old (Take_call (call_of call)) mid → Step mid (Told (call_of call) answer) new
     → Answered v (as_made number (call_of call)) answer w
-    → HasCourse s old v looked named part accepted entries ops → HasCourse s new w looked named part accepted entries ops
-has-told s old mid new v w looked named part accepted entries ops number call answer same takes tells answered x =
+    → HasCourse s old v looked named out part accepted entries ops → HasCourse s new w looked named out part accepted entries ops
+has-told s old mid new v w looked named out part accepted entries ops number call answer same takes tells answered x =
     record {
       history = x.history;
       tells = x.tells;
-      course = told s old mid new v w looked named part x.history number call answer same takes tells answered x.course;
+      course = told s old mid new v w looked named out part x.history number call answer same takes tells answered x.course;
     }
 
 -- ---- requests and replies
@@ -122,11 +128,11 @@ pub linked-more : (accepted : List Accepted) (entries : List Entry) (e : Entry) 
     → AreOf accepted (entries ++ e ∷ [])
 linked-more accepted entries e x own = All-push (IsOf accepted) entries e x own
 
-pub has-submitted : (s : Start) (old new : CoreView) (v : View) (looked : ℕ) (named : List Bool) (part : ℕ → ℕ → Option Telling) (accepted : List Accepted) (entries : List Entry)
+pub has-submitted : (s : Start) (old new : CoreView) (v : View) (looked : ℕ) (named : List Bool) (out : ℕ → Option Command) (part : ℕ → ℕ → Option Telling) (accepted : List Accepted) (entries : List Entry)
     (ops : List world.Op) (event : ℕ) (op : world.Op) (id : ℕ) → id ≡ length accepted → Step old (Submit op id) new
-    → HasCourse s old v looked named part accepted entries ops
-    → HasCourse s new v looked named part (accepted ++ record { event = event; block = block_of op; answered = length entries } ∷ []) entries (ops ++ op ∷ [])
-has-submitted s old new v looked named part accepted entries ops event op id same step x =
+    → HasCourse s old v looked named out part accepted entries ops
+    → HasCourse s new v looked named out part (accepted ++ record { event = event; block = block_of op; answered = length entries } ∷ []) entries (ops ++ op ∷ [])
+has-submitted s old new v looked named out part accepted entries ops event op id same step x =
     let h = x.history in
     let t = x.tells in
     let a : Accepted = record { event = event; block = block_of op; answered = length entries } in
@@ -144,13 +150,13 @@ has-submitted s old new v looked named part accepted entries ops event op id sam
             ∙ sym (map-append block_of ops (op ∷ []));
         linked = linked-longer accepted a entries t.linked;
       };
-      course = goes s old new v looked named part h (Submit op id) (record {}) step x.course;
+      course = goes s old new v looked named out part h (Submit op id) (record {}) step x.course;
     }
 
-pub has-collected : (s : Start) (old new : CoreView) (v : View) (looked : ℕ) (named : List Bool) (part : ℕ → ℕ → Option Telling) (accepted : List Accepted) (entries : List Entry)
+pub has-collected : (s : Start) (old new : CoreView) (v : View) (looked : ℕ) (named : List Bool) (out : ℕ → Option Command) (part : ℕ → ℕ → Option Telling) (accepted : List Accepted) (entries : List Entry)
     (ops : List world.Op) (e : Entry) → Step old (Take_reply e.id.0 (reply_of e.reply)) new → IsOf accepted e
-    → HasCourse s old v looked named part accepted entries ops → HasCourse s new v looked named part accepted (entries ++ e ∷ []) ops
-has-collected s old new v looked named part accepted entries ops e step own x =
+    → HasCourse s old v looked named out part accepted entries ops → HasCourse s new v looked named out part accepted (entries ++ e ∷ []) ops
+has-collected s old new v looked named out part accepted entries ops e step own x =
     let h = x.history in
     let t = x.tells in
     record {
@@ -163,7 +169,7 @@ has-collected s old new v looked named part accepted entries ops e step own x =
         blocks = t.blocks;
         linked = linked-more accepted entries e t.linked own;
       };
-      course = goes s old new v looked named part h (Take_reply e.id.0 (reply_of e.reply)) (record {}) step x.course;
+      course = goes s old new v looked named out part h (Take_reply e.id.0 (reply_of e.reply)) (record {}) step x.course;
     }
 
 -- ---- of a result

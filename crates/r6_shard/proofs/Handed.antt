@@ -1,6 +1,6 @@
 -- A part is handed in.
 use Rattle.std.proofs.Common.{◌≡◌, ℕ, ◌<◌, ◌≤◌, zero, suc, List, [], ◌∷◌, ◌++◌, length, get_or, Bool, true, false, inl, inr, refl, sym, ap, ◌∙◌, arith, Option, Some, None}
-use Rattle.std.specs.Prelude.{slice_set, ◌==◌, ◌&&◌, nat_lt, cond}
+use Rattle.std.specs.Prelude.{slice_set, ◌==◌, ◌&&◌, nat_lt, cond, option_map}
 use Rattle.std.specs.List.{position, position_or_len}
 use Rattle.std.proofs.Math.Seq.{map-set_same}
 use Rattle.std.proofs.lemmas.List.{map-append}
@@ -21,13 +21,14 @@ use Rattle.r6_course.specs.Courses as courses
 use Rattle.r6_course.specs.Courses.{Start}
 use Rattle.r6_course.specs.Steps.{OthersAreKept, OthersAreAlike}
 use Rattle.r6_course.proofs.Handing.{handing_goes_on, letting_goes_on}
-use Rattle.r6_shard.specs.declared.parts.Part.{Part}
+use Rattle.r6_exchange.specs.declared.task.Part.{Part}
+use Rattle.r6_world.specs.declared.values.Command.{Command}
 use Rattle.r6_shard.specs.declared.ledger.Asked.{Asked as Accepted}
 use Rattle.r6_shard.specs.declared.ledger.Entry.{Entry}
-use Rattle.r6_shard.specs.Parts.{is_of, label_of, part_in, part_of, TakesIn}
+use Rattle.r6_shard.specs.Parts.{is_of, label_of, part_in, part_of, PutsIn}
 use Rattle.r6_shard.specs.Courses.{stand_of, HasCourse}
 use Rattle.r6_shard.proofs.Courses.{put-alike}
-use Rattle.r6_shard.proofs.Places.{first-of, behind, replaced, elsewhere, not-both, label-is}
+use Rattle.r6_shard.proofs.Places.{first-of, behind, not-both, label-is}
 
 pub of-first : {D : Type 0} (part : Part D) (parts : List (Part D)) (slot generation : ℕ) → is_of slot generation part ≡ true
     → part_of (part ∷ parts) slot generation ≡ Some part
@@ -73,29 +74,25 @@ part-elsewhere (part ∷ parts) (suc at) d new other g below is was = elim (case
       ∙ sym (of-behind part parts other g no')
 ]
 
-pub takes-place : {D : Type 0} (told : D → Telling) (parts : List (Part D)) (at : ℕ) (earlier part : Part D)
+pub puts-place : {D : Type 0} (parts : List (Part D)) (at : ℕ) (earlier part : Part D)
     → position (is_of part.slot part.generation) parts ≡ Some at → get_or parts at earlier ≡ earlier
-    → TakesIn told part (Some earlier) parts (slice_set parts at part)
-takes-place told parts at earlier part place here =
+    → PutsIn part (Some earlier) parts (slice_set parts at part)
+puts-place parts at earlier part place here =
     let p = position-Some (is_of part.slot part.generation) parts at earlier place in
     let was : is_of part.slot part.generation earlier ≡ true = ap (is_of part.slot part.generation) (sym here) ∙ p.1 in
     record {
+      back = ap Some (sym here) ∙ sym (part-found parts at earlier part.slot part.generation p.0 p.1 p.2);
       labels = (
         label-is earlier part.slot part.generation was,
         map-set_same label_of parts at part earlier (sym (label-is earlier part.slot part.generation was) ∙ ap label_of (sym here)),
       );
-      back = ap Some (sym here) ∙ sym (part-found parts at earlier part.slot part.generation p.0 p.1 p.2);
       there = part-replaced parts at earlier part part.slot part.generation p.0 (own part) p.2;
-      tells = replaced told parts at earlier part part.slot part.generation p.0 (own part) p.2;
-      others = λ other g ne.
-          elsewhere told parts at earlier part other g p.0 (not-both part part.slot part.generation other g (own part) ne)
-          (ap (is_of other g) here ∙ not-both earlier part.slot part.generation other g was ne);
       kept = λ other g ne.
           part-elsewhere parts at earlier part other g p.0 (not-both part part.slot part.generation other g (own part) ne)
           (ap (is_of other g) here ∙ not-both earlier part.slot part.generation other g was ne);
     }
 
--- ---- behind the others
+-- ---- after the others
 
 unplaced : {D : Type 0} (parts : List (Part D)) (slot generation : ℕ) → length parts ≤ position_or_len (is_of slot generation) parts
     → part_of parts slot generation ≡ None
@@ -133,25 +130,6 @@ part-added (part ∷ parts) new none = elim (cases_Bool (is_of new.slot new.gene
       ∙ part-added parts new (sym (of-behind part parts new.slot new.generation no') ∙ none)
 ]
 
-tells-added : {D : Type 0} (told : D → Telling) (parts : List (Part D)) (new : Part D) → part_of parts new.slot new.generation ≡ None
-    → part_in told (parts ++ new ∷ []) new.slot new.generation ≡ Some (told new.device)
-tells-added told [] new none = first-of told new [] new.slot new.generation (own new)
-tells-added told (part ∷ parts) new none = elim (cases_Bool (is_of new.slot new.generation part)) [
-  | inl yes' ↦ absurd (None-not_Some part (sym none ∙ of-first part parts new.slot new.generation yes'))
-  | inr no' ↦
-      behind told part (parts ++ new ∷ []) new.slot new.generation no'
-      ∙ tells-added told parts new (sym (of-behind part parts new.slot new.generation no') ∙ none)
-]
-
-others-added : {D : Type 0} (told : D → Telling) (parts : List (Part D)) (new : Part D) (other g : ℕ) → is_of other g new ≡ false
-    → part_in told (parts ++ new ∷ []) other g ≡ part_in told parts other g
-others-added told [] new other g e = behind told new [] other g e
-others-added told (part ∷ parts) new other g e = elim (cases_Bool (is_of other g part)) [
-  | inl yes' ↦ first-of told part (parts ++ new ∷ []) other g yes' ∙ sym (first-of told part parts other g yes')
-  | inr no' ↦
-      behind told part (parts ++ new ∷ []) other g no' ∙ others-added told parts new other g e ∙ sym (behind told part parts other g no')
-]
-
 parts-added : {D : Type 0} (parts : List (Part D)) (new : Part D) (other g : ℕ) → is_of other g new ≡ false
     → part_of (parts ++ new ∷ []) other g ≡ part_of parts other g
 parts-added [] new other g e = of-behind new [] other g e
@@ -160,17 +138,28 @@ parts-added (part ∷ parts) new other g e = elim (cases_Bool (is_of other g par
   | inr no' ↦ of-behind part (parts ++ new ∷ []) other g no' ∙ parts-added parts new other g e ∙ sym (of-behind part parts other g no')
 ]
 
-pub takes-behind : {D : Type 0} (told : D → Telling) (parts : List (Part D)) (part : Part D) → part_of parts part.slot part.generation ≡ None
-    → TakesIn told part None parts (parts ++ part ∷ [])
-takes-behind told parts part none =
+pub puts-after : {D : Type 0} (parts : List (Part D)) (part : Part D) → part_of parts part.slot part.generation ≡ None
+    → PutsIn part None parts (parts ++ part ∷ [])
+puts-after parts part none =
     record {
-      labels = map-append label_of parts (part ∷ []);
       back = sym none;
+      labels = map-append label_of parts (part ∷ []);
       there = part-added parts part none;
-      tells = tells-added told parts part none;
-      others = λ other g ne. others-added told parts part other g (not-both part part.slot part.generation other g (own part) ne);
       kept = λ other g ne. parts-added parts part other g (not-both part part.slot part.generation other g (own part) ne);
     }
+
+-- what the part of a slot and generation tells is told of that part
+pub told-of : {D : Type 0} (told : D → Telling) (parts : List (Part D)) (slot generation : ℕ)
+    → part_in told parts slot generation ≡ option_map (λ (p : Part D). told p.device) (part_of parts slot generation)
+told-of told [] slot generation = refl
+told-of {D = D} told (part ∷ parts) slot generation = elim (cases_Bool (is_of slot generation part)) [
+  | inl yes' ↦
+      first-of told part parts slot generation yes'
+      ∙ ap (option_map (λ (p : Part D). told p.device)) (sym (of-first part parts slot generation yes'))
+  | inr no' ↦
+      behind told part parts slot generation no' ∙ told-of told parts slot generation
+      ∙ ap (option_map (λ (p : Part D). told p.device)) (sym (of-behind part parts slot generation no'))
+]
 
 -- ---- the course
 
@@ -191,14 +180,15 @@ still-start l r device device' array slot generation looked above alike x =
           ∙ x.full_rows row d in-row below sync;
     }
 
-pub has-handed : (s : Start) (device : Devices) (core : CoreView) (v : View) (looked : ℕ) (named : List Bool) (part part' : ℕ → ℕ → Option Telling)
+pub has-handed : (s : Start) (device : Devices) (core : CoreView) (v : View) (looked : ℕ) (named : List Bool) (out : ℕ → Option Command) (part part' : ℕ → ℕ → Option Telling)
     (accepted : List Accepted) (entries : List Entry) (ops : List world.Op) (slot generation : ℕ) (telling : Telling) → looked < generation
     → OthersAreAlike slot generation s.device device → courses.Tells s (device slot generation) telling
     → part' slot generation ≡ Some telling → OthersAreKept slot generation part part'
-    → HasCourse s core v looked named part accepted entries ops → HasCourse (record s { device = device }) core v looked named part' accepted entries ops
-has-handed s device core v looked named part part' accepted entries ops slot generation telling above alike tells is others x =
+    → HasCourse s core v looked named out part accepted entries ops → HasCourse (record s { device = device }) core v looked named out part' accepted entries ops
+has-handed s device core v looked named out part part' accepted entries ops slot generation telling above alike tells is others x =
     let t : Start = record s { device = device } in
-    let y = handing_goes_on s x.course.lawful device (stand_of core v looked named part x.history) slot generation telling x.course.follows above alike tells in
+    let y = handing_goes_on s x.course.lawful device (record (stand_of core v looked named part x.history) { out = x.course.taken }) slot generation telling
+    x.course.follows above alike tells in
     record {
       history = x.history;
       tells = x.tells;
@@ -211,7 +201,10 @@ has-handed s device core v looked named part part' accepted entries ops slot gen
         layout = x.course.layout;
         number = x.course.number;
         pass = record { slots = x.course.pass.slots; shards = x.course.pass.shards; now = x.course.pass.now };
-        follows = letting_goes_on t (stand_of core v looked named (put_in part slot generation (Some telling)) x.history) part' y
+        taken = x.course.taken;
+        among = x.course.among;
+        follows = letting_goes_on t
+            (record (stand_of core v looked named (put_in part slot generation (Some telling)) x.history) { out = x.course.taken }) part' y
             (λ d g told there. sym (put-alike part part' slot generation telling is others d g) ∙ there);
       };
     }

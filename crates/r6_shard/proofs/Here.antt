@@ -18,10 +18,12 @@ use Rattle.r6_core.specs.declared.turn.Task.{Task}
 use Rattle.r6_core.specs.declared.turn.Turn.{Turn}
 use Rattle.r6_core.specs.Effects.{IsMade, TakesTurn}
 use Rattle.r6_core.specs.Shards.{CoreView, Step, core_layout, world_shard}
-use Rattle.r6_shard.specs.declared.parts.Part.{Part}
+use Rattle.r6_exchange.specs.declared.task.Part.{Part}
+use Rattle.r6_shard.specs.New.{HasNewHere}
 use Rattle.r6_shard.specs.Parts.{is_of, label_of, labels_of, part_in, part_of, StandsIn}
-use Rattle.r6_shard.specs.Here.{UsesOnly, IsHere, HasUsed, BeginsHere, HasNewHere}
-use Rattle.r6_shard.specs.Sound.{HasPart}
+use Rattle.r6_shard.specs.Performing.{HasPart, IsHere}
+use Rattle.r6_shard.specs.Uses.{UsesOnly}
+use Rattle.r6_shard.specs.Here.{HasUsed, BeginsHere}
 use Rattle.r6_shard.proofs.Places.{first-of, behind, label-is}
 use Rattle.r6_shard.proofs.Handed.{of-first, of-behind, none-of}
 use Rattle.r6_shard.proofs.Keeping.{turned, turned-no-look}

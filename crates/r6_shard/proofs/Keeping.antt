@@ -1,5 +1,5 @@
 -- What a shard keeps, it keeps with each call.
-use Rattle.std.proofs.Common.{◌≡◌, ℕ, ◌+◌, ◌<◌, ◌≤◌, ◌⊎◌, List, [], length, Bool, true, false, inl, inr, refl, sym, ap, subst, ◌∙◌, arith, get_or-set_same, get_or-set_other, None, Result, Ok, Err}
+use Rattle.std.proofs.Common.{◌≡◌, ℕ, ◌+◌, ◌<◌, ◌≤◌, List, length, Bool, true, false, inl, inr, refl, sym, ap, subst, ◌∙◌, arith, get_or-set_same, get_or-set_other, Option, Some, None, Result, Ok, Err}
 use Rattle.std.specs.Prelude.{slice_index_or, slice_set, is_err}
 use Rattle.std.proofs.lemmas.Bool.{cases_eq}
 use Rattle.std.proofs.lemmas.List.{length-set}
@@ -8,33 +8,37 @@ use Rattle.r6_world.specs.PlainArray.{Op}
 use Rattle.r6_world.specs.Layouts.{Layout}
 use Rattle.r6_world.specs.Geometries.{layout_of}
 use Rattle.r6_world.specs.Registers.{Snapshot, Told as Answer}
-use Rattle.r6_world.specs.ShardStates.{Shard, Command, LossOf, Call}
+use Rattle.r6_world.specs.Tables.{put}
+use Rattle.r6_world.specs.ShardStates as world
+use Rattle.r6_world.specs.ShardStates.{Shard, LossOf, Call, handed}
+use Rattle.r6_world.specs.declared.values.Command.{Command}
 use Rattle.r6_world.specs.Changes.{Hand_call, Hear}
 use Rattle.r6_world.specs.Steps as steps
 use Rattle.r6_world.specs.Steps.{Event, Submit, Deliver, Completion, Good, Error, Receipt, Taken, Late, Take_command, No_command, Take_call, No_call, Told}
 use Rattle.r6_world.specs.Refusals.{IsToTell, IsNoError, IsNoLook}
 use Rattle.r6_world.specs.Worlds.{shard_at_start}
 use Rattle.r6_world.proofs.Changes.{Keeps, step-kept}
-use Rattle.r6_world.proofs.Tables.{None-not_Some}
+use Rattle.r6_world.proofs.Tables.{put-same, None-not_Some, Some-inj}
 use Rattle.r6_world.proofs.Refused.Refusals.{only_errors_declare}
 use Rattle.r6_world.specs.declared.values.DeviceFault.{DeviceFault}
 use Rattle.r6_world.specs.declared.values.Receipt.{Receipt as CoreReceipt}
 use Rattle.r6_world.specs.declared.values.Receipt.TheVariants as core-receipt
-use Rattle.r6_world.specs.Values.{completion_of, receipt_of}
+use Rattle.r6_world.specs.Values.{completion_of, receipt_of, world_command}
 use Rattle.r6_core.specs.Shards.{CoreView, Step, core_layout, world_shard}
 use Rattle.r6_world.specs.Tasks.{Rebuild, Check, Repair}
 use Rattle.r6_core.specs.declared.turn.Task.{Task}
 use Rattle.r6_core.specs.declared.turn.Task.TheVariants as task
 use Rattle.r6_core.specs.declared.turn.Turn.{Turn}
 use Rattle.r6_core.specs.declared.turn.Turn.TheVariants.{Started, Skipped}
-use Rattle.r6_core.specs.Effects.{IsMade, TakesTurn}
-use Rattle.r6_course.specs.Courses.{Start, Stand, Mark, marked, looked_by}
+use Rattle.r6_core.specs.Effects.{IsMade, IsCommandOf, TakesTurn}
+use Rattle.r6_course.specs.Courses.{Mark, marked, looked_by}
 use Rattle.r6_course.specs.Steps.{IsPlainCall}
 use Rattle.r6_course.proofs.Ends.{loss_law}
 use Rattle.r6_world.specs.Counting.{passes}
 use Rattle.r6_shard.specs.Counted.{rows_of}
-use Rattle.r6_shard.specs.Kept.{AreNumbered, NoneIsTaken, NoneIsUntold, AreNamed, named_by, IsKept}
-use Rattle.r6_shard.proofs.Steps.{still-numbered, one-more, IsBeside, still-untaken, answered-untaken}
+use Rattle.r6_shard.specs.Kept.{AreNumbered, AreOut, IsOut, NoneIsUntold, AreNamed, named_by, IsKept}
+use Rattle.r6_shard.proofs.Steps.{still-numbered, one-more, IsBeside}
+use Rattle.r6_shard.proofs.Out.{some-there, still-out, taken-out, delivered-out}
 
 -- ---- the start
 
@@ -42,14 +46,19 @@ none-to-tell : (l : Layout) (snapshot : Snapshot) (n : ℕ) (call : Call) → Is
 none-to-tell l snapshot n call (inl none) = none
 none-to-tell l snapshot n call (inr e) = None-not_Some _ e
 
-pub kept-at-first : (shape : Shape) (snapshot : Snapshot) (number : ℕ) (core : CoreView) (named : List Bool) (count : ℕ)
-    → shape.slots ≤ 32 → count ≡ 0 → length named ≡ 32 → IsMade shape snapshot number core → IsKept core number named count
-kept-at-first shape snapshot number core named count few none long made =
+pub kept-at-first : (shape : Shape) (snapshot : Snapshot) (number : ℕ) (core : CoreView) (out : ℕ → Option Command) (named : List Bool) (count : ℕ)
+    → shape.slots ≤ 32 → count ≡ 0 → length named ≡ 32 → ((token : ℕ) → out token ≡ None) → IsMade shape snapshot number core
+    → IsKept core out number named count
+kept-at-first shape snapshot number core out named count few none long idle made =
     let start = sym made.start in (
       sym made.number,
       subst (λ (y : Shape). y.slots ≤ 32) (sym made.geometry) few,
       subst (λ (s : Shard). AreNumbered s count) start (sym none, λ id request e. absurd (None-not_Some _ e)),
-      subst NoneIsTaken start (λ token c e. absurd (None-not_Some _ e)),
+      subst (λ (s : Shard). AreOut core.shape core.shard s.command s.tokens out) start (record {
+        each = λ token c e. absurd (None-not_Some c (sym (idle token) ∙ e));
+        all = λ token c e taken. absurd (None-not_Some _ e);
+        tokens = λ token c e. absurd (None-not_Some _ e);
+      }),
       subst NoneIsUntold start refl,
       subst (λ (s : Shard). AreNamed s named) start (λ slot generation told. absurd (none-to-tell (layout_of shape) snapshot number _ told)),
       long,
@@ -96,46 +105,62 @@ still-named : (old : CoreView) (event : Event) (new : CoreView) (named : List Bo
 still-named old event new named none step x slot generation i =
     x slot generation (only_errors_declare (core_layout old) old.shard (world_shard old) (world_shard new) event none step.1 slot generation i)
 
+-- ---- commands that are out
+
+-- the core is of the same array, and has the same number
+moved : (old new : CoreView) (out : ℕ → Option Command) → new.shape ≡ old.shape → new.shard ≡ old.shard
+    → AreOut old.shape old.shard (world_shard new).command (world_shard new).tokens out
+    → AreOut new.shape new.shard (world_shard new).command (world_shard new).tokens out
+moved old new out same same' x =
+    subst (λ (n : ℕ). AreOut new.shape n (world_shard new).command (world_shard new).tokens out) (sym same')
+    (subst (λ (y : Shape). AreOut y old.shard (world_shard new).command (world_shard new).tokens out) (sym same) x)
+
+out-on : (old : CoreView) (event : Event) (new : CoreView) (out : ℕ → Option Command) → IsBeside event → Step old event new
+    → AreOut old.shape old.shard (world_shard old).command (world_shard old).tokens out
+    → AreOut new.shape new.shard (world_shard new).command (world_shard new).tokens out
+out-on old event new out beside step x =
+    moved old new out step.0.0 step.0.1
+    (still-out old.shape old.shard out (core_layout old) old.shard event beside (world_shard old) (world_shard new) step.1 x)
+
 -- ---- all of it
 
-pub kept-plainly : (old : CoreView) (event : Event) (new : CoreView) (number : ℕ) (named : List Bool) (count : ℕ) → IsPlain event
-    → Step old event new → IsKept old number named count → IsKept new number named count
-kept-plainly old event new number named count plain step x =
+pub kept-plainly : (old : CoreView) (event : Event) (new : CoreView) (out : ℕ → Option Command) (number : ℕ) (named : List Bool) (count : ℕ)
+    → IsPlain event → Step old event new → IsKept old out number named count → IsKept new out number named count
+kept-plainly old event new out number named count plain step x =
     let l = core_layout old in (
       x.0 ∙ sym step.0.1,
       subst (λ y. y ≤ 32) (ap (λ y. y.slots) (sym step.0.0)) x.1,
       still-numbered l old.shard event (plain-submits event plain) (world_shard old) (world_shard new) count step.1 x.2,
-      still-untaken l old.shard event (plain-beside event plain) (world_shard old) (world_shard new) step.1 x.3,
+      out-on old event new out (plain-beside event plain) step x.3,
       step-kept l old.shard NoneIsUntold event (untold-kept l old.shard event (plain-takes event plain)) (world_shard old) (world_shard new) step.1 x.4,
       still-named old event new named (plain-errors event plain) step x.5,
       x.6,
     )
 
-pub kept-submitting : (old : CoreView) (op : Op) (id : ℕ) (new : CoreView) (number : ℕ) (named : List Bool) (count : ℕ)
-    → Step old (Submit op id) new → IsKept old number named count → IsKept new number named (count + 1)
-kept-submitting old op id new number named count step x =
+pub kept-submitting : (old : CoreView) (op : Op) (id : ℕ) (new : CoreView) (out : ℕ → Option Command) (number : ℕ) (named : List Bool) (count : ℕ)
+    → Step old (Submit op id) new → IsKept old out number named count → IsKept new out number named (count + 1)
+kept-submitting old op id new out number named count step x =
     let l = core_layout old in (
       x.0 ∙ sym step.0.1,
       subst (λ y. y ≤ 32) (ap (λ y. y.slots) (sym step.0.0)) x.1,
       (one-more l old.shard (world_shard old) (world_shard new) op id count step.1 x.2).1,
-      still-untaken l old.shard (Submit op id) (record {}) (world_shard old) (world_shard new) step.1 x.3,
+      out-on old (Submit op id) new out (record {}) step x.3,
       step-kept l old.shard NoneIsUntold (Submit op id) (untold-kept l old.shard (Submit op id) (λ call e. cc)) (world_shard old) (world_shard new) step.1 x.4,
       still-named old (Submit op id) new named (record {}) step x.5,
       x.6,
     )
 
 -- a call at the register is taken and told
-pub kept-telling : (old mid new : CoreView) (call : Call) (answer : Answer) (number : ℕ) (named : List Bool) (count : ℕ)
-    → Step old (Take_call call) mid → Step mid (Told call answer) new → IsKept old number named count → IsKept new number named count
-kept-telling old mid new call answer number named count takes tells x =
+pub kept-telling : (old mid new : CoreView) (call : Call) (answer : Answer) (out : ℕ → Option Command) (number : ℕ) (named : List Bool) (count : ℕ)
+    → Step old (Take_call call) mid → Step mid (Told call answer) new → IsKept old out number named count → IsKept new out number named count
+kept-telling old mid new call answer out number named count takes tells x =
     let l = core_layout old in
     let m = core_layout mid in (
       x.0 ∙ sym takes.0.1 ∙ sym tells.0.1,
       subst (λ y. y ≤ 32) (ap (λ y. y.slots) (sym takes.0.0) ∙ ap (λ y. y.slots) (sym tells.0.0)) x.1,
       still-numbered m mid.shard (Told call answer) (λ op id e. cc) (world_shard mid) (world_shard new) count tells.1
           (still-numbered l old.shard (Take_call call) (λ op id e. cc) (world_shard old) (world_shard mid) count takes.1 x.2),
-      still-untaken m mid.shard (Told call answer) (record {}) (world_shard mid) (world_shard new) tells.1
-          (still-untaken l old.shard (Take_call call) (record {}) (world_shard old) (world_shard mid) takes.1 x.3),
+      out-on mid (Told call answer) new out (record {}) tells (out-on old (Take_call call) mid out (record {}) takes x.3),
       ap (λ (y : Shard). y.untold) tells.1.1,
       still-named mid (Told call answer) new named (record {}) tells (still-named old (Take_call call) mid named (record {}) takes x.5),
       x.6,
@@ -143,40 +168,37 @@ kept-telling old mid new call answer number named count takes tells x =
 
 -- ---- a command
 
--- a loss is of a step alone, whatever the start
-abbrev dummy : CoreView → Start
-dummy core = record {
-  layout = core_layout core;
-  number = core.shard;
-  register = record { slots = []; attaches = 0; failed = false };
-  device = λ d g row. [];
-  array = λ block. [];
-}
-
-abbrev dummy-stand : CoreView → Stand
-dummy-stand core = record {
-  shard = world_shard core;
-  register = record { slots = []; attaches = 0; failed = false };
-  looked = 0;
-  named = [];
-  out = λ token. None;
-  part = λ d g. None;
-  history = [];
-}
-
--- a command fails: of the losses to declare one is new at most
-one-loss : (old mid new : CoreView) (token : ℕ) (c : Command) (receipt : Receipt) → Step old (Take_command token c) mid
-    → Step mid (Deliver token Error receipt) new → (slot generation : ℕ) → IsToTell (world_shard new) (LossOf slot generation)
-    → IsToTell (world_shard old) (LossOf slot generation) ⊎ ((slot ≡ c.slot) × (receipt ≡ Taken))
-one-loss old mid new token c receipt takes delivers slot generation i =
-    let second : steps.Step (core_layout old) old.shard (world_shard mid) (Deliver token Error receipt) (world_shard new) =
-    subst (λ (y : Layout). steps.Step y old.shard (world_shard mid) (Deliver token Error receipt) (world_shard new)) (ap Rattle.r6_world.specs.Geometries.layout_of takes.0.0)
-    (subst (λ y. steps.Step (core_layout mid) y (world_shard mid) (Deliver token Error receipt) (world_shard new)) takes.0.1 delivers.1) in
-    elim (loss_law (dummy old) (dummy-stand old) token c receipt (world_shard new)
-    (record { middle = world_shard mid; taken = takes.1; delivered = second }) slot generation i) [
-      | inl before ↦ inl before
-      | inr own ↦ inr (own.0, own.3)
-    ]
+pub kept-taking : (old : CoreView) (c : Command) (frame : ℕ) (abandoned : Bool) (new : CoreView) (out : ℕ → Option Command) (number : ℕ) (named : List Bool) (count : ℕ)
+    → Step old (Take_command c.token (world_command frame abandoned c)) new → IsCommandOf old c → IsKept old out number named count
+    → IsKept new (put out c.token (Some c)) number named count
+kept-taking old c frame abandoned new out number named count step there x =
+    let l = core_layout old in
+    let own : world.Command = world_command frame abandoned c in
+    let at : world.Command = record own { taken = true; transfer = handed own.transfer } in
+    let event = Take_command c.token own in
+    let has : put (world_shard old).command c.token (Some at) c.token ≡ Some at = put-same (world_shard old).command c.token (Some at) c.token refl in (
+      x.0 ∙ sym step.0.1,
+      subst (λ y. y ≤ 32) (ap (λ y. y.slots) (sym step.0.0)) x.1,
+      still-numbered l old.shard event (λ op id e. cc) (world_shard old) (world_shard new) count step.1 x.2,
+      moved old new (put out c.token (Some c)) step.0.0 step.0.1
+          (subst (λ (s : Shard). AreOut old.shape old.shard s.command s.tokens (put out c.token (Some c))) (sym step.1.1)
+          (taken-out old.shape old.shard out (world_shard old).command (world_shard old).tokens c frame abandoned step.1.0.0
+          (record {
+            there = λ none. None-not_Some at (sym none ∙ has);
+            same = λ d e.
+                let is = Some-inj at d (sym has ∙ e) in (
+                  ap (λ (y : world.Command). y.taken) (sym is),
+                  ap (λ (y : world.Command). y.slot) (sym is),
+                  ap (λ (y : world.Command). y.generation) (sym is),
+                );
+            slot = there.slot;
+            row = there.row;
+            block = there.block;
+          }) x.3)),
+      step-kept l old.shard NoneIsUntold event (untold-kept l old.shard event (λ call e. cc)) (world_shard old) (world_shard new) step.1 x.4,
+      still-named old event new named (record {}) step x.5,
+      x.6,
+    )
 
 -- the completion of a command whose slot isn't to be named
 abbrev IsHarmless : Result (List ℕ) DeviceFault → Receipt → Type 0
@@ -191,16 +213,18 @@ harmless-late : (completion : Result (List ℕ) DeviceFault) → IsHarmless comp
 harmless-late (Ok came) = record {}
 harmless-late (Err fault) = λ e. cc
 
-named-plainly : (old mid new : CoreView) (token : ℕ) (c : Command) (completion : Result (List ℕ) DeviceFault) (receipt : Receipt) (named : List Bool)
-    → Step old (Take_command token c) mid → Step mid (Deliver token (completion_of completion) receipt) new
+-- a command fails: of the losses to declare one is new at most
+named-plainly : (old new : CoreView) (token : ℕ) (c : Command) (completion : Result (List ℕ) DeviceFault) (receipt : Receipt) (named : List Bool)
+    → IsOut old.shape old.shard (world_shard old).command token c → Step old (Deliver token (completion_of completion) receipt) new
     → IsHarmless completion receipt → AreNamed (world_shard old) named → AreNamed (world_shard new) named
-named-plainly old mid new token c (Ok came) receipt named takes delivers harmless x =
-    still-named mid (Deliver token (Good came) receipt) new named (record {}) delivers (still-named old (Take_command token c) mid named (record {}) takes x)
-named-plainly old mid new token c (Err fault) receipt named takes delivers harmless x = λ slot generation i.
-    elim (one-loss old mid new token c receipt takes delivers slot generation i) [
+named-plainly old new token c (Ok came) receipt named out delivers harmless x =
+    still-named old (Deliver token (Good came) receipt) new named (record {}) delivers x
+named-plainly old new token c (Err fault) receipt named out delivers harmless x = λ slot generation i.
+    some-there ((world_shard old).command token) out.there (λ d there.
+    elim (loss_law (core_layout old) old.shard (world_shard old) token d receipt (world_shard new) there delivers.1 slot generation i) [
       | inl before ↦ x slot generation before
-      | inr own ↦ absurd (harmless own.1)
-    ]
+      | inr own ↦ absurd (harmless own.3)
+    ])
 
 pub set-named : (named : List Bool) (slot other : ℕ) → slot < length named → slice_index_or named other false ≡ true
     → slice_index_or (slice_set named slot true) other false ≡ true
@@ -209,58 +233,59 @@ set-named named slot other below e = elim (cases_eq other slot) [
   | inr ne ↦ get_or-set_other named slot other true false ne ∙ e
 ]
 
-named-anew : (old mid new : CoreView) (token : ℕ) (c : Command) (completion : Result (List ℕ) DeviceFault) (receipt : Receipt) (named : List Bool)
-    → Step old (Take_command token c) mid → Step mid (Deliver token (completion_of completion) receipt) new
+named-anew : (old new : CoreView) (token : ℕ) (c : Command) (completion : Result (List ℕ) DeviceFault) (receipt : Receipt) (named : List Bool)
+    → IsOut old.shape old.shard (world_shard old).command token c → Step old (Deliver token (completion_of completion) receipt) new
     → c.slot < length named → AreNamed (world_shard old) named → AreNamed (world_shard new) (slice_set named c.slot true)
-named-anew old mid new token c (Ok came) receipt named takes delivers below x = λ slot generation i.
-    set-named named c.slot slot below (named-plainly old mid new token c (Ok came) receipt named takes delivers (record {}) x slot generation i)
-named-anew old mid new token c (Err fault) receipt named takes delivers below x = λ slot generation i.
-    elim (one-loss old mid new token c receipt takes delivers slot generation i) [
+named-anew old new token c (Ok came) receipt named out delivers below x = λ slot generation i.
+    set-named named c.slot slot below (named-plainly old new token c (Ok came) receipt named out delivers (record {}) x slot generation i)
+named-anew old new token c (Err fault) receipt named out delivers below x = λ slot generation i.
+    some-there ((world_shard old).command token) out.there (λ d there.
+    elim (loss_law (core_layout old) old.shard (world_shard old) token d receipt (world_shard new) there delivers.1 slot generation i) [
       | inl before ↦ set-named named c.slot slot below (x slot generation before)
       | inr own ↦
-          ap (λ y. slice_index_or (slice_set named c.slot true) y false) own.0 ∙ get_or-set_same named c.slot true false below
-    ]
+          ap (λ y. slice_index_or (slice_set named c.slot true) y false) (own.0 ∙ (out.same d there).1) ∙ get_or-set_same named c.slot true false below
+    ])
 
-kept-answering : (old mid new : CoreView) (token : ℕ) (c : Command) (completion : Completion) (receipt : Receipt) (number : ℕ) (named after-named : List Bool) (count : ℕ)
-    → Step old (Take_command token c) mid → Step mid (Deliver token completion receipt) new
-    → AreNamed (world_shard new) after-named → length after-named ≡ 32 → IsKept old number named count → IsKept new number after-named count
-kept-answering old mid new token c completion receipt number named after-named count takes delivers losses many x =
-    let l = core_layout old in
-    let m = core_layout mid in
-    let second : steps.Step l old.shard (world_shard mid) (Deliver token completion receipt) (world_shard new) =
-    subst (λ (y : Layout). steps.Step y old.shard (world_shard mid) (Deliver token completion receipt) (world_shard new)) (ap Rattle.r6_world.specs.Geometries.layout_of takes.0.0)
-    (subst (λ y. steps.Step (core_layout mid) y (world_shard mid) (Deliver token completion receipt) (world_shard new)) takes.0.1 delivers.1) in (
-      x.0 ∙ sym takes.0.1 ∙ sym delivers.0.1,
-      subst (λ y. y ≤ 32) (ap (λ y. y.slots) (sym takes.0.0) ∙ ap (λ y. y.slots) (sym delivers.0.0)) x.1,
-      still-numbered l old.shard (Deliver token completion receipt) (λ op id e. cc) (world_shard mid) (world_shard new) count second
-          (still-numbered l old.shard (Take_command token c) (λ op id e. cc) (world_shard old) (world_shard mid) count takes.1 x.2),
-      answered-untaken l old.shard (world_shard old) (world_shard mid) (world_shard new) token c completion receipt takes.1 second x.3,
-      step-kept l old.shard NoneIsUntold (Deliver token completion receipt) (untold-kept l old.shard (Deliver token completion receipt) (λ call e. cc)) (world_shard mid) (world_shard new) second
-          (step-kept l old.shard NoneIsUntold (Take_command token c) (untold-kept l old.shard (Take_command token c) (λ call e. cc)) (world_shard old) (world_shard mid) takes.1 x.4),
+kept-answering : (old new : CoreView) (token : ℕ) (completion : Completion) (receipt : Receipt) (out : ℕ → Option Command) (number : ℕ) (named after-named : List Bool) (count : ℕ)
+    → Step old (Deliver token completion receipt) new → AreNamed (world_shard new) after-named → length after-named ≡ 32
+    → IsKept old out number named count → IsKept new (put out token None) number after-named count
+kept-answering old new token completion receipt out number named after-named count delivers losses many x =
+    let l = core_layout old in (
+      x.0 ∙ sym delivers.0.1,
+      subst (λ y. y ≤ 32) (ap (λ y. y.slots) (sym delivers.0.0)) x.1,
+      still-numbered l old.shard (Deliver token completion receipt) (λ op id e. cc) (world_shard old) (world_shard new) count delivers.1 x.2,
+      moved old new (put out token None) delivers.0.0 delivers.0.1
+          (delivered-out old.shape old.shard out l old.shard (world_shard old) (world_shard new) token completion receipt delivers.1 x.3),
+      step-kept l old.shard NoneIsUntold (Deliver token completion receipt) (untold-kept l old.shard (Deliver token completion receipt) (λ call e. cc)) (world_shard old) (world_shard new) delivers.1 x.4,
       losses,
       many,
     )
 
 -- its slot is named if it has to be
-pub kept-performing : (old mid new : CoreView) (token : ℕ) (c : Command) (completion : Result (List ℕ) DeviceFault) (receipt : CoreReceipt) (number : ℕ) (named : List Bool) (count : ℕ)
-    → Step old (Take_command token c) mid → Step mid (Deliver token (completion_of completion) (receipt_of receipt)) new
-    → c.slot < 32 → (failed : Bool) → failed ≡ is_err completion → IsKept old number named count → IsKept new number (named_by failed receipt c.slot named) count
-kept-performing old mid new token c completion receipt number named count takes delivers below failed is x = at failed is receipt delivers
+pub kept-receiving : (old new : CoreView) (token : ℕ) (c : Command) (completion : Result (List ℕ) DeviceFault) (receipt : CoreReceipt) (out : ℕ → Option Command) (number : ℕ)
+    (named : List Bool) (count : ℕ) → out token ≡ Some c → Step old (Deliver token (completion_of completion) (receipt_of receipt)) new
+    → (failed : Bool) → failed ≡ is_err completion → IsKept old out number named count
+    → IsKept new (put out token None) number (named_by failed receipt c.slot named) count
+kept-receiving old new token c completion receipt out number named count was delivers failed is x = at failed is receipt delivers
   where
+    own : IsOut old.shape old.shard (world_shard old).command token c
+    own = x.3.each token c was
+
     there : c.slot < length named
-    there = let many = x.6 in omega arith
+    there = let many = x.6 in let few = x.1 in let low = own.slot in omega arith
 
     at : (failed : Bool) → failed ≡ is_err completion → (receipt : CoreReceipt)
-        → Step mid (Deliver token (completion_of completion) (receipt_of receipt)) new → IsKept new number (named_by failed receipt c.slot named) count
+        → Step old (Deliver token (completion_of completion) (receipt_of receipt)) new
+        → IsKept new (put out token None) number (named_by failed receipt c.slot named) count
     at true is core-receipt.Taken delivers =
-        kept-answering old mid new token c (completion_of completion) Taken number named (slice_set named c.slot true) count takes delivers
-        (named-anew old mid new token c completion Taken named takes delivers there x.5) (length-set named c.slot true ∙ x.6) x
+        kept-answering old new token (completion_of completion) Taken out number named (slice_set named c.slot true) count delivers
+        (named-anew old new token c completion Taken named own delivers there x.5) (length-set named c.slot true ∙ x.6) x
     at true is core-receipt.Late delivers =
-        kept-answering old mid new token c (completion_of completion) Late number named named count takes delivers
-        (named-plainly old mid new token c completion Late named takes delivers (harmless-late completion) x.5) x.6 x
+        kept-answering old new token (completion_of completion) Late out number named named count delivers
+        (named-plainly old new token c completion Late named own delivers (harmless-late completion) x.5) x.6 x
     at false is receipt delivers =
-        kept-answering old mid new token c (completion_of completion) (receipt_of receipt) number named named count takes delivers
-        (named-plainly old mid new token c completion (receipt_of receipt) named takes delivers (harmless-good completion (receipt_of receipt) (sym is)) x.5) x.6 x
+        kept-answering old new token (completion_of completion) (receipt_of receipt) out number named named count delivers
+        (named-plainly old new token c completion (receipt_of receipt) named own delivers (harmless-good completion (receipt_of receipt) (sym is)) x.5) x.6 x
 
 -- a turn is a step that leaves no mark
 pub turned : (old : CoreView) (task : Task) (turn : Turn) (new : CoreView) → TakesTurn old task turn new

@@ -1,6 +1,5 @@
 -- From a shard's course to its ledger.
-use Rattle.std.proofs.Common.{◌≡◌, ℕ, List, [], ◌∷◌, ◌++◌, inl, inr, refl, ap, Option}
-use Rattle.r6_dev.specs.History.{Telling}
+use Rattle.std.proofs.Common.{◌≡◌, ℕ, List, [], ◌∷◌, ◌++◌, inl, inr, refl, ap}
 use Rattle.r6_health.specs.Passes.{view_of}
 use Rattle.r6_world.specs.PlainArray as world
 use Rattle.r6_world.proofs.Tables.{not_both}
@@ -8,11 +7,12 @@ use Rattle.r6_world.specs.Values.{op_of}
 use Rattle.r6_core.specs.declared.refusal.Refusal.{Refusal}
 use Rattle.r6_core.specs.Shards.{CoreView}
 use Rattle.r6_core.specs.Refusals.{HasSubmitFault, HasNone}
-use Rattle.r6_course.specs.Courses.{Start}
+use Rattle.r6_course.specs.Courses.{Start, Stand}
 use Rattle.r6_course.proofs.Ledger.{order_law}
 use Rattle.r6_course.proofs.Ends.{failure_law, idle_law}
 use Rattle.r6_shard.specs.declared.ledger.Asked.{Asked}
 use Rattle.r6_shard.specs.declared.ledger.Asking.{Asking}
+use Rattle.r6_shard.specs.declared.performs.Performs.{Ghosts}
 use Rattle.r6_shard.specs.declared.shard.Shard.{Shard}
 use Rattle.r6_shard.specs.Courses.{stand_of}
 use Rattle.r6_shard.specs.Shards.{CourseOf}
@@ -20,15 +20,24 @@ use Rattle.r6_shard.specs.Refusing.{Lasts, own_faults, ending_faults, IsRefusedF
 use Rattle.r6_shard.specs.Runs.{AreServed, IsLedger}
 use Rattle.r6_shard.proofs.Lasting.{none-own, still-refused, none-later}
 
-pub ledger : {P : Type 0} (tells : P → ℕ → ℕ → Option Telling) (s : Start) (ops : List world.Op) (shard : Shard P)
-    → CourseOf tells s ops shard → IsLedger tells s ops shard
-ledger tells s ops shard x =
-    let at = stand_of shard.core (view_of shard.pass) shard.last.attaches shard.named (tells shard.parts) x.history in
+pub ledger : {P : Type 0} {g : Ghosts P} (s : Start) (ops : List world.Op) (shard : Shard P g) → CourseOf s ops shard → IsLedger s ops shard
+ledger {g = g} s ops shard x =
+    let at : Stand =
+    record (stand_of shard.core (view_of shard.pass) shard.last.attaches shard.named (g.performer shard.parts).tells x.history)
+    { out = x.course.taken } in
     let lawful = x.course.lawful in
+    let order = order_law s lawful at x.course.follows in
     record {
       history = x.history;
       told = x.tells;
-      explained = order_law s lawful at x.course.follows;
+      explained = record {
+        array = order.array;
+        leads = order.leads;
+        parts = order.parts;
+        others = order.others;
+        well_formed = order.well_formed;
+        none_forgotten = order.none_forgotten;
+      };
       failure = (failure_law s lawful at x.course.follows).0;
       seen = (failure_law s lawful at x.course.follows).1;
       idle = λ rests live.

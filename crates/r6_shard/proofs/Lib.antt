@@ -1,4 +1,5 @@
 pub mod Steps
+pub mod Out
 pub mod Histories
 pub mod Courses
 pub mod Places
@@ -12,6 +13,8 @@ pub mod Sound
 pub mod Whole
 pub mod Again
 pub mod Promises
+pub mod Waiting
+pub mod Numbered
 pub mod Counting
 pub mod Lasting
 pub mod Going

@@ -1,12 +1,13 @@
 -- What a shard knows by its last look, as it goes on.
-use Rattle.std.proofs.Common.{◌≡◌, ℕ, ◌<◌, List, Bool, true, false, inl, inr, refl, sym, ap, subst, ◌∙◌}
+use Rattle.std.proofs.Common.{◌≡◌, ℕ, ◌<◌, ◌≤◌, List, Bool, true, false, inl, inr, refl, sym, ap, subst, ◌∙◌, arith}
 use Rattle.std.specs.Prelude.{◌==◌}
 use Rattle.std.proofs.lemmas.Bool.{cases_Bool, eqb-true, false≢true}
 use Rattle.r6_layout.specs.Shape.{Shape}
 use Rattle.r6_health.specs.declared.history.View.{View}
 use Rattle.r6_health.specs.Histories.{held}
 use Rattle.r6_world.specs.Layouts.{Layout}
-use Rattle.r6_world.specs.Registers.{Snapshot, ShardSet, Status, Lost, Rebuilding, status_of}
+use Rattle.r6_world.specs.Registers.{Snapshot, ShardSet, Status, InSync, Lost, Rebuilding, status_of}
+use Rattle.r6_world.proofs.Tables.{None-not_Some}
 use Rattle.r6_world.specs.ShardStates.{Shard, SlotState, Synced, Missing, Building}
 use Rattle.r6_world.specs.Changes.{Adopt, Bring_in, Finish, Lose, Release, adopted, after}
 use Rattle.r6_world.specs.Steps as steps
@@ -25,7 +26,9 @@ use Rattle.r6_shard.specs.declared.ledger.Entry.{Entry}
 use Rattle.r6_shard.specs.Looked.{KnowsLast}
 use Rattle.r6_shard.specs.Own.{SeesFailure}
 use Rattle.r6_shard.proofs.Keeping.{turned, turned-no-look}
-use Rattle.r6_shard.proofs.Sound.{put-used, finished-used}
+use Rattle.r6_shard.specs.Looked.{IsNumbered}
+use Rattle.r6_shard.specs.Uses.{UsesOnly}
+use Rattle.r6_shard.proofs.Sound.{put-used, finished-used, uses-on, finds-none}
 
 -- ---- each small change
 
@@ -81,6 +84,10 @@ sees-none : (event : Event) → IsNoLook event → SeesNoFailure event
 sees-none (Look seen) k = absurd k
 sees-none event k = record {}
 
+same-shape : (old new : CoreView) (last : Snapshot) (slot : ℕ) → new.shape ≡ old.shape
+    → UsesOnly old.shape.slots (λ g. g ≤ last.attaches) slot (world_shard new) → UsesOnly new.shape.slots (λ g. g ≤ last.attaches) slot (world_shard new)
+same-shape old new last slot same x = subst (λ (y : Shape). UsesOnly y.slots (λ g. g ≤ last.attaches) slot (world_shard new)) (sym same) x
+
 -- any call but a look
 pub knows-on : (old : CoreView) (event : Event) (new : CoreView) (last : Snapshot) → IsNoLook event → Step old event new → KnowsLast old last → KnowsLast new last
 knows-on old event new last none step x =
@@ -93,6 +100,9 @@ knows-on old event new last none step x =
       failed = stops_only_when_seen l old.shard (world_shard old) (world_shard new) event (sees-none event none) step.1 ∙ x.failed;
       lost = λ slot below e g u. x.lost slot (low slot below) e g (used slot g u);
       rebuilt = λ slot below new' reported e g u. x.rebuilt slot (low slot below) new' reported e g (used slot g u);
+      used = λ slot. same-shape old new last slot step.0.0
+          (uses-on l old.shard (λ g. g ≤ last.attaches) slot event (finds-none l old.shard (λ g. g ≤ last.attaches) slot event none)
+          (world_shard old) (world_shard new) step.1 (x.used slot));
     }
 
 pub knows-twice : (old : CoreView) (event : Event) (mid : CoreView) (event' : Event) (new : CoreView) (last : Snapshot) → IsNoLook event → IsNoLook event'
@@ -108,9 +118,9 @@ knows-turned old task turn new last t x =
     let p = turned old task turn new t in knows-on old p.0 new last (turned-no-look old task turn new t) p.5 x
 
 -- the core looks at what the pass saw last: what it saw failed before has failed there
-pub knows-looked : (old : CoreView) (seen : Snapshot) (new : CoreView) (v : View) (entries : List Entry) → seen ≡ held v.start v.seen
-    → Step old (Look seen) new → SeesFailure old v entries → KnowsLast new seen
-knows-looked old seen new v entries is step failure =
+pub knows-looked : (old : CoreView) (last seen : Snapshot) (new : CoreView) (v : View) (entries : List Entry) → seen ≡ held v.start v.seen → IsNumbered seen
+    → last.attaches ≤ (held v.start v.seen).attaches → Step old (Look seen) new → SeesFailure old v entries → KnowsLast old last → KnowsLast new seen
+knows-looked old last seen new v entries is numbered few step failure x =
     let l = core_layout old in
     let low : (slot : ℕ) → slot < new.shape.slots → slot < old.shape.slots = (λ slot below. subst (λ (y : Shape). slot < y.slots) step.0.0 below) in
     record {
@@ -126,6 +136,13 @@ knows-looked old seen new v entries is step failure =
           (used-after l old.shard (world_shard old) seen (world_shard new) step.1 slot (low slot below) Lost e g u);
       rebuilt = λ slot below new' reported e g u. new-alone ((world_shard old).slot slot) new' reported g
           (used-after l old.shard (world_shard old) seen (world_shard new) step.1 slot (low slot below) (Rebuilding new' reported) e g u);
+      used = λ slot.
+          let more : (g : ℕ) → g ≤ last.attaches → g ≤ seen.attaches =
+          (λ g most. let all = few in let same = ap (λ (y : Snapshot). y.attaches) is in omega arith) in
+          same-shape old new seen slot step.0.0
+          (uses-on l old.shard (λ g. g ≤ seen.attaches) slot (Look seen) (λ below g reported e. numbered slot g reported e)
+          (world_shard old) (world_shard new) step.1
+          (λ below g u. more g ((x.used slot).0 below g u), λ token c e same. more c.generation ((x.used slot).1 token c e same)));
     }
 
 -- ---- the start
@@ -137,7 +154,16 @@ knows-first shape snapshot number core fine made =
       failed = ap (λ (y : Shard). y.saw_failed) made.start ∙ sym fine;
       lost = λ slot below e g u. at slot g Lost e u;
       rebuilt = λ slot below new reported e g u. absurd (at slot g (Rebuilding new reported) e u);
+      used = λ slot. (
+        λ below g u. first slot g (status_of snapshot slot) refl u,
+        λ token c e same. absurd (None-not_Some c (sym (ap (λ (y : Shard). y.command token) made.start) ∙ e)),
+      );
     }
   where
     at : (slot g : ℕ) (status : Status) → status_of snapshot slot ≡ status → IsInUse ((world_shard core).slot slot) g → IsInUse (slot_at_start status) g
     at slot g status e u = subst (λ y. IsInUse (slot_at_start y) g) e (subst (λ (y : Shard). IsInUse (y.slot slot) g) made.start u)
+
+    first : (slot g : ℕ) (status : Status) → status_of snapshot slot ≡ status → IsInUse ((world_shard core).slot slot) g → g ≤ snapshot.attaches
+    first slot g InSync e u = let none : g ≡ 0 = at slot g InSync e u in omega arith
+    first slot g Lost e u = absurd (at slot g Lost e u)
+    first slot g (Rebuilding new reported) e u = absurd (at slot g (Rebuilding new reported) e u)

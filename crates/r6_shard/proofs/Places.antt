@@ -7,10 +7,10 @@ use Rattle.std.proofs.lemmas.List.Quantifiers.{position-Some}
 use Rattle.std.proofs.lemmas.Bool.{cases_Bool, and_parts, eqb-true}
 use Rattle.r6_dev.specs.History.{Telling}
 use Rattle.r6_world.specs.Values.{given_transfer}
-use Rattle.r6_core.specs.declared.Command.{Command}
+use Rattle.r6_world.specs.declared.values.Command.{Command}
 use Rattle.r6_world.specs.declared.values.DeviceFault.{DeviceFault}
 use Rattle.r6_course.specs.Steps.{Does}
-use Rattle.r6_shard.specs.declared.parts.Part.{Part}
+use Rattle.r6_exchange.specs.declared.task.Part.{Part}
 use Rattle.r6_shard.specs.Parts.{is_of, label_of, labels_of, part_in}
 use Rattle.r6_shard.specs.Performing.{Performed, Failed}
 

@@ -14,10 +14,12 @@ use Rattle.r6_world.specs.Layouts.{IsRowOf}
 use Rattle.r6_world.specs.Registers.{Snapshot, ShardSet, Rebuilding}
 use Rattle.r6_world.proofs.Tables.{None-not_Some}
 use Rattle.r6_core.specs.Shards.{CoreView}
-use Rattle.r6_shard.specs.declared.parts.Part.{Part}
+use Rattle.r6_exchange.specs.declared.task.Part.{Part}
+use Rattle.r6_shard.specs.declared.in_place.InPlace.{InPlace}
+use Rattle.r6_shard.specs.Waiting.{performer_of}
 use Rattle.r6_shard.specs.Parts.{is_of, part_in, part_of, promise_in, TakesIn}
-use Rattle.r6_shard.specs.Performing.{ArePromised}
-use Rattle.r6_shard.specs.Sound.{HasPart, DeviceFailsNone, IsSound, BeginsSound, StartsSound, MemoryLaw}
+use Rattle.r6_shard.specs.Performing.{Performer, HasPart}
+use Rattle.r6_shard.specs.Sound.{DeviceFailsNone, IsSound, BeginsSound, StartsSound, MemoryLaw}
 use Rattle.r6_shard.proofs.Places.{first-of, behind, not-both}
 use Rattle.r6_shard.proofs.Handed.{of-first, of-behind, part-found, part-replaced, part-elsewhere}
 
@@ -53,7 +55,7 @@ promise-of promised parts slot generation part e = ap (λ o. unwrap_or (option_m
 pub still-promised : {D : Type 0} (promised : D → Promise) (parts : List (Part D)) (at : ℕ) (before behind' : Part D) (slot generation : ℕ)
     → position (is_of slot generation) parts ≡ Some at → get_or parts at before ≡ before
     → behind'.slot ≡ before.slot → behind'.generation ≡ before.generation → promised behind'.device ≡ promised before.device
-    → ArePromised (promise_in promised parts) (promise_in promised (slice_set parts at behind'))
+    → (other g : ℕ) → promise_in promised (slice_set parts at behind') other g ≡ promise_in promised parts other g
 still-promised {D = D} promised parts at before behind' slot generation place here slot' generation' stays other g =
     let p = position-Some (is_of slot generation) parts at before place in
     let was : is_of slot generation before ≡ true = ap (is_of slot generation) (sym here) ∙ p.1 in
@@ -74,29 +76,24 @@ still-promised {D = D} promised parts at before behind' slot generation place he
 
 -- ---- a part is taken in
 
-pub takes-sound : {D : Type 0} (told : D → Telling) (promised : D → Promise) (part : Part D) (earlier : Option (Part D)) (old new : List (Part D))
-    (shape : Shape) (number slot : ℕ) (core : CoreView) (named : List Bool) → TakesIn told part earlier old new
+pub takes-sound : {D : Type 0} (told : D → Telling) (promised : D → Promise) (part : Part D) (earlier : Option (Part D)) (old new : Performer)
+    (shape : Shape) (number slot : ℕ) (core : CoreView) (named : List Bool) → TakesIn told promised part earlier old new
     → (part.slot ≡ slot → DeviceFailsNone promised shape number part.device)
-    → IsSound (part_in told old) (promise_in promised old) shape number slot core named
-    → IsSound (part_in told new) (promise_in promised new) shape number slot core named
-takes-sound {D = D} told promised part earlier old new shape number slot core named taken fails x =
+    → IsSound old shape number slot core named → IsSound new shape number slot core named
+takes-sound told promised part earlier old new shape number slot core named taken fails x =
     let Fine = λ (y : Promise). FailsNone y (IsRowOf (layout_of shape) number) shape.block in
-    let stays : (g : ℕ) → HasPart (part_in told old) slot g → HasPart (part_in told new) slot g =
+    let stays : (g : ℕ) → HasPart old.tells slot g → HasPart new.tells slot g =
     (λ g has. same-or-not slot g part.slot part.generation
     (λ same same' e. None-not_Some (told part.device)
-    (sym e ∙ ap (λ y. part_in told new y g) same ∙ ap (part_in told new part.slot) same' ∙ taken.tells))
+    (sym e ∙ ap (λ y. new.tells y g) same ∙ ap (new.tells part.slot) same' ∙ taken.tells))
     (λ ne e. has (sym (taken.others slot g ne) ∙ e))) in
     record {
       shape_is = x.shape_is;
       place = x.place;
       parts = λ g has. same-or-not slot g part.slot part.generation
           (λ same same'.
-          subst Fine
-          (sym (promise-of promised new slot g part (ap (λ y. part_of new y g) same ∙ ap (part_of new part.slot) same' ∙ taken.there)))
-          (fails (sym same)))
-          (λ ne.
-          subst Fine (sym (ap (λ o. unwrap_or (option_map (λ (y : Part D). promised y.device) o) no_promise) (taken.kept slot g ne)))
-          (x.parts g (λ e. has (taken.others slot g ne ∙ e))));
+          subst Fine (sym (ap (λ y. new.promised y g) same ∙ ap (new.promised part.slot) same' ∙ taken.promises)) (fails (sym same)))
+          (λ ne. subst Fine (sym (taken.still slot g ne)) (x.parts g (λ e. has (taken.others slot g ne ∙ e))));
       here = (λ below g u. stays g (x.here.0 below g u), λ token c e same. stays c.generation (x.here.1 token c e same));
       unnamed = x.unnamed;
     }
@@ -128,10 +125,11 @@ untold told (part ∷ parts) slot generation e = elim (cases_Bool (is_of slot ge
   | inr no' ↦ of-behind part parts slot generation no' ∙ untold told parts slot generation (sym (behind told part parts slot generation no') ∙ e)
 ]
 
-pub begins-sound : {D : Type 0} (told : D → Telling) (promised : D → Promise) (shape : Shape) (number slot : ℕ) (snapshot : Snapshot) (parts : List (Part D))
-    → StartsSound promised shape number snapshot slot parts
-    → BeginsSound (part_in told parts) (promise_in promised parts) shape number snapshot slot
-begins-sound told promised shape number slot snapshot parts x =
+pub begins-sound : {D : Type 0} (told : D → Telling) (promised : D → Promise) (shape : Shape) (number slot : ℕ) (snapshot : Snapshot) (here : InPlace D)
+    → StartsSound promised shape number snapshot slot here.parts.items
+    → BeginsSound (performer_of told promised here) shape number snapshot slot
+begins-sound told promised shape number slot snapshot here x =
+    let parts = here.parts.items in
     record {
       parts = λ g has.
           let one = one-of told (λ part. DeviceFailsNone promised shape number part.device) parts slot g x.each has in

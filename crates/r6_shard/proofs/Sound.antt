@@ -20,19 +20,22 @@ use Rattle.r6_world.specs.Worlds.{slot_at_start}
 use Rattle.r6_world.proofs.Tables.{put-cases, Some-inj, not_both, None-not_Some}
 use Rattle.r6_world.specs.Refusals.{IsNoLook}
 use Rattle.r6_world.proofs.Changes.{Keeps, step-kept}
-use Rattle.r6_world.specs.Values.{world_command, completion_of, receipt_of}
+use Rattle.r6_world.specs.Values.{completion_of, receipt_of}
 use Rattle.r6_course.specs.Ends.{IsInUse}
 use Rattle.r6_course.specs.Steps.{OthersAreKept}
-use Rattle.r6_core.specs.declared.Command.{Command as CoreCommand}
+use Rattle.r6_world.specs.declared.values.Command.{Command as CoreCommand}
+use Rattle.r6_exchange.specs.declared.completion.Completion.{Completion as CoreCompletion}
 use Rattle.r6_world.specs.declared.values.DeviceFault.{DeviceFault}
 use Rattle.r6_world.specs.declared.values.Receipt.{Receipt as CoreReceipt}
 use Rattle.r6_world.specs.declared.values.Receipt.TheVariants as core-receipt
-use Rattle.r6_core.specs.Effects.{IsMade, IsCommandOf}
+use Rattle.r6_core.specs.Effects.{IsMade}
 use Rattle.r6_core.specs.Shards.{CoreView, Step, world_shard}
-use Rattle.r6_shard.specs.Kept.{named_by}
-use Rattle.r6_shard.specs.Performing.{Performed, Failed, ArePromised}
-use Rattle.r6_shard.specs.Here.{UsesOnly}
-use Rattle.r6_shard.specs.Sound.{HasPart, IsSound, BeginsSound, HasNew}
+use Rattle.r6_shard.specs.Kept.{IsOut, named_by}
+use Rattle.r6_shard.specs.New.{HasNew}
+use Rattle.r6_shard.specs.Performing.{Performer, Failed, Did, HasPart, Receives, having_sent}
+use Rattle.r6_shard.specs.Uses.{UsesOnly}
+use Rattle.r6_shard.specs.Sound.{IsSound, BeginsSound}
+use Rattle.r6_shard.proofs.Out.{some-there}
 
 -- ---- each small change
 
@@ -212,42 +215,48 @@ step-in : (shape : Shape) (old : CoreView) (event : Event) (new : CoreView) → 
 step-in shape old event new is step =
     subst (λ y. steps.Step (layout_of y) old.shard (world_shard old) event (world_shard new)) is step.1
 
-module _ (part : ℕ → ℕ → Option Telling) (promise : ℕ → ℕ → Promise) (shape : Shape) (number slot : ℕ) where
+module _ (p : Performer) (shape : Shape) (number slot : ℕ) where
   goes-on : (old : CoreView) (event : Event) (new : CoreView) (named : List Bool)
-      → Finds (layout_of shape) old.shard (HasPart part slot) slot event → Step old event new
-      → IsSound part promise shape number slot old named → IsSound part promise shape number slot new named
+      → Finds (layout_of shape) old.shard (HasPart p.tells slot) slot event → Step old event new
+      → IsSound p shape number slot old named → IsSound p shape number slot new named
   goes-on old event new named finds step x =
       record {
         shape_is = step.0.0 ∙ x.shape_is;
         place = step.0.1 ∙ x.place;
         parts = x.parts;
-        here = uses-on (layout_of shape) old.shard (HasPart part slot) slot event finds (world_shard old) (world_shard new)
+        here = uses-on (layout_of shape) old.shard (HasPart p.tells slot) slot event finds (world_shard old) (world_shard new)
             (step-in shape old event new x.shape_is step) x.here;
         unnamed = x.unnamed;
       }
 
   -- any call but a look
   pub sound-by : (old : CoreView) (event : Event) (new : CoreView) (named : List Bool) → IsNoLook event → Step old event new
-      → IsSound part promise shape number slot old named → IsSound part promise shape number slot new named
+      → IsSound p shape number slot old named → IsSound p shape number slot new named
   sound-by old event new named none step x =
-      goes-on old event new named (finds-none (layout_of shape) old.shard (HasPart part slot) slot event none) step x
+      goes-on old event new named (finds-none (layout_of shape) old.shard (HasPart p.tells slot) slot event none) step x
 
   pub sound-twice : (old : CoreView) (event : Event) (mid : CoreView) (event' : Event) (new : CoreView) (named : List Bool)
       → IsNoLook event → IsNoLook event' → Step old event mid → Step mid event' new
-      → IsSound part promise shape number slot old named → IsSound part promise shape number slot new named
+      → IsSound p shape number slot old named → IsSound p shape number slot new named
   sound-twice old event mid event' new named none none' first second x =
       sound-by mid event' new named none' second (sound-by old event mid named none first x)
 
   pub sound-same : (old new : CoreView) (named : List Bool) → new ≡ old
-      → IsSound part promise shape number slot old named → IsSound part promise shape number slot new named
-  sound-same old new named same x = subst (λ y. IsSound part promise shape number slot y named) (sym same) x
+      → IsSound p shape number slot old named → IsSound p shape number slot new named
+  sound-same old new named same x = subst (λ y. IsSound p shape number slot y named) (sym same) x
 
-  pub sound-looked : (old : CoreView) (seen : Snapshot) (new : CoreView) (named : List Bool) → (slot < shape.slots → HasNew part seen slot)
+  pub sound-looked : (old : CoreView) (seen : Snapshot) (new : CoreView) (named : List Bool) → (slot < shape.slots → HasNew p.tells seen slot)
       → Step old (Look seen) new
-      → IsSound part promise shape number slot old named → IsSound part promise shape number slot new named
+      → IsSound p shape number slot old named → IsSound p shape number slot new named
   sound-looked old seen new named here step x = goes-on old (Look seen) new named (λ below g reported e. here below g reported e) step x
 
 -- ---- a command
+
+-- it is sent
+pub sound-sent : (p : Performer) (c : CoreCommand) (shape : Shape) (number slot : ℕ) (core : CoreView) (named : List Bool)
+    → IsSound p shape number slot core named → IsSound (having_sent p c) shape number slot core named
+sound-sent p c shape number slot core named x =
+    record { shape_is = x.shape_is; place = x.place; parts = x.parts; here = x.here; unnamed = x.unnamed }
 
 is-ok : {A : Type 0} (completion : Result (List ℕ) DeviceFault) → IsOk completion → is_err completion ≡ true → A
 is-ok (Ok came) ok e = absurd (true≢false (sym e))
@@ -261,87 +270,81 @@ still-unnamed true core-receipt.Taken named slot other ne e = get_or-set_other n
 still-unnamed true core-receipt.Late named slot other ne e = e
 still-unnamed false receipt named slot other ne e = e
 
-module _ (old-part new-part : ℕ → ℕ → Option Telling) (old-promise new-promise : ℕ → ℕ → Promise) (shape : Shape) (number slot : ℕ) where
-  abbrev Did : CoreCommand → Result (List ℕ) DeviceFault → Type 0
-  Did c completion = MatchResult completion (Performed old-part new-part c) (Failed old-part new-part c)
+others-kept : (old new : ℕ → ℕ → Option Telling) (c : CoreCommand) (completion : Result (List ℕ) DeviceFault) → Did old new c completion
+    → OthersAreKept c.slot c.generation old new
+others-kept old new c (Ok came) did = did.others
+others-kept old new c (Err fault) did = did.0
 
-  others-kept : (c : CoreCommand) (completion : Result (List ℕ) DeviceFault) → Did c completion
-      → OthersAreKept c.slot c.generation old-part new-part
-  others-kept c (Ok came) did = did.others
-  others-kept c (Err fault) did = did.0
+own-there : (old new : ℕ → ℕ → Option Telling) (c : CoreCommand) (completion : Result (List ℕ) DeviceFault) → Did old new c completion → IsOk completion
+    → HasPart new c.slot c.generation
+own-there old new c (Ok came) did ok = λ e. None-not_Some did.behind (sym e ∙ did.is)
+own-there old new c (Err fault) did ok = absurd (false≢true ok)
 
-  own-there : (c : CoreCommand) (completion : Result (List ℕ) DeviceFault) → Did c completion → IsOk completion
-      → HasPart new-part c.slot c.generation
-  own-there c (Ok came) did ok = λ e. None-not_Some did.behind (sym e ∙ did.is)
-  own-there c (Err fault) did ok = absurd (false≢true ok)
-
-  pub sound-performed : (old mid new : CoreView) (c : CoreCommand) (frame : ℕ) (abandoned : Bool)
-      (completion : Result (List ℕ) DeviceFault) (receipt : CoreReceipt) (failed : Bool) (named : List Bool)
-      → Step old (Take_command c.token (world_command frame abandoned c)) mid
-      → Step mid (Deliver c.token (completion_of completion) (receipt_of receipt)) new
-      → IsCommandOf old c → Did c completion
-      → (Covers (old-promise c.slot c.generation) c.row (length c.buffer) → IsOk completion)
-      → ArePromised old-promise new-promise → failed ≡ is_err completion
-      → IsSound old-part old-promise shape number slot old named
-      → IsSound new-part new-promise shape number slot new (named_by failed receipt c.slot named)
-  sound-performed old mid new c frame abandoned completion receipt failed named takes delivers there did sure still is x =
-      let between = sound-twice old-part old-promise shape number slot old (Take_command c.token (world_command frame abandoned c)) mid
-      (Deliver c.token (completion_of completion) (receipt_of receipt)) new named (record {}) (record {}) takes delivers x in
+-- and its completion received
+module _ (old-p new-p : Performer) (a : CoreCompletion) (r : Receives old-p new-p a) (shape : Shape) (number slot : ℕ) where
+  pub sound-received : (old new : CoreView) (receipt : CoreReceipt) (failed : Bool) (named : List Bool)
+      → IsOut old.shape old.shard (world_shard old).command a.token r.command
+      → Step old (Deliver a.token (completion_of a.result) (receipt_of receipt)) new → failed ≡ is_err a.result
+      → IsSound old-p shape number slot old named → IsSound new-p shape number slot new (named_by failed receipt r.command.slot named)
+  sound-received old new receipt failed named out delivers is x =
+      let between = sound-by old-p shape number slot old (Deliver a.token (completion_of a.result) (receipt_of receipt)) new named (record {}) delivers x in
       record {
         shape_is = between.shape_is;
         place = between.place;
-        parts = λ g has. subst (λ y. FailsNone y (IsRowOf (layout_of shape) number) shape.block) (sym (still slot g)) (x.parts g (was g has));
+        parts = λ g has. subst (λ (y : ℕ → ℕ → Promise). FailsNone (y slot g) (IsRowOf (layout_of shape) number) shape.block) (sym r.promised)
+            (x.parts g (was g has));
         here = (
           λ below g u. stays g (between.here.0 below g u),
           λ token d e same. stays d.generation (between.here.1 token d e same),
         );
-        unnamed = still-unnamed failed receipt named c.slot slot (λ f same. is-ok completion (fine (sym same)) (sym is ∙ f)) x.unnamed;
+        unnamed = still-unnamed failed receipt named r.command.slot slot (λ f same. is-ok a.result (fine (sym same)) (sym is ∙ f)) x.unnamed;
       }
     where
-      -- the command goes to a part of the slot
-      out : c.slot ≡ slot → HasPart old-part slot c.generation
-      out same = x.here.1 c.token (world_command frame abandoned c) takes.1.0.0 same
+      -- the command went to a part of the slot
+      went : r.command.slot ≡ slot → HasPart old-p.tells slot r.command.generation
+      went same = some-there ((world_shard old).command a.token) out.there (λ d there.
+          subst (HasPart old-p.tells slot) (out.same d there).2 (x.here.1 a.token d there ((out.same d there).1 ∙ same)))
 
-      row-of : IsRowOf (layout_of shape) number c.row
-      row-of = subst (λ n. IsRowOf (layout_of shape) n c.row) x.place
-          (subst (λ y. IsRowOf (layout_of y) old.shard c.row) x.shape_is there.row)
+      row-of : IsRowOf (layout_of shape) number r.command.row
+      row-of = subst (λ n. IsRowOf (layout_of shape) n r.command.row) x.place
+          (subst (λ (y : Shape). IsRowOf (layout_of y) old.shard r.command.row) x.shape_is out.row)
 
-      fine : c.slot ≡ slot → IsOk completion
-      fine same = sure (subst (λ y. Covers (old-promise y c.generation) c.row (length c.buffer)) (sym same)
-          (subst (Covers (old-promise slot c.generation) c.row) (sym (there.block ∙ ap (λ (y : Shape). y.block) x.shape_is))
-          (x.parts c.generation (out same) c.row row-of)))
+      fine : r.command.slot ≡ slot → IsOk a.result
+      fine same = r.sound (subst (λ y. Covers (old-p.promised y r.command.generation) r.command.row (length r.command.buffer)) (sym same)
+          (subst (Covers (old-p.promised slot r.command.generation) r.command.row) (sym (out.block ∙ ap (λ (y : Shape). y.block) x.shape_is))
+          (x.parts r.command.generation (went same) r.command.row row-of)))
 
-      which : {A : Type 0} (g : ℕ) → ((slot ≡ c.slot) → (g ≡ c.generation) → A) → (((slot ≡ c.slot) × (g ≡ c.generation) → ⊥) → A) → A
-      which g here else = elim (cases_eq slot c.slot) [
-        | inl same ↦ elim (cases_eq g c.generation) [
+      which : {A : Type 0} (g : ℕ) → ((slot ≡ r.command.slot) → (g ≡ r.command.generation) → A)
+          → (((slot ≡ r.command.slot) × (g ≡ r.command.generation) → ⊥) → A) → A
+      which g here else = elim (cases_eq slot r.command.slot) [
+        | inl same ↦ elim (cases_eq g r.command.generation) [
           | inl same' ↦ here same same'
           | inr ne ↦ else (λ both. ne both.1)
         ]
         | inr ne ↦ else (λ both. ne both.0)
       ]
 
-      was : (g : ℕ) → HasPart new-part slot g → HasPart old-part slot g
-      was g has = which g (λ same same'. subst (HasPart old-part slot) (sym same') (out (sym same)))
-          (λ ne e. has (others-kept c completion did slot g ne ∙ e))
+      was : (g : ℕ) → HasPart new-p.tells slot g → HasPart old-p.tells slot g
+      was g has = which g (λ same same'. subst (HasPart old-p.tells slot) (sym same') (went (sym same)))
+          (λ ne e. has (others-kept old-p.tells new-p.tells r.command a.result r.did slot g ne ∙ e))
 
-      stays : (g : ℕ) → HasPart old-part slot g → HasPart new-part slot g
+      stays : (g : ℕ) → HasPart old-p.tells slot g → HasPart new-p.tells slot g
       stays g has = which g
-          (λ same same'. subst (HasPart new-part slot) (sym same') (subst (λ y. HasPart new-part y c.generation) (sym same)
-          (own-there c completion did (fine (sym same)))))
-          (λ ne e. has (sym (others-kept c completion did slot g ne) ∙ e))
+          (λ same same'. subst (HasPart new-p.tells slot) (sym same') (subst (λ y. HasPart new-p.tells y r.command.generation) (sym same)
+          (own-there old-p.tells new-p.tells r.command a.result r.did (fine (sym same)))))
+          (λ ne e. has (sym (others-kept old-p.tells new-p.tells r.command a.result r.did slot g ne) ∙ e))
 
 -- how a slot is named, if it is
-pub named-how : (old-part new-part : ℕ → ℕ → Option Telling) (mid new : CoreView) (c : CoreCommand) (completion : Result (List ℕ) DeviceFault)
-    (receipt : CoreReceipt) (failed : Bool) (named : List Bool)
-    → MatchResult completion (Performed old-part new-part c) (Failed old-part new-part c)
-    → Step mid (Deliver c.token (completion_of completion) (receipt_of receipt)) new → failed ≡ is_err completion
+pub named-how : (old-part new-part : ℕ → ℕ → Option Telling) (old new : CoreView) (token : ℕ) (c : CoreCommand) (completion : Result (List ℕ) DeviceFault)
+    (receipt : CoreReceipt) (failed : Bool) (named : List Bool) → Did old-part new-part c completion
+    → Step old (Deliver token (completion_of completion) (receipt_of receipt)) new → failed ≡ is_err completion
     → (named_by failed receipt c.slot named ≡ named)
-    ⊎ ((fault : DeviceFault) × Failed old-part new-part c fault × Step mid (Deliver c.token steps.Error steps.Taken) new
+    ⊎ ((fault : DeviceFault) × Failed old-part new-part c fault × Step old (Deliver token steps.Error steps.Taken) new
     × (named_by failed receipt c.slot named ≡ slice_set named c.slot true))
-named-how old-part new-part mid new c completion receipt false named did step is = inl refl
-named-how old-part new-part mid new c completion core-receipt.Late true named did step is = inl refl
-named-how old-part new-part mid new c (Ok came) core-receipt.Taken true named did step is = absurd (true≢false is)
-named-how old-part new-part mid new c (Err fault) core-receipt.Taken true named did step is = inr (fault, did, step, refl)
+named-how old-part new-part old new token c completion receipt false named did step is = inl refl
+named-how old-part new-part old new token c completion core-receipt.Late true named did step is = inl refl
+named-how old-part new-part old new token c (Ok came) core-receipt.Taken true named did step is = absurd (true≢false is)
+named-how old-part new-part old new token c (Err fault) core-receipt.Taken true named did step is = inr (fault, did, step, refl)
 
 -- ---- the start
 
@@ -351,23 +354,23 @@ none-named zero k = refl
 none-named (suc count) zero = refl
 none-named (suc count) (suc k) = none-named count k
 
-pub sound-begun : (part : ℕ → ℕ → Option Telling) (promise : ℕ → ℕ → Promise) (shape : Shape) (snapshot : Snapshot) (number slot : ℕ)
+pub sound-begun : (p : Performer) (shape : Shape) (snapshot : Snapshot) (number slot : ℕ)
     (core : CoreView) (named : List Bool) → IsMade shape snapshot number core → ((k : ℕ) → slice_index_or named k false ≡ false)
-    → BeginsSound part promise shape number snapshot slot → IsSound part promise shape number slot core named
-sound-begun part promise shape snapshot number slot core named made none x =
+    → BeginsSound p shape number snapshot slot → IsSound p shape number slot core named
+sound-begun p shape snapshot number slot core named made none x =
     let l = layout_of shape in
     record {
       shape_is = made.geometry;
       place = made.number;
       parts = x.parts;
-      here = subst (UsesOnly shape.slots (HasPart part slot) slot) (sym made.start) (
+      here = subst (UsesOnly shape.slots (HasPart p.tells slot) slot) (sym made.start) (
         λ below g u. first below g (status_of snapshot slot) refl u,
         λ token c e same. absurd (None-not_Some c e),
       );
       unnamed = none slot;
     }
   where
-    first : slot < shape.slots → (g : ℕ) → (status : Status) → status_of snapshot slot ≡ status → IsInUse (slot_at_start status) g → HasPart part slot g
-    first below g InSync e u = subst (HasPart part slot) (sym u) (x.here below e)
+    first : slot < shape.slots → (g : ℕ) → (status : Status) → status_of snapshot slot ≡ status → IsInUse (slot_at_start status) g → HasPart p.tells slot g
+    first below g InSync e u = subst (HasPart p.tells slot) (sym u) (x.here below e)
     first below g Lost e u = absurd u
     first below g (Rebuilding generation reported) e u = absurd u

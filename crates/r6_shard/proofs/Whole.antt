@@ -278,16 +278,14 @@ calm-delivery slots failed token (Err fault) core-receipt.Late slot named below 
 calm-delivery slots true token (Err fault) core-receipt.Taken slot named below is none = absurd (still-clean slot named below none)
 calm-delivery slots false token (Err fault) core-receipt.Taken slot named below is none = absurd (false≢true is)
 
-pub skips-performed : (old mid new : CoreView) (token : ℕ) (c : world.Command) (completion : Result (List ℕ) DeviceFault) (receipt : CoreReceipt) (failed : Bool) (slot : ℕ)
-    (named : List Bool) (saw_out : Bool) → Step old (Take_command token c) mid
-    → Step mid (Deliver token (completion_of completion) (receipt_of receipt)) new → slot < length named → failed ≡ is_err completion
-    → SkipsNone old named saw_out → SkipsNone new (named_by failed receipt slot named) saw_out
-skips-performed old mid new token c completion receipt failed slot named saw_out takes delivers below is x = λ clean.
+pub skips-received : (old new : CoreView) (token : ℕ) (completion : Result (List ℕ) DeviceFault) (receipt : CoreReceipt) (failed : Bool) (slot : ℕ)
+    (named : List Bool) (saw_out : Bool) → Step old (Deliver token (completion_of completion) (receipt_of receipt)) new → slot < length named
+    → failed ≡ is_err completion → SkipsNone old named saw_out → SkipsNone new (named_by failed receipt slot named) saw_out
+skips-received old new token completion receipt failed slot named saw_out delivers below is x = λ clean.
     let before = clean-before failed receipt slot named saw_out below clean in
-    let between = skips-by named saw_out old (Take_command token c) mid (λ y. record {}) takes x before in
     subst (λ (y : Shape). IsWhole (layout_of y) (world_shard new)) (sym delivers.0.0)
-    (whole-on (core_layout mid) mid.shard (Deliver token (completion_of completion) (receipt_of receipt))
-    (calm-delivery mid.shape.slots failed token completion receipt slot named below is clean.0) (world_shard mid) (world_shard new) delivers.1 between)
+    (whole-on (core_layout old) old.shard (Deliver token (completion_of completion) (receipt_of receipt))
+    (calm-delivery old.shape.slots failed token completion receipt slot named below is clean.0) (world_shard old) (world_shard new) delivers.1 (x before))
 
 -- a look that sees no slot out
 pub skips-looked : (old : CoreView) (seen : Snapshot) (new : CoreView) (named : List Bool) (before now : Bool)

@@ -1,11 +1,11 @@
 -- Requests that stand behind others (linearizability: Herlihy and Wing).
-use Rattle.std.specs.Prelude.{◌≡◌, ◌≢◌, ℕ, ◌<◌, ◌≤◌, List, Option, Some, slice_get}
-use Rattle.r6_dev.specs.History.{Telling}
+use Rattle.std.specs.Prelude.{◌≡◌, ◌≢◌, ℕ, ◌<◌, ◌≤◌, List, Some, slice_get}
 use Rattle.r6_world.specs.PlainArray as world
 use Rattle.r6_world.specs.PlainArray.{Reply, ArrayFailed}
 use Rattle.r6_course.specs.Courses.{Start, Mark, Replied}
 use Rattle.r6_course.specs.Ledgers.{Entry, entry, IsIn, IsBefore}
 use Rattle.r6_shard.specs.declared.ledger.Asked.{Asked}
+use Rattle.r6_shard.specs.declared.performs.Performs.{Ghosts}
 use Rattle.r6_shard.specs.declared.shard.Shard.{Shard}
 use Rattle.r6_shard.specs.Runs.{IsLedger}
 
@@ -21,8 +21,8 @@ StandsBefore history order earlier later =
     → (op : world.Op) × IsBefore (entry earlier op reply) e order)
 
 -- such a request, and each behind it, stands behind all that were handed in before it
-abbrev pub BehindLaw : {P : Type 0} → (P → ℕ → ℕ → Option Telling) → Type 0
-BehindLaw {P = P} tells =
-    (s : Start) (ops : List world.Op) (shard : Shard P) (ledger : IsLedger tells s ops shard) (number : ℕ)
+abbrev pub BehindLaw : {P : Type 0} → Ghosts P → Type 0
+BehindLaw {P = P} g =
+    (s : Start) (ops : List world.Op) (shard : Shard P g) (ledger : IsLedger s ops shard) (number : ℕ)
     → IsBehindAll shard.asked.items number → (earlier later : ℕ) → earlier < number → number ≤ later
     → StandsBefore ledger.history ledger.explained.leads.order earlier later

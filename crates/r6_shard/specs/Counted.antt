@@ -33,11 +33,6 @@ PassesMore more old new =
     (stopped : Bool) (counted rows : ℕ) → HasPassedRows stopped counted rows old
     → HasPassedRows stopped counted (rows + more) new
 
--- and by the end of a call all that were passed are counted
-abbrev pub CountsAll : CoreView → CoreView → Type 0
-CountsAll old new =
-    (stopped : Bool) (counted rows : ℕ) → HasPassedRows stopped counted rows old → HasPassedRows stopped rows rows new
-
 -- a turn of a check or repair passes one row
 abbrev pub rows_of : Task → ℕ
 rows_of task.Rebuild = 0

@@ -1,10 +1,12 @@
 -- That all that a shard's thread did is a course of its shard.
-use Rattle.std.specs.Prelude.{◌≡◌, ℕ, ◌<◌, Bool, List, length, map, All, slice_index_or, Option, None}
+use Rattle.std.specs.Prelude.{◌≡◌, ℕ, ◌<◌, Bool, List, length, map, All, slice_index_or, Option, Some, None}
 use Rattle.r6_dev.specs.History.{Telling}
 use Rattle.r6_health.specs.declared.history.View.{View}
 use Rattle.r6_health.specs.Histories.{held}
 use Rattle.r6_world.specs.PlainArray.{Op, Reply, block_of}
-use Rattle.r6_world.specs.Values.{reply_of}
+use Rattle.r6_world.specs.ShardStates as world
+use Rattle.r6_world.specs.declared.values.Command.{Command}
+use Rattle.r6_world.specs.Values.{reply_of, world_command}
 use Rattle.r6_core.specs.Shards.{CoreView, core_layout, world_shard}
 use Rattle.r6_course.specs.Courses.{Start, IsLawful, Mark, Stand, Follows}
 use Rattle.r6_course.specs.Steps.{Knows}
@@ -12,8 +14,8 @@ use Rattle.r6_shard.specs.Histories.{asked_in, replied_in, answered_before, numb
 use Rattle.r6_shard.specs.declared.ledger.Asked.{Asked as Accepted}
 use Rattle.r6_shard.specs.declared.ledger.Entry.{Entry}
 
--- where a core stands with its parts and the slots that are named, beside a register that its pass has seen so far and
--- of which it looked at so many attaches
+-- where a core stands with its parts and the slots that are named, with a register that its pass has seen so far and of
+-- which it looked at so many attaches, and with no command out
 abbrev pub stand_of : CoreView → View → (looked : ℕ) → (named : List Bool) → (ℕ → ℕ → Option Telling) → List Mark
     → Stand
 stand_of core v looked named part history =
@@ -27,14 +29,22 @@ stand_of core v looked named part history =
       history = history;
     }
 
--- a run from this start leads there
+-- each of these commands is among those, as it was taken
+abbrev pub AreAmong : (taken : ℕ → Option world.Command) → (out : ℕ → Option Command) → Type 0
+AreAmong taken out =
+    (token : ℕ) (c : Command) → out token ≡ Some c
+    → (frame : ℕ) × (abandoned : Bool) × (taken token ≡ Some (world_command frame abandoned c))
+
+-- a run from this start leads there, with these commands out
 pub record Course (s : Start) (core : CoreView) (v : View) (looked : ℕ) (named : List Bool)
-    (part : ℕ → ℕ → Option Telling) (history : List Mark) : Type 0 where
+    (out : ℕ → Option Command) (part : ℕ → ℕ → Option Telling) (history : List Mark) : Type 0 where
   pub lawful : IsLawful s
   pub layout : s.layout ≡ core_layout core
   pub number : s.number ≡ core.shard
   pub pass : Knows s v (held v.start v.seen)
-  pub follows : Follows s (stand_of core v looked named part history)
+  pub taken : ℕ → Option world.Command
+  pub among : AreAmong taken out
+  pub follows : Follows s (record (stand_of core v looked named part history) { out = taken })
 
 -- ---- the history, as the thread's lists tell it
 
@@ -61,7 +71,8 @@ pub record Tells (accepted : List Accepted) (entries : List Entry) (ops : List O
 
 -- A course of the shard with such a history
 pub record HasCourse (s : Start) (core : CoreView) (v : View) (looked : ℕ) (named : List Bool)
-    (part : ℕ → ℕ → Option Telling) (accepted : List Accepted) (entries : List Entry) (ops : List Op) : Type 0 where
+    (out : ℕ → Option Command) (part : ℕ → ℕ → Option Telling) (accepted : List Accepted) (entries : List Entry)
+    (ops : List Op) : Type 0 where
   pub history : List Mark
   pub tells : Tells accepted entries ops history
-  pub course : Course s core v looked named part history
+  pub course : Course s core v looked named out part history

@@ -1,6 +1,11 @@
 -- What a shard keeps between its calls.
-use Rattle.std.specs.Prelude.{◌≡◌, ℕ, ◌<◌, ◌≤◌, Bool, true, false, List, [], length, slice_index_or, slice_set, Some, None}
-use Rattle.r6_world.specs.ShardStates.{Shard, Request, Command, LossOf}
+use Rattle.std.specs.Prelude.{◌≡◌, ◌≢◌, ℕ, ◌<◌, ◌≤◌, Bool, true, false, List, [], length, slice_index_or, slice_set, Option, Some, None}
+use Rattle.r6_layout.specs.Shape.{Shape}
+use Rattle.r6_world.specs.Geometries.{layout_of}
+use Rattle.r6_world.specs.Layouts.{IsRowOf}
+use Rattle.r6_world.specs.ShardStates as world
+use Rattle.r6_world.specs.ShardStates.{Shard, Request, LossOf}
+use Rattle.r6_world.specs.declared.values.Command.{Command}
 use Rattle.r6_world.specs.Refusals.{IsToTell}
 use Rattle.r6_world.specs.declared.values.Receipt.{Receipt}
 use Rattle.r6_world.specs.declared.values.Receipt.TheVariants.{Taken, Late}
@@ -11,9 +16,26 @@ abbrev pub AreNumbered : Shard → (count : ℕ) → Type 0
 AreNumbered shard count =
     (shard.accepted ≡ count) × ((id : ℕ) (request : Request) → shard.request id ≡ Some request → id < count)
 
--- every command that was taken was answered
-abbrev pub NoneIsTaken : Shard → Type 0
-NoneIsTaken shard = (token : ℕ) (c : Command) → shard.command token ≡ Some c → c.taken ≡ false
+-- a command that is out was taken and isn't answered: it goes where the core has it, to a row of the shard, with a block
+pub record IsOut (shape : Shape) (number : ℕ) (command : ℕ → Option world.Command) (token : ℕ) (c : Command)
+    : Type 0 where
+  pub there : command token ≢ None
+  pub same : (d : world.Command) → command token ≡ Some d
+      → (d.taken ≡ true) × (d.slot ≡ c.slot) × (d.generation ≡ c.generation)
+  pub slot : c.slot < shape.slots
+  pub row : IsRowOf (layout_of shape) number c.row
+  pub block : length c.buffer ≡ shape.block
+
+-- of a core's commands those are out that were taken, and no others; and all have numbers below the next
+pub record AreOut (shape : Shape) (number : ℕ) (command : ℕ → Option world.Command) (next : ℕ)
+    (out : ℕ → Option Command) : Type 0 where
+  pub each : (token : ℕ) (c : Command) → out token ≡ Some c → IsOut shape number command token c
+  pub all : (token : ℕ) (d : world.Command) → command token ≡ Some d → d.taken ≡ true → out token ≢ None
+  pub tokens : (token : ℕ) (d : world.Command) → command token ≡ Some d → token < next
+
+-- no command is left that was put out and not taken
+abbrev pub AllAreTaken : Shard → Type 0
+AllAreTaken shard = (token : ℕ) (d : world.Command) → shard.command token ≡ Some d → d.taken ≡ true
 
 -- every call that was taken was told
 abbrev pub NoneIsUntold : Shard → Type 0
@@ -30,13 +52,13 @@ named_by true Taken slot named = slice_set named slot true
 named_by true Late slot named = named
 named_by false receipt slot named = named
 
--- what a core of this number keeps, which accepted so many requests
-abbrev pub IsKept : CoreView → (number : ℕ) → (named : List Bool) → (count : ℕ) → Type 0
-IsKept core number named count =
+-- what a core of this number keeps with these commands out, which accepted so many requests
+abbrev pub IsKept : CoreView → (out : ℕ → Option Command) → (number : ℕ) → (named : List Bool) → (count : ℕ) → Type 0
+IsKept core out number named count =
     (number ≡ core.shard)
     × (core.shape.slots ≤ 32)
     × AreNumbered (world_shard core) count
-    × NoneIsTaken (world_shard core)
+    × AreOut core.shape core.shard (world_shard core).command (world_shard core).tokens out
     × NoneIsUntold (world_shard core)
     × AreNamed (world_shard core) named
     × (length named ≡ 32)

@@ -1,5 +1,8 @@
-pub mod Parts
 pub mod Performing
+pub mod Parts
+pub mod Waiting
+pub mod Uses
+pub mod New
 pub mod Kept
 pub mod Here
 pub mod Looked

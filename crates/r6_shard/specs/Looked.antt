@@ -1,17 +1,25 @@
 -- What a shard knows by its last look at the register (this project's own).
-use Rattle.std.specs.Prelude.{◌≡◌, ℕ, ◌<◌}
+use Rattle.std.specs.Prelude.{◌≡◌, ℕ, ◌<◌, ◌≤◌}
 use Rattle.r6_health.specs.declared.history.View.{View}
 use Rattle.r6_health.specs.Histories.{held}
 use Rattle.r6_world.specs.Registers.{Snapshot, ShardSet, Lost, Rebuilding, status_of}
 use Rattle.r6_course.specs.Ends.{IsInUse}
 use Rattle.r6_core.specs.Shards.{CoreView, world_shard}
+use Rattle.r6_shard.specs.Uses.{UsesOnly}
 
 -- the register as a pass saw it last
 abbrev pub seen_by : View → Snapshot
 seen_by v = held v.start v.seen
 
+-- a device that is rebuilt has one of the generations that were given
+abbrev pub IsNumbered : Snapshot → Type 0
+IsNumbered snapshot =
+    (slot generation : ℕ) (reported : ShardSet) → status_of snapshot slot ≡ Rebuilding generation reported
+    → generation ≤ snapshot.attaches
+
 -- The shard saw that the array failed if the register had failed when it looked last; of a slot that was lost then it
--- uses no device, and of one that was rebuilt then none but the new one
+-- uses no device, and of one that was rebuilt then none but the new one; and it uses no device, and has given none a
+-- command, that was attached since
 pub record KnowsLast (core : CoreView) (last : Snapshot) : Type 0 where
   pub failed : (world_shard core).saw_failed ≡ last.failed
   pub lost : (slot : ℕ) → slot < core.shape.slots → status_of last slot ≡ Lost
@@ -19,3 +27,4 @@ pub record KnowsLast (core : CoreView) (last : Snapshot) : Type 0 where
   pub rebuilt : (slot : ℕ) → slot < core.shape.slots → (new : ℕ) (reported : ShardSet)
       → status_of last slot ≡ Rebuilding new reported
       → (generation : ℕ) → IsInUse ((world_shard core).slot slot) generation → generation ≡ new
+  pub used : (slot : ℕ) → UsesOnly core.shape.slots (λ generation. generation ≤ last.attaches) slot (world_shard core)

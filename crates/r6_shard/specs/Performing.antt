@@ -1,15 +1,36 @@
--- What the parts do with a command.
-use Rattle.std.specs.Prelude.{◌≡◌, ℕ, List, length, Option, Some}
+-- What is known of who performs commands, and what it does with one.
+use Rattle.std.specs.Prelude.{◌≡◌, ◌≢◌, ℕ, List, length, Option, Some, None, IsOk, MatchResult, Result}
+use Rattle.std.specs.List.{Contains}
 use Rattle.r6_dev.specs.History.{Telling}
-use Rattle.r6_dev.specs.Promises.{Promise}
+use Rattle.r6_dev.specs.Promises.{Promise, Covers}
 use Rattle.r6_dev.specs.declared.fault.Fault.{Fault}
 use Rattle.r6_dev.specs.declared.fault.Fault.TheVariants as dev
+use Rattle.r6_world.specs.Tables.{put}
 use Rattle.r6_world.specs.Values.{given_transfer}
-use Rattle.r6_core.specs.declared.Command.{Command}
+use Rattle.r6_world.specs.declared.values.Command.{Command}
 use Rattle.r6_world.specs.declared.values.DeviceFault.{DeviceFault}
 use Rattle.r6_world.specs.declared.values.FaultKind.{FaultKind}
 use Rattle.r6_world.specs.declared.values.FaultKind.TheVariants as core
 use Rattle.r6_course.specs.Steps.{Does, OthersAreKept}
+use Rattle.r6_exchange.specs.declared.completion.Completion.{Completion}
+
+-- By slot and generation what each part tells once the completions that came are counted (None: no part is there), and
+-- which commands it promises never to answer by a fault; of which slots and generations parts were taken up, and for how
+-- many there is room; and the commands that are out, by token
+pub record Performer : Type 0 where
+  pub tells : ℕ → ℕ → Option Telling
+  pub promised : ℕ → ℕ → Promise
+  pub labels : List (ℕ × ℕ)
+  pub part_room : ℕ
+  pub out : ℕ → Option Command
+
+-- a part is there
+abbrev pub HasPart : (ℕ → ℕ → Option Telling) → (slot generation : ℕ) → Type 0
+HasPart part slot generation = part slot generation ≢ None
+
+-- among parts of these slots and generations there is one of this
+abbrev pub IsHere : (labels : List (ℕ × ℕ)) → (slot generation : ℕ) → Type 0
+IsHere labels slot generation = Contains labels (slot, generation)
 
 -- what a fault of a device is to the core
 abbrev pub kind_of : Fault → FaultKind
@@ -32,6 +53,23 @@ pub record Performed (old new : ℕ → ℕ → Option Telling) (c : Command) (c
 abbrev pub Failed : (old new : ℕ → ℕ → Option Telling) → Command → DeviceFault → Type 0
 Failed old new c fault = OthersAreKept c.slot c.generation old new × (length fault.buffer ≡ length c.buffer)
 
--- the parts promise what they promised
-abbrev pub ArePromised : (old new : ℕ → ℕ → Promise) → Type 0
-ArePromised old new = (slot generation : ℕ) → new slot generation ≡ old slot generation
+-- it was performed, or it failed
+abbrev pub Did : (old new : ℕ → ℕ → Option Telling) → Command → Result (List ℕ) DeviceFault → Type 0
+Did old new c result = MatchResult result (Performed old new c) (Failed old new c)
+
+-- one command more is out
+abbrev pub having_sent : Performer → Command → Performer
+having_sent p c = record p { out = put p.out c.token (Some c) }
+
+-- A command that was out is answered, under its token and slot, without a fault if its part promised that, and is out no
+-- more
+pub record Receives (old new : Performer) (a : Completion) : Type 0 where
+  pub command : Command
+  pub was_out : old.out a.token ≡ Some command
+  pub slot : a.slot ≡ command.slot
+  pub did : Did old.tells new.tells command a.result
+  pub sound : Covers (old.promised command.slot command.generation) command.row (length command.buffer) → IsOk a.result
+  pub out : new.out ≡ put old.out a.token None
+  pub promised : new.promised ≡ old.promised
+  pub labels : new.labels ≡ old.labels
+  pub part_room : new.part_room ≡ old.part_room

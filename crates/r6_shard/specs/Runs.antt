@@ -18,6 +18,7 @@ use Rattle.r6_course.specs.Courses.{Start, Mark, Replied}
 use Rattle.r6_course.specs.Ledgers.{IsIn, HasLedger}
 use Rattle.r6_shard.specs.declared.ledger.Asked.{Asked}
 use Rattle.r6_shard.specs.declared.ledger.Asking.{Asking}
+use Rattle.r6_shard.specs.declared.performs.Performs.{Ghosts}
 use Rattle.r6_shard.specs.declared.shard.Shard.{Shard}
 use Rattle.r6_shard.specs.Beginnings.{Hold, start_of}
 use Rattle.r6_shard.specs.Courses.{stand_of, Tells}
@@ -42,20 +43,20 @@ AreServed core (asking ∷ askings) asked ops refused =
 -- the ledger of a shard in which these ops were handed in, in this order: it is explained by one plain array that the
 -- parts hold; only a shard that saw the failure answers so, and it sees so only where its pass did; and with nothing
 -- left to do all rows of a live one are idle
-pub record IsLedger {P : Type 0} (tells : P → ℕ → ℕ → Option Telling) (s : Start) (ops : List world.Op)
-    (shard : Shard P) : Type 0 where
+pub record IsLedger {P : Type 0} {g : Ghosts P} (s : Start) (ops : List world.Op) (shard : Shard P g) : Type 0 where
   pub history : List Mark
   pub told : Tells shard.asked.items shard.entries.items ops history
   pub explained : HasLedger s
-      (stand_of shard.core (view_of shard.pass) shard.last.attaches shard.named (tells shard.parts) history)
+      (stand_of shard.core (view_of shard.pass) shard.last.attaches shard.named (g.performer shard.parts).tells
+      history)
   pub failure : (id : ℕ) → IsIn (Replied id ArrayFailed) history → (world_shard shard.core).saw_failed ≡ true
   pub seen : (world_shard shard.core).saw_failed ≡ true → (seen_by (view_of shard.pass)).failed ≡ true
   pub idle : Rests shard → IsLive s.layout (world_shard shard.core) → (row : ℕ) → IsIdle (world_shard shard.core) row
 
 -- whatever lawful start it had whose devices hold what the parts told before
-abbrev pub HasLedgerFrom : {P : Type 0} → (P → ℕ → ℕ → Option Telling) → Shape → (number : ℕ) → Snapshot
-    → (before : ℕ → ℕ → Option Telling) → List world.Op → Shard P → Type 0
-HasLedgerFrom tells geometry number snapshot before ops shard =
+abbrev pub HasLedgerFrom : {P : Type 0} {g : Ghosts P} → Shape → (number : ℕ) → Snapshot
+    → (before : ℕ → ℕ → Option Telling) → List world.Op → Shard P g → Type 0
+HasLedgerFrom geometry number snapshot before ops shard =
     (device : Devices) (array : world.Array) → IsLawfulStart (layout_of geometry) snapshot device array
     → Hold (start_of geometry number snapshot device array) before
-    → IsLedger tells (start_of geometry number snapshot device array) ops shard
+    → IsLedger (start_of geometry number snapshot device array) ops shard

@@ -18,6 +18,7 @@ use Rattle.r6_core.specs.Effects.{HandsReply, HasTaskFault}
 use Rattle.r6_core.specs.Order.{HasNoReply}
 use Rattle.r6_course.specs.Courses.{Start}
 use Rattle.r6_shard.specs.Beginnings.{Hold, start_of}
+use Rattle.r6_shard.specs.declared.performs.Performs.{Ghosts}
 use Rattle.r6_shard.specs.declared.shard.Shard.{Shard}
 use Rattle.r6_shard.specs.declared.ledger.Entry.{Entry}
 use Rattle.r6_shard.specs.Courses.{HasCourse, IsOf}
@@ -25,26 +26,25 @@ use Rattle.r6_shard.specs.Answering.{AnswersEach}
 use Rattle.r6_shard.specs.Kept.{NoneIsOut, NoneIsToTell}
 
 -- the shard has had a course from this start, in which these ops were handed in, in this order
-abbrev pub CourseOf : {P : Type 0} → (P → ℕ → ℕ → Option Telling) → Start → List world.Op → Shard P → Type 0
-CourseOf tells s ops shard =
-    HasCourse s shard.core (view_of shard.pass) shard.last.attaches shard.named (tells shard.parts)
-    shard.asked.items shard.entries.items ops
+abbrev pub CourseOf : {P : Type 0} {g : Ghosts P} → Start → List world.Op → Shard P g → Type 0
+CourseOf {g = g} s ops shard =
+    HasCourse s shard.core (view_of shard.pass) shard.last.attaches shard.named (g.performer shard.parts).out
+    (g.performer shard.parts).tells shard.asked.items shard.entries.items ops
 
 -- whatever its course was, it has gone on
-abbrev pub GoesOn : {P : Type 0} → (P → ℕ → ℕ → Option Telling) → Shard P → Shard P → Type 0
-GoesOn tells old new = (s : Start) (ops : List world.Op) → CourseOf tells s ops old → CourseOf tells s ops new
+abbrev pub GoesOn : {P : Type 0} {g : Ghosts P} → (old new : Shard P g) → Type 0
+GoesOn old new = (s : Start) (ops : List world.Op) → CourseOf s ops old → CourseOf s ops new
 
 -- its ledger is as it was
-pub record SameLedger {P : Type 0} (old new : Shard P) : Type 0 where
+pub record SameLedger {P : Type 0} {g : Ghosts P} (old new : Shard P g) : Type 0 where
   pub asked : new.asked.items ≡ old.asked.items
   pub entries : new.entries.items ≡ old.entries.items
   pub room : new.room ≡ old.room
 
 -- a request of an event was handed in
-pub record Submits {P : Type 0} (tells : P → ℕ → ℕ → Option Telling) (event : ℕ) (op : Op) (old : Shard P) (id : ℕ)
-    (new : Shard P) : Type 0 where
-  pub course : (s : Start) (ops : List world.Op) → CourseOf tells s ops old
-      → CourseOf tells s (ops ++ op_of op ∷ []) new
+pub record Submits {P : Type 0} {g : Ghosts P} (event : ℕ) (op : Op) (old : Shard P g) (id : ℕ) (new : Shard P g)
+    : Type 0 where
+  pub course : (s : Start) (ops : List world.Op) → CourseOf s ops old → CourseOf s (ops ++ op_of op ∷ []) new
   pub number : id ≡ length old.asked.items
   pub asked : new.asked.items
       ≡ old.asked.items
@@ -56,7 +56,7 @@ pub record Submits {P : Type 0} (tells : P → ℕ → ℕ → Option Telling) (
   pub last : new.last ≡ old.last
 
 -- the reply to one of the requests was taken, or none was there
-abbrev pub Collects : {P : Type 0} → Bool → Shard P → Shard P → Type 0
+abbrev pub Collects : {P : Type 0} {g : Ghosts P} → Bool → (old new : Shard P g) → Type 0
 Collects true old new =
     (entry : Entry) × IsOf old.asked.items entry × HandsReply old.core entry.id.0 entry.reply new.core
     × (new.entries.items ≡ old.entries.items ++ entry ∷ [])
@@ -64,20 +64,21 @@ Collects false old new = (new.entries.items ≡ old.entries.items) × HasNoReply
 
 -- from every lawful start whose devices hold what is told here a course leads to the shard, in which these ops were
 -- handed in
-abbrev pub ComesFrom : {P : Type 0} → (P → ℕ → ℕ → Option Telling) → Shape → (number : ℕ) → Snapshot
-    → (taken : ℕ → ℕ → Option Telling) → List world.Op → Shard P → Type 0
-ComesFrom tells geometry number snapshot taken ops shard =
+abbrev pub ComesFrom : {P : Type 0} {g : Ghosts P} → Shape → (number : ℕ) → Snapshot
+    → (taken : ℕ → ℕ → Option Telling) → List world.Op → Shard P g → Type 0
+ComesFrom geometry number snapshot taken ops shard =
     (device : Devices) (array : world.Array) → IsLawfulStart (layout_of geometry) snapshot device array
     → Hold (start_of geometry number snapshot device array) taken
-    → CourseOf tells (start_of geometry number snapshot device array) ops shard
+    → CourseOf (start_of geometry number snapshot device array) ops shard
 
 -- what its parts tell is where a course of the shard begins
-abbrev pub Begins : {P : Type 0} → (P → ℕ → ℕ → Option Telling) → Shape → (number : ℕ) → Snapshot → Shard P → Type 0
-Begins tells geometry number snapshot shard = ComesFrom tells geometry number snapshot (tells shard.parts) [] shard
+abbrev pub Begins : {P : Type 0} {g : Ghosts P} → Shape → (number : ℕ) → Snapshot → Shard P g → Type 0
+Begins {g = g} geometry number snapshot shard =
+    ComesFrom geometry number snapshot (g.performer shard.parts).tells [] shard
 
 -- nothing is left to do: each request is answered, once, no command is out, no call is to be made, and no row is to be
 -- rebuilt
-pub record Rests {P : Type 0} (shard : Shard P) : Type 0 where
+pub record Rests {P : Type 0} {g : Ghosts P} (shard : Shard P g) : Type 0 where
   pub answered : length shard.entries.items ≡ length shard.asked.items
   pub each : AnswersEach shard.asked.items shard.entries.items
   pub none_out : NoneIsOut (world_shard shard.core)

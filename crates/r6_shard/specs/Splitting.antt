@@ -1,10 +1,11 @@
 -- Passes that are split from a shard's.
 use Rattle.std.specs.Prelude.{◌≡◌}
 use Rattle.r6_health.specs.Passes.{view_of}
+use Rattle.r6_shard.specs.declared.performs.Performs.{Ghosts}
 use Rattle.r6_shard.specs.declared.shard.Shard.{Shard}
 
 -- the shard is as it was, and its pass knows as much
-pub record KeepsAll {P : Type 0} (old new : Shard P) : Type 0 where
+pub record KeepsAll {P : Type 0} {g : Ghosts P} (old new : Shard P g) : Type 0 where
   pub core : new.core ≡ old.core
   pub parts : new.parts ≡ old.parts
   pub view : view_of new.pass ≡ view_of old.pass

@@ -1,19 +1,18 @@
 //! Parts of devices that a shard is given while it runs.
 
-ghost use Rattle.std.specs.Prelude.{◌≡◌, vec_capacity, None};
-ghost use Rattle.r6_shard.specs.Parts.{part_of};
-
-use crate::parts::{Part, Parts};
+use crate::performs::{Performs, TakesParts};
 use crate::shard::Shard;
 use r6_dev::BlockDevice;
-use std::{fmt, mem};
+use r6_exchange::Part;
+use std::fmt;
+use std::sync::Wait;
 
 /// Why a part was not taken in.
 #[derive(Clone, Copy, PartialEq, Eq, Debug)]
 pub enum PartRefusal {
     /// The core has looked at the attach of this generation, or of a later one.
     Looked,
-    /// As many parts are there as there is room for.
+    /// As many parts were taken up as there is room for.
     NoRoom,
 }
 
@@ -38,58 +37,26 @@ pub struct RefusedPart<D> {
     pub part: Part<D>,
 }
 
-impl<D: BlockDevice + Drop> Parts<D> {
-    ghost use Rattle.std.specs.Prelude.{IfOk, IfErr};
-    ghost use Rattle.r6_shard.specs.Parts.{TakesIn, HasNoRoom};
-
-    // Takes a part in, in the place of that of its slot and generation if one is there. Back comes the earlier one,
-    // or, where there is no room, the part itself.
-    fn take_in(&mut self, part: Part<D>) -> Result<Option<Part<D>>, Part<D>>
-        ensures taken { IfOk result (λ earlier.
-            TakesIn D.told part earlier self.old.parts.items self.new.parts.items) }
-        ensures room { vec_capacity self.new.parts ≡ vec_capacity self.old.parts }
-        ensures full { IfErr result (λ back.
-            (back ≡ part) × (self.new ≡ self.old)
-            × HasNoRoom part self.old.parts.items (vec_capacity self.old.parts)) }
-    {
-        match self.place_of(part.slot, part.generation) {
-            Some(at) => Ok(Some(mem::replace(&mut self.parts[at], part))),
-            None => self.add(part),
-        }
-    }
-
-    // Puts a part behind the others, of whose slot and generation none is there.
-    fn add(&mut self, part: Part<D>) -> Result<Option<Part<D>>, Part<D>>
-        requires { part_of self.old.parts.items part.slot part.generation ≡ None }
-        ensures taken { IfOk result (λ earlier.
-            TakesIn D.told part earlier self.old.parts.items self.new.parts.items) }
-        ensures room { vec_capacity self.new.parts ≡ vec_capacity self.old.parts }
-        ensures full { IfErr result (λ back.
-            (back ≡ part) × (self.new ≡ self.old)
-            × HasNoRoom part self.old.parts.items (vec_capacity self.old.parts)) }
-    {
-        if self.parts.len() >= self.parts.capacity() {
-            return Err(part);
-        }
-        self.parts.push_reserved(part);
-        Ok(None)
-    }
-}
-
-impl<D: BlockDevice + Drop> Shard<Parts<D>> {
-    ghost use Rattle.std.specs.Prelude.{IfOk, IfErr};
+impl<P: Performs + Drop> Shard<P> {
+    ghost use Rattle.std.specs.Prelude.{◌≡◌, IfOk, IfErr};
     ghost use Rattle.r6_shard.specs.Handing.{HandsIn, RefusesPart};
     ghost use Rattle.r6_shard.specs.Sound.{TakesSound};
 
-    /// Hands a part in, of a device of a generation that the core hasn't looked at: before its attach, or behind it.
-    /// Of two parts for one slot and generation the later counts, and the earlier comes back. No memory is taken:
-    /// there is room for as many parts as the vector of [`Parts`] was made for.
+    /// Hands a part in, of a device of a generation that the core hasn't looked at: before its attach, or after it.
+    /// Of two parts for one slot and generation the later counts, and the earlier comes back unless it is kept aside.
+    /// No memory is taken.
     ///
     /// # Errors
     /// [`PartRefusal`], with the part back. Nothing changes.
-    pub fn hand_in(&mut self, part: Part<D>) -> Result<Option<Part<D>>, RefusedPart<D>>
-        ensures handed { IfOk result (λ earlier. HandsIn D.told part earlier self.old self.new) }
-        ensures sound { IfOk result (λ _. TakesSound D.told D.promised part self.old self.new) }
+    pub fn hand_in<D: BlockDevice + Drop, R: Wait>(
+        &mut self,
+        rt: &R,
+        part: Part<D>,
+    ) -> Result<Option<Part<D>>, RefusedPart<D>>
+    where
+        P: TakesParts<D>,
+        ensures handed { IfOk result (λ earlier. HandsIn D.told D.promised part earlier self.old self.new) }
+        ensures sound { IfOk result (λ _. TakesSound D.promised part self.old self.new) }
         ensures refused { IfErr result (λ r. RefusesPart part self.old r self.new) }
     {
         if part.generation <= self.last.attaches() {
@@ -98,7 +65,7 @@ impl<D: BlockDevice + Drop> Shard<Parts<D>> {
                 part,
             });
         }
-        match self.parts.take_in(part) {
+        match self.parts.take_in(rt, part) {
             Ok(earlier) => Ok(earlier),
             Err(part) => Err(RefusedPart {
                 refusal: PartRefusal::NoRoom,

@@ -11,22 +11,21 @@ impl<P: Performs + Drop> Shard<P> {
     ghost use Rattle.r6_health.specs.Passes.{IsPassOf};
     ghost use Rattle.r6_core.specs.Shards.{world_shard};
     ghost use Rattle.r6_core.specs.Order.{HasNoReply};
-    ghost use Rattle.r6_shard.specs.Kept.{NoneIsOut, NoneIsToTell};
+    ghost use Rattle.r6_shard.specs.Kept.{NoneIsToTell};
     ghost use Rattle.r6_shard.specs.Counted.{PassesNone};
     ghost use Rattle.r6_shard.specs.Shards.{SameLedger, Rests};
     ghost use Rattle.r6_shard.specs.Advances.{Advances};
 
-    // Performs what was put out, until nothing more is.
+    // Sends what was put out and delivers what has come, until there is neither.
     pub(crate) fn perform_all<R: Wait>(&mut self, rt: &R)
-        ensures advances { Advances P.tells P.promised P.labels P.part_room self.old self.new }
+        ensures advances { Advances self.old self.new }
         ensures passed { PassesNone self.old.core self.new.core }
         ensures ledger { SameLedger self.old self.new }
         ensures pass { self.new.pass ≡ self.old.pass }
         ensures last { self.new.last ≡ self.old.last }
-        ensures none { NoneIsOut (world_shard self.new.core) }
     {
         for _ in rt.forever() {
-            if !self.perform_next() {
+            if !self.perform_next(rt) {
                 break;
             }
         }
@@ -36,7 +35,7 @@ impl<P: Performs + Drop> Shard<P> {
     pub(crate) fn tell_all<R: Wait>(&mut self, rt: &R, register: &Register)
         requires { IsPassOf register.now self.old.pass }
         ensures pass { IsPassOf register.now self.new.pass }
-        ensures advances { Advances P.tells P.promised P.labels P.part_room self.old self.new }
+        ensures advances { Advances self.old self.new }
         ensures passed { PassesNone self.old.core self.new.core }
         ensures ledger { SameLedger self.old self.new }
         ensures last { self.new.last ≡ self.old.last }
@@ -51,7 +50,7 @@ impl<P: Performs + Drop> Shard<P> {
 
     // Takes the replies that were released.
     pub(crate) fn collect_all<R: Wait>(&mut self, rt: &R)
-        ensures advances { Advances P.tells P.promised P.labels P.part_room self.old self.new }
+        ensures advances { Advances self.old self.new }
         ensures passed { PassesNone self.old.core self.new.core }
         ensures asked { self.new.asked ≡ self.old.asked }
         ensures room { self.new.room ≡ self.old.room }
@@ -70,7 +69,7 @@ impl<P: Performs + Drop> Shard<P> {
     pub fn rests<R: Wait>(&mut self, rt: &R, register: &Register) -> bool
         requires { IsPassOf register.now self.old.pass }
         ensures pass { IsPassOf register.now self.new.pass }
-        ensures advances { Advances P.tells P.promised P.labels P.part_room self.old self.new }
+        ensures advances { Advances self.old self.new }
         ensures passed { PassesNone self.old.core self.new.core }
         ensures ledger { SameLedger self.old self.new }
         ensures last { self.new.last ≡ self.old.last }
@@ -80,7 +79,7 @@ impl<P: Performs + Drop> Shard<P> {
         if self.entries.len() != self.asked.len() {
             return false;
         }
-        if self.perform_next() {
+        if !self.is_still(rt) {
             return false;
         }
         if self.tell_next(rt, register) {

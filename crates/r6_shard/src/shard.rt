@@ -11,13 +11,14 @@ ghost use Rattle.r6_shard.specs.Kept.{IsKept, named_by};
 ghost use Rattle.r6_shard.specs.Own.{AreOwn, SeesFailure};
 ghost use Rattle.r6_shard.specs.Courses.{AreOf};
 ghost use Rattle.r6_shard.specs.Answering.{AreOnce};
-ghost use Rattle.r6_shard.specs.Looked.{KnowsLast};
+ghost use Rattle.r6_shard.specs.Looked.{KnowsLast, seen_by};
 ghost use Rattle.r6_shard.specs.Refusing.{Lasts};
 ghost use Rattle.r6_shard.specs.Whole.{SkipsNone, AreAllInSync, SawWithPass, Remembers};
 
 use crate::ledger::{Asked, Entry};
 use crate::performs::Performs;
 use r6_core::{Call, Core, Op, OpId, Receipt, Refusal, Refused, Task, Turn};
+use r6_exchange::Completion;
 use r6_health::{Answer, Pass, Refusal as RegisterRefusal, Register, SlotState, Snapshot};
 use r6_layout::{Geometry, MOST_SLOTS};
 use std::alloc::{AllocError, Global};
@@ -32,11 +33,12 @@ pub struct Place {
     pub window: usize,
 }
 
-/// A shard of an array: its core, its parts of the devices, a pass at the array's register, and its ledger.
+/// A shard of an array: its core, who performs its commands on its parts of the devices, a pass at the array's register,
+/// and its ledger.
 ///
 /// All room is made before the first command.
 #[derive(Drop)]
-pub struct Shard<P> {
+pub struct Shard<P: Performs> {
     pub core: Core,
     /// Which shard of the array it is.
     pub number: usize,
@@ -54,12 +56,14 @@ pub struct Shard<P> {
     pub last: Snapshot,
     /// Whether a slot wasn't in sync where the core looked, or at the start.
     pub saw_out: bool,
-    pub ghost kept: { IsKept core number named (length asked.items) },
+    pub ghost kept: { IsKept core (P.performer parts).out number named (length asked.items) },
+    pub ghost held: { P.holds parts } by { P.holds_is_prop parts },
     pub ghost own: { AreOwn number named (view_of pass).mine },
     pub ghost failure: { SeesFailure core (view_of pass) entries.items },
     pub ghost whole: { SkipsNone core named saw_out },
     pub ghost saw: { SawWithPass saw_out (view_of pass) },
     pub ghost knows: { KnowsLast core last },
+    pub ghost seen: { last.attaches ≤ (seen_by (view_of pass)).attaches },
     pub ghost linked: { AreOf asked.items entries.items },
     pub ghost once: { AreOnce (world_shard core) entries.items } by { Prim.hlevel props },
     pub ghost counted: { core.unanswered + length entries.items ≡ length asked.items },
@@ -129,13 +133,16 @@ impl<P: Performs + Drop> Shard<P> {
     ghost use Rattle.r6_shard.specs.Beginnings.{IsFirstPass};
     ghost use Rattle.r6_core.specs.Effects.{RefusesOp, RefusesTurn};
     ghost use Rattle.r6_core.specs.Refusals.{HasSubmitFault, submit_faults, HasNone};
-    ghost use Rattle.r6_shard.specs.Kept.{NoneIsOut, NoneIsToTell};
+    ghost use Rattle.std.specs.Prelude.{ℕ, None, true};
+    ghost use Rattle.r6_shard.specs.Kept.{AllAreTaken, NoneIsOut, NoneIsToTell};
     ghost use Rattle.r6_shard.specs.Counted.{HasPassedRows, PassesMore, PassesNone, rows_of};
     ghost use Rattle.r6_shard.specs.Shards.{GoesOn, SameLedger, Submits, Collects, Begins};
     ghost use Rattle.r6_shard.specs.Advances.{Advances};
-    ghost use Rattle.r6_shard.specs.Sound.{BeginsSound, HasNew, IsSoundIn, StaysSound};
+    ghost use Rattle.r6_shard.specs.Sound.{BeginsSound, IsSoundIn, StaysSound};
     ghost use Rattle.r6_shard.specs.Naming.{NamesFailures};
-    ghost use Rattle.r6_shard.specs.Here.{BeginsHere, HasNewHere, HasUsed, StaysHere};
+    ghost use Rattle.r6_shard.specs.Here.{BeginsHere, HasUsed, StaysHere};
+    ghost use Rattle.r6_shard.specs.New.{HasNew, HasNewHere};
+    ghost use Rattle.r6_shard.specs.Looked.{IsNumbered};
     ghost use Rattle.r6_shard.specs.Looking.{Sees};
 
     /// A shard of the array as it begins, with room for so many requests.
@@ -162,15 +169,19 @@ impl<P: Performs + Drop> Shard<P> {
         requires unfailed { snapshot.now.failed ≡ false }
         requires pass { IsFirstPass place.geometry snapshot.now (view_of pass) }
 
+        // nothing is out
+        requires holds { P.holds parts }
+        requires idle { (token : ℕ) → (P.performer parts).out token ≡ None }
+
         // its course begins
-        ensures begins { IfOk result (Begins P.tells place.geometry place.number snapshot.now) }
+        ensures begins { IfOk result (Begins place.geometry place.number snapshot.now) }
         ensures passed { IfOk result (λ shard. HasPassedRows false 0 0 shard.core) }
         ensures sound { IfOk result (λ shard. (slot : _)
-            → BeginsSound (P.tells parts) (P.promised parts) place.geometry place.number snapshot.now slot
-            → IsSoundIn P.tells P.promised place.geometry place.number slot shard) }
+            → BeginsSound (P.performer parts) place.geometry place.number snapshot.now slot
+            → IsSoundIn place.geometry place.number slot shard) }
         ensures here { IfOk result (λ shard. (slot : _)
-            → BeginsHere (P.labels parts) place.geometry.slots snapshot.now slot
-            → HasUsed (P.labels parts) slot shard.core) }
+            → BeginsHere (P.performer parts).labels place.geometry.slots snapshot.now slot
+            → HasUsed (P.performer parts).labels slot shard.core) }
 
         // what it was made of
         ensures parts { IfOk result (λ shard. shard.parts ≡ parts) }
@@ -213,7 +224,7 @@ impl<P: Performs + Drop> Shard<P> {
         requires room { length self.old.asked.items < self.old.room }
 
         // taken, or refused with nothing changed
-        ensures accepted { IfOk result (λ id. Submits P.tells event op self.old id.0 self.new) }
+        ensures accepted { IfOk result (λ id. Submits event op self.old id.0 self.new) }
         ensures right { IfOk result (λ _. HasNone (HasSubmitFault self.old.core op) submit_faults) }
         ensures refused { IfErr result (λ r. RefusesOp self.old.core op r.refusal r.back self.new.core) }
         ensures same { IfErr result (λ _. self.new ≡ self.old) }
@@ -222,8 +233,8 @@ impl<P: Performs + Drop> Shard<P> {
         ensures lasts { Lasts self.old.core self.new.core }
         ensures remembers { Remembers self.old.named self.old.saw_out self.new.named self.new.saw_out }
         ensures named { self.new.named ≡ self.old.named }
-        ensures sound { StaysSound P.tells P.promised self.old self.new }
-        ensures here { StaysHere P.labels self.old self.new }
+        ensures sound { StaysSound self.old self.new }
+        ensures here { StaysHere self.old self.new }
         ensures passed { PassesNone self.old.core self.new.core }
     {
         let block = op.block();
@@ -241,28 +252,110 @@ impl<P: Performs + Drop> Shard<P> {
         }
     }
 
-    /// Performs the command that was put out first, in place, and delivers its completion; whether there was one.
-    pub fn perform_next(&mut self) -> bool
-        ensures advances { Advances P.tells P.promised P.labels P.part_room self.old self.new }
-        ensures named { NamesFailures P.tells self.old self.new }
+    // Makes room for one more command; whether there is room.
+    fn make_room<R: Wait>(&mut self, rt: &R) -> bool
+        ensures room { result ≡ true → P.has_room self.new.parts ≡ true }
+        ensures performer { P.performer self.new.parts ≡ P.performer self.old.parts }
+        ensures advances { Advances self.old self.new }
+        ensures named { self.new.named ≡ self.old.named }
         ensures passed { PassesNone self.old.core self.new.core }
         ensures ledger { SameLedger self.old self.new }
         ensures pass { self.new.pass ≡ self.old.pass }
         ensures last { self.new.last ≡ self.old.last }
-        ensures none { result ≡ false → NoneIsOut (world_shard self.new.core) }
+    {
+        self.parts.make_room(rt)
+    }
+
+    // Sends the command that was put out first; whether there was one.
+    fn send_next<R: Wait>(&mut self, rt: &R) -> bool
+        requires { P.has_room self.old.parts ≡ true }
+        ensures advances { Advances self.old self.new }
+        ensures named { self.new.named ≡ self.old.named }
+        ensures passed { PassesNone self.old.core self.new.core }
+        ensures ledger { SameLedger self.old self.new }
+        ensures pass { self.new.pass ≡ self.old.pass }
+        ensures last { self.new.last ≡ self.old.last }
+        ensures none { result ≡ false → AllAreTaken (world_shard self.new.core)
+            × (P.performer self.new.parts ≡ P.performer self.old.parts) }
     {
         let Some(command) = self.core.take_command() else {
             return false;
         };
-        let token = command.token;
-        let slot = command.slot;
-        let completion = self.parts.perform(command);
-        let failed = completion.is_err();
-        let Ok(receipt) = self.core.deliver(token, completion) else {
+        self.parts.send(rt, command);
+        true
+    }
+
+    /// Sends the command that was put out first, if there is room for it; whether one was sent.
+    pub fn hand_next<R: Wait>(&mut self, rt: &R) -> bool
+        ensures advances { Advances self.old self.new }
+        ensures named { self.new.named ≡ self.old.named }
+        ensures passed { PassesNone self.old.core self.new.core }
+        ensures ledger { SameLedger self.old self.new }
+        ensures pass { self.new.pass ≡ self.old.pass }
+        ensures last { self.new.last ≡ self.old.last }
+    {
+        if !self.make_room(rt) {
+            return false;
+        }
+        self.send_next(rt)
+    }
+
+    /// Receives a completion that has come and delivers it; whether there was one.
+    pub fn receive_next<R: Wait>(&mut self, rt: &R) -> bool
+        ensures advances { Advances self.old self.new }
+        ensures named { NamesFailures self.old self.new }
+        ensures passed { PassesNone self.old.core self.new.core }
+        ensures ledger { SameLedger self.old self.new }
+        ensures pass { self.new.pass ≡ self.old.pass }
+        ensures last { self.new.last ≡ self.old.last }
+    {
+        let Some(completion) = self.parts.receive(rt) else {
+            return false;
+        };
+        let Completion {
+            token,
+            slot,
+            result: answer,
+        } = completion;
+        let failed = answer.is_err();
+        let Ok(receipt) = self.core.deliver(token, answer) else {
             unreachable!()
         };
         name(&mut self.named, slot, failed, receipt);
         true
+    }
+
+    // Sends a command, or else delivers a completion; whether it did either.
+    pub(crate) fn perform_next<R: Wait>(&mut self, rt: &R) -> bool
+        ensures advances { Advances self.old self.new }
+        ensures passed { PassesNone self.old.core self.new.core }
+        ensures ledger { SameLedger self.old self.new }
+        ensures pass { self.new.pass ≡ self.old.pass }
+        ensures last { self.new.last ≡ self.old.last }
+    {
+        if self.hand_next(rt) {
+            return true;
+        }
+        self.receive_next(rt)
+    }
+
+    /// Whether no command is out. If one was put out and none is out, it is sent.
+    pub fn is_still<R: Wait>(&mut self, rt: &R) -> bool
+        ensures advances { Advances self.old self.new }
+        ensures named { self.new.named ≡ self.old.named }
+        ensures passed { PassesNone self.old.core self.new.core }
+        ensures ledger { SameLedger self.old self.new }
+        ensures pass { self.new.pass ≡ self.old.pass }
+        ensures last { self.new.last ≡ self.old.last }
+        ensures still { result ≡ true → NoneIsOut (world_shard self.new.core) }
+    {
+        if !self.parts.is_idle() {
+            return false;
+        }
+        if !self.make_room(rt) {
+            return false;
+        }
+        !self.send_next(rt)
     }
 
     // What the register holds.
@@ -271,39 +364,40 @@ impl<P: Performs + Drop> Shard<P> {
 
         // its course goes on
         ensures pass { IsPassOf register.now self.new.pass }
-        ensures course { GoesOn P.tells self.old self.new }
+        ensures course { GoesOn self.old self.new }
 
         // and nothing changes but what its pass has seen
         ensures core { self.new.core ≡ self.old.core }
         ensures remembers { Remembers self.old.named self.old.saw_out self.new.named self.new.saw_out }
         ensures named { self.new.named ≡ self.old.named }
-        ensures sound { StaysSound P.tells P.promised self.old self.new }
+        ensures sound { StaysSound self.old self.new }
         ensures parts { self.new.parts ≡ self.old.parts }
         ensures last { self.new.last ≡ self.old.last }
         ensures ledger { SameLedger self.old self.new }
 
         ensures snapshot { result ≡ held (view_of self.new.pass).start (view_of self.new.pass).seen }
+        ensures numbered { IsNumbered result }
     {
         register.read(rt, &mut self.pass)
     }
 
     // The core looks at what the register held when it was read last, once every call was told; whether it did.
     pub(crate) fn see(&mut self, snapshot: &Snapshot) -> bool
-        requires { snapshot.now ≡ held (view_of self.old.pass).start (view_of self.old.pass).seen }
+        requires snapshot { snapshot.now ≡ held (view_of self.old.pass).start (view_of self.old.pass).seen }
+        requires numbered { IsNumbered snapshot.now }
 
         // its course goes on
-        ensures course { GoesOn P.tells self.old self.new }
+        ensures course { GoesOn self.old self.new }
         ensures lasts { Lasts self.old.core self.new.core }
         ensures remembers { Remembers self.old.named self.old.saw_out self.new.named self.new.saw_out }
         ensures named { self.new.named ≡ self.old.named }
         ensures sound { (shape : _) (number : _) (slot : _)
-            → (slot < shape.slots → HasNew (P.tells self.old.parts) snapshot.now slot)
-            → IsSoundIn P.tells P.promised shape number slot self.old
-            → IsSoundIn P.tells P.promised shape number slot self.new }
+            → (slot < shape.slots → HasNew (P.performer self.old.parts).tells snapshot.now slot)
+            → IsSoundIn shape number slot self.old → IsSoundIn shape number slot self.new }
         ensures here { (slot : _)
-            → (slot < self.old.core.shape.slots → HasNewHere (P.labels self.old.parts) snapshot.now slot)
-            → HasUsed (P.labels self.old.parts) slot self.old.core
-            → HasUsed (P.labels self.old.parts) slot self.new.core }
+            → (slot < self.old.core.shape.slots → HasNewHere (P.performer self.old.parts).labels snapshot.now slot)
+            → HasUsed (P.performer self.old.parts).labels slot self.old.core
+            → HasUsed (P.performer self.old.parts).labels slot self.new.core }
 
         // and no row is passed, and the ledger and the parts stay
         ensures passed { PassesNone self.old.core self.new.core }
@@ -328,7 +422,7 @@ impl<P: Performs + Drop> Shard<P> {
     pub fn tell_next<R: Wait>(&mut self, rt: &R, register: &Register) -> bool
         requires { IsPassOf register.now self.old.pass }
         ensures pass { IsPassOf register.now self.new.pass }
-        ensures advances { Advances P.tells P.promised P.labels P.part_room self.old self.new }
+        ensures advances { Advances self.old self.new }
         ensures named { self.new.named ≡ self.old.named }
         ensures passed { PassesNone self.old.core self.new.core }
         ensures ledger { SameLedger self.old self.new }
@@ -348,7 +442,7 @@ impl<P: Performs + Drop> Shard<P> {
 
     /// Takes the reply that was released first into the ledger; whether there was one.
     pub fn collect(&mut self) -> bool
-        ensures advances { Advances P.tells P.promised P.labels P.part_room self.old self.new }
+        ensures advances { Advances self.old self.new }
         ensures named { self.new.named ≡ self.old.named }
         ensures passed { PassesNone self.old.core self.new.core }
         ensures ledger { Collects result self.old self.new }
@@ -375,7 +469,7 @@ impl<P: Performs + Drop> Shard<P> {
     /// # Errors
     /// Those of [`Core::turn`]. Nothing changes.
     pub fn turn(&mut self, task: Task) -> Result<Turn, Refusal>
-        ensures advances { Advances P.tells P.promised P.labels P.part_room self.old self.new }
+        ensures advances { Advances self.old self.new }
         ensures named { self.new.named ≡ self.old.named }
         ensures passed { IfOk result (λ _. PassesMore (rows_of task) self.old.core self.new.core) }
         ensures ledger { SameLedger self.old self.new }

@@ -23,12 +23,13 @@ use Rattle.r6_shard.proofs.shard.Shard.collect.Goals as goal
 pub invariant_of-self-clause-kept : goal.invariant_of-self-clause-kept
 invariant_of-self-clause-kept g c =
     let old = c.args.self.now in
-    kept-plainly old.core No_reply c.take_reply.new.self old.number old.named (length old.asked.items) (record {}) c.in_default.ensures.reply.step old.kept
+    kept-plainly old.core No_reply c.take_reply.new.self (g.P.Performs.performer old.parts).out old.number old.named (length old.asked.items) (record {}) c.in_default.ensures.reply.step old.kept
 
 pub invariant_of-self-2-clause-kept : goal.invariant_of-self-2-clause-kept
 invariant_of-self-2-clause-kept g c =
     let old = c.args.self.now in
-    kept-plainly old.core (Take_reply c.in-Some.id.0 (reply_of c.in-Some.reply)) c.take_reply.new.self old.number old.named
+    kept-plainly old.core (Take_reply c.in-Some.id.0 (reply_of c.in-Some.reply)) c.take_reply.new.self
+    (g.P.Performs.performer old.parts).out old.number old.named
     (length old.asked.items) (record {}) c.in-Some.ensures.reply.step old.kept
 
 pub invariant_of-self-clause-failure : goal.invariant_of-self-clause-failure
@@ -66,26 +67,27 @@ pub returns-in_default-clause-advances : goal.returns-in_default-clause-advances
 returns-in_default-clause-advances g c =
     let old = c.args.self.now in
     let new = c.take_reply.new.self in
-    let tells = g.P.Performs.tells old.parts in
+    let own = g.P.Performs.performer old.parts in
     let step = c.in_default.ensures.reply.step in
     record {
       course = λ s ops x.
-          has-gone s old.core new (view_of old.pass) old.last.attaches old.named tells old.asked.items old.entries.items ops No_reply (record {})
+          has-gone s old.core new (view_of old.pass) old.last.attaches old.named own.out own.tells old.asked.items old.entries.items ops No_reply (record {})
           (λ history. refl) step x;
       lasts = lasts_by old.core No_reply new c.take_reply.ensures.window step;
       remembers = λ x. x;
       sound = λ shape number slot x.
-          sound-by tells (g.P.Performs.promised old.parts) shape number slot old.core No_reply new old.named (record {}) step x;
+          sound-by own shape number slot old.core No_reply new old.named (record {}) step x;
       labels_stay = refl;
       room_stays = refl;
-      here = λ slot x. here-by (g.P.Performs.labels old.parts) slot old.core No_reply new (record {}) step x;
+      site_stays = refl;
+      here = λ slot x. here-by own.labels slot old.core No_reply new (record {}) step x;
     }
 
 pub returns-clause-advances : goal.returns-clause-advances
 returns-clause-advances g c =
     let old = c.args.self.now in
     let new = c.take_reply.new.self in
-    let part = g.P.Performs.tells old.parts in
+    let own = g.P.Performs.performer old.parts in
     let v = view_of old.pass in
     let step = c.in-Some.ensures.reply.step in
     let id = c.in-Some.id.0 in
@@ -95,16 +97,17 @@ returns-clause-advances g c =
     let below : id < length old.asked.items = old.kept.2.1 id _ step.1.1 in
     record {
       course = λ s ops x.
-          subst (λ z. HasCourse s new v old.last.attaches old.named part old.asked.items z ops) (sym c.push_reserved.ensures.items)
-          (has-collected s old.core new v old.last.attaches old.named part old.asked.items old.entries.items ops entry step
+          subst (λ z. HasCourse s new v old.last.attaches old.named own.out own.tells old.asked.items z ops) (sym c.push_reserved.ensures.items)
+          (has-collected s old.core new v old.last.attaches old.named own.out own.tells old.asked.items old.entries.items ops entry step
           (is-of old.asked.items id below asked (sym c.index-asked.ensures) entry refl refl refl) x);
       lasts = lasts_by old.core taking new c.take_reply.ensures.window step;
       remembers = λ x. x;
       sound = λ shape number slot x.
-          sound-by part (g.P.Performs.promised old.parts) shape number slot old.core taking new old.named (record {}) step x;
+          sound-by own shape number slot old.core taking new old.named (record {}) step x;
       labels_stay = refl;
       room_stays = refl;
-      here = λ slot x. here-by (g.P.Performs.labels old.parts) slot old.core taking new (record {}) step x;
+      site_stays = refl;
+      here = λ slot x. here-by own.labels slot old.core taking new (record {}) step x;
     }
 
 pub invariant_of-self-clause-knows : goal.invariant_of-self-clause-knows

@@ -10,7 +10,7 @@ loop-init g c = (
   tt,
   tt,
   record {
-    advances = advances-none g.P.Performs.tells g.P.Performs.promised g.P.Performs.labels g.P.Performs.part_room c.args.self.now;
+    advances = advances-none c.args.self.now;
     passed = λ stopped counted rows x. x;
     asked = refl;
     room = refl;
@@ -26,7 +26,7 @@ loop-preserved g c =
       tt,
       tt,
       record {
-        advances = advances-on g.P.Performs.tells g.P.Performs.promised g.P.Performs.labels g.P.Performs.part_room c.args.self.now c.loop.self c.collect.new.self before.advances now.advances;
+        advances = advances-on c.args.self.now c.loop.self c.collect.new.self before.advances now.advances;
         passed = λ stopped counted rows x. now.passed stopped counted rows (before.passed stopped counted rows x);
         asked = now.asked ∙ before.asked;
         room = now.room ∙ before.room;
@@ -45,15 +45,11 @@ returns-clause-passed g c = λ stopped counted rows x.
 
 pub returns-clause-advances : goal.returns-clause-advances
 returns-clause-advances g c =
-    let tells = g.P.Performs.tells in
-    let promised = g.P.Performs.promised in
-    let labels = g.P.Performs.labels in
-    let part_room = g.P.Performs.part_room in
     let old = c.args.self.now in
     let before = c.loop.invariant.2.advances in
     elim c.match-next.branch [
-      | in-None w ↦ subst (Advances tells promised labels part_room old) (sym w.self-is) before
+      | in-None w ↦ subst (Advances old) (sym w.self-is) before
       | in-Some+then-not-collect w ↦
-          subst (Advances tells promised labels part_room old) (sym w.self-is)
-          (advances-on tells promised labels part_room old c.loop.self w.collect.new.self before w.collect.ensures.advances)
+          subst (Advances old) (sym w.self-is)
+          (advances-on old c.loop.self w.collect.new.self before w.collect.ensures.advances)
     ]

@@ -18,8 +18,8 @@ use Rattle.r6_shard.proofs.shard.Shard.new.Goals as goal
 
 pub invariant_of-result-clause-kept : goal.invariant_of-result-clause-kept
 invariant_of-result-clause-kept g c =
-    kept-at-first c.args.place.geometry c.args.snapshot.now c.args.place.number c.in-Ok.core (replicate 32 false) _
-    c.requires.limits.slots_allowed.1 (ap length c.in_ok-asked.ensures.items) refl c.in-Ok.ensures.made
+    kept-at-first c.args.place.geometry c.args.snapshot.now c.args.place.number c.in-Ok.core (g.P.Performs.performer c.args.parts).out
+    (replicate 32 false) _ c.requires.limits.slots_allowed.1 (ap length c.in_ok-asked.ensures.items) refl c.requires.idle c.in-Ok.ensures.made
 
 pub invariant_of-result-clause-own : goal.invariant_of-result-clause-own
 invariant_of-result-clause-own g c = rw c.requires.pass.mine (All-nil _)
@@ -35,13 +35,13 @@ returns-clause-begins g c = λ device array lawful hold.
     let snapshot = c.args.snapshot.now in
     let core = c.in-Ok.core in
     let v = view_of c.args.pass in
-    let part = g.P.Performs.tells c.args.parts in
+    let own = g.P.Performs.performer c.args.parts in
     let named = replicate 32 false in
     let s = start_of place.geometry place.number snapshot device array in
-    subst (λ y. HasCourse s core v y named part c.in_ok-asked.asked.items c.in_ok-entries.entries.items []) (sym c.requires.no_attach)
-    (subst (λ y. HasCourse s core v 0 named part y c.in_ok-entries.entries.items []) (sym c.in_ok-asked.ensures.items)
-    (subst (λ y. HasCourse s core v 0 named part [] y []) (sym c.in_ok-entries.ensures.items)
-    (begun place.geometry place.number snapshot device array core v named part c.requires.limits c.requires.number lawful hold c.in-Ok.ensures.made c.requires.pass
+    subst (λ y. HasCourse s core v y named own.out own.tells c.in_ok-asked.asked.items c.in_ok-entries.entries.items []) (sym c.requires.no_attach)
+    (subst (λ y. HasCourse s core v 0 named own.out own.tells y c.in_ok-entries.entries.items []) (sym c.in_ok-asked.ensures.items)
+    (subst (λ y. HasCourse s core v 0 named own.out own.tells [] y []) (sym c.in_ok-entries.ensures.items)
+    (begun place.geometry place.number snapshot device array core v named own.out own.tells c.requires.idle c.requires.limits c.requires.number lawful hold c.in-Ok.ensures.made c.requires.pass
     (none-named 32))))
 
 pub returns-clause-passed : goal.returns-clause-passed
@@ -50,7 +50,7 @@ returns-clause-passed g c = none-passed c.args.place.geometry c.args.snapshot.no
 pub returns-clause-sound : goal.returns-clause-sound
 returns-clause-sound g c = λ slot x.
     let place = c.args.place in
-    sound-begun (g.P.Performs.tells c.args.parts) (g.P.Performs.promised c.args.parts) place.geometry c.args.snapshot.now place.number slot
+    sound-begun (g.P.Performs.performer c.args.parts) place.geometry c.args.snapshot.now place.number slot
     c.in-Ok.core _ c.in-Ok.ensures.made (none-named 32) x
 
 pub invariant_of-result-clause-whole : goal.invariant_of-result-clause-whole
@@ -80,4 +80,4 @@ invariant_of-result-clause-once g c =
 pub returns-clause-here : goal.returns-clause-here
 returns-clause-here g c = λ slot x.
     let place = c.args.place in
-    here-begun (g.P.Performs.labels c.args.parts) slot place.geometry c.args.snapshot.now place.number c.in-Ok.core c.in-Ok.ensures.made x
+    here-begun (g.P.Performs.performer c.args.parts).labels slot place.geometry c.args.snapshot.now place.number c.in-Ok.core c.in-Ok.ensures.made x

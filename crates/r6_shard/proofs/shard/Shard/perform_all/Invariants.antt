@@ -7,7 +7,7 @@ use Rattle.r6_shard.proofs.shard.Shard.perform_all.Given as goal
 abbrev pub invariant-loop : goal.invariant-loop
 invariant-loop g l =
     (goal.iterator-loop g).can_next l.iterator' × (goal.iterator-loop g).is_finite l.iterator' × record {
-      advances : Advances g.P.Performs.tells g.P.Performs.promised g.P.Performs.labels g.P.Performs.part_room l.fn.self l.self;
+      advances : Advances l.fn.self l.self;
       passed : PassesNone l.fn.self.core l.self.core;
       ledger : SameLedger l.fn.self l.self;
       pass : l.self.pass ≡ l.fn.self.pass;

@@ -1,4 +1,7 @@
-use Rattle.std.proofs.Common.{sym, subst}
+use Rattle.std.proofs.Common.{sym, subst, arith}
+use Rattle.r6_health.specs.Histories.{held}
+use Rattle.r6_shard.specs.Looked.{IsNumbered}
+use Rattle.r6_shard.proofs.Numbered.{attaches-later, held-numbered}
 use Rattle.r6_health.specs.Passes.{view_of}
 use Rattle.r6_shard.proofs.Going.{has-seen}
 use Rattle.r6_shard.specs.Own.{AreOwn}
@@ -26,8 +29,23 @@ invariant_of-self-clause-saw g c =
 pub returns-clause-course : goal.returns-clause-course
 returns-clause-course g c = λ s ops x.
     let old = c.args.self.now in
-    has-seen s old.core (view_of old.pass) (view_of c.read.new.pass) old.last.attaches old.named (g.P.Performs.tells old.parts) old.asked.items old.entries.items ops
+    has-seen s old.core (view_of old.pass) (view_of c.read.new.pass) old.last.attaches old.named (g.P.Performs.performer old.parts).out
+    (g.P.Performs.performer old.parts).tells old.asked.items old.entries.items ops
     c.read.ensures.looks x
 
 pub returns-clause-sound : goal.returns-clause-sound
 returns-clause-sound g c = λ shape number slot x. x
+
+pub invariant_of-self-clause-seen : goal.invariant_of-self-clause-seen
+invariant_of-self-clause-seen g c =
+    let looks = c.read.ensures.looks in
+    let more = attaches-later (view_of c.args.self.now.pass) (view_of c.read.new.pass) looks.grows.same_start looks.grows.seen in
+    let before = c.args.self.now.seen in
+    omega arith
+
+pub returns-clause-numbered : goal.returns-clause-numbered
+returns-clause-numbered g c =
+    let v = view_of c.read.new.pass in
+    let r = c.args.register.now in
+    subst IsNumbered (sym c.read.ensures.snapshot)
+    (subst (λ s. IsNumbered (held s v.seen)) (sym c.read.ensures.pass.same_start) (held-numbered r.slots r.shards r.lost v.seen))

@@ -1,4 +1,5 @@
-use Rattle.std.proofs.Common.{◌≤◌, ◌+◌, length, refl, sym, ap, subst, ◌∙◌}
+use Rattle.std.proofs.Common.{◌≤◌, ◌+◌, length, refl, sym, ap, subst, ◌∙◌, arith}
+use Rattle.r6_world.specs.Registers.{Snapshot}
 use Rattle.r6_health.specs.Passes.{view_of}
 use Rattle.r6_health.proofs.Histories.{starts_with_itself}
 use Rattle.r6_world.specs.Steps.{Look}
@@ -24,12 +25,12 @@ use Rattle.r6_shard.proofs.shard.Shard.see.Goals as goal
 pub invariant_of-self-clause-kept : goal.invariant_of-self-clause-kept
 invariant_of-self-clause-kept g c =
     let old = c.args.self.now in
-    kept-plainly old.core (Look c.args.snapshot.now) c.look.new.self old.number old.named (length old.asked.items) (record {}) c.in-Ok.ensures.looked.step old.kept
+    kept-plainly old.core (Look c.args.snapshot.now) c.look.new.self (g.P.Performs.performer old.parts).out old.number old.named (length old.asked.items) (record {}) c.in-Ok.ensures.looked.step old.kept
 
 pub invariant_of-self-clause-failure : goal.invariant_of-self-clause-failure
 invariant_of-self-clause-failure g c =
     let old = c.args.self.now in
-    failure-looked old.core c.args.snapshot.now c.look.new.self (view_of old.pass) old.entries.items c.requires c.in-Ok.ensures.looked.step old.failure
+    failure-looked old.core c.args.snapshot.now c.look.new.self (view_of old.pass) old.entries.items c.requires.snapshot c.in-Ok.ensures.looked.step old.failure
 
 pub invariant_of-self-clause-whole : goal.invariant_of-self-clause-whole
 invariant_of-self-clause-whole g c =
@@ -45,12 +46,17 @@ invariant_of-self-clause-saw g c = λ were.
     let old = c.args.self.now in
     let v = view_of old.pass in
     c.saw_by-self.ensures.one (old.saw were)
-    (subst AreAllInSync (sym c.requires) (were v.seen (starts_with_itself v.seen)))
+    (subst AreAllInSync (sym c.requires.snapshot) (were v.seen (starts_with_itself v.seen)))
 
 pub invariant_of-self-clause-knows : goal.invariant_of-self-clause-knows
 invariant_of-self-clause-knows g c =
     let old = c.args.self.now in
-    knows-looked old.core c.args.snapshot.now c.look.new.self (view_of old.pass) old.entries.items c.requires c.in-Ok.ensures.looked.step old.failure
+    knows-looked old.core old.last c.args.snapshot.now c.look.new.self (view_of old.pass) old.entries.items c.requires.snapshot c.requires.numbered
+    old.seen c.in-Ok.ensures.looked.step old.failure old.knows
+
+pub invariant_of-self-clause-seen : goal.invariant_of-self-clause-seen
+invariant_of-self-clause-seen g c =
+    let same = ap (λ (y : Snapshot). y.attaches) c.requires.snapshot in omega arith
 
 pub invariant_of-self-clause-once : goal.invariant_of-self-clause-once
 invariant_of-self-clause-once g c =
@@ -65,8 +71,9 @@ invariant_of-self-clause-counted g c =
 pub returns-in-Ok-clause-course : goal.returns-in-Ok-clause-course
 returns-in-Ok-clause-course g c = λ s ops x.
     let old = c.args.self.now in
-    has-gone s old.core c.look.new.self (view_of old.pass) old.last.attaches old.named (g.P.Performs.tells old.parts) old.asked.items old.entries.items ops
-    (Look c.args.snapshot.now) c.requires (λ history. refl) c.in-Ok.ensures.looked.step x
+    has-gone s old.core c.look.new.self (view_of old.pass) old.last.attaches old.named (g.P.Performs.performer old.parts).out (g.P.Performs.performer old.parts).tells
+    old.asked.items old.entries.items ops
+    (Look c.args.snapshot.now) c.requires.snapshot (λ history. refl) c.in-Ok.ensures.looked.step x
 
 pub returns-in-Ok-clause-lasts : goal.returns-in-Ok-clause-lasts
 returns-in-Ok-clause-lasts g c =
@@ -79,13 +86,13 @@ returns-in-Ok-clause-passed g c =
 pub returns-in-Ok-clause-sound : goal.returns-in-Ok-clause-sound
 returns-in-Ok-clause-sound g c = λ shape number slot here x.
     let old = c.args.self.now in
-    sound-looked (g.P.Performs.tells old.parts) (g.P.Performs.promised old.parts) shape number slot old.core c.args.snapshot.now c.look.new.self old.named
+    sound-looked (g.P.Performs.performer old.parts) shape number slot old.core c.args.snapshot.now c.look.new.self old.named
     here c.in-Ok.ensures.looked.step x
 
 pub returns-in-Ok-clause-here : goal.returns-in-Ok-clause-here
 returns-in-Ok-clause-here g c = λ slot has x.
     let old = c.args.self.now in
-    here-looked (g.P.Performs.labels old.parts) slot old.core c.args.snapshot.now c.look.new.self has c.in-Ok.ensures.looked.step x
+    here-looked (g.P.Performs.performer old.parts).labels slot old.core c.args.snapshot.now c.look.new.self has c.in-Ok.ensures.looked.step x
 
 pub returns-in-Ok-clause-remembers : goal.returns-in-Ok-clause-remembers
 returns-in-Ok-clause-remembers g c = λ x. (x.0, (c.saw_by-self.ensures.none x.1).0)
@@ -98,12 +105,14 @@ invariant_of-self-in-Err g c =
     let new = c.look.new.self in
     let same = c.in-Err.ensures.refused.same in
     record {
-      kept = subst (λ y. IsKept y old.number old.named (length old.asked.items)) (sym same) old.kept;
+      kept = subst (λ y. IsKept y (g.P.Performs.performer old.parts).out old.number old.named (length old.asked.items)) (sym same) old.kept;
+      held = old.held;
       own = old.own;
       failure = failure-same old.core new (view_of old.pass) old.entries.items same old.failure;
       whole = skips-same old.named old.saw_out old.core new same old.whole;
       saw = old.saw;
       knows = knows-same old.core new old.last same old.knows;
+      seen = old.seen;
       linked = old.linked;
       once = once-same old.core new old.entries.items same old.once;
       counted = ap (λ (y : CoreView). y.unanswered + length old.entries.items) same ∙ old.counted;
@@ -115,7 +124,8 @@ invariant_of-self-in-Err g c =
 pub returns-in-Err-clause-course : goal.returns-in-Err-clause-course
 returns-in-Err-clause-course g c = λ s ops x.
     let old = c.args.self.now in
-    subst (λ z. HasCourse s z (view_of old.pass) old.last.attaches old.named (g.P.Performs.tells old.parts) old.asked.items old.entries.items ops)
+    subst (λ z. HasCourse s z (view_of old.pass) old.last.attaches old.named (g.P.Performs.performer old.parts).out
+    (g.P.Performs.performer old.parts).tells old.asked.items old.entries.items ops)
     (sym c.in-Err.ensures.refused.same) x
 
 pub returns-in-Err-clause-lasts : goal.returns-in-Err-clause-lasts
@@ -127,15 +137,15 @@ returns-in-Err-clause-passed g c = passes-same c.args.self.now.core c.look.new.s
 pub returns-in-Err-clause-sound : goal.returns-in-Err-clause-sound
 returns-in-Err-clause-sound g c = λ shape number slot here x.
     let old = c.args.self.now in
-    sound-same (g.P.Performs.tells old.parts) (g.P.Performs.promised old.parts) shape number slot old.core c.look.new.self old.named
+    sound-same (g.P.Performs.performer old.parts) shape number slot old.core c.look.new.self old.named
     c.in-Err.ensures.refused.same x
 
 pub returns-in-Err-clause-here : goal.returns-in-Err-clause-here
 returns-in-Err-clause-here g c = λ slot has x.
     let old = c.args.self.now in
-    here-same (g.P.Performs.labels old.parts) slot old.core c.look.new.self c.in-Err.ensures.refused.same x
+    here-same (g.P.Performs.performer old.parts).labels slot old.core c.look.new.self c.in-Err.ensures.refused.same x
 
 pub returns-in-Err-clause-looked : goal.returns-in-Err-clause-looked
 returns-in-Err-clause-looked g c =
     let old = c.args.self.now in
-    (c.in-Err.ensures.refused.untold, shard-again old c.look.new.self old.parts (sym c.in-Err.ensures.refused.same) refl _ _ _ _ _ _ _ _ _ _ _ _)
+    (c.in-Err.ensures.refused.untold, shard-again old c.look.new.self old.parts (sym c.in-Err.ensures.refused.same) refl _ _ _ _ _ _ _ _ _ _ _ _ _ _)

@@ -1,4 +1,5 @@
-use Rattle.std.proofs.Common.{refl, sym, subst}
+use Rattle.std.proofs.Common.{◌≤◌, refl, sym, subst}
+use Rattle.r6_health.specs.Histories.{held}
 use Rattle.r6_shard.specs.Own.{AreOwn, SeesFailure}
 use Rattle.r6_shard.specs.Whole.{SawWithPass}
 use Rattle.r6_shard.proofs.shard.Shard.split_pass.Goals as goal
@@ -31,3 +32,8 @@ returns-clause-kept g c =
       last = refl;
       saw_out = refl;
     }
+
+pub invariant_of-self-clause-seen : goal.invariant_of-self-clause-seen
+invariant_of-self-clause-seen g c =
+    let old = c.args.self.now in
+    subst (λ v. old.last.attaches ≤ (held v.start v.seen).attaches) (sym c.split.ensures.same) old.seen

@@ -25,21 +25,24 @@ use Rattle.r6_shard.proofs.shard.Shard.submit.Goals as goal
 pub invariant_of-self-clause-kept : goal.invariant_of-self-clause-kept
 invariant_of-self-clause-kept g c =
     let old = c.args.self.now in
-    subst (IsKept c.submit.new.self old.number old.named)
+    let out = (g.P.Performs.performer old.parts).out in
+    subst (IsKept c.submit.new.self out old.number old.named)
     (sym (ap length c.push_reserved.ensures.items ∙ length-append old.asked.items (record { event = c.args.event; block = c.block-block.result; answered = c.len-answered.result } ∷ [])))
-    (kept-submitting old.core (op_of c.args.op) c.in-Ok.id.0 c.submit.new.self old.number old.named (length old.asked.items) c.in-Ok.ensures.accepted.step old.kept)
+    (kept-submitting old.core (op_of c.args.op) c.in-Ok.id.0 c.submit.new.self out old.number old.named (length old.asked.items) c.in-Ok.ensures.accepted.step old.kept)
 
 pub invariant_of-self-in-Err-1 : goal.invariant_of-self-in-Err-1
 invariant_of-self-in-Err-1 g c =
     let old = c.args.self.now in
     let same = c.in-Err.ensures.refused.same in
     record {
-      kept = subst (λ y. IsKept y old.number old.named (length old.asked.items)) (sym same) old.kept;
+      kept = subst (λ y. IsKept y (g.P.Performs.performer old.parts).out old.number old.named (length old.asked.items)) (sym same) old.kept;
+      held = old.held;
       own = old.own;
       failure = failure-same old.core c.submit.new.self (view_of old.pass) old.entries.items same old.failure;
       whole = skips-same old.named old.saw_out old.core c.submit.new.self same old.whole;
       saw = old.saw;
       knows = knows-same old.core c.submit.new.self old.last same old.knows;
+      seen = old.seen;
       linked = old.linked;
       once = once-same old.core c.submit.new.self old.entries.items same old.once;
       counted = ap (λ (y : CoreView). y.unanswered + length old.entries.items) same ∙ old.counted;
@@ -61,7 +64,7 @@ returns-in-Ok-clause-accepted g c =
     let new = c.submit.new.self in
     let id = c.in-Ok.id.0 in
     let step = c.in-Ok.ensures.accepted.step in
-    let part = g.P.Performs.tells old.parts in
+    let own = g.P.Performs.performer old.parts in
     let v = view_of old.pass in
     let number : id ≡ length old.asked.items =
     (one-more (core_layout old.core) old.core.shard (world_shard old.core) (world_shard new) (op_of op) id (length old.asked.items) step.1 old.kept.2).0 in
@@ -73,8 +76,8 @@ returns-in-Ok-clause-accepted g c =
     ∙ ap (λ (n : ℕ). old.asked.items ++ record { event = c.args.event; block = block_of (op_of op); answered = n } ∷ []) (c.len-answered.ensures ∙ many) in
     record {
       course = λ s ops x.
-          subst (λ z. HasCourse s new v old.last.attaches old.named part z old.entries.items (ops ++ op_of op ∷ [])) (sym asked)
-          (has-submitted s old.core new v old.last.attaches old.named part old.asked.items old.entries.items ops c.args.event (op_of op) id number step x);
+          subst (λ z. HasCourse s new v old.last.attaches old.named own.out own.tells z old.entries.items (ops ++ op_of op ∷ [])) (sym asked)
+          (has-submitted s old.core new v old.last.attaches old.named own.out own.tells old.asked.items old.entries.items ops c.args.event (op_of op) id number step x);
       number = number;
       asked = asked;
       entries = refl;
@@ -100,18 +103,14 @@ returns-in-Err-clause-passed g c = passes-same c.args.self.now.core c.submit.new
 
 pub returns-in-Ok-clause-sound : goal.returns-in-Ok-clause-sound
 returns-in-Ok-clause-sound g c = λ shape number slot x.
-    let tells = g.P.Performs.tells in
-    let promised = g.P.Performs.promised in
     let old = c.args.self.now in
-    sound-by (tells old.parts) (promised old.parts) shape number slot old.core (Submit (op_of c.args.op) c.in-Ok.id.0) c.submit.new.self old.named
+    sound-by (g.P.Performs.performer old.parts) shape number slot old.core (Submit (op_of c.args.op) c.in-Ok.id.0) c.submit.new.self old.named
     (record {}) c.in-Ok.ensures.accepted.step x
 
 pub returns-in-Err-clause-sound : goal.returns-in-Err-clause-sound
 returns-in-Err-clause-sound g c = λ shape number slot x.
-    let tells = g.P.Performs.tells in
-    let promised = g.P.Performs.promised in
     let old = c.args.self.now in
-    sound-same (tells old.parts) (promised old.parts) shape number slot old.core c.submit.new.self old.named c.in-Err.ensures.refused.same x
+    sound-same (g.P.Performs.performer old.parts) shape number slot old.core c.submit.new.self old.named c.in-Err.ensures.refused.same x
 
 pub invariant_of-self-clause-whole : goal.invariant_of-self-clause-whole
 invariant_of-self-clause-whole g c =
@@ -119,7 +118,7 @@ invariant_of-self-clause-whole g c =
     skips-by old.named old.saw_out old.core (Submit (op_of c.args.op) c.in-Ok.id.0) c.submit.new.self (λ y. record {}) c.in-Ok.ensures.accepted.step old.whole
 
 pub returns-in-Err-clause-same : goal.returns-in-Err-clause-same
-returns-in-Err-clause-same g c = shard-again c.args.self.now c.submit.new.self c.args.self.now.parts (sym c.in-Err.ensures.refused.same) refl _ _ _ _ _ _ _ _ _ _ _ _
+returns-in-Err-clause-same g c = shard-again c.args.self.now c.submit.new.self c.args.self.now.parts (sym c.in-Err.ensures.refused.same) refl _ _ _ _ _ _ _ _ _ _ _ _ _ _
 
 pub invariant_of-self-clause-knows : goal.invariant_of-self-clause-knows
 invariant_of-self-clause-knows g c =
@@ -140,10 +139,10 @@ invariant_of-self-clause-once g c =
 pub returns-in-Ok-clause-here : goal.returns-in-Ok-clause-here
 returns-in-Ok-clause-here g c = λ slot x.
     let old = c.args.self.now in
-    here-by (g.P.Performs.labels old.parts) slot old.core (Submit (op_of c.args.op) c.in-Ok.id.0) c.submit.new.self (record {})
+    here-by (g.P.Performs.performer old.parts).labels slot old.core (Submit (op_of c.args.op) c.in-Ok.id.0) c.submit.new.self (record {})
     c.in-Ok.ensures.accepted.step x
 
 pub returns-in-Err-clause-here : goal.returns-in-Err-clause-here
 returns-in-Err-clause-here g c = λ slot x.
     let old = c.args.self.now in
-    here-same (g.P.Performs.labels old.parts) slot old.core c.submit.new.self c.in-Err.ensures.refused.same x
+    here-same (g.P.Performs.performer old.parts).labels slot old.core c.submit.new.self c.in-Err.ensures.refused.same x

@@ -12,7 +12,7 @@ loop-init g c = (
   tt,
   record {
     pass = c.requires;
-    advances = advances-none g.P.Performs.tells g.P.Performs.promised g.P.Performs.labels g.P.Performs.part_room c.args.self.now;
+    advances = advances-none c.args.self.now;
     passed = λ stopped counted rows x. x;
     ledger = record { asked = refl; entries = refl; room = refl };
     last = refl;
@@ -27,7 +27,7 @@ loop-preserved g c =
       tt,
       record {
         pass = now.pass;
-        advances = advances-on g.P.Performs.tells g.P.Performs.promised g.P.Performs.labels g.P.Performs.part_room c.args.self.now c.loop.self c.tell_next.new.self before.advances now.advances;
+        advances = advances-on c.args.self.now c.loop.self c.tell_next.new.self before.advances now.advances;
         passed = λ stopped counted rows x. now.passed stopped counted rows (before.passed stopped counted rows x);
         ledger = same-on c.args.self.now c.loop.self c.tell_next.new.self before.ledger now.ledger;
         last = now.last ∙ before.last;
@@ -44,17 +44,13 @@ returns-clause-passed g c = λ stopped counted rows x.
 
 pub returns-clause-advances : goal.returns-clause-advances
 returns-clause-advances g c =
-    let tells = g.P.Performs.tells in
-    let promised = g.P.Performs.promised in
-    let labels = g.P.Performs.labels in
-    let part_room = g.P.Performs.part_room in
     let old = c.args.self.now in
     let before = c.loop.invariant.2.advances in
     elim c.match-next.branch [
-      | in-None w ↦ subst (Advances tells promised labels part_room old) (sym w.self-is) before
+      | in-None w ↦ subst (Advances old) (sym w.self-is) before
       | in-Some+then-not-tell_next w ↦
-          subst (Advances tells promised labels part_room old) (sym w.self-is)
-          (advances-on tells promised labels part_room old c.loop.self w.tell_next.new.self before w.tell_next.ensures.advances)
+          subst (Advances old) (sym w.self-is)
+          (advances-on old c.loop.self w.tell_next.new.self before w.tell_next.ensures.advances)
     ]
 
 pub returns-clause-ledger : goal.returns-clause-ledger

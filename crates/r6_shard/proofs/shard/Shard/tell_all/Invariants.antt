@@ -9,7 +9,7 @@ abbrev pub invariant-loop : goal.invariant-loop
 invariant-loop g l =
     (goal.iterator-loop g).can_next l.iterator' × (goal.iterator-loop g).is_finite l.iterator' × record {
       pass : IsPassOf l.register l.self.pass;
-      advances : Advances g.P.Performs.tells g.P.Performs.promised g.P.Performs.labels g.P.Performs.part_room l.fn.self l.self;
+      advances : Advances l.fn.self l.self;
       passed : PassesNone l.fn.self.core l.self.core;
       ledger : SameLedger l.fn.self l.self;
       last : l.self.last ≡ l.fn.self.last;

@@ -1,4 +1,5 @@
-use Rattle.std.proofs.Common.{length, ap, refl, sym, ◌∙◌}
+use Rattle.std.proofs.Common.{length, ap, refl, sym, ◌∙◌, arith}
+use Rattle.r6_shard.proofs.Numbered.{attaches-later}
 use Rattle.r6_world.specs.ShardStates.{Shard}
 use Rattle.r6_core.specs.Effects.{Hears, RefusesAnswer}
 use Rattle.r6_shard.specs.Kept.{IsKept}
@@ -26,7 +27,7 @@ use Rattle.r6_shard.proofs.shard.Shard.tell_next.Goals as goal
 pub invariant_of-self-clause-kept : goal.invariant_of-self-clause-kept
 invariant_of-self-clause-kept g c =
     let old = c.args.self.now in
-    kept-plainly old.core No_call c.take_call.new.self old.number old.named (length old.asked.items) (record {}) c.in_default.ensures.step old.kept
+    kept-plainly old.core No_call c.take_call.new.self (g.P.Performs.performer old.parts).out old.number old.named (length old.asked.items) (record {}) c.in_default.ensures.step old.kept
 
 pub invariant_of-self-2-clause-kept : goal.invariant_of-self-2-clause-kept
 invariant_of-self-2-clause-kept g c =
@@ -37,8 +38,8 @@ invariant_of-self-2-clause-kept g c =
     let answer = c.make-answer.result in
     let takes = c.in-Some.ensures.step in
     either_way c.told.result (λ _. Hears mid call answer new) (λ refusal. RefusesAnswer mid call refusal new)
-    (IsKept new old.number old.named (length old.asked.items)) c.told.ensures.heard c.told.ensures.refused
-    (λ _ heard. kept-telling old.core mid new (call_of call) answer old.number old.named (length old.asked.items) takes heard.step old.kept)
+    (IsKept new (g.P.Performs.performer old.parts).out old.number old.named (length old.asked.items)) c.told.ensures.heard c.told.ensures.refused
+    (λ _ heard. kept-telling old.core mid new (call_of call) answer (g.P.Performs.performer old.parts).out old.number old.named (length old.asked.items) takes heard.step old.kept)
     (λ refusal refused. absurd (refused.unknown (ap (λ (y : Shard). y.untold) takes.1.2)))
 
 pub invariant_of-self-clause-failure : goal.invariant_of-self-clause-failure
@@ -113,19 +114,20 @@ pub returns-in_default-clause-advances : goal.returns-in_default-clause-advances
 returns-in_default-clause-advances g c =
     let old = c.args.self.now in
     let new = c.take_call.new.self in
-    let tells = g.P.Performs.tells old.parts in
+    let own = g.P.Performs.performer old.parts in
     let step = c.in_default.ensures.step in
     record {
       course = λ s ops x.
-          has-gone s old.core new (view_of old.pass) old.last.attaches old.named tells old.asked.items old.entries.items ops No_call (record {})
+          has-gone s old.core new (view_of old.pass) old.last.attaches old.named own.out own.tells old.asked.items old.entries.items ops No_call (record {})
           (λ history. refl) step x;
       lasts = lasts_by old.core No_call new c.take_call.ensures.window step;
       remembers = λ x. x;
       sound = λ shape number slot x.
-          sound-by tells (g.P.Performs.promised old.parts) shape number slot old.core No_call new old.named (record {}) step x;
+          sound-by own shape number slot old.core No_call new old.named (record {}) step x;
       labels_stay = refl;
       room_stays = refl;
-      here = λ slot x. here-by (g.P.Performs.labels old.parts) slot old.core No_call new (record {}) step x;
+      site_stays = refl;
+      here = λ slot x. here-by own.labels slot old.core No_call new (record {}) step x;
     }
 
 pub returns-clause-advances : goal.returns-clause-advances
@@ -133,24 +135,25 @@ returns-clause-advances g c =
     let old = c.args.self.now in
     let mid = c.take_call.new.self in
     let new = c.told.new.self in
-    let tells = g.P.Performs.tells old.parts in
+    let own = g.P.Performs.performer old.parts in
     let call = c.in-Some.call in
     let answer = c.make-answer.result in
     let takes = c.in-Some.ensures.step in
     let hears = c.in-Ok.ensures.heard.step in
     record {
       course = λ s ops x.
-          has-told s old.core mid new (view_of old.pass) (view_of c.make-answer.new.pass) old.last.attaches old.named tells old.asked.items
+          has-told s old.core mid new (view_of old.pass) (view_of c.make-answer.new.pass) old.last.attaches old.named own.out own.tells old.asked.items
           old.entries.items ops old.number call answer old.kept.0 takes hears c.make-answer.ensures.answered x;
       lasts = lasts_twice old.core (Take_call (call_of call)) mid (Told (call_of call) answer) new c.take_call.ensures.window c.told.ensures.window takes hears;
       remembers = λ x. x;
       sound = λ shape number slot x.
-          sound-twice tells (g.P.Performs.promised old.parts) shape number slot old.core (Take_call (call_of call)) mid
+          sound-twice own shape number slot old.core (Take_call (call_of call)) mid
           (Told (call_of call) answer) new old.named (record {}) (record {}) takes hears x;
       labels_stay = refl;
       room_stays = refl;
+      site_stays = refl;
       here = λ slot x.
-          here-twice (g.P.Performs.labels old.parts) slot old.core (Take_call (call_of call)) mid (Told (call_of call) answer) new
+          here-twice own.labels slot old.core (Take_call (call_of call)) mid (Told (call_of call) answer) new
           (record {}) (record {}) takes hears x;
     }
 
@@ -192,3 +195,13 @@ invariant_of-self-2-clause-once g c =
     once-on mid (Told (call_of call) answer) new old.entries.items (λ op id e. cc) heard.step
     (once-on old.core (Take_call (call_of call)) mid old.entries.items (λ op id e. cc) takes old.once))
     (λ refusal refused. absurd (refused.unknown (ap (λ (y : Shard). y.untold) takes.1.2)))
+
+pub invariant_of-self-2-clause-seen : goal.invariant_of-self-2-clause-seen
+invariant_of-self-2-clause-seen g c =
+    let old = c.args.self.now in
+    let v = view_of old.pass in
+    let w = view_of c.make-answer.new.pass in
+    let more = attaches-later v w (c.make-answer.ensures.pass.same_start ∙ sym c.requires.same_start)
+    (seen_after v w (as_made old.number (call_of c.in-Some.call)) c.make-answer.result c.make-answer.ensures.answered) in
+    let before = old.seen in
+    omega arith

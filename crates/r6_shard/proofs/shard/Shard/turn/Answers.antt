@@ -34,11 +34,12 @@ invariant_of-self-clause-kept g c =
     let new = c.turn.new.self in
     let task = c.args.task in
     either_way c.turn.result (λ turn. Turns old.core task turn new) (λ refusal. RefusesTurn old.core task refusal new)
-    (IsKept new old.number old.named (length old.asked.items)) c.turn.ensures.turned c.turn.ensures.refused
+    (IsKept new (g.P.Performs.performer old.parts).out old.number old.named (length old.asked.items)) c.turn.ensures.turned c.turn.ensures.refused
     (λ turn t.
     let p = turned old.core task turn new t.taken in
-    kept-plainly old.core p.0 new old.number old.named (length old.asked.items) p.1 p.5 old.kept)
-    (λ refusal refused. subst (λ y. IsKept y old.number old.named (length old.asked.items)) (sym refused.same) old.kept)
+    kept-plainly old.core p.0 new (g.P.Performs.performer old.parts).out old.number old.named (length old.asked.items) p.1 p.5 old.kept)
+    (λ refusal refused.
+    subst (λ y. IsKept y (g.P.Performs.performer old.parts).out old.number old.named (length old.asked.items)) (sym refused.same) old.kept)
 
 pub invariant_of-self-clause-counted : goal.invariant_of-self-clause-counted
 invariant_of-self-clause-counted g c =
@@ -91,18 +92,17 @@ returns-clause-advances g c =
     let old = c.args.self.now in
     let new = c.turn.new.self in
     let task = c.args.task in
-    let part = g.P.Performs.tells old.parts in
-    let promised = g.P.Performs.promised old.parts in
+    let own = g.P.Performs.performer old.parts in
     let v = view_of old.pass in
     record {
       course = λ s ops x.
           either_way c.turn.result (λ turn. Turns old.core task turn new) (λ refusal. RefusesTurn old.core task refusal new)
-          (HasCourse s new v old.last.attaches old.named part old.asked.items old.entries.items ops) c.turn.ensures.turned c.turn.ensures.refused
+          (HasCourse s new v old.last.attaches old.named own.out own.tells old.asked.items old.entries.items ops) c.turn.ensures.turned c.turn.ensures.refused
           (λ turn t.
           let p = turned old.core task turn new t.taken in
-          subst (λ y. HasCourse s new v y old.named part old.asked.items old.entries.items ops) (p.4 old.last.attaches)
-          (has-gone s old.core new v old.last.attaches old.named part old.asked.items old.entries.items ops p.0 (p.2 (held v.start v.seen)) p.3 p.5 x))
-          (λ refusal refused. subst (λ z. HasCourse s z v old.last.attaches old.named part old.asked.items old.entries.items ops) (sym refused.same) x);
+          subst (λ y. HasCourse s new v y old.named own.out own.tells old.asked.items old.entries.items ops) (p.4 old.last.attaches)
+          (has-gone s old.core new v old.last.attaches old.named own.out own.tells old.asked.items old.entries.items ops p.0 (p.2 (held v.start v.seen)) p.3 p.5 x))
+          (λ refusal refused. subst (λ z. HasCourse s z v old.last.attaches old.named own.out own.tells old.asked.items old.entries.items ops) (sym refused.same) x);
       lasts = either_way c.turn.result (λ turn. Turns old.core task turn new) (λ refusal. RefusesTurn old.core task refusal new)
           (Lasts old.core new) c.turn.ensures.turned c.turn.ensures.refused
           (λ turn t. lasts_turned old.core task turn new c.turn.ensures.window t.taken)
@@ -110,15 +110,16 @@ returns-clause-advances g c =
       remembers = λ x. x;
       sound = λ shape number slot x.
           either_way c.turn.result (λ turn. Turns old.core task turn new) (λ refusal. RefusesTurn old.core task refusal new)
-          (IsSound part promised shape number slot new old.named) c.turn.ensures.turned c.turn.ensures.refused
+          (IsSound own shape number slot new old.named) c.turn.ensures.turned c.turn.ensures.refused
           (λ turn t.
           let p = turned old.core task turn new t.taken in
-          sound-by part promised shape number slot old.core p.0 new old.named (turned-no-look old.core task turn new t.taken) p.5 x)
-          (λ refusal refused. sound-same part promised shape number slot old.core new old.named refused.same x);
+          sound-by own shape number slot old.core p.0 new old.named (turned-no-look old.core task turn new t.taken) p.5 x)
+          (λ refusal refused. sound-same own shape number slot old.core new old.named refused.same x);
       labels_stay = refl;
       room_stays = refl;
+      site_stays = refl;
       here = λ slot x.
-          let labels = g.P.Performs.labels old.parts in
+          let labels = own.labels in
           either_way c.turn.result (λ turn. Turns old.core task turn new) (λ refusal. RefusesTurn old.core task refusal new)
           (HasUsed labels slot new) c.turn.ensures.turned c.turn.ensures.refused
           (λ turn t. here-turned labels slot old.core task turn new t.taken x)
