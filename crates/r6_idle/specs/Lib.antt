@@ -1,0 +1,3 @@
+pub mod Idles
+pub mod Tallies
+pub mod Wakers
