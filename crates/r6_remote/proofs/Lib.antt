@@ -1,0 +1,11 @@
+pub mod Commands
+pub mod Lines
+pub mod Known
+pub mod Kept
+pub mod Handing
+pub mod Receiving
+pub mod Taking
+pub mod Fresh
+pub mod Calls
+pub mod Ending
+pub mod Unused

@@ -1,0 +1,11 @@
+//! The workers of a shard, as the shard's thread meets them: who performs its commands, elsewhere.
+#![tactic(auto)]
+
+mod ends;
+mod performing;
+mod remote;
+
+pub use remote::Remote;
+
+#[cfg(test)]
+mod tests;
