@@ -1,12 +1,8 @@
 -- What holds of each element of a list, and what stands in one.
-use Rattle.std.proofs.Common.{◌≡◌, ℕ, ◌+◌, ◌<◌, ◌≤◌, ◌⊎◌, List, [], ◌∷◌, ◌++◌, length, drop, filter, All, Contains, slice_get, slice_index_or, Option, Some, None, Bool, true, false, cond, zero, suc, inl, inr, refl, ap, sym, ◌∙◌, subst, arith}
+use Rattle.std.proofs.Common.{◌≡◌, ℕ, ◌+◌, ◌<◌, ◌≤◌, ◌⊎◌, List, [], ◌∷◌, ◌++◌, filter, All, Contains, Option, Some, None, Bool, true, false, cond, zero, suc, inl, inr, refl, ap, sym, ◌∙◌, subst, arith}
 use Rattle.std.specs.List.{range_with_len, filter_map, cons_option}
-use Rattle.std.proofs.Math.ListN.{get_or-append}
-use Rattle.std.proofs.Math.Seq.{get_or-append_seam}
 use Rattle.std.proofs.lemmas.Bool.{cases_lt}
-use Rattle.std.proofs.lemmas.List.{length_push}
-use Rattle.std.proofs.lemmas.List.Elements.{All-append, All-drop}
-use Rattle.std.proofs.lemmas.Option.{get_or_from_slice_get, slice_get_within}
+use Rattle.std.proofs.lemmas.List.Elements.{All-append}
 
 all_one : {X : Type 0} (P : X → Type 0) (x : X) → P x → All P (x ∷ [])
 all_one P x holds zero d within = holds
@@ -14,30 +10,6 @@ all_one P x holds (suc k) d within = absurd (omega arith)
 
 pub all_pushed : {X : Type 0} (P : X → Type 0) (xs ys : List X) (x : X) → ys ≡ xs ++ x ∷ [] → All P xs → P x → All P ys
 all_pushed P xs ys x is all holds = subst (All P) (sym is) (All-append P xs (x ∷ []) all (all_one P x holds))
-
-pub all_left : {X : Type 0} (P : X → Type 0) (xs ys : List X) → ys ≡ drop 1 xs → All P xs → All P ys
-all_left P xs ys is all = subst (All P) (sym is) (All-drop P 1 xs all)
-
-pub at_first : {X : Type 0} (P : X → Type 0) (xs : List X) (x : X) → slice_get xs 0 ≡ Some x → All P xs → P x
-at_first P xs x is all =
-    subst P (get_or_from_slice_get xs 0 x x is) (all 0 x (slice_get_within xs 0 x is))
-
--- what holds of each place holds of each place once one more is there
-pub places_pushed : {X : Type 0} (P : ℕ → X → Type 0) (xs ys : List X) (x : X) (last : ℕ) → ys ≡ xs ++ x ∷ []
-    → last ≡ length xs → ((k : ℕ) (d : X) → k < length xs → P k (slice_index_or xs k d)) → P last x
-    → (k : ℕ) (d : X) → k < length ys → P k (slice_index_or ys k d)
-places_pushed P xs ys x last is end places holds k d within =
-    let long = length_push xs x in
-    let within' : k < length xs + 1 = omega (arith, ap length is) in
-    let goal : (zs : List _) → Type 0 = λ zs. P k (slice_index_or zs k d) in
-    subst goal (sym is)
-    (elim (cases_lt k (length xs)) [
-      | inl before ↦ subst (P k) (sym (get_or-append xs (x ∷ []) d k before)) (places k d before)
-      | inr there ↦
-          let same : last ≡ k = omega arith in
-          let at : x ≡ slice_index_or (xs ++ x ∷ []) k d = sym (ap (λ i. slice_index_or (xs ++ x ∷ []) i d) (sym same ∙ end) ∙ get_or-append_seam xs x [] d) in
-          subst (P k) at (subst (λ i. P i x) same holds)
-    ])
 
 -- ---- members of lists
 

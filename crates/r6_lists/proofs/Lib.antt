@@ -1,7 +1,6 @@
 pub mod Elements
+pub mod Entries
+pub mod Queues
 pub mod Rising
-pub mod Settled
 pub mod Sharing
-pub mod Stock
 pub mod Tasks
-pub mod Totals

@@ -1,17 +1,10 @@
 -- What a shard is handed, by number.
-use Rattle.std.proofs.Common.{◌≡◌, ℕ, ◌<◌, ◌≤◌, List, [], ◌∷◌, ◌++◌, length, filter, All, if◌then◌else◌, Option, Some, None, Bool, true, false, cond, is_some, unwrap_or, option_map, option_and_then, slice_get, inl, inr, refl, sym, ◌∙◌, ap, subst, arith}
+use Rattle.std.proofs.Common.{◌≡◌, ℕ, List, [], ◌∷◌, length, filter, if◌then◌else◌, Option, Some, None, Bool, true, false, cond, is_some, unwrap_or, option_map, option_and_then, slice_get, refl, ap}
 use Rattle.std.specs.List.{range_with_len, filter_map, cons_option}
-use Rattle.std.proofs.lemmas.Bool.{cases_lt}
-use Rattle.std.proofs.lemmas.List.{length_push, length-map}
-use Rattle.std.proofs.lemmas.List.Kept.{IsStrictlyIncreasing-filter}
-use Rattle.std.proofs.lemmas.Option.{slice_get_past}
 use Rattle.r6_layout.specs.Shape.{Shape}
 use Rattle.r6_world.specs.PlainArray.{block_of}
 use Rattle.r6_world.specs.Values.{op_of}
 use Rattle.r6_lists.specs.Events.{Event, Request, Attach, Fail, Check, Repair, Wait, Duty, Serves, is_block_of, duty_of, waits_before, Task, task, task_at, has_task, tasks_of, numbers_of, is_request, requests_of, asks, asks_at}
-use Rattle.r6_lists.specs.Lists.{AreTaken, IsBehind}
-use Rattle.r6_lists.proofs.Elements.{IsIn, all_pushed}
-use Rattle.r6_lists.proofs.Rising.{same_of_rising, pushed, range_rises, in_filtered}
 
 among : (number waits : ℕ) (duty : Option Duty) (tasks : List Task) (numbers : List ℕ) → numbers_of tasks ≡ numbers
     → numbers_of (cons_option (option_map (task number waits) duty) tasks)
@@ -31,66 +24,6 @@ numbers_among shape shard events (k ∷ ks) =
 pub numbers_of_tasks : (shape : Shape) (shard : ℕ) (events : List Event)
     → numbers_of (tasks_of shape shard events) ≡ filter (has_task shape shard events) (range_with_len 0 (length events))
 numbers_of_tasks shape shard events = numbers_among shape shard events (range_with_len 0 (length events))
-
--- ---- a shard's numbers
-
-none_past : (shape : Shape) (shard : ℕ) (waits number : ℕ) (event : Option Event) → event ≡ None
-    → is_some (option_map (task number waits) (option_and_then (duty_of shape shard) event)) ≡ true → ⊥
-none_past shape shard waits number None none some = cc
-none_past shape shard waits number (Some event) none some = cc
-
--- an event that has a task is one of the events
-pub has_event : (shape : Shape) (shard : ℕ) (events : List Event) (number : ℕ)
-    → has_task shape shard events number ≡ true → number < length events
-has_event shape shard events number some =
-    elim (cases_lt number (length events)) [
-      | inl within ↦ within
-      | inr past ↦ absurd (none_past shape shard (waits_before events number) number (slice_get events number)
-          (slice_get_past events number past) some)
-    ]
-
--- Rising numbers of a shard's tasks are no more than its tasks, and if they are as many, they are all
-pub all_taken : (shape : Shape) (shard : ℕ) (events : List Event) (numbers : List ℕ)
-    → AreTaken shape shard events numbers
-    → (length numbers ≤ length (tasks_of shape shard events))
-    × (length numbers ≡ length (tasks_of shape shard events) → numbers ≡ numbers_of (tasks_of shape shard events))
-all_taken shape shard events numbers taken =
-    let every = range_with_len 0 (length events) in
-    let kept = filter (has_task shape shard events) every in
-    let is = numbers_of_tasks shape shard events in
-    let within : All (λ number. IsIn number kept) numbers = λ k d below.
-    let has = taken.own k d below in
-    let high = has_event shape shard events _ has in
-    in_filtered (has_task shape shard events) 0 (length events) _ (omega arith) (omega arith) has in
-    let same = same_of_rising numbers kept taken.rising
-    (IsStrictlyIncreasing-filter (has_task shape shard events) every (range_rises 0 (length events))) within in
-    let long : length (tasks_of shape shard events) ≡ length kept = sym (length-map (tasks_of shape shard events) (λ t. t.number)) ∙ ap length is in
-    (omega (arith, same.0), λ whole. same.1 (whole ∙ long) ∙ sym is)
-
--- one more is taken, behind the others
-pub taken_pushed : (shape : Shape) (shard : ℕ) (events : List Event) (numbers : List ℕ) (number : ℕ)
-    → AreTaken shape shard events numbers → has_task shape shard events number ≡ true → IsBehind numbers number
-    → AreTaken shape shard events (numbers ++ number ∷ [])
-taken_pushed shape shard events numbers number taken has behind = record {
-  rising = pushed numbers number taken.rising behind;
-  own = all_pushed (λ n. has_task shape shard events n ≡ true) numbers _ number refl taken.own has;
-}
-
-pub taken_more : (shape : Shape) (shard : ℕ) (events : List Event) (numbers more : List ℕ) (number : ℕ)
-    → more ≡ numbers ++ number ∷ [] → AreTaken shape shard events numbers → has_task shape shard events number ≡ true
-    → IsBehind numbers number → AreTaken shape shard events more
-taken_more shape shard events numbers more number is taken has behind =
-    subst (λ all. AreTaken shape shard events all) (sym is) (taken_pushed shape shard events numbers number taken has behind)
-
--- and there is room for it
-pub has_room : (shape : Shape) (shard : ℕ) (events : List Event) (numbers : List ℕ) (number : ℕ)
-    → AreTaken shape shard events numbers → has_task shape shard events number ≡ true → IsBehind numbers number
-    → length numbers < length (tasks_of shape shard events)
-has_room shape shard events numbers number taken has behind =
-    let more = all_taken shape shard events (numbers ++ number ∷ [])
-    (taken_pushed shape shard events numbers number taken has behind) in
-    let long = length_push numbers number in
-    omega (arith, more.0)
 
 -- ---- the requests among the tasks
 

@@ -1,6 +1,5 @@
--- What stands in the list of a shard, who puts into it and who takes from it (this project's own).
-use Rattle.std.specs.Prelude.{◌≡◌, ℕ, ◌<◌, List, All, Bool, true, false}
-use Rattle.std.specs.List.Sorted.{IsStrictlyIncreasing}
+-- What a shard is handed, as a piece of work (this project's own).
+use Rattle.std.specs.Prelude.{◌≡◌, ℕ}
 use Rattle.r6_layout.specs.Shape.{Shape}
 use Rattle.r6_dev.specs.History.{Telling}
 use Rattle.r6_dev.specs.Promises.{Promise, FailsNone}
@@ -9,9 +8,7 @@ use Rattle.r6_world.specs.Layouts.{IsRowOf}
 use Rattle.r6_world.specs.declared.values.Op.TheVariants as op
 use Rattle.r6_lists.specs.declared.work.Work.{Work}
 use Rattle.r6_lists.specs.declared.work.Work.TheVariants.{Read, Write, Attach, Check, Repair}
-use Rattle.r6_lists.specs.declared.stage.Stage.{Stage}
-use Rattle.r6_lists.specs.declared.stage.Stage.TheVariants.{Open, Ended, Finished}
-use Rattle.r6_lists.specs.Events.{Event, has_task, Duty, Serves, Takes_up, Checks, Repairs}
+use Rattle.r6_lists.specs.Events.{Duty, Serves, Takes_up, Checks, Repairs}
 
 -- the duty that a piece of work is, by what parts of devices tell, whatever generation a part comes under
 abbrev pub duty_in : {D : Type 0} → (D → Telling) → Work D → Duty
@@ -27,23 +24,3 @@ abbrev pub IsAsPromised : {D : Type 0} → (promised : D → Promise) → Shape 
 IsAsPromised {D = D} promised shape Sound shard work =
     (slot generation : ℕ) (part : D) → work ≡ Attach slot generation part → Sound shard slot
     → FailsNone (promised part) (IsRowOf (layout_of shape) shard) shape.block
-
--- Of the three parts that each list has of the ledger one is its own, one that of who puts and one that of who takes.
--- Who puts leaves its part to the list, and who finishes the list takes both
-abbrev pub parts_of_list : Stage → ℕ
-parts_of_list Open = 1
-parts_of_list Ended = 2
-parts_of_list Finished = 0
-
-abbrev pub parts_of_consumer : (finished : Bool) → ℕ
-parts_of_consumer false = 1
-parts_of_consumer true = 3
-
--- a number behind all that were taken
-abbrev pub IsBehind : (numbers : List ℕ) → ℕ → Type 0
-IsBehind numbers number = All (λ earlier. earlier < number) numbers
-
--- the numbers of events that a shard took: each is of a task of the shard, and greater than those before
-pub record AreTaken (shape : Shape) (shard : ℕ) (events : List Event) (numbers : List ℕ) : Type 0 where
-  pub rising : IsStrictlyIncreasing numbers
-  pub own : All (λ number. has_task shape shard events number ≡ true) numbers

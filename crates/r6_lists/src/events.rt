@@ -1,14 +1,13 @@
-//! The events of a run, as the types of its lists know them.
+//! The events of a run, as the types of its queues know them.
 
 ghost use Rattle.std.specs.Prelude.{ℕ, List};
 ghost use Rattle.r6_layout.specs.Shape.{Shape};
 ghost use Rattle.r6_lists.specs.Events.{Event};
 
 use std::marker::Brand;
-use std::sync::ledger::Ledger;
 
-/// Which events of which array a ledger counts. A call picks them by `Brand`.
-pub trait Events: Ledger {
+/// Which events of which array are handed out. A call picks them by `Brand`.
+pub trait Events {
     ghost shape: { Shape };
 
     ghost events: { List Event };

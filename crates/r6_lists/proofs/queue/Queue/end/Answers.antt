@@ -1,0 +1,21 @@
+use Rattle.std.proofs.Common.{sym, refl, ◌∙◌}
+use Rattle.r6_lists.proofs.Queues.{may-end, producer-ended, ended-same, ended-is}
+use Rattle.r6_lists.proofs.queue.Queue.end.Goals as goal
+
+pub push-requires-clause-admitted : goal.push-requires-clause-admitted
+push-requires-clause-admitted g c =
+    may-end g.L.Events.shape g.L.Events.events c.args.self.now c.args.producer.now c.requires.producer c.requires.all c.requires.«open»
+
+pub returns-clause-producer : goal.returns-clause-producer
+returns-clause-producer g c =
+    producer-ended g.L.Events.shape g.L.Events.events c.args.self.now c.args.producer.now c.push.result c.push.new.end
+    c.requires.producer c.push.ensures.end c.push.ensures.pushed
+    (may-end g.L.Events.shape g.L.Events.events c.args.self.now c.args.producer.now c.requires.producer c.requires.all c.requires.«open»)
+
+pub returns-clause-same : goal.returns-clause-same
+returns-clause-same g c = (refl, ended-same g.L.Events.shape g.L.Events.events c.args.producer.now c.push.result c.push.new.end c.push.ensures.pushed)
+
+pub returns-clause-ended : goal.returns-clause-ended
+returns-clause-ended g c =
+    ended-is g.L.Events.shape g.L.Events.events c.args.producer.now c.push.result c.push.new.end c.requires.«open» c.push.ensures.pushed
+    ∙ sym c.is_ok.ensures.value
