@@ -10,7 +10,8 @@ use Rattle.std.proofs.lemmas.List.Sums.{count_by_more_no, count_by_more_yes}
 use Rattle.r6_layout.specs.Shape.{Shape}
 use Rattle.r6_lists.specs.Events.{Event, is_passing, waits_before}
 use Rattle.r6_feed.specs.declared.answer.EventAnswer.{EventAnswer}
-use Rattle.r6_feed.proofs.Counts.{range_more, few_kept}
+use Rattle.r6_feed.proofs.Counts.{few_kept}
+use Rattle.r6_feed.proofs.Putting.{range_more}
 use Rattle.r6_feed.specs.Feeds.{Asking, asking_of, asking_at, asked_before, asked_in, calls_in, calls_of}
 
 asked_more : (shape : Shape) (events : List Event) (number : ℕ)

@@ -1,4 +1,4 @@
-pub mod Payments
+pub mod Putting
 pub mod Asked
 pub mod Counts
 pub mod Requests

@@ -1,5 +1,5 @@
--- What is left to hand out of a run's events, and what those are answered that no shard answers (this project's own).
-use Rattle.std.specs.Prelude.{◌≡◌, ℕ, ◌-◌, ◌<◌, nat_lt, List, [], ◌∷◌, ◌++◌, length, filter_map, flat_map, Option, Some, None, Ok, Err, option_map, option_and_then, slice_get, slice_index_or, if◌then◌else◌, All, Bool, true, false, Result}
+-- What was handed out of a run's events, and what those are answered that no shard answers (this project's own).
+use Rattle.std.specs.Prelude.{◌≡◌, ℕ, ◌<◌, nat_lt, List, [], ◌∷◌, ◌++◌, length, filter_map, flat_map, Option, Some, None, Ok, Err, option_map, option_and_then, slice_get, slice_index_or, if◌then◌else◌, Bool, true, false, Result}
 use Rattle.std.specs.List.{range_with_len}
 use Rattle.r6_layout.specs.Shape.{Shape, blocks}
 use Rattle.r6_world.specs.PlainArray.{block_of}
@@ -11,34 +11,33 @@ use Rattle.r6_health.specs.declared.history.View.{View}
 use Rattle.r6_health.specs.declared.call.Call.TheVariants as call
 use Rattle.r6_health.specs.declared.refusal.Refusal.{Refusal}
 use Rattle.r6_health.specs.declared.refusal.Refusal.TheVariants.{Contended}
-use Rattle.r6_lists.specs.Events.{Event, Request, Attach, Fail, Check, Repair, Wait, Task, task_at}
+use Rattle.r6_lists.specs.declared.producer.Producer.{Producer}
+use Rattle.r6_lists.specs.declared.queue.Queue.{Queue}
+use Rattle.r6_lists.specs.Events.{Event, Request, Attach, Fail, Check, Repair, Wait, Task, task_at, numbers_of}
+use Rattle.r6_lists.specs.Queues.{IsProducerIn, has_ended, put_by}
 use Rattle.r6_feed.specs.declared.answer.Outcome.{Outcome}
 use Rattle.r6_feed.specs.declared.answer.Outcome.TheVariants.{OutOfRange, Failed, Attached}
 use Rattle.r6_feed.specs.declared.answer.EventAnswer.{EventAnswer}
 
--- ---- what is left
+-- ---- what was put into the queues
 
--- the tasks that a shard has of the events from this number on
-abbrev pub tasks_from : Shape → (shard : ℕ) → List Event → (number : ℕ) → List Task
-tasks_from shape shard events number =
-    filter_map (task_at shape shard events) (range_with_len number (length events - number))
+-- the tasks that a shard has of the events before this number
+abbrev pub tasks_before : Shape → (shard : ℕ) → List Event → (number : ℕ) → List Task
+tasks_before shape shard events number = filter_map (task_at shape shard events) (range_with_len 0 number)
 
--- what is still to be put into each shard's list: its tasks of the events from the shard's number on
-abbrev pub HasLeft : {P : Type 0} → (left : P → ℕ) → List P → Shape → List Event → (from : ℕ → ℕ) → Type 0
-HasLeft left producers shape events from =
-    (shard : ℕ) (d : _) → shard < length producers
-    → left (slice_index_or producers shard d) ≡ length (tasks_from shape shard events (from shard))
+module _ {L D : Type 0} {l : _} {d : _} (shape : Shape) (events : List Event) (queues : List (Queue L D l d)) where
+  -- who puts into the queue of this shard put in its tasks of the events before this number, and not the end
+  pub record HasPut (shard number : ℕ) (producer : Producer L D l d) : Type 0 where
+    pub at : IsProducerIn shape events queues producer
+    pub of_shard : producer.shard ≡ shard
+    pub put : put_by producer ≡ numbers_of (tasks_before shape shard events number)
+    pub open_yet : has_ended producer ≡ false
 
--- the list of each shard is open yet
-abbrev pub AreOpen : {P : Type 0} → (lists : P → ℕ) → List P → Type 0
-AreOpen lists producers = All (λ p. lists p ≡ 1) producers
-
--- the lists are open yet, and what is to be put into them is that of the events from this number on
-pub record IsAt {P : Type 0} (lists left : P → ℕ) (shape : Shape) (events : List Event) (number : ℕ)
-    (producers : List P) : Type 0 where
-  pub shards : length producers ≡ shape.shards
-  pub open_yet : AreOpen lists producers
-  pub has_left : HasLeft left producers shape events (λ shard. number)
+  -- there is one for each shard, and each put in what it has of the events before this number
+  pub record AreAt (number : ℕ) (producers : List (Producer L D l d)) : Type 0 where
+    pub shards : length producers ≡ shape.shards
+    pub each : (shard : ℕ) (p : Producer L D l d) → shard < length producers
+        → HasPut shard number (slice_index_or producers shard p)
 
 -- ---- what no shard answers
 

@@ -4,7 +4,7 @@ ghost use Rattle.std.specs.Prelude.{◌≡◌, ◌+◌, ◌≤◌, All, length, 
 ghost use Rattle.r6_health.specs.Passes.{IsPassOf, view_of};
 ghost use Rattle.r6_lists.specs.Events.{waits_before};
 ghost use Rattle.r6_feed.specs.Events.{event_of, events_of, IsWhole, AreWhole, IsPromised, ArePromised};
-ghost use Rattle.r6_feed.specs.Feeds.{IsAt, IsLater, TellsOn, WereTold, is_unsettled, asked_before, asked_in, calls_of};
+ghost use Rattle.r6_feed.specs.Feeds.{AreAt, IsLater, TellsOn, WereTold, is_unsettled, asked_before, asked_in, calls_of};
 
 use crate::answer::EventAnswer;
 use crate::event::Event;
@@ -17,9 +17,9 @@ use std::sync::Wait;
 
 /// Who hands the events out, and makes the calls at the register that they ask for.
 #[derive(Drop)]
-pub struct Feed<L: Events> {
-    /// What is still to be put into the list of each shard, from the first on.
-    pub producers: Vec<Producer<L>>,
+pub struct Feed<L: Events, D: BlockDevice> {
+    /// Who puts the items of each shard into its queue, from the first on.
+    pub producers: Vec<Producer<L, D>>,
     pub pass: Pass,
     /// What those events were answered that no shard answers, in the order of the events.
     pub answers: Vec<EventAnswer>,
@@ -27,7 +27,6 @@ pub struct Feed<L: Events> {
     pub number: u64,
     /// How many waits were among them: waits, checks and repairs.
     pub waits: u64,
-    ghost left: { IsAt (λ p. p.lists) (λ p. p.left) L.shape L.events number producers.items },
     ghost within: { number ≤ length L.events },
     ghost waited: { waits ≡ waits_before L.events number },
     ghost asked: { map asked_in answers.items ≡ asked_before L.shape L.events number },
@@ -36,19 +35,16 @@ pub struct Feed<L: Events> {
     ghost room: { length L.events ≤ vec_capacity answers },
 }
 
-impl<L: Events> Feed<L> {
+impl<L: Events, D: BlockDevice + Drop> Feed<L, D> {
     // Hands the next event out.
-    fn step<D: BlockDevice + Drop, R: Wait>(
-        &mut self,
-        rt: &R,
-        shards: &Shards<L, D>,
-        event: Event<D>,
-    )
+    fn step<R: Wait>(&mut self, rt: &R, shards: &Shards<L, D>, event: Event<D>)
         requires next { slice_get L.events self.old.number ≡ Some (event_of D.told event) }
         requires whole { IsWhole L.shape.shards event }
         requires promised { IsPromised D.promised L.shape L.sound event }
+        requires at { AreAt L.shape L.events shards.now.queues.now self.old.number self.old.producers.items }
         requires pass { IsPassOf shards.now.register.now self.old.pass }
         ensures number { self.new.number ≡ self.old.number + 1 }
+        ensures at { AreAt L.shape L.events shards.now.queues.now self.new.number self.new.producers.items }
         ensures pass { IsPassOf shards.now.register.now self.new.pass }
         ensures told { TellsOn (view_of self.old.pass) self.old.answers.items
             (view_of self.new.pass) self.new.answers.items }
@@ -64,19 +60,16 @@ impl<L: Events> Feed<L> {
     }
 
     // Hands all events out.
-    fn hand_all<D: BlockDevice + Drop, R: Wait>(
-        &mut self,
-        rt: &R,
-        shards: &Shards<L, D>,
-        events: Vec<Event<D>>,
-    )
+    fn hand_all<R: Wait>(&mut self, rt: &R, shards: &Shards<L, D>, events: Vec<Event<D>>)
         requires begins { self.old.number ≡ 0 }
         requires events { events_of D.told events.items ≡ L.events }
         requires whole { AreWhole L.shape.shards events.items }
         requires promised { ArePromised D.promised L.shape L.sound events.items }
+        requires at { AreAt L.shape L.events shards.now.queues.now self.old.number self.old.producers.items }
         requires pass { IsPassOf shards.now.register.now self.old.pass }
 
         ensures number { self.new.number ≡ length L.events }
+        ensures at { AreAt L.shape L.events shards.now.queues.now self.new.number self.new.producers.items }
         ensures pass { IsPassOf shards.now.register.now self.new.pass }
         ensures told { TellsOn (view_of self.old.pass) self.old.answers.items
             (view_of self.new.pass) self.new.answers.items }
@@ -86,38 +79,14 @@ impl<L: Events> Feed<L> {
         }
     }
 
-    // Ends the list of each shard, once nothing is left to put in.
-    fn end_all<D: BlockDevice + Drop, R: Wait>(
-        self,
-        rt: &R,
-        shards: &Shards<L, D>,
-    ) -> (Pass, Vec<EventAnswer>)
-        requires { self.number ≡ length L.events }
-        ensures { result ≡ (self.pass, self.answers) }
-    {
-        let Feed {
-            producers,
-            pass,
-            answers,
-            number: _,
-            waits: _,
-        } = self;
-        for (mut producer, list) in producers.into_iter().zip(shards.lists) {
-            // Whether the list was open is all that it answers. Who ends one twice has a part of the ledger left, and
-            // nothing is settled.
-            list.lock(rt).end(&mut producer);
-        }
-        (pass, answers)
-    }
-
     /// Hands all events out, each once, in their order, makes the calls at the register that they ask for, and ends
-    /// the lists. A wait, a check and a repair each wait until every shard has done all that it was handed before.
+    /// the queues. A wait, a check and a repair each wait until every shard has done all that it was handed before.
     /// Then a check or repair is handed to every shard, and the next event has its turn at once. It hands the pass
     /// back, and what those events were answered that no shard answers, in the order of the events.
     ///
     /// The events must be those that were given to `new`, and each new device must have a part for every shard, which
     /// fails no command of the shard where that is promised.
-    pub fn hand_out<D: BlockDevice + Drop, R: Wait>(
+    pub fn hand_out<R: Wait>(
         mut self,
         rt: &R,
         shards: &Shards<L, D>,
@@ -128,6 +97,7 @@ impl<L: Events> Feed<L> {
         requires whole { AreWhole L.shape.shards events.items }
         requires promised { ArePromised D.promised L.shape L.sound events.items }
 
+        requires at { AreAt L.shape L.events shards.now.queues.now self.number self.producers.items }
         requires pass { IsPassOf shards.now.register.now self.pass }
 
         ensures pass { IsPassOf shards.now.register.now result.0 }
@@ -142,6 +112,7 @@ impl<L: Events> Feed<L> {
         ensures later { IsLater (view_of self.pass) (view_of result.0) }
     {
         self.hand_all(rt, shards, events);
-        self.end_all(rt, shards)
+        shards.end_all(rt, &mut self.producers);
+        (self.pass, self.answers)
     }
 }

@@ -1,9 +1,10 @@
 //! What every shard is handed of an event.
 
-ghost use Rattle.std.specs.Prelude.{◌≡◌, ◌+◌, length, slice_get, Some};
+ghost use Rattle.std.specs.Prelude.{◌≡◌, ◌+◌, All, length, slice_get, Some, true};
 ghost use Rattle.r6_lists.specs.Events.{Attach, waits_before};
 ghost use Rattle.r6_feed.specs.Events.{part_for, event_of_pass, work_of_pass, PartFailsNone};
-ghost use Rattle.r6_feed.specs.Feeds.{IsAt};
+ghost use Rattle.r6_feed.specs.Feeds.{AreAt};
+ghost use Rattle.r6_lists.specs.Queues.{has_ended};
 
 use crate::shards::Shards;
 use r6_dev::BlockDevice;
@@ -52,7 +53,7 @@ impl<'a, L: Events, D: BlockDevice + Drop> Shards<'a, L, D> {
     pub(crate) fn hand_parts<R: Wait>(
         &self,
         rt: &R,
-        producers: &mut [Producer<L>],
+        producers: &mut [Producer<L, D>],
         at: Position,
         device: NewDevice<D>,
     )
@@ -62,8 +63,8 @@ impl<'a, L: Events, D: BlockDevice + Drop> Shards<'a, L, D> {
         requires whole { length device.parts.items ≡ L.shape.shards }
         requires promised { (shard : _) → L.sound shard device.slot
             → PartFailsNone D.promised L.shape shard device.parts.items }
-        requires left { IsAt (λ p. p.lists) (λ p. p.left) L.shape L.events at.number producers.old }
-        ensures left { IsAt (λ p. p.lists) (λ p. p.left) L.shape L.events (at.number + 1) producers.new }
+        requires at { AreAt L.shape L.events self.now.queues.now at.number producers.old }
+        ensures at { AreAt L.shape L.events self.now.queues.now (at.number + 1) producers.new }
     {
         let NewDevice {
             slot,
@@ -87,18 +88,28 @@ impl<'a, L: Events, D: BlockDevice + Drop> Shards<'a, L, D> {
     pub(crate) fn hand_pass<R: Wait>(
         &self,
         rt: &R,
-        producers: &mut [Producer<L>],
+        producers: &mut [Producer<L, D>],
         at: Position,
         task: PassOver,
     )
         requires next { slice_get L.events at.number ≡ Some (event_of_pass task) }
         requires waits { at.waits ≡ waits_before L.events at.number }
-        requires left { IsAt (λ p. p.lists) (λ p. p.left) L.shape L.events at.number producers.old }
-        ensures left { IsAt (λ p. p.lists) (λ p. p.left) L.shape L.events (at.number + 1) producers.new }
+        requires at { AreAt L.shape L.events self.now.queues.now at.number producers.old }
+        ensures at { AreAt L.shape L.events self.now.queues.now (at.number + 1) producers.new }
     {
         for shard in 0..producers.len() {
             let item = Item::new(shard, at.number, at.waits, task.work());
             self.put(rt, item, &mut producers[shard]);
+        }
+    }
+
+    // The queue of each shard is ended, once all items were put in.
+    pub(crate) fn end_all<R: Wait>(&self, rt: &R, producers: &mut [Producer<L, D>])
+        requires { AreAt L.shape L.events self.now.queues.now (length L.events) producers.old }
+        ensures { All (λ producer. has_ended producer ≡ true) producers.new }
+    {
+        for shard in 0..producers.len() {
+            self.end(rt, &mut producers[shard]);
         }
     }
 }

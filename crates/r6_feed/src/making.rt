@@ -1,10 +1,9 @@
-//! What is to be handed out is counted.
+//! What is to be handed out is counted, and who hands it out is made.
 
-ghost use Rattle.std.specs.Prelude.{◌≡◌, ◌+◌, [], length, IfOk, OnOk, OnErr};
+ghost use Rattle.std.specs.Prelude.{◌≡◌, [], length, IfOk};
 ghost use Rattle.r6_health.specs.Passes.{view_of};
-ghost use Rattle.r6_lists.specs.Events.{all_tasks, tasks_of};
+ghost use Rattle.r6_lists.specs.Events.{tasks_of};
 ghost use Rattle.r6_feed.specs.Events.{event_of, events_of, has_part};
-ghost use Rattle.r6_feed.specs.Feeds.{IsAt};
 
 use crate::event::Event;
 use crate::feed::Feed;
@@ -13,7 +12,6 @@ use r6_health::Pass;
 use r6_layout::Geometry;
 use r6_lists::{Events, Producer};
 use std::alloc::{AllocError, Global};
-use std::sync::ledger::{Book, Share};
 
 impl<D: BlockDevice> Event<D> {
     // Whether a shard is handed a part of it.
@@ -42,56 +40,24 @@ pub fn count_tasks<D: BlockDevice>(geometry: &Geometry, events: &[Event<D>], sha
     count
 }
 
-// The right to put its tasks into the list of each shard, which the book counts.
-fn producers_of<L: Events, D: BlockDevice>(
-    alloc: Global,
-    geometry: &Geometry,
-    events: &[Event<D>],
-    book: &mut Book<L>,
-    mut share: Share<L>,
-) -> Result<Vec<Producer<L>>, AllocError>
-    requires shape { geometry.now ≡ L.shape }
-    requires events { events_of D.told events.now ≡ L.events }
-    requires parts { (share.parts ≡ L.shape.shards) × (share.amount ≡ 0) }
-    ensures left { IfOk result (λ producers.
-        IsAt (λ p. p.lists) (λ p. p.left) L.shape L.events 0 producers.items) }
-    ensures counted { OnOk result (book.new.total ≡ book.old.total + all_tasks L.shape L.events) }
-    ensures unchanged { OnErr result (book.new.total ≡ book.old.total) }
-{
-    let shards = geometry.shards();
-    let mut producers = Vec::with_capacity(alloc, shards)?;
-    for shard in 0..shards {
-        let tasks = count_tasks(geometry, events, shard);
-        let part = share.split_off(1, 0);
-        producers.push_reserved(Producer::new(book, part, 1, tasks));
-    }
-    Ok(producers)
-}
-
-impl<L: Events> Feed<L> {
-    /// Who is to hand these events out: of an array whose lists are of these events, with the calling thread's pass,
-    /// which has made no call. The book counts all that is to be put into the lists.
+impl<L: Events, D: BlockDevice> Feed<L, D> {
+    /// Who is to hand these events out, by who puts them into the shards' queues, with the calling thread's pass, which
+    /// has made no call.
     ///
     /// # Errors
-    /// `AllocError` where there is no memory for all room; the book counts nothing more then.
-    pub fn new<D: BlockDevice>(
+    /// `AllocError` where there is no memory for the answers.
+    pub fn new(
         alloc: Global,
-        geometry: &Geometry,
         events: &[Event<D>],
+        producers: Vec<Producer<L, D>>,
         pass: Pass,
-        book: &mut Book<L>,
-        share: Share<L>,
-    ) -> Result<Feed<L>, AllocError>
-        requires shape { geometry.now ≡ L.shape }
+    ) -> Result<Feed<L, D>, AllocError>
         requires events { events_of D.told events.now ≡ L.events }
-        requires parts { (share.parts ≡ L.shape.shards) × (share.amount ≡ 0) }
         requires first { (view_of pass).mine ≡ [] }
         ensures begins { IfOk result (λ feed. (feed.number ≡ 0) × (feed.pass ≡ pass)) }
-        ensures counted { OnOk result (book.new.total ≡ book.old.total + all_tasks L.shape L.events) }
-        ensures unchanged { OnErr result (book.new.total ≡ book.old.total) }
+        ensures producers { IfOk result (λ feed. feed.producers ≡ producers) }
     {
         let answers = Vec::with_capacity(alloc, events.len())?;
-        let producers = producers_of(alloc, geometry, events, book, share)?;
         Ok(Feed {
             producers,
             pass,

@@ -1,28 +1,30 @@
 //! The shards of an array, as other threads meet them.
 
-ghost use Rattle.std.specs.Prelude.{◌≡◌, ◌+◌, ◌<◌, length};
+ghost use Rattle.std.specs.Prelude.{◌≡◌, ◌<◌, ◌++◌, ◌∷◌, [], length, false, true};
+ghost use Rattle.r6_lists.specs.Events.{numbers_of, tasks_of};
+ghost use Rattle.r6_lists.specs.Queues.{IsNext, IsProducerIn, has_ended, put_by};
 
 use r6_dev::BlockDevice;
 use r6_health::Register;
 use r6_layout::Geometry;
-use r6_lists::{Events, Item, List, Producer, Rest};
-use std::sync::{Mutex, Wait};
+use r6_lists::{Events, Item, Producer, Queue, Rest};
+use std::sync::Wait;
 use std::thread;
 
-/// The shards of an array, as other threads meet them: the list of each, what it says of its rest, and the register.
+/// The shards of an array, as other threads meet them: the queue of each, what it says of its rest, and the register.
 #[derive(Drop)]
 pub struct Shards<'a, L: Events, D: BlockDevice> {
     /// The array's shape.
     pub geometry: &'a Geometry,
     /// The array's register.
     pub register: &'a Register,
-    /// The list of each shard, from the first on.
-    pub lists: &'a [Mutex<List<L, D>>],
+    /// The queue of each shard, from the first on.
+    pub queues: &'a [Queue<L, D>],
     /// Where each shard is asked for its rest, from the first on.
     pub rests: &'a [Rest],
     ghost shape: { geometry.now ≡ L.shape },
     ghost slots: { (register.now.slots ≡ L.shape.slots) × (register.now.shards ≡ L.shape.shards) },
-    ghost shards: { length lists.now ≡ L.shape.shards },
+    ghost shards: { length queues.now ≡ L.shape.shards },
     ghost rested: { length rests.now ≡ L.shape.shards },
 }
 
@@ -42,18 +44,38 @@ fn await_each<R: Wait>(rt: &R, rests: &[Rest]) {
 }
 
 impl<'a, L: Events, D: BlockDevice + Drop> Shards<'a, L, D> {
-    // Puts an item into the list of its shard, once that has room.
-    pub(crate) fn put<R: Wait>(&self, rt: &R, mut item: Item<L, D>, producer: &mut Producer<L>)
+    // Puts an item into the queue of its shard, once that has room.
+    pub(crate) fn put<R: Wait>(&self, rt: &R, mut item: Item<L, D>, producer: &mut Producer<L, D>)
         requires shard { item.shard < L.shape.shards }
-        requires left { (0 < producer.old.lists) × (0 < producer.old.left) }
-        ensures left { producer.new.left + 1 ≡ producer.old.left }
-        ensures lists { producer.new.lists ≡ producer.old.lists }
+        requires producer { IsProducerIn L.shape L.events self.now.queues.now producer.old }
+        requires next { IsNext L.shape L.events producer.old item }
+        ensures producer { IsProducerIn L.shape L.events self.now.queues.now producer.new }
+        ensures put { put_by producer.new ≡ put_by producer.old ++ item.number ∷ [] }
+        ensures same { (producer.new.shard ≡ producer.old.shard) × (has_ended producer.new ≡ false) }
     {
-        let list = &self.lists[item.shard];
+        let queue = &self.queues[item.shard];
         for _ in rt.forever() {
-            match list.lock(rt).put(item, producer) {
+            match queue.put(rt, producer, item) {
                 Ok(()) => return,
                 Err(back) => item = back,
+            }
+            thread::yield_now();
+        }
+        unreachable!()
+    }
+
+    // Puts the end into the queue of a shard of which all items were put in, once that has room.
+    pub(crate) fn end<R: Wait>(&self, rt: &R, producer: &mut Producer<L, D>)
+        requires shard { producer.old.shard < L.shape.shards }
+        requires producer { IsProducerIn L.shape L.events self.now.queues.now producer.old }
+        requires all { put_by producer.old ≡ numbers_of (tasks_of L.shape producer.old.shard L.events) }
+        requires open { has_ended producer.old ≡ false }
+        ensures { has_ended producer.new ≡ true }
+    {
+        let queue = &self.queues[producer.shard];
+        for _ in rt.forever() {
+            if queue.end(rt, producer) {
+                return;
             }
             thread::yield_now();
         }

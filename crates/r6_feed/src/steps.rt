@@ -8,7 +8,7 @@ ghost use Rattle.r6_lists.specs.Events.{Request, Attach, Fail, Check, Repair, Wa
 ghost use Rattle.r6_layout.specs.Shape.{blocks};
 ghost use Rattle.r6_layout.specs.Layout.{shard_of, row_of};
 ghost use Rattle.r6_feed.specs.Events.{part_for, event_of_pass, work_for, PartFailsNone};
-ghost use Rattle.r6_feed.specs.Feeds.{TellsOn, generation_of};
+ghost use Rattle.r6_feed.specs.Feeds.{AreAt, TellsOn, generation_of};
 
 use crate::answer::{EventAnswer, Outcome};
 use crate::calling;
@@ -40,13 +40,13 @@ fn work_of<D>(op: Op) -> Work<D>
     }
 }
 
-impl<L: Events> Feed<L> {
+impl<L: Events, D: BlockDevice + Drop> Feed<L, D> {
     // A request for no block of the array is answered.
     fn answer_out_of_range(&mut self, op: &Op)
         requires next { slice_get L.events self.old.number ≡ Some (Request op.now) }
         requires outside { blocks L.shape ≤ block_of (op_of op.now) }
         ensures number { self.new.number ≡ self.old.number + 1 }
-        ensures pass { self.new.pass ≡ self.old.pass }
+        ensures same { (self.new.pass ≡ self.old.pass) × (self.new.producers ≡ self.old.producers) }
         ensures told { TellsOn (view_of self.old.pass) self.old.answers.items
             (view_of self.new.pass) self.new.answers.items }
     {
@@ -58,18 +58,14 @@ impl<L: Events> Feed<L> {
     }
 
     // A request goes to the shard of its block.
-    fn hand_over<D: BlockDevice + Drop, R: Wait>(
-        &mut self,
-        rt: &R,
-        shards: &Shards<L, D>,
-        shard: usize,
-        op: Op,
-    )
+    fn hand_over<R: Wait>(&mut self, rt: &R, shards: &Shards<L, D>, shard: usize, op: Op)
+        requires at { AreAt L.shape L.events shards.now.queues.now self.old.number self.old.producers.items }
         requires next { slice_get L.events self.old.number ≡ Some (Request op) }
         requires within { block_of (op_of op) < blocks L.shape }
         requires shard { (shard < L.shape.shards)
             × (shard_of L.shape (row_of L.shape (block_of (op_of op))) ≡ shard) }
         ensures number { self.new.number ≡ self.old.number + 1 }
+        ensures at { AreAt L.shape L.events shards.now.queues.now self.new.number self.new.producers.items }
         ensures same { (self.new.pass ≡ self.old.pass) × (self.new.answers.items ≡ self.old.answers.items) }
     {
         let item = Item::new(shard, self.number, self.waits, work_of(op));
@@ -78,14 +74,11 @@ impl<L: Events> Feed<L> {
     }
 
     // A request.
-    pub(crate) fn request<D: BlockDevice + Drop, R: Wait>(
-        &mut self,
-        rt: &R,
-        shards: &Shards<L, D>,
-        op: Op,
-    )
+    pub(crate) fn request<R: Wait>(&mut self, rt: &R, shards: &Shards<L, D>, op: Op)
+        requires at { AreAt L.shape L.events shards.now.queues.now self.old.number self.old.producers.items }
         requires next { slice_get L.events self.old.number ≡ Some (Request op) }
         ensures number { self.new.number ≡ self.old.number + 1 }
+        ensures at { AreAt L.shape L.events shards.now.queues.now self.new.number self.new.producers.items }
         ensures pass { self.new.pass ≡ self.old.pass }
         ensures told { TellsOn (view_of self.old.pass) self.old.answers.items
             (view_of self.new.pass) self.new.answers.items }
@@ -97,15 +90,12 @@ impl<L: Events> Feed<L> {
     }
 
     // A slot is lost.
-    pub(crate) fn fail<D: BlockDevice, R: Wait>(
-        &mut self,
-        rt: &R,
-        shards: &Shards<L, D>,
-        slot: usize,
-    )
+    pub(crate) fn fail<R: Wait>(&mut self, rt: &R, shards: &Shards<L, D>, slot: usize)
+        requires at { AreAt L.shape L.events shards.now.queues.now self.old.number self.old.producers.items }
         requires next { slice_get L.events self.old.number ≡ Some (Fail slot) }
         requires pass { IsPassOf shards.now.register.now self.old.pass }
         ensures number { self.new.number ≡ self.old.number + 1 }
+        ensures at { AreAt L.shape L.events shards.now.queues.now self.new.number self.new.producers.items }
         ensures pass { IsPassOf shards.now.register.now self.new.pass }
         ensures told { TellsOn (view_of self.old.pass) self.old.answers.items
             (view_of self.new.pass) self.new.answers.items }
@@ -119,9 +109,11 @@ impl<L: Events> Feed<L> {
     }
 
     // All that came before is waited for.
-    pub(crate) fn wait<D: BlockDevice + Drop, R: Wait>(&mut self, rt: &R, shards: &Shards<L, D>)
+    pub(crate) fn wait<R: Wait>(&mut self, rt: &R, shards: &Shards<L, D>)
+        requires at { AreAt L.shape L.events shards.now.queues.now self.old.number self.old.producers.items }
         requires next { slice_get L.events self.old.number ≡ Some Wait }
         ensures number { self.new.number ≡ self.old.number + 1 }
+        ensures at { AreAt L.shape L.events shards.now.queues.now self.new.number self.new.producers.items }
         ensures same { (self.new.pass ≡ self.old.pass) × (self.new.answers.items ≡ self.old.answers.items) }
     {
         shards.await_rest(rt);
@@ -132,18 +124,20 @@ impl<L: Events> Feed<L> {
     // A slot gets a new device. Its parts come under the generation that the register answered, so that none stands for
     // another device: no shard looks at a generation whose part it has not. Where the register refused it, they come
     // under generation 0, which each shard has looked at, and come back.
-    pub(crate) fn attach<D: BlockDevice + Drop, R: Wait>(
+    pub(crate) fn attach<R: Wait>(
         &mut self,
         rt: &R,
         shards: &Shards<L, D>,
         slot: usize,
         parts: Vec<D>,
     )
+        requires at { AreAt L.shape L.events shards.now.queues.now self.old.number self.old.producers.items }
         requires next { slice_get L.events self.old.number ≡ Some (Attach slot (part_for D.told parts.items)) }
         requires whole { length parts.items ≡ L.shape.shards }
         requires promised { (shard : _) → L.sound shard slot → PartFailsNone D.promised L.shape shard parts.items }
         requires pass { IsPassOf shards.now.register.now self.old.pass }
         ensures number { self.new.number ≡ self.old.number + 1 }
+        ensures at { AreAt L.shape L.events shards.now.queues.now self.new.number self.new.producers.items }
         ensures pass { IsPassOf shards.now.register.now self.new.pass }
         ensures told { TellsOn (view_of self.old.pass) self.old.answers.items
             (view_of self.new.pass) self.new.answers.items }
@@ -164,14 +158,11 @@ impl<L: Events> Feed<L> {
     }
 
     // Every shard passes over its rows, once all that came before is done.
-    pub(crate) fn pass_over<D: BlockDevice + Drop, R: Wait>(
-        &mut self,
-        rt: &R,
-        shards: &Shards<L, D>,
-        task: PassOver,
-    )
+    pub(crate) fn pass_over<R: Wait>(&mut self, rt: &R, shards: &Shards<L, D>, task: PassOver)
+        requires at { AreAt L.shape L.events shards.now.queues.now self.old.number self.old.producers.items }
         requires next { slice_get L.events self.old.number ≡ Some (event_of_pass task) }
         ensures number { self.new.number ≡ self.old.number + 1 }
+        ensures at { AreAt L.shape L.events shards.now.queues.now self.new.number self.new.producers.items }
         ensures same { (self.new.pass ≡ self.old.pass) × (self.new.answers.items ≡ self.old.answers.items) }
     {
         shards.await_rest(rt);

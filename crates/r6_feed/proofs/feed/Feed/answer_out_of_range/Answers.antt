@@ -3,8 +3,7 @@ use Rattle.r6_lists.specs.Events.{Request}
 use Rattle.r6_lists.proofs.Elements.{all_pushed}
 use Rattle.r6_feed.specs.declared.answer.Outcome.TheVariants.{OutOfRange}
 use Rattle.r6_feed.specs.Feeds.{NoBlock, asked_in, calls_of, is_unsettled}
-use Rattle.r6_feed.proofs.Payments.{skipped}
-use Rattle.r6_feed.proofs.Requests.{of_no_shard, answered_here}
+use Rattle.r6_feed.proofs.Requests.{answered_here}
 use Rattle.r6_feed.proofs.Asked.{next_within, no_wait, has_room, answered_more, called_more}
 use Rattle.r6_feed.proofs.Told.{tells_more}
 use Rattle.r6_health.specs.Passes.{view_of}
@@ -14,11 +13,6 @@ pub push_reserved-requires : goal.push_reserved-requires
 push_reserved-requires g c =
     has_room g.L.Events.shape g.L.Events.events c.args.self.now.number (Request c.args.op.now) c.args.self.now.answers.items _ _
     c.args.self.now.asked c.requires.next c.args.self.now.room c.args.self.now.answers.ok.0
-
-pub invariant_of-self-clause-left : goal.invariant_of-self-clause-left
-invariant_of-self-clause-left g c =
-    skipped (λ p. p.lists) (λ p. p.left) g.L.Events.shape g.L.Events.events c.args.self.now.number c.args.self.now.producers.items
-    (Request c.args.op.now) c.args.self.now.left c.requires.next (λ shard. of_no_shard g.L.Events.shape shard c.args.op.now c.requires.outside)
 
 pub invariant_of-self-clause-within : goal.invariant_of-self-clause-within
 invariant_of-self-clause-within g c = next_within g.L.Events.events c.args.self.now.number (Request c.args.op.now) c.requires.next

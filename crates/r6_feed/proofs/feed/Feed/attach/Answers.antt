@@ -1,29 +1,20 @@
-use Rattle.std.proofs.Common.{◌≡◌, ℕ, ◌+◌, ◌∙◌, List, [], ◌∷◌, ◌++◌, length, map, false, refl, sym, subst, ap, arith}
-use Rattle.std.proofs.lemmas.List.{map-append}
+use Rattle.std.proofs.Common.{◌≡◌, ◌+◌, ◌∙◌, ◌++◌, map, false, refl, sym, subst, ap}
 use Rattle.r6_health.specs.Views.{attached_by}
 use Rattle.r6_lists.specs.Events.{Attach}
 use Rattle.r6_lists.proofs.Elements.{all_pushed}
 use Rattle.r6_feed.specs.declared.answer.Outcome.TheVariants.{Attached}
 use Rattle.r6_feed.specs.Events.{part_for}
-use Rattle.r6_feed.specs.Feeds.{IsAt, Attaches, asked_in, calls_of, is_unsettled}
-use Rattle.r6_feed.proofs.Payments.{at_front}
+use Rattle.r6_feed.specs.Feeds.{AreAt, Attaches, asked_in, calls_of, is_unsettled}
 use Rattle.r6_feed.proofs.Asked.{next_within, no_wait, has_room, answered_more, called_more}
 use Rattle.r6_feed.proofs.Told.{tells_more}
 use Rattle.r6_health.specs.Passes.{view_of}
+use Rattle.r6_feed.proofs.Putting.{at_front}
 use Rattle.r6_feed.proofs.feed.Feed.attach.Goals as goal
 
 pub push_reserved-requires : goal.push_reserved-requires
 push_reserved-requires g c =
     has_room g.L.Events.shape g.L.Events.events c.args.self.now.number (Attach c.args.slot (part_for g.D.BlockDevice.told c.args.parts.items)) c.args.self.now.answers.items _ _
     c.args.self.now.asked c.requires.next c.args.self.now.room c.args.self.now.answers.ok.0
-
-pub invariant_of-self-clause-left : goal.invariant_of-self-clause-left
-invariant_of-self-clause-left g c =
-    at_front (λ p. p.lists) (λ p. p.left) g.L.Events.shape g.L.Events.events (c.args.self.now.number + 1)
-    c.hand_parts.new.producers _ _ (c.args.self.now.producers.ok.0 ∙ c.args.self.now.left.shards)
-    (subst
-    (λ at. IsAt (λ p. p.lists) (λ p. p.left) g.L.Events.shape g.L.Events.events (at.number + 1) c.hand_parts.new.producers)
-    c.position-at.ensures c.hand_parts.ensures.left)
 
 pub invariant_of-self-clause-within : goal.invariant_of-self-clause-within
 invariant_of-self-clause-within g c = next_within g.L.Events.events c.args.self.now.number (Attach c.args.slot (part_for g.D.BlockDevice.told c.args.parts.items)) c.requires.next
@@ -54,3 +45,12 @@ pub returns-clause-told : goal.returns-clause-told
 returns-clause-told g c =
     tells_more (view_of c.args.self.now.pass) (view_of c.attach-answer.new.pass) c.args.self.now.answers.items
     c.push_reserved.new.self.items _ c.push_reserved.ensures.items c.attach-answer.ensures.answered
+
+pub returns-clause-at : goal.returns-clause-at
+returns-clause-at g c =
+    let shape = g.L.Events.shape in
+    let events = g.L.Events.events in
+    let queues = c.args.shards.now.queues.now in
+    at_front shape events queues (c.args.self.now.number + 1) c.hand_parts.new.producers _ _
+    (c.args.self.now.producers.ok.0 ∙ c.requires.at.shards)
+    (subst (λ at. AreAt shape events queues (at.number + 1) c.hand_parts.new.producers) c.position-at.ensures c.hand_parts.ensures.at)

@@ -5,21 +5,16 @@ use Rattle.r6_lists.specs.Events.{Fail}
 use Rattle.r6_lists.proofs.Elements.{all_pushed}
 use Rattle.r6_feed.specs.declared.answer.Outcome.TheVariants.{Failed}
 use Rattle.r6_feed.specs.Feeds.{Fails, asked_in, calls_of, is_unsettled}
-use Rattle.r6_feed.proofs.Payments.{skipped}
 use Rattle.r6_feed.proofs.Asked.{next_within, no_wait, has_room, answered_more, called_more}
 use Rattle.r6_feed.proofs.Told.{tells_more}
 use Rattle.r6_health.specs.Passes.{view_of}
+use Rattle.r6_feed.proofs.Putting.{skipped}
 use Rattle.r6_feed.proofs.feed.Feed.fail.Goals as goal
 
 pub push_reserved-requires : goal.push_reserved-requires
 push_reserved-requires g c =
     has_room g.L.Events.shape g.L.Events.events c.args.self.now.number (Fail c.args.slot) c.args.self.now.answers.items _ _
     c.args.self.now.asked c.requires.next c.args.self.now.room c.args.self.now.answers.ok.0
-
-pub invariant_of-self-clause-left : goal.invariant_of-self-clause-left
-invariant_of-self-clause-left g c =
-    skipped (λ p. p.lists) (λ p. p.left) g.L.Events.shape g.L.Events.events c.args.self.now.number c.args.self.now.producers.items
-    (Fail c.args.slot) c.args.self.now.left c.requires.next (λ shard. refl)
 
 pub invariant_of-self-clause-within : goal.invariant_of-self-clause-within
 invariant_of-self-clause-within g c = next_within g.L.Events.events c.args.self.now.number (Fail c.args.slot) c.requires.next
@@ -50,3 +45,8 @@ pub returns-clause-told : goal.returns-clause-told
 returns-clause-told g c =
     tells_more (view_of c.args.self.now.pass) (view_of c.fail-answer.new.pass) c.args.self.now.answers.items
     c.push_reserved.new.self.items _ c.push_reserved.ensures.items c.fail-answer.ensures.answered
+
+pub returns-clause-at : goal.returns-clause-at
+returns-clause-at g c =
+    skipped g.L.Events.shape g.L.Events.events c.args.shards.now.queues.now c.args.self.now.number (Fail c.args.slot)
+    c.args.self.now.producers.items c.requires.at c.requires.next (λ shard. refl)

@@ -8,7 +8,7 @@ use Rattle.r6_feed.specs.Events.{IsPromised, IsWhole, event_of, events_of}
 use Rattle.r6_feed.proofs.feed.Feed.hand_all.Goals as goal
 
 pub loop-event-init : goal.loop-event-init
-loop-event-init g c = (tt, tt, record { number = c.requires.begins; pass = c.requires.pass; told = λ first told. told })
+loop-event-init g c = (tt, tt, record { number = c.requires.begins; at = c.requires.at; pass = c.requires.pass; told = λ first told. told })
 
 pub step-requires-clause-next : goal.step-requires-clause-next
 step-requires-clause-next g c =
@@ -56,6 +56,7 @@ loop-event-preserved g c =
       tt,
       record {
         number = now.number ∙ ap (λ n. n + 1) before.number ∙ sym (length_push c.loop-event.yielded c.in-Some.event);
+        at = now.at;
         pass = now.pass;
         told = λ first told. now.told first (before.told first told);
       },

@@ -15,8 +15,8 @@ returns-clause-told g c =
     ∙ ap (λ n. length (asked_before g.L.Events.shape g.L.Events.events n)) c.requires.begins in
     let start : WereTold first c.args.self.answers.items first =
     subst (λ answers. WereTold first answers first) (sym (none_answered c.args.self.answers.items none)) Begins in
-    subst (λ r. WereTold first r.1.items (view_of r.0)) (sym c.end_all.ensures) (c.hand_all.ensures.told first start)
+    c.hand_all.ensures.told first start
 
 pub returns-clause-later : goal.returns-clause-later
 returns-clause-later g c =
-    later_told (view_of c.args.self.pass) c.end_all.result.1.items (view_of c.end_all.result.0) (returns-clause-told g c)
+    later_told (view_of c.args.self.pass) c.hand_all.new.self.answers.items (view_of c.hand_all.new.self.pass) (returns-clause-told g c)

@@ -1,28 +1,10 @@
 use Rattle.std.proofs.Common.{◌∙◌, refl, sym}
 use Rattle.r6_lists.specs.Events.{Request, Serves}
-use Rattle.r6_feed.proofs.Payments.{may_put, handed_one, among}
 use Rattle.r6_feed.proofs.Requests.{of_shard, of_no_other, not_answered_here}
 use Rattle.r6_feed.proofs.Asked.{next_within, no_wait, none_asked}
 use Rattle.r6_feed.proofs.Promised.{request-promised}
+use Rattle.r6_feed.proofs.Putting.{among, at-shard, handed_one, is-next, put-one}
 use Rattle.r6_feed.proofs.feed.Feed.hand_over.Goals as goal
-
-pub put-requires-clause-left : goal.put-requires-clause-left
-put-requires-clause-left g c =
-    may_put (λ p. p.lists) (λ p. p.left) g.L.Events.shape g.L.Events.events (λ s. c.args.self.now.number)
-    c.args.self.now.producers.items (Request c.args.op) (Serves c.args.op) c.args.shard c.args.self.now.number
-    c.index_mut.result.now c.args.self.now.left.open_yet c.args.self.now.left.has_left
-    (among c.args.shard g.L.Events.shape c.args.self.now.producers.items c.args.self.now.left.shards c.requires.shard.0)
-    c.index_mut.ensures.value refl c.requires.next
-    (of_shard g.L.Events.shape c.args.shard c.args.op c.requires.within c.requires.shard.1)
-
-pub invariant_of-self-clause-left : goal.invariant_of-self-clause-left
-invariant_of-self-clause-left g c =
-    handed_one (λ p. p.lists) (λ p. p.left) g.L.Events.shape g.L.Events.events c.args.self.now.number
-    c.args.self.now.producers.items (Request c.args.op) (Serves c.args.op) c.args.shard
-    c.index_mut.result.now c.put.new.producer c.args.self.now.left c.requires.next
-    (of_shard g.L.Events.shape c.args.shard c.args.op c.requires.within c.requires.shard.1)
-    (of_no_other g.L.Events.shape c.args.shard c.args.op c.requires.shard.1)
-    c.requires.shard.0 c.index_mut.ensures.value c.put.ensures.left c.put.ensures.lists
 
 pub invariant_of-self-clause-within : goal.invariant_of-self-clause-within
 invariant_of-self-clause-within g c = next_within g.L.Events.events c.args.self.now.number (Request c.args.op) c.requires.next
@@ -38,3 +20,35 @@ invariant_of-self-clause-asked g c =
 pub new-item-requires-clause-promised : goal.new-item-requires-clause-promised
 new-item-requires-clause-promised g c =
     request-promised g.D.BlockDevice.promised g.L.Events.shape g.L.Events.sound c.args.shard c.args.op c.work_of.result c.work_of.ensures
+
+pub put-requires-clause-producer : goal.put-requires-clause-producer
+put-requires-clause-producer g c =
+    (at-shard g.L.Events.shape g.L.Events.events c.args.shards.now.queues.now c.args.self.now.number c.args.self.now.producers.items c.args.shard _
+    c.requires.at (among c.args.shard g.L.Events.shape c.args.self.now.producers.items c.requires.at.shards c.requires.shard.0)
+    c.index_mut.ensures.value).at
+
+pub put-requires-clause-next : goal.put-requires-clause-next
+put-requires-clause-next g c =
+    let shape = g.L.Events.shape in
+    let events = g.L.Events.events in
+    let queues = c.args.shards.now.queues.now in
+    let was = at-shard shape events queues c.args.self.now.number c.args.self.now.producers.items c.args.shard c.index_mut.result.now
+    c.requires.at (among c.args.shard shape c.args.self.now.producers.items c.requires.at.shards c.requires.shard.0) c.index_mut.ensures.value in
+    is-next shape events queues c.args.shard c.args.self.now.number (Request c.args.op) (Serves c.args.op) c.index_mut.result.now
+    c.new-item.result was c.requires.next (of_shard shape c.args.shard c.args.op c.requires.within c.requires.shard.1)
+    c.new-item.ensures.place.0 c.new-item.ensures.place.1
+
+pub returns-clause-at : goal.returns-clause-at
+returns-clause-at g c =
+    let shape = g.L.Events.shape in
+    let events = g.L.Events.events in
+    let queues = c.args.shards.now.queues.now in
+    let number = c.args.self.now.number in
+    let below = among c.args.shard shape c.args.self.now.producers.items c.requires.at.shards c.requires.shard.0 in
+    let was = at-shard shape events queues number c.args.self.now.producers.items c.args.shard c.index_mut.result.now
+    c.requires.at below c.index_mut.ensures.value in
+    handed_one shape events queues number (Request c.args.op) (Serves c.args.op) c.args.self.now.producers.items c.args.shard
+    c.put.new.producer c.requires.at c.requires.next (of_no_other shape c.args.shard c.args.op c.requires.shard.1) below
+    (put-one shape events queues c.args.shard number (Request c.args.op) (Serves c.args.op) c.index_mut.result.now c.put.new.producer _ was
+    c.requires.next (of_shard shape c.args.shard c.args.op c.requires.within c.requires.shard.1)
+    c.new-item.ensures.place.1 c.put.ensures.producer c.put.ensures.put c.put.ensures.same)

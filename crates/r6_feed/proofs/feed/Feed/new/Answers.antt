@@ -1,13 +1,10 @@
-use Rattle.std.proofs.Common.{◌≡◌, ◌∙◌, ℕ, All, false, ap, arith, length, map, refl, subst, sym}
+use Rattle.std.proofs.Common.{◌≡◌, ◌∙◌, All, false, ap, arith, length, map, refl, subst, sym}
 use Rattle.std.proofs.lemmas.List.{length-map}
 use Rattle.std.proofs.lemmas.List.Elements.{All-nil}
 use Rattle.r6_feed.specs.declared.answer.EventAnswer.{EventAnswer}
 use Rattle.r6_feed.specs.Events.{event_of}
 use Rattle.r6_feed.specs.Feeds.{asked_in, calls_of, is_unsettled}
 use Rattle.r6_feed.proofs.feed.Feed.new.Goals as goal
-
-pub producers_of-requires-clause-parts : goal.producers_of-requires-clause-parts
-producers_of-requires-clause-parts g c = c.requires.parts
 
 pub invariant_of-result : goal.invariant_of-result
 invariant_of-result g c =
@@ -16,7 +13,6 @@ invariant_of-result g c =
     let each = length-map c.args.events.now (event_of g.D.BlockDevice.told) in
     let room = c.in_ok-answers.ensures.capacity in
     record {
-      left = c.in_ok-producers.ensures.left;
       within = omega arith;
       waited = refl;
       asked = ap (map asked_in) none;

@@ -1,18 +1,10 @@
 use Rattle.std.proofs.Common.{◌+◌, ◌∙◌, sym, subst, ap}
 use Rattle.r6_feed.specs.Events.{event_of_pass}
-use Rattle.r6_feed.specs.Feeds.{IsAt}
 use Rattle.r6_feed.proofs.Passing.{passes_over, answered_by_shards}
-use Rattle.r6_feed.proofs.Payments.{at_front}
 use Rattle.r6_feed.proofs.Asked.{next_within, one_wait, none_asked}
+use Rattle.r6_feed.specs.Feeds.{AreAt}
+use Rattle.r6_feed.proofs.Putting.{at_front}
 use Rattle.r6_feed.proofs.feed.Feed.pass_over.Goals as goal
-
-pub invariant_of-self-clause-left : goal.invariant_of-self-clause-left
-invariant_of-self-clause-left g c =
-    at_front (λ p. p.lists) (λ p. p.left) g.L.Events.shape g.L.Events.events (c.args.self.now.number + 1)
-    c.hand_pass.new.producers _ _ (c.args.self.now.producers.ok.0 ∙ c.args.self.now.left.shards)
-    (subst
-    (λ at. IsAt (λ p. p.lists) (λ p. p.left) g.L.Events.shape g.L.Events.events (at.number + 1) c.hand_pass.new.producers)
-    c.position-at.ensures c.hand_pass.ensures.left)
 
 pub invariant_of-self-clause-within : goal.invariant_of-self-clause-within
 invariant_of-self-clause-within g c = next_within g.L.Events.events c.args.self.now.number (event_of_pass c.args.task) c.requires.next
@@ -25,3 +17,12 @@ invariant_of-self-clause-waited g c =
 pub invariant_of-self-clause-asked : goal.invariant_of-self-clause-asked
 invariant_of-self-clause-asked g c =
     c.args.self.now.asked ∙ sym (none_asked g.L.Events.shape g.L.Events.events c.args.self.now.number (event_of_pass c.args.task) c.requires.next (answered_by_shards g.L.Events.shape c.args.task))
+
+pub returns-clause-at : goal.returns-clause-at
+returns-clause-at g c =
+    let shape = g.L.Events.shape in
+    let events = g.L.Events.events in
+    let queues = c.args.shards.now.queues.now in
+    at_front shape events queues (c.args.self.now.number + 1) c.hand_pass.new.producers _ _
+    (c.args.self.now.producers.ok.0 ∙ c.requires.at.shards)
+    (subst (λ at. AreAt shape events queues (at.number + 1) c.hand_pass.new.producers) c.position-at.ensures c.hand_pass.ensures.at)

@@ -1,3 +1,11 @@
+use Rattle.std.proofs.Common.{ℕ, ◌+◌, ◌≤◌, sym, subst}
+use Rattle.r6_feed.specs.Feeds.{AreAt}
+use Rattle.r6_feed.proofs.Requests.{of_no_shard}
+use Rattle.r6_feed.proofs.Putting.{skipped}
+use Rattle.r6_lists.specs.Events.{Request}
+use Rattle.r6_layout.specs.Shape.{Shape, blocks}
+use Rattle.r6_world.specs.PlainArray.{block_of}
+use Rattle.r6_world.specs.Values.{op_of}
 use Rattle.r6_feed.proofs.Told.{tells_same}
 use Rattle.r6_feed.proofs.feed.Feed.request.Goals as goal
 
@@ -22,7 +30,21 @@ pub returns-in-None-clause-number : goal.returns-in-None-clause-number
 returns-in-None-clause-number g c = c.answer_out_of_range.ensures.number
 
 pub returns-in-None-clause-pass : goal.returns-in-None-clause-pass
-returns-in-None-clause-pass g c = c.answer_out_of_range.ensures.pass
+returns-in-None-clause-pass g c = c.answer_out_of_range.ensures.same.0
 
 pub returns-in-None-clause-told : goal.returns-in-None-clause-told
 returns-in-None-clause-told g c = c.answer_out_of_range.ensures.told
+
+pub returns-in-None-clause-at : goal.returns-in-None-clause-at
+returns-in-None-clause-at g c =
+    let shape = g.L.Events.shape in
+    let events = g.L.Events.events in
+    let queues = c.args.shards.now.queues.now in
+    let old = c.args.self.now in
+    let now = c.answer_out_of_range.ensures in
+    let outside : blocks shape ≤ block_of (op_of c.args.op) =
+    subst (λ (b : ℕ). blocks shape ≤ b) c.block.ensures (subst (λ (s : Shape). blocks s ≤ c.block.result) c.args.shards.now.shape c.in-None.ensures.within) in
+    let at = skipped shape events queues old.number (Request c.args.op) old.producers.items c.requires.at c.requires.next
+    (λ shard. of_no_shard shape shard c.args.op outside) in
+    subst (λ (n : ℕ). AreAt shape events queues n c.answer_out_of_range.new.self.producers.items) (sym now.number)
+    (subst (λ ps. AreAt shape events queues (old.number + 1) ps.items) (sym now.same.1) at)

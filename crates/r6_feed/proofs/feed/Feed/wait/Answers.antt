@@ -1,13 +1,8 @@
 use Rattle.std.proofs.Common.{◌+◌, ◌∙◌, refl, sym, ap}
 use Rattle.r6_lists.specs.Events.{Wait}
-use Rattle.r6_feed.proofs.Payments.{skipped}
 use Rattle.r6_feed.proofs.Asked.{none_asked, one_wait, next_within}
+use Rattle.r6_feed.proofs.Putting.{skipped}
 use Rattle.r6_feed.proofs.feed.Feed.wait.Goals as goal
-
-pub invariant_of-self-clause-left : goal.invariant_of-self-clause-left
-invariant_of-self-clause-left g c =
-    skipped (λ p. p.lists) (λ p. p.left) g.L.Events.shape g.L.Events.events c.args.self.now.number c.args.self.now.producers.items
-    Wait c.args.self.now.left c.requires.next (λ shard. refl)
 
 pub invariant_of-self-clause-within : goal.invariant_of-self-clause-within
 invariant_of-self-clause-within g c = next_within g.L.Events.events c.args.self.now.number Wait c.requires.next
@@ -19,3 +14,8 @@ invariant_of-self-clause-waited g c =
 pub invariant_of-self-clause-asked : goal.invariant_of-self-clause-asked
 invariant_of-self-clause-asked g c =
     c.args.self.now.asked ∙ sym (none_asked g.L.Events.shape g.L.Events.events c.args.self.now.number Wait c.requires.next refl)
+
+pub returns-clause-at : goal.returns-clause-at
+returns-clause-at g c =
+    skipped g.L.Events.shape g.L.Events.events c.args.shards.now.queues.now c.args.self.now.number Wait
+    c.args.self.now.producers.items c.requires.at c.requires.next (λ shard. refl)

@@ -1,6 +1,6 @@
 use Rattle.std.proofs.Common.{◌≡◌, length}
-use Rattle.r6_feed.specs.Feeds.{AreOpen, HasLeft}
-use Rattle.r6_feed.proofs.Payments.{next_below}
+use Rattle.r6_feed.specs.Feeds.{HasPut}
+use Rattle.r6_feed.proofs.Putting.{Each, next_below}
 use Rattle.r6_feed.proofs.shards.Shards.hand_parts.Given as goal
 
 abbrev pub invariant-loop-part : goal.invariant-loop-part
@@ -8,6 +8,5 @@ invariant-loop-part g l =
     (goal.iterator-loop-part g).can_next l.part-iterator × (goal.iterator-loop-part g).is_finite l.part-iterator × record {
       shard_is : l.shard ≡ length l.yielded;
       shards : length l.producers ≡ g.L.Events.shape.shards;
-      open_yet : AreOpen (λ p. p.lists) l.producers;
-      has_left : HasLeft (λ p. p.left) l.producers g.L.Events.shape g.L.Events.events (next_below l.shard l.fn.at.number);
+      each : Each (HasPut g.L.Events.shape g.L.Events.events l.self.queues.now) l.producers (next_below l.shard l.fn.at.number);
     }
