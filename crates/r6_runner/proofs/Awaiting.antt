@@ -6,12 +6,14 @@ use Rattle.std.proofs.lemmas.List.Elements.{All-push}
 use Rattle.std.proofs.lemmas.Option.{slice_get_within, slice_get-get_or}
 use Rattle.r6_world.proofs.Tables.{Some-inj}
 use Rattle.r6_dev.specs.History.{Telling}
+use Rattle.r6_dev.specs.Promises.{Promise}
 use Rattle.r6_layout.specs.Shape.{Shape}
 use Rattle.r6_lists.specs.Events.{Event, Duty, Task, task, task_at, duty_of, waits_before}
 use Rattle.r6_shard.specs.declared.ledger.Asked.{Asked}
-use Rattle.r6_shard.specs.declared.parts.Part.{Part}
+use Rattle.r6_exchange.specs.declared.task.Part.{Part}
 use Rattle.r6_shard.specs.declared.shard.Shard.{Shard}
 use Rattle.r6_shard.specs.Behind.{IsBehindAll}
+use Rattle.r6_shard.specs.declared.performs.Performs.{Ghosts}
 use Rattle.r6_runner.specs.declared.due.Due.{Due}
 use Rattle.r6_runner.specs.declared.runner.Runner.{Runner}
 use Rattle.r6_runner.specs.Runners.{IsPut, IsHandedIn}
@@ -176,18 +178,18 @@ of-task shape shard events number waits duty None is = cc
 of-task shape shard events number waits duty (Some other) is =
     sym (ap (λ (t : Task). t.waits) (Some-inj (task number (waits_before events number) other) (task number waits duty) is))
 
-pub put-awaited : {D : Type 0} (shape : Shape) (shard : ℕ) (events : List Event) (old new : Runner D) (d : Due) (number waits : ℕ) (duty : Duty)
+pub put-awaited : {P D : Type 0} {g : Ghosts P} (shape : Shape) (shard : ℕ) (events : List Event) (old new : Runner P D g) (d : Due) (number waits : ℕ) (duty : Duty)
     → task_at shape shard events number ≡ Some (task number waits duty) → d.event ≡ number → d.waits ≡ waits → IsPut d old new
     → HasAwaited events old → HasAwaited events new
 put-awaited shape shard events old new d number waits duty at is is' h x =
     alike events old.waits new.waits old.shard.asked.items new.shard.asked.items (old.due.items ++ d ∷ []) new.due.items h.waits
-    (ap (λ (y : Shard _). y.asked.items) h.shard) h.due_is
+    (ap (λ (y : Shard _ _). y.asked.items) h.shard) h.due_is
     (pushed events old.waits old.shard.asked.items old.due.items d
     (is' ∙ of-task shape shard events number waits duty (option_and_then (duty_of shape shard) (slice_get events number)) at
     ∙ ap (waits_before events) (sym is)) x)
 
-pub handed-awaited : {D : Type 0} (told : D → Telling) (events : List Event) (old new : Runner D) (number : ℕ) (part : Part D)
-    → IsHandedIn told number part old new → HasAwaited events old → HasAwaited events new
-handed-awaited told events old new number part h x =
+pub handed-awaited : {P D : Type 0} {g : Ghosts P} (told : D → Telling) (promised : D → Promise) (events : List Event) (old new : Runner P D g) (number : ℕ) (part : Part D)
+    → IsHandedIn told promised number part old new → HasAwaited events old → HasAwaited events new
+handed-awaited told promised events old new number part h x =
     alike events old.waits new.waits old.shard.asked.items new.shard.asked.items old.due.items new.due.items h.waits
-    (asked-on told h.taken part h.back old.shard new.shard h.shard) h.due x
+    (asked-on told promised h.taken part h.back old.shard new.shard h.shard) h.due x

@@ -4,7 +4,7 @@ use Rattle.std.proofs.lemmas.Bool.{false≢true}
 use Rattle.std.proofs.lemmas.List.Elements.{All-push}
 use Rattle.r6_world.specs.ShardStates as world
 use Rattle.r6_world.specs.Counting.{checks_held}
-use Rattle.r6_world.proofs.Laws.Passing.{call_counts_law}
+use Rattle.r6_world.proofs.Tables.{None-not_Some}
 use Rattle.r6_core.specs.declared.counts.Counts.{Counts}
 use Rattle.r6_core.specs.declared.refusal.Refusal.{Refusal}
 use Rattle.r6_core.specs.declared.refusal.Refusal.TheVariants.{ArrayFailed, Exhausted}
@@ -12,19 +12,19 @@ use Rattle.r6_core.specs.declared.turn.Task.{Task}
 use Rattle.r6_core.specs.declared.turn.Task.TheVariants as task
 use Rattle.r6_core.specs.Refusals.{IsFirstFault, turn_faults}
 use Rattle.r6_core.specs.Effects.{HasTaskFault, RefusesTurn}
-use Rattle.r6_core.specs.Shards.{CoreView, core_layout, counts_of, world_shard}
+use Rattle.r6_core.specs.Shards.{CoreView, counts_of, world_shard}
 use Rattle.r6_shard.specs.Kept.{NoneIsOut}
 use Rattle.r6_shard.specs.Counted.{HasPassedRows, IsInService, PassesNone, counted_in, rows_of}
-use Rattle.r6_shard.specs.Counted as shards
 use Rattle.r6_shard.specs.Refusing.{IsEnding, Lasts}
-use Rattle.r6_shard.proofs.Counting.{was-in-service}
+use Rattle.r6_shard.proofs.Counting.{counted-at-rest, was-in-service}
 use Rattle.r6_runner.specs.declared.pass.Passing.{Passing}
 use Rattle.r6_runner.specs.declared.pass.Passed.{Passed}
 use Rattle.r6_runner.specs.declared.runner.Runner.{Runner}
 use Rattle.r6_shard.specs.Refusing.{CountsRise}
 use Rattle.r6_shard.proofs.Rising.{rise-none, rise-on}
+use Rattle.r6_shard.specs.declared.performs.Performs.{Ghosts}
 use Rattle.r6_runner.specs.Classes.{classed_in}
-use Rattle.r6_runner.specs.Counted.{AddUp, AreClassed, AreCounted, AreWithin, HasCounted, HasTurned, IsCounting, IsUsedUp, LeavesNoneOut, IsWithin, StandsAt, rows_in}
+use Rattle.r6_runner.specs.Counted.{AddUp, AreClassed, AreCounted, AreWithin, HasCounted, HasTurned, IsCounting, IsUsedUp, LeavesNoneOut, StandsAt, rows_in}
 
 -- ---- a shard goes on
 
@@ -58,18 +58,6 @@ all-counted gone core x live =
     let most : counted_in core + checks_held (world_shard core) ≡ gone = x.shard.2 live in
     omega (arith, least, most)
 
-carries-all : (counted gone : ℕ) (old new : CoreView) → shards.CountsAll old new → Lasts old new → HasPassedRows false counted gone old
-    → Carries old new
-carries-all counted gone old new counts lasts x =
-    let service = was-in-service counted gone gone gone old new (counts true counted gone) x in
-    record {
-      service = service;
-      used = λ live.
-          let most : counted_in old + checks_held (world_shard old) ≡ gone = x.shard.2 (service live) in
-          let least = (counts false counted gone x).least live in
-          used-on old new lasts (omega (arith, most, least));
-    }
-
 stands-on : (rows gone : ℕ) (old new : CoreView) → Carries old new → IsInService new → (passed : List Passed) (passing : Option Passing)
     → StandsAt rows gone old passed passing → StandsAt rows gone new passed passing
 stands-on rows gone old new c live passed None x = x
@@ -83,67 +71,41 @@ whole-on old new c live passed x k d below = elim (x k d below) [
 ]
 
 -- whatever it has gone over, it is still within its rows
-within-on : (rows : ℕ) (old new : CoreView) → ((counted gone : ℕ) → HasPassedRows false counted gone old → (n : ℕ) × HasPassedRows false n gone new)
-    → Lasts old new → (passing : Option Passing) → AreWithin rows old passing → AreWithin rows new passing
+within-on : (rows : ℕ) (old new : CoreView) → PassesNone old new → Lasts old new → (passing : Option Passing) → AreWithin rows old passing
+    → AreWithin rows new passing
 within-on rows old new passes lasts None x = x
-within-on rows old new passes lasts (Some p) x =
-    let now = passes x.counted x.gone x.passes in
-    record {
-      one = x.one;
-      counted = now.0;
-      gone = x.gone;
-      passes = now.1;
-      left = x.left;
-      rise = rise-on (counts_of p.before) (world_shard old).counts (world_shard new).counts x.rise lasts.counts;
-    }
-
-counting-on : (rows counted counted' gone : ℕ) (old new : CoreView) (passing : Option Passing) (passed : List Passed) → Carries old new
-    → ((counted gone : ℕ) → HasPassedRows false counted gone old → (n : ℕ) × HasPassedRows false n gone new) → Lasts old new
-    → HasPassedRows false counted' gone new → IsCounting rows counted gone old passing passed → IsCounting rows counted' gone new passing passed
-counting-on rows counted counted' gone old new passing passed c passes lasts now x = record {
-  passes = now;
-  stands = λ live. stands-on rows gone old new c live passed passing (x.stands (c.service live));
-  whole = λ live. whole-on old new c live passed (x.whole (c.service live));
-  within = within-on rows old new passes lasts passing x.within;
-  classed = x.classed;
+within-on rows old new passes lasts (Some p) x = record {
+  one = x.one;
+  counted = x.counted;
+  gone = x.gone;
+  passes = passes false x.counted x.gone x.passes;
+  left = x.left;
+  rise = rise-on (counts_of p.before) (world_shard old).counts (world_shard new).counts x.rise lasts.counts;
 }
 
 counting-none : (rows counted gone : ℕ) (old new : CoreView) (passing : Option Passing) (passed : List Passed) → PassesNone old new → Lasts old new
     → IsCounting rows counted gone old passing passed → IsCounting rows counted gone new passing passed
 counting-none rows counted gone old new passing passed passes lasts x =
-    counting-on rows counted counted gone old new passing passed
-    (carries-by counted gone gone old new (λ stopped counted. passes stopped counted gone) lasts x.passes)
-    (λ counted gone p. (counted, passes false counted gone p)) lasts
-    (passes false counted gone x.passes) x
+    let c = carries-by counted gone gone old new (λ stopped counted. passes stopped counted gone) lasts x.passes in
+    record {
+      passes = passes false counted gone x.passes;
+      all = x.all;
+      stands = λ live. stands-on rows gone old new c live passed passing (x.stands (c.service live));
+      whole = λ live. whole-on old new c live passed (x.whole (c.service live));
+      within = within-on rows old new passes lasts passing x.within;
+      classed = x.classed;
+    }
 
 -- ---- as calls do it, which keep how many rows the shard has
 
 abbrev Counted : (rows own : ℕ) → CoreView → Option Passing → List Passed → Type 0
 Counted rows own core passing passed = (own ≡ rows) × (counted gone : ℕ) × IsCounting rows counted gone core passing passed
 
-abbrev CountedAll : (rows own : ℕ) → CoreView → Option Passing → List Passed → Type 0
-CountedAll rows own core passing passed = (own ≡ rows) × (gone : ℕ) × IsCounting rows gone gone core passing passed
-
 -- a call that goes over no row
 pub keeps-counted : (own : ℕ) (old new : CoreView) (passing : Option Passing) (passed : List Passed) → PassesNone old new → Lasts old new
     → (rows : ℕ) → Counted rows own old passing passed → Counted rows own new passing passed
 keeps-counted own old new passing passed passes lasts rows x =
     (x.0, x.1, x.2, counting-none rows x.1 x.2 old new passing passed passes lasts x.3)
-
-pub stays-counted : (own : ℕ) (old new : CoreView) (passing : Option Passing) (passed : List Passed) → PassesNone old new → Lasts old new
-    → (rows : ℕ) → CountedAll rows own old passing passed → CountedAll rows own new passing passed
-stays-counted own old new passing passed passes lasts rows x =
-    (x.0, x.1, counting-none rows x.1 x.1 old new passing passed passes lasts x.2)
-
--- a call that counts all that was gone over
-pub counts-all : (own : ℕ) (old new : CoreView) (passing : Option Passing) (passed : List Passed) → shards.CountsAll old new → Lasts old new
-    → (rows : ℕ) → Counted rows own old passing passed → CountedAll rows own new passing passed
-counts-all own old new passing passed counts lasts rows x = (
-  x.0,
-  x.2,
-  counting-on rows x.1 x.2 x.2 old new passing passed (carries-all x.1 x.2 old new counts lasts x.3.passes)
-      (λ counted gone p. (gone, counts false counted gone p)) lasts (counts false x.1 x.2 x.3.passes) x.3,
-)
 
 -- ---- a check or repair
 
@@ -171,6 +133,7 @@ pub counting-begun : (rows gone : ℕ) (core : CoreView) (passed : List Passed) 
     → counts_of p.before ≡ (world_shard core).counts → IsCounting rows gone gone core None passed → IsCounting rows gone gone core (Some p) passed
 counting-begun rows gone core passed p one left going before x = record {
   passes = x.passes;
+  all = λ none. refl;
   stands = λ live.
       let at : rows_in p.before ≡ gone = rows-counted p.before core before ∙ all-counted gone core x.passes live in (
         subst (AddUp rows 0 passed) (sym at) (x.stands live),
@@ -195,6 +158,7 @@ counting-turned rows counted gone p q old new passed t x =
     let c = carries-by counted gone (gone + t.more) old new (λ stopped counted. t.passes stopped counted gone) t.lasts x.passes in
     record {
       passes = t.passes false counted gone x.passes;
+      all = λ none. absurd (None-not_Some q (sym none));
       stands = λ live.
           let was = x.stands (c.service live) in
           let before : rows_in q.before ≡ rows_in p.before = ap rows_in t.before in
@@ -243,6 +207,7 @@ pub counting-over : (rows gone : ℕ) (core : CoreView) (passed : List Passed) (
     → IsCounting rows gone gone core (Some p) passed → IsCounting rows gone gone core None (passed ++ q ∷ [])
 counting-over rows gone core passed p q over same left skipped now x = record {
   passes = x.passes;
+  all = λ none. refl;
   stands = λ live.
       let was = x.stands live in
       let after : rows_in q.after ≡ gone = rows-counted q.after core now ∙ all-counted gone core x.passes live in
@@ -268,59 +233,77 @@ counting-over rows gone core passed p q over same left skipped now x = record {
 pub counting-first : (rows : ℕ) (core : CoreView) → HasPassedRows false 0 0 core → IsCounting rows 0 0 core None []
 counting-first rows core x = record {
   passes = x;
+  all = λ none. refl;
   stands = λ live. refl;
   whole = λ live k d below. absurd (omega (arith, below));
   within = tt;
   classed = λ k d below. absurd (omega (arith, below));
 }
 
--- all is over
-pub counted-at-end : {D : Type 0} (rows : ℕ) (runner : Runner D) → runner.passing ≡ None → NoneIsOut (world_shard runner.shard.core)
-    → HasCounted rows runner → AreCounted rows runner.shard.core runner.passed.items
-counted-at-end rows runner none home x live =
+-- where no check or repair is under way, all that was gone over is counted
+whole-of : (rows counted gone : ℕ) (core : CoreView) (passing : Option Passing) (passed : List Passed) → passing ≡ None
+    → IsCounting rows counted gone core passing passed → IsCounting rows gone gone core None passed
+whole-of rows counted gone core passing passed none x =
+    subst (λ (n : ℕ). IsCounting rows n gone core None passed) (x.all none) (subst (λ o. IsCounting rows counted gone core o passed) none x)
+
+pub counted-at-end : {P D : Type 0} {g : Ghosts P} (rows : ℕ) (runner : Runner P D g) → runner.passing ≡ None → HasCounted rows runner
+    → AreCounted rows runner.shard.core runner.passed.items
+counted-at-end rows runner none x live =
     let core = runner.shard.core in
     let passed = runner.passed.items in
-    let all : counted_in core ≡ x.2 = call_counts_law.2 (core_layout core) core.shard x.2 (world_shard core) x.3.passes.shard home live in (
-      subst (AddUp rows 0 passed) (sym all) (subst (StandsAt rows x.2 core passed) none (x.3.stands live)),
-      x.3.whole live,
-    )
+    let y = whole-of rows x.1 x.2 core runner.passing passed none x.3 in
+    (subst (AddUp rows 0 passed) (sym (all-counted x.2 core y.passes live)) (y.stands live), y.whole live)
 
 -- whatever is over, in service or not
-pub classed-at-end : {D : Type 0} (rows : ℕ) (runner : Runner D) → HasCounted rows runner → AreClassed rows runner.passed.items
+pub classed-at-end : {P D : Type 0} {g : Ghosts P} (rows : ℕ) (runner : Runner P D g) → HasCounted rows runner → AreClassed rows runner.passed.items
 classed-at-end rows runner x = x.3.classed
 
 -- ---- as calls of the runner do it
 
 pub begun-counted : (own : ℕ) (core : CoreView) (before : Option Passing) (passed : List Passed) (p : Passing) → before ≡ None → rows_of p.task ≡ 1
     → p.left ≡ own → p.given_up ≡ false → counts_of p.before ≡ (world_shard core).counts
-    → (rows : ℕ) → CountedAll rows own core before passed → CountedAll rows own core (Some p) passed
+    → (rows : ℕ) → Counted rows own core before passed → Counted rows own core (Some p) passed
 begun-counted own core before passed p is one left going counts rows x = (
   x.0,
-  x.1,
-  counting-begun rows x.1 core passed p one (left ∙ x.0) going counts (subst (λ o. IsCounting rows x.1 x.1 core o passed) is x.2),
+  x.2,
+  x.2,
+  counting-begun rows x.2 core passed p one (left ∙ x.0) going counts (whole-of rows x.1 x.2 core before passed is x.3),
 )
 
+-- with no command out all that was gone over is counted
+at-rest : (rows counted gone : ℕ) (core : CoreView) (p : Passing) (passed : List Passed) → NoneIsOut (world_shard core)
+    → IsCounting rows counted gone core (Some p) passed → IsCounting rows gone gone core (Some p) passed
+at-rest rows counted gone core p passed still x = record {
+  passes = counted-at-rest false counted gone core x.passes still;
+  all = λ none. refl;
+  stands = x.stands;
+  whole = x.whole;
+  within = x.within;
+  classed = x.classed;
+}
+
 pub over-counted : (own : ℕ) (core : CoreView) (some : Option Passing) (passed passed' : List Passed) (p : Passing) (q : Passed) → some ≡ Some p
-    → (p.left ≡ 0) ⊎ (p.given_up ≡ true) → passed' ≡ passed ++ q ∷ [] → q.before ≡ p.before → q.left_out ≡ p.left
+    → (p.left ≡ 0) ⊎ (p.given_up ≡ true) → NoneIsOut (world_shard core) → passed' ≡ passed ++ q ∷ [] → q.before ≡ p.before → q.left_out ≡ p.left
     → q.skipped ≡ own - classed_in p.before q.after → counts_of q.after ≡ (world_shard core).counts
-    → (rows : ℕ) → CountedAll rows own core some passed → Counted rows own core None passed'
-over-counted own core some passed passed' p q is over more before left skipped after rows x = (
+    → (rows : ℕ) → Counted rows own core some passed → Counted rows own core None passed'
+over-counted own core some passed passed' p q is over still more before left skipped after rows x = (
   x.0,
-  x.1,
-  x.1,
-  subst (IsCounting rows x.1 x.1 core None) (sym more)
-      (counting-over rows x.1 core passed p q over before left (skipped ∙ ap (λ (n : ℕ). n - classed_in p.before q.after) x.0) after (subst (λ o. IsCounting rows x.1 x.1 core o passed) is x.2)),
+  x.2,
+  x.2,
+  subst (IsCounting rows x.2 x.2 core None) (sym more)
+      (counting-over rows x.2 core passed p q over before left (skipped ∙ ap (λ (n : ℕ). n - classed_in p.before q.after) x.0) after
+      (at-rest rows x.1 x.2 core p passed still (subst (λ o. IsCounting rows x.1 x.2 core o passed) is x.3))),
 )
 
 pub turned-counted : (own own' : ℕ) (old new : CoreView) (some : Option Passing) (passed passed' : List Passed) (p q : Passing) → some ≡ Some p
     → own' ≡ own → passed' ≡ passed → HasTurned p q old new
-    → (rows : ℕ) → CountedAll rows own old some passed → Counted rows own' new (Some q) passed'
+    → (rows : ℕ) → Counted rows own old some passed → Counted rows own' new (Some q) passed'
 turned-counted own own' old new some passed passed' p q is same kept t rows x = (
   same ∙ x.0,
   x.1,
-  x.1 + t.more,
-  subst (IsCounting rows x.1 (x.1 + t.more) new (Some q)) (sym kept)
-      (counting-turned rows x.1 x.1 p q old new passed t (subst (λ o. IsCounting rows x.1 x.1 old o passed) is x.2)),
+  x.2 + t.more,
+  subst (IsCounting rows x.1 (x.2 + t.more) new (Some q)) (sym kept)
+      (counting-turned rows x.1 x.2 p q old new passed t (subst (λ o. IsCounting rows x.1 x.2 old o passed) is x.3)),
 )
 
 -- ---- a turn that is refused

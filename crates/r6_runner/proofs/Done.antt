@@ -4,6 +4,7 @@ use Rattle.std.specs.List.{cons_option}
 use Rattle.std.proofs.lemmas.List.{length-map, map-append}
 use Rattle.std.proofs.lemmas.List.Elements.{filter_map-append}
 use Rattle.r6_dev.specs.History.{Telling}
+use Rattle.r6_dev.specs.Promises.{Promise}
 use Rattle.r6_layout.specs.Shape.{Shape}
 use Rattle.r6_world.specs.PlainArray as world
 use Rattle.r6_world.specs.Registers.{Snapshot}
@@ -14,20 +15,19 @@ use Rattle.r6_core.specs.declared.turn.Task.{Task as Pass}
 use Rattle.r6_core.specs.declared.refusal.Refusal.{Refusal}
 use Rattle.r6_core.specs.Shards.{CoreView}
 use Rattle.r6_lists.specs.Events.{Event, Duty, Takes_up, task, task_at}
-use Rattle.r6_shard.specs.declared.parts.Part.{Part}
-use Rattle.r6_shard.specs.declared.parts.Parts.{Parts}
+use Rattle.r6_exchange.specs.declared.task.Part.{Part}
 use Rattle.r6_shard.specs.declared.shard.Shard.{Shard}
 use Rattle.r6_shard.specs.declared.ledger.Asked.{Asked}
 use Rattle.r6_shard.specs.Shards as shards
 use Rattle.r6_shard.specs.Shards.{ComesFrom}
 use Rattle.r6_shard.specs.Beginnings.{start_of}
-use Rattle.r6_shard.specs.Handing.{parts_tell}
 use Rattle.r6_shard.specs.declared.ledger.Asking.{Asking}
 use Rattle.r6_shard.specs.Refusing.{Lasts}
 use Rattle.r6_shard.specs.Runs.{AreServed}
 use Rattle.r6_shard.proofs.FromStarts.{handed_law}
 use Rattle.r6_shard.proofs.Lasting.{lasts_on, lasts_still, was-right, was-serving}
 use Rattle.r6_shard.proofs.Ledgers.{one-accepted, one-refused, served-on as served-kept}
+use Rattle.r6_shard.specs.declared.performs.Performs.{Ghosts}
 use Rattle.r6_runner.specs.declared.due.Due.{Due}
 use Rattle.r6_runner.specs.declared.pass.Passing.{Passing}
 use Rattle.r6_runner.specs.declared.pass.Passed.{Passed}
@@ -39,30 +39,30 @@ use Rattle.r6_runner.proofs.Tasks.{of_tasks-more, taken_up-more, tell-less, none
 
 -- ---- the same, of equal things
 
-pub is-like : {D : Type 0} (told : D → Telling) (shape : Shape) (events : List Event) (geometry : Shape) (number : ℕ) (snapshot : Snapshot)
-    (before : ℕ → ℕ → Option Telling) (numbers : List ℕ) (shard shard' : Shard (Parts D)) (refused refused' : List (ℕ × Refusal))
+pub is-like : {P : Type 0} {g : Ghosts P} (shape : Shape) (events : List Event) (geometry : Shape) (number : ℕ) (snapshot : Snapshot)
+    (before : ℕ → ℕ → Option Telling) (numbers : List ℕ) (shard shard' : Shard P g) (refused refused' : List (ℕ × Refusal))
     (passing passing' : Option Passing) (passed passed' : List Passed) (handed handed' : List Handed) (due due' : List Due)
     → shard' ≡ shard → refused' ≡ refused → passing' ≡ passing → passed' ≡ passed → handed' ≡ handed → due' ≡ due
-    → IsDone told shape events geometry number snapshot before numbers shard refused passing passed handed due
-    → IsDone told shape events geometry number snapshot before numbers shard' refused' passing' passed' handed' due'
-is-like told shape events geometry number snapshot before numbers shard shard' refused refused' passing passing' passed passed' handed handed' due due' e0 e1 e2 e3 e4 e5 x =
-    subst (λ y. IsDone told shape events geometry number snapshot before numbers y refused' passing' passed' handed' due') (sym e0)
-    (subst (λ y. IsDone told shape events geometry number snapshot before numbers shard y passing' passed' handed' due') (sym e1)
-    (subst (λ y. IsDone told shape events geometry number snapshot before numbers shard refused y passed' handed' due') (sym e2)
-    (subst (λ y. IsDone told shape events geometry number snapshot before numbers shard refused passing y handed' due') (sym e3)
-    (subst (λ y. IsDone told shape events geometry number snapshot before numbers shard refused passing passed y due') (sym e4)
-    (subst (λ y. IsDone told shape events geometry number snapshot before numbers shard refused passing passed handed y) (sym e5) x)))))
+    → IsDone shape events geometry number snapshot before numbers shard refused passing passed handed due
+    → IsDone shape events geometry number snapshot before numbers shard' refused' passing' passed' handed' due'
+is-like shape events geometry number snapshot before numbers shard shard' refused refused' passing passing' passed passed' handed handed' due due' e0 e1 e2 e3 e4 e5 x =
+    subst (λ y. IsDone shape events geometry number snapshot before numbers y refused' passing' passed' handed' due') (sym e0)
+    (subst (λ y. IsDone shape events geometry number snapshot before numbers shard y passing' passed' handed' due') (sym e1)
+    (subst (λ y. IsDone shape events geometry number snapshot before numbers shard refused y passed' handed' due') (sym e2)
+    (subst (λ y. IsDone shape events geometry number snapshot before numbers shard refused passing y handed' due') (sym e3)
+    (subst (λ y. IsDone shape events geometry number snapshot before numbers shard refused passing passed y due') (sym e4)
+    (subst (λ y. IsDone shape events geometry number snapshot before numbers shard refused passing passed handed y) (sym e5) x)))))
 
 -- ---- what came by the list
 
-pub is-put : {D : Type 0} (told : D → Telling) (shape : Shape) (events : List Event) (geometry : Shape) (number : ℕ) (snapshot : Snapshot)
-    (before : ℕ → ℕ → Option Telling) (numbers : List ℕ) (shard : Shard (Parts D)) (refused : List (ℕ × Refusal))
+pub is-put : {P : Type 0} {g : Ghosts P} (shape : Shape) (events : List Event) (geometry : Shape) (number : ℕ) (snapshot : Snapshot)
+    (before : ℕ → ℕ → Option Telling) (numbers : List ℕ) (shard : Shard P g) (refused : List (ℕ × Refusal))
     (passing : Option Passing) (passed : List Passed) (handed : List Handed) (due : List Due)
     (d : Due) (n waits : ℕ) (duty : Duty) → task_at shape number events n ≡ Some (task n waits duty)
     → request_in n duty ≡ request_of d.event d.duty → pass_in n duty ≡ pass_of d.event d.duty → part_in n duty ≡ None
-    → IsDone told shape events geometry number snapshot before numbers shard refused passing passed handed due
-    → IsDone told shape events geometry number snapshot before (numbers ++ n ∷ []) shard refused passing passed handed (due ++ d ∷ [])
-is-put told shape events geometry number snapshot before numbers shard refused passing passed handed due d n waits duty at request pass part x =
+    → IsDone shape events geometry number snapshot before numbers shard refused passing passed handed due
+    → IsDone shape events geometry number snapshot before (numbers ++ n ∷ []) shard refused passing passed handed (due ++ d ∷ [])
+is-put shape events geometry number snapshot before numbers shard refused passing passed handed due d n waits duty at request pass part x =
     let same : parts_in shape number events (numbers ++ n ∷ []) ≡ parts_in shape number events numbers =
     of_tasks-more part_in shape number events numbers n waits duty at
     ∙ ap (λ o. parts_in shape number events numbers ++ cons_option o []) part
@@ -87,57 +87,57 @@ is-put told shape events geometry number snapshot before numbers shard refused p
           ∙ ap (λ y. A ++ (under_way passing ++ y)) (sym (filter_map-append (λ (e : Due). pass_of e.event e.duty) due (d ∷ [])));
       parts = ap (λ y. map slot_of y) same ∙ x.parts;
       comes = λ all.
-          subst (λ y. ComesFrom (parts_tell told) geometry number snapshot (taken_up before y handed) x.ops shard) (sym same)
+          subst (λ y. ComesFrom geometry number snapshot (taken_up before y handed) x.ops shard) (sym same)
           (x.comes (subst (NoneIsSilent before) same all));
     }
 
-part-on : {D : Type 0} (told : D → Telling) (geometry : Shape) (number : ℕ) (snapshot : Snapshot) (at : ℕ → ℕ → Option Telling)
-    (ops : List world.Op) (taken : Bool) (part : Part D) (back : List (Part D)) (old new : Shard (Parts D)) (p : NewPart) (h : Handed)
+part-on : {P D : Type 0} {g : Ghosts P} (told : D → Telling) (promised : D → Promise) (geometry : Shape) (number : ℕ) (snapshot : Snapshot) (at : ℕ → ℕ → Option Telling)
+    (ops : List world.Op) (taken : Bool) (part : Part D) (back : List (Part D)) (old new : Shard P g) (p : NewPart) (h : Handed)
     → p.slot ≡ part.slot → p.telling ≡ told part.device → h.generation ≡ part.generation → h.taken ≡ taken
     → ((d g : ℕ) → at d g ≢ Some None)
-    → IsPartTaken taken told part back old new
-    → ComesFrom (parts_tell told) geometry number snapshot at ops old
-    → ComesFrom (parts_tell told) geometry number snapshot (put_if at p h) ops new
-part-on {D = D} told geometry number snapshot at ops true part back old new p h slot telling generation is none taken comes =
+    → IsPartTaken taken told promised part back old new
+    → ComesFrom geometry number snapshot at ops old
+    → ComesFrom geometry number snapshot (put_if at p h) ops new
+part-on {D = D} {g = g} told promised geometry number snapshot at ops true part back old new p h slot telling generation is none taken comes =
     let there : put_if at p h ≡ put_in at part.slot part.generation (Some (told part.device)) =
     ap (λ (b : Bool). if b then put_in at p.slot h.generation (Some p.telling) else at) is
     ∙ ap (λ (k : ℕ). put_in at k h.generation (Some p.telling)) slot
     ∙ ap (λ (k : ℕ). put_in at part.slot k (Some p.telling)) generation
     ∙ ap (λ (t : Telling). put_in at part.slot part.generation (Some t)) telling in
-    subst (λ y. ComesFrom (parts_tell told) geometry number snapshot y ops new) (sym there)
-    (handed_law told part taken.0 old new taken.1 geometry number snapshot at ops (none part.slot part.generation) comes)
-part-on told geometry number snapshot at ops false part back old new p h slot telling generation is none same comes =
+    subst (λ y. ComesFrom geometry number snapshot y ops new) (sym there)
+    (handed_law g told promised part taken.0 old new taken.1 geometry number snapshot at ops (none part.slot part.generation) comes)
+part-on told promised geometry number snapshot at ops false part back old new p h slot telling generation is none same comes =
     let there : put_if at p h ≡ at = ap (λ (b : Bool). if b then put_in at p.slot h.generation (Some p.telling) else at) is in
-    subst (λ y. ComesFrom (parts_tell told) geometry number snapshot y ops new) (sym there)
-    (subst (λ y. ComesFrom (parts_tell told) geometry number snapshot at ops y) (sym same.0) comes)
+    subst (λ y. ComesFrom geometry number snapshot y ops new) (sym there)
+    (subst (λ y. ComesFrom geometry number snapshot at ops y) (sym same.0) comes)
 
-pub asked-on : {D : Type 0} (told : D → Telling) (taken : Bool) (part : Part D) (back : List (Part D)) (old new : Shard (Parts D))
-    → IsPartTaken taken told part back old new → new.asked.items ≡ old.asked.items
-asked-on told true part back old new taken = taken.1.ledger.asked
-asked-on told false part back old new same = ap (λ (y : Shard _). y.asked.items) same.0
+pub asked-on : {P D : Type 0} {g : Ghosts P} (told : D → Telling) (promised : D → Promise) (taken : Bool) (part : Part D) (back : List (Part D)) (old new : Shard P g)
+    → IsPartTaken taken told promised part back old new → new.asked.items ≡ old.asked.items
+asked-on told promised true part back old new taken = taken.1.ledger.asked
+asked-on told promised false part back old new same = ap (λ (y : Shard _ _). y.asked.items) same.0
 
-pub core-on : {D : Type 0} (told : D → Telling) (taken : Bool) (part : Part D) (back : List (Part D)) (old new : Shard (Parts D))
-    → IsPartTaken taken told part back old new → new.core ≡ old.core
-core-on told true part back old new taken = taken.1.core
-core-on told false part back old new same = ap (λ (y : Shard _). y.core) same.0
+pub core-on : {P D : Type 0} {g : Ghosts P} (told : D → Telling) (promised : D → Promise) (taken : Bool) (part : Part D) (back : List (Part D)) (old new : Shard P g)
+    → IsPartTaken taken told promised part back old new → new.core ≡ old.core
+core-on told promised true part back old new taken = taken.1.core
+core-on told promised false part back old new same = ap (λ (y : Shard _ _). y.core) same.0
 
-pub is-handed : {D : Type 0} (told : D → Telling) (shape : Shape) (events : List Event) (geometry : Shape) (number : ℕ) (snapshot : Snapshot)
-    (before : ℕ → ℕ → Option Telling) (numbers : List ℕ) (shard shard' : Shard (Parts D)) (refused : List (ℕ × Refusal))
+pub is-handed : {P D : Type 0} {g : Ghosts P} (told : D → Telling) (promised : D → Promise) (shape : Shape) (events : List Event) (geometry : Shape) (number : ℕ) (snapshot : Snapshot)
+    (before : ℕ → ℕ → Option Telling) (numbers : List ℕ) (shard shard' : Shard P g) (refused : List (ℕ × Refusal))
     (passing : Option Passing) (passed : List Passed) (handed : List Handed) (due : List Due)
     (n waits : ℕ) (part : Part D) (taken : Bool) (back : List (Part D))
     → task_at shape number events n ≡ Some (task n waits (Takes_up part.slot (told part.device)))
-    → IsPartTaken taken told part back shard shard'
-    → IsDone told shape events geometry number snapshot before numbers shard refused passing passed handed due
-    → IsDone told shape events geometry number snapshot before (numbers ++ n ∷ []) shard' refused passing passed
+    → IsPartTaken taken told promised part back shard shard'
+    → IsDone shape events geometry number snapshot before numbers shard refused passing passed handed due
+    → IsDone shape events geometry number snapshot before (numbers ++ n ∷ []) shard' refused passing passed
     (handed ++ record { event = n; slot = part.slot; generation = part.generation; taken = taken } ∷ []) due
-is-handed told shape events geometry number snapshot before numbers shard shard' refused passing passed handed due n waits part taken back at into x =
+is-handed told promised shape events geometry number snapshot before numbers shard shard' refused passing passed handed due n waits part taken back at into x =
     let duty : Duty = Takes_up part.slot (told part.device) in
     let p : NewPart = record { event = n; slot = part.slot; telling = told part.device } in
     let h : Handed = record { event = n; slot = part.slot; generation = part.generation; taken = taken } in
     let ps : List NewPart = parts_in shape number events numbers in
     let more : parts_in shape number events (numbers ++ n ∷ []) ≡ ps ++ p ∷ [] =
     of_tasks-more part_in shape number events numbers n waits duty at in
-    let core : shard'.core ≡ shard.core = core-on told taken part back shard shard' into in
+    let core : shard'.core ≡ shard.core = core-on told promised taken part back shard shard' into in
     let long : length ps ≡ length handed =
     sym (length-map ps slot_of) ∙ ap length x.parts ∙ length-map handed handed_of in
     record {
@@ -147,7 +147,7 @@ is-handed told shape events geometry number snapshot before numbers shard shard'
       ops = x.ops;
       requests = of_tasks-more request_in shape number events numbers n waits duty at
           ∙ append-nil (requests_in shape number events numbers) ∙ x.requests;
-      served = subst (λ y. AreServed shard'.core x.begun y x.ops refused) (sym (asked-on told taken part back shard shard' into))
+      served = subst (λ y. AreServed shard'.core x.begun y x.ops refused) (sym (asked-on told promised taken part back shard shard' into))
           (subst (λ y. AreServed y x.begun shard.asked.items x.ops refused) (sym core) x.served);
       passes = of_tasks-more pass_in shape number events numbers n waits duty at
           ∙ append-nil (passes_in shape number events numbers) ∙ x.passes;
@@ -157,24 +157,24 @@ is-handed told shape events geometry number snapshot before numbers shard shard'
           ∙ sym (map-append handed_of handed (h ∷ []));
       comes = λ all.
           let told-all = tell-less before ps p (subst (NoneIsSilent before) more all) in
-          subst (λ y. ComesFrom (parts_tell told) geometry number snapshot (taken_up before y (handed ++ h ∷ [])) x.ops shard') (sym more)
-          (subst (λ y. ComesFrom (parts_tell told) geometry number snapshot y x.ops shard') (sym (taken_up-more before ps handed p h long))
-          (part-on told geometry number snapshot (taken_up before ps handed) x.ops taken part back shard shard' p h refl refl refl refl
+          subst (λ y. ComesFrom geometry number snapshot (taken_up before y (handed ++ h ∷ [])) x.ops shard') (sym more)
+          (subst (λ y. ComesFrom geometry number snapshot y x.ops shard') (sym (taken_up-more before ps handed p h long))
+          (part-on told promised geometry number snapshot (taken_up before ps handed) x.ops taken part back shard shard' p h refl refl refl refl
           (none-silent before ps handed told-all.0) into (x.comes told-all.0)));
     }
 
 -- ---- what was due begins
 
 -- a request begins
-pub has-begun : {D : Type 0} (told : D → Telling) (shape : Shape) (events : List Event) (geometry : Shape) (number : ℕ) (snapshot : Snapshot)
-    (before : ℕ → ℕ → Option Telling) (numbers : List ℕ) (shard shard' : Shard (Parts D)) (refused refused' : List (ℕ × Refusal))
+pub has-begun : {P : Type 0} {g : Ghosts P} (shape : Shape) (events : List Event) (geometry : Shape) (number : ℕ) (snapshot : Snapshot)
+    (before : ℕ → ℕ → Option Telling) (numbers : List ℕ) (shard shard' : Shard P g) (refused refused' : List (ℕ × Refusal))
     (passing : Option Passing) (passed : List Passed) (handed : List Handed) (d : Due) (due : List Due)
     (event : ℕ) (op : Op)
     → request_of d.event d.duty ≡ Some (record { event = event; op = op }) → pass_of d.event d.duty ≡ None
-    → IsOutcome told event op shard shard' refused refused'
-    → IsDone told shape events geometry number snapshot before numbers shard refused passing passed handed (d ∷ due)
-    → IsDone told shape events geometry number snapshot before numbers shard' refused' passing passed handed due
-has-begun told shape events geometry number snapshot before numbers shard shard' refused refused' passing passed handed d due event op request pass outcome x =
+    → IsOutcome event op shard shard' refused refused'
+    → IsDone shape events geometry number snapshot before numbers shard refused passing passed handed (d ∷ due)
+    → IsDone shape events geometry number snapshot before numbers shard' refused' passing passed handed due
+has-begun shape events geometry number snapshot before numbers shard shard' refused refused' passing passed handed d due event op request pass outcome x =
     let asking : Asking = record { event = event; op = op } in
     let begun = x.begun ++ asking ∷ [] in
     let all : requests_in shape number events numbers ≡ begun ++ due_requests due =
@@ -202,29 +202,29 @@ has-begun told shape events geometry number snapshot before numbers shard shard'
                 p.1.course (start_of geometry number snapshot device array) x.ops (x.comes tell device array lawful hold);
           }
       | inr p ↦ record {
-        shape_is = ap (λ (y : Shard _). y.core.shape) p.1 ∙ x.shape_is;
-        place = ap (λ (y : Shard _). y.core.shard) p.1 ∙ x.place;
+        shape_is = ap (λ (y : Shard _ _). y.core.shape) p.1 ∙ x.shape_is;
+        place = ap (λ (y : Shard _ _). y.core.shard) p.1 ∙ x.place;
         begun = begun;
         ops = x.ops;
         requests = all;
-        served = subst (λ (y : Shard _). AreServed y.core begun y.asked.items x.ops refused') (sym p.1)
+        served = subst (λ (y : Shard _ _). AreServed y.core begun y.asked.items x.ops refused') (sym p.1)
             (subst (AreServed shard.core begun shard.asked.items x.ops) (sym p.3)
             (one-refused shard.core x.begun asking shard.asked.items x.ops refused p.0 p.2 x.served));
         passes = passes;
         parts = x.parts;
-        comes = λ tell. subst (ComesFrom (parts_tell told) geometry number snapshot (taken_up before (parts_in shape number events numbers) handed) x.ops)
+        comes = λ tell. subst (ComesFrom geometry number snapshot (taken_up before (parts_in shape number events numbers) handed) x.ops)
             (sym p.1) (x.comes tell);
       }
     ]
 
 -- a check or repair begins
-pub has-passing : {D : Type 0} (told : D → Telling) (shape : Shape) (events : List Event) (geometry : Shape) (number : ℕ) (snapshot : Snapshot)
-    (before : ℕ → ℕ → Option Telling) (numbers : List ℕ) (shard : Shard (Parts D)) (refused : List (ℕ × Refusal))
+pub has-passing : {P : Type 0} {g : Ghosts P} (shape : Shape) (events : List Event) (geometry : Shape) (number : ℕ) (snapshot : Snapshot)
+    (before : ℕ → ℕ → Option Telling) (numbers : List ℕ) (shard : Shard P g) (refused : List (ℕ × Refusal))
     (passed : List Passed) (handed : List Handed) (d : Due) (due : List Due) (p : Passing)
     → request_of d.event d.duty ≡ None → pass_of d.event d.duty ≡ Some (p.event, p.task)
-    → IsDone told shape events geometry number snapshot before numbers shard refused None passed handed (d ∷ due)
-    → IsDone told shape events geometry number snapshot before numbers shard refused (Some p) passed handed due
-has-passing told shape events geometry number snapshot before numbers shard refused passed handed d due p request pass x =
+    → IsDone shape events geometry number snapshot before numbers shard refused None passed handed (d ∷ due)
+    → IsDone shape events geometry number snapshot before numbers shard refused (Some p) passed handed due
+has-passing shape events geometry number snapshot before numbers shard refused passed handed d due p request pass x =
     record {
       shape_is = x.shape_is;
       place = x.place;
@@ -240,13 +240,13 @@ has-passing told shape events geometry number snapshot before numbers shard refu
 -- ---- what is under way goes on
 
 -- it goes on
-pub same-passing : {D : Type 0} (told : D → Telling) (shape : Shape) (events : List Event) (geometry : Shape) (number : ℕ) (snapshot : Snapshot)
-    (before : ℕ → ℕ → Option Telling) (numbers : List ℕ) (shard : Shard (Parts D)) (refused : List (ℕ × Refusal))
+pub same-passing : {P : Type 0} {g : Ghosts P} (shape : Shape) (events : List Event) (geometry : Shape) (number : ℕ) (snapshot : Snapshot)
+    (before : ℕ → ℕ → Option Telling) (numbers : List ℕ) (shard : Shard P g) (refused : List (ℕ × Refusal))
     (passing passing' : Passing) (passed : List Passed) (handed : List Handed) (due : List Due)
     → passing'.event ≡ passing.event → passing'.task ≡ passing.task
-    → IsDone told shape events geometry number snapshot before numbers shard refused (Some passing) passed handed due
-    → IsDone told shape events geometry number snapshot before numbers shard refused (Some passing') passed handed due
-same-passing told shape events geometry number snapshot before numbers shard refused passing passing' passed handed due event task x =
+    → IsDone shape events geometry number snapshot before numbers shard refused (Some passing) passed handed due
+    → IsDone shape events geometry number snapshot before numbers shard refused (Some passing') passed handed due
+same-passing shape events geometry number snapshot before numbers shard refused passing passing' passed handed due event task x =
     record {
       shape_is = x.shape_is;
       place = x.place;
@@ -262,13 +262,13 @@ same-passing told shape events geometry number snapshot before numbers shard ref
     }
 
 -- it is over
-has-ended : {D : Type 0} (told : D → Telling) (shape : Shape) (events : List Event) (geometry : Shape) (number : ℕ) (snapshot : Snapshot)
-    (before : ℕ → ℕ → Option Telling) (numbers : List ℕ) (shard : Shard (Parts D)) (refused : List (ℕ × Refusal))
+has-ended : {P : Type 0} {g : Ghosts P} (shape : Shape) (events : List Event) (geometry : Shape) (number : ℕ) (snapshot : Snapshot)
+    (before : ℕ → ℕ → Option Telling) (numbers : List ℕ) (shard : Shard P g) (refused : List (ℕ × Refusal))
     (passing : Passing) (passed : List Passed) (last : Passed) (handed : List Handed) (due : List Due)
     → last.event ≡ passing.event → last.task ≡ passing.task
-    → IsDone told shape events geometry number snapshot before numbers shard refused (Some passing) passed handed due
-    → IsDone told shape events geometry number snapshot before numbers shard refused None (passed ++ last ∷ []) handed due
-has-ended told shape events geometry number snapshot before numbers shard refused passing passed last handed due event task x =
+    → IsDone shape events geometry number snapshot before numbers shard refused (Some passing) passed handed due
+    → IsDone shape events geometry number snapshot before numbers shard refused None (passed ++ last ∷ []) handed due
+has-ended shape events geometry number snapshot before numbers shard refused passing passed last handed due event task x =
     let A = map passed_of passed in
     record {
       shape_is = x.shape_is;
@@ -287,13 +287,13 @@ has-ended told shape events geometry number snapshot before numbers shard refuse
     }
 
 -- the shard goes on
-pub has-gone : {D : Type 0} (told : D → Telling) (shape : Shape) (events : List Event) (geometry : Shape) (number : ℕ) (snapshot : Snapshot)
-    (before : ℕ → ℕ → Option Telling) (numbers : List ℕ) (shard shard' : Shard (Parts D)) (refused : List (ℕ × Refusal))
+pub has-gone : {P : Type 0} {g : Ghosts P} (shape : Shape) (events : List Event) (geometry : Shape) (number : ℕ) (snapshot : Snapshot)
+    (before : ℕ → ℕ → Option Telling) (numbers : List ℕ) (shard shard' : Shard P g) (refused : List (ℕ × Refusal))
     (passing : Option Passing) (passed : List Passed) (handed : List Handed) (due : List Due)
-    → shards.GoesOn (parts_tell told) shard shard' → Lasts shard.core shard'.core → shard'.asked.items ≡ shard.asked.items
-    → IsDone told shape events geometry number snapshot before numbers shard refused passing passed handed due
-    → IsDone told shape events geometry number snapshot before numbers shard' refused passing passed handed due
-has-gone told shape events geometry number snapshot before numbers shard shard' refused passing passed handed due goes lasts asked x =
+    → shards.GoesOn shard shard' → Lasts shard.core shard'.core → shard'.asked.items ≡ shard.asked.items
+    → IsDone shape events geometry number snapshot before numbers shard refused passing passed handed due
+    → IsDone shape events geometry number snapshot before numbers shard' refused passing passed handed due
+has-gone shape events geometry number snapshot before numbers shard shard' refused passing passed handed due goes lasts asked x =
     record {
       shape_is = lasts.same.0 ∙ x.shape_is;
       place = lasts.same.1 ∙ x.place;
@@ -310,12 +310,12 @@ has-gone told shape events geometry number snapshot before numbers shard shard' 
 
 -- ---- at the start
 
-pub is-first : {D : Type 0} (told : D → Telling) (shape : Shape) (events : List Event) (geometry : Shape) (number : ℕ) (snapshot : Snapshot)
-    (parts : Parts D) (shard : Shard (Parts D)) → shard.parts ≡ parts → shard.asked.items ≡ []
+pub is-first : {P : Type 0} {g : Ghosts P} (shape : Shape) (events : List Event) (geometry : Shape) (number : ℕ) (snapshot : Snapshot)
+    (parts : P) (shard : Shard P g) → shard.parts ≡ parts → shard.asked.items ≡ []
     → shard.core.shape ≡ geometry → shard.core.shard ≡ number
-    → shards.Begins (parts_tell told) geometry number snapshot shard
-    → IsDone told shape events geometry number snapshot (parts_tell told parts) [] shard [] None [] [] []
-is-first told shape events geometry number snapshot parts shard same none shape_is place begins =
+    → shards.Begins geometry number snapshot shard
+    → IsDone shape events geometry number snapshot (g.performer parts).tells [] shard [] None [] [] []
+is-first {g = g} shape events geometry number snapshot parts shard same none shape_is place begins =
     record {
       shape_is = shape_is;
       place = place;
@@ -326,78 +326,78 @@ is-first told shape events geometry number snapshot parts shard same none shape_
       passes = refl;
       parts = refl;
       comes = λ tell.
-          subst (λ y. ComesFrom (parts_tell told) geometry number snapshot (parts_tell told y) [] shard) same begins;
+          subst (λ y. ComesFrom geometry number snapshot (g.performer y).tells [] shard) same begins;
     }
 
 -- ---- as calls do it
 
-pub put-on : {D : Type 0} (told : D → Telling) (shape : Shape) (events : List Event) (geometry : Shape) (number : ℕ) (snapshot : Snapshot)
-    (before : ℕ → ℕ → Option Telling) (numbers : List ℕ) (old new : Runner D)
+pub put-on : {P D : Type 0} {g : Ghosts P} (shape : Shape) (events : List Event) (geometry : Shape) (number : ℕ) (snapshot : Snapshot)
+    (before : ℕ → ℕ → Option Telling) (numbers : List ℕ) (old new : Runner P D g)
     (d : Due) (n waits : ℕ) (duty : Duty) → task_at shape number events n ≡ Some (task n waits duty)
     → request_in n duty ≡ request_of d.event d.duty → pass_in n duty ≡ pass_of d.event d.duty → part_in n duty ≡ None
     → IsPut d old new
-    → HasDone told shape events geometry number snapshot before numbers old
-    → HasDone told shape events geometry number snapshot before (numbers ++ n ∷ []) new
-put-on told shape events geometry number snapshot before numbers old new d n waits duty at request pass part h x =
-    is-like told shape events geometry number snapshot before (numbers ++ n ∷ []) old.shard new.shard old.refused.items new.refused.items
+    → HasDone shape events geometry number snapshot before numbers old
+    → HasDone shape events geometry number snapshot before (numbers ++ n ∷ []) new
+put-on shape events geometry number snapshot before numbers old new d n waits duty at request pass part h x =
+    is-like shape events geometry number snapshot before (numbers ++ n ∷ []) old.shard new.shard old.refused.items new.refused.items
     old.passing new.passing old.passed.items new.passed.items old.handed.items new.handed.items (old.due.items ++ d ∷ []) new.due.items
     h.shard h.refused h.passing h.passed h.handed h.due_is
-    (is-put told shape events geometry number snapshot before numbers old.shard old.refused.items old.passing old.passed.items old.handed.items
+    (is-put shape events geometry number snapshot before numbers old.shard old.refused.items old.passing old.passed.items old.handed.items
     old.due.items d n waits duty at request pass part x)
 
-pub handed-on : {D : Type 0} (told : D → Telling) (shape : Shape) (events : List Event) (geometry : Shape) (number : ℕ) (snapshot : Snapshot)
-    (before : ℕ → ℕ → Option Telling) (numbers : List ℕ) (old new : Runner D) (n waits : ℕ) (part : Part D)
+pub handed-on : {P D : Type 0} {g : Ghosts P} (told : D → Telling) (promised : D → Promise) (shape : Shape) (events : List Event) (geometry : Shape) (number : ℕ) (snapshot : Snapshot)
+    (before : ℕ → ℕ → Option Telling) (numbers : List ℕ) (old new : Runner P D g) (n waits : ℕ) (part : Part D)
     → task_at shape number events n ≡ Some (task n waits (Takes_up part.slot (told part.device)))
-    → IsHandedIn told n part old new
-    → HasDone told shape events geometry number snapshot before numbers old
-    → HasDone told shape events geometry number snapshot before (numbers ++ n ∷ []) new
-handed-on told shape events geometry number snapshot before numbers old new n waits part at h x =
+    → IsHandedIn told promised n part old new
+    → HasDone shape events geometry number snapshot before numbers old
+    → HasDone shape events geometry number snapshot before (numbers ++ n ∷ []) new
+handed-on told promised shape events geometry number snapshot before numbers old new n waits part at h x =
     let more : List Handed = old.handed.items ++ record { event = n; slot = part.slot; generation = part.generation; taken = h.taken } ∷ [] in
-    is-like told shape events geometry number snapshot before (numbers ++ n ∷ []) new.shard new.shard old.refused.items new.refused.items
+    is-like shape events geometry number snapshot before (numbers ++ n ∷ []) new.shard new.shard old.refused.items new.refused.items
     old.passing new.passing old.passed.items new.passed.items more new.handed.items old.due.items new.due.items
     refl h.refused h.passing h.passed h.handed h.due
-    (is-handed told shape events geometry number snapshot before numbers old.shard new.shard old.refused.items old.passing old.passed.items
+    (is-handed told promised shape events geometry number snapshot before numbers old.shard new.shard old.refused.items old.passing old.passed.items
     old.handed.items old.due.items n waits part h.taken h.back at h.shard x)
 
-pub served-on : {D : Type 0} (told : D → Telling) (shape : Shape) (events : List Event) (geometry : Shape) (number : ℕ) (snapshot : Snapshot)
-    (before : ℕ → ℕ → Option Telling) (numbers : List ℕ) (old new : Runner D) (d : Due) (due : List Due) (event : ℕ) (op : Op)
+pub served-on : {P D : Type 0} {g : Ghosts P} (shape : Shape) (events : List Event) (geometry : Shape) (number : ℕ) (snapshot : Snapshot)
+    (before : ℕ → ℕ → Option Telling) (numbers : List ℕ) (old new : Runner P D g) (d : Due) (due : List Due) (event : ℕ) (op : Op)
     → request_of d.event d.duty ≡ Some (record { event = event; op = op }) → pass_of d.event d.duty ≡ None
     → new.due.items ≡ due → new.passing ≡ old.passing → new.passed.items ≡ old.passed.items → new.handed.items ≡ old.handed.items
-    → IsOutcome told event op old.shard new.shard old.refused.items new.refused.items
+    → IsOutcome event op old.shard new.shard old.refused.items new.refused.items
     → old.due.items ≡ d ∷ due
-    → HasDone told shape events geometry number snapshot before numbers old
-    → HasDone told shape events geometry number snapshot before numbers new
-served-on told shape events geometry number snapshot before numbers old new d due event op request pass e5 e2 e3 e4 outcome first x =
-    is-like told shape events geometry number snapshot before numbers new.shard new.shard new.refused.items new.refused.items
+    → HasDone shape events geometry number snapshot before numbers old
+    → HasDone shape events geometry number snapshot before numbers new
+served-on shape events geometry number snapshot before numbers old new d due event op request pass e5 e2 e3 e4 outcome first x =
+    is-like shape events geometry number snapshot before numbers new.shard new.shard new.refused.items new.refused.items
     old.passing new.passing old.passed.items new.passed.items old.handed.items new.handed.items due new.due.items refl refl e2 e3 e4 e5
-    (has-begun told shape events geometry number snapshot before numbers old.shard new.shard old.refused.items new.refused.items old.passing
+    (has-begun shape events geometry number snapshot before numbers old.shard new.shard old.refused.items new.refused.items old.passing
     old.passed.items old.handed.items d due event op request pass outcome
-    (subst (λ y. IsDone told shape events geometry number snapshot before numbers old.shard old.refused.items old.passing old.passed.items old.handed.items y)
+    (subst (λ y. IsDone shape events geometry number snapshot before numbers old.shard old.refused.items old.passing old.passed.items old.handed.items y)
     first x))
 
 -- a check or repair that was due began
-pub passing-on : {D : Type 0} (told : D → Telling) (shape : Shape) (events : List Event) (geometry : Shape) (number : ℕ) (snapshot : Snapshot)
-    (before : ℕ → ℕ → Option Telling) (numbers : List ℕ) (old mid new : Runner D) (d : Due) (due : List Due) (task : Pass)
+pub passing-on : {P D : Type 0} {g : Ghosts P} (shape : Shape) (events : List Event) (geometry : Shape) (number : ℕ) (snapshot : Snapshot)
+    (before : ℕ → ℕ → Option Telling) (numbers : List ℕ) (old mid new : Runner P D g) (d : Due) (due : List Due) (task : Pass)
     → request_of d.event d.duty ≡ None → pass_of d.event d.duty ≡ Some (d.event, task) → IsPassing d.event task mid new
     → old.passing ≡ None → mid.shard ≡ old.shard → mid.refused.items ≡ old.refused.items → mid.passed.items ≡ old.passed.items
     → mid.handed.items ≡ old.handed.items → mid.due.items ≡ due → old.due.items ≡ d ∷ due
-    → HasDone told shape events geometry number snapshot before numbers old
-    → HasDone told shape events geometry number snapshot before numbers new
-passing-on told shape events geometry number snapshot before numbers old mid new d due task request pass h none e1 e2 e3 e4 e5 first x =
-    is-like told shape events geometry number snapshot before numbers old.shard new.shard old.refused.items new.refused.items
+    → HasDone shape events geometry number snapshot before numbers old
+    → HasDone shape events geometry number snapshot before numbers new
+passing-on shape events geometry number snapshot before numbers old mid new d due task request pass h none e1 e2 e3 e4 e5 first x =
+    is-like shape events geometry number snapshot before numbers old.shard new.shard old.refused.items new.refused.items
     (Some h.passing) new.passing old.passed.items new.passed.items old.handed.items new.handed.items due new.due.items
     (h.shard ∙ e1) (h.refused ∙ e2) h.under_way (h.passed ∙ e3) (h.handed ∙ e4) (h.due ∙ e5)
-    (has-passing told shape events geometry number snapshot before numbers old.shard old.refused.items old.passed.items old.handed.items
+    (has-passing shape events geometry number snapshot before numbers old.shard old.refused.items old.passed.items old.handed.items
     d due h.passing request (pass ∙ (λ i. Some (sym h.event_is i, sym h.task_is i)))
-    (subst (λ y. IsDone told shape events geometry number snapshot before numbers old.shard old.refused.items y old.passed.items old.handed.items (d ∷ due))
+    (subst (λ y. IsDone shape events geometry number snapshot before numbers old.shard old.refused.items y old.passed.items old.handed.items (d ∷ due))
     none
-    (subst (λ y. IsDone told shape events geometry number snapshot before numbers old.shard old.refused.items old.passing old.passed.items old.handed.items y)
+    (subst (λ y. IsDone shape events geometry number snapshot before numbers old.shard old.refused.items old.passing old.passed.items old.handed.items y)
     first x)))
 
 -- ---- one call after another
 
-pub shard-on : {D : Type 0} (told : D → Telling) (a b c : Runner D) → ShardGoesOn told a b → ShardGoesOn told b c → ShardGoesOn told a c
-shard-on told a b c x y =
+pub shard-on : {P D : Type 0} {g : Ghosts P} (a b c : Runner P D g) → ShardGoesOn a b → ShardGoesOn b c → ShardGoesOn a c
+shard-on a b c x y =
     record {
       course = λ s ops h. y.course s ops (x.course s ops h);
       lasts = lasts_on a.shard.core b.shard.core c.shard.core x.lasts y.lasts;
@@ -415,44 +415,44 @@ shard-on told a b c x y =
       };
     }
 
-pub self-on : {D : Type 0} (a b c : Runner D) → KeepsSelf a b → KeepsSelf b c → KeepsSelf a c
+pub self-on : {P D : Type 0} {g : Ghosts P} (a b c : Runner P D g) → KeepsSelf a b → KeepsSelf b c → KeepsSelf a c
 self-on a b c x y = record { pass = y.pass ∙ x.pass; place = y.place ∙ x.place; room = y.room ∙ x.room }
 
 -- a check or repair goes on with the shard
-pub gone-passing : {D : Type 0} (told : D → Telling) (shape : Shape) (events : List Event) (geometry : Shape) (number : ℕ) (snapshot : Snapshot)
-    (before : ℕ → ℕ → Option Telling) (numbers : List ℕ) (old mid : Runner D) (passing passing' : Passing)
-    → old.passing ≡ Some passing → ShardGoesOn told old mid → passing'.event ≡ passing.event → passing'.task ≡ passing.task
-    → HasDone told shape events geometry number snapshot before numbers old
-    → IsDone told shape events geometry number snapshot before numbers mid.shard mid.refused.items (Some passing') mid.passed.items mid.handed.items
+pub gone-passing : {P D : Type 0} {g : Ghosts P} (shape : Shape) (events : List Event) (geometry : Shape) (number : ℕ) (snapshot : Snapshot)
+    (before : ℕ → ℕ → Option Telling) (numbers : List ℕ) (old mid : Runner P D g) (passing passing' : Passing)
+    → old.passing ≡ Some passing → ShardGoesOn old mid → passing'.event ≡ passing.event → passing'.task ≡ passing.task
+    → HasDone shape events geometry number snapshot before numbers old
+    → IsDone shape events geometry number snapshot before numbers mid.shard mid.refused.items (Some passing') mid.passed.items mid.handed.items
     mid.due.items
-gone-passing told shape events geometry number snapshot before numbers old mid passing passing' is h event task x =
-    same-passing told shape events geometry number snapshot before numbers mid.shard mid.refused.items passing passing' mid.passed.items
+gone-passing shape events geometry number snapshot before numbers old mid passing passing' is h event task x =
+    same-passing shape events geometry number snapshot before numbers mid.shard mid.refused.items passing passing' mid.passed.items
     mid.handed.items mid.due.items event task
-    (is-like told shape events geometry number snapshot before numbers mid.shard mid.shard old.refused.items mid.refused.items old.passing (Some passing)
+    (is-like shape events geometry number snapshot before numbers mid.shard mid.shard old.refused.items mid.refused.items old.passing (Some passing)
     old.passed.items mid.passed.items old.handed.items mid.handed.items old.due.items mid.due.items refl
     h.refused (sym is) h.kept.passed h.kept.handed h.kept.due
-    (has-gone told shape events geometry number snapshot before numbers old.shard mid.shard old.refused.items old.passing old.passed.items
+    (has-gone shape events geometry number snapshot before numbers old.shard mid.shard old.refused.items old.passing old.passed.items
     old.handed.items old.due.items h.course h.lasts h.asked x))
 
 -- a check or repair is over
-pub gone-over : {D : Type 0} (told : D → Telling) (shape : Shape) (events : List Event) (geometry : Shape) (number : ℕ) (snapshot : Snapshot)
-    (before : ℕ → ℕ → Option Telling) (numbers : List ℕ) (old : Runner D) (passing : Passing) (passed : List Passed) (last : Passed)
+pub gone-over : {P D : Type 0} {g : Ghosts P} (shape : Shape) (events : List Event) (geometry : Shape) (number : ℕ) (snapshot : Snapshot)
+    (before : ℕ → ℕ → Option Telling) (numbers : List ℕ) (old : Runner P D g) (passing : Passing) (passed : List Passed) (last : Passed)
     → old.passing ≡ Some passing → passed ≡ old.passed.items ++ last ∷ [] → last.event ≡ passing.event → last.task ≡ passing.task
-    → HasDone told shape events geometry number snapshot before numbers old
-    → IsDone told shape events geometry number snapshot before numbers old.shard old.refused.items None passed old.handed.items old.due.items
-gone-over told shape events geometry number snapshot before numbers old passing passed last is more event task x =
-    subst (λ y. IsDone told shape events geometry number snapshot before numbers old.shard old.refused.items None y old.handed.items old.due.items)
+    → HasDone shape events geometry number snapshot before numbers old
+    → IsDone shape events geometry number snapshot before numbers old.shard old.refused.items None passed old.handed.items old.due.items
+gone-over shape events geometry number snapshot before numbers old passing passed last is more event task x =
+    subst (λ y. IsDone shape events geometry number snapshot before numbers old.shard old.refused.items None y old.handed.items old.due.items)
     (sym more)
-    (has-ended told shape events geometry number snapshot before numbers old.shard old.refused.items passing old.passed.items last
+    (has-ended shape events geometry number snapshot before numbers old.shard old.refused.items passing old.passed.items last
     old.handed.items old.due.items event task
-    (subst (λ y. IsDone told shape events geometry number snapshot before numbers old.shard old.refused.items y old.passed.items old.handed.items old.due.items)
+    (subst (λ y. IsDone shape events geometry number snapshot before numbers old.shard old.refused.items y old.passed.items old.handed.items old.due.items)
     is x))
 
 -- of one shard, one taking behind another
-pub goes-then : {D : Type 0} (told : D → Telling) (shape : Shape) (events : List Event) (number number' : ℕ) (a b c : List ℕ) (r s t : Runner D)
-    → number' ≡ number → GoesOn told shape events number a b r s → GoesOn told shape events number' b c s t
-    → GoesOn told shape events number a c r t
-goes-then told shape events number number' a b c r s t same x y = λ geometry snapshot before h.
-    subst (λ (n : ℕ). HasDone told shape events geometry n snapshot before c t) same
-    (y geometry snapshot before (subst (λ (n : ℕ). HasDone told shape events geometry n snapshot before b s) (sym same)
+pub goes-then : {P D : Type 0} {g : Ghosts P} (shape : Shape) (events : List Event) (number number' : ℕ) (a b c : List ℕ) (r s t : Runner P D g)
+    → number' ≡ number → GoesOn shape events number a b r s → GoesOn shape events number' b c s t
+    → GoesOn shape events number a c r t
+goes-then shape events number number' a b c r s t same x y = λ geometry snapshot before h.
+    subst (λ (n : ℕ). HasDone shape events geometry n snapshot before c t) same
+    (y geometry snapshot before (subst (λ (n : ℕ). HasDone shape events geometry n snapshot before b s) (sym same)
     (x geometry snapshot before h)))

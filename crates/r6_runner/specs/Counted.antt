@@ -7,6 +7,7 @@ use Rattle.r6_core.specs.declared.counts.Counts.{Counts}
 use Rattle.r6_core.specs.Shards.{CoreView, counts_of, world_shard}
 use Rattle.r6_shard.specs.Counted.{HasPassedRows, IsInService, PassesMore, counted_in, rows_of}
 use Rattle.r6_shard.specs.Refusing.{CountsRise, Lasts}
+use Rattle.r6_shard.specs.declared.performs.Performs.{Ghosts}
 use Rattle.r6_runner.specs.declared.pass.Passing.{Passing}
 use Rattle.r6_runner.specs.declared.pass.Passed.{Passed}
 use Rattle.r6_runner.specs.declared.runner.Runner.{Runner}
@@ -71,40 +72,24 @@ abbrev pub StandsAt : (rows gone : ℕ) → CoreView → List Passed → Option 
 StandsAt rows gone core passed None = AddUp rows 0 passed gone
 StandsAt rows gone core passed (Some p) = AddUp rows 0 passed (rows_in p.before) × IsUnderWay rows gone core p
 
--- so many rows were gone over, and so many of them are counted, or more
+-- so many rows were gone over, and so many of them are counted, or more: all, unless a check or repair is under way
 pub record IsCounting (rows counted gone : ℕ) (core : CoreView) (passing : Option Passing) (passed : List Passed)
     : Type 0 where
   pub passes : HasPassedRows false counted gone core
+  pub all : passing ≡ None → counted ≡ gone
   pub stands : IsInService core → StandsAt rows gone core passed passing
   pub whole : IsInService core → All (LeavesNoneOut core) passed
   pub within : AreWithin rows core passing
   pub classed : AreClassed rows passed
 
-abbrev pub HasCounted : {D : Type 0} → (rows : ℕ) → Runner D → Type 0
+abbrev pub HasCounted : {P D : Type 0} {g : Ghosts P} → (rows : ℕ) → Runner P D g → Type 0
 HasCounted rows runner =
     (runner.rows ≡ rows)
     × (counted gone : ℕ) × IsCounting rows counted gone runner.shard.core runner.passing runner.passed.items
 
--- all of them are counted
-abbrev pub HasCountedAll : {D : Type 0} → (rows : ℕ) → Runner D → Type 0
-HasCountedAll rows runner =
-    (runner.rows ≡ rows)
-    × (gone : ℕ) × IsCounting rows gone gone runner.shard.core runner.passing runner.passed.items
-
 -- whatever was counted before, it was counted on
-abbrev pub KeepsCounted : {D : Type 0} → (old new : Runner D) → Type 0
+abbrev pub KeepsCounted : {P D : Type 0} {g : Ghosts P} → (old new : Runner P D g) → Type 0
 KeepsCounted old new = (rows : ℕ) → HasCounted rows old → HasCounted rows new
-
-abbrev pub StaysCounted : {D : Type 0} → (old new : Runner D) → Type 0
-StaysCounted old new = (rows : ℕ) → HasCountedAll rows old → HasCountedAll rows new
-
--- a round counts all that was gone over
-abbrev pub CountsAll : {D : Type 0} → (old new : Runner D) → Type 0
-CountsAll old new = (rows : ℕ) → HasCounted rows old → HasCountedAll rows new
-
--- more rows are gone over
-abbrev pub CountsOn : {D : Type 0} → (old new : Runner D) → Type 0
-CountsOn old new = (rows : ℕ) → HasCountedAll rows old → HasCounted rows new
 
 -- a check or repair went on: so many rows less are left to it
 pub record HasTurned (old new : Passing) (core core' : CoreView) : Type 0 where

@@ -3,6 +3,7 @@ use Rattle.std.specs.Prelude.{◌≡◌, ℕ, ◌+◌, ◌<◌, ◌≤◌, ◌�
 use Rattle.r6_lists.specs.Events.{Event, waits_before}
 use Rattle.r6_shard.specs.declared.ledger.Asked.{Asked}
 use Rattle.r6_shard.specs.Behind.{IsBehindAll}
+use Rattle.r6_shard.specs.declared.performs.Performs.{Ghosts}
 use Rattle.r6_runner.specs.declared.due.Due.{Due}
 use Rattle.r6_runner.specs.declared.runner.Runner.{Runner}
 
@@ -34,14 +35,14 @@ pub record AreAwaited (events : List Event) (waits : ℕ) (asked : List Asked) (
   pub last : IsLastBehind events waits asked
   pub known : KnowWaits events due
 
-abbrev pub HasAwaited : {D : Type 0} → List Event → Runner D → Type 0
+abbrev pub HasAwaited : {P D : Type 0} {g : Ghosts P} → List Event → Runner P D g → Type 0
 HasAwaited events runner = AreAwaited events runner.waits runner.shard.asked.items runner.due.items
 
 -- whatever the events are, it is kept so
-abbrev pub KeepsAwaited : {D : Type 0} → (old new : Runner D) → Type 0
+abbrev pub KeepsAwaited : {P D : Type 0} {g : Ghosts P} → (old new : Runner P D g) → Type 0
 KeepsAwaited old new = (events : List Event) → HasAwaited events old → HasAwaited events new
 
 -- a request behind so many waits may be handed in: no other is open, or no wait stands between it and the last
-abbrev pub MayFollow : {D : Type 0} → (waits : ℕ) → Runner D → Type 0
+abbrev pub MayFollow : {P D : Type 0} {g : Ghosts P} → (waits : ℕ) → Runner P D g → Type 0
 MayFollow waits runner =
     (length runner.shard.entries.items ≡ length runner.shard.asked.items) ⊎ (waits ≡ runner.waits)

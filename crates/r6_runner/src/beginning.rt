@@ -4,7 +4,7 @@ ghost use Rattle.std.specs.Prelude.{◌≡◌, ◌<◌, true, Some, None, slice_
 ghost use Rattle.r6_core.specs.Refusals.{most_unanswered};
 ghost use Rattle.r6_lists.specs.Events.{waits_before};
 ghost use Rattle.r6_shard.specs.Counted.{rows_of};
-ghost use Rattle.r6_runner.specs.Counted.{StaysCounted};
+ghost use Rattle.r6_runner.specs.Counted.{KeepsCounted};
 ghost use Rattle.r6_runner.specs.Parts.{KeepsParts};
 ghost use Rattle.r6_runner.specs.Runners.{GoesOnSame, IsServed, IsPassing, KeepsSelf, taken_by};
 ghost use Rattle.r6_runner.specs.Sound.{KeepsSound};
@@ -15,23 +15,27 @@ use crate::pass::Passing;
 use crate::runner::Runner;
 use r6_core::{Op, Task};
 use r6_dev::BlockDevice;
+use r6_shard::{Performs, TakesParts};
 use std::sync::Wait;
 
 // As many requests may be open at one time.
 const MOST_OPEN: usize = 256;
 
-impl<D: BlockDevice + Drop> Runner<D> {
+impl<P: Performs + Drop, D: BlockDevice + Drop> Runner<P, D>
+where
+    P: TakesParts<D>,
+{
     // A request is handed in, behind so many waits.
     fn hand_over(&mut self, event: u64, waits: u64, op: Op)
         requires room { taken_by self.old < self.old.room }
         requires few { self.old.shard.core.unanswered < most_unanswered }
         requires follows { MayFollow waits self.old }
 
-        ensures served { IsServed D.told event op self.old self.new }
+        ensures served { IsServed event op self.old self.new }
         ensures parts { KeepsParts self.old self.new }
 
-        ensures counted { StaysCounted self.old self.new }
-        ensures sound { KeepsSound D.told D.promised self.old self.new }
+        ensures counted { KeepsCounted self.old self.new }
+        ensures sound { KeepsSound self.old self.new }
         ensures place { self.new.shard.core.shard ≡ self.old.shard.core.shard }
         ensures awaited { (events : _) → waits ≡ waits_before events event
             → HasAwaited events self.old → HasAwaited events self.new }
@@ -49,8 +53,8 @@ impl<D: BlockDevice + Drop> Runner<D> {
         requires task { rows_of task ≡ 1 }
         ensures begun { IsPassing event task self.old self.new }
         ensures parts { KeepsParts self.old self.new }
-        ensures counted { StaysCounted self.old self.new }
-        ensures sound { KeepsSound D.told D.promised self.old self.new }
+        ensures counted { KeepsCounted self.old self.new }
+        ensures sound { KeepsSound self.old self.new }
         ensures awaited { KeepsAwaited self.old self.new }
     {
         self.passing = Some(Passing {
@@ -85,9 +89,9 @@ impl<D: BlockDevice + Drop> Runner<D> {
 
     // Begins what is due next, if it may begin; whether it did.
     fn begin_next(&mut self) -> bool
-        ensures course { GoesOnSame D.told self.old self.new }
-        ensures counted { StaysCounted self.old self.new }
-        ensures sound { KeepsSound D.told D.promised self.old self.new }
+        ensures course { GoesOnSame self.old self.new }
+        ensures counted { KeepsCounted self.old self.new }
+        ensures sound { KeepsSound self.old self.new }
         ensures awaited { KeepsAwaited self.old self.new }
         ensures same { KeepsSelf self.old self.new }
         ensures parts { KeepsParts self.old self.new }
@@ -110,9 +114,9 @@ impl<D: BlockDevice + Drop> Runner<D> {
 
     // Begins all that may begin.
     pub(crate) fn begin_all<R: Wait>(&mut self, rt: &R)
-        ensures course { GoesOnSame D.told self.old self.new }
-        ensures counted { StaysCounted self.old self.new }
-        ensures sound { KeepsSound D.told D.promised self.old self.new }
+        ensures course { GoesOnSame self.old self.new }
+        ensures counted { KeepsCounted self.old self.new }
+        ensures sound { KeepsSound self.old self.new }
         ensures awaited { KeepsAwaited self.old self.new }
         ensures same { KeepsSelf self.old self.new }
         ensures parts { KeepsParts self.old self.new }

@@ -1,12 +1,11 @@
 //! How a shard begins that takes from a list.
 
-ghost use Rattle.std.specs.Prelude.{◌≡◌, ◌+◌, ◌<◌, ◌≤◌, [], false, length, vec_capacity, IfOk};
+ghost use Rattle.std.specs.Prelude.{◌≡◌, ℕ, ◌+◌, ◌<◌, ◌≤◌, [], None, false, length, vec_capacity, IfOk};
 ghost use Rattle.std.specs.VecDeque.{deque_capacity};
 ghost use Rattle.r6_layout.specs.Shape.{IsShape};
 ghost use Rattle.r6_health.specs.Passes.{view_of};
 ghost use Rattle.r6_shard.specs.Beginnings.{IsFirstPass};
-ghost use Rattle.r6_shard.specs.Handing.{parts_labels, parts_tell};
-ghost use Rattle.r6_shard.specs.Sound.{StartsSound};
+ghost use Rattle.r6_shard.specs.Sound.{BeginsSound};
 ghost use Rattle.r6_runner.specs.Counted.{HasCounted, rows_of_shard};
 ghost use Rattle.r6_runner.specs.Parts.{BeginsOwn};
 ghost use Rattle.r6_runner.specs.Runners.{HasDone, taken_by};
@@ -19,7 +18,7 @@ use crate::runner::{Handed, Runner};
 use r6_core::Refusal;
 use r6_dev::BlockDevice;
 use r6_health::{Pass, Snapshot};
-use r6_shard::{Part, Parts, Place, Shard};
+use r6_shard::{Part, Performs, Place, Shard, TakesParts};
 use std::alloc::{AllocError, Global};
 use std::collections::VecDeque;
 
@@ -49,9 +48,12 @@ fn rooms_of<D: Drop>(alloc: Global, room: usize) -> Result<Rooms<D>, AllocError>
     })
 }
 
-impl<D: BlockDevice + Drop> Runner<D> {
-    /// A shard of the array as it begins, with room for so many tasks. Each may bring a part of a new device, so the
-    /// vector of the parts must have room for as many more.
+impl<P: Performs + Drop, D: BlockDevice + Drop> Runner<P, D>
+where
+    P: TakesParts<D>,
+{
+    /// A shard of the array as it begins, with room for so many tasks. Each may bring a part of a new device, so there
+    /// must be room for as many parts more.
     ///
     /// # Errors
     /// `AllocError` where there is no memory for all room.
@@ -60,30 +62,33 @@ impl<D: BlockDevice + Drop> Runner<D> {
         place: Place,
         snapshot: &Snapshot,
         pass: Pass,
-        parts: Parts<D>,
+        parts: P,
         room: usize,
-    ) -> Result<Runner<D>, AllocError>
+    ) -> Result<Runner<P, D>, AllocError>
         requires limits { IsShape place.geometry }
         requires number { place.number < place.geometry.shards }
         requires window { (1 ≤ place.window) × (place.window ≤ 8) }
-        requires parts_room { length parts.parts.items + room ≤ vec_capacity parts.parts }
+        requires parts_room { length (P.performer parts).labels + room ≤ (P.performer parts).part_room }
 
         // the register as it began
         requires no_attach { snapshot.now.attaches ≡ 0 }
         requires unfailed { snapshot.now.failed ≡ false }
         requires pass { IsFirstPass place.geometry snapshot.now (view_of pass) }
 
+        // nothing is out
+        requires holds { P.holds parts }
+        requires idle { (token : ℕ) → (P.performer parts).out token ≡ None }
+
         // what it is to do begins
         ensures begins { IfOk result (λ runner. (shape : _) (events : _)
-            → HasDone D.told shape events place.geometry place.number snapshot.now (parts_tell D.told parts)
-            [] runner) }
+            → HasDone shape events place.geometry place.number snapshot.now (P.performer parts).tells [] runner) }
         ensures counted { IfOk result (λ runner. HasCounted (rows_of_shard place.geometry place.number) runner) }
         ensures sound { IfOk result (λ runner. (slot : _)
-            → StartsSound D.promised place.geometry place.number snapshot.now slot parts.parts.items
-            → IsSoundIn D.told D.promised place.geometry place.number slot runner) }
+            → BeginsSound (P.performer parts) place.geometry place.number snapshot.now slot
+            → IsSoundIn place.geometry place.number slot runner) }
         ensures awaited { IfOk result (λ runner. (events : _) → HasAwaited events runner) }
         ensures own { IfOk result
-            (BeginsOwn (parts_labels parts) place.geometry.slots snapshot.now place.window) }
+            (BeginsOwn (P.performer parts).labels place.geometry.slots snapshot.now place.window) }
 
         // what it was made of
         ensures pass { IfOk result (λ runner. runner.shard.pass ≡ pass) }

@@ -1,9 +1,10 @@
-//! A shard takes what its list has, until all is done.
+//! A shard takes what its queue has, until all is done.
 
 ghost use Rattle.std.specs.Prelude.{◌≡◌, ◌≤◌, [], length, None, true, false};
 ghost use Rattle.r6_health.specs.Passes.{IsPassOf};
 ghost use Rattle.r6_lists.specs.Events.{tasks_of};
-ghost use Rattle.r6_runner.specs.Counted.{CountsAll, KeepsCounted};
+ghost use Rattle.r6_lists.specs.Queues.{IsConsumerOf};
+ghost use Rattle.r6_runner.specs.Counted.{KeepsCounted};
 ghost use Rattle.r6_runner.specs.Going.{TakesNoMore};
 ghost use Rattle.r6_runner.specs.Parts.{KeepsOwn, KeepsParts};
 ghost use Rattle.r6_runner.specs.Runners.{GoesOn, GoesOnSame, IsOver, KeepsSelf, taken_by};
@@ -14,20 +15,24 @@ use crate::runner::Runner;
 use r6_core::Task;
 use r6_dev::BlockDevice;
 use r6_health::Register;
-use r6_lists::{Consumer, Events, List, Rest};
-use std::sync::{Mutex, Wait};
+use r6_lists::{Consumer, Events, Queue, Rest};
+use r6_shard::{Performs, TakesParts};
+use std::sync::Wait;
 use std::thread;
 
-/// A shard, and who takes from its list.
+/// A shard, and who takes from its queue.
 #[derive(Drop)]
-pub struct Taking<L: Events, D> {
-    pub runner: Runner<D>,
-    pub consumer: Consumer<L>,
+pub struct Taking<L: Events, P: Performs, D: BlockDevice> {
+    pub runner: Runner<P, D>,
+    pub consumer: Consumer<L, D>,
     ghost counted: { taken_by runner ≡ length consumer.numbers.items },
     ghost room: { length (tasks_of L.shape consumer.shard L.events) ≤ runner.room },
 }
 
-impl<D: BlockDevice + Drop> Runner<D> {
+impl<P: Performs + Drop, D: BlockDevice + Drop> Runner<P, D>
+where
+    P: TakesParts<D>,
+{
     // Whether something that was taken is due, or every row is passed over.
     fn has_more(&self) -> bool
         ensures { result ≡ false → (self.now.due.items ≡ []) × (self.now.passing ≡ None) }
@@ -40,7 +45,7 @@ impl<D: BlockDevice + Drop> Runner<D> {
         requires { IsPassOf register.now self.old.shard.pass }
         ensures pass { IsPassOf register.now self.new.shard.pass }
 
-        ensures goes { TakesNoMore D.told D.promised self.old self.new }
+        ensures goes { TakesNoMore self.old self.new }
         ensures count { taken_by self.new ≡ taken_by self.old }
         ensures room { self.new.room ≡ self.old.room }
 
@@ -58,9 +63,9 @@ impl<D: BlockDevice + Drop> Runner<D> {
         ensures pass { IsPassOf register.now self.new.shard.pass }
 
         // its course goes on
-        ensures course { GoesOnSame D.told self.old self.new }
-        ensures sound { KeepsSound D.told D.promised self.old self.new }
-        ensures counted { CountsAll self.old self.new }
+        ensures course { GoesOnSame self.old self.new }
+        ensures sound { KeepsSound self.old self.new }
+        ensures counted { KeepsCounted self.old self.new }
         ensures awaited { KeepsAwaited self.old self.new }
 
         // and nothing more is taken
@@ -69,14 +74,14 @@ impl<D: BlockDevice + Drop> Runner<D> {
         ensures room { self.new.room ≡ self.old.room }
         ensures place { self.new.shard.core.shard ≡ self.old.shard.core.shard }
     {
-        self.shard.round_when_here(rt, register);
+        self.shard.round_when_here::<D, R>(rt, register);
     }
 
     // Takes up the next row that is to be rebuilt, if there is one.
     fn rebuild(&mut self)
         ensures pass { self.new.shard.pass ≡ self.old.shard.pass }
 
-        ensures goes { TakesNoMore D.told D.promised self.old self.new }
+        ensures goes { TakesNoMore self.old self.new }
         ensures count { taken_by self.new ≡ taken_by self.old }
         ensures room { self.new.room ≡ self.old.room }
     {
@@ -89,13 +94,13 @@ impl<D: BlockDevice + Drop> Runner<D> {
         requires { IsPassOf register.now self.old.shard.pass }
         ensures pass { IsPassOf register.now self.new.shard.pass }
 
-        ensures goes { TakesNoMore D.told D.promised self.old self.new }
+        ensures goes { TakesNoMore self.old self.new }
         ensures count { taken_by self.new ≡ taken_by self.old }
         ensures room { self.new.room ≡ self.old.room }
     {
         self.round(rt, register);
         self.begin_all(rt);
-        self.go_on();
+        self.go_on(rt);
         self.rebuild();
     }
 
@@ -105,7 +110,7 @@ impl<D: BlockDevice + Drop> Runner<D> {
         requires { IsPassOf register.now self.old.shard.pass }
         ensures pass { IsPassOf register.now self.new.shard.pass }
 
-        ensures goes { TakesNoMore D.told D.promised self.old self.new }
+        ensures goes { TakesNoMore self.old self.new }
         ensures count { taken_by self.new ≡ taken_by self.old }
         ensures room { self.new.room ≡ self.old.room }
 
@@ -116,9 +121,12 @@ impl<D: BlockDevice + Drop> Runner<D> {
     }
 }
 
-impl<L: Events, D: BlockDevice + Drop> Taking<L, D> {
-    /// A shard that is to take from its list, of which nothing was taken yet.
-    pub fn new(runner: Runner<D>, consumer: Consumer<L>) -> Taking<L, D>
+impl<L: Events, P: Performs + Drop, D: BlockDevice + Drop> Taking<L, P, D>
+where
+    P: TakesParts<D>,
+{
+    /// A shard that is to take from its queue, of which nothing was taken yet.
+    pub fn new(runner: Runner<P, D>, consumer: Consumer<L, D>) -> Taking<L, P, D>
         requires fresh { (taken_by runner ≡ 0) × (consumer.numbers.items ≡ []) }
         requires room { length (tasks_of L.shape consumer.shard L.events) ≤ runner.room }
         ensures { (result.runner ≡ runner) × (result.consumer ≡ consumer) }
@@ -126,102 +134,76 @@ impl<L: Events, D: BlockDevice + Drop> Taking<L, D> {
         Taking { runner, consumer }
     }
 
-    // Takes the oldest item of the list; whether there was one.
-    fn take_one<R: Wait>(&mut self, rt: &R, list: &Mutex<List<L, D>>) -> bool
-        requires { self.old.consumer.finished ≡ false }
+    // Takes the next item of the queue; whether there was one.
+    fn take_one<R: Wait>(&mut self, rt: &R, queue: &Queue<L, D>) -> bool
+        requires { IsConsumerOf queue.now self.old.consumer }
+        ensures consumer { IsConsumerOf queue.now self.new.consumer }
 
         // its course goes on with what was taken
-        ensures course { GoesOn D.told L.shape L.events self.old.consumer.shard self.old.consumer.numbers.items
+        ensures course { GoesOn L.shape L.events self.old.consumer.shard self.old.consumer.numbers.items
             self.new.consumer.numbers.items self.old.runner self.new.runner }
         ensures counted { KeepsCounted self.old.runner self.new.runner }
         ensures awaited { HasAwaited L.events self.old.runner → HasAwaited L.events self.new.runner }
         ensures own { KeepsOwn self.old.runner self.new.runner }
-        ensures sound { KeepsPromised D.told D.promised L.shape L.sound self.old.consumer.shard
+        ensures sound { KeepsPromised L.shape L.sound self.old.consumer.shard
             self.old.runner self.new.runner }
 
-        // its shard and its list stay
+        // its shard stays, and so does the end of its queue
         ensures same { KeepsSelf self.old.runner self.new.runner }
         ensures shard { self.new.consumer.shard ≡ self.old.consumer.shard }
-        ensures open { self.new.consumer.finished ≡ false }
+        ensures finished { self.old.consumer.finished ≡ true → self.new.consumer.finished ≡ true }
     {
-        let Some(item) = list.lock(rt).take(&mut self.consumer) else {
+        let Some(item) = queue.take(rt, &mut self.consumer) else {
             return false;
         };
-        self.runner.take_up(item);
+        self.runner.take_up(rt, item);
         true
     }
 
-    // Takes what stands in the list.
-    fn take_all<R: Wait>(&mut self, rt: &R, list: &Mutex<List<L, D>>)
-        requires { self.old.consumer.finished ≡ false }
-        ensures course { GoesOn D.told L.shape L.events self.old.consumer.shard self.old.consumer.numbers.items
+    // Takes what stands in the queue.
+    fn take_all<R: Wait>(&mut self, rt: &R, queue: &Queue<L, D>)
+        requires { IsConsumerOf queue.now self.old.consumer }
+        ensures consumer { IsConsumerOf queue.now self.new.consumer }
+        ensures course { GoesOn L.shape L.events self.old.consumer.shard self.old.consumer.numbers.items
             self.new.consumer.numbers.items self.old.runner self.new.runner }
         ensures counted { KeepsCounted self.old.runner self.new.runner }
         ensures awaited { HasAwaited L.events self.old.runner → HasAwaited L.events self.new.runner }
         ensures own { KeepsOwn self.old.runner self.new.runner }
-        ensures sound { KeepsPromised D.told D.promised L.shape L.sound self.old.consumer.shard
+        ensures sound { KeepsPromised L.shape L.sound self.old.consumer.shard
             self.old.runner self.new.runner }
         ensures same { KeepsSelf self.old.runner self.new.runner }
         ensures shard { self.new.consumer.shard ≡ self.old.consumer.shard }
+        ensures finished { self.old.consumer.finished ≡ true → self.new.consumer.finished ≡ true }
     {
         for _ in rt.forever() {
-            if !self.take_one(rt, list) {
+            if !self.take_one(rt, queue) {
                 break;
             }
         }
     }
 
-    // Takes what stands in the list, unless it was finished.
-    fn take_in<R: Wait>(&mut self, rt: &R, list: &Mutex<List<L, D>>)
-        ensures course { GoesOn D.told L.shape L.events self.old.consumer.shard self.old.consumer.numbers.items
-            self.new.consumer.numbers.items self.old.runner self.new.runner }
-        ensures counted { KeepsCounted self.old.runner self.new.runner }
-        ensures awaited { HasAwaited L.events self.old.runner → HasAwaited L.events self.new.runner }
-        ensures own { KeepsOwn self.old.runner self.new.runner }
-        ensures sound { KeepsPromised D.told D.promised L.shape L.sound self.old.consumer.shard
-            self.old.runner self.new.runner }
-        ensures same { KeepsSelf self.old.runner self.new.runner }
-        ensures shard { self.new.consumer.shard ≡ self.old.consumer.shard }
-    {
-        if !self.consumer.finished {
-            self.take_all(rt, list);
-        }
-    }
-
-    // Whether the list was finished. If not, it is, once it was ended and all of it was taken.
-    fn is_finished<R: Wait>(&mut self, rt: &R, list: &Mutex<List<L, D>>) -> bool
-        ensures finished { result ≡ true → self.new.consumer.finished ≡ true }
-        ensures runner { self.new.runner ≡ self.old.runner }
-        ensures numbers { self.new.consumer.numbers.items ≡ self.old.consumer.numbers.items }
-        ensures shard { self.new.consumer.shard ≡ self.old.consumer.shard }
-    {
-        if self.consumer.finished {
-            return true;
-        }
-        list.lock(rt).finish(&mut self.consumer);
-        false
-    }
-
-    // Takes what the list has and goes on with it; whether all is done. Once the list is finished all goes round once
-    // more, so that the register is looked at behind the last event. What was asked is read before the list, so that
+    // Takes what the queue has and goes on with it; whether all is done. Once the end was taken all goes round once
+    // more, so that the register is looked at after the last event. What was asked is read before the queue, so that
     // what was put in before it was asked is taken before a rest is found.
     fn go_on<R: Wait>(
         &mut self,
         rt: &R,
         register: &Register,
-        list: &Mutex<List<L, D>>,
+        queue: &Queue<L, D>,
         rest: &Rest,
     ) -> bool
-        requires { IsPassOf register.now self.old.runner.shard.pass }
+        requires pass { IsPassOf register.now self.old.runner.shard.pass }
+        requires consumer { IsConsumerOf queue.now self.old.consumer }
         ensures pass { IsPassOf register.now self.new.runner.shard.pass }
+        ensures consumer { IsConsumerOf queue.now self.new.consumer }
 
         // its course goes on with what was taken
-        ensures course { GoesOn D.told L.shape L.events self.old.consumer.shard self.old.consumer.numbers.items
+        ensures course { GoesOn L.shape L.events self.old.consumer.shard self.old.consumer.numbers.items
             self.new.consumer.numbers.items self.old.runner self.new.runner }
         ensures counted { KeepsCounted self.old.runner self.new.runner }
         ensures awaited { HasAwaited L.events self.old.runner → HasAwaited L.events self.new.runner }
         ensures own { KeepsOwn self.old.runner self.new.runner }
-        ensures sound { KeepsPromised D.told D.promised L.shape L.sound self.old.consumer.shard
+        ensures sound { KeepsPromised L.shape L.sound self.old.consumer.shard
             self.old.runner self.new.runner }
 
         // its shard stays
@@ -231,45 +213,41 @@ impl<L: Events, D: BlockDevice + Drop> Taking<L, D> {
         ensures over { result ≡ true → IsOver self.new.runner × (self.new.consumer.finished ≡ true) }
     {
         let asked = rest.asked();
-        self.take_in(rt, list);
+        let finished = self.consumer.finished;
+        self.take_all(rt, queue);
         if !self.runner.go_round(rt, register) {
             return false;
         }
         rest.found(asked);
-        self.is_finished(rt, list)
+        finished
     }
 
-    /// Takes what the list has, as it comes, and does it, until the list was ended and all is done. Whenever nothing
-    /// is left to do of what was taken, `rest` is told so.
-    pub fn run<R: Wait>(
-        &mut self,
-        rt: &R,
-        register: &Register,
-        list: &Mutex<List<L, D>>,
-        rest: &Rest,
-    )
-        requires { IsPassOf register.now self.old.runner.shard.pass }
+    /// Takes what the queue has, as it comes, and does it, until the end was taken and all is done. Whenever nothing is
+    /// left to do of what was taken, `rest` is told so.
+    pub fn run<R: Wait>(&mut self, rt: &R, register: &Register, queue: &Queue<L, D>, rest: &Rest)
+        requires pass { IsPassOf register.now self.old.runner.shard.pass }
+        requires consumer { IsConsumerOf queue.now self.old.consumer }
         ensures pass { IsPassOf register.now self.new.runner.shard.pass }
 
         // all that was taken is done
-        ensures course { GoesOn D.told L.shape L.events self.old.consumer.shard self.old.consumer.numbers.items
+        ensures course { GoesOn L.shape L.events self.old.consumer.shard self.old.consumer.numbers.items
             self.new.consumer.numbers.items self.old.runner self.new.runner }
         ensures counted { KeepsCounted self.old.runner self.new.runner }
         ensures awaited { HasAwaited L.events self.old.runner → HasAwaited L.events self.new.runner }
         ensures own { KeepsOwn self.old.runner self.new.runner }
-        ensures sound { KeepsPromised D.told D.promised L.shape L.sound self.old.consumer.shard
+        ensures sound { KeepsPromised L.shape L.sound self.old.consumer.shard
             self.old.runner self.new.runner }
 
         // its shard stays
         ensures shard { self.new.consumer.shard ≡ self.old.consumer.shard }
         ensures place { self.new.runner.shard.core.shard ≡ self.old.runner.shard.core.shard }
 
-        // the list was finished, and nothing is left to do
+        // the end was taken, and nothing is left to do
         ensures finished { self.new.consumer.finished ≡ true }
         ensures over { IsOver self.new.runner }
     {
         for _ in rt.forever() {
-            if self.go_on(rt, register, list, rest) {
+            if self.go_on(rt, register, queue, rest) {
                 return;
             }
             thread::yield_now();

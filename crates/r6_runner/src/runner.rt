@@ -8,7 +8,7 @@ ghost use Rattle.r6_runner.specs.Tasks.{count_of};
 use crate::due::Due;
 use crate::pass::{Passed, Passing};
 use r6_core::Refusal;
-use r6_shard::{Part, Parts, Shard};
+use r6_shard::{Part, Performs, Shard};
 use std::collections::VecDeque;
 
 /// A part of a device that came by the list.
@@ -26,8 +26,8 @@ pub struct Handed {
 ///
 /// All room is made before the first command.
 #[derive(Drop)]
-pub struct Runner<D> {
-    pub shard: Shard<Parts<D>>,
+pub struct Runner<P: Performs, D> {
+    pub shard: Shard<P>,
     /// What was taken from the list and not begun, from the oldest to the newest.
     pub due: VecDeque<Due>,
     /// The events whose requests were refused, and why.
@@ -55,5 +55,6 @@ pub struct Runner<D> {
     ghost passed_room: { room ≤ vec_capacity passed },
     ghost handed_room: { room ≤ vec_capacity handed },
     ghost others_room: { room ≤ vec_capacity others },
-    ghost parts_room: { length shard.parts.parts.items + room ≤ vec_capacity shard.parts.parts + length handed.items },
+    ghost parts_room: { length (P.performer shard.parts).labels + room
+        ≤ (P.performer shard.parts).part_room + length handed.items },
 }

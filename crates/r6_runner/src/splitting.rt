@@ -8,15 +8,19 @@ ghost use Rattle.r6_runner.specs.Splitting.{KeepsAll};
 use crate::runner::Runner;
 use r6_dev::BlockDevice;
 use r6_health::{Pass, Register};
+use r6_shard::{Performs, TakesParts};
 
-impl<D: BlockDevice + Drop> Runner<D> {
+impl<P: Performs + Drop, D: BlockDevice + Drop> Runner<P, D>
+where
+    P: TakesParts<D>,
+{
     /// A pass for another thread, which has seen what the shard's own has. Nothing else changes.
     pub fn split_pass(&mut self, register: &Register) -> Pass
         requires { IsPassOf register.now self.old.shard.pass }
         ensures pass { IsPassOf register.now self.new.shard.pass }
         ensures new { IsPassOf register.now result }
         ensures newcomer { view_of result ≡ newcomer (view_of self.old.shard.pass) }
-        ensures kept { KeepsAll D.told D.promised self.old self.new }
+        ensures kept { KeepsAll self.old self.new }
     {
         self.shard.split_pass(register)
     }

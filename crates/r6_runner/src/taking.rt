@@ -13,9 +13,13 @@ use crate::runner::{Handed, Runner};
 use r6_core::Op;
 use r6_dev::BlockDevice;
 use r6_lists::{Events, Item, Work};
-use r6_shard::Part;
+use r6_shard::{Part, Performs, TakesParts};
+use std::sync::Wait;
 
-impl<D: BlockDevice + Drop> Runner<D> {
+impl<P: Performs + Drop, D: BlockDevice + Drop> Runner<P, D>
+where
+    P: TakesParts<D>,
+{
     // It is due behind what was taken before.
     fn put(&mut self, event: u64, waits: u64, duty: Duty)
         requires { taken_by self.old < self.old.room }
@@ -25,14 +29,14 @@ impl<D: BlockDevice + Drop> Runner<D> {
     }
 
     // The part of a new device is handed in, unless its core has looked at its generation.
-    fn hand_in(&mut self, event: u64, part: Part<D>)
+    fn hand_in<R: Wait>(&mut self, rt: &R, event: u64, part: Part<D>)
         requires { taken_by self.old < self.old.room }
-        ensures handed { IsHandedIn D.told event part self.old self.new }
-        ensures sound { TakesSound D.told D.promised part self.old.shard self.new.shard }
+        ensures handed { IsHandedIn D.told D.promised event part self.old self.new }
+        ensures sound { TakesSound D.promised part self.old.shard self.new.shard }
     {
         let slot = part.slot;
         let generation = part.generation;
-        let taken = match self.shard.hand_in(part) {
+        let taken = match self.shard.hand_in::<D, R>(rt, part) {
             Ok(Some(earlier)) => {
                 self.others.push_reserved(earlier);
                 true
@@ -53,12 +57,12 @@ impl<D: BlockDevice + Drop> Runner<D> {
 
     // What came by the list is due, or, the part of a new device, handed in at once, under the generation that came
     // with it.
-    pub(crate) fn take_up<L: Events>(&mut self, item: Item<L, D>)
+    pub(crate) fn take_up<L: Events, R: Wait>(&mut self, rt: &R, item: Item<L, D>)
         requires { taken_by self.old < self.old.room }
-        ensures course { (numbers : _) → GoesOn D.told L.shape L.events item.shard numbers
+        ensures course { (numbers : _) → GoesOn L.shape L.events item.shard numbers
             (numbers ++ item.number ∷ []) self.old self.new }
         ensures counted { KeepsCounted self.old self.new }
-        ensures sound { KeepsPromised D.told D.promised L.shape L.sound item.shard self.old self.new }
+        ensures sound { KeepsPromised L.shape L.sound item.shard self.old self.new }
         ensures awaited { HasAwaited L.events self.old → HasAwaited L.events self.new }
         ensures same { KeepsSelf self.old self.new }
         ensures own { KeepsOwn self.old self.new }
@@ -84,7 +88,7 @@ impl<D: BlockDevice + Drop> Runner<D> {
                     generation,
                     device,
                 };
-                self.hand_in(event, part);
+                self.hand_in(rt, event, part);
             }
             Work::Check => self.put(event, waits, Duty::Check),
             Work::Repair => self.put(event, waits, Duty::Repair),

@@ -15,11 +15,12 @@ loop-preserved g c =
       tt,
       record {
         pass = now.pass;
-        course = goes-then g.D.BlockDevice.told g.L.Events.shape g.L.Events.events c.args.self.now.consumer.shard c.loop.self.consumer.shard
+        consumer = now.consumer;
+        course = goes-then g.L.Events.shape g.L.Events.events c.args.self.now.consumer.shard c.loop.self.consumer.shard
             c.args.self.now.consumer.numbers.items c.loop.self.consumer.numbers.items c.go_on.new.self.consumer.numbers.items
             c.args.self.now.runner c.loop.self.runner c.go_on.new.self.runner before.shard before.course now.course;
         counted = λ rows x. now.counted rows (before.counted rows x);
-        sound = promised-on g.D.BlockDevice.told g.D.BlockDevice.promised g.L.Events.shape g.L.Events.sound c.args.self.now.consumer.shard c.loop.self.consumer.shard
+        sound = promised-on g.L.Events.shape g.L.Events.sound c.args.self.now.consumer.shard c.loop.self.consumer.shard
             c.args.self.now.runner c.loop.self.runner c.go_on.new.self.runner before.shard before.sound now.sound;
         awaited = λ x. now.awaited (before.awaited x);
         own = own-on c.args.self.now.runner c.loop.self.runner c.go_on.new.self.runner before.own now.own;
@@ -34,7 +35,7 @@ returns-then-go_on-clause-awaited g c = λ x. c.go_on.ensures.awaited (c.loop.in
 pub returns-then-go_on-clause-course : goal.returns-then-go_on-clause-course
 returns-then-go_on-clause-course g c =
     let before = c.loop.invariant.2 in
-    goes-then g.D.BlockDevice.told g.L.Events.shape g.L.Events.events c.args.self.now.consumer.shard c.loop.self.consumer.shard
+    goes-then g.L.Events.shape g.L.Events.events c.args.self.now.consumer.shard c.loop.self.consumer.shard
     c.args.self.now.consumer.numbers.items c.loop.self.consumer.numbers.items c.go_on.new.self.consumer.numbers.items
     c.args.self.now.runner c.loop.self.runner c.go_on.new.self.runner before.shard before.course c.go_on.ensures.course
 
@@ -44,7 +45,7 @@ returns-then-go_on-clause-over g c = (c.go_on.ensures.over c.if-go_on.true).0
 pub returns-then-go_on-clause-sound : goal.returns-then-go_on-clause-sound
 returns-then-go_on-clause-sound g c =
     let before = c.loop.invariant.2 in
-    promised-on g.D.BlockDevice.told g.D.BlockDevice.promised g.L.Events.shape g.L.Events.sound c.args.self.now.consumer.shard c.loop.self.consumer.shard
+    promised-on g.L.Events.shape g.L.Events.sound c.args.self.now.consumer.shard c.loop.self.consumer.shard
     c.args.self.now.runner c.loop.self.runner c.go_on.new.self.runner before.shard before.sound c.go_on.ensures.sound
 
 pub returns-then-go_on-clause-pass : goal.returns-then-go_on-clause-pass

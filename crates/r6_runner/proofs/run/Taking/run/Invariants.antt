@@ -1,4 +1,5 @@
 use Rattle.std.proofs.Common.{◌≡◌}
+use Rattle.r6_lists.specs.Queues.{IsConsumerOf}
 use Rattle.r6_health.specs.Passes.{IsPassOf}
 use Rattle.r6_runner.specs.Counted.{KeepsCounted}
 use Rattle.r6_runner.specs.Parts.{KeepsOwn}
@@ -11,10 +12,11 @@ abbrev pub invariant-loop : goal.invariant-loop
 invariant-loop g l =
     (goal.iterator-loop g).can_next l.iterator' × (goal.iterator-loop g).is_finite l.iterator' × record {
       pass : IsPassOf l.register l.self.runner.shard.pass;
-      course : GoesOn g.D.BlockDevice.told g.L.Events.shape g.L.Events.events l.fn.self.consumer.shard l.fn.self.consumer.numbers.items
+      consumer : IsConsumerOf l.queue l.self.consumer;
+      course : GoesOn g.L.Events.shape g.L.Events.events l.fn.self.consumer.shard l.fn.self.consumer.numbers.items
           l.self.consumer.numbers.items l.fn.self.runner l.self.runner;
       counted : KeepsCounted l.fn.self.runner l.self.runner;
-      sound : KeepsPromised g.D.BlockDevice.told g.D.BlockDevice.promised g.L.Events.shape g.L.Events.sound l.fn.self.consumer.shard
+      sound : KeepsPromised g.L.Events.shape g.L.Events.sound l.fn.self.consumer.shard
           l.fn.self.runner l.self.runner;
       awaited : HasAwaited g.L.Events.events l.fn.self.runner → HasAwaited g.L.Events.events l.self.runner;
       own : KeepsOwn l.fn.self.runner l.self.runner;

@@ -1,4 +1,5 @@
-use Rattle.std.proofs.Common.{◌≡◌, ◌∙◌, sym, subst}
+use Rattle.std.proofs.Common.{◌≡◌, ◌∙◌, sym, subst, true}
+use Rattle.r6_lists.specs.Queues.{IsConsumerOf}
 use Rattle.r6_runner.specs.Counted.{HasCounted}
 use Rattle.r6_runner.specs.Runners.{HasDone, KeepsSelf}
 use Rattle.r6_runner.specs.Waits.{HasAwaited}
@@ -29,11 +30,11 @@ returns-clause-course g c = λ geometry snapshot before x.
     let number = old.consumer.shard in
     elim c.match-next.branch [
       | in-None w ↦
-          subst (λ s. HasDone told shape events geometry number snapshot before s.consumer.numbers.items s.runner) (sym w.self-is)
+          subst (λ s. HasDone shape events geometry number snapshot before s.consumer.numbers.items s.runner) (sym w.self-is)
           (at.course geometry snapshot before x)
       | in-Some+then-not-take_one w ↦
-          subst (λ s. HasDone told shape events geometry number snapshot before s.consumer.numbers.items s.runner) (sym w.self-is)
-          (goes-then told shape events number mid.consumer.shard old.consumer.numbers.items mid.consumer.numbers.items
+          subst (λ s. HasDone shape events geometry number snapshot before s.consumer.numbers.items s.runner) (sym w.self-is)
+          (goes-then shape events number mid.consumer.shard old.consumer.numbers.items mid.consumer.numbers.items
           w.take_one.new.self.consumer.numbers.items old.runner mid.runner w.take_one.new.self.runner at.shard at.course
           w.take_one.ensures.course geometry snapshot before x)
     ]
@@ -54,11 +55,11 @@ loop-preserved g c =
       tt,
       tt,
       record {
-        course = goes-then g.D.BlockDevice.told g.L.Events.shape g.L.Events.events c.args.self.now.consumer.shard c.loop.self.consumer.shard
+        course = goes-then g.L.Events.shape g.L.Events.events c.args.self.now.consumer.shard c.loop.self.consumer.shard
             c.args.self.now.consumer.numbers.items c.loop.self.consumer.numbers.items c.take_one.new.self.consumer.numbers.items
             c.args.self.now.runner c.loop.self.runner c.take_one.new.self.runner before.shard before.course now.course;
         counted = λ rows x. now.counted rows (before.counted rows x);
-        sound = promised-on g.D.BlockDevice.told g.D.BlockDevice.promised g.L.Events.shape g.L.Events.sound c.args.self.now.consumer.shard c.loop.self.consumer.shard
+        sound = promised-on g.L.Events.shape g.L.Events.sound c.args.self.now.consumer.shard c.loop.self.consumer.shard
             c.args.self.now.runner c.loop.self.runner c.take_one.new.self.runner before.shard before.sound now.sound;
         awaited = λ x. now.awaited (before.awaited x);
         own = own-on c.args.self.now.runner c.loop.self.runner c.take_one.new.self.runner before.own now.own;
@@ -68,7 +69,8 @@ loop-preserved g c =
           room = now.same.room ∙ before.same.room;
         };
         shard = now.shard ∙ before.shard;
-        open_yet = now.open;
+        consumer = now.consumer;
+        finished = λ over. now.finished (before.finished over);
       },
     )
 
@@ -81,10 +83,10 @@ returns-clause-sound g c = λ slot promise x.
     let mid = c.loop.self in
     let at = c.loop.invariant.2 in
     elim c.match-next.branch [
-      | in-None w ↦ subst (λ s. IsSoundIn told promised shape old.consumer.shard slot s.runner) (sym w.self-is) (at.sound slot promise x)
+      | in-None w ↦ subst (λ s. IsSoundIn shape old.consumer.shard slot s.runner) (sym w.self-is) (at.sound slot promise x)
       | in-Some+then-not-take_one w ↦
-          subst (λ s. IsSoundIn told promised shape old.consumer.shard slot s.runner) (sym w.self-is)
-          (promised-on told promised shape g.L.Events.sound old.consumer.shard mid.consumer.shard old.runner mid.runner w.take_one.new.self.runner at.shard
+          subst (λ s. IsSoundIn shape old.consumer.shard slot s.runner) (sym w.self-is)
+          (promised-on shape g.L.Events.sound old.consumer.shard mid.consumer.shard old.runner mid.runner w.take_one.new.self.runner at.shard
           at.sound w.take_one.ensures.sound slot promise x)
     ]
 
@@ -118,4 +120,20 @@ returns-clause-own g c =
       | in-Some+then-not-take_one w ↦
           subst (λ s. KeepsOwn old s.runner) (sym w.self-is)
           (own-on old c.loop.self.runner w.take_one.new.self.runner before w.take_one.ensures.own)
+    ]
+
+pub returns-clause-consumer : goal.returns-clause-consumer
+returns-clause-consumer g c =
+    let before = c.loop.invariant.2.consumer in
+    elim c.match-next.branch [
+      | in-None w ↦ subst (λ s. IsConsumerOf c.args.queue.now s.consumer) (sym w.self-is) before
+      | in-Some+then-not-take_one w ↦ subst (λ s. IsConsumerOf c.args.queue.now s.consumer) (sym w.self-is) w.take_one.ensures.consumer
+    ]
+
+pub returns-clause-finished : goal.returns-clause-finished
+returns-clause-finished g c = λ over.
+    let before = c.loop.invariant.2.finished over in
+    elim c.match-next.branch [
+      | in-None w ↦ subst (λ s. s.consumer.finished ≡ true) (sym w.self-is) before
+      | in-Some+then-not-take_one w ↦ subst (λ s. s.consumer.finished ≡ true) (sym w.self-is) (w.take_one.ensures.finished before)
     ]

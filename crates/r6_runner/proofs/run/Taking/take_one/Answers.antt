@@ -1,8 +1,7 @@
-use Rattle.std.proofs.Common.{◌≡◌, ℕ, List, ◌+◌, ◌<◌, ◌≤◌, ◌∷◌, [], length, ap, sym, subst, ◌++◌, ◌∙◌, arith}
-use Rattle.std.proofs.lemmas.List.{length-append, length-map}
-use Rattle.r6_runner.specs.declared.runner.Handed.{Handed}
+use Rattle.std.proofs.Common.{◌≡◌, ℕ, ◌+◌, ◌≤◌, ◌∷◌, [], length, ap, sym, subst, ◌++◌, ◌∙◌, arith}
+use Rattle.std.proofs.lemmas.List.{length-append}
 use Rattle.r6_lists.specs.Events.{tasks_of}
-use Rattle.r6_lists.proofs.Tasks.{all_taken}
+use Rattle.r6_lists.proofs.Queues.{no-longer}
 use Rattle.r6_runner.specs.Runners.{HasDone}
 use Rattle.r6_runner.specs.Sound.{IsSoundIn}
 use Rattle.r6_runner.proofs.run.Taking.take_one.Goals as goal
@@ -12,11 +11,11 @@ take_up-requires g c =
     let old = c.args.self.now in
     let new = c.take.new.consumer in
     let most : length new.numbers.items ≤ length (tasks_of g.L.Events.shape new.shard g.L.Events.events) =
-    (all_taken g.L.Events.shape new.shard g.L.Events.events new.numbers.items new.taken).0 in
+    no-longer g.L.Events.shape g.L.Events.events new.shard new.numbers.items new.taken in
     let more : length new.numbers.items ≡ length old.consumer.numbers.items + 1 =
-    ap length c.in-Some.ensures.kept ∙ length-append old.consumer.numbers.items (c.in-Some.item.number ∷ []) in
+    ap length c.in-Some.ensures.taken ∙ length-append old.consumer.numbers.items (c.in-Some.item.number ∷ []) in
     let same : length (tasks_of g.L.Events.shape new.shard g.L.Events.events) ≡ length (tasks_of g.L.Events.shape old.consumer.shard g.L.Events.events) =
-    ap (λ (s : ℕ). length (tasks_of g.L.Events.shape s g.L.Events.events)) c.take.ensures.consumer.0 in
+    ap (λ (s : ℕ). length (tasks_of g.L.Events.shape s g.L.Events.events)) c.take.ensures.shard in
     omega (arith, most, more, same, old.counted, old.room)
 
 pub returns-clause-course : goal.returns-clause-course
@@ -29,9 +28,9 @@ returns-clause-course g c = λ geometry snapshot before x.
     let numbers = old.consumer.numbers.items in
     let new = c.take_up.new.self in
     let done = c.take_up.ensures.course numbers geometry snapshot before
-    (subst (λ (n : ℕ). HasDone told shape events geometry n snapshot before numbers old.runner) (sym c.in-Some.ensures.of_shard) x) in
-    subst (λ ns. HasDone told shape events geometry old.consumer.shard snapshot before ns new) (sym c.in-Some.ensures.kept)
-    (subst (λ (n : ℕ). HasDone told shape events geometry n snapshot before (numbers ++ item.number ∷ []) new) c.in-Some.ensures.of_shard done)
+    (subst (λ (n : ℕ). HasDone shape events geometry n snapshot before numbers old.runner) (sym c.in-Some.ensures.of_shard) x) in
+    subst (λ ns. HasDone shape events geometry old.consumer.shard snapshot before ns new) (sym c.in-Some.ensures.taken)
+    (subst (λ (n : ℕ). HasDone shape events geometry n snapshot before (numbers ++ item.number ∷ []) new) c.in-Some.ensures.of_shard done)
 
 pub returns-clause-sound : goal.returns-clause-sound
 returns-clause-sound g c = λ slot promise x.
@@ -39,17 +38,16 @@ returns-clause-sound g c = λ slot promise x.
     let promised = g.D.BlockDevice.promised in
     let shape = g.L.Events.shape in
     let same = c.in-Some.ensures.of_shard in
-    subst (λ n. IsSoundIn told promised shape n slot c.take_up.new.self) same
+    subst (λ n. IsSoundIn shape n slot c.take_up.new.self) same
     (c.take_up.ensures.sound slot (subst (λ n. g.L.Events.sound n slot) (sym same) promise)
-    (subst (λ n. IsSoundIn told promised shape n slot c.args.self.now.runner) (sym same) x))
+    (subst (λ n. IsSoundIn shape n slot c.args.self.now.runner) (sym same) x))
 
 pub invariant_of-self : goal.invariant_of-self
 invariant_of-self g c =
     let old = c.args.self.now in
-    let same = c.in_default.ensures.none.1 in
     record {
-      counted = old.counted ∙ sym (ap (λ consumer. length consumer.numbers.items) same);
-      room = subst (λ consumer. length (tasks_of g.L.Events.shape consumer.shard g.L.Events.events) ≤ old.runner.room) (sym same) old.room;
+      counted = old.counted ∙ sym (ap length c.in_default.ensures.taken);
+      room = subst (λ (s : ℕ). length (tasks_of g.L.Events.shape s g.L.Events.events) ≤ old.runner.room) (sym c.take.ensures.shard) old.room;
     }
 
 pub invariant_of-self-2 : goal.invariant_of-self-2
@@ -57,9 +55,9 @@ invariant_of-self-2 g c =
     let old = c.args.self.now in
     let new = c.take.new.consumer in
     let more : length new.numbers.items ≡ length old.consumer.numbers.items + 1 =
-    ap length c.in-Some.ensures.kept ∙ length-append old.consumer.numbers.items (c.in-Some.item.number ∷ []) in
+    ap length c.in-Some.ensures.taken ∙ length-append old.consumer.numbers.items (c.in-Some.item.number ∷ []) in
     let same : length (tasks_of g.L.Events.shape new.shard g.L.Events.events) ≡ length (tasks_of g.L.Events.shape old.consumer.shard g.L.Events.events) =
-    ap (λ (s : ℕ). length (tasks_of g.L.Events.shape s g.L.Events.events)) c.take.ensures.consumer.0 in
+    ap (λ (s : ℕ). length (tasks_of g.L.Events.shape s g.L.Events.events)) c.take.ensures.shard in
     record {
       counted = c.take_up.ensures.count ∙ ap (λ (n : ℕ). n + 1) old.counted ∙ sym more;
       room = omega (arith, same, c.take_up.ensures.same.room, old.room);

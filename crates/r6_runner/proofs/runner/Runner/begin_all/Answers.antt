@@ -1,5 +1,5 @@
 use Rattle.std.proofs.Common.{◌≡◌, refl, sym, subst, ◌∙◌}
-use Rattle.r6_runner.specs.Counted.{HasCountedAll}
+use Rattle.r6_runner.specs.Counted.{HasCounted}
 use Rattle.r6_runner.specs.Runners.{HasDone, KeepsSelf, taken_by}
 use Rattle.r6_runner.specs.Waits.{HasAwaited}
 use Rattle.r6_runner.proofs.Done.{self-on}
@@ -13,8 +13,8 @@ pub returns-clause-counted : goal.returns-clause-counted
 returns-clause-counted g c = λ rows x.
     let before = c.loop.invariant.2.counted rows x in
     elim c.match-next.branch [
-      | in-None w ↦ subst (HasCountedAll rows) (sym w.self-is) before
-      | in-Some+then-not-begin_next w ↦ subst (HasCountedAll rows) (sym w.self-is) (w.begin_next.ensures.counted rows before)
+      | in-None w ↦ subst (HasCounted rows) (sym w.self-is) before
+      | in-Some+then-not-begin_next w ↦ subst (HasCounted rows) (sym w.self-is) (w.begin_next.ensures.counted rows before)
     ]
 
 pub returns-clause-awaited : goal.returns-clause-awaited
@@ -50,9 +50,9 @@ returns-clause-sound g c = λ shape number slot x.
     let promised = g.D.BlockDevice.promised in
     let before = c.loop.invariant.2.sound shape number slot x in
     elim c.match-next.branch [
-      | in-None w ↦ subst (IsSoundIn told promised shape number slot) (sym w.self-is) before
+      | in-None w ↦ subst (IsSoundIn shape number slot) (sym w.self-is) before
       | in-Some+then-not-begin_next w ↦
-          subst (IsSoundIn told promised shape number slot) (sym w.self-is) (w.begin_next.ensures.sound shape number slot before)
+          subst (IsSoundIn shape number slot) (sym w.self-is) (w.begin_next.ensures.sound shape number slot before)
     ]
 
 pub returns-clause-course : goal.returns-clause-course
@@ -60,9 +60,9 @@ returns-clause-course g c = λ shape events number numbers geometry snapshot ear
     let told = g.D.BlockDevice.told in
     let before = c.loop.invariant.2.course shape events number numbers geometry snapshot earlier x in
     elim c.match-next.branch [
-      | in-None w ↦ subst (HasDone told shape events geometry number snapshot earlier numbers) (sym w.self-is) before
+      | in-None w ↦ subst (HasDone shape events geometry number snapshot earlier numbers) (sym w.self-is) before
       | in-Some+then-not-begin_next w ↦
-          subst (HasDone told shape events geometry number snapshot earlier numbers) (sym w.self-is)
+          subst (HasDone shape events geometry number snapshot earlier numbers) (sym w.self-is)
           (w.begin_next.ensures.course shape events number numbers geometry snapshot earlier before)
     ]
 
@@ -76,7 +76,7 @@ loop-init g c = (
     sound = λ shape number slot x. x;
     awaited = λ events x. x;
     same = record { pass = refl; place = refl; room = refl };
-    parts = record { labels = refl; room = refl; handed = refl; others = refl; here = λ slot x. x; window = refl };
+    parts = record { labels = refl; room = refl; site = refl; handed = refl; others = refl; here = λ slot x. x; window = refl };
     count = refl;
   },
 )

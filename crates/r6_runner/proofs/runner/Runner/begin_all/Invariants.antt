@@ -1,5 +1,5 @@
 use Rattle.std.proofs.Common.{◌≡◌}
-use Rattle.r6_runner.specs.Counted.{StaysCounted}
+use Rattle.r6_runner.specs.Counted.{KeepsCounted}
 use Rattle.r6_runner.specs.Parts.{KeepsParts}
 use Rattle.r6_runner.specs.Runners.{GoesOnSame, KeepsSelf, taken_by}
 use Rattle.r6_runner.specs.Sound.{KeepsSound}
@@ -9,9 +9,9 @@ use Rattle.r6_runner.proofs.runner.Runner.begin_all.Given as goal
 abbrev pub invariant-loop : goal.invariant-loop
 invariant-loop g l =
     (goal.iterator-loop g).can_next l.iterator' × (goal.iterator-loop g).is_finite l.iterator' × record {
-      course : GoesOnSame g.D.BlockDevice.told l.fn.self l.self;
-      counted : StaysCounted l.fn.self l.self;
-      sound : KeepsSound g.D.BlockDevice.told g.D.BlockDevice.promised l.fn.self l.self;
+      course : GoesOnSame l.fn.self l.self;
+      counted : KeepsCounted l.fn.self l.self;
+      sound : KeepsSound l.fn.self l.self;
       awaited : KeepsAwaited l.fn.self l.self;
       same : KeepsSelf l.fn.self l.self;
       parts : KeepsParts l.fn.self l.self;

@@ -11,7 +11,7 @@ pub returns-in-Serve-clause-course : goal.returns-in-Serve-clause-course
 returns-in-Serve-clause-course g c = λ shape events number numbers geometry snapshot before x.
     let d = c.in-Some.due in
     let h = c.hand_over.ensures.served in
-    served-on g.D.BlockDevice.told shape events geometry number snapshot before numbers c.args.self.now c.hand_over.new.self d c.pop_front.new.self.items
+    served-on shape events geometry number snapshot before numbers c.args.self.now c.hand_over.new.self d c.pop_front.new.self.items
     d.event c.in-Serve.op (ap (request_of d.event) c.in-Serve.is) (ap (pass_of d.event) c.in-Serve.is)
     h.kept.due h.kept.passing h.kept.passed h.kept.handed h.outcome c.in-Some.ensures.items x
 
@@ -47,14 +47,14 @@ returns-in-Repair-clause-awaited g c = λ events x.
 pub returns-in-Check-clause-course : goal.returns-in-Check-clause-course
 returns-in-Check-clause-course g c = λ shape events number numbers geometry snapshot before x.
     let d = c.in-Some.due in
-    passing-on g.D.BlockDevice.told shape events geometry number snapshot before numbers c.args.self.now _ c.begin_pass.new.self d
+    passing-on shape events geometry number snapshot before numbers c.args.self.now _ c.begin_pass.new.self d
     c.pop_front.new.self.items task.Check (ap (request_of d.event) c.in-Check.is) (ap (pass_of d.event) c.in-Check.is) c.begin_pass.ensures.begun
     (c.may_begin.ensures.none c.if-not-may_begin.false) refl refl refl refl refl c.in-Some.ensures.items x
 
 pub returns-in-Repair-clause-course : goal.returns-in-Repair-clause-course
 returns-in-Repair-clause-course g c = λ shape events number numbers geometry snapshot before x.
     let d = c.in-Some.due in
-    passing-on g.D.BlockDevice.told shape events geometry number snapshot before numbers c.args.self.now _ c.begin_pass-in-Repair.new.self d
+    passing-on shape events geometry number snapshot before numbers c.args.self.now _ c.begin_pass-in-Repair.new.self d
     c.pop_front.new.self.items task.Repair (ap (request_of d.event) c.in-Repair.is) (ap (pass_of d.event) c.in-Repair.is) c.begin_pass-in-Repair.ensures.begun
     (c.may_begin.ensures.none c.if-not-may_begin.false) refl refl refl refl refl c.in-Some.ensures.items x
 
@@ -78,7 +78,7 @@ returns-in-Repair-clause-sound g c = c.begin_pass-in-Repair.ensures.sound
 
 pub returns-in-Serve-clause-same : goal.returns-in-Serve-clause-same
 returns-in-Serve-clause-same g c =
-    let same = served-self g.D.BlockDevice.told c.in-Some.due.event c.in-Serve.op _ c.hand_over.new.self c.hand_over.ensures.served c.hand_over.ensures.place in
+    let same = served-self c.in-Some.due.event c.in-Serve.op _ c.hand_over.new.self c.hand_over.ensures.served c.hand_over.ensures.place in
     record { pass = same.pass; place = same.place; room = same.room }
 
 pub returns-in-Check-clause-same : goal.returns-in-Check-clause-same
@@ -93,7 +93,7 @@ returns-in-Repair-clause-same g c =
 
 pub returns-in-Serve-clause-count : goal.returns-in-Serve-clause-count
 returns-in-Serve-clause-count g c =
-    let more = served-count g.D.BlockDevice.told c.in-Some.due.event c.in-Serve.op _ c.hand_over.new.self c.hand_over.ensures.served in
+    let more = served-count c.in-Some.due.event c.in-Serve.op _ c.hand_over.new.self c.hand_over.ensures.served in
     let due = ap length c.in-Some.ensures.items in omega (arith, more, due)
 
 pub returns-in-Check-clause-count : goal.returns-in-Check-clause-count
@@ -130,14 +130,14 @@ invariant_of-self g c =
 pub returns-in-Serve-clause-parts : goal.returns-in-Serve-clause-parts
 returns-in-Serve-clause-parts g c =
     let kept = c.hand_over.ensures.parts in
-    record { labels = kept.labels; room = kept.room; handed = kept.handed; others = kept.others; here = kept.here; window = kept.window }
+    record { labels = kept.labels; room = kept.room; site = kept.site; handed = kept.handed; others = kept.others; here = kept.here; window = kept.window }
 
 pub returns-in-Check-clause-parts : goal.returns-in-Check-clause-parts
 returns-in-Check-clause-parts g c =
     let kept = c.begin_pass.ensures.parts in
-    record { labels = kept.labels; room = kept.room; handed = kept.handed; others = kept.others; here = kept.here; window = kept.window }
+    record { labels = kept.labels; room = kept.room; site = kept.site; handed = kept.handed; others = kept.others; here = kept.here; window = kept.window }
 
 pub returns-in-Repair-clause-parts : goal.returns-in-Repair-clause-parts
 returns-in-Repair-clause-parts g c =
     let kept = c.begin_pass-in-Repair.ensures.parts in
-    record { labels = kept.labels; room = kept.room; handed = kept.handed; others = kept.others; here = kept.here; window = kept.window }
+    record { labels = kept.labels; room = kept.room; site = kept.site; handed = kept.handed; others = kept.others; here = kept.here; window = kept.window }

@@ -3,5 +3,5 @@ use Rattle.r6_runner.proofs.runner.Runner.go_round.Goals as goal
 
 pub returns-clause-goes : goal.returns-clause-goes
 returns-clause-goes g c =
-    none-then g.D.BlockDevice.told g.D.BlockDevice.promised c.args.self.now c.advance.new.self c.rests.new.self c.advance.ensures.goes
+    none-then c.args.self.now c.advance.new.self c.rests.new.self c.advance.ensures.goes
     c.rests.ensures.goes

@@ -1,15 +1,15 @@
 use Rattle.std.proofs.Common.{◌≡◌, ◌<◌, ◌≤◌, ◌+◌, ◌∙◌, ◌++◌, ◌∷◌, [], ℕ, List, ap, arith, length, refl, subst, sym, vec_capacity}
 use Rattle.std.specs.Prelude.{option_to_list}
 use Rattle.std.proofs.lemmas.List.{append-nil, length_push}
-use Rattle.r6_shard.specs.declared.parts.Part.{Part}
-use Rattle.r6_shard.specs.Handing.{HandsIn, RefusesPart, parts_tell}
-use Rattle.r6_shard.specs.Sound.{IsSoundIn, TakesSound, parts_promise}
+use Rattle.r6_exchange.specs.declared.task.Part.{Part}
+use Rattle.r6_shard.specs.Handing.{HandsIn, RefusesPart}
+use Rattle.r6_shard.specs.Performing.{Performer}
+use Rattle.r6_shard.specs.Sound.{IsSoundIn, TakesSound}
 use Rattle.r6_shard.proofs.Going.{either_way}
-use Rattle.r6_shard.specs.declared.parts.Parts.{Parts}
-use Rattle.r6_shard.specs.declared.shard.Shard.{Shard}
+use Rattle.r6_shard.specs.declared.performs.Performs.{Ghosts}
 use Rattle.r6_runner.specs.declared.runner.Runner.{Runner}
 use Rattle.r6_runner.specs.Runners.{IsPartTaken, taken_by}
-use Rattle.r6_runner.proofs.Parts.{one-more, only-looked}
+use Rattle.r6_runner.proofs.Parts.{grown, only-looked}
 use Rattle.r6_runner.proofs.Keeping.{still-sound}
 use Rattle.r6_runner.proofs.Taken.{KeepsRest, keeps-rest, keeps-same, was-clean}
 use Rattle.r6_runner.proofs.runner.Runner.hand_in.Goals as goal
@@ -17,14 +17,13 @@ use Rattle.r6_runner.proofs.runner.Runner.hand_in.Goals.{in-Ok-Some, in-Ok-None,
 
 pub returns-clause-sound : goal.returns-clause-sound
 returns-clause-sound g c = λ shape number slot fails x.
-    let told = g.D.BlockDevice.told in
     let promised = g.D.BlockDevice.promised in
     let old = c.args.self.now.shard in
     let new = c.hand_in.new.self in
-    either_way c.hand_in.result (λ _. TakesSound told promised c.args.part old new) (λ r. RefusesPart c.args.part old r new)
-    (IsSoundIn (parts_tell told) (parts_promise promised) shape number slot new) c.hand_in.ensures.sound c.hand_in.ensures.refused
+    either_way c.hand_in.result (λ _. TakesSound promised c.args.part old new) (λ r. RefusesPart c.args.part old r new)
+    (IsSoundIn shape number slot new) c.hand_in.ensures.sound c.hand_in.ensures.refused
     (λ _ takes. takes shape number slot fails x)
-    (λ r refused. still-sound told promised shape number slot old new refused.same x)
+    (λ r refused. still-sound shape number slot old new refused.same x)
 
 pub push_reserved-requires : goal.push_reserved-requires
 push_reserved-requires g c =
@@ -45,37 +44,38 @@ push_reserved-requires-2 g c =
     omega (arith, long, old.handed_room, c.requires)
 
 -- the parts that came are among what was taken
-handed-within : {D : Type 0} (runner : Runner D) → length runner.handed.items ≤ taken_by runner
+handed-within : {P D : Type 0} {g : Ghosts P} (runner : Runner P D g) → length runner.handed.items ≤ taken_by runner
 handed-within runner = omega arith
 
 pub returns-clause-handed : goal.returns-clause-handed
 returns-clause-handed g c =
     let told = g.D.BlockDevice.told in
+    let promised = g.D.BlockDevice.promised in
     let part = c.args.part in
     let self = c.args.self.now in
     let old = self.shard in
     let new = c.hand_in.new.self in
     let others = c.match-hand_in.self.1.1.1.1.1.1.1.0 in
     let count = handed-within self in
-    let few : length old.parts.parts.items < vec_capacity old.parts.parts = omega (arith, count, self.parts_room, c.requires) in
-    let came : (back : List (Part g.row.D.Denot)) × IsPartTaken c.match-hand_in.taken told part back old new
+    let few : length (g.P.Performs.performer old.parts).labels < (g.P.Performs.performer old.parts).part_room = omega (arith, count, self.parts_room, c.requires) in
+    let came : (back : List (Part g.row.D.Denot)) × IsPartTaken c.match-hand_in.taken told promised part back old new
     × (others.items ≡ self.others.items ++ back) =
     elim c.match-hand_in.branch [
       | in-Ok-Some w ↦ (
         w.in-Ok-Some.earlier ∷ [],
-        subst (λ is. IsPartTaken is told part (w.in-Ok-Some.earlier ∷ []) old new) (sym w.taken-is)
+        subst (λ is. IsPartTaken is told promised part (w.in-Ok-Some.earlier ∷ []) old new) (sym w.taken-is)
             (_, w.in-Ok-Some.ensures.handed, sym (ap option_to_list w.in-Ok-Some.field-0-is)),
         subst (λ s. s.1.1.1.1.1.1.1.0.items ≡ self.others.items ++ w.in-Ok-Some.earlier ∷ []) (sym w.self-is) w.push_reserved.ensures.items,
       )
       | in-Ok-None w ↦ (
         [],
-        subst (λ is. IsPartTaken is told part [] old new) (sym w.taken-is)
+        subst (λ is. IsPartTaken is told promised part [] old new) (sym w.taken-is)
             (_, w.in-Ok-None.ensures.handed, sym (ap option_to_list w.in-Ok-None.field-0-is)),
         subst (λ s. s.1.1.1.1.1.1.1.0.items ≡ self.others.items ++ []) (sym w.self-is) (sym (append-nil self.others.items)),
       )
       | in-Err w ↦ (
         part ∷ [],
-        subst (λ is. IsPartTaken is told part (part ∷ []) old new) (sym w.taken-is)
+        subst (λ is. IsPartTaken is told promised part (part ∷ []) old new) (sym w.taken-is)
             (w.in-Err.ensures.refused.same, only-looked w.in-Err.refused.refusal part old w.in-Err.ensures.refused.reason few, refl),
         subst (λ s. s.1.1.1.1.1.1.1.0.items ≡ self.others.items ++ part ∷ []) (sym w.self-is)
             (w.push_reserved-in-Err.ensures.items ∙ ap (λ (p : Part _). self.others.items ++ p ∷ []) w.in-Err.ensures.refused.back),
@@ -102,21 +102,15 @@ at-most-one : {A : Type 0} (before after : List A) (x : A) (capacity capacity' :
 at-most-one before after x capacity capacity' more same =
     let long = ap length more ∙ length_push before x in (omega (arith, long), same)
 
-at-most-same : {D : Type 0} (old new : Shard (Parts D)) → new ≡ old
-    → (length new.parts.parts.items ≤ length old.parts.parts.items + 1) × (vec_capacity new.parts.parts ≡ vec_capacity old.parts.parts)
-at-most-same old new same =
-    let long = ap (λ (s : Shard _). length s.parts.parts.items) same in
-    (omega (arith, long), ap (λ (s : Shard _). vec_capacity s.parts.parts) same)
-
 pub invariant_of-self : goal.invariant_of-self
 invariant_of-self g c =
     let old = c.args.self.now in
     let new = c.hand_in.new.self in
     let part = c.args.part in
     let others = c.match-hand_in.self.1.1.1.1.1.1.1.0 in
-    let kept = either_way c.hand_in.result (λ e. HandsIn g.D.BlockDevice.told part e old.shard new) (λ r. RefusesPart part old.shard r new)
+    let kept = either_way c.hand_in.result (λ e. HandsIn g.D.BlockDevice.told g.D.BlockDevice.promised part e old.shard new) (λ r. RefusesPart part old.shard r new)
     (KeepsRest old.shard new) c.hand_in.ensures.handed c.hand_in.ensures.refused
-    (λ e. keeps-rest g.D.BlockDevice.told part e old.shard new) (λ r refused. keeps-same old.shard new refused.same) in
+    (λ e. keeps-rest g.D.BlockDevice.told g.D.BlockDevice.promised part e old.shard new) (λ r refused. keeps-same old.shard new refused.same) in
     let few : (length others.items ≤ length old.others.items + 1) × (vec_capacity others ≡ vec_capacity old.others) =
     elim c.match-hand_in.branch [
       | in-Ok-Some w ↦
@@ -129,11 +123,16 @@ invariant_of-self g c =
           subst (λ s. (length s.1.1.1.1.1.1.1.0.items ≤ length old.others.items + 1) × (vec_capacity s.1.1.1.1.1.1.1.0 ≡ vec_capacity old.others))
           (sym w.self-is) (at-most-one old.others.items _ _ _ _ w.push_reserved-in-Err.ensures.items w.push_reserved-in-Err.ensures.capacity)
     ] in
-    let room = either_way c.hand_in.result (λ e. HandsIn g.D.BlockDevice.told part e old.shard new) (λ r. RefusesPart part old.shard r new)
-    ((length new.parts.parts.items ≤ length old.shard.parts.parts.items + 1) × (vec_capacity new.parts.parts ≡ vec_capacity old.shard.parts.parts))
+    let before = g.P.Performs.performer old.shard.parts in
+    let now = g.P.Performs.performer new.parts in
+    let room = either_way c.hand_in.result (λ e. HandsIn g.D.BlockDevice.told g.D.BlockDevice.promised part e old.shard new) (λ r. RefusesPart part old.shard r new)
+    ((length now.labels ≤ length before.labels + 1) × (now.part_room ≡ before.part_room))
     c.hand_in.ensures.handed c.hand_in.ensures.refused
-    (λ e h. (one-more part e old.shard.parts new.parts h.taken.labels, h.part_room))
-    (λ r refused. at-most-same old.shard new refused.same) in
+    (λ e h. (grown part e before.labels now.labels h.taken.labels, h.taken.part_room))
+    (λ r refused.
+    let same : now ≡ before = ap (λ s. g.P.Performs.performer s.parts) refused.same in
+    let long = ap (λ (p : Performer). length p.labels) same in
+    (omega (arith, long), ap (λ (p : Performer). p.part_room) same)) in
     let asked = ap length kept.asked in
     let handed = ap length c.push_reserved-2.ensures.items ∙ length_push old.handed.items _ in
     let most = few.0 in

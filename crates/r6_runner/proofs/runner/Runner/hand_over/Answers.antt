@@ -6,16 +6,15 @@ use Rattle.r6_shard.specs.declared.ledger.Asked.{Asked}
 use Rattle.r6_shard.specs.declared.shard.Shard.{Shard}
 use Rattle.r6_shard.proofs.Lasting.{refused-so}
 use Rattle.r6_runner.proofs.Awaiting.{accepted, alike}
-use Rattle.r6_runner.proofs.Counting.{stays-counted}
-use Rattle.r6_shard.specs.declared.parts.Parts.{Parts}
-use Rattle.r6_shard.specs.Handing.{parts_labels, parts_room}
+use Rattle.r6_runner.proofs.Counting.{keeps-counted}
+use Rattle.r6_shard.specs.Performing.{Performer}
 use Rattle.r6_runner.proofs.Parts.{still-room}
 use Rattle.r6_runner.proofs.runner.Runner.hand_over.Goals as goal
 
 pub returns-in-Ok-clause-counted : goal.returns-in-Ok-clause-counted
 returns-in-Ok-clause-counted g c =
     let old = c.args.self.now in
-    stays-counted old.rows old.shard.core c.submit.new.self.core old.passing old.passed.items c.submit.ensures.passed c.submit.ensures.lasts
+    keeps-counted old.rows old.shard.core c.submit.new.self.core old.passing old.passed.items c.submit.ensures.passed c.submit.ensures.lasts
 
 pub returns-in-Ok-clause-awaited : goal.returns-in-Ok-clause-awaited
 returns-in-Ok-clause-awaited g c = λ events known x.
@@ -30,7 +29,7 @@ pub returns-in-Err-clause-awaited : goal.returns-in-Err-clause-awaited
 returns-in-Err-clause-awaited g c = λ events known x.
     let old = c.args.self.now in
     alike events old.waits old.waits old.shard.asked.items c.submit.new.self.asked.items old.due.items old.due.items refl
-    (ap (λ (y : Shard _). y.asked.items) c.in-Err.ensures.same) refl x
+    (ap (λ (y : Shard _ _). y.asked.items) c.in-Err.ensures.same) refl x
 
 pub invariant_of-self-clause-unskipped : goal.invariant_of-self-clause-unskipped
 invariant_of-self-clause-unskipped g c = λ clean. c.args.self.now.unskipped (c.submit.ensures.remembers clean)
@@ -65,7 +64,7 @@ submit-requires g c = record { room = omega (arith, c.requires.room, c.args.self
 pub returns-in-Err-clause-counted : goal.returns-in-Err-clause-counted
 returns-in-Err-clause-counted g c =
     let old = c.args.self.now in
-    stays-counted old.rows old.shard.core c.submit.new.self.core old.passing old.passed.items c.submit.ensures.passed c.submit.ensures.lasts
+    keeps-counted old.rows old.shard.core c.submit.new.self.core old.passing old.passed.items c.submit.ensures.passed c.submit.ensures.lasts
 
 pub returns-in-Ok-clause-sound : goal.returns-in-Ok-clause-sound
 returns-in-Ok-clause-sound g c = c.submit.ensures.sound
@@ -83,28 +82,30 @@ pub invariant_of-self-in-Err : goal.invariant_of-self-in-Err
 invariant_of-self-in-Err g c =
     let old = c.args.self.now in
     let same = c.in-Err.ensures.same in
-    let asked = ap (λ (y : Shard _). length y.asked.items) same in
+    let asked = ap (λ (y : Shard _ _). length y.asked.items) same in
     let more = ap length c.push_reserved.ensures.items ∙ length-append old.refused.items (_ ∷ []) in
     record {
       unskipped = λ clean. old.unskipped (c.submit.ensures.remembers clean);
       within = omega (arith, asked, more, c.requires.room);
       others_within = old.others_within;
-      shard_room = subst (λ (y : Shard _). old.room ≤ y.room) (sym same) old.shard_room;
+      shard_room = subst (λ (y : Shard _ _). old.room ≤ y.room) (sym same) old.shard_room;
       due_room = old.due_room;
       refused_room = subst (λ (room : ℕ). old.room ≤ room) (sym c.push_reserved.ensures.capacity) old.refused_room;
       passed_room = old.passed_room;
       handed_room = old.handed_room;
       others_room = old.others_room;
-      parts_room = still-room old.shard.parts c.submit.new.self.parts old.room (length old.handed.items) (ap (λ (y : Shard _). parts_labels y.parts) same)
-          (ap (λ (y : Shard _). parts_room y.parts) same) old.parts_room;
+      parts_room = let performer = ap (λ s. g.P.Performs.performer s.parts) same in
+          still-room (g.P.Performs.performer old.shard.parts) (g.P.Performs.performer c.submit.new.self.parts) old.room (length old.handed.items)
+          (ap (λ (p : Performer). p.labels) performer) (ap (λ (p : Performer). p.part_room) performer) old.parts_room;
     }
 
 pub returns-in-Ok-clause-parts : goal.returns-in-Ok-clause-parts
 returns-in-Ok-clause-parts g c =
     let parts = c.in-Ok.ensures.accepted.parts in
     record {
-      labels = ap parts_labels parts;
-      room = ap parts_room parts;
+      labels = ap (λ p. (g.P.Performs.performer p).labels) parts;
+      room = ap (λ p. (g.P.Performs.performer p).part_room) parts;
+      site = ap g.P.Performs.site parts;
       handed = refl;
       others = refl;
       here = c.submit.ensures.here;
@@ -115,8 +116,9 @@ pub returns-in-Err-clause-parts : goal.returns-in-Err-clause-parts
 returns-in-Err-clause-parts g c =
     let same = c.in-Err.ensures.same in
     record {
-      labels = ap (λ (y : Shard _). parts_labels y.parts) same;
-      room = ap (λ (y : Shard _). parts_room y.parts) same;
+      labels = ap (λ s. (g.P.Performs.performer s.parts).labels) same;
+      room = ap (λ s. (g.P.Performs.performer s.parts).part_room) same;
+      site = ap (λ s. g.P.Performs.site s.parts) same;
       handed = refl;
       others = refl;
       here = c.submit.ensures.here;
@@ -127,4 +129,6 @@ pub invariant_of-self-clause-parts_room : goal.invariant_of-self-clause-parts_ro
 invariant_of-self-clause-parts_room g c =
     let old = c.args.self.now in
     let parts = c.in-Ok.ensures.accepted.parts in
-    still-room old.shard.parts c.submit.new.self.parts old.room (length old.handed.items) (ap parts_labels parts) (ap parts_room parts) old.parts_room
+    let performer = ap g.P.Performs.performer parts in
+    still-room (g.P.Performs.performer old.shard.parts) (g.P.Performs.performer c.submit.new.self.parts) old.room (length old.handed.items)
+    (ap (λ (p : Performer). p.labels) performer) (ap (λ (p : Performer). p.part_room) performer) old.parts_room

@@ -1,33 +1,27 @@
-use Rattle.std.specs.Prelude.{IsPermutation, vec_capacity}
-use Rattle.std.proofs.lemmas.List.{append-nil}
+use Rattle.std.specs.Prelude.{IsPermutation}
 use Rattle.std.proofs.lemmas.List.Sorted.{IsPermutation-refl}
-use Rattle.r6_shard.specs.declared.parts.Part.{Part}
-use Rattle.r6_shard.specs.declared.parts.Parts.{Parts}
-use Rattle.r6_shard.specs.Handing.{parts_labels}
+use Rattle.r6_exchange.specs.declared.task.Part.{Part}
 use Rattle.r6_shard.specs.Here.{HasUsed}
 use Rattle.r6_shard.specs.Parts.{labels_of}
 use Rattle.r6_runner.specs.declared.runner.Handed.{Handed}
 use Rattle.r6_runner.specs.Parts.{labels_in}
-use Rattle.std.proofs.Common.{◌≡◌, ℕ, ◌+◌, ◌≤◌, ◌++◌, List, ◌-◌, [], All, None, ap, arith, length, refl, sym, subst}
+use Rattle.std.proofs.Common.{◌≡◌, ◌+◌, ◌≤◌, ◌++◌, List, ◌-◌, [], All, None, ap, arith, length, refl, sym, subst}
 use Rattle.std.proofs.lemmas.List.Elements.{All-nil}
-use Rattle.r6_shard.specs.Handing.{parts_tell}
 use Rattle.r6_runner.specs.declared.pass.Passed.{Passed}
 use Rattle.r6_runner.specs.Counted.{IsCounting, rows_of_shard}
 use Rattle.r6_runner.proofs.Awaiting.{none}
 use Rattle.r6_runner.proofs.Counting.{counting-first}
 use Rattle.r6_runner.proofs.Done.{is-first, is-like}
-use Rattle.r6_shard.proofs.Promises.{begins-sound}
 use Rattle.r6_runner.proofs.runner.Runner.new.Goals as goal
 
 pub returns-clause-begins : goal.returns-clause-begins
 returns-clause-begins g c = λ shape events.
-    let told = g.D.BlockDevice.told in
     let p = c.args.place in
     let shard = c.in_ok-shard.shard in
-    is-like told shape events p.geometry p.number c.args.snapshot.now (parts_tell told c.args.parts) [] shard shard [] c.in_ok-rooms.rooms.refused.items None None
+    is-like shape events p.geometry p.number c.args.snapshot.now (g.P.Performs.performer c.args.parts).tells [] shard shard [] c.in_ok-rooms.rooms.refused.items None None
     [] c.in_ok-rooms.rooms.passed.items [] c.in_ok-rooms.rooms.handed.items [] c.in_ok-rooms.rooms.due.items refl c.in_ok-rooms.ensures.2 refl
     c.in_ok-rooms.ensures.4 c.in_ok-rooms.ensures.6 c.in_ok-rooms.ensures.0
-    (is-first told shape events p.geometry p.number c.args.snapshot.now c.args.parts shard c.in_ok-shard.ensures.parts c.in_ok-shard.ensures.empty
+    (is-first shape events p.geometry p.number c.args.snapshot.now c.args.parts shard c.in_ok-shard.ensures.parts c.in_ok-shard.ensures.empty
     c.in_ok-shard.ensures.shape c.in_ok-shard.ensures.place c.in_ok-shard.ensures.begins)
 
 pub returns-clause-awaited : goal.returns-clause-awaited
@@ -35,10 +29,7 @@ returns-clause-awaited g c = λ events.
     none events 0 c.in_ok-shard.shard.asked.items c.in_ok-rooms.rooms.due.items c.in_ok-shard.ensures.empty c.in_ok-rooms.ensures.0
 
 pub returns-clause-sound : goal.returns-clause-sound
-returns-clause-sound g c = λ slot x.
-    let p = c.args.place in
-    c.in_ok-shard.ensures.sound slot (begins-sound g.D.BlockDevice.told g.D.BlockDevice.promised p.geometry p.number slot c.args.snapshot.now
-    c.args.parts.parts.items x)
+returns-clause-sound g c = c.in_ok-shard.ensures.sound
 
 pub returns-clause-counted : goal.returns-clause-counted
 returns-clause-counted g c =
@@ -77,7 +68,7 @@ invariant_of-result g c =
       passed_room = rooms.5;
       handed_room = rooms.7;
       others_room = rooms.9;
-      parts_room = subst (λ (p : Parts _). length p.parts.items + c.args.room ≤ vec_capacity p.parts + length c.in_ok-rooms.rooms.handed.items)
+      parts_room = subst (λ p. length (g.P.Performs.performer p).labels + c.args.room ≤ (g.P.Performs.performer p).part_room + length c.in_ok-rooms.rooms.handed.items)
           (sym shard.parts) (omega (arith, c.requires.parts_room));
     }
 
@@ -85,12 +76,12 @@ pub returns-clause-own : goal.returns-clause-own
 returns-clause-own g c =
     let rooms = c.in_ok-rooms.ensures in
     let shard = c.in_ok-shard.ensures in
-    let first = parts_labels c.args.parts in
+    let first = (g.P.Performs.performer c.args.parts).labels in
     record {
-      all = subst (λ (p : Parts _). IsPermutation (first ++ labels_in c.in_ok-rooms.rooms.handed.items)
-          (parts_labels p ++ labels_of c.in_ok-rooms.rooms.others.items)) (sym shard.parts)
+      all = subst (λ p. IsPermutation (first ++ labels_in c.in_ok-rooms.rooms.handed.items)
+          ((g.P.Performs.performer p).labels ++ labels_of c.in_ok-rooms.rooms.others.items)) (sym shard.parts)
           (subst (λ (h : List Handed). IsPermutation (first ++ labels_in h) (first ++ labels_of c.in_ok-rooms.rooms.others.items)) (sym rooms.6)
           (subst (λ (o : List (Part _)). IsPermutation (first ++ []) (first ++ labels_of o)) (sym rooms.8) (IsPermutation-refl (first ++ []))));
-      here = λ slot x. subst (λ (p : Parts _). HasUsed (parts_labels p) slot c.in_ok-shard.shard.core) (sym shard.parts) (shard.here slot x);
+      here = λ slot x. subst (λ p. HasUsed (g.P.Performs.performer p).labels slot c.in_ok-shard.shard.core) (sym shard.parts) (shard.here slot x);
       window_is = shard.window;
     }

@@ -19,7 +19,7 @@ returns-clause-goes g c =
     let asked = c.turn.ensures.ledger.asked in
     record {
       course = λ shape events number numbers geometry snapshot before x.
-          has-gone g.D.BlockDevice.told shape events geometry number snapshot before numbers self.shard c.turn.new.self self.refused.items
+          has-gone shape events geometry number snapshot before numbers self.shard c.turn.new.self self.refused.items
           self.passing self.passed.items self.handed.items self.due.items on.course on.lasts asked x;
       sound = on.sound;
       counted = keeps-counted self.rows old new self.passing self.passed.items (λ stopped counted rows x.
@@ -29,7 +29,7 @@ returns-clause-goes g c =
           (λ refusal refused. passes-same old new refused.same stopped counted rows x)) on.lasts;
       awaited = λ events x.
           alike events self.waits self.waits self.shard.asked.items c.turn.new.self.asked.items self.due.items self.due.items refl asked refl x;
-      parts = record { labels = on.labels_stay; room = on.room_stays; handed = refl; others = refl; here = on.here; window = on.lasts.window };
+      parts = record { labels = on.labels_stay; room = on.room_stays; site = on.site_stays; handed = refl; others = refl; here = on.here; window = on.lasts.window };
       place = on.lasts.same.1;
     }
 
@@ -37,4 +37,4 @@ pub invariant_of-self-clause-parts_room : goal.invariant_of-self-clause-parts_ro
 invariant_of-self-clause-parts_room g c =
     let old = c.args.self.now in
     let on = c.turn.ensures.advances in
-    still-room old.shard.parts c.turn.new.self.parts old.room (length old.handed.items) on.labels_stay on.room_stays old.parts_room
+    still-room (g.P.Performs.performer old.shard.parts) (g.P.Performs.performer c.turn.new.self.parts) old.room (length old.handed.items) on.labels_stay on.room_stays old.parts_room

@@ -16,18 +16,18 @@ returns-clause-goes g c =
     let asked = c.rests.ensures.ledger.asked in
     record {
       course = λ shape events number numbers geometry snapshot before x.
-          has-gone g.D.BlockDevice.told shape events geometry number snapshot before numbers old.shard new old.refused.items old.passing
+          has-gone shape events geometry number snapshot before numbers old.shard new old.refused.items old.passing
           old.passed.items old.handed.items old.due.items on.course on.lasts asked x;
       sound = on.sound;
       counted = keeps-counted old.rows old.shard.core new.core old.passing old.passed.items c.rests.ensures.passed on.lasts;
       awaited = λ events x.
           alike events old.waits old.waits old.shard.asked.items new.asked.items old.due.items old.due.items refl asked refl x;
-      parts = record { labels = on.labels_stay; room = on.room_stays; handed = refl; others = refl; here = on.here; window = on.lasts.window };
+      parts = record { labels = on.labels_stay; room = on.room_stays; site = on.site_stays; handed = refl; others = refl; here = on.here; window = on.lasts.window };
       place = on.lasts.same.1;
     }
 
 pub returns-then-has_more-clause-goes : goal.returns-then-has_more-clause-goes
-returns-then-has_more-clause-goes g c = none-same g.D.BlockDevice.told g.D.BlockDevice.promised c.args.self.now
+returns-then-has_more-clause-goes g c = none-same c.args.self.now
 
 pub returns-clause-over : goal.returns-clause-over
 returns-clause-over g c = λ all.
@@ -57,6 +57,6 @@ invariant_of-self g c =
       passed_room = old.passed_room;
       handed_room = old.handed_room;
       others_room = old.others_room;
-      parts_room = still-room old.shard.parts c.rests.new.self.parts old.room (length old.handed.items) c.rests.ensures.advances.labels_stay
+      parts_room = still-room (g.P.Performs.performer old.shard.parts) (g.P.Performs.performer c.rests.new.self.parts) old.room (length old.handed.items) c.rests.ensures.advances.labels_stay
           c.rests.ensures.advances.room_stays old.parts_room;
     }

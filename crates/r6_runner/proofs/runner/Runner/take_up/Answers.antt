@@ -1,8 +1,8 @@
-use Rattle.std.proofs.Common.{◌≡◌, ◌∙◌, [], ◌∷◌, ◌++◌, Some, refl, ap, sym, subst}
+use Rattle.std.proofs.Common.{◌∙◌, Some, refl, ap, sym, subst}
 use Rattle.r6_lists.specs.Events.{Serves, Checks, Repairs, task}
 use Rattle.r6_lists.specs.Lists.{duty_in}
 use Rattle.r6_world.specs.declared.values.Op.TheVariants as op
-use Rattle.r6_shard.specs.declared.parts.Part.{Part}
+use Rattle.r6_exchange.specs.declared.task.Part.{Part}
 use Rattle.r6_runner.proofs.Awaiting.{put-awaited, handed-awaited}
 use Rattle.r6_runner.proofs.Done.{put-on, handed-on}
 use Rattle.r6_runner.proofs.Keeping.{still-sound}
@@ -13,7 +13,7 @@ use Rattle.r6_runner.proofs.runner.Runner.take_up.Goals as goal
 pub returns-in-Read-clause-course : goal.returns-in-Read-clause-course
 returns-in-Read-clause-course g c = λ numbers geometry snapshot before x.
     let i = c.args.item in
-    put-on g.D.BlockDevice.told g.L.Events.shape g.L.Events.events geometry i.shard snapshot before numbers c.args.self.now c.put.new.self _
+    put-on g.L.Events.shape g.L.Events.events geometry i.shard snapshot before numbers c.args.self.now c.put.new.self _
     i.number i.waits (Serves (op.Read c.in-Read.block c.in-Read.buffer))
     (i.of_event ∙ ap (λ w. Some (task i.number i.waits (duty_in g.D.BlockDevice.told w))) c.in-Read.is)
     refl refl refl c.put.ensures x
@@ -21,7 +21,7 @@ returns-in-Read-clause-course g c = λ numbers geometry snapshot before x.
 pub returns-in-Write-clause-course : goal.returns-in-Write-clause-course
 returns-in-Write-clause-course g c = λ numbers geometry snapshot before x.
     let i = c.args.item in
-    put-on g.D.BlockDevice.told g.L.Events.shape g.L.Events.events geometry i.shard snapshot before numbers c.args.self.now c.put-in-Write.new.self _
+    put-on g.L.Events.shape g.L.Events.events geometry i.shard snapshot before numbers c.args.self.now c.put-in-Write.new.self _
     i.number i.waits (Serves (op.Write c.in-Write.block c.in-Write.buffer))
     (i.of_event ∙ ap (λ w. Some (task i.number i.waits (duty_in g.D.BlockDevice.told w))) c.in-Write.is)
     refl refl refl c.put-in-Write.ensures x
@@ -30,7 +30,7 @@ pub returns-in-Attach-clause-course : goal.returns-in-Attach-clause-course
 returns-in-Attach-clause-course g c = λ numbers geometry snapshot before x.
     let i = c.args.item in
     let part : Part _ = record { slot = c.in-Attach.slot; generation = c.in-Attach.generation; device = c.in-Attach.device } in
-    handed-on g.D.BlockDevice.told g.L.Events.shape g.L.Events.events geometry i.shard snapshot before numbers c.args.self.now c.hand_in.new.self
+    handed-on g.D.BlockDevice.told g.D.BlockDevice.promised g.L.Events.shape g.L.Events.events geometry i.shard snapshot before numbers c.args.self.now c.hand_in.new.self
     i.number i.waits part
     (i.of_event ∙ ap (λ w. Some (task i.number i.waits (duty_in g.D.BlockDevice.told w))) c.in-Attach.is)
     c.hand_in.ensures.handed x
@@ -38,7 +38,7 @@ returns-in-Attach-clause-course g c = λ numbers geometry snapshot before x.
 pub returns-in-Check-clause-course : goal.returns-in-Check-clause-course
 returns-in-Check-clause-course g c = λ numbers geometry snapshot before x.
     let i = c.args.item in
-    put-on g.D.BlockDevice.told g.L.Events.shape g.L.Events.events geometry i.shard snapshot before numbers c.args.self.now c.put-in-Check.new.self _
+    put-on g.L.Events.shape g.L.Events.events geometry i.shard snapshot before numbers c.args.self.now c.put-in-Check.new.self _
     i.number i.waits Checks
     (i.of_event ∙ ap (λ w. Some (task i.number i.waits (duty_in g.D.BlockDevice.told w))) c.in-Check.is)
     refl refl refl c.put-in-Check.ensures x
@@ -46,7 +46,7 @@ returns-in-Check-clause-course g c = λ numbers geometry snapshot before x.
 pub returns-in-Repair-clause-course : goal.returns-in-Repair-clause-course
 returns-in-Repair-clause-course g c = λ numbers geometry snapshot before x.
     let i = c.args.item in
-    put-on g.D.BlockDevice.told g.L.Events.shape g.L.Events.events geometry i.shard snapshot before numbers c.args.self.now c.put-in-Repair.new.self _
+    put-on g.L.Events.shape g.L.Events.events geometry i.shard snapshot before numbers c.args.self.now c.put-in-Repair.new.self _
     i.number i.waits Repairs
     (i.of_event ∙ ap (λ w. Some (task i.number i.waits (duty_in g.D.BlockDevice.told w))) c.in-Repair.is)
     refl refl refl c.put-in-Repair.ensures x
@@ -74,26 +74,26 @@ returns-in-Repair-clause-awaited g c =
 pub returns-in-Attach-clause-awaited : goal.returns-in-Attach-clause-awaited
 returns-in-Attach-clause-awaited g c =
     let part : Part _ = record { slot = c.in-Attach.slot; generation = c.in-Attach.generation; device = c.in-Attach.device } in
-    handed-awaited g.D.BlockDevice.told g.L.Events.events c.args.self.now c.hand_in.new.self c.args.item.number part c.hand_in.ensures.handed
+    handed-awaited g.D.BlockDevice.told g.D.BlockDevice.promised g.L.Events.events c.args.self.now c.hand_in.new.self c.args.item.number part c.hand_in.ensures.handed
 
 pub returns-in-Read-clause-sound : goal.returns-in-Read-clause-sound
 returns-in-Read-clause-sound g c = λ slot promise x.
-    still-sound g.D.BlockDevice.told g.D.BlockDevice.promised g.L.Events.shape c.args.item.shard slot c.args.self.now.shard c.put.new.self.shard
+    still-sound g.L.Events.shape c.args.item.shard slot c.args.self.now.shard c.put.new.self.shard
     c.put.ensures.shard x
 
 pub returns-in-Write-clause-sound : goal.returns-in-Write-clause-sound
 returns-in-Write-clause-sound g c = λ slot promise x.
-    still-sound g.D.BlockDevice.told g.D.BlockDevice.promised g.L.Events.shape c.args.item.shard slot c.args.self.now.shard c.put-in-Write.new.self.shard
+    still-sound g.L.Events.shape c.args.item.shard slot c.args.self.now.shard c.put-in-Write.new.self.shard
     c.put-in-Write.ensures.shard x
 
 pub returns-in-Check-clause-sound : goal.returns-in-Check-clause-sound
 returns-in-Check-clause-sound g c = λ slot promise x.
-    still-sound g.D.BlockDevice.told g.D.BlockDevice.promised g.L.Events.shape c.args.item.shard slot c.args.self.now.shard c.put-in-Check.new.self.shard
+    still-sound g.L.Events.shape c.args.item.shard slot c.args.self.now.shard c.put-in-Check.new.self.shard
     c.put-in-Check.ensures.shard x
 
 pub returns-in-Repair-clause-sound : goal.returns-in-Repair-clause-sound
 returns-in-Repair-clause-sound g c = λ slot promise x.
-    still-sound g.D.BlockDevice.told g.D.BlockDevice.promised g.L.Events.shape c.args.item.shard slot c.args.self.now.shard c.put-in-Repair.new.self.shard
+    still-sound g.L.Events.shape c.args.item.shard slot c.args.self.now.shard c.put-in-Repair.new.self.shard
     c.put-in-Repair.ensures.shard x
 
 pub returns-in-Attach-clause-sound : goal.returns-in-Attach-clause-sound
@@ -142,17 +142,17 @@ returns-in-Repair-clause-count g c = put-count c.args.self.now c.put-in-Repair.n
 pub returns-in-Attach-clause-counted : goal.returns-in-Attach-clause-counted
 returns-in-Attach-clause-counted g c =
     let part : Part _ = record { slot = c.in-Attach.slot; generation = c.in-Attach.generation; device = c.in-Attach.device } in
-    handed-counted g.D.BlockDevice.told c.args.self.now c.hand_in.new.self c.args.item.number part c.hand_in.ensures.handed
+    handed-counted g.D.BlockDevice.told g.D.BlockDevice.promised c.args.self.now c.hand_in.new.self c.args.item.number part c.hand_in.ensures.handed
 
 pub returns-in-Attach-clause-same : goal.returns-in-Attach-clause-same
 returns-in-Attach-clause-same g c =
     let part : Part _ = record { slot = c.in-Attach.slot; generation = c.in-Attach.generation; device = c.in-Attach.device } in
-    handed-self g.D.BlockDevice.told c.args.self.now c.hand_in.new.self c.args.item.number part c.hand_in.ensures.handed
+    handed-self g.D.BlockDevice.told g.D.BlockDevice.promised c.args.self.now c.hand_in.new.self c.args.item.number part c.hand_in.ensures.handed
 
 pub returns-in-Attach-clause-count : goal.returns-in-Attach-clause-count
 returns-in-Attach-clause-count g c =
     let part : Part _ = record { slot = c.in-Attach.slot; generation = c.in-Attach.generation; device = c.in-Attach.device } in
-    handed-count g.D.BlockDevice.told c.args.self.now c.hand_in.new.self c.args.item.number part c.hand_in.ensures.handed
+    handed-count g.D.BlockDevice.told g.D.BlockDevice.promised c.args.self.now c.hand_in.new.self c.args.item.number part c.hand_in.ensures.handed
 
 pub returns-in-Read-clause-own : goal.returns-in-Read-clause-own
 returns-in-Read-clause-own g c = put-own c.args.self.now c.put.new.self _ c.put.ensures
@@ -169,4 +169,4 @@ returns-in-Repair-clause-own g c = put-own c.args.self.now c.put-in-Repair.new.s
 pub returns-in-Attach-clause-own : goal.returns-in-Attach-clause-own
 returns-in-Attach-clause-own g c =
     let part : Part _ = record { slot = c.in-Attach.slot; generation = c.in-Attach.generation; device = c.in-Attach.device } in
-    handed-own g.D.BlockDevice.told c.args.self.now c.hand_in.new.self c.args.item.number part c.hand_in.ensures.handed
+    handed-own g.D.BlockDevice.told g.D.BlockDevice.promised c.args.self.now c.hand_in.new.self c.args.item.number part c.hand_in.ensures.handed

@@ -10,7 +10,7 @@ use Rattle.r6_runner.proofs.runner.Runner.turn.Goals as goal
 
 pub returns-in-Err-clause-course : goal.returns-in-Err-clause-course
 returns-in-Err-clause-course g c =
-    shard-on g.D.BlockDevice.told c.args.self.now c.loop-turned.self c.turn_one.new.self c.loop-turned.invariant.course c.turn_one.ensures.course
+    shard-on c.args.self.now c.loop-turned.self c.turn_one.new.self c.loop-turned.invariant.course c.turn_one.ensures.course
 
 pub returns-in-Err-clause-pass : goal.returns-in-Err-clause-pass
 returns-in-Err-clause-pass g c = c.turn_one.ensures.pass ∙ c.loop-turned.invariant.pass
@@ -58,7 +58,7 @@ loop-turned-preserved g c =
     let task = c.args.passing.task in
     let passed = c.in_default.ensures.passed in
     record {
-      course = shard-on g.D.BlockDevice.told c.args.self.now c.loop-turned.self c.turn_one.new.self at.course c.turn_one.ensures.course;
+      course = shard-on c.args.self.now c.loop-turned.self c.turn_one.new.self at.course c.turn_one.ensures.course;
       parts = parts-on c.args.self.now c.loop-turned.self c.turn_one.new.self at.parts c.turn_one.ensures.parts;
       sound = λ shape number slot x. c.turn_one.ensures.sound shape number slot (at.sound shape number slot x);
       pass = c.turn_one.ensures.pass ∙ at.pass;

@@ -8,9 +8,9 @@ use Rattle.r6_runner.proofs.runner.Runner.turn.Given as goal
 
 abbrev pub invariant-loop-turned : goal.invariant-loop-turned
 invariant-loop-turned g l = record {
-  course : ShardGoesOn g.D.BlockDevice.told l.fn.self l.self;
+  course : ShardGoesOn l.fn.self l.self;
   parts : KeepsParts l.fn.self l.self;
-  sound : KeepsSound g.D.BlockDevice.told g.D.BlockDevice.promised l.fn.self l.self;
+  sound : KeepsSound l.fn.self l.self;
   pass : l.self.shard.pass ≡ l.fn.self.shard.pass;
   more : ℕ;
   passes : PassesMore more l.fn.self.shard.core l.self.shard.core;
