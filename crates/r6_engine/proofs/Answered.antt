@@ -11,6 +11,7 @@ use Rattle.r6_layout.specs.Shape.{Shape, blocks}
 use Rattle.r6_world.specs.declared.values.Op.{Op}
 use Rattle.r6_lists.specs.Events.{Event, Request, Serves, is_block_of, duty_of}
 use Rattle.r6_shard.specs.declared.ledger.Entry.{Entry}
+use Rattle.r6_shard.specs.declared.performs.Performs.{Ghosts}
 use Rattle.r6_feed.specs.declared.answer.EventAnswer.{EventAnswer}
 use Rattle.r6_feed.specs.Feeds.{asked_before, asked_in, asking_at, asking_of}
 use Rattle.r6_feed.specs.Feeds as feeds
@@ -72,7 +73,7 @@ both-none event xs ys none none' =
     let both = sum_by-append (λ (s : Said). is_of event s.0) xs ys in omega (arith, both, none, none')
 
 -- a shard refused the request of this event
-pub record IsRefusal {D : Type 0} (event : ℕ) (r : Runner D) (answer : EventReply) : Type 0 where
+pub record IsRefusal {P D : Type 0} {g : Ghosts P} (event : ℕ) (r : Runner P D g) (answer : EventReply) : Type 0 where
   pub k : ℕ
   pub refused : ℕ × Refusal
   pub stands : slice_get r.refused.items k ≡ Some refused
@@ -81,7 +82,7 @@ pub record IsRefusal {D : Type 0} (event : ℕ) (r : Runner D) (answer : EventRe
   pub reply : answer ≡ Refused refused.1
 
 -- or answered it
-pub record IsEntry {D : Type 0} (event : ℕ) (r : Runner D) (answer : EventReply) : Type 0 where
+pub record IsEntry {P D : Type 0} {g : Ghosts P} (event : ℕ) (r : Runner P D g) (answer : EventReply) : Type 0 where
   pub k : ℕ
   pub entry : Entry
   pub stands : slice_get r.shard.entries.items k ≡ Some entry
@@ -89,11 +90,11 @@ pub record IsEntry {D : Type 0} (event : ℕ) (r : Runner D) (answer : EventRepl
   pub one : times event (map said_of_entry r.shard.entries.items) ≡ 1
   pub reply : answer ≡ Replied entry.reply
 
-abbrev pub IsRefusedOrAnswered : {D : Type 0} → (event : ℕ) → Runner D → EventReply → Type 0
+abbrev pub IsRefusedOrAnswered : {P D : Type 0} {g : Ghosts P} → (event : ℕ) → Runner P D g → EventReply → Type 0
 IsRefusedOrAnswered event r answer = IsRefusal event r answer ⊎ IsEntry event r answer
 
-module _ {D : Type 0} (shape : Shape) (events : List Event) (runners : List (Runner D)) (answers : List EventAnswer)
-    (said : (shard : ℕ) (r : Runner D) → slice_get runners shard ≡ Some r → HasSaid shape shard events r)
+module _ {P D : Type 0} {g : Ghosts P} (shape : Shape) (events : List Event) (runners : List (Runner P D g)) (answers : List EventAnswer)
+    (said : (shard : ℕ) (r : Runner P D g) → slice_get runners shard ≡ Some r → HasSaid shape shard events r)
     (asked : map asked_in answers ≡ asked_before shape events (length events)) where
   abbrev pub table : List EventReply
   table = replies_of (length events) runners answers
@@ -117,7 +118,7 @@ module _ {D : Type 0} (shape : Shape) (events : List Event) (runners : List (Run
       (known-at fresh (said_by_all runners) event (omega (arith, long, below))
       ∙ ap (λ r. known event r (said_by_all runners)) (get_or-replicate (length events) event Waited Waited below))
 
-  pub often : (event k : ℕ) (r : Runner D) (asked_event : Event) → slice_get events event ≡ Some asked_event → slice_get runners k ≡ Some r
+  pub often : (event k : ℕ) (r : Runner P D g) (asked_event : Event) → slice_get events event ≡ Some asked_event → slice_get runners k ≡ Some r
       → SaysOften event (duty_of shape k asked_event) r
   often event k r ev is there =
       subst (λ o. SaysOften event o r) (ap (option_and_then (duty_of shape k)) is)
@@ -133,13 +134,13 @@ module _ {D : Type 0} (shape : Shape) (events : List Event) (runners : List (Run
   -- ---- a request for a block of the array
 
   module _ (event : ℕ) (o : Op) (is : slice_get events event ≡ Some (Request o)) (within : block_in o < blocks shape) where
-    others-silent : (k : ℕ) (other : Runner D) → slice_get runners k ≡ Some other → k ≢ shard_with shape (block_in o)
+    others-silent : (k : ℕ) (other : Runner P D g) → slice_get runners k ≡ Some other → k ≢ shard_with shape (block_in o)
         → times event (said_by other) ≡ 0
     others-silent k other there ne =
         (often event k other (Request o) is there).all
         ∙ ap (λ b. asks_of (if b then Some (Serves o) else None) + passes_of (if b then Some (Serves o) else None)) (other-block shape k (block_in o) ne)
 
-    pub own-often : (r : Runner D) → slice_get runners (shard_with shape (block_in o)) ≡ Some r → SaysOften event (Some (Serves o)) r
+    pub own-often : (r : Runner P D g) → slice_get runners (shard_with shape (block_in o)) ≡ Some r → SaysOften event (Some (Serves o)) r
     own-often r there =
         subst (λ b. SaysOften event (if b then Some (Serves o) else None) r) (own-block shape (block_in o) within)
         (often event (shard_with shape (block_in o)) r (Request o) is there)
@@ -151,7 +152,7 @@ module _ {D : Type 0} (shape : Shape) (events : List Event) (runners : List (Run
         ∙ ap (λ b. weigh (λ (q : ℕ × feeds.Asking). is_of event q.0) (option_map (λ asking. (event, asking)) (if b then None else Some feeds.NoBlock))) below
 
     -- what its shard said of it alone counts
-    by-shard : (r : Runner D) → slice_get runners (shard_with shape (block_in o)) ≡ Some r
+    by-shard : (r : Runner P D g) → slice_get runners (shard_with shape (block_in o)) ≡ Some r
         → at event ≡ known event Waited (said_by r)
     by-shard r there =
         at-event event (slice_get_within events event (Request o) is)
@@ -159,7 +160,7 @@ module _ {D : Type 0} (shape : Shape) (events : List Event) (runners : List (Run
         ∙ one-shard event Waited runners (shard_with shape (block_in o)) r there others-silent
 
     -- an entry of it tells its reply
-    pub entry-replies : (r : Runner D) → slice_get runners (shard_with shape (block_in o)) ≡ Some r → (k : ℕ) (e : Entry)
+    pub entry-replies : (r : Runner P D g) → slice_get runners (shard_with shape (block_in o)) ≡ Some r → (k : ℕ) (e : Entry)
         → slice_get r.shard.entries.items k ≡ Some e → e.event ≡ event → at event ≡ Replied e.reply
     entry-replies r there k e stands same =
         let refused = map said_of_refusal r.refused.items in
@@ -180,7 +181,7 @@ module _ {D : Type 0} (shape : Shape) (events : List Event) (runners : List (Run
         ∙ one-known event Waited (Replied e.reply) entries k one place
 
     -- it was refused or answered, and not both
-    pub request-known : (r : Runner D) → slice_get runners (shard_with shape (block_in o)) ≡ Some r
+    pub request-known : (r : Runner P D g) → slice_get runners (shard_with shape (block_in o)) ≡ Some r
         → IsRefusedOrAnswered event r (at event)
     request-known r there =
         let refused = map said_of_refusal r.refused.items in
@@ -226,7 +227,7 @@ module _ {D : Type 0} (shape : Shape) (events : List Event) (runners : List (Run
 
   -- the calling thread answered the event by what it asks
   pub thread-answers : (event : ℕ) (ev : Event) (asking : feeds.Asking) → slice_get events event ≡ Some ev → asking_of shape ev ≡ Some asking
-      → ((k : ℕ) (r : Runner D) → slice_get runners k ≡ Some r → times event (said_by r) ≡ 0)
+      → ((k : ℕ) (r : Runner P D g) → slice_get runners k ≡ Some r → times event (said_by r) ≡ 0)
       → (a : EventAnswer) × (at event ≡ reply_of_answer a.outcome) × (feeds.asking_in a.outcome ≡ asking)
   thread-answers event ev asking is asks silent =
       let said' = map said_of_answer answers in
@@ -254,7 +255,7 @@ module _ {D : Type 0} (shape : Shape) (events : List Event) (runners : List (Run
 
   -- nobody answers a wait
   pub nobody-answers : (event : ℕ) (ev : Event) → slice_get events event ≡ Some ev → asking_of shape ev ≡ None
-      → ((k : ℕ) (r : Runner D) → slice_get runners k ≡ Some r → times event (said_by r) ≡ 0) → at event ≡ Waited
+      → ((k : ℕ) (r : Runner P D g) → slice_get runners k ≡ Some r → times event (said_by r) ≡ 0) → at event ≡ Waited
   nobody-answers event ev is asks silent =
       let none : times event (map said_of_answer answers) ≡ 0 =
       thread event ev is ∙ ap (λ o. weigh (λ (q : ℕ × feeds.Asking). is_of event q.0) (option_map (λ asking. (event, asking)) o)) asks in
@@ -265,19 +266,19 @@ module _ {D : Type 0} (shape : Shape) (events : List Event) (runners : List (Run
   -- no shard has a part of it
   pub silent : (event : ℕ) (ev : Event) → slice_get events event ≡ Some ev
       → ((k : ℕ) → asks_of (duty_of shape k ev) + passes_of (duty_of shape k ev) ≡ 0)
-      → (k : ℕ) (r : Runner D) → slice_get runners k ≡ Some r → times event (said_by r) ≡ 0
+      → (k : ℕ) (r : Runner P D g) → slice_get runners k ≡ Some r → times event (said_by r) ≡ 0
   silent event ev is none k r there = (often event k r ev is there).all ∙ none k
 
   -- ---- checks and repairs
 
   -- a shard has one pass for the event
-  pub record IsPassOf (event : ℕ) (r : Runner D) : Type 0 where
+  pub record IsPassOf (event : ℕ) (r : Runner P D g) : Type 0 where
     pub k : ℕ
     pub passed : Passed
     pub stands : slice_get r.passed.items k ≡ Some passed
     pub adds : (answer : EventReply) → known event answer (said_by r) ≡ known_with answer (reply.Counted (found_in passed))
 
-  pub one-pass : (event k : ℕ) (r : Runner D) (ev : Event) → slice_get events event ≡ Some ev → slice_get runners k ≡ Some r
+  pub one-pass : (event k : ℕ) (r : Runner P D g) (ev : Event) → slice_get events event ≡ Some ev → slice_get runners k ≡ Some r
       → asks_of (duty_of shape k ev) ≡ 0 → passes_of (duty_of shape k ev) ≡ 1 → IsPassOf event r
   one-pass event k r ev is there none one =
       let refused = map said_of_refusal r.refused.items in

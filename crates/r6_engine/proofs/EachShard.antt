@@ -5,13 +5,13 @@ use Rattle.std.proofs.lemmas.Bool.{cases_lt}
 use Rattle.std.proofs.lemmas.List.{append-nil, drop_all, take_all, get_or-set_other, get_or-set_same}
 use Rattle.std.proofs.lemmas.Option.{none-some, get_or_from_slice_get, slice_get_within, slice_get-get_or}
 use Rattle.r6_dev.specs.History.{Telling}
-use Rattle.r6_dev.specs.Promises.{Promise}
 use Rattle.r6_layout.specs.Shape.{Shape, IsShape}
 use Rattle.r6_world.specs.Registers.{Snapshot}
 use Rattle.r6_lists.specs.Events.{Event, tasks_of, numbers_of}
 use Rattle.r6_shard.specs.declared.parts.Parts.{Parts}
-use Rattle.r6_shard.specs.Handing.{parts_labels, parts_tell}
 use Rattle.r6_shard.specs.Here.{BeginsHere}
+use Rattle.r6_shard.specs.declared.performs.Performs.{Ghosts}
+use Rattle.r6_shard.specs.Parts.{labels_of, part_in}
 use Rattle.r6_runner.specs.Parts.{HasAll}
 use Rattle.r6_runner.specs.declared.runner.Runner.{Runner}
 use Rattle.r6_runner.specs.Tasks.{passes_in, passed_of, under_way, due_passes, requests_in, due_requests}
@@ -76,13 +76,13 @@ numbered_still R number same olds news all before k d below =
     same partner.0 (slice_index_or news k d) partner.2 ∙ number_at number olds k partner.0 partner.1 before
 
 -- what it refused had a reason, what it accepted had none, and was handed in behind the waits
-record IsRight {D : Type 0} (shape : Shape) (events : List Event) (r : Runner D) : Type 0 where
+record IsRight {P D : Type 0} {g : Ghosts P} (shape : Shape) (events : List Event) (r : Runner P D g) : Type 0 where
   refused : HadReasons shape.block events r.shard.core r.refused.items
   right : WereRight shape.block events r.shard.asked.items
   behind : AreBehindWaits events r.shard.asked.items
 
-is_right : {D : Type 0} (told : D → Telling) (shape : Shape) (events : List Event) (start : Snapshot) (own : Parts D) (shard : ℕ) (r : Runner D)
-    → HasDone told shape events shape shard start (parts_tell told own) (numbers_of (tasks_of shape shard events)) r → IsOver r
+is_right : {P D : Type 0} {g : Ghosts P} (told : D → Telling) (shape : Shape) (events : List Event) (start : Snapshot) (own : Parts D) (shard : ℕ) (r : Runner P D g)
+    → HasDone shape events shape shard start (part_in told own.parts.items) (numbers_of (tasks_of shape shard events)) r → IsOver r
     → HasAwaited events r → IsRight shape events r
 is_right told shape events start own shard r done over awaited =
     let numbers = numbers_of (tasks_of shape shard events) in
@@ -97,28 +97,28 @@ is_right told shape events start own shard r done over awaited =
     }
 
 -- each shard's thread began with its parts, ran, and took all of the shard's tasks; then the shard went on to its end
-each_served : {D T : Type 0} (told : D → Telling) (promised : D → Promise) (shape : Shape) (events : List Event) (start : Snapshot) (window : ℕ)
-    (number : T → ℕ) (numbers : T → List ℕ) (finished : T → Bool) (runner : T → Runner D)
-    (parts : List (Parts D)) (olds news : List T) (runners : List (Runner D))
+each_served : {P D T : Type 0} {g : Ghosts P} (told : D → Telling) (shape : Shape) (events : List Event) (start : Snapshot) (window : ℕ)
+    (number : T → ℕ) (numbers : T → List ℕ) (finished : T → Bool) (runner : T → Runner P D g)
+    (parts : List (Parts D)) (olds news : List T) (runners : List (Runner P D g))
     → AllZip (λ p t. Begins told shape events start window p (number t) (numbers t) (runner t)) parts olds
-    → AllZip (λ old new. HasRun told shape events (number old) (numbers old) (runner old) (number new) (numbers new) (finished new) (runner new)) olds news
+    → AllZip (λ old new. HasRun shape events (number old) (numbers old) (runner old) (number new) (numbers new) (finished new) (runner new)) olds news
     → AreNumbered number olds
     → ((shard : ℕ) (t : T) → slice_get news shard ≡ Some t → numbers t ≡ numbers_of (tasks_of shape shard events))
-    → AllZip (λ t r. TakesNoMore told promised (runner t) r) news runners → All IsOver runners
-    → (shard : ℕ) (own : Parts D) (r : Runner D) → slice_get parts shard ≡ Some own
+    → AllZip (λ t r. TakesNoMore (runner t) r) news runners → All IsOver runners
+    → (shard : ℕ) (own : Parts D) (r : Runner P D g) → slice_get parts shard ≡ Some own
     → slice_get runners shard ≡ Some r → HasServed told shape events start window own shard r
-each_served {D = D} told promised shape events start window number numbers finished runner parts olds news runners begins run numbered taken goes overs shard own r part_at runner_at =
-    let new = partner_at (λ t y. TakesNoMore told promised (runner t) y) news runners shard r goes runner_at in
-    let old = partner_at (λ a b. HasRun told shape events (number a) (numbers a) (runner a) (number b) (numbers b) (finished b) (runner b)) olds news shard new.0 run new.1 in
+each_served {D = D} told shape events start window number numbers finished runner parts olds news runners begins run numbered taken goes overs shard own r part_at runner_at =
+    let new = partner_at (λ t y. TakesNoMore (runner t) y) news runners shard r goes runner_at in
+    let old = partner_at (λ a b. HasRun shape events (number a) (numbers a) (runner a) (number b) (numbers b) (finished b) (runner b)) olds news shard new.0 run new.1 in
     let first = partner_at (λ p t. Begins told shape events start window p (number t) (numbers t) (runner t)) parts olds shard old.0 begins old.1 in
     let part : first.0 ≡ own = some_same first.0 own (sym first.1 ∙ part_at) in
     let there : number old.0 ≡ shard = number_at number olds shard old.0 old.1 numbered in
-    let begun = subst (λ p. HasDone told shape events shape (number old.0) start (parts_tell told p) [] (runner old.0)) part first.2.done in
-    let ran = old.2.course shape start (parts_tell told own)
-    (subst (λ ns. HasDone told shape events shape (number old.0) start (parts_tell told own) ns (runner old.0)) (sym first.2.none_taken) begun) in
-    let here = subst (λ n. HasDone told shape events shape n start (parts_tell told own) (numbers new.0) (runner new.0)) there ran in
-    let all = subst (λ ns. HasDone told shape events shape shard start (parts_tell told own) ns (runner new.0)) (taken shard new.0 new.1) here in
-    let done = new.2.course shape events shard (numbers_of (tasks_of shape shard events)) shape start (parts_tell told own) all in
+    let begun = subst (λ p. HasDone shape events shape (number old.0) start (part_in told p.parts.items) [] (runner old.0)) part first.2.done in
+    let ran = old.2.course shape start (part_in told own.parts.items)
+    (subst (λ ns. HasDone shape events shape (number old.0) start (part_in told own.parts.items) ns (runner old.0)) (sym first.2.none_taken) begun) in
+    let here = subst (λ n. HasDone shape events shape n start (part_in told own.parts.items) (numbers new.0) (runner new.0)) there ran in
+    let all = subst (λ ns. HasDone shape events shape shard start (part_in told own.parts.items) ns (runner new.0)) (taken shard new.0 new.1) here in
+    let done = new.2.course shape events shard (numbers_of (tasks_of shape shard events)) shape start (part_in told own.parts.items) all in
     let over = all_at IsOver runners shard r overs runner_at in
     let counted = subst (λ n. HasCounted (rows_of_shard shape n) r) there
     (new.2.counted (rows_of_shard shape (number old.0)) (old.2.counted (rows_of_shard shape (number old.0)) first.2.counted)) in
@@ -128,12 +128,12 @@ each_served {D = D} told promised shape events start window number numbers finis
       refused = right.refused;
       right = right.right;
       behind = right.behind;
-      all = subst (λ p. HasAll (parts_labels p) r) part
-          ((own-same (runner new.0) r new.2.parts).all (parts_labels first.0) (old.2.own.all (parts_labels first.0) first.2.all));
+      all = subst (λ p. HasAll (labels_of p.parts.items) r) part
+          ((own-same (runner new.0) r new.2.parts).all (labels_of first.0.parts.items) (old.2.own.all (labels_of first.0.parts.items) first.2.all));
       here = λ slot begun'. new.2.parts.here slot
-          (old.2.own.here slot (first.2.here slot (subst (λ p. BeginsHere (parts_labels p) shape.slots start slot) (sym part) begun')));
+          (old.2.own.here slot (first.2.here slot (subst (λ p. BeginsHere (labels_of p.parts.items) shape.slots start slot) (sym part) begun')));
       window_is = new.2.parts.window ∙ old.2.own.window ∙ first.2.window_is;
-      counted = counted-at-end (rows_of_shard shape shard) r over.no_pass over.rests.none_out counted;
+      counted = counted-at-end (rows_of_shard shape shard) r over.no_pass counted;
       classed = classed-at-end (rows_of_shard shape shard) r counted;
       over = over;
     }
@@ -152,8 +152,8 @@ partner_of R S xs ys zs k z one other at =
     let first = partner_at R xs ys k mid.0 one mid.1 in (first.0, mid.0, first.1, first.2, mid.2)
 
 -- its passes are its checks and repairs, all of them
-pub all_passed : {D : Type 0} (told : D → Telling) (shape : Shape) (events : List Event) (start : Snapshot) (window : ℕ) (own : Parts D) (shard : ℕ)
-    (r : Runner D)
+pub all_passed : {P D : Type 0} {g : Ghosts P} (told : D → Telling) (shape : Shape) (events : List Event) (start : Snapshot) (window : ℕ) (own : Parts D) (shard : ℕ)
+    (r : Runner P D g)
     → HasServed told shape events start window own shard r
     → passes_in shape shard events (numbers_of (tasks_of shape shard events)) ≡ map passed_of r.passed.items
 all_passed told shape events start window own shard r served =
@@ -164,19 +164,19 @@ all_passed told shape events start window own shard r served =
     ∙ append-nil passed
 
 -- and each shard has its thread
-pub have_served : {D T : Type 0} (told : D → Telling) (promised : D → Promise) (shape : Shape) (events : List Event) (start : Snapshot) (window : ℕ)
-    (number : T → ℕ) (numbers : T → List ℕ) (finished : T → Bool) (runner : T → Runner D)
-    (parts : List (Parts D)) (olds news : List T) (runners : List (Runner D))
+pub have_served : {P D T : Type 0} {g : Ghosts P} (told : D → Telling) (shape : Shape) (events : List Event) (start : Snapshot) (window : ℕ)
+    (number : T → ℕ) (numbers : T → List ℕ) (finished : T → Bool) (runner : T → Runner P D g)
+    (parts : List (Parts D)) (olds news : List T) (runners : List (Runner P D g))
     → IsShape shape → length parts ≡ shape.shards
     → AllZip (λ p t. Begins told shape events start window p (number t) (numbers t) (runner t)) parts olds
-    → AllZip (λ old new. HasRun told shape events (number old) (numbers old) (runner old) (number new) (numbers new) (finished new) (runner new)) olds news
+    → AllZip (λ old new. HasRun shape events (number old) (numbers old) (runner old) (number new) (numbers new) (finished new) (runner new)) olds news
     → AreNumbered number olds
     → ((shard : ℕ) (t : T) → slice_get news shard ≡ Some t → numbers t ≡ numbers_of (tasks_of shape shard events))
-    → AllZip (λ t r. TakesNoMore told promised (runner t) r) news runners → All IsOver runners
+    → AllZip (λ t r. TakesNoMore (runner t) r) news runners → All IsOver runners
     → HaveServed told shape events start window parts runners
-have_served told promised shape events start window number numbers finished runner parts olds news runners lawful whole begins run numbered taken goes over =
+have_served told shape events start window number numbers finished runner parts olds news runners lawful whole begins run numbered taken goes over =
     let as_many = sym (zip-length _ news runners goes) ∙ sym (zip-length _ olds news run) ∙ sym (zip-length _ parts olds begins) in
-    let each = each_served told promised shape events start window number numbers finished runner parts olds news runners begins run numbered taken
+    let each = each_served told shape events start window number numbers finished runner parts olds news runners begins run numbered taken
     goes over in
     record {
       as_many = as_many;

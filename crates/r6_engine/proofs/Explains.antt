@@ -1,5 +1,5 @@
 -- What a shard did explains its ledger and the replies.
-use Rattle.std.proofs.Common.{◌≡◌, ◌∙◌, ℕ, Bool, ◌≤◌, List, [], ◌∷◌, map, length, inl, inr, refl, suc, sym, ap, subst, arith, Option, Some, option_map, option_and_then, slice_get, ◌<◌}
+use Rattle.std.proofs.Common.{◌≡◌, ◌∙◌, ℕ, Bool, ◌≤◌, List, [], ◌∷◌, map, length, inl, inr, refl, suc, sym, ap, subst, arith, Option, Some, None, option_map, option_and_then, slice_get, ◌<◌}
 use Rattle.std.specs.List.{AllByRecursion, Contains, cons_option, filter_map}
 use Rattle.r6_dev.specs.History.{Telling}
 use Rattle.r6_layout.specs.Shape.{IsShape, Shape}
@@ -10,25 +10,23 @@ use Rattle.r6_world.specs.Registers.{Snapshot}
 use Rattle.r6_world.specs.ShardStates.{IsLive, Shard as WorldShard, is_away}
 use Rattle.r6_world.specs.Tables.{count_below}
 use Rattle.r6_world.specs.Values.{op_of}
-use Rattle.r6_world.proofs.Tables.{not_both}
+use Rattle.r6_world.proofs.Tables.{None-not_Some, Some-inj, not_both}
 use Rattle.r6_core.specs.declared.refusal.Refusal.{Refusal}
 use Rattle.r6_core.specs.Shards.{CoreView, core_layout, world_shard}
 use Rattle.r6_lists.specs.Events.{Event}
 use Rattle.r6_shard.specs.declared.ledger.Asked.{Asked}
 use Rattle.r6_shard.specs.declared.ledger.Asking.{Asking}
 use Rattle.r6_shard.specs.declared.ledger.Entry.{Entry}
-use Rattle.r6_shard.specs.declared.parts.Part.{Part}
 use Rattle.r6_shard.specs.declared.parts.Parts.{Parts}
 use Rattle.r6_shard.specs.Beginnings.{start_of}
 use Rattle.r6_shard.specs.Courses.{replied_of, stand_of}
-use Rattle.r6_shard.specs.Handing.{parts_tell}
 use Rattle.r6_shard.specs.Histories.{numbered}
-use Rattle.r6_shard.specs.Parts.{part_in}
 use Rattle.r6_shard.specs.Behind.{IsBehindAll}
 use Rattle.r6_shard.specs.Runs.{AreServed, IsLedger}
 use Rattle.r6_shard.specs.Shards.{Rests}
 use Rattle.r6_shard.proofs.Behind.{behind_law}
-use Rattle.r6_course.specs.Courses.{AreFailed}
+use Rattle.r6_shard.specs.declared.performs.Performs.{Ghosts}
+use Rattle.r6_course.specs.Courses.{AreFailed, Stand}
 use Rattle.r6_course.proofs.Ledger.{order_law}
 use Rattle.r6_course.proofs.Ends.{failure_law, idle_law}
 use Rattle.r6_runner.specs.declared.runner.Runner.{Runner}
@@ -62,6 +60,11 @@ ops-of shape shard events core (g ∷ begun) asked ops refused all x = elim x [
   | inr p ↦ ops-of shape shard events core begun asked ops p.1 all.1 p.5
 ]
 
+-- what is not None
+some-of : {A : Type 0} (o : Option A) → (o ≡ None → ⊥) → (x : A) × (o ≡ Some x)
+some-of None there = absurd (there refl)
+some-of (Some x) there = (x, refl)
+
 filter-mapped : {X Y Z : Type 0} (f : Y → Option Z) (h : X → Y) (g : X → Z) (xs : List X)
     → ((k : ℕ) (x : X) → slice_get xs k ≡ Some x → f (h x) ≡ Some (g x)) → filter_map f (map h xs) ≡ map g xs
 filter-mapped f h g [] all = refl
@@ -78,10 +81,10 @@ replies-of replies entries stand =
 
 -- ---- a shard
 
-module _ {D : Type 0} (told : D → Telling) (shape : Shape) (events : List Event) (start : Snapshot) (window : ℕ) (own : Parts D)
-    (shard : ℕ) (r : Runner D) (x : HasServed told shape events start window own shard r)
+module _ {P D : Type 0} {g : Ghosts P} (told : D → Telling) (shape : Shape) (events : List Event) (start : Snapshot) (window : ℕ) (own : Parts D)
+    (shard : ℕ) (r : Runner P D g) (x : HasServed told shape events start window own shard r)
     (lawful : IsShape shape) (within : shard < shape.shards) (all : AllByRecursion (IsOf shape shard events) x.done.begun)
-    (ledger : Ledger) (is : IsLedgerOf r ledger) (back : ShardParts D) (given : AreBack r back) (replies : List EventReply)
+    (ledger : Ledger) (is : IsLedgerOf r ledger) (back : ShardParts D) (given : AreBack told r back) (replies : List EventReply)
     (stand : (k : ℕ) (e : Entry) → slice_get r.shard.entries.items k ≡ Some e → slice_get replies e.event ≡ Some (Replied e.reply))
   where
     slots-same : r.shard.core.shape.slots ≡ shape.slots
@@ -104,9 +107,6 @@ module _ {D : Type 0} (told : D → Telling) (shape : Shape) (events : List Even
     in-sync : (slot generation : ℕ) → Contains ledger.in_sync.items (slot, generation) → Contains (in_sync_in r.shard.core) (slot, generation)
     in-sync slot generation there = subst (λ (xs : List (ℕ × ℕ)). Contains xs (slot, generation)) is.in_sync there
 
-    tells-so : (slot generation : ℕ) → part_in told back.parts.items slot generation ≡ parts_tell told r.shard.parts slot generation
-    tells-so slot generation = ap (λ (ps : List (Part D)). part_in told ps slot generation) given.parts
-
     counts : CountsEach shape events shard (world_shard r.shard.core) ledger
     counts live few small =
         let tokens = is.tokens in
@@ -117,13 +117,29 @@ module _ {D : Type 0} (told : D → Telling) (shape : Shape) (events : List Even
         let s = start_of shape shard start device array in
         let course = x.done.comes telling device array lawful' hold in
         let follows = course.course.follows in
-        let at = stand_of r.shard.core (view_of r.shard.pass) r.shard.last.attaches r.shard.named (parts_tell told r.shard.parts) course.history in
+        let at : Stand =
+        record (stand_of r.shard.core (view_of r.shard.pass) r.shard.last.attaches r.shard.named (g.performer r.shard.parts).tells course.history)
+        { out = course.course.taken } in
         let law = order_law s course.course.lawful at follows in
         let fails = failure_law s course.course.lawful at follows in
         let idle = λ (rests : Rests r.shard) (live : IsLive s.layout (world_shard r.shard.core)).
         idle_law s course.course.lawful at follows live (λ token c e. absurd (not_both _ c (rests.none_out token) e)) in
-        let found : IsLedger (parts_tell told) s x.done.ops r.shard =
-        record { history = course.history; told = course.tells; explained = law; failure = fails.0; seen = fails.1; idle = idle } in
+        let found : IsLedger s x.done.ops r.shard =
+        record {
+          history = course.history;
+          told = course.tells;
+          explained = record {
+            array = law.array;
+            leads = law.leads;
+            parts = law.parts;
+            others = law.others;
+            well_formed = law.well_formed;
+            none_forgotten = law.none_forgotten;
+          };
+          failure = fails.0;
+          seen = fails.1;
+          idle = idle;
+        } in
         let ops = ops-of shape shard events r.shard.core x.done.begun r.shard.asked.items x.done.ops r.refused.items all x.done.served in
         record {
           history = course.history;
@@ -149,16 +165,19 @@ module _ {D : Type 0} (told : D → Telling) (shape : Shape) (events : List Even
           array = law.array;
           leads = law.leads;
           behind = λ number answered.
-              behind_law (parts_tell told) s x.done.ops r.shard found number (subst (λ (xs : List Asked). IsBehindAll xs number) is.requests answered);
+              behind_law g s x.done.ops r.shard found number (subst (λ (xs : List Asked). IsBehindAll xs number) is.requests answered);
           parts = λ live row slot generation of there telling' tells.
               let live' = in-service live in
               let sync = in-sync-of r.shard.core slot generation (in-sync slot generation there) in
               let below = sync.0 in
               let slots = slots-same in
-              law.parts row slot generation (omega (arith, below, slots)) of live'
+              let known = some-of ((g.performer r.shard.parts).tells slot generation)
+              (given.there slot generation (λ none. None-not_Some telling' (sym none ∙ tells))) in
+              let holds = law.parts row slot generation (omega (arith, below, slots)) of live'
               (λ f h stands same writes. (idle x.over.rests live' row).0 f h stands same)
-              (synced-for ((world_shard r.shard.core).slot slot) row generation sync.1) telling'
-              (sym (tells-so slot generation) ∙ tells);
+              (synced-for ((world_shard r.shard.core).slot slot) row generation sync.1) known.0 known.1 in
+              let there' = given.tells slot generation holds.0 (known.1 ∙ ap Some holds.1) in
+              (holds.0, Some-inj telling' (Some holds.0) (sym tells ∙ there'), holds.2);
           others = law.others;
           well_formed = law.well_formed;
         }

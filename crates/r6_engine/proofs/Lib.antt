@@ -1,4 +1,5 @@
 mod EachShard
+mod NewQueues
 mod Numbers
 mod Passes
 mod Rows

@@ -3,7 +3,6 @@ use Rattle.std.proofs.Common.{◌≡◌, ◌∙◌, ℕ, List, All, Bool, true, 
 use Rattle.std.specs.Prelude.{◌==◌}
 use Rattle.std.specs.List.{AllZip}
 use Rattle.std.proofs.lemmas.Bool.{cases_Bool, eqb-true, false≢true}
-use Rattle.r6_dev.specs.History.{Telling}
 use Rattle.r6_dev.specs.Promises.{Promise}
 use Rattle.r6_layout.specs.Shape.{Shape}
 use Rattle.r6_health.specs.Passes.{view_of}
@@ -14,6 +13,7 @@ use Rattle.r6_world.specs.Registers.{Snapshot}
 use Rattle.r6_shard.specs.declared.parts.Parts.{Parts}
 use Rattle.r6_shard.specs.Own.{AreOwn, is_own}
 use Rattle.r6_shard.specs.Sound.{StartsSound}
+use Rattle.r6_shard.specs.declared.performs.Performs.{Ghosts}
 use Rattle.r6_feed.specs.declared.event.Event.{Event}
 use Rattle.r6_feed.specs.declared.event.Event.TheVariants.{Request, Wait, Fail, Attach, Check, Repair}
 use Rattle.r6_feed.specs.Events.{IsPromised, ArePromised}
@@ -53,16 +53,16 @@ none-declared : (shard : ℕ) (named : List Bool) (slot : ℕ) (mine : List Made
 none-declared shard named slot mine unnamed own k d below =
     not-declared shard named slot unnamed (slice_index_or mine k d).call (own k d below)
 
-pub leave_sound_alone : {D T : Type 0} (told : D → Telling) (promised : D → Promise) (shape : Shape) (Sound : ℕ → ℕ → Type 0) (start : Snapshot)
-    (events : List (Event D)) (number : T → ℕ) (runner : T → Runner D) (parts : List (Parts D)) (olds news : List T) (runners : List (Runner D))
-    → AllZip (λ p t. BeginsSound told promised shape start p (number t) (runner t)) parts olds
-    → AllZip (λ a b. KeepsPromised told promised shape Sound (number a) (runner a) (runner b)) olds news
-    → AreNumbered number olds → AllZip (λ t r. TakesNoMore told promised (runner t) r) news runners → CallAsTheyMay runners
+pub leave_sound_alone : {P D T : Type 0} {g : Ghosts P} (promised : D → Promise) (shape : Shape) (Sound : ℕ → ℕ → Type 0) (start : Snapshot)
+    (events : List (Event D)) (number : T → ℕ) (runner : T → Runner P D g) (parts : List (Parts D)) (olds news : List T) (runners : List (Runner P D g))
+    → AllZip (λ p t. BeginsSound promised shape start p (number t) (runner t)) parts olds
+    → AllZip (λ a b. KeepsPromised shape Sound (number a) (runner a) (runner b)) olds news
+    → AreNumbered number olds → AllZip (λ t r. TakesNoMore (runner t) r) news runners → CallAsTheyMay runners
     → ((shard slot : ℕ) → AttachesFailNone promised shape shard slot events → Sound shard slot)
     → LeaveSoundAlone promised shape start parts events runners
-leave_sound_alone {D = D} told promised shape Sound start events number runner parts olds news runners begins run numbered goes calls sound shard slot own r part_at runner_at starts attaches =
+leave_sound_alone {D = D} promised shape Sound start events number runner parts olds news runners begins run numbered goes calls sound shard slot own r part_at runner_at starts attaches =
     let mid = partner_of _ _ olds news runners shard r run goes runner_at in
-    let first = partner_at (λ p t. BeginsSound told promised shape start p (number t) (runner t)) parts olds shard mid.0 begins mid.2 in
+    let first = partner_at (λ p t. BeginsSound promised shape start p (number t) (runner t)) parts olds shard mid.0 begins mid.2 in
     let part : first.0 ≡ own = some_same first.0 own (sym first.1 ∙ part_at) in
     let there : number mid.0 ≡ shard = number_at number olds shard mid.0 mid.2 numbered in
     let begun = first.2 slot

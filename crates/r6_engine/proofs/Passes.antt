@@ -3,7 +3,6 @@ use Rattle.std.proofs.Common.{◌≡◌, ◌∙◌, ℕ, List, [], ◌∷◌, �
 use Rattle.std.specs.List.{AllZip, Contains}
 use Rattle.std.proofs.lemmas.List.Elements.{Contains-append_left, Contains-append_right}
 use Rattle.r6_dev.specs.History.{Telling}
-use Rattle.r6_dev.specs.Promises.{Promise}
 use Rattle.r6_layout.specs.Shape.{Shape}
 use Rattle.r6_health.specs.declared.history.Entry.{Entry}
 use Rattle.r6_health.specs.declared.history.View.{View}
@@ -17,6 +16,7 @@ use Rattle.r6_shard.specs.declared.parts.Parts.{Parts}
 use Rattle.r6_shard.specs.Own.{AreOwn, HasFailed}
 use Rattle.r6_shard.proofs.Own.{failed-later}
 use Rattle.r6_shard.proofs.Whole.{saw-later}
+use Rattle.r6_shard.specs.declared.performs.Performs.{Ghosts}
 use Rattle.r6_feed.specs.Feeds.{Joins, Sees}
 use Rattle.r6_runner.specs.declared.runner.Runner.{Runner}
 use Rattle.r6_runner.specs.Going.{TakesNoMore}
@@ -26,13 +26,13 @@ use Rattle.r6_engine.specs.Serves.{AreNumbered, Begins, HasRun}
 use Rattle.r6_engine.proofs.EachShard.{number_at, partner_at, partner_of}
 
 -- each shard's calls are those of the shard that it is
-pub call_as_they_may : {D T : Type 0} (told : D → Telling) (promised : D → Promise) (shape : Shape) (events : List Event) (start : Snapshot)
-    (window : ℕ) (number : T → ℕ) (numbers : T → List ℕ) (finished : T → Bool) (runner : T → Runner D)
-    (parts : List (Parts D)) (olds news : List T) (runners : List (Runner D))
+pub call_as_they_may : {P D T : Type 0} {g : Ghosts P} (told : D → Telling) (shape : Shape) (events : List Event) (start : Snapshot)
+    (window : ℕ) (number : T → ℕ) (numbers : T → List ℕ) (finished : T → Bool) (runner : T → Runner P D g)
+    (parts : List (Parts D)) (olds news : List T) (runners : List (Runner P D g))
     → AllZip (λ p t. Begins told shape events start window p (number t) (numbers t) (runner t)) parts olds
-    → AllZip (λ old new. HasRun told shape events (number old) (numbers old) (runner old) (number new) (numbers new) (finished new) (runner new)) olds news
-    → AreNumbered number olds → AllZip (λ t r. TakesNoMore told promised (runner t) r) news runners → CallAsTheyMay runners
-call_as_they_may told promised shape events start window number numbers finished runner parts olds news runners begins run numbered goes shard r at =
+    → AllZip (λ old new. HasRun shape events (number old) (numbers old) (runner old) (number new) (numbers new) (finished new) (runner new)) olds news
+    → AreNumbered number olds → AllZip (λ t r. TakesNoMore (runner t) r) news runners → CallAsTheyMay runners
+call_as_they_may told shape events start window number numbers finished runner parts olds news runners begins run numbered goes shard r at =
     let mid = partner_of _ _ olds news runners shard r run goes at in
     let first = partner_at _ parts olds shard mid.0 begins mid.2 in
     let place : r.shard.core.shard ≡ shard =
@@ -42,7 +42,7 @@ call_as_they_may told promised shape events start window number numbers finished
 -- ---- what was seen shows
 
 -- what the pass of a shard has seen is the beginning of what the one that reads last has
-pub seen_before : {D : Type 0} (register : Register) (by last : View) (runner : Runner D) → IsHeard register by runner
+pub seen_before : {P D : Type 0} {g : Ghosts P} (register : Register) (by last : View) (runner : Runner P D g) → IsHeard register by runner
     → Looks by last → last.start ≡ start_of register → IsSeen last runner
 seen_before register by last runner h looks same =
     let v = view_of runner.shard.pass in (
@@ -50,12 +50,12 @@ seen_before register by last runner h looks same =
       looks.told v.seen (subst (λ (all : List (List Entry)). Contains all v.seen) (sym looks.grows.heard) h.1),
     )
 
-pub each_saw_with_pass : {D : Type 0} (last : View) (runners : List (Runner D)) → All (IsSeen last) runners → EachSawWithPass last runners
+pub each_saw_with_pass : {P D : Type 0} {g : Ghosts P} (last : View) (runners : List (Runner P D g)) → All (IsSeen last) runners → EachSawWithPass last runners
 each_saw_with_pass last runners seen k d below =
     let runner = slice_index_or runners k d in
     let before = seen k d below in saw-later runner.shard.saw_out (view_of runner.shard.pass) last before.0 before.1 runner.shard.saw
 
-pub is_shown : {D : Type 0} (last : View) (snapshot : Snapshot) (runners : List (Runner D)) → All (IsSeen last) runners
+pub is_shown : {P D : Type 0} {g : Ghosts P} (last : View) (snapshot : Snapshot) (runners : List (Runner P D g)) → All (IsSeen last) runners
     → snapshot ≡ held last.start last.seen → All (IsShown snapshot) runners
 is_shown last snapshot runners seen is k d below =
     let runner = slice_index_or runners k d in
@@ -98,12 +98,12 @@ look_back u v w before looks = record {
 }
 
 -- what was heard stays so where one more pass is heard, which saw all that its own runner's has
-pub heard_on : {D : Type 0} (register : Register) (v other w : View) (runner : Runner D) → IsHeard register v runner → w ≡ joined v other
+pub heard_on : {P D : Type 0} {g : Ghosts P} (register : Register) (v other w : View) (runner : Runner P D g) → IsHeard register v runner → w ≡ joined v other
     → IsHeard register w runner
 heard_on register v other w runner h is =
     (h.0, subst (λ (y : View). Contains y.heard (view_of runner.shard.pass).seen) (sym is) (heard_still v other _ h.1))
 
-pub heard_of : {D : Type 0} (register : Register) (v w : View) (runner : Runner D) → IsPassOf register runner.shard.pass
+pub heard_of : {P D : Type 0} {g : Ghosts P} (register : Register) (v w : View) (runner : Runner P D g) → IsPassOf register runner.shard.pass
     → w ≡ joined v (newcomer (view_of runner.shard.pass)) → IsHeard register w runner
 heard_of register v w runner its is =
     (its, subst (λ (y : View). Contains y.heard (view_of runner.shard.pass).seen) (sym is) (heard_now v (newcomer (view_of runner.shard.pass))))

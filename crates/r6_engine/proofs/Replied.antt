@@ -18,6 +18,7 @@ use Rattle.r6_core.specs.declared.refusal.Refusal.TheVariants.{NoSuchBlock, Wron
 use Rattle.r6_lists.specs.Events.{Event, Request, Attach, Fail, Check, Repair, Wait, Serves, duty_of, is_block_of}
 use Rattle.r6_shard.specs.declared.ledger.Asked.{Asked}
 use Rattle.r6_shard.specs.declared.ledger.Entry.{Entry}
+use Rattle.r6_shard.specs.declared.performs.Performs.{Ghosts}
 use Rattle.r6_feed.specs.declared.answer.EventAnswer.{EventAnswer}
 use Rattle.r6_feed.specs.declared.answer.Outcome as told
 use Rattle.r6_feed.specs.declared.answer.Outcome.TheVariants.{OutOfRange, Failed, Attached}
@@ -62,7 +63,7 @@ found-both one other small =
     omega (arith, a, b, c, d, e, f)
 
 -- the rows of the shard that this one is
-abbrev own_rows : {D : Type 0} → Shape → Runner D → ℕ
+abbrev own_rows : {P D : Type 0} {g : Ghosts P} → Shape → Runner P D g → ℕ
 own_rows shape r = rows_of_shard shape r.shard.core.shard
 
 -- ---- the ledgers
@@ -88,7 +89,7 @@ entries-times event (e ∷ entries) =
     ∙ ap (λ n. is_of event e.event + n) (entries-times event entries)
     ∙ sym (times-cons event (said_of_entry e) (map said_of_entry entries))
 
-entries-same : {D : Type 0} (event : ℕ) (r : Runner D) (ledger : Ledger) → IsLedgerOf r ledger
+entries-same : {P D : Type 0} {g : Ghosts P} (event : ℕ) (r : Runner P D g) (ledger : Ledger) → IsLedgerOf r ledger
     → entries_for event ledger ≡ times event (map said_of_entry r.shard.entries.items)
 entries-same event r ledger is =
     ap (λ (es : List LedgerEntry). count_by (λ (e : LedgerEntry). e.event == event) es) is.entries
@@ -131,13 +132,13 @@ is-attach (Failed other answer) slot e = cc
 is-attach (Attached other answer) slot e = (answer, refl)
 
 -- what all shards found
-pub record PassedOnce {D : Type 0} (shape : Shape) (event : ℕ) (r : Runner D) : Type 0 where
+pub record PassedOnce {P D : Type 0} {g : Ghosts P} (shape : Shape) (event : ℕ) (r : Runner P D g) : Type 0 where
   pub passed : Passed
   pub adds : (answer : EventReply) → known event answer (said_by r) ≡ known_with answer (Counted (found_in passed))
   pub whole : rows_of (found_in passed) ≡ own_rows shape r
 
-all-counted : {D : Type 0} (shape : Shape) (event : ℕ) (acc : Found) (rs : List (Runner D))
-    → ((k : ℕ) (r : Runner D) → slice_get rs k ≡ Some r → PassedOnce shape event r) → rows_of acc + sum_by (own_rows shape) rs < 2 ^ 64
+all-counted : {P D : Type 0} {g : Ghosts P} (shape : Shape) (event : ℕ) (acc : Found) (rs : List (Runner P D g))
+    → ((k : ℕ) (r : Runner P D g) → slice_get rs k ≡ Some r → PassedOnce shape event r) → rows_of acc + sum_by (own_rows shape) rs < 2 ^ 64
     → (f : Found) × (known event (Counted acc) (said_by_all rs) ≡ Counted f) × (rows_of f ≡ rows_of acc + sum_by (own_rows shape) rs)
 all-counted shape event acc [] each small = (acc, refl, omega arith)
 all-counted shape event acc (r ∷ rs) each small =
@@ -154,8 +155,8 @@ all-counted shape event acc (r ∷ rs) each small =
       omega (arith, total, both, its, sum),
     )
 
-first-counted : {D : Type 0} (shape : Shape) (event : ℕ) (rs : List (Runner D)) → 0 < length rs
-    → ((k : ℕ) (r : Runner D) → slice_get rs k ≡ Some r → PassedOnce shape event r) → sum_by (own_rows shape) rs < 2 ^ 64
+first-counted : {P D : Type 0} {g : Ghosts P} (shape : Shape) (event : ℕ) (rs : List (Runner P D g)) → 0 < length rs
+    → ((k : ℕ) (r : Runner P D g) → slice_get rs k ≡ Some r → PassedOnce shape event r) → sum_by (own_rows shape) rs < 2 ^ 64
     → (f : Found) × (known event Waited (said_by_all rs) ≡ Counted f) × (rows_of f ≡ sum_by (own_rows shape) rs)
 first-counted shape event [] some each small = absurd (omega (arith, some))
 first-counted shape event (r ∷ rs) some each small =
@@ -173,24 +174,24 @@ first-counted shape event (r ∷ rs) some each small =
 
 -- ---- each event
 
-module _ {D : Type 0} (shape : Shape) (lawful : IsShape shape) (events : List Event) (runners : List (Runner D))
+module _ {P D : Type 0} {g : Ghosts P} (shape : Shape) (lawful : IsShape shape) (events : List Event) (runners : List (Runner P D g))
     (answers : List EventAnswer) (ledgers : List Ledger)
-    (said : (shard : ℕ) (r : Runner D) → slice_get runners shard ≡ Some r → HasSaid shape shard events r)
+    (said : (shard : ℕ) (r : Runner P D g) → slice_get runners shard ≡ Some r → HasSaid shape shard events r)
     (asked : map asked_in answers ≡ asked_before shape events (length events))
     (many : length runners ≡ shape.shards) (tied : AllZip IsLedgerOf runners ledgers)
-    (reasons : (shard : ℕ) (r : Runner D) → slice_get runners shard ≡ Some r → HadReasons shape.block events r.shard.core r.refused.items)
-    (right : (shard : ℕ) (r : Runner D) → slice_get runners shard ≡ Some r → WereRight shape.block events r.shard.asked.items)
-    (linked : (shard : ℕ) (r : Runner D) → slice_get runners shard ≡ Some r → IsLinked r.shard.asked.items r.shard.entries.items)
-    (place : (shard : ℕ) (r : Runner D) → slice_get runners shard ≡ Some r → r.shard.core.shard ≡ shard)
-    (classed : (shard : ℕ) (r : Runner D) → slice_get runners shard ≡ Some r → AreClassed (rows_of_shard shape shard) r.passed.items)
+    (reasons : (shard : ℕ) (r : Runner P D g) → slice_get runners shard ≡ Some r → HadReasons shape.block events r.shard.core r.refused.items)
+    (right : (shard : ℕ) (r : Runner P D g) → slice_get runners shard ≡ Some r → WereRight shape.block events r.shard.asked.items)
+    (linked : (shard : ℕ) (r : Runner P D g) → slice_get runners shard ≡ Some r → IsLinked r.shard.asked.items r.shard.entries.items)
+    (place : (shard : ℕ) (r : Runner P D g) → slice_get runners shard ≡ Some r → r.shard.core.shard ≡ shard)
+    (classed : (shard : ℕ) (r : Runner P D g) → slice_get runners shard ≡ Some r → AreClassed (rows_of_shard shape shard) r.passed.items)
   where
-    own-runner : (block : ℕ) → block < blocks shape → (r : Runner D) × (slice_get runners (shard_with shape block) ≡ Some r)
+    own-runner : (block : ℕ) → block < blocks shape → (r : Runner P D g) × (slice_get runners (shard_with shape block) ≡ Some r)
     own-runner block below =
         let shard = shard_of-lt shape (row_of shape block) lawful (row_of-lt shape block lawful below) in
         there-at runners (shard_with shape block) (omega (arith, shard, many))
 
     own-ledger : (k : ℕ) (ledger : Ledger) → slice_get ledgers k ≡ Some ledger
-        → (r : Runner D) × (slice_get runners k ≡ Some r) × IsLedgerOf r ledger
+        → (r : Runner P D g) × (slice_get runners k ≡ Some r) × IsLedgerOf r ledger
     own-ledger k ledger there = partner_at IsLedgerOf runners ledgers k ledger tied there
 
     -- a shard that has no request of an event has no entry of it
@@ -207,13 +208,13 @@ module _ {D : Type 0} (shape : Shape) (lawful : IsShape shape) (events : List Ev
     other-asks : (k : ℕ) (o : Op) → k ≢ shard_with shape (block_in o) → asks_of (duty_of shape k (Request o)) ≡ 0
     other-asks k o ne = ap (λ b. asks_of (if b then Some (Serves o) else None)) (other-block shape k (block_in o) ne)
 
-    says-own : (o : Op) (P : Ledger → Type 0) (r : Runner D) → slice_get runners (shard_with shape (block_in o)) ≡ Some r
-        → ((ledger : Ledger) → IsLedgerOf r ledger → P ledger) → Says shape ledgers o P
-    says-own o P r there follows =
+    says-own : (o : Op) (Q : Ledger → Type 0) (r : Runner P D g) → slice_get runners (shard_with shape (block_in o)) ≡ Some r
+        → ((ledger : Ledger) → IsLedgerOf r ledger → Q ledger) → Says shape ledgers o Q
+    says-own o Q r there follows =
         let own = other-partner IsLedgerOf runners ledgers (shard_with shape (block_in o)) r tied there in
         (own.0, own.1, follows own.0 own.2)
 
-    reason : (o : Op) (refusal : Refusal) (r : Runner D) → block_in o < blocks shape
+    reason : (o : Op) (refusal : Refusal) (r : Runner P D g) → block_in o < blocks shape
         → slice_get runners (shard_with shape (block_in o)) ≡ Some r → refusals.IsReason shape.block r.shard.core o refusal
         → IsReason shape ledgers o refusal
     reason o WrongLength r below there x = (below, x)
@@ -231,7 +232,7 @@ module _ {D : Type 0} (shape : Shape) (lawful : IsShape shape) (events : List Ev
     same-op : (event : ℕ) (o other : Op) → slice_get events event ≡ Some (Request o) → slice_get events event ≡ Some (Request other) → other ≡ o
     same-op event o other is is' = request_same other o (some_same (Request other) (Request o) (sym is' ∙ is))
 
-    refused : (event : ℕ) (o : Op) → slice_get events event ≡ Some (Request o) → block_in o < blocks shape → (r : Runner D)
+    refused : (event : ℕ) (o : Op) → slice_get events event ≡ Some (Request o) → block_in o < blocks shape → (r : Runner P D g)
         → slice_get runners (shard_with shape (block_in o)) ≡ Some r → (answer : EventReply) → IsRefusal event r answer
         → IsReplyTo shape ledgers event (Request o) answer
     refused event o is below r there answer x =
@@ -244,12 +245,12 @@ module _ {D : Type 0} (shape : Shape) (lawful : IsShape shape) (events : List Ev
             | inl same ↦
                 let own = own-ledger k ledger stands in
                 let is-r : own.0 ≡ r = some_same own.0 r (sym own.1 ∙ ap (slice_get runners) same ∙ there) in
-                entries-same event own.0 ledger own.2 ∙ ap (λ (y : Runner D). times event (map said_of_entry y.shard.entries.items)) is-r ∙ x.none
+                entries-same event own.0 ledger own.2 ∙ ap (λ (y : Runner P D g). times event (map said_of_entry y.shard.entries.items)) is-r ∙ x.none
             | inr ne ↦ no-entries event (Request o) is k ledger stands (other-asks k o ne)
           ],
         )
 
-    answered : (event : ℕ) (o : Op) → slice_get events event ≡ Some (Request o) → block_in o < blocks shape → (r : Runner D)
+    answered : (event : ℕ) (o : Op) → slice_get events event ≡ Some (Request o) → block_in o < blocks shape → (r : Runner P D g)
         → slice_get runners (shard_with shape (block_in o)) ≡ Some r → (answer : EventReply) → IsEntry event r answer
         → IsReplyTo shape ledgers event (Request o) answer
     answered event o is below r there answer x =

@@ -17,6 +17,7 @@ use Rattle.r6_runner.specs.declared.runner.Runner.{Runner}
 use Rattle.r6_runner.specs.Tasks.{pass_in, passes_in, passed_of}
 use Rattle.r6_runner.specs.Counted.{AddUp, AreCounted, IsUsedUp, LeavesNoneOut, rows_in, rows_of_shard}
 use Rattle.r6_engine.specs.Counted.{CountEachRow, MayGoOn, rows_for}
+use Rattle.r6_shard.specs.declared.performs.Performs.{Ghosts}
 
 -- ---- in one shard
 
@@ -157,8 +158,8 @@ between measure mark from (x ∷ xs) grows each =
     (omega (arith, here, later.0, first, both, last), omega (arith, later.1, first, last))
 
 -- all shards together count each row of the array
-pub count-each-row : {D : Type 0} (shape : Shape) (events : List Event) (runners : List (Runner D)) → IsShape shape → length runners ≡ shape.shards
-    → ((shard : ℕ) (runner : Runner D) → slice_get runners shard ≡ Some runner
+pub count-each-row : {P D : Type 0} {g : Ghosts P} (shape : Shape) (events : List Event) (runners : List (Runner P D g)) → IsShape shape → length runners ≡ shape.shards
+    → ((shard : ℕ) (runner : Runner P D g) → slice_get runners shard ≡ Some runner
     → (passes_in shape shard events (numbers_of (tasks_of shape shard events)) ≡ map passed_of runner.passed.items)
     × AreCounted (rows_of_shard shape shard) runner.shard.core runner.passed.items)
     → CountEachRow shape events runners

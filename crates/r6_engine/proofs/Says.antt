@@ -11,6 +11,7 @@ use Rattle.r6_lists.specs.Events.{Event, Duty, Serves, Takes_up, Checks, Repairs
 use Rattle.r6_shard.specs.declared.ledger.Asked.{Asked}
 use Rattle.r6_shard.specs.declared.ledger.Asking.{Asking}
 use Rattle.r6_shard.specs.Runs.{AreServed}
+use Rattle.r6_shard.specs.declared.performs.Performs.{Ghosts}
 use Rattle.r6_feed.specs.declared.answer.EventAnswer.{EventAnswer}
 use Rattle.r6_feed.specs.Feeds.{asked_before, asked_in, asking_at, asking_of}
 use Rattle.r6_feed.specs.Feeds as feeds
@@ -26,7 +27,7 @@ use Rattle.r6_engine.proofs.Numbered.{duty_at, picked-of, tasks-of, weigh}
 -- ---- one shard
 
 -- what a shard did of its tasks, once all is over
-pub record HasSaid {D : Type 0} (shape : Shape) (shard : ℕ) (events : List Event) (r : Runner D) : Type 0 where
+pub record HasSaid {P D : Type 0} {g : Ghosts P} (shape : Shape) (shard : ℕ) (events : List Event) (r : Runner P D g) : Type 0 where
   pub begun : List Asking
   pub ops : List world.Op
   pub requests : requests_in shape shard events (numbers_of (tasks_of shape shard events)) ≡ begun
@@ -99,7 +100,7 @@ pass-weighs event (Some Checks) = is-of event event refl
 pass-weighs event (Some Repairs) = is-of event event refl
 
 -- its refusals, its passes and its entries, each
-pub record SaysOften {D : Type 0} (event : ℕ) (o : Option Duty) (r : Runner D) : Type 0 where
+pub record SaysOften {P D : Type 0} {g : Ghosts P} (event : ℕ) (o : Option Duty) (r : Runner P D g) : Type 0 where
   pub requests : times event (map said_of_refusal r.refused.items) + times event (map said_of_entry r.shard.entries.items) ≡ asks_of o
   pub passes : times event (map said_of_pass r.passed.items) ≡ passes_of o
   pub entries : times event (map said_of_entry r.shard.entries.items) ≡ sum_by (λ a. is_of event a.event) r.shard.asked.items
@@ -112,7 +113,7 @@ pass-times event (p ∷ passed) =
     sum_by-cons (λ (p : Passed). is_of event p.event) p passed ∙ ap (λ n. is_of event p.event + n) (pass-times event passed)
     ∙ sym (sum_by-cons (λ (q : ℕ × Pass). is_of event q.0) (p.event, p.task) (map passed_of passed))
 
-pub says-often : {D : Type 0} (shape : Shape) (shard : ℕ) (events : List Event) (r : Runner D) (event : ℕ) → event < length events
+pub says-often : {P D : Type 0} {g : Ghosts P} (shape : Shape) (shard : ℕ) (events : List Event) (r : Runner P D g) (event : ℕ) → event < length events
     → HasSaid shape shard events r → SaysOften event (duty_at shape shard events event) r
 says-often shape shard events r event below x =
     let o = duty_at shape shard events event in
@@ -142,8 +143,8 @@ says-often shape shard events r event below x =
 -- ---- all shards
 
 -- no shard said anything of the event
-pub no-shard : {D : Type 0} (event : ℕ) (reply : EventReply) (runners : List (Runner D))
-    → ((k : ℕ) (other : Runner D) → slice_get runners k ≡ Some other → times event (said_by other) ≡ 0)
+pub no-shard : {P D : Type 0} {g : Ghosts P} (event : ℕ) (reply : EventReply) (runners : List (Runner P D g))
+    → ((k : ℕ) (other : Runner P D g) → slice_get runners k ≡ Some other → times event (said_by other) ≡ 0)
     → known event reply (said_by_all runners) ≡ reply
 no-shard event reply [] none = refl
 no-shard event reply (r ∷ runners) none =
@@ -152,8 +153,8 @@ no-shard event reply (r ∷ runners) none =
     ∙ no-shard event reply runners (λ k other at. none (suc k) other at)
 
 -- one alone did
-pub one-shard : {D : Type 0} (event : ℕ) (reply : EventReply) (runners : List (Runner D)) (s : ℕ) (r : Runner D) → slice_get runners s ≡ Some r
-    → ((k : ℕ) (other : Runner D) → slice_get runners k ≡ Some other → k ≢ s → times event (said_by other) ≡ 0)
+pub one-shard : {P D : Type 0} {g : Ghosts P} (event : ℕ) (reply : EventReply) (runners : List (Runner P D g)) (s : ℕ) (r : Runner P D g) → slice_get runners s ≡ Some r
+    → ((k : ℕ) (other : Runner P D g) → slice_get runners k ≡ Some other → k ≢ s → times event (said_by other) ≡ 0)
     → known event reply (said_by_all runners) ≡ known event reply (said_by r)
 one-shard event reply [] s r at others = absurd (none-some r at)
 one-shard event reply (x ∷ runners) zero r at others =

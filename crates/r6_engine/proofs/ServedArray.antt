@@ -15,6 +15,7 @@ use Rattle.r6_shard.specs.declared.parts.Parts.{Parts}
 use Rattle.r6_shard.specs.declared.ledger.Asked.{Asked}
 use Rattle.r6_shard.specs.Refusing.{IsEnding}
 use Rattle.r6_shard.specs.Whole.{IsClean, SawWithPass}
+use Rattle.r6_shard.specs.declared.performs.Performs.{Ghosts}
 use Rattle.r6_world.specs.declared.values.Op.{Op}
 use Rattle.r6_world.specs.declared.values.Reply.{Reply}
 use Rattle.r6_core.specs.declared.refusal.Refusal.{Refusal}
@@ -55,7 +56,7 @@ use Rattle.r6_engine.proofs.InOrder.{ended-before}
 -- ---- what all shards skipped
 
 -- a shard said this of an event, and skipped no row
-record SkippedNone {D : Type 0} (event : ℕ) (r : Runner D) : Type 0 where
+record SkippedNone {P D : Type 0} {g : Ghosts P} (event : ℕ) (r : Runner P D g) : Type 0 where
   passed : Passed
   adds : (answer : EventReply) → known event answer (said_by r) ≡ known_with answer (Counted (found_in passed))
   none : passed.skipped ≡ 0
@@ -64,8 +65,8 @@ none-both : (one other : Found) → one.skipped ≡ 0 → other.skipped ≡ 0 �
 none-both one other none none' =
     let both = fits one.skipped other.skipped (omega (arith, none, none')) in omega (arith, both, none, none')
 
-all-none : {D : Type 0} (event : ℕ) (acc : Found) (rs : List (Runner D)) → acc.skipped ≡ 0
-    → ((k : ℕ) (r : Runner D) → slice_get rs k ≡ Some r → SkippedNone event r)
+all-none : {P D : Type 0} {g : Ghosts P} (event : ℕ) (acc : Found) (rs : List (Runner P D g)) → acc.skipped ≡ 0
+    → ((k : ℕ) (r : Runner P D g) → slice_get rs k ≡ Some r → SkippedNone event r)
     → (f : Found) × (known event (Counted acc) (said_by_all rs) ≡ Counted f) × (f.skipped ≡ 0)
 all-none event acc [] none each = (acc, refl, none)
 all-none event acc (r ∷ rs) none each =
@@ -78,8 +79,8 @@ all-none event acc (r ∷ rs) none each =
       rest.2,
     )
 
-first-none : {D : Type 0} (event : ℕ) (rs : List (Runner D)) → 0 < length rs
-    → ((k : ℕ) (r : Runner D) → slice_get rs k ≡ Some r → SkippedNone event r)
+first-none : {P D : Type 0} {g : Ghosts P} (event : ℕ) (rs : List (Runner P D g)) → 0 < length rs
+    → ((k : ℕ) (r : Runner P D g) → slice_get rs k ≡ Some r → SkippedNone event r)
     → (f : Found) × (known event Waited (said_by_all rs) ≡ Counted f) × (f.skipped ≡ 0)
 first-none event [] some each = absurd (omega (arith, some))
 first-none event (r ∷ rs) some each =
@@ -101,7 +102,7 @@ refused-not-replied refusal reply is = cc
 
 -- ---- the array
 
-tokens-same : {D : Type 0} (runners : List (Runner D)) (ledgers : List Ledger) → AllZip IsLedgerOf runners ledgers
+tokens-same : {P D : Type 0} {g : Ghosts P} (runners : List (Runner P D g)) (ledgers : List Ledger) → AllZip IsLedgerOf runners ledgers
     → map tokens_of runners ≡ map (λ (l : Ledger). l.tokens) ledgers
 tokens-same [] [] all = refl
 tokens-same [] (l ∷ ledgers) all = absurd all
@@ -109,12 +110,12 @@ tokens-same (r ∷ runners) [] all = absurd all
 tokens-same (r ∷ runners) (l ∷ ledgers) all =
     ap (λ (n : ℕ). n ∷ map tokens_of runners) (sym all.0.tokens) ∙ ap (λ ns. l.tokens ∷ ns) (tokens-same runners ledgers all.1)
 
-module _ {D : Type 0} (told : D → Telling) (promised : D → Promise) (shape : Shape) (lawful : IsShape shape) (given : List (feed.Event D))
-    (start : Snapshot) (window : ℕ) (first : View) (parts : List (Parts D)) (runners : List (Runner D)) (answers : List EventAnswer)
+module _ {P D : Type 0} {g : Ghosts P} (told : D → Telling) (promised : D → Promise) (shape : Shape) (lawful : IsShape shape) (given : List (feed.Event D))
+    (start : Snapshot) (window : ℕ) (first : View) (parts : List (Parts D)) (runners : List (Runner P D g)) (answers : List EventAnswer)
     (last : View) (snapshot : Snapshot) (whole : length parts ≡ shape.shards)
     (x : HasRunArray told promised shape given start window first parts runners answers last snapshot)
-    (ledgers : List Ledger) (tied : AllZip IsLedgerOf runners ledgers) (devices : List (ShardParts D)) (backs : AllZip AreBack runners devices)
-    (agree : All (λ (r : Runner D). HasAgreed answers r.handed.items) runners)
+    (ledgers : List Ledger) (tied : AllZip IsLedgerOf runners ledgers) (devices : List (ShardParts D)) (backs : AllZip (AreBack told) runners devices)
+    (agree : All (λ (r : Runner P D g). HasAgreed answers r.handed.items) runners)
   where
     abbrev events : List Event
     events = events_of told given
@@ -122,26 +123,26 @@ module _ {D : Type 0} (told : D → Telling) (promised : D → Promise) (shape :
     abbrev table : List EventReply
     table = replies_of (length events) runners answers
 
-    abbrev own-of : (shard : ℕ) (r : Runner D) → slice_get runners shard ≡ Some r → (own : Parts D) × (slice_get parts shard ≡ Some own)
+    abbrev own-of : (shard : ℕ) (r : Runner P D g) → slice_get runners shard ≡ Some r → (own : Parts D) × (slice_get parts shard ≡ Some own)
     own-of shard r there =
         let below = slice_get_within runners shard r there in
         let many = x.done.as_many in there-at parts shard (omega (arith, below, many))
 
-    served-of : (shard : ℕ) (r : Runner D) (there : slice_get runners shard ≡ Some r)
+    served-of : (shard : ℕ) (r : Runner P D g) (there : slice_get runners shard ≡ Some r)
         → HasServed told shape events start window (own-of shard r there).0 shard r
     served-of shard r there = let own = own-of shard r there in x.done.each shard own.0 r own.1 there
 
-    said-of : (shard : ℕ) (r : Runner D) → slice_get runners shard ≡ Some r → HasSaid shape shard events r
+    said-of : (shard : ℕ) (r : Runner P D g) → slice_get runners shard ≡ Some r → HasSaid shape shard events r
     said-of shard r there = has-said told shape events start window (own-of shard r there).0 shard r (served-of shard r there)
 
-    stand : (shard : ℕ) (r : Runner D) → slice_get runners shard ≡ Some r → (k : ℕ) (e : Entry)
+    stand : (shard : ℕ) (r : Runner P D g) → slice_get runners shard ≡ Some r → (k : ℕ) (e : Entry)
         → slice_get r.shard.entries.items k ≡ Some e → slice_get table e.event ≡ Some (Replied e.reply)
     stand shard r there =
         let served = served-of shard r there in
         entry-stands shape events runners answers said-of x.answered.asked shard r there
         (linked r.shard.asked.items r.shard.entries.items served.over.rests.each.linked) served.right
 
-    within-of : (shard : ℕ) (r : Runner D) → slice_get runners shard ≡ Some r → shard < shape.shards
+    within-of : (shard : ℕ) (r : Runner P D g) → slice_get runners shard ≡ Some r → shard < shape.shards
     within-of shard r there =
         let below = slice_get_within runners shard r there in
         let many = x.done.as_many in omega (arith, below, many, whole)
@@ -152,7 +153,7 @@ module _ {D : Type 0} (told : D → Telling) (promised : D → Promise) (shape :
         → shard_with shape (block_in o) ≡ shard → slice_get table event ≡ Some (Refused refusal) → IsEnding refusal
         → All (λ (a : Asked). a.event < event) asked
 
-    ended : (shard : ℕ) (r : Runner D) → slice_get runners shard ≡ Some r → NoneAfter shard r.shard.asked.items
+    ended : (shard : ℕ) (r : Runner P D g) → slice_get runners shard ≡ Some r → NoneAfter shard r.shard.asked.items
     ended shard r there event o refusal is below same stands ending =
         let served = served-of shard r there in
         let its = get_or_from_slice_get table event (Refused refusal) Waited stands in
@@ -171,18 +172,18 @@ module _ {D : Type 0} (told : D → Telling) (promised : D → Promise) (shape :
         → IsServedShard told promised shape given start answers last table snapshot shard own ledger back
     each-shard shard own ledger back part_at ledger_at back_at =
         let l = partner_at IsLedgerOf runners ledgers shard ledger tied ledger_at in
-        let b = partner_at AreBack runners devices shard back backs back_at in
+        let b = partner_at (AreBack told) runners devices shard back backs back_at in
         let r = l.0 in
         let same : b.0 ≡ r = some_same b.0 r (sym b.1 ∙ l.1) in
         served-shard told promised shape given start window answers last snapshot own shard r (x.done.each shard own r part_at l.1) ledger l.2 back
-        (subst (λ (y : Runner D). AreBack y back) same b.2) table (stand shard r l.1)
-        (all_at (λ (y : Runner D). HasAgreed answers y.handed.items) runners shard r agree l.1)
+        (subst (λ (y : Runner P D g). AreBack told y back) same b.2) table (stand shard r l.1)
+        (all_at (λ (y : Runner P D g). HasAgreed answers y.handed.items) runners shard r agree l.1)
         (all_at (IsSeen last) runners shard r x.seen l.1)
-        (all_at (λ (y : Runner D). SawWithPass y.shard.saw_out last) runners shard r x.saw l.1)
+        (all_at (λ (y : Runner P D g). SawWithPass y.shard.saw_out last) runners shard r x.saw l.1)
         lawful (within-of shard r l.1)
-        (λ alive. all_at (λ (y : Runner D). HasInSync shape.slots snapshot y.shard.core) runners shard r (x.in_sync alive) l.1)
+        (λ alive. all_at (λ (y : Runner P D g). HasInSync shape.slots snapshot y.shard.core) runners shard r (x.in_sync alive) l.1)
         (subst (NoneAfter shard) (sym l.2.requests) (ended shard r l.1))
-        (all_at (λ (y : Runner D). y.shard.last ≡ snapshot) runners shard r x.looked l.1)
+        (all_at (λ (y : Runner P D g). y.shard.last ≡ snapshot) runners shard r x.looked l.1)
         (x.calls shard r l.1)
         (λ slot starts attaches. x.sound shard slot own r part_at l.1 starts attaches)
 
@@ -194,7 +195,7 @@ module _ {D : Type 0} (told : D → Telling) (promised : D → Promise) (shape :
     rebuilt = subst (IsRebuilt snapshot) (tokens-same runners ledgers tied) x.rebuilt
 
     module _ (clean : All IsCleanLedger ledgers) (small : length given * shape.rows < limit) where
-      none-in : (k : ℕ) (r : Runner D) (there : slice_get runners k ≡ Some r) (j : ℕ) (d : Passed) → j < length r.passed.items
+      none-in : (k : ℕ) (r : Runner P D g) (there : slice_get runners k ≡ Some r) (j : ℕ) (d : Passed) → j < length r.passed.items
           → (slice_index_or r.passed.items j d).skipped ≡ 0
       none-in k r there =
           let own = own-of k r there in

@@ -3,6 +3,7 @@ use Rattle.std.proofs.Common.{arith, ◌≡◌, ◌∙◌, ℕ, List, [], ◌∷
 use Rattle.std.specs.List.{AllByRecursion, Contains, range_with_len}
 use Rattle.std.specs.List.Sorted.{IsPermutation}
 use Rattle.std.proofs.lemmas.Option.{get_or_from_slice_get, slice_get-map}
+use Rattle.std.proofs.lemmas.List.Sorted.{IsPermutation-trans}
 use Rattle.r6_dev.specs.History.{Telling}
 use Rattle.r6_dev.specs.Promises.{Promise}
 use Rattle.r6_layout.specs.Shape.{IsShape, Shape}
@@ -16,11 +17,10 @@ use Rattle.r6_core.specs.Shards.{world_shard}
 use Rattle.r6_lists.specs.Events.{Event}
 use Rattle.r6_shard.specs.declared.ledger.Asked.{Asked}
 use Rattle.r6_shard.specs.declared.ledger.Entry.{Entry}
-use Rattle.r6_shard.specs.declared.parts.Part.{Part}
+use Rattle.r6_exchange.specs.declared.task.Part.{Part}
 use Rattle.r6_shard.specs.declared.parts.Parts.{Parts}
 use Rattle.r6_shard.specs.Courses.{IsOf as IsOfRequest}
-use Rattle.r6_shard.specs.Handing.{parts_labels}
-use Rattle.r6_shard.specs.Here.{IsHere}
+use Rattle.r6_shard.specs.Performing.{IsHere}
 use Rattle.r6_shard.specs.Own.{AreOwn}
 use Rattle.r6_shard.specs.Parts.{labels_of}
 use Rattle.r6_shard.specs.Whole.{SawWithPass}
@@ -46,6 +46,7 @@ use Rattle.r6_engine.specs.Replies.{ledger_entries, ledger_entry}
 use Rattle.r6_engine.specs.Serves.{HasServed}
 use Rattle.r6_engine.specs.ServedShards.{AnswersEach, AreInOrder, HasCalled, KnowsSnapshot, NoneAfterEnd, HasParts, IsEntryOf, IsServedShard, WasFailed}
 use Rattle.r6_shard.specs.Sound.{StartsSound}
+use Rattle.r6_shard.specs.declared.performs.Performs.{Ghosts}
 use Rattle.r6_engine.proofs.EachShard.{all-map, here_at, some_same}
 use Rattle.r6_engine.proofs.Explains.{leads-from}
 use Rattle.r6_engine.proofs.InOrder.{are-in-order}
@@ -79,10 +80,10 @@ was-failed replies e stands said =
     some_same (reply_of e.reply) world.ArrayFailed
     (ap reply_in (some_same (Replied e.reply) said.0 (sym stands ∙ said.1)) ∙ said.2)
 
-module _ {D : Type 0} (told : D → Telling) (promised : D → Promise) (shape : Shape) (given : List (feed.Event D)) (start : Snapshot)
-    (window : ℕ) (answers : List EventAnswer) (last : View) (snapshot : Snapshot) (own : Parts D) (shard : ℕ) (r : Runner D)
+module _ {P D : Type 0} {g : Ghosts P} (told : D → Telling) (promised : D → Promise) (shape : Shape) (given : List (feed.Event D)) (start : Snapshot)
+    (window : ℕ) (answers : List EventAnswer) (last : View) (snapshot : Snapshot) (own : Parts D) (shard : ℕ) (r : Runner P D g)
     (x : HasServed told shape (events_of told given) start window own shard r)
-    (ledger : Ledger) (is : IsLedgerOf r ledger) (back : ShardParts D) (mine : AreBack r back) (replies : List EventReply)
+    (ledger : Ledger) (is : IsLedgerOf r ledger) (back : ShardParts D) (mine : AreBack told r back) (replies : List EventReply)
     (stand : (k : ℕ) (e : Entry) → slice_get r.shard.entries.items k ≡ Some e → slice_get replies e.event ≡ Some (Replied e.reply))
     (agreed : HasAgreed answers r.handed.items) (seen : IsSeen last r) (saw : SawWithPass r.shard.saw_out last)
     (lawful : IsShape shape) (within : shard < shape.shards) (in_sync : snapshot.failed ≡ false → HasInSync shape.slots snapshot r.shard.core)
@@ -102,13 +103,12 @@ module _ {D : Type 0} (told : D → Telling) (promised : D → Promise) (shape :
     has-parts = record {
       came = x.done.parts;
       agreed = agreed;
-      all = subst (λ (ps : List (Part D)). IsPermutation (parts_labels own ++ labels_in r.handed.items) (labels_of ps ++ labels_of back.others.items))
-          (sym mine.parts)
-          (subst (λ (ps : List (Part D)). IsPermutation (parts_labels own ++ labels_in r.handed.items) (parts_labels r.shard.parts ++ labels_of ps))
-          (sym mine.others) x.all);
+      all = IsPermutation-trans (labels_of own.parts.items ++ labels_in r.handed.items)
+          ((g.performer r.shard.parts).labels ++ labels_of r.others.items)
+          (labels_of back.parts.items ++ labels_of back.others.items) x.all mine.labels;
       here = λ slot generation begun there.
           let sync = in-sync-of r.shard.core slot generation (subst (λ (xs : List (ℕ × ℕ)). Contains xs (slot, generation)) is.in_sync there) in
-          subst (λ (ps : List (Part D)). IsHere (labels_of ps) slot generation) (sym mine.parts)
+          mine.here slot generation
           ((x.here slot begun).0 sync.0 generation (synced-used ((world_shard r.shard.core).slot slot) generation sync.1));
     }
 

@@ -9,6 +9,7 @@ use Rattle.r6_world.specs.PlainArray.{block_of}
 use Rattle.r6_world.specs.Values.{op_of}
 use Rattle.r6_lists.specs.Events.{Event, Request, Attach, Fail, Check, Repair, Wait, Serves, duty_of}
 use Rattle.r6_shard.specs.declared.ledger.Entry.{Entry}
+use Rattle.r6_shard.specs.declared.performs.Performs.{Ghosts}
 use Rattle.r6_feed.specs.declared.answer.EventAnswer.{EventAnswer}
 use Rattle.r6_feed.specs.Feeds.{asked_before, asked_in, asking_at, asking_of}
 use Rattle.r6_feed.specs.Feeds as feeds
@@ -42,8 +43,8 @@ quiet shape Check asking is k = cc
 quiet shape Repair asking is k = cc
 quiet shape Wait asking is k = cc
 
-module _ {D : Type 0} (shape : Shape) (events : List Event) (runners : List (Runner D)) (answers : List EventAnswer)
-    (said : (shard : ℕ) (r : Runner D) → slice_get runners shard ≡ Some r → HasSaid shape shard events r)
+module _ {P D : Type 0} {g : Ghosts P} (shape : Shape) (events : List Event) (runners : List (Runner P D g)) (answers : List EventAnswer)
+    (said : (shard : ℕ) (r : Runner P D g) → slice_get runners shard ≡ Some r → HasSaid shape shard events r)
     (asked : map asked_in answers ≡ asked_before shape events (length events)) where
   stands-at : (event : ℕ) (answer : EventReply) → event < length events → at shape events runners answers said asked event ≡ answer
       → slice_get (replies_of (length events) runners answers) event ≡ Some answer
@@ -52,7 +53,7 @@ module _ {D : Type 0} (shape : Shape) (events : List Event) (runners : List (Run
       here_at (replies_of (length events) runners answers) event Waited (omega (arith, below, long)) ∙ ap Some is
 
   -- what a shard answered
-  pub entry-stands : (k : ℕ) (r : Runner D) → slice_get runners k ≡ Some r → IsLinked r.shard.asked.items r.shard.entries.items
+  pub entry-stands : (k : ℕ) (r : Runner P D g) → slice_get runners k ≡ Some r → IsLinked r.shard.asked.items r.shard.entries.items
       → WereRight shape.block events r.shard.asked.items → (i : ℕ) (e : Entry) → slice_get r.shard.entries.items i ≡ Some e
       → slice_get (replies_of (length events) runners answers) e.event ≡ Some (Replied e.reply)
   entry-stands k r there linked right i e stands =

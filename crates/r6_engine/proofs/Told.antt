@@ -19,6 +19,7 @@ use Rattle.r6_shard.specs.declared.ledger.Entry.{Entry}
 use Rattle.r6_shard.specs.declared.parts.Parts.{Parts}
 use Rattle.r6_shard.specs.Courses.{AreOf, IsOf}
 use Rattle.r6_shard.specs.Runs.{AreServed}
+use Rattle.r6_shard.specs.declared.performs.Performs.{Ghosts}
 use Rattle.r6_feed.specs.declared.answer.EventAnswer.{EventAnswer}
 use Rattle.r6_feed.specs.Feeds.{asked_before, asked_in}
 use Rattle.r6_runner.specs.declared.runner.Runner.{Runner}
@@ -83,8 +84,8 @@ picked-long {A = A} pick (n ∷ numbers) = by (pick n) (filter_map pick numbers)
 
 -- ---- one shard
 
-module _ {D : Type 0} (told : D → Telling) (shape : Shape) (events : List Event) (start : Snapshot) (window : ℕ) (own : Parts D)
-    (shard : ℕ) (r : Runner D) (x : HasServed told shape events start window own shard r) where
+module _ {P D : Type 0} {g : Ghosts P} (told : D → Telling) (shape : Shape) (events : List Event) (start : Snapshot) (window : ℕ) (own : Parts D)
+    (shard : ℕ) (r : Runner P D g) (x : HasServed told shape events start window own shard r) where
   pub begun-all : requests_in shape shard events (numbers_of (tasks_of shape shard events)) ≡ x.done.begun
   begun-all =
       x.done.requests ∙ ap (λ due. x.done.begun ++ due_requests due) x.over.none_due ∙ append-nil x.done.begun
@@ -114,15 +115,15 @@ module _ {D : Type 0} (told : D → Telling) (shape : Shape) (events : List Even
 
 -- ---- all shards
 
-module _ {D : Type 0} (told : D → Telling) (shape : Shape) (lawful : IsShape shape) (events : List Event) (start : Snapshot) (window : ℕ)
-    (parts : List (Parts D)) (runners : List (Runner D)) (whole : length parts ≡ shape.shards)
+module _ {P D : Type 0} {g : Ghosts P} (told : D → Telling) (shape : Shape) (lawful : IsShape shape) (events : List Event) (start : Snapshot) (window : ℕ)
+    (parts : List (Parts D)) (runners : List (Runner P D g)) (whole : length parts ≡ shape.shards)
     (x : HaveServed told shape events start window parts runners) where
-  has-parts : (shard : ℕ) (r : Runner D) → slice_get runners shard ≡ Some r → (own : Parts D) × (slice_get parts shard ≡ Some own)
+  has-parts : (shard : ℕ) (r : Runner P D g) → slice_get runners shard ≡ Some r → (own : Parts D) × (slice_get parts shard ≡ Some own)
   has-parts shard r there =
       let below = slice_get_within runners shard r there in
       let many = x.as_many in there-at parts shard (omega (arith, below, many))
 
-  has-served : (shard : ℕ) (r : Runner D) (there : slice_get runners shard ≡ Some r)
+  has-served : (shard : ℕ) (r : Runner P D g) (there : slice_get runners shard ≡ Some r)
       → HasServed told shape events start window (has-parts shard r there).0 shard r
   has-served shard r there = let own = has-parts shard r there in x.each shard own.0 r own.1 there
 

@@ -16,6 +16,7 @@ use Rattle.r6_lists.specs.Events.{Event, Task, numbers_of, task_at, tasks_of}
 use Rattle.r6_shard.specs.declared.parts.Parts.{Parts}
 use Rattle.r6_shard.specs.Counted.{IsInService, counted_in}
 use Rattle.r6_shard.specs.Whole.{IsClean}
+use Rattle.r6_shard.specs.declared.performs.Performs.{Ghosts}
 use Rattle.r6_runner.specs.declared.pass.Passed.{Passed}
 use Rattle.r6_runner.specs.declared.runner.Runner.{Runner}
 use Rattle.r6_runner.specs.Counted.{AddUp, IsUsedUp, LeavesNoneOut, rows_in, rows_of_shard}
@@ -62,8 +63,8 @@ rows-within shape shard lawful below =
     let grows = first_row_grows shape (shard + 1) shape.shards lawful (omega (arith, below)) in
     let last = first_row_last shape lawful in omega (arith, grows, last)
 
-module _ {D : Type 0} (told : D → Telling) (shape : Shape) (lawful : IsShape shape) (events : List Event) (start : Snapshot) (window : ℕ)
-    (own : Parts D) (shard : ℕ) (r : Runner D) (within : shard < shape.shards)
+module _ {P D : Type 0} {g : Ghosts P} (told : D → Telling) (shape : Shape) (lawful : IsShape shape) (events : List Event) (start : Snapshot) (window : ℕ)
+    (own : Parts D) (shard : ℕ) (r : Runner P D g) (within : shard < shape.shards)
     (x : HasServed told shape events start window own shard r) (serves : IsInService r.shard.core)
     (few : (world_shard r.shard.core).tokens < limit) (small : length events * shape.rows < limit)
   where

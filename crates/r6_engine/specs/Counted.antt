@@ -6,6 +6,7 @@ use Rattle.r6_core.specs.Shards.{CoreView}
 use Rattle.r6_lists.specs.Events.{Event, Check, Repair}
 use Rattle.r6_shard.specs.Counted.{IsInService}
 use Rattle.r6_shard.specs.Whole.{SawWithPass}
+use Rattle.r6_shard.specs.declared.performs.Performs.{Ghosts}
 use Rattle.r6_runner.specs.declared.pass.Passed.{Passed}
 use Rattle.r6_runner.specs.declared.runner.Runner.{Runner}
 use Rattle.r6_runner.specs.Counted.{IsUsedUp, rows_in}
@@ -20,17 +21,17 @@ abbrev pub MayGoOn : CoreView → Type 0
 MayGoOn core = IsInService core × (IsUsedUp core → ⊥)
 
 -- if all shards may be asked for more, each check and each repair has counted each row of the array once
-abbrev pub CountEachRow : {D : Type 0} → Shape → List Event → List (Runner D) → Type 0
+abbrev pub CountEachRow : {P D : Type 0} {g : Ghosts P} → Shape → List Event → List (Runner P D g) → Type 0
 CountEachRow shape events runners =
     All (λ runner. MayGoOn runner.shard.core) runners → (event : ℕ)
     → (slice_get events event ≡ Some Check) ⊎ (slice_get events event ≡ Some Repair)
     → sum_by (λ runner. rows_for event runner.passed.items) runners ≡ shape.rows
 
 -- unless a shard names a slot, or saw one that wasn't in sync, its checks and repairs skipped no row
-abbrev pub EachSkipsNone : {D : Type 0} → List (Runner D) → Type 0
+abbrev pub EachSkipsNone : {P D : Type 0} {g : Ghosts P} → List (Runner P D g) → Type 0
 EachSkipsNone runners =
     All (λ runner. SkipNone runner.shard.named runner.shard.saw_out runner.passed.items) runners
 
 -- if each slot was in sync at every time that the calling thread has seen, no shard says that it saw one that wasn't
-abbrev pub EachSawWithPass : {D : Type 0} → (last : View) → List (Runner D) → Type 0
+abbrev pub EachSawWithPass : {P D : Type 0} {g : Ghosts P} → (last : View) → List (Runner P D g) → Type 0
 EachSawWithPass last runners = All (λ runner. SawWithPass runner.shard.saw_out last) runners

@@ -4,6 +4,7 @@ use Rattle.r6_world.specs.Registers.{Snapshot, ShardSet, InSync, Rebuilding, sta
 use Rattle.r6_world.specs.ShardStates.{limit}
 use Rattle.r6_core.specs.Shards.{CoreView, synced, world_shard}
 use Rattle.r6_runner.specs.declared.runner.Runner.{Runner}
+use Rattle.r6_shard.specs.declared.performs.Performs.{Ghosts}
 
 abbrev pub NoneIsRebuilding : Snapshot → Type 0
 NoneIsRebuilding snapshot =
@@ -19,7 +20,7 @@ abbrev pub IsRebuilt : Snapshot → (tokens : List ℕ) → Type 0
 IsRebuilt snapshot tokens = snapshot.failed ≡ false → HaveTokens tokens → NoneIsRebuilding snapshot
 
 -- how many tokens a shard has given
-abbrev pub tokens_of : {D : Type 0} → Runner D → ℕ
+abbrev pub tokens_of : {P D : Type 0} {g : Ghosts P} → Runner P D g → ℕ
 tokens_of runner = (world_shard runner.shard.core).tokens
 
 -- a core has the slot in sync, if it is so by the snapshot
@@ -31,6 +32,6 @@ abbrev pub HasInSync : (slots : ℕ) → Snapshot → CoreView → Type 0
 HasInSync slots snapshot core = (slot : ℕ) → slot < slots → IsKept slot snapshot core
 
 -- each core has, unless the array has failed
-abbrev pub HaveInSync : {D : Type 0} → (slots : ℕ) → Snapshot → List (Runner D) → Type 0
+abbrev pub HaveInSync : {P D : Type 0} {g : Ghosts P} → (slots : ℕ) → Snapshot → List (Runner P D g) → Type 0
 HaveInSync slots snapshot runners =
     snapshot.failed ≡ false → All (λ runner. HasInSync slots snapshot runner.shard.core) runners

@@ -1,6 +1,7 @@
 -- The ledger of a shard, as its thread left it (this project's own).
-use Rattle.std.specs.Prelude.{◌≡◌, ℕ, ◌≤◌, List, [], length, vec_capacity, Option, option_map, filter_map}
+use Rattle.std.specs.Prelude.{◌≡◌, ℕ, ◌≤◌, List, [], ◌++◌, length, vec_capacity, Option, Some, option_map, filter_map, IsPermutation}
 use Rattle.std.specs.List.{range_with_len}
+use Rattle.r6_dev.specs.History.{Blocks, Telling}
 use Rattle.r6_world.specs.ShardStates.{Shard}
 use Rattle.r6_core.specs.Shards.{CoreView, synced, world_shard}
 use Rattle.r6_runner.specs.declared.runner.Runner.{Runner}
@@ -8,6 +9,9 @@ use Rattle.r6_engine.specs.Replies.{ledger_entries}
 use Rattle.r6_engine.specs.declared.handback.Page.{Page}
 use Rattle.r6_engine.specs.declared.ledger.Ledger.{Ledger}
 use Rattle.r6_engine.specs.declared.part.ShardParts.{ShardParts}
+use Rattle.r6_shard.specs.declared.performs.Performs.{Ghosts}
+use Rattle.r6_shard.specs.Parts.{labels_of, part_in}
+use Rattle.r6_shard.specs.Performing.{HasPart, IsHere}
 
 -- the slots that a shard has in sync, of so many, each with the generation of its device
 abbrev pub synced_at : Shard → (slot : ℕ) → Option (ℕ × ℕ)
@@ -24,7 +28,7 @@ abbrev pub in_sync_in : CoreView → List (ℕ × ℕ)
 in_sync_in core = synced_in core.shape.slots (world_shard core)
 
 -- it tells what the shard did, and how it is
-pub record IsLedgerOf {D : Type 0} (r : Runner D) (ledger : Ledger) : Type 0 where
+pub record IsLedgerOf {P D : Type 0} {g : Ghosts P} (r : Runner P D g) (ledger : Ledger) : Type 0 where
   pub requests : ledger.requests.items ≡ r.shard.asked.items
   pub entries : ledger.entries.items ≡ ledger_entries r.shard.entries.items
   pub in_sync : ledger.in_sync.items ≡ in_sync_in r.shard.core
@@ -34,10 +38,20 @@ pub record IsLedgerOf {D : Type 0} (r : Runner D) (ledger : Ledger) : Type 0 whe
   pub tokens : ledger.tokens ≡ (world_shard r.shard.core).tokens
   pub last_look : ledger.last_look ≡ r.shard.last
 
--- the shard's parts, as it gives them back
-pub record AreBack {D : Type 0} (r : Runner D) (back : ShardParts D) : Type 0 where
-  pub parts : back.parts.items ≡ r.shard.parts.parts.items
-  pub others : back.others.items ≡ r.others.items
+-- The shard's parts, as it gives them back: all are there again, in whatever order; of each slot and generation of
+-- which one was taken up, and no other, one is among those that the shard used; and it tells its blocks wherever the
+-- shard knew them
+pub record AreBack {P D : Type 0} {g : Ghosts P} (told : D → Telling) (r : Runner P D g) (back : ShardParts D)
+    : Type 0 where
+  pub labels : IsPermutation ((g.performer r.shard.parts).labels ++ labels_of r.others.items)
+      (labels_of back.parts.items ++ labels_of back.others.items)
+  pub here : (slot generation : ℕ) → IsHere (g.performer r.shard.parts).labels slot generation
+      → IsHere (labels_of back.parts.items) slot generation
+  pub there : (slot generation : ℕ) → HasPart (part_in told back.parts.items) slot generation
+      → HasPart (g.performer r.shard.parts).tells slot generation
+  pub tells : (slot generation : ℕ) (blocks : Blocks)
+      → (g.performer r.shard.parts).tells slot generation ≡ Some (Some blocks)
+      → part_in told back.parts.items slot generation ≡ Some (Some blocks)
 
 -- ---- while they are handed back
 
@@ -49,6 +63,6 @@ pub record IsPage (entries slots : ℕ) (page : Page) : Type 0 where
   pub slots_room : slots ≤ vec_capacity page.in_sync
 
 -- a shard's ledger needs no more room
-pub record FitsPage {D : Type 0} (entries slots : ℕ) (r : Runner D) : Type 0 where
+pub record FitsPage {P D : Type 0} {g : Ghosts P} (entries slots : ℕ) (r : Runner P D g) : Type 0 where
   pub told : length r.shard.entries.items ≤ entries
   pub shape : slots ≡ r.shard.core.shape.slots

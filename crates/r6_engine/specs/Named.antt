@@ -1,7 +1,6 @@
 -- Which slots the ledgers of an array don't name, and which its shards don't declare lost: those whose devices fail no
 -- command (md(4): a device is failed where it answers a command by an error; the promises are this project's own).
 use Rattle.std.specs.Prelude.{◌≡◌, ◌==◌, ℕ, Bool, false, List, All, slice_get, slice_index_or, Some}
-use Rattle.r6_dev.specs.History.{Telling}
 use Rattle.r6_dev.specs.Promises.{Promise}
 use Rattle.r6_layout.specs.Shape.{Shape}
 use Rattle.r6_health.specs.Passes.{view_of}
@@ -10,6 +9,7 @@ use Rattle.r6_health.specs.declared.call.Call.TheVariants.{DeclareLost}
 use Rattle.r6_world.specs.Registers.{Snapshot}
 use Rattle.r6_shard.specs.declared.parts.Parts.{Parts}
 use Rattle.r6_shard.specs.Sound.{StartsSound}
+use Rattle.r6_shard.specs.declared.performs.Performs.{Ghosts}
 use Rattle.r6_feed.specs.declared.event.Event.{Event}
 use Rattle.r6_feed.specs.declared.event.Event.TheVariants.{Attach}
 use Rattle.r6_feed.specs.Events.{PartFailsNone}
@@ -31,17 +31,17 @@ declares slot (DeclareLost other generation) = other == slot
 declares slot call = false
 
 -- the shard's ledger doesn't name the slot, and the shard never declared it lost
-abbrev pub LeavesAlone : {D : Type 0} → (slot : ℕ) → Runner D → Type 0
+abbrev pub LeavesAlone : {P D : Type 0} {g : Ghosts P} → (slot : ℕ) → Runner P D g → Type 0
 LeavesAlone slot runner =
     (slice_index_or runner.shard.named slot false ≡ false)
     × All (λ made. declares slot made.call ≡ false) (view_of runner.shard.pass).mine
 
 -- A slot is left alone in each shard of whose commands its parts fail none: those of the start, with one for its first
 -- device unless the slot is lost, and those of its new devices. What its neighbours do doesn't matter
-abbrev pub LeaveSoundAlone : {D : Type 0} → (D → Promise) → Shape → (start : Snapshot) → List (Parts D)
-    → List (Event D) → List (Runner D) → Type 0
-LeaveSoundAlone {D = D} promised shape start parts events runners =
-    (shard slot : ℕ) (own : Parts D) (runner : Runner D)
+abbrev pub LeaveSoundAlone : {P D : Type 0} {g : Ghosts P} → (D → Promise) → Shape → (start : Snapshot) → List (Parts D)
+    → List (Event D) → List (Runner P D g) → Type 0
+LeaveSoundAlone {P = P} {D = D} {g = g} promised shape start parts events runners =
+    (shard slot : ℕ) (own : Parts D) (runner : Runner P D g)
     → slice_get parts shard ≡ Some own → slice_get runners shard ≡ Some runner
     → StartsSound promised shape shard start slot own.parts.items
     → AttachesFailNone promised shape shard slot events → LeavesAlone slot runner
@@ -49,8 +49,7 @@ LeaveSoundAlone {D = D} promised shape start parts events runners =
 -- ---- while the threads begin
 
 -- the thread of a shard begins with these parts: each slot is sound of which they are
-abbrev pub BeginsSound : {D : Type 0} → (D → Telling) → (D → Promise) → Shape → (start : Snapshot) → Parts D
-    → (shard : ℕ) → Runner D → Type 0
-BeginsSound told promised shape start parts shard runner =
-    (slot : ℕ) → StartsSound promised shape shard start slot parts.parts.items
-    → IsSoundIn told promised shape shard slot runner
+abbrev pub BeginsSound : {P D : Type 0} {g : Ghosts P} → (D → Promise) → Shape → (start : Snapshot) → Parts D
+    → (shard : ℕ) → Runner P D g → Type 0
+BeginsSound promised shape start parts shard runner =
+    (slot : ℕ) → StartsSound promised shape shard start slot parts.parts.items → IsSoundIn shape shard slot runner

@@ -10,19 +10,20 @@ use Rattle.r6_world.specs.Registers.{Snapshot}
 use Rattle.r6_world.specs.Values.{reply_of}
 use Rattle.r6_core.specs.Shards.{world_shard}
 use Rattle.r6_shard.specs.Own.{AreOwn}
+use Rattle.r6_shard.specs.declared.performs.Performs.{Ghosts}
 use Rattle.r6_feed.specs.declared.answer.EventAnswer.{EventAnswer}
 use Rattle.r6_feed.specs.Feeds.{WereTold}
 use Rattle.r6_runner.specs.declared.runner.Runner.{Runner}
 
 -- a shard declared lost none but slots that its ledger names, and reported the rows of no shard but itself as rebuilt:
 -- it made no other calls
-abbrev pub CallAsTheyMay : {D : Type 0} → List (Runner D) → Type 0
-CallAsTheyMay {D = D} runners =
-    (shard : ℕ) (runner : Runner D) → slice_get runners shard ≡ Some runner
+abbrev pub CallAsTheyMay : {P D : Type 0} {g : Ghosts P} → List (Runner P D g) → Type 0
+CallAsTheyMay {P = P} {D = D} {g = g} runners =
+    (shard : ℕ) (runner : Runner P D g) → slice_get runners shard ≡ Some runner
     → AreOwn shard runner.shard.named (view_of runner.shard.pass).mine
 
 -- what a shard saw or answered of the array's failure shows in this snapshot
-pub record IsShown {D : Type 0} (snapshot : Snapshot) (runner : Runner D) : Type 0 where
+pub record IsShown {P D : Type 0} {g : Ghosts P} (snapshot : Snapshot) (runner : Runner P D g) : Type 0 where
   pub seen : (world_shard runner.shard.core).saw_failed ≡ true → snapshot.failed ≡ true
   pub answered : All (λ entry. reply_of entry.reply ≡ ArrayFailed → snapshot.failed ≡ true) runner.shard.entries.items
 
@@ -34,11 +35,11 @@ pub record TakesBack (v w : View) : Type 0 where
   pub told : (first : View) (answers : List EventAnswer) → WereTold first answers v → WereTold first answers w
 
 -- the pass that read last has seen all that the shard's has
-abbrev pub IsSeen : {D : Type 0} → (last : View) → Runner D → Type 0
+abbrev pub IsSeen : {P D : Type 0} {g : Ghosts P} → (last : View) → Runner P D g → Type 0
 IsSeen last runner =
     (last.start ≡ (view_of runner.shard.pass).start) × StartsWith last.seen (view_of runner.shard.pass).seen
 
 -- what the shard's pass has seen will be in each history that this one reads
-abbrev pub IsHeard : {D : Type 0} → Register → (by : View) → Runner D → Type 0
+abbrev pub IsHeard : {P D : Type 0} {g : Ghosts P} → Register → (by : View) → Runner P D g → Type 0
 IsHeard register by runner =
     IsPassOf register runner.shard.pass × Contains by.heard (view_of runner.shard.pass).seen

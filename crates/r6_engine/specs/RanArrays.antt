@@ -7,6 +7,7 @@ use Rattle.r6_health.specs.declared.history.View.{View}
 use Rattle.r6_health.specs.Histories as history
 use Rattle.r6_world.specs.Registers.{Snapshot}
 use Rattle.r6_shard.specs.declared.parts.Parts.{Parts}
+use Rattle.r6_shard.specs.declared.performs.Performs.{Ghosts}
 use Rattle.r6_feed.specs.declared.answer.EventAnswer.{EventAnswer}
 use Rattle.r6_feed.specs.declared.event.Event as feed
 use Rattle.r6_feed.specs.Events.{events_of}
@@ -20,9 +21,9 @@ use Rattle.r6_engine.specs.Serves.{HasAnswered, HaveServed}
 -- The shards took their parts of the events and did them, each from its parts on, while the calling thread, whose pass
 -- knew this first, failed and attached slots: these are the shards, what the thread was answered, what its pass knew at
 -- last and what the register held then
-pub record HasRunArray {D : Type 0} (told : D → Telling) (promised : D → Promise) (shape : Shape)
+pub record HasRunArray {P D : Type 0} {g : Ghosts P} (told : D → Telling) (promised : D → Promise) (shape : Shape)
     (given : List (feed.Event D)) (start : Snapshot) (window : ℕ) (first : View) (parts : List (Parts D))
-    (runners : List (Runner D)) (answers : List EventAnswer) (last : View) (snapshot : Snapshot) : Type 0 where
+    (runners : List (Runner P D g)) (answers : List EventAnswer) (last : View) (snapshot : Snapshot) : Type 0 where
   pub done : HaveServed told shape (events_of told given) start window parts runners
   pub answered : HasAnswered shape (events_of told given) first answers last
   pub held : snapshot ≡ history.held last.start last.seen

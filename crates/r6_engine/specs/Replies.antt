@@ -8,6 +8,7 @@ use Rattle.r6_feed.specs.declared.answer.Outcome.TheVariants.{OutOfRange, Failed
 use Rattle.r6_runner.specs.declared.pass.Passed.{Passed}
 use Rattle.r6_runner.specs.declared.runner.Runner.{Runner}
 use Rattle.r6_shard.specs.declared.ledger.Entry.{Entry}
+use Rattle.r6_shard.specs.declared.performs.Performs.{Ghosts}
 use Rattle.r6_engine.specs.declared.ledger.LedgerEntry.{LedgerEntry}
 use Rattle.r6_engine.specs.declared.reply.EventReply.{EventReply}
 use Rattle.r6_engine.specs.declared.reply.EventReply.TheVariants.{Waited, Replied, Refused, Failed, Attached, Counted}
@@ -37,11 +38,11 @@ abbrev pub said_of_answer : EventAnswer → Said
 said_of_answer answer = (answer.event, reply_of_answer answer.outcome)
 
 -- what a shard said: of the requests that it refused and of those that it answered, and of checks and repairs
-abbrev pub said_by : {D : Type 0} → Runner D → List Said
+abbrev pub said_by : {P D : Type 0} {g : Ghosts P} → Runner P D g → List Said
 said_by runner = map said_of_refusal runner.refused.items
     ++ (map said_of_pass runner.passed.items ++ map said_of_entry runner.shard.entries.items)
 
-abbrev pub said_by_all : {D : Type 0} → List (Runner D) → List Said
+abbrev pub said_by_all : {P D : Type 0} {g : Ghosts P} → List (Runner P D g) → List Said
 said_by_all runners = flat_map said_by runners
 
 -- ---- what is known of the events by their numbers
@@ -60,7 +61,7 @@ with_all replies [] = replies
 with_all replies (said ∷ more) = with_all (with_one replies said) more
 
 -- what is known of so many events from all that was said
-abbrev pub replies_of : {D : Type 0} → (count : ℕ) → List (Runner D) → List EventAnswer → List EventReply
+abbrev pub replies_of : {P D : Type 0} {g : Ghosts P} → (count : ℕ) → List (Runner P D g) → List EventAnswer → List EventReply
 replies_of count runners answers =
     with_all (with_all (replicate count Waited) (said_by_all runners)) (map said_of_answer answers)
 

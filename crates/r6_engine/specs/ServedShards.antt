@@ -18,10 +18,10 @@ use Rattle.r6_lists.specs.Events.{Event, Request, numbers_of, tasks_of}
 use Rattle.r6_shard.specs.declared.ledger.Asked.{Asked}
 use Rattle.r6_shard.specs.declared.parts.Parts.{Parts}
 use Rattle.r6_shard.specs.Beginnings.{Hold, start_of}
-use Rattle.r6_shard.specs.Handing.{parts_labels, parts_tell}
-use Rattle.r6_shard.specs.Here.{BeginsHere, IsHere}
+use Rattle.r6_shard.specs.Here.{BeginsHere}
+use Rattle.r6_shard.specs.Performing.{IsHere}
 use Rattle.r6_shard.specs.Own.{AreOwn}
-use Rattle.r6_shard.specs.Parts.{labels_of}
+use Rattle.r6_shard.specs.Parts.{labels_of, part_in}
 use Rattle.r6_shard.specs.Refusing.{IsEnding}
 use Rattle.r6_shard.specs.Sound.{StartsSound}
 use Rattle.r6_shard.specs.Whole.{SawWithPass}
@@ -87,19 +87,19 @@ pub record HasParts {D : Type 0} (shape : Shape) (events : List Event) (start : 
     (shard : ℕ) (own : Parts D) (handed : List Handed) (ledger : Ledger) (back : ShardParts D) : Type 0 where
   pub came : map slot_of (new_parts shape shard events) ≡ map handed_of handed
   pub agreed : HasAgreed answers handed
-  pub all : IsPermutation (parts_labels own ++ labels_in handed)
+  pub all : IsPermutation (labels_of own.parts.items ++ labels_in handed)
       (labels_of back.parts.items ++ labels_of back.others.items)
-  pub here : (slot generation : ℕ) → BeginsHere (parts_labels own) shape.slots start slot
+  pub here : (slot generation : ℕ) → BeginsHere (labels_of own.parts.items) shape.slots start slot
       → Contains ledger.in_sync.items (slot, generation) → IsHere (labels_of back.parts.items) slot generation
 
 -- from each lawful start whose devices hold what the parts told when they came, and those of new devices
 abbrev pub LeadsFrom : {D : Type 0} → (D → Telling) → Shape → List Event → (start : Snapshot) → (shard : ℕ)
     → (own : Parts D) → List Handed → List EventReply → Ledger → ShardParts D → Type 0
 LeadsFrom told shape events start shard own handed replies ledger back =
-    NoneIsSilent (parts_tell told own) (new_parts shape shard events)
+    NoneIsSilent (part_in told own.parts.items) (new_parts shape shard events)
     → (device : Devices) (array : Array) → IsLawfulStart (layout_of shape) start device array
     → Hold (start_of shape shard start device array)
-    (taken_up (parts_tell told own) (new_parts shape shard events) handed)
+    (taken_up (part_in told own.parts.items) (new_parts shape shard events) handed)
     → IsExplained told shape shard (start_of shape shard start device array) events replies ledger back
 
 -- ---- the register

@@ -6,8 +6,9 @@ use Rattle.r6_health.specs.declared.history.View.{View}
 use Rattle.r6_world.specs.Registers.{Snapshot}
 use Rattle.r6_lists.specs.Events.{Event, tasks_of, numbers_of}
 use Rattle.r6_shard.specs.declared.parts.Parts.{Parts}
-use Rattle.r6_shard.specs.Handing.{parts_labels, parts_tell}
 use Rattle.r6_shard.specs.Here.{BeginsHere, HasUsed}
+use Rattle.r6_shard.specs.declared.performs.Performs.{Ghosts}
+use Rattle.r6_shard.specs.Parts.{labels_of, part_in}
 use Rattle.r6_feed.specs.declared.answer.EventAnswer.{EventAnswer}
 use Rattle.r6_feed.specs.Feeds.{asked_before, asked_in, calls_of, is_unsettled, WereTold}
 use Rattle.r6_runner.specs.declared.runner.Runner.{Runner}
@@ -19,12 +20,12 @@ use Rattle.r6_engine.specs.Counted.{CountEachRow}
 use Rattle.r6_engine.specs.Refusals.{HadReasons, WereRight}
 
 -- the thread of a shard took what its list had until that was finished, and did it
-pub record HasRun {D : Type 0} (told : D → Telling) (shape : Shape) (events : List Event)
-    (shard : ℕ) (numbers : List ℕ) (old : Runner D)
-    (shard' : ℕ) (numbers' : List ℕ) (finished : Bool) (new : Runner D) : Type 0 where
+pub record HasRun {P D : Type 0} {g : Ghosts P} (shape : Shape) (events : List Event)
+    (shard : ℕ) (numbers : List ℕ) (old : Runner P D g)
+    (shard' : ℕ) (numbers' : List ℕ) (finished : Bool) (new : Runner P D g) : Type 0 where
   pub same : shard' ≡ shard
   pub place : new.shard.core.shard ≡ old.shard.core.shard
-  pub course : GoesOn told shape events shard numbers numbers' old new
+  pub course : GoesOn shape events shard numbers numbers' old new
   pub counted : KeepsCounted old new
   pub awaited : HasAwaited events old → HasAwaited events new
   pub own : KeepsOwn old new
@@ -33,20 +34,20 @@ pub record HasRun {D : Type 0} (told : D → Telling) (shape : Shape) (events : 
 
 -- the part of each device that the shard uses, or has given a command, is there, if that of each slot that wasn't lost
 -- was there at the start
-abbrev pub StartsHere : {D : Type 0} → Shape → (start : Snapshot) → Parts D → Runner D → Type 0
-StartsHere shape start parts runner =
-    (slot : ℕ) → BeginsHere (parts_labels parts) shape.slots start slot
-    → HasUsed (parts_labels runner.shard.parts) slot runner.shard.core
+abbrev pub StartsHere : {P D : Type 0} {g : Ghosts P} → Shape → (start : Snapshot) → Parts D → Runner P D g → Type 0
+StartsHere {g = g} shape start parts runner =
+    (slot : ℕ) → BeginsHere (labels_of parts.parts.items) shape.slots start slot
+    → HasUsed (g.performer runner.shard.parts).labels slot runner.shard.core
 
 -- the thread of a shard begins: nothing was taken yet
-pub record Begins {D : Type 0} (told : D → Telling) (shape : Shape) (events : List Event) (start : Snapshot)
-    (window : ℕ) (parts : Parts D) (shard : ℕ) (numbers : List ℕ) (runner : Runner D) : Type 0 where
+pub record Begins {P D : Type 0} {g : Ghosts P} (told : D → Telling) (shape : Shape) (events : List Event)
+    (start : Snapshot) (window : ℕ) (parts : Parts D) (shard : ℕ) (numbers : List ℕ) (runner : Runner P D g) : Type 0 where
   pub none_taken : numbers ≡ []
   pub place : runner.shard.core.shard ≡ shard
-  pub done : HasDone told shape events shape shard start (parts_tell told parts) [] runner
+  pub done : HasDone shape events shape shard start (part_in told parts.parts.items) [] runner
   pub counted : HasCounted (rows_of_shard shape shard) runner
   pub awaited : HasAwaited events runner
-  pub all : HasAll (parts_labels parts) runner
+  pub all : HasAll (labels_of parts.parts.items) runner
   pub here : StartsHere shape start parts runner
   pub window_is : runner.shard.core.window ≡ window
 
@@ -56,14 +57,14 @@ AreNumbered {T} number threads = (k : ℕ) (d : T) → k < length threads → nu
 
 -- a shard was handed all of its part of these events, in their order, and nothing of it is left to do; it refused
 -- requests for these reasons alone, and those that it accepted were handed in behind the waits
-pub record HasServed {D : Type 0} (told : D → Telling) (shape : Shape) (events : List Event) (start : Snapshot)
-    (window : ℕ) (parts : Parts D) (shard : ℕ) (runner : Runner D) : Type 0 where
-  pub done : HasDone told shape events shape shard start (parts_tell told parts)
+pub record HasServed {P D : Type 0} {g : Ghosts P} (told : D → Telling) (shape : Shape) (events : List Event)
+    (start : Snapshot) (window : ℕ) (parts : Parts D) (shard : ℕ) (runner : Runner P D g) : Type 0 where
+  pub done : HasDone shape events shape shard start (part_in told parts.parts.items)
       (numbers_of (tasks_of shape shard events)) runner
   pub refused : HadReasons shape.block events runner.shard.core runner.refused.items
   pub right : WereRight shape.block events runner.shard.asked.items
   pub behind : AreBehindWaits events runner.shard.asked.items
-  pub all : HasAll (parts_labels parts) runner
+  pub all : HasAll (labels_of parts.parts.items) runner
   pub here : StartsHere shape start parts runner
   pub window_is : runner.shard.core.window ≡ window
   pub counted : AreCounted (rows_of_shard shape shard) runner.shard.core runner.passed.items
@@ -71,10 +72,10 @@ pub record HasServed {D : Type 0} (told : D → Telling) (shape : Shape) (events
   pub over : IsOver runner
 
 -- each shard did so, from its parts on, and has its runner
-pub record HaveServed {D : Type 0} (told : D → Telling) (shape : Shape) (events : List Event) (start : Snapshot)
-    (window : ℕ) (parts : List (Parts D)) (runners : List (Runner D)) : Type 0 where
+pub record HaveServed {P D : Type 0} {g : Ghosts P} (told : D → Telling) (shape : Shape) (events : List Event)
+    (start : Snapshot) (window : ℕ) (parts : List (Parts D)) (runners : List (Runner P D g)) : Type 0 where
   pub as_many : length runners ≡ length parts
-  pub each : (shard : ℕ) (own : Parts D) (runner : Runner D) → slice_get parts shard ≡ Some own
+  pub each : (shard : ℕ) (own : Parts D) (runner : Runner P D g) → slice_get parts shard ≡ Some own
       → slice_get runners shard ≡ Some runner → HasServed told shape events start window own shard runner
   pub counted : CountEachRow shape events runners
 

@@ -1,95 +1,64 @@
 //! All that the threads begin with.
 
-ghost use Rattle.std.specs.Prelude.{◌≡◌, ◌+◌, ◌*◌, ◌≤◌, ◌<◌, ◌^◌, [], All, IfOk, OnOk, count_ones, length, vec_capacity};
+ghost use Rattle.std.specs.Prelude.{◌≡◌, ◌≤◌, ◌<◌, ◌^◌, [], All, IfOk, count_ones, length, vec_capacity};
 ghost use Rattle.std.specs.List.{AllZip};
 ghost use Rattle.r6_layout.specs.Shape.{IsShape};
 ghost use Rattle.r6_health.specs.Passes.{IsPassOf, view_of};
 ghost use Rattle.r6_health.specs.Histories.{start_losing};
 ghost use Rattle.r6_health.specs.Registers.{starting};
 ghost use Rattle.r6_health.specs.Views.{first_of};
-ghost use Rattle.r6_lists.specs.Events.{all_tasks};
+ghost use Rattle.r6_lists.specs.Queues.{IsConsumerIn};
 ghost use Rattle.r6_feed.specs.Events.{events_of};
+ghost use Rattle.r6_feed.specs.Feeds.{AreAt};
 ghost use Rattle.r6_engine.specs.Named.{BeginsSound};
 ghost use Rattle.r6_engine.specs.Serves.{AreNumbered, Begins};
 
-use crate::making::{Opening, lists_of, rests_of, takings_of};
+use crate::lines::Lines;
+use crate::making::{Opening, rests_of, takings_of};
 use crate::serving::Config;
 use r6_dev::BlockDevice;
 use r6_feed::{Event, Feed};
 use r6_health::{Register, Snapshot};
-use r6_lists::{Events, List, Rest, Settlement};
+use r6_lists::{Events, Queue, Rest};
 use r6_runner::{Runner, Taking};
-use r6_shard::Parts;
+use r6_shard::{InPlace, Parts, Performs};
 use r6_threads::Refused;
-use std::alloc::{AllocError, Global};
-use std::sync::ledger::{Blank, Book, Share};
-use std::sync::{Mutex, Wait};
-
-// As many items as a list has room for.
-const LIST_ROOM: usize = 256;
+use std::alloc::Global;
+use std::sync::Wait;
 
 /// Where the shards and the calling thread meet, and room for what the shards' threads hand back.
 #[derive(Drop)]
-pub(crate) struct Rooms<L: Events, D: BlockDevice> {
-    pub(crate) settlement: Settlement<L>,
-    pub(crate) runners: Vec<Runner<D>>,
-    /// The list of each shard, from the first on.
-    pub(crate) lists: Vec<Mutex<List<L, D>>>,
+pub(crate) struct Rooms<L: Events, P: Performs, D: BlockDevice> {
+    pub(crate) runners: Vec<Runner<P, D>>,
+    /// The queue of each shard, from the first on.
+    pub(crate) queues: Vec<Queue<L, D>>,
     /// Where each shard is asked for its rest, from the first on.
     pub(crate) rests: Vec<Rest>,
 }
 
-// Room for so many shards. The list of each takes a part of the ledger.
-fn rooms_of<L: Events, D: BlockDevice + Drop>(
-    alloc: Global,
-    shards: usize,
-    share: &mut Share<L>,
-) -> Result<Rooms<L, D>, AllocError>
-    requires parts { (shards ≤ share.old.parts) × (share.old.amount ≡ 0) }
-    ensures rooms { IfOk result (λ rooms. (rooms.settlement.taken.items ≡ [])
-        × (shards ≤ vec_capacity rooms.settlement.taken) × (rooms.runners.items ≡ [])
-        × (shards ≤ vec_capacity rooms.runners)
-        × (length rooms.lists.items ≡ shards) × (length rooms.rests.items ≡ shards)) }
-    ensures share { OnOk result ((share.new.parts + shards ≡ share.old.parts) × (share.new.amount ≡ 0)) }
-{
-    let settlement = Settlement::with_capacity(alloc, shards, share.empty())?;
-    let runners = Vec::with_capacity(alloc, shards)?;
-    let lists = lists_of(alloc, shards, LIST_ROOM, share)?;
-    let rests = rests_of(alloc, shards)?;
-    Ok(Rooms {
-        settlement,
-        runners,
-        lists,
-        rests,
-    })
-}
-
 /// All that the threads begin with.
 #[derive(Drop)]
-pub(crate) struct Begun<L: Events, D: BlockDevice> {
+pub(crate) struct Begun<L: Events, P: Performs, D: BlockDevice> {
     pub(crate) register: Register,
-    pub(crate) book: Book<L>,
-    pub(crate) rooms: Rooms<L, D>,
+    pub(crate) rooms: Rooms<L, P, D>,
     /// The shards as their threads begin, from the first on.
-    pub(crate) takings: Vec<Taking<L, D>>,
+    pub(crate) takings: Vec<Taking<L, P, D>>,
     /// What the calling thread hands out.
-    pub(crate) feed: Feed<L>,
+    pub(crate) feed: Feed<L, D>,
 }
 
 // All that the threads begin with is made.
 pub(crate) fn begin<L, D, R>(
     rt: &R,
     alloc: Global,
-    blank: Blank,
     config: Config,
     parts: Vec<Parts<D>>,
     events: &[Event<D>],
-) -> Result<Begun<L, D>, Refused>
+) -> Result<Begun<L, InPlace<D>, D>, Refused>
 where
     L: Events,
     D: BlockDevice + Drop,
     R: Wait,
-    requires blank { (blank.name ≡ L.name) × (blank.parts ≡ L.parts) × (L.parts ≡ 3 * L.shape.shards) }
     requires shape { config.geometry ≡ L.shape }
     requires events { events_of D.told events.now ≡ L.events }
 
@@ -100,26 +69,28 @@ where
     requires few { count_ones config.lost ≤ 2 }
     requires parts { length parts.items ≡ L.shape.shards }
 
-    // the calling thread's pass, of which nothing was handed out, and what is counted
+    // the calling thread's pass, and who puts into the queues; nothing was handed out
     ensures calling { IfOk result (λ begun. IsPassOf begun.register begun.feed.pass
         × (view_of begun.feed.pass ≡ first_of (start_losing L.shape.slots L.shape.shards config.lost))
-        × (begun.feed.number ≡ 0) × (begun.book.total ≡ all_tasks L.shape L.events)) }
+        × (begun.feed.number ≡ 0)) }
+    ensures producers { IfOk result (λ begun.
+        AreAt L.shape L.events begun.rooms.queues.items 0 begun.feed.producers.items) }
 
     // one shard for each part, in their order, as it begins
     ensures shards { IfOk result (λ begun. AllZip (λ parts taking. Begins D.told L.shape L.events
         (starting config.lost) config.window parts taking.consumer.shard taking.consumer.numbers.items taking.runner)
         parts.items begun.takings.items
-        × AllZip (λ parts taking. BeginsSound D.told D.promised L.shape (starting config.lost) parts
+        × AllZip (λ parts taking. BeginsSound D.promised L.shape (starting config.lost) parts
         taking.consumer.shard taking.runner) parts.items begun.takings.items
         × AreNumbered (λ taking. taking.consumer.shard) begun.takings.items
-        × All (λ taking. IsPassOf begun.register taking.runner.shard.pass) begun.takings.items) }
+        × All (λ taking. IsPassOf begun.register taking.runner.shard.pass) begun.takings.items
+        × All (λ taking. IsConsumerIn begun.rooms.queues.items taking.consumer) begun.takings.items) }
 
     // the register of the array, and room for each shard
     ensures rooms { IfOk result (λ begun. (begun.register.slots ≡ L.shape.slots)
-        × (begun.register.shards ≡ L.shape.shards) × (begun.rooms.settlement.taken.items ≡ [])
-        × (L.shape.shards ≤ vec_capacity begun.rooms.settlement.taken) × (begun.rooms.runners.items ≡ [])
+        × (begun.register.shards ≡ L.shape.shards) × (begun.rooms.runners.items ≡ [])
         × (L.shape.shards ≤ vec_capacity begun.rooms.runners)
-        × (length begun.rooms.lists.items ≡ L.shape.shards)
+        × (length begun.rooms.queues.items ≡ L.shape.shards)
         × (length begun.rooms.rests.items ≡ L.shape.shards)) }
 {
     let Config {
@@ -132,8 +103,9 @@ where
         return Err(Refused::NoMemory);
     };
     let start = Snapshot::start(&geometry, lost);
-    let (mut book, mut all) = blank.open::<L>();
-    let rooms = rooms_of(alloc, geometry.shards(), &mut all)?;
+    let runners = Vec::with_capacity(alloc, geometry.shards())?;
+    let rests = rests_of(alloc, geometry.shards())?;
+    let mut lines = Lines::with_capacity(alloc, geometry.shards())?;
     let opening = Opening {
         geometry: &geometry,
         window,
@@ -141,12 +113,16 @@ where
         start: &start,
     };
     let caller = register.split(&mut first);
-    let takings = takings_of(alloc, &opening, &mut first, parts, events, &mut all)?;
-    let feed = Feed::new(alloc, &geometry, events, caller, &mut book, all)?;
+    let takings = takings_of(alloc, &opening, &mut first, parts, events, &mut lines)?;
+    let Lines { queues, producers } = lines;
+    let feed = Feed::new(alloc, events, producers, caller)?;
     Ok(Begun {
         register,
-        book,
-        rooms,
+        rooms: Rooms {
+            runners,
+            queues,
+            rests,
+        },
         takings,
         feed,
     })

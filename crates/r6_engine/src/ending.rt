@@ -15,6 +15,7 @@ use r6_dev::BlockDevice;
 use r6_health::{Pass, Register, SlotState, Snapshot};
 use r6_layout::MOST_SLOTS;
 use r6_runner::Runner;
+use r6_shard::InPlace;
 use std::sync::Wait;
 
 // As many tokens are given in a shard.
@@ -25,14 +26,14 @@ fn go_round<D: BlockDevice + Drop, R: Wait>(
     rt: &R,
     register: &Register,
     pass: &mut Pass,
-    runner: &mut Runner<D>,
+    runner: &mut Runner<InPlace<D>, D>,
 ) -> bool
     requires pass { IsPassOf register.now pass.old }
     requires runner { IsPassOf register.now runner.old.shard.pass }
     ensures pass { IsPassOf register.now pass.new }
     ensures heard { view_of pass.new ≡ joined (view_of pass.old) (newcomer (view_of runner.new.shard.pass)) }
     ensures runner { IsPassOf register.now runner.new.shard.pass }
-    ensures goes { TakesNoMore D.told D.promised runner.old runner.new }
+    ensures goes { TakesNoMore runner.old runner.new }
     ensures over { result ≡ true → IsOver runner.new }
 {
     let over = runner.go_round(rt, register);
@@ -46,14 +47,14 @@ fn go_round_all<D: BlockDevice + Drop, R: Wait>(
     rt: &R,
     register: &Register,
     pass: &mut Pass,
-    runners: &mut [Runner<D>],
+    runners: &mut [Runner<InPlace<D>, D>],
 ) -> bool
     requires pass { IsPassOf register.now pass.old }
     requires runners { All (λ runner. IsPassOf register.now runner.shard.pass) runners.old }
     ensures pass { IsPassOf register.now pass.new }
     ensures back { TakesBack (view_of pass.old) (view_of pass.new) }
     ensures heard { All (IsHeard register.now (view_of pass.new)) runners.new }
-    ensures goes { AllZip (TakesNoMore D.told D.promised) runners.old runners.new }
+    ensures goes { AllZip TakesNoMore runners.old runners.new }
     ensures over { result ≡ true → All IsOver runners.new }
 {
     let mut over = true;
@@ -78,7 +79,7 @@ fn has_rebuilding(snapshot: &Snapshot) -> bool
 }
 
 // Whether each shard has tokens to give.
-fn have_tokens<D: BlockDevice + Drop>(runners: &[Runner<D>]) -> bool
+fn have_tokens<D: BlockDevice + Drop>(runners: &[Runner<InPlace<D>, D>]) -> bool
     ensures { result ≡ false → HaveTokens (map tokens_of runners.now) → ⊥ }
 {
     for runner in runners {
@@ -90,7 +91,10 @@ fn have_tokens<D: BlockDevice + Drop>(runners: &[Runner<D>]) -> bool
 }
 
 // Whether each shard looked at this last.
-fn have_looked_at<D: BlockDevice + Drop>(runners: &[Runner<D>], snapshot: &Snapshot) -> bool
+fn have_looked_at<D: BlockDevice + Drop>(
+    runners: &[Runner<InPlace<D>, D>],
+    snapshot: &Snapshot,
+) -> bool
     ensures { result ≡ true → All (λ runner. runner.shard.last ≡ snapshot.now) runners.now }
 {
     for runner in runners {
@@ -102,7 +106,7 @@ fn have_looked_at<D: BlockDevice + Drop>(runners: &[Runner<D>], snapshot: &Snaps
 }
 
 // Whether nothing is left to rebuild: no slot is being rebuilt, or none can be.
-fn is_rebuilt<D: BlockDevice + Drop>(runners: &[Runner<D>], snapshot: &Snapshot) -> bool
+fn is_rebuilt<D: BlockDevice + Drop>(runners: &[Runner<InPlace<D>, D>], snapshot: &Snapshot) -> bool
     ensures { result ≡ true → IsRebuilt snapshot.now (map tokens_of runners.now) }
 {
     snapshot.failed() || !have_tokens(runners) || !has_rebuilding(snapshot)
@@ -134,7 +138,7 @@ fn has_in_sync(core: &Core, slots: usize, snapshot: &Snapshot) -> bool
 
 // Whether each core has, unless the array has failed.
 fn have_in_sync<D: BlockDevice + Drop>(
-    runners: &[Runner<D>],
+    runners: &[Runner<InPlace<D>, D>],
     slots: usize,
     snapshot: &Snapshot,
 ) -> bool
@@ -154,7 +158,7 @@ fn have_in_sync<D: BlockDevice + Drop>(
 
 // Whether the array is as it stays: each shard has seen what it is, and nothing is left to rebuild.
 fn is_settled<D: BlockDevice + Drop>(
-    runners: &[Runner<D>],
+    runners: &[Runner<InPlace<D>, D>],
     slots: usize,
     snapshot: &Snapshot,
 ) -> bool
@@ -173,7 +177,7 @@ pub(crate) fn end_all<D: BlockDevice + Drop, R: Wait>(
     rt: &R,
     register: &Register,
     pass: &mut Pass,
-    runners: &mut [Runner<D>],
+    runners: &mut [Runner<InPlace<D>, D>],
     slots: usize,
 ) -> Snapshot
     requires slots { slots ≤ 32 }
@@ -184,7 +188,7 @@ pub(crate) fn end_all<D: BlockDevice + Drop, R: Wait>(
     ensures seen { All (IsSeen (view_of pass.new)) runners.new }
     ensures snapshot { (result ≡ held (view_of pass.new).start (view_of pass.new).seen)
         × IsLegal (view_of pass.new).start (view_of pass.new).seen }
-    ensures goes { AllZip (TakesNoMore D.told D.promised) runners.old runners.new }
+    ensures goes { AllZip TakesNoMore runners.old runners.new }
     ensures over { All IsOver runners.new }
     ensures looked { All (λ runner. runner.shard.last ≡ result) runners.new }
     ensures rebuilt { IsRebuilt result (map tokens_of runners.new) }

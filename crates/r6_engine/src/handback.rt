@@ -11,7 +11,7 @@ use crate::replies::Replies;
 use r6_core::Core;
 use r6_dev::BlockDevice;
 use r6_runner::Runner;
-use r6_shard::{Parts, Shard};
+use r6_shard::{InPlace, Shard};
 use std::alloc::{AllocError, Global};
 
 /// Room for the ledger of a shard.
@@ -56,7 +56,7 @@ fn add_in_sync(core: &Core, slots: usize, in_sync: &mut Vec<(usize, u32)>)
 
 // What a shard did is told: its answers stand among the replies, and what else it did in its ledger.
 fn turn_in<D: BlockDevice + Drop>(
-    runner: Runner<D>,
+    runner: Runner<InPlace<D>, D>,
     page: Page,
     slots: usize,
     replies: &mut Replies,
@@ -64,7 +64,7 @@ fn turn_in<D: BlockDevice + Drop>(
     requires fits { (room : _) × IsPage room slots page × FitsPage room slots runner }
     ensures said { replies.new.replies.items ≡ with_all replies.old.replies.items (said_by runner) }
     ensures ledger { IsLedgerOf runner result.0 }
-    ensures back { AreBack runner result.1 }
+    ensures back { AreBack D.told runner result.1 }
 {
     let Page {
         entries: mut told,
@@ -87,7 +87,7 @@ fn turn_in<D: BlockDevice + Drop>(
         saw_out,
         ..
     } = shard;
-    let Parts { parts } = parts;
+    let InPlace { parts, .. } = parts;
     replies.add_refused(refused.as_slice());
     replies.add_passed(passed.as_slice());
     replies.add_entries(entries, &mut told);
@@ -128,7 +128,7 @@ impl<D: Drop> HandedBack<D> {
 
 // What the shards did is told, from the first on.
 pub(crate) fn hand_back<D: BlockDevice + Drop>(
-    runners: Vec<Runner<D>>,
+    runners: Vec<Runner<InPlace<D>, D>>,
     mut pages: Vec<Page>,
     slots: usize,
     replies: &mut Replies,
@@ -141,7 +141,7 @@ pub(crate) fn hand_back<D: BlockDevice + Drop>(
         × (length runners.items ≤ vec_capacity back.devices) }
     ensures said { replies.new.replies.items ≡ with_all replies.old.replies.items (said_by_all runners.items) }
     ensures ledgers { AllZip IsLedgerOf runners.items result.ledgers.items }
-    ensures devices { AllZip AreBack runners.items result.devices.items }
+    ensures devices { AllZip (AreBack D.told) runners.items result.devices.items }
 {
     for runner in runners {
         let Some(page) = pages.pop() else {

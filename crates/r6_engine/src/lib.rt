@@ -7,6 +7,7 @@ mod found;
 mod generations;
 mod handback;
 mod ledger;
+mod lines;
 mod making;
 mod part;
 mod replies;

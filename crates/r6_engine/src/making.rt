@@ -1,45 +1,26 @@
 //! What the threads begin with is made, before any of them is there.
 
-ghost use Rattle.std.specs.Prelude.{◌≡◌, ◌+◌, ◌<◌, ◌≤◌, All, length, vec_capacity, IfOk, OnOk, false};
+ghost use Rattle.std.specs.Prelude.{◌≡◌, ◌+◌, ◌<◌, ◌≤◌, [], All, None, length, vec_capacity, IfOk, OnOk, false};
 ghost use Rattle.r6_layout.specs.Shape.{IsShape};
 ghost use Rattle.std.specs.List.{AllZip};
 ghost use Rattle.r6_health.specs.Passes.{IsPassOf, view_of};
 ghost use Rattle.r6_shard.specs.Beginnings.{IsFirstPass};
 ghost use Rattle.r6_lists.specs.Events.{tasks_of};
+ghost use Rattle.r6_lists.specs.Queues.{IsConsumerIn};
 ghost use Rattle.r6_feed.specs.Events.{events_of};
+ghost use Rattle.r6_engine.specs.NewQueues.{HaveBegun};
 ghost use Rattle.r6_engine.specs.Named.{BeginsSound};
 ghost use Rattle.r6_engine.specs.Serves.{AreNumbered, Begins};
 
+use crate::lines::Lines;
 use r6_dev::BlockDevice;
 use r6_feed::{Event, count_tasks};
 use r6_health::{Pass, Register, Snapshot};
 use r6_layout::Geometry;
-use r6_lists::{Consumer, Events, List, Rest};
+use r6_lists::{Consumer, Events, Rest};
 use r6_runner::{Runner, Taking};
-use r6_shard::{Parts, Place};
+use r6_shard::{InPlace, Parts, Place};
 use std::alloc::{AllocError, Global};
-use std::sync::Mutex;
-use std::sync::ledger::Share;
-
-// The list of each shard, empty, with room for so many items and a part of the ledger.
-pub(crate) fn lists_of<L: Events, D: BlockDevice + Drop>(
-    alloc: Global,
-    shards: usize,
-    capacity: usize,
-    share: &mut Share<L>,
-) -> Result<Vec<Mutex<List<L, D>>>, AllocError>
-    requires parts { (shards ≤ share.old.parts) × (share.old.amount ≡ 0) }
-    ensures shards { IfOk result (λ lists. length lists.items ≡ shards) }
-    ensures parts { OnOk result (share.new.parts + shards ≡ share.old.parts) }
-    ensures amount { OnOk result (share.new.amount ≡ 0) }
-{
-    let mut lists = Vec::with_capacity(alloc, shards)?;
-    for shard in 0..shards {
-        let stock = share.split_off(1, 0);
-        lists.push_reserved(Mutex::new(List::with_capacity(alloc, shard, capacity, stock)?));
-    }
-    Ok(lists)
-}
 
 // Where each shard is asked for its rest.
 pub(crate) fn rests_of(alloc: Global, shards: usize) -> Result<Vec<Rest>, AllocError>
@@ -52,14 +33,15 @@ pub(crate) fn rests_of(alloc: Global, shards: usize) -> Result<Vec<Rest>, AllocE
     Ok(rests)
 }
 
-// The same parts, with room for so many more.
-fn with_room<D: Drop>(parts: Parts<D>, more: usize) -> Result<Parts<D>, AllocError>
+// Who performs commands on these parts, with room for so many more.
+fn with_room<D: BlockDevice + Drop>(parts: Parts<D>, more: usize) -> Result<InPlace<D>, AllocError>
     ensures items { IfOk result (λ roomy. roomy.parts.items ≡ parts.parts.items) }
     ensures room { IfOk result (λ roomy. length parts.parts.items + more ≤ vec_capacity roomy.parts) }
+    ensures none { IfOk result (λ roomy. roomy.waiting ≡ None) }
 {
     let Parts { mut parts } = parts;
     parts.reserve(more)?;
-    Ok(Parts { parts })
+    Ok(InPlace::new(parts))
 }
 
 // A shard as its thread begins, with this room.
@@ -70,11 +52,11 @@ pub(crate) fn taking_of<L: Events, D: BlockDevice + Drop>(
     pass: Pass,
     parts: Parts<D>,
     tasks: usize,
-    share: Share<L>,
-) -> Result<Taking<L, D>, AllocError>
+    consumer: Consumer<L, D>,
+) -> Result<Taking<L, InPlace<D>, D>, AllocError>
     requires shape { place.geometry ≡ L.shape }
     requires room { length (tasks_of L.shape place.number L.events) ≤ tasks }
-    requires part { (share.parts ≡ 1) × (share.amount ≡ 0) }
+    requires consumer { (consumer.shard ≡ place.number) × (consumer.numbers.items ≡ []) }
     requires limits { IsShape place.geometry }
     requires number { place.number < place.geometry.shards }
     requires window { (1 ≤ place.window) × (place.window ≤ 8) }
@@ -86,14 +68,13 @@ pub(crate) fn taking_of<L: Events, D: BlockDevice + Drop>(
     // the shard has nothing behind it, and is sound where its parts are
     ensures begins { IfOk result (λ taking. Begins D.told L.shape L.events start.now place.window parts taking.consumer.shard
         taking.consumer.numbers.items taking.runner) }
-    ensures sound { IfOk result (λ taking. BeginsSound D.told D.promised L.shape start.now parts taking.consumer.shard
+    ensures sound { IfOk result (λ taking. BeginsSound D.promised L.shape start.now parts taking.consumer.shard
         taking.runner) }
 
-    // it is that of the place, with the pass that was handed in
-    ensures number { IfOk result (λ taking. taking.consumer.shard ≡ place.number) }
+    // it has what was handed in
+    ensures consumer { IfOk result (λ taking. taking.consumer ≡ consumer) }
     ensures pass { IfOk result (λ taking. taking.runner.shard.pass ≡ pass) }
 {
-    let consumer = Consumer::with_capacity(alloc, place.number, tasks, share)?;
     let roomy = with_room(parts, tasks)?;
     let runner = Runner::new(alloc, place, start, pass, roomy, tasks)?;
     Ok(Taking::new(runner, consumer))
@@ -122,12 +103,14 @@ pub(crate) fn takings_of<L: Events, D: BlockDevice + Drop>(
     first: &mut Pass,
     parts: Vec<Parts<D>>,
     events: &[Event<D>],
-    share: &mut Share<L>,
-) -> Result<Vec<Taking<L, D>>, AllocError>
+    lines: &mut Lines<L, D>,
+) -> Result<Vec<Taking<L, InPlace<D>, D>>, AllocError>
     requires shape { opening.now.geometry.now ≡ L.shape }
     requires events { events_of D.told events.now ≡ L.events }
     requires whole { length parts.items ≡ L.shape.shards }
-    requires parts { (L.shape.shards ≤ share.old.parts) × (share.old.amount ≡ 0) }
+    requires none { (lines.old.queues.items ≡ []) × (lines.old.producers.items ≡ []) }
+    requires room { (L.shape.shards ≤ vec_capacity lines.old.queues)
+        × (L.shape.shards ≤ vec_capacity lines.old.producers) }
 
     // the array as its threads begin
     requires limits { IsShape L.shape }
@@ -146,15 +129,17 @@ pub(crate) fn takings_of<L: Events, D: BlockDevice + Drop>(
     ensures begins { IfOk result (λ takings. AllZip (λ parts taking. Begins D.told L.shape L.events
         opening.now.start.now opening.now.window parts taking.consumer.shard taking.consumer.numbers.items taking.runner)
         parts.items takings.items) }
-    ensures sound { IfOk result (λ takings. AllZip (λ parts taking. BeginsSound D.told D.promised L.shape
+    ensures sound { IfOk result (λ takings. AllZip (λ parts taking. BeginsSound D.promised L.shape
         opening.now.start.now parts taking.consumer.shard taking.runner) parts.items takings.items) }
     ensures numbered { IfOk result (λ takings. AreNumbered (λ taking. taking.consumer.shard) takings.items) }
     ensures passes { IfOk result (λ takings.
         All (λ taking. IsPassOf opening.now.register.now taking.runner.shard.pass) takings.items) }
 
-    // so many parts less are left to share
-    ensures parts { OnOk result (share.new.parts + L.shape.shards ≡ share.old.parts) }
-    ensures amount { OnOk result (share.new.amount ≡ 0) }
+    // each takes from the queue of its shard
+    ensures lines { OnOk result (HaveBegun L.shape L.events lines.new.queues.items lines.new.producers.items
+        × (length lines.new.queues.items ≡ L.shape.shards)) }
+    ensures consumers { IfOk result (λ takings.
+        All (λ taking. IsConsumerIn lines.new.queues.items taking.consumer) takings.items) }
 {
     let mut takings = Vec::with_capacity(alloc, parts.len())?;
     for parts in parts {
@@ -165,8 +150,8 @@ pub(crate) fn takings_of<L: Events, D: BlockDevice + Drop>(
         };
         let pass = opening.register.split(first);
         let tasks = room_for(opening.geometry, events, place.number);
-        let part = share.split_off(1, 0);
-        let taking = taking_of(alloc, place, opening.start, pass, parts, tasks, part)?;
+        let consumer = lines.add(alloc, place.number, tasks)?;
+        let taking = taking_of(alloc, place, opening.start, pass, parts, tasks, consumer)?;
         takings.push_reserved(taking);
     }
     Ok(takings)

@@ -1,9 +1,11 @@
 //! The shards run, while the events are handed out.
 
-ghost use Rattle.std.specs.Prelude.{◌≡◌, ◌<◌, All, IfOk};
+ghost use Rattle.std.specs.Prelude.{◌≡◌, All, IfOk};
 ghost use Rattle.std.specs.List.{AllZip};
 ghost use Rattle.r6_health.specs.Passes.{IsPassOf, view_of};
+ghost use Rattle.r6_lists.specs.Queues.{IsConsumerIn};
 ghost use Rattle.r6_feed.specs.Events.{events_of, AreWhole, ArePromised};
+ghost use Rattle.r6_feed.specs.Feeds.{AreAt};
 ghost use Rattle.r6_runner.specs.Sound.{KeepsPromised};
 ghost use Rattle.r6_engine.specs.Serves.{HasAnswered, HasRun};
 
@@ -13,6 +15,7 @@ use r6_feed::{Event, EventAnswer, Feed, Shards};
 use r6_health::Pass;
 use r6_lists::Events;
 use r6_runner::Taking;
+use r6_shard::InPlace;
 use r6_threads::Refused;
 use std::alloc::Global;
 use std::sync::Wait;
@@ -22,13 +25,14 @@ use std::thread::Threads;
 fn hand_out<L: Events, D: BlockDevice + Drop, R: Wait>(
     rt: &R,
     shards: &Shards<L, D>,
-    feed: Feed<L>,
+    feed: Feed<L, D>,
     events: Vec<Event<D>>,
 ) -> (Pass, Vec<EventAnswer>)
     requires begins { feed.number ≡ 0 }
     requires events { events_of D.told events.items ≡ L.events }
     requires whole { AreWhole L.shape.shards events.items }
     requires promised { ArePromised D.promised L.shape L.sound events.items }
+    requires producers { AreAt L.shape L.events shards.now.queues.now feed.number feed.producers.items }
     requires pass { IsPassOf shards.now.register.now feed.pass }
     ensures pass { IsPassOf shards.now.register.now result.0 }
     ensures answered { HasAnswered L.shape L.events (view_of feed.pass) result.1.items (view_of result.0) }
@@ -41,22 +45,23 @@ pub(crate) fn run_all<L, D, R>(
     rt: &R,
     alloc: Global,
     station: &Station<L, D>,
-    takings: Vec<Taking<L, D>>,
-    feed: Feed<L>,
+    takings: Vec<Taking<L, InPlace<D>, D>>,
+    feed: Feed<L, D>,
     events: Vec<Event<D>>,
-) -> Result<((Pass, Vec<EventAnswer>), Vec<Taking<L, D>>), Refused>
+) -> Result<((Pass, Vec<EventAnswer>), Vec<Taking<L, InPlace<D>, D>>), Refused>
 where
     L: Events + Send + Sync,
     D: BlockDevice + Drop + Send,
     R: Threads + Wait + Sync,
     requires ready { All (λ taking. IsPassOf station.now.shards.register.now taking.runner.shard.pass
-        × (taking.consumer.shard < L.shape.shards)) takings.items }
+        × IsConsumerIn station.now.shards.queues.now taking.consumer) takings.items }
 
     // the events that are handed out
     requires begins { feed.number ≡ 0 }
     requires events { events_of D.told events.items ≡ L.events }
     requires whole { AreWhole L.shape.shards events.items }
     requires promised { ArePromised D.promised L.shape L.sound events.items }
+    requires producers { AreAt L.shape L.events station.now.shards.queues.now feed.number feed.producers.items }
     requires pass { IsPassOf station.now.shards.register.now feed.pass }
 
     // they were handed out and answered, and each shard has run
@@ -64,9 +69,9 @@ where
     ensures answered { IfOk result (λ r.
         HasAnswered L.shape L.events (view_of feed.pass) r.0.1.items (view_of r.0.0)) }
     ensures run { IfOk result (λ r. AllZip (λ old new. IsPassOf station.now.shards.register.now new.runner.shard.pass
-        × HasRun D.told L.shape L.events old.consumer.shard old.consumer.numbers.items old.runner
+        × HasRun L.shape L.events old.consumer.shard old.consumer.numbers.items old.runner
         new.consumer.shard new.consumer.numbers.items new.consumer.finished new.runner
-        × KeepsPromised D.told D.promised L.shape L.sound old.consumer.shard old.runner new.runner)
+        × KeepsPromised L.shape L.sound old.consumer.shard old.runner new.runner)
         takings.items r.1.items) }
 {
     let shards = &station.shards;
@@ -75,6 +80,7 @@ where
         requires events { events_of D.told events.items ≡ L.events }
         requires whole { AreWhole L.shape.shards events.items }
         requires promised { ArePromised D.promised L.shape L.sound events.items }
+        requires producers { AreAt L.shape L.events shards.now.queues.now feed.number feed.producers.items }
         requires pass { IsPassOf shards.now.register.now feed.pass }
         ensures pass { IsPassOf shards.entry.now.register.now result.0 }
         ensures answered { HasAnswered L.shape L.events (view_of feed.pass) result.1.items (view_of result.0) }

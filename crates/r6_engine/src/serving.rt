@@ -1,6 +1,6 @@
 //! The shards of an array run, each in a thread of its own.
 
-ghost use Rattle.std.specs.Prelude.{◌≡◌, ◌↔◌, ℕ, ◌*◌, ◌≤◌, ◌<◌, ◌^◌, IfOk, count_ones, length};
+ghost use Rattle.std.specs.Prelude.{◌≡◌, ◌↔◌, ℕ, ◌≤◌, ◌<◌, ◌^◌, IfOk, count_ones, length};
 ghost use Rattle.r6_layout.specs.Shape.{IsShape};
 ghost use Rattle.r6_health.specs.Passes.{view_of};
 ghost use Rattle.r6_health.specs.Histories.{start_losing};
@@ -21,12 +21,11 @@ use r6_health::{Pass, Snapshot};
 use r6_layout::Geometry;
 use r6_lists::Events;
 use r6_runner::Runner;
-use r6_shard::Parts;
+use r6_shard::{InPlace, Parts, Performs};
 use r6_threads::Refused;
 use std::alloc::Global;
 use std::marker::Brand;
 use std::sync::Wait;
-use std::sync::ledger::Blank;
 use std::thread::Threads;
 
 /// How an array is served.
@@ -43,9 +42,9 @@ pub struct Config {
 
 /// What the shards of an array did.
 #[derive(Drop)]
-pub(crate) struct Ran<D> {
+pub(crate) struct Ran<P: Performs, D> {
     /// The shards, from the first on, each with what it did of the events.
-    pub(crate) runners: Vec<Runner<D>>,
+    pub(crate) runners: Vec<Runner<P, D>>,
     /// What those events were answered that no shard answers, in the order of the events.
     pub(crate) answers: Vec<EventAnswer>,
     /// What the calling thread saw and did at the register.
@@ -57,16 +56,14 @@ pub(crate) struct Ran<D> {
 fn run_as<L, D, R>(
     rt: &R,
     alloc: Global,
-    blank: Blank,
     config: Config,
     parts: Vec<Parts<D>>,
     events: Vec<Event<D>>,
-) -> Result<Ran<D>, Refused>
+) -> Result<Ran<InPlace<D>, D>, Refused>
 where
     L: Events + Send + Sync,
     D: BlockDevice + Drop + Send,
     R: Threads + Wait + Sync,
-    requires blank { (blank.name ≡ L.name) × (blank.parts ≡ L.parts) × (L.parts ≡ 3 * L.shape.shards) }
     requires shape { config.geometry ≡ L.shape }
     requires events { events_of D.told events.items ≡ L.events }
 
@@ -86,30 +83,28 @@ where
         ran.answers.items (view_of ran.pass) ran.snapshot) }
 {
     let geometry = config.geometry;
-    let begun = begin::<L, D, R>(rt, alloc, blank, config, parts, &events)?;
+    let begun = begin::<L, D, R>(rt, alloc, config, parts, &events)?;
     let Begun {
         register,
-        mut book,
         rooms,
         takings,
         feed,
     } = begun;
     let Rooms {
-        settlement,
         mut runners,
-        lists,
+        queues,
         rests,
     } = rooms;
     let station = Station {
         shards: Shards {
             geometry: &geometry,
             register: &register,
-            lists: &lists,
+            queues: &queues,
             rests: &rests,
         },
     };
     let ((mut pass, answers), ended) = run_all(rt, alloc, &station, takings, feed, events)?;
-    settle(settlement, &mut book, ended, &mut runners);
+    settle(ended, &mut runners);
     let snapshot = end_all(rt, &register, &mut pass, &mut runners, geometry.slots());
     Ok(Ran {
         runners,
@@ -127,7 +122,7 @@ pub(crate) fn run_array<D, R>(
     config: Config,
     parts: Vec<Parts<D>>,
     events: Vec<Event<D>>,
-) -> Result<Ran<D>, Refused>
+) -> Result<Ran<InPlace<D>, D>, Refused>
 where
     D: BlockDevice + Drop + Send,
     R: Threads + Wait + Sync,
@@ -142,6 +137,5 @@ where
         config.window (first_of (start_losing config.geometry.slots config.geometry.shards config.lost)) parts.items
         ran.runners.items ran.answers.items (view_of ran.pass) ran.snapshot) }
 {
-    let blank = Blank::new(3 * config.geometry.shards() as u64);
-    run_as::<Brand, D, R>(rt, alloc, blank, config, parts, events)
+    run_as::<Brand, D, R>(rt, alloc, config, parts, events)
 }

@@ -1,31 +1,26 @@
 //! What the shards took is settled.
 
-ghost use Rattle.std.specs.Prelude.{◌≡◌, ◌*◌, ◌≤◌, [], All, Some, length, map, slice_get, true, vec_capacity};
-ghost use Rattle.r6_lists.specs.Events.{all_tasks, numbers_of, tasks_of};
+ghost use Rattle.std.specs.Prelude.{◌≡◌, ◌≤◌, [], All, Some, length, map, slice_get, true, vec_capacity};
+ghost use Rattle.r6_lists.specs.Events.{numbers_of, tasks_of};
 ghost use Rattle.r6_engine.specs.Serves.{AreNumbered};
 
 use r6_dev::BlockDevice;
-use r6_lists::{Events, Settlement};
+use r6_lists::Events;
 use r6_runner::{Runner, Taking};
-use std::sync::ledger::Book;
+use r6_shard::InPlace;
 
 // Settles what the shards took, from the first on: all of their tasks, each once, in the order of the events.
 pub(crate) fn settle<L: Events, D: BlockDevice + Drop>(
-    mut settlement: Settlement<L>,
-    book: &mut Book<L>,
-    takings: Vec<Taking<L, D>>,
-    runners: &mut Vec<Runner<D>>,
+    takings: Vec<Taking<L, InPlace<D>, D>>,
+    runners: &mut Vec<Runner<InPlace<D>, D>>,
 )
-    // one of each shard, in their order, each at the end of its list
+    // one of each shard, in their order, each at the end of its queue
     requires shards { length takings.items ≡ L.shape.shards }
     requires numbered { AreNumbered (λ taking. taking.consumer.shard) takings.items }
     requires finished { All (λ taking. taking.consumer.finished ≡ true) takings.items }
 
-    // room for each, and the parts and the count of the ledger
-    requires empty { (settlement.taken.items ≡ []) × (L.shape.shards ≤ vec_capacity settlement.taken) }
+    // room for each
     requires room { (runners.old.items ≡ []) × (L.shape.shards ≤ vec_capacity runners.old) }
-    requires parts { L.parts ≡ 3 * L.shape.shards }
-    requires counted { book.old.total ≡ all_tasks L.shape L.events }
 
     ensures runners { runners.new.items ≡ map (λ taking. taking.runner) takings.items }
 
@@ -34,8 +29,6 @@ pub(crate) fn settle<L: Events, D: BlockDevice + Drop>(
         → taking.consumer.numbers.items ≡ numbers_of (tasks_of L.shape shard L.events) }
 {
     for taking in takings {
-        settlement.add(taking.consumer);
         runners.push_reserved(taking.runner);
     }
-    settlement.settle(book);
 }

@@ -1,4 +1,4 @@
-use Rattle.std.proofs.Common.{arith, ◌≡◌, ℕ, ◌+◌, ◌^◌, ◌<◌, ◌≤◌, ◌∙◌, ap, subst, sym, vec_capacity}
+use Rattle.std.proofs.Common.{arith, ℕ, ◌^◌, ◌<◌, ◌≤◌, ◌∙◌, ap, subst, sym, vec_capacity}
 use Rattle.std.specs.List.{AllZip}
 use Rattle.r6_layout.specs.Shape.{Shape}
 use Rattle.r6_world.specs.Registers.{Snapshot}
@@ -6,12 +6,10 @@ use Rattle.r6_health.specs.declared.history.View.{View}
 use Rattle.r6_health.specs.Histories.{start_losing}
 use Rattle.r6_health.specs.Passes.{IsPassOf, view_of}
 use Rattle.r6_health.specs.Views.{first_of, newcomer}
+use Rattle.r6_feed.specs.Feeds.{AreAt}
 use Rattle.r6_engine.specs.Named.{BeginsSound}
 use Rattle.r6_engine.specs.Serves.{Begins}
 use Rattle.r6_engine.proofs.beginning.begin.Goals as goal
-
-from-none : (total before more : ℕ) → total ≡ before + more → before ≡ 0 → total ≡ more
-from-none total before more counted none = omega (arith, counted, none)
 
 pub split-caller-requires : goal.split-caller-requires
 split-caller-requires g c = c.in-Ok.ensures.pass
@@ -46,7 +44,6 @@ returns-clause-calling g c =
       ap view_of c.in_ok-feed.ensures.begins.1 ∙ c.split-caller.ensures.newcomer ∙ ap newcomer c.in-Ok.ensures.first
           ∙ ap (λ (s : Shape). first_of (start_losing s.slots s.shards lost)) c.requires.shape,
       c.in_ok-feed.ensures.begins.0,
-      from-none _ _ _ c.in_ok-feed.ensures.counted c.open-book.ensures.total,
     )
 
 pub returns-clause-shards : goal.returns-clause-shards
@@ -54,11 +51,12 @@ returns-clause-shards g c = (
   subst (λ start. AllZip (λ p t. Begins g.D.BlockDevice.told g.L.Events.shape g.L.Events.events start c.args.config.window p
       t.consumer.shard t.consumer.numbers.items t.runner) c.args.parts.items c.in_ok-takings.takings.items)
       c.start-start.ensures c.in_ok-takings.ensures.begins,
-  subst (λ start. AllZip (λ p t. BeginsSound g.D.BlockDevice.told g.D.BlockDevice.promised g.L.Events.shape start p
+  subst (λ start. AllZip (λ p t. BeginsSound g.D.BlockDevice.promised g.L.Events.shape start p
       t.consumer.shard t.runner) c.args.parts.items c.in_ok-takings.takings.items)
       c.start-start.ensures c.in_ok-takings.ensures.sound,
   c.in_ok-takings.ensures.numbered,
   c.in_ok-takings.ensures.passes,
+  c.in_ok-takings.ensures.consumers,
 )
 
 pub returns-clause-rooms : goal.returns-clause-rooms
@@ -66,17 +64,31 @@ returns-clause-rooms g c =
     let shape = c.requires.shape in
     let first = c.in-Ok.ensures.first in
     let start = c.in-Ok.ensures.pass.same_start in
-    let made = c.in_ok-rooms.ensures.rooms in
-    let shards = c.shards.ensures.value ∙ ap (λ (s : Shape). s.shards) shape in (
+    let shards = c.shards.ensures.value ∙ ap (λ (s : Shape). s.shards) shape in
+    let rests = c.shards-2.ensures.value ∙ ap (λ (s : Shape). s.shards) shape in (
       sym (ap (λ s. s.slots) start) ∙ ap (λ (v : View). v.start.slots) first ∙ ap (λ (s : Shape). s.slots) shape,
       sym (ap (λ s. s.shards) start) ∙ ap (λ (v : View). v.start.shards) first ∙ ap (λ (s : Shape). s.shards) shape,
-      made.0,
-      subst (λ (n : ℕ). n ≤ vec_capacity c.in_ok-rooms.rooms.settlement.taken) shards made.1,
-      made.2,
-      subst (λ (n : ℕ). n ≤ vec_capacity c.in_ok-rooms.rooms.runners) shards made.3,
-      made.4 ∙ shards,
-      made.5 ∙ shards,
+      c.in_ok-runners.ensures.items,
+      subst (λ (n : ℕ). n ≤ vec_capacity c.in_ok-runners.runners) shards c.in_ok-runners.ensures.capacity,
+      c.in_ok-takings.ensures.lines.1,
+      c.in_ok-rests.ensures ∙ rests,
     )
+
+pub returns-clause-producers : goal.returns-clause-producers
+returns-clause-producers g c =
+    let begun = c.in_ok-takings.ensures.lines in
+    subst (λ ps. AreAt g.L.Events.shape g.L.Events.events c.takings_of.new.lines.queues.items 0 ps.items) (sym c.in_ok-feed.ensures.producers)
+    (record { shards = begun.0.as_many ∙ begun.1; each = begun.0.each })
+
+pub takings_of-requires-clause-none : goal.takings_of-requires-clause-none
+takings_of-requires-clause-none g c = c.in_ok-lines.ensures.empty
+
+pub takings_of-requires-clause-room : goal.takings_of-requires-clause-room
+takings_of-requires-clause-room g c =
+    let shards = c.shards-3.ensures.value ∙ ap (λ (s : Shape). s.shards) c.requires.shape in
+    let room = c.in_ok-lines.ensures.room in
+    let queues = room.0 in
+    let producers = room.1 in (omega (arith, shards, queues), omega (arith, shards, producers))
 
 pub new-requires-clause-few : goal.new-requires-clause-few
 new-requires-clause-few g c = c.requires.few
@@ -90,12 +102,6 @@ start-start-requires-clause-few g c = c.requires.few
 pub start-start-requires-clause-slots : goal.start-start-requires-clause-slots
 start-start-requires-clause-slots g c = subst (λ (s : Shape). c.args.config.lost < 2 ^ s.slots) (sym c.requires.shape) c.requires.slots
 
-pub open-book-requires-clause-name : goal.open-book-requires-clause-name
-open-book-requires-clause-name g c = c.requires.blank.0
-
-pub open-book-requires-clause-parts : goal.open-book-requires-clause-parts
-open-book-requires-clause-parts g c = c.requires.blank.1
-
 pub takings_of-requires-clause-events : goal.takings_of-requires-clause-events
 takings_of-requires-clause-events g c = c.requires.events
 
@@ -108,33 +114,8 @@ takings_of-requires-clause-window g c = c.requires.window
 pub takings_of-requires-clause-whole : goal.takings_of-requires-clause-whole
 takings_of-requires-clause-whole g c = c.requires.parts
 
-pub new-requires-2-clause-shape : goal.new-requires-2-clause-shape
-new-requires-2-clause-shape g c = c.requires.shape
-
 pub new-requires-2-clause-events : goal.new-requires-2-clause-events
 new-requires-2-clause-events g c = c.requires.events
 
 pub new-requires-2-clause-first : goal.new-requires-2-clause-first
 new-requires-2-clause-first g c = ap (λ (v : View). v.mine) c.split-caller.ensures.newcomer
-
-pub rooms_of-requires : goal.rooms_of-requires
-rooms_of-requires g c =
-    let shards = c.shards.ensures.value ∙ ap (λ (s : Shape). s.shards) c.requires.shape in
-    let whole = c.open-book.ensures.parts in
-    let three = c.requires.blank.2 in record { parts = (omega (arith, shards, whole, three), c.open-book.ensures.amount) }
-
-pub takings_of-requires-clause-parts : goal.takings_of-requires-clause-parts
-takings_of-requires-clause-parts g c =
-    let shards = c.shards.ensures.value ∙ ap (λ (s : Shape). s.shards) c.requires.shape in
-    let whole = c.open-book.ensures.parts in
-    let three = c.requires.blank.2 in
-    let left = c.in_ok-rooms.ensures.share in
-    let parts = left.0 in (omega (arith, shards, whole, three, parts), left.1)
-
-pub new-requires-2-clause-parts : goal.new-requires-2-clause-parts
-new-requires-2-clause-parts g c =
-    let shards = c.shards.ensures.value ∙ ap (λ (s : Shape). s.shards) c.requires.shape in
-    let whole = c.open-book.ensures.parts in
-    let three = c.requires.blank.2 in
-    let parts = c.in_ok-rooms.ensures.share.0 in
-    let rest = c.in_ok-takings.ensures.parts in (omega (arith, shards, whole, three, parts, rest), c.in_ok-takings.ensures.amount)

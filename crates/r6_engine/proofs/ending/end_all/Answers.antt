@@ -14,14 +14,12 @@ loop-init g c = (
     pass = c.requires.pass;
     passes = c.requires.runners;
     back = none_back (view_of c.args.pass.now);
-    goes = zip-same (TakesNoMore g.D.BlockDevice.told g.D.BlockDevice.promised) (none-same g.D.BlockDevice.told g.D.BlockDevice.promised) c.args.runners.now;
+    goes = zip-same TakesNoMore none-same c.args.runners.now;
   },
 )
 
 pub loop-preserved : goal.loop-preserved
 loop-preserved g c =
-    let told = g.D.BlockDevice.told in
-    let promised = g.D.BlockDevice.promised in
     let before = c.loop.invariant.2 in
     let round = c.go_round_all-over.ensures in
     let first = view_of c.args.pass.now in
@@ -33,7 +31,7 @@ loop-preserved g c =
         pass = c.read-snapshot.ensures.pass;
         passes = λ k d below. (round.heard k d below).0;
         back = look_back first mid last (back_on first (view_of c.loop.pass) mid before.back round.back) c.read-snapshot.ensures.looks;
-        goes = zip-then (TakesNoMore told promised) (TakesNoMore told promised) (TakesNoMore told promised) (none-then told promised) c.args.runners.now
+        goes = zip-then TakesNoMore TakesNoMore TakesNoMore none-then c.args.runners.now
             c.loop.runners c.go_round_all-over.new.runners before.goes round.goes;
       },
     )
@@ -53,9 +51,7 @@ returns-then-is_settled-clause-seen g c = λ k d below.
 
 pub returns-then-is_settled-clause-goes : goal.returns-then-is_settled-clause-goes
 returns-then-is_settled-clause-goes g c =
-    let told = g.D.BlockDevice.told in
-    let promised = g.D.BlockDevice.promised in
-    zip-then (TakesNoMore told promised) (TakesNoMore told promised) (TakesNoMore told promised) (none-then told promised) c.args.runners.now
+    zip-then TakesNoMore TakesNoMore TakesNoMore none-then c.args.runners.now
     c.loop.runners c.go_round_all-over.new.runners c.loop.invariant.2.goes c.go_round_all-over.ensures.goes
 
 pub returns-then-is_settled-clause-over : goal.returns-then-is_settled-clause-over

@@ -11,5 +11,5 @@ invariant-loop g l =
       pass : IsPassOf l.register l.pass;
       passes : All (λ runner. IsPassOf l.register runner.shard.pass) l.runners;
       back : TakesBack (view_of l.fn.pass) (view_of l.pass);
-      goes : AllZip (TakesNoMore g.D.BlockDevice.told g.D.BlockDevice.promised) l.fn.runners l.runners;
+      goes : AllZip TakesNoMore l.fn.runners l.runners;
     }

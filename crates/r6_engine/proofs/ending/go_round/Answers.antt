@@ -11,7 +11,7 @@ returns-clause-heard g c =
 
 pub returns-clause-goes : goal.returns-clause-goes
 returns-clause-goes g c =
-    none-then g.D.BlockDevice.told g.D.BlockDevice.promised c.args.runner.now c.go_round-over.new.self c.split_pass-seen.new.self
+    none-then c.args.runner.now c.go_round-over.new.self c.split_pass-seen.new.self
     c.go_round-over.ensures.goes c.split_pass-seen.ensures.kept.goes
 
 pub returns-clause-over : goal.returns-clause-over

@@ -18,15 +18,13 @@ loop-k-init g c = record {
   pass = c.requires.pass;
   passes = c.requires.runners;
   back = none_back (view_of c.args.pass.now);
-  goes = zip-same (TakesNoMore g.D.BlockDevice.told g.D.BlockDevice.promised) (none-same g.D.BlockDevice.told g.D.BlockDevice.promised) c.args.runners.now;
+  goes = zip-same TakesNoMore none-same c.args.runners.now;
   heard = λ i d less. absurd (omega (arith, less));
   over = λ yes i d less. absurd (omega (arith, less));
 }
 
 pub loop-k-preserved : goal.loop-k-preserved
 loop-k-preserved g c =
-    let told = g.D.BlockDevice.told in
-    let promised = g.D.BlockDevice.promised in
     let register = c.args.register.now in
     let olds = c.loop-k.runners in
     let k = c.loop-k.k in
@@ -36,15 +34,15 @@ loop-k-preserved g c =
     let now = c.go_round.ensures in
     let v = view_of c.loop-k.pass in
     let w = view_of c.go_round.new.pass in
-    let long = AllZip-long (TakesNoMore told promised) c.args.runners.now olds before.goes in
+    let long = AllZip-long TakesNoMore c.args.runners.now olds before.goes in
     let test = c.loop-k-test.true in
     let within : k < length olds = omega (arith, long, test) in
     record {
       pass = now.pass;
       passes = All-set (λ r. IsPassOf register r.shard.pass) olds k new now.runner before.passes;
       back = one_back (view_of c.args.pass.now) v (newcomer (view_of new.shard.pass)) w before.back now.heard;
-      goes = zip-set (TakesNoMore told promised) c.args.runners.now olds k old new before.goes within c.index-runners-k.is
-          (λ x y. none-then told promised x old new y (subst (λ r. TakesNoMore told promised r new) (sym c.index-runners-k.is) now.goes));
+      goes = zip-set TakesNoMore c.args.runners.now olds k old new before.goes within c.index-runners-k.is
+          (λ x y. none-then x old new y (subst (λ r. TakesNoMore r new) (sym c.index-runners-k.is) now.goes));
       heard = below-set (IsHeard register w) olds k new within
           (λ i d less. heard_on register v (newcomer (view_of new.shard.pass)) w (slice_index_or olds i d) (before.heard i d less) now.heard)
           (heard_of register v w new now.runner now.heard);
@@ -58,16 +56,12 @@ loop-k-preserved g c =
 
 pub returns-clause-heard : goal.returns-clause-heard
 returns-clause-heard g c =
-    let told = g.D.BlockDevice.told in
-    let promised = g.D.BlockDevice.promised in
-    let long = AllZip-long (TakesNoMore told promised) c.args.runners.now c.loop-k.runners c.loop-k.invariant.goes in
+    let long = AllZip-long TakesNoMore c.args.runners.now c.loop-k.runners c.loop-k.invariant.goes in
     let most = c.loop-k-test.false in
     all-below (IsHeard c.args.register.now (view_of c.loop-k.pass)) c.loop-k.runners c.loop-k.k (omega (arith, long, most)) c.loop-k.invariant.heard
 
 pub returns-clause-over : goal.returns-clause-over
 returns-clause-over g c = λ all.
-    let told = g.D.BlockDevice.told in
-    let promised = g.D.BlockDevice.promised in
-    let long = AllZip-long (TakesNoMore told promised) c.args.runners.now c.loop-k.runners c.loop-k.invariant.goes in
+    let long = AllZip-long TakesNoMore c.args.runners.now c.loop-k.runners c.loop-k.invariant.goes in
     let most = c.loop-k-test.false in
     all-below IsOver c.loop-k.runners c.loop-k.k (omega (arith, long, most)) (c.loop-k.invariant.over all)

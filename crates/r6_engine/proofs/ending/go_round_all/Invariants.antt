@@ -12,7 +12,7 @@ invariant-loop-k g l = record {
   pass : IsPassOf l.register l.pass;
   passes : All (λ runner. IsPassOf l.register runner.shard.pass) l.runners;
   back : TakesBack (view_of l.fn.pass) (view_of l.pass);
-  goes : AllZip (TakesNoMore g.D.BlockDevice.told g.D.BlockDevice.promised) l.fn.runners l.runners;
+  goes : AllZip TakesNoMore l.fn.runners l.runners;
   heard : AllBelow l.k (IsHeard l.register (view_of l.pass)) l.runners;
   over : l.over ≡ true → AllBelow l.k IsOver l.runners;
 }

@@ -73,7 +73,7 @@ loop-runner-preserved g c =
             before runner kept.said told.said;
         ledgers = rw c.push_reserved.ensures.items (all_zipped_more IsLedgerOf before c.loop-runner.back.ledgers.items runner
             c.turn_in-ledger.result.0 kept.ledgers told.ledger);
-        devices = rw c.push_reserved-in-loop-runner.ensures.items (all_zipped_more AreBack before c.loop-runner.back.devices.items runner
+        devices = rw c.push_reserved-in-loop-runner.ensures.items (all_zipped_more (AreBack g.D.BlockDevice.told) before c.loop-runner.back.devices.items runner
             c.turn_in-ledger.result.1 kept.devices told.back);
         pages = (
           room,
@@ -114,4 +114,4 @@ returns-clause-devices g c =
     c.loop-runner.yielded c.loop-runner.runner-iterator c.loop-runner.yielded_by c.next.result c.next.new.self c.in-None.is
     c.next.ensures.steps in
     let kept = c.loop-runner.invariant.2 in
-    subst (λ runners. AllZip AreBack runners c.loop-runner.back.devices.items) (sym (unchanged c.loop-runner.yielded) ∙ end.0) kept.devices
+    subst (λ runners. AllZip (AreBack g.D.BlockDevice.told) runners c.loop-runner.back.devices.items) (sym (unchanged c.loop-runner.yielded) ∙ end.0) kept.devices

@@ -9,7 +9,7 @@ invariant-loop-runner g l =
     (goal.iterator-loop-runner g).can_next l.runner-iterator × (goal.iterator-loop-runner g).is_finite l.runner-iterator × record {
       said : l.replies.replies.items ≡ with_all l.fn.replies.replies.items (said_by_all l.yielded);
       ledgers : AllZip IsLedgerOf l.yielded l.back.ledgers.items;
-      devices : AllZip AreBack l.yielded l.back.devices.items;
+      devices : AllZip (AreBack g.D.BlockDevice.told) l.yielded l.back.devices.items;
       pages : (room : _) × All (IsPage room l.fn.slots) l.pages.items × All (FitsPage room l.fn.slots) l.fn.runners.items;
       as_many : length l.pages.items + length l.yielded ≡ length l.fn.runners.items;
       ledgers_room : length l.fn.runners.items ≤ vec_capacity l.back.ledgers;

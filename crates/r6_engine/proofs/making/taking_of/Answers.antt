@@ -1,10 +1,11 @@
 use Rattle.std.proofs.Common.{arith, ◌≡◌, ◌≤◌, ◌∙◌, ℕ, [], ap, length, subst, sym}
+use Rattle.std.proofs.lemmas.List.{length-map}
 use Rattle.r6_lists.specs.Events.{tasks_of}
-use Rattle.r6_shard.specs.Parts.{part_in}
+use Rattle.r6_shard.specs.Parts.{label_of, labels_of, part_in}
+use Rattle.r6_shard.specs.Waiting.{out_of}
+use Rattle.r6_shard.proofs.Promises.{begins-sound}
 use Rattle.r6_layout.specs.Shape.{Shape}
-use Rattle.r6_shard.specs.Handing.{parts_labels, parts_tell}
 use Rattle.r6_shard.specs.Here.{BeginsHere, HasUsed}
-use Rattle.r6_shard.specs.Parts.{labels_of}
 use Rattle.r6_runner.specs.declared.runner.Runner.{Runner}
 use Rattle.r6_runner.specs.Parts.{HasAll}
 use Rattle.r6_runner.specs.Counted.{HasCounted, rows_of_shard}
@@ -20,30 +21,30 @@ returns-clause-begins g c =
     let shape = g.L.Events.shape in
     let events = g.L.Events.events in
     let done = c.in_ok-runner.ensures.begins shape events in
-    let own : c.new-2.result.consumer.shard ≡ c.args.place.number = ap (λ consumer. consumer.shard) c.new-2.ensures.1 ∙ c.in_ok-consumer.ensures.shard in
+    let own : c.new-2.result.consumer.shard ≡ c.args.place.number = ap (λ consumer. consumer.shard) c.new-2.ensures.1 ∙ c.requires.consumer.0 in
     record {
-      none_taken = ap (λ consumer. consumer.numbers.items) c.new-2.ensures.1 ∙ c.in_ok-consumer.ensures.empty.0;
+      none_taken = ap (λ consumer. consumer.numbers.items) c.new-2.ensures.1 ∙ c.requires.consumer.1;
       place = ap (λ runner. runner.shard.core.shard) c.new-2.ensures.0 ∙ c.in_ok-runner.ensures.place ∙ sym own;
-      done = subst (λ r. HasDone told shape events shape c.new-2.result.consumer.shard c.args.start.now (parts_tell told c.args.parts) [] r)
+      done = subst (λ r. HasDone shape events shape c.new-2.result.consumer.shard c.args.start.now (part_in told c.args.parts.parts.items) [] r)
           (sym c.new-2.ensures.0)
-          (subst (λ s. HasDone told shape events s c.new-2.result.consumer.shard c.args.start.now (parts_tell told c.args.parts) []
+          (subst (λ s. HasDone shape events s c.new-2.result.consumer.shard c.args.start.now (part_in told c.args.parts.parts.items) []
           c.in_ok-runner.runner) c.requires.shape
-          (subst (λ n. HasDone told shape events c.args.place.geometry n c.args.start.now (parts_tell told c.args.parts) [] c.in_ok-runner.runner)
+          (subst (λ n. HasDone shape events c.args.place.geometry n c.args.start.now (part_in told c.args.parts.parts.items) [] c.in_ok-runner.runner)
           (sym own)
-          (subst (λ items. HasDone told shape events c.args.place.geometry c.args.place.number c.args.start.now (part_in told items) []
+          (subst (λ items. HasDone shape events c.args.place.geometry c.args.place.number c.args.start.now (part_in told items) []
           c.in_ok-runner.runner) c.in_ok-roomy.ensures.items done)));
       counted = subst (λ r. HasCounted (rows_of_shard shape c.new-2.result.consumer.shard) r) (sym c.new-2.ensures.0)
           (subst (λ s. HasCounted (rows_of_shard s c.new-2.result.consumer.shard) c.in_ok-runner.runner) c.requires.shape
           (subst (λ n. HasCounted (rows_of_shard c.args.place.geometry n) c.in_ok-runner.runner) (sym own)
           c.in_ok-runner.ensures.counted));
       awaited = subst (HasAwaited events) (sym c.new-2.ensures.0) (c.in_ok-runner.ensures.awaited events);
-      all = subst (HasAll (parts_labels c.args.parts)) (sym c.new-2.ensures.0)
+      all = subst (HasAll (labels_of c.args.parts.parts.items)) (sym c.new-2.ensures.0)
           (subst (λ items. HasAll (labels_of items) c.in_ok-runner.runner) c.in_ok-roomy.ensures.items c.in_ok-runner.ensures.own.all);
-      here = λ slot begun. subst (λ (r : Runner _). HasUsed (parts_labels r.shard.parts) slot r.shard.core) (sym c.new-2.ensures.0)
+      here = λ slot begun. subst (λ (r : Runner _ _ _). HasUsed (labels_of r.shard.parts.parts.items) slot r.shard.core) (sym c.new-2.ensures.0)
           (c.in_ok-runner.ensures.own.here slot
           (subst (λ (s : Shape). BeginsHere (labels_of c.in_ok-roomy.roomy.parts.items) s.slots c.args.start.now slot) (sym c.requires.shape)
           (subst (λ items. BeginsHere (labels_of items) shape.slots c.args.start.now slot) (sym c.in_ok-roomy.ensures.items) begun)));
-      window_is = ap (λ (r : Runner _). r.shard.core.window) c.new-2.ensures.0 ∙ c.in_ok-runner.ensures.own.window_is;
+      window_is = ap (λ (r : Runner _ _ _). r.shard.core.window) c.new-2.ensures.0 ∙ c.in_ok-runner.ensures.own.window_is;
     }
 
 pub returns-clause-sound : goal.returns-clause-sound
@@ -53,20 +54,15 @@ returns-clause-sound g c = λ slot x.
     let shape = g.L.Events.shape in
     let start = c.args.start.now in
     let number = c.new-2.result.consumer.shard in
-    let own : number ≡ c.args.place.number = ap (λ consumer. consumer.shard) c.new-2.ensures.1 ∙ c.in_ok-consumer.ensures.shard in
+    let own : number ≡ c.args.place.number = ap (λ consumer. consumer.shard) c.new-2.ensures.1 ∙ c.requires.consumer.0 in
     let roomy = subst (λ items. StartsSound promised shape number start slot items) (sym c.in_ok-roomy.ensures.items) x in
-    subst (λ r. IsSoundIn told promised shape number slot r) (sym c.new-2.ensures.0)
-    (subst (λ n. IsSoundIn told promised shape n slot c.in_ok-runner.runner) (sym own)
-    (subst (λ s. IsSoundIn told promised s c.args.place.number slot c.in_ok-runner.runner) c.requires.shape
+    subst (λ r. IsSoundIn shape number slot r) (sym c.new-2.ensures.0)
+    (subst (λ n. IsSoundIn shape n slot c.in_ok-runner.runner) (sym own)
+    (subst (λ s. IsSoundIn s c.args.place.number slot c.in_ok-runner.runner) c.requires.shape
     (c.in_ok-runner.ensures.sound slot
+    (begins-sound told promised c.args.place.geometry c.args.place.number slot start c.in_ok-roomy.roomy
     (subst (λ s. StartsSound promised s c.args.place.number start slot c.in_ok-roomy.roomy.parts.items) (sym c.requires.shape)
-    (subst (λ n. StartsSound promised shape n start slot c.in_ok-roomy.roomy.parts.items) own roomy)))))
-
-pub with_capacity-requires-clause-room : goal.with_capacity-requires-clause-room
-with_capacity-requires-clause-room g c = c.requires.room
-
-pub with_capacity-requires-clause-part : goal.with_capacity-requires-clause-part
-with_capacity-requires-clause-part g c = c.requires.part
+    (subst (λ n. StartsSound promised shape n start slot c.in_ok-roomy.roomy.parts.items) own roomy))))))
 
 pub new-requires-clause-limits : goal.new-requires-clause-limits
 new-requires-clause-limits g c = c.requires.limits
@@ -86,23 +82,30 @@ new-requires-clause-unfailed g c = c.requires.unfailed
 pub new-requires-clause-pass : goal.new-requires-clause-pass
 new-requires-clause-pass g c = c.requires.pass
 
-pub returns-clause-number : goal.returns-clause-number
-returns-clause-number g c = ap (λ consumer. consumer.shard) c.new-2.ensures.1 ∙ c.in_ok-consumer.ensures.shard
-
 pub returns-clause-pass : goal.returns-clause-pass
 returns-clause-pass g c = ap (λ runner. runner.shard.pass) c.new-2.ensures.0 ∙ c.in_ok-runner.ensures.pass
 
 pub new-requires-2-clause-fresh : goal.new-requires-2-clause-fresh
-new-requires-2-clause-fresh g c = (c.in_ok-runner.ensures.room.1, c.in_ok-consumer.ensures.empty.0)
+new-requires-2-clause-fresh g c = (c.in_ok-runner.ensures.room.1, c.requires.consumer.1)
 
 pub new-requires-2-clause-room : goal.new-requires-2-clause-room
 new-requires-2-clause-room g c =
     let shape = g.L.Events.shape in
     let events = g.L.Events.events in
-    subst (λ (n : ℕ). length (tasks_of shape c.in_ok-consumer.consumer.shard events) ≤ n) (sym c.in_ok-runner.ensures.room.0)
-    (subst (λ (n : ℕ). length (tasks_of shape n events) ≤ c.args.tasks) (sym c.in_ok-consumer.ensures.shard) c.requires.room)
+    subst (λ (n : ℕ). length (tasks_of shape c.args.consumer.shard events) ≤ n) (sym c.in_ok-runner.ensures.room.0)
+    (subst (λ (n : ℕ). length (tasks_of shape n events) ≤ c.args.tasks) (sym c.requires.consumer.0) c.requires.room)
 
 pub new-requires-clause-parts_room : goal.new-requires-clause-parts_room
 new-requires-clause-parts_room g c =
     let room = c.in_ok-roomy.ensures.room in
-    let same = ap length c.in_ok-roomy.ensures.items in omega (arith, room, same)
+    let same = ap length c.in_ok-roomy.ensures.items in
+    let long = length-map c.in_ok-roomy.roomy.parts.items label_of in omega (arith, room, same, long)
+
+pub returns-clause-consumer : goal.returns-clause-consumer
+returns-clause-consumer g c = c.new-2.ensures.1
+
+pub new-requires-clause-holds : goal.new-requires-clause-holds
+new-requires-clause-holds g c = tt
+
+pub new-requires-clause-idle : goal.new-requires-clause-idle
+new-requires-clause-idle g c = λ token. ap (λ o. out_of o token) c.in_ok-roomy.ensures.none

@@ -1,4 +1,4 @@
-use Rattle.std.proofs.Common.{arith, ◌≡◌, ◌∙◌, ◌≤◌, ℕ, length, refl, ap, sym, subst}
+use Rattle.std.proofs.Common.{arith, ◌+◌, ◌≡◌, ◌∙◌, ◌≤◌, ℕ, length, refl, ap, sym, subst}
 use Rattle.std.specs.List.{AllZip}
 use Rattle.std.proofs.lemmas.Iterator.Adapters.{YieldsList-from_vec}
 use Rattle.std.proofs.lemmas.Iterator.Consumers.{YieldsList-turn, YieldsList-end}
@@ -15,21 +15,10 @@ use Rattle.r6_shard.specs.Beginnings.{IsFirstPass}
 use Rattle.r6_feed.specs.Events.{events_of}
 use Rattle.r6_engine.specs.Named.{BeginsSound}
 use Rattle.r6_engine.specs.Serves.{Begins}
+use Rattle.r6_lists.specs.Queues.{IsConsumerIn}
+use Rattle.r6_engine.proofs.NewQueues.{all-still-in, one-longer}
 use Rattle.r6_engine.proofs.Numbers.{fewer, one_more, unchanged}
 use Rattle.r6_engine.proofs.making.takings_of.Goals as goal
-
-pub split_off-part-requires-clause-has_parts : goal.split_off-part-requires-clause-has_parts
-split_off-part-requires-clause-has_parts g c =
-    let turn = YieldsList-turn
-    (YieldsList-from_vec {s = c.into_iter-parts-iterator.result} c.args.parts.items c.into_iter-parts-iterator.ensures.into_iter_gives.0
-    (c.into_iter-parts-iterator.ensures.into_iter_gives.1 ∙ c.args.parts.ok.0))
-    c.loop-parts.yielded c.loop-parts.parts-iterator c.loop-parts.yielded_by c.next.result c.next.new.self c.in-Some.parts c.in-Some.is
-    c.next.ensures.steps in
-    let kept = c.loop-parts.invariant.2 in
-    let below = fewer _ _ _ _ (AllZip-long _ c.loop-parts.yielded c.loop-parts.takings.items kept.begins) turn.0 c.requires.whole in
-    let left = kept.left in
-    let all = c.requires.parts.0 in
-    omega (arith, below, left, all)
 
 pub taking_of-requires-clause-number : goal.taking_of-requires-clause-number
 taking_of-requires-clause-number g c =
@@ -70,17 +59,23 @@ loop-parts-preserved g c =
         begins = rw pushed (all_zipped_more (λ parts t. Begins g.D.BlockDevice.told g.L.Events.shape g.L.Events.events
             c.args.opening.now.start.now c.args.opening.now.window parts t.consumer.shard t.consumer.numbers.items t.runner)
             c.loop-parts.yielded before c.in-Some.parts taking kept.begins c.in_ok-taking.ensures.begins);
-        sound = rw pushed (all_zipped_more (λ parts t. BeginsSound g.D.BlockDevice.told g.D.BlockDevice.promised g.L.Events.shape
+        sound = rw pushed (all_zipped_more (λ parts t. BeginsSound g.D.BlockDevice.promised g.L.Events.shape
             c.args.opening.now.start.now parts t.consumer.shard t.runner)
             c.loop-parts.yielded before c.in-Some.parts taking kept.sound c.in_ok-taking.ensures.sound);
         numbered = rw pushed (one_more (λ t. t.consumer.shard) before taking kept.numbered
-            (c.in_ok-taking.ensures.number ∙ long));
+            (ap (λ y. y.shard) c.in_ok-taking.ensures.consumer ∙ c.in_ok-consumer.ensures.fresh.0 ∙ long));
         passes = rw pushed (All-push (λ t. IsPassOf c.args.opening.now.register.now t.runner.shard.pass) before taking kept.passes
             (subst (IsPassOf c.args.opening.now.register.now) (sym c.in_ok-taking.ensures.pass) c.split-pass.ensures.new));
         room = subst (λ (room : ℕ). length c.args.parts.items ≤ room) (sym c.push_reserved.ensures.capacity) kept.room;
-        left = (let more = ap length pushed ∙ length_push before taking in let part = c.split_off-part.ensures.parts_left in
-            let left = kept.left in omega (arith, more, part, left));
-        none = (let gone = c.split_off-part.ensures.amount_left in let none = kept.none in omega (arith, gone, none));
+        begun = c.in_ok-consumer.ensures.begun;
+        many = one-longer _ _ c.in_ok-consumer.ensures.longer ∙ ap (λ n. n + 1) kept.many ∙ sym (ap length pushed ∙ length_push before taking);
+        consumers = rw pushed (All-push (λ t. IsConsumerIn c.add.new.self.queues.items t.consumer) before taking
+            (all-still-in (λ t. t.consumer) _ _ before c.in_ok-consumer.ensures.longer kept.consumers)
+            (subst (IsConsumerIn c.add.new.self.queues.items) (sym c.in_ok-taking.ensures.consumer) c.in_ok-consumer.ensures.consumer));
+        lines_room = (
+          subst (λ (n : ℕ). g.L.Events.shape.shards ≤ n) (sym c.in_ok-consumer.ensures.room.0) kept.lines_room.0,
+          subst (λ (n : ℕ). g.L.Events.shape.shards ≤ n) (sym c.in_ok-consumer.ensures.room.1) kept.lines_room.1,
+        );
       },
     )
 
@@ -102,23 +97,9 @@ returns-clause-sound g c =
     (c.into_iter-parts-iterator.ensures.into_iter_gives.1 ∙ c.args.parts.ok.0))
     c.loop-parts.yielded c.loop-parts.parts-iterator c.loop-parts.yielded_by c.next.result c.next.new.self c.in-None.is
     c.next.ensures.steps in
-    subst (λ parts. AllZip (λ p t. BeginsSound g.D.BlockDevice.told g.D.BlockDevice.promised g.L.Events.shape
+    subst (λ parts. AllZip (λ p t. BeginsSound g.D.BlockDevice.promised g.L.Events.shape
     c.args.opening.now.start.now p t.consumer.shard t.runner) parts c.loop-parts.takings.items)
     (sym (unchanged c.loop-parts.yielded) ∙ end.0) c.loop-parts.invariant.2.sound
-
-pub returns-clause-parts : goal.returns-clause-parts
-returns-clause-parts g c =
-    let end = YieldsList-end
-    (YieldsList-from_vec {s = c.into_iter-parts-iterator.result} c.args.parts.items c.into_iter-parts-iterator.ensures.into_iter_gives.0
-    (c.into_iter-parts-iterator.ensures.into_iter_gives.1 ∙ c.args.parts.ok.0))
-    c.loop-parts.yielded c.loop-parts.parts-iterator c.loop-parts.yielded_by c.next.result c.next.new.self c.in-None.is
-    c.next.ensures.steps in
-    let kept = c.loop-parts.invariant.2 in
-    let long = AllZip-long _ c.loop-parts.yielded c.loop-parts.takings.items kept.begins in
-    let whole = c.requires.whole in
-    let left = kept.left in
-    let all = end.1 in
-    omega (arith, long, whole, left, all)
 
 pub returns-clause-numbered : goal.returns-clause-numbered
 returns-clause-numbered g c = c.loop-parts.invariant.2.numbered
@@ -132,9 +113,6 @@ returns-clause-passes g c = c.loop-parts.invariant.2.passes
 pub returns-clause-same : goal.returns-clause-same
 returns-clause-same g c = c.loop-parts.invariant.2.same
 
-pub returns-clause-amount : goal.returns-clause-amount
-returns-clause-amount g c = c.loop-parts.invariant.2.none
-
 pub taking_of-requires-clause-shape : goal.taking_of-requires-clause-shape
 taking_of-requires-clause-shape g c = c.requires.shape
 
@@ -146,12 +124,6 @@ taking_of-requires-clause-no_attach g c = c.requires.no_attach
 
 pub taking_of-requires-clause-unfailed : goal.taking_of-requires-clause-unfailed
 taking_of-requires-clause-unfailed g c = c.requires.unfailed
-
-pub taking_of-requires-clause-part : goal.taking_of-requires-clause-part
-taking_of-requires-clause-part g c = (c.split_off-part.ensures.parts, c.split_off-part.ensures.amount)
-
-pub split_off-part-requires-clause-left_backed : goal.split_off-part-requires-clause-left_backed
-split_off-part-requires-clause-left_backed g c = λ _. sym c.loop-parts.invariant.2.none
 
 pub split-pass-requires : goal.split-pass-requires
 split-pass-requires g c = c.loop-parts.invariant.2.pass
@@ -178,3 +150,31 @@ pub taking_of-requires-clause-pass : goal.taking_of-requires-clause-pass
 taking_of-requires-clause-pass g c =
     first-split g.L.Events.shape c.args.opening.now.geometry.now c.args.opening.now.start.now (view_of c.args.first.now) (view_of c.split-pass.result)
     c.requires.shape (c.split-pass.ensures.newcomer ∙ ap newcomer c.loop-parts.invariant.2.same) c.requires.first
+
+pub add-requires-clause-room : goal.add-requires-clause-room
+add-requires-clause-room g c =
+    let turn = YieldsList-turn
+    (YieldsList-from_vec {s = c.into_iter-parts-iterator.result} c.args.parts.items c.into_iter-parts-iterator.ensures.into_iter_gives.0
+    (c.into_iter-parts-iterator.ensures.into_iter_gives.1 ∙ c.args.parts.ok.0))
+    c.loop-parts.yielded c.loop-parts.parts-iterator c.loop-parts.yielded_by c.next.result c.next.new.self c.in-Some.parts c.in-Some.is
+    c.next.ensures.steps in
+    let kept = c.loop-parts.invariant.2 in
+    let long = AllZip-long _ c.loop-parts.yielded c.loop-parts.takings.items kept.begins in
+    let many = kept.many in
+    let queues = kept.lines_room.0 in
+    let producers = kept.lines_room.1 in
+    let whole = c.requires.whole in
+    let more = turn.0 in (omega (arith, more, long, many, queues, whole), omega (arith, more, long, many, producers, whole))
+
+pub returns-clause-lines : goal.returns-clause-lines
+returns-clause-lines g c =
+    let end = YieldsList-end
+    (YieldsList-from_vec {s = c.into_iter-parts-iterator.result} c.args.parts.items c.into_iter-parts-iterator.ensures.into_iter_gives.0
+    (c.into_iter-parts-iterator.ensures.into_iter_gives.1 ∙ c.args.parts.ok.0))
+    c.loop-parts.yielded c.loop-parts.parts-iterator c.loop-parts.yielded_by c.next.result c.next.new.self c.in-None.is
+    c.next.ensures.steps in
+    let kept = c.loop-parts.invariant.2 in
+    let long = AllZip-long _ c.loop-parts.yielded c.loop-parts.takings.items kept.begins in
+    let many = kept.many in
+    let whole = c.requires.whole in
+    let all = end.1 in (kept.begun, omega (arith, long, many, whole, all))

@@ -55,8 +55,8 @@ returns-clause-served g c =
     let devices = c.hand_back-back.result.devices.items in
     let tied = c.hand_back-back.ensures.ledgers in
     let backs = c.hand_back-back.ensures.devices in
-    let agree = subst (λ (rs : List (Runner _)). All (λ (r : Runner _). HasAgreed answers r.handed.items) rs) c.as_slice-2.ensures.value
-    (subst (λ (as' : List EventAnswer). All (λ (r : Runner _). HasAgreed as' r.handed.items) c.as_slice-2.result.now) c.as_slice.ensures.value
+    let agree = subst (λ (rs : List (Runner _ _ _)). All (λ (r : Runner _ _ _). HasAgreed answers r.handed.items) rs) c.as_slice-2.ensures.value
+    (subst (λ (as' : List EventAnswer). All (λ (r : Runner _ _ _). HasAgreed as' r.handed.items) c.as_slice-2.result.now) c.as_slice.ensures.value
     c.await_agreement.ensures) in
     let many : c.len.result ≡ length events = c.len.ensures ∙ c.args.events.ok.0 ∙ sym (length-map given (event_of told)) in
     let waited : c.in_ok-replies.replies.replies.items ≡ replicate (length events) Waited =
@@ -77,7 +77,7 @@ returns-clause-served g c =
       held = run.held;
       legal = run.legal;
       ledgers = sym (zip-length IsLedgerOf runners ledgers tied) ∙ run.done.as_many ∙ c.requires.parts;
-      devices = sym (zip-length AreBack runners devices backs) ∙ run.done.as_many ∙ c.requires.parts;
+      devices = sym (zip-length (AreBack g.D.BlockDevice.told) runners devices backs) ∙ run.done.as_many ∙ c.requires.parts;
       each = λ shard own ledger back part_at ledger_at back_at.
           subst (λ (t : List EventReply). IsServedShard told promised shape given start answers last t snapshot shard own ledger back) (sym is)
           (each-shard told promised shape c.requires.limits given start window first parts runners answers last snapshot c.requires.parts run ledgers

@@ -1,11 +1,13 @@
-use Rattle.std.proofs.Common.{arith, ◌≡◌, ◌∙◌, ◌++◌, ℕ, All, ap, drop, length, take, slice_index_or, subst, sym, true}
+use Rattle.std.proofs.Common.{◌≡◌, ◌∙◌, ◌++◌, ℕ, All, ap, drop, length, take, slice_index_or, subst, sym, true}
 use Rattle.std.specs.List.{AllZip}
 use Rattle.std.proofs.lemmas.Slice.Zip.{AllZip-long}
 use Rattle.r6_health.specs.Histories.{start_losing}
 use Rattle.r6_health.specs.Passes.{IsPassOf, view_of}
 use Rattle.r6_health.specs.Registers.{starting}
 use Rattle.r6_health.specs.Views.{first_of}
+use Rattle.r6_lists.specs.Queues.{IsConsumerIn}
 use Rattle.r6_feed.specs.Events.{events_of}
+use Rattle.r6_feed.specs.Feeds.{AreAt}
 use Rattle.r6_runner.specs.Going.{TakesNoMore}
 use Rattle.r6_runner.specs.Sound.{KeepsPromised}
 use Rattle.r6_layout.specs.Shape.{Shape}
@@ -19,13 +21,17 @@ use Rattle.r6_engine.proofs.serving.run_as.Goals as goal
 
 pub run_all-requires-clause-ready : goal.run_all-requires-clause-ready
 run_all-requires-clause-ready g c κs within = λ k d below.
-    let made = c.in_ok-begun.ensures in
-    let long = AllZip-long _ c.args.parts.items c.in_ok-begun.begun.takings.items made.shards.0 in
-    let whole = c.requires.parts in
-    let number = made.shards.2 k d below in (
-      made.shards.3 k d below,
-      omega (arith, number, below, long, whole),
+    let made = c.in_ok-begun.ensures.shards in (
+      made.3 k d below,
+      subst (λ qs. IsConsumerIn qs (slice_index_or c.in_ok-begun.begun.takings.items k d).consumer) (sym c.deref-2.ensures.value) (made.4 k d below),
     )
+
+pub run_all-requires-clause-producers : goal.run_all-requires-clause-producers
+run_all-requires-clause-producers g c κs within =
+    subst (λ qs. AreAt g.L.Events.shape g.L.Events.events qs c.in_ok-begun.begun.feed.number c.in_ok-begun.begun.feed.producers.items)
+    (sym c.deref-2.ensures.value)
+    (subst (λ (n : ℕ). AreAt g.L.Events.shape g.L.Events.events c.in_ok-begun.begun.rooms.queues.items n c.in_ok-begun.begun.feed.producers.items)
+    (sym c.in_ok-begun.ensures.calling.2) c.in_ok-begun.ensures.producers)
 
 pub settle-requires-clause-shards : goal.settle-requires-clause-shards
 settle-requires-clause-shards g c =
@@ -74,23 +80,23 @@ returns g c =
     let answers = c.in_ok-pass.answers.items in
     let begins = c.in_ok-begun.ensures.shards.0 in
     let numbered = c.in_ok-begun.ensures.shards.2 in
-    let run = less _ (λ old new. HasRun told shape events old.consumer.shard old.consumer.numbers.items old.runner new.consumer.shard
+    let run = less _ (λ old new. HasRun shape events old.consumer.shard old.consumer.numbers.items old.runner new.consumer.shard
     new.consumer.numbers.items new.consumer.finished new.runner) (λ old new ran. ran.1) olds news c.in_ok-pass.ensures.run in
-    let goes : AllZip (λ t r. TakesNoMore told promised t.runner r) news ends =
-    zip-map (λ t. t.runner) (TakesNoMore told promised) news ends
-    (subst (λ rs. AllZip (TakesNoMore told promised) rs ends) (c.deref_mut.ensures.value ∙ c.settle.ensures.runners) ended.goes) in
-    let calls = call_as_they_may told promised shape events start window (λ t. t.consumer.shard) (λ t. t.consumer.numbers.items)
+    let goes : AllZip (λ t r. TakesNoMore t.runner r) news ends =
+    zip-map (λ t. t.runner) (TakesNoMore) news ends
+    (subst (λ rs. AllZip (TakesNoMore) rs ends) (c.deref_mut.ensures.value ∙ c.settle.ensures.runners) ended.goes) in
+    let calls = call_as_they_may told shape events start window (λ t. t.consumer.shard) (λ t. t.consumer.numbers.items)
     (λ t. t.consumer.finished) (λ t. t.runner) parts olds news ends begins run numbered goes in
     let same : length ends ≡ length c.settle.new.runners.items =
-    AllZip-long (TakesNoMore told promised) c.settle.new.runners.items ends
-    (subst (λ rs. AllZip (TakesNoMore told promised) rs ends) c.deref_mut.ensures.value ended.goes) in
+    AllZip-long (TakesNoMore) c.settle.new.runners.items ends
+    (subst (λ rs. AllZip (TakesNoMore) rs ends) c.deref_mut.ensures.value ended.goes) in
     let whole : take c.settle.new.runners.len (ends ++ drop (length ends) c.settle.new.runners.items) ≡ ends =
     all-again ends c.settle.new.runners.items c.settle.new.runners.len same c.settle.new.runners.ok.0 in
     record {
       run = subst (λ rs. HasRunArray told promised shape given start window
           (first_of (start_losing shape.slots shape.shards c.args.config.lost)) parts rs answers last c.end_all-snapshot.result) (sym whole) (record {
             done = subst (λ ev. HaveServed told shape ev start window parts ends) (sym c.requires.events)
-                (have_served told promised shape events start window (λ t. t.consumer.shard) (λ t. t.consumer.numbers.items)
+                (have_served told shape events start window (λ t. t.consumer.shard) (λ t. t.consumer.numbers.items)
                 (λ t. t.consumer.finished) (λ t. t.runner) parts olds news ends c.requires.limits c.requires.parts begins run numbered
                 c.settle.ensures.taken goes ended.over);
             answered = subst (λ ev. HasAnswered shape ev (first_of (start_losing shape.slots shape.shards c.args.config.lost)) answers last)
@@ -101,9 +107,9 @@ returns g c =
             held = ended.snapshot.0;
             legal = ended.snapshot.1;
             calls = calls;
-            sound = leave_sound_alone told promised shape g.L.Events.sound start given (λ t. t.consumer.shard) (λ t. t.runner) parts olds news ends
+            sound = leave_sound_alone promised shape g.L.Events.sound start given (λ t. t.consumer.shard) (λ t. t.runner) parts olds news ends
                 c.in_ok-begun.ensures.shards.1
-                (less _ (λ old new. KeepsPromised told promised shape g.L.Events.sound old.consumer.shard old.runner new.runner)
+                (less _ (λ old new. KeepsPromised shape g.L.Events.sound old.consumer.shard old.runner new.runner)
                 (λ old new ran. ran.2) olds news c.in_ok-pass.ensures.run)
                 numbered goes calls (λ shard slot. (c.requires.sound shard slot).1);
             unskipped = λ k d below. (slice_index_or ends k d).unskipped;
@@ -122,17 +128,8 @@ run_all-requires-clause-begins g c κs within = c.in_ok-begun.ensures.calling.2
 pub run_all-requires-clause-pass : goal.run_all-requires-clause-pass
 run_all-requires-clause-pass g c κs within = c.in_ok-begun.ensures.calling.0
 
-pub settle-requires-clause-counted : goal.settle-requires-clause-counted
-settle-requires-clause-counted g c = c.in_ok-begun.ensures.calling.3
-
-pub settle-requires-clause-empty : goal.settle-requires-clause-empty
-settle-requires-clause-empty g c = (c.in_ok-begun.ensures.rooms.2, c.in_ok-begun.ensures.rooms.3)
-
 pub settle-requires-clause-room : goal.settle-requires-clause-room
-settle-requires-clause-room g c = (c.in_ok-begun.ensures.rooms.4, c.in_ok-begun.ensures.rooms.5)
-
-pub begin-requires-clause-blank : goal.begin-requires-clause-blank
-begin-requires-clause-blank g c = c.requires.blank
+settle-requires-clause-room g c = (c.in_ok-begun.ensures.rooms.2, c.in_ok-begun.ensures.rooms.3)
 
 pub begin-requires-clause-few : goal.begin-requires-clause-few
 begin-requires-clause-few g c = c.requires.few
@@ -158,9 +155,6 @@ run_all-requires-clause-events g c κs within = c.requires.events
 pub run_all-requires-clause-whole : goal.run_all-requires-clause-whole
 run_all-requires-clause-whole g c κs within = c.requires.whole
 
-pub settle-requires-clause-parts : goal.settle-requires-clause-parts
-settle-requires-clause-parts g c = c.requires.blank.2
-
 pub begin-requires-clause-events : goal.begin-requires-clause-events
 begin-requires-clause-events g c = ap (events_of g.D.BlockDevice.told) c.deref.ensures.value ∙ c.requires.events
 
@@ -170,6 +164,6 @@ invariant_of-station g c =
     record {
       shape = c.requires.shape;
       slots = (made.0, made.1);
-      shards = ap length c.deref-2.ensures.value ∙ made.6;
-      rested = ap length c.deref-3.ensures.value ∙ made.7;
+      shards = ap length c.deref-2.ensures.value ∙ made.4;
+      rested = ap length c.deref-3.ensures.value ∙ made.5;
     }

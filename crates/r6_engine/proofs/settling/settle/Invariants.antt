@@ -4,8 +4,6 @@ use Rattle.r6_engine.proofs.settling.settle.Given as goal
 abbrev pub invariant-loop-taking : goal.invariant-loop-taking
 invariant-loop-taking g l =
     (goal.iterator-loop-taking g).can_next l.taking-iterator × (goal.iterator-loop-taking g).is_finite l.taking-iterator × record {
-      taken : l.settlement.taken.items ≡ map (λ taking. taking.consumer.numbers) l.yielded;
       runners : l.runners.items ≡ map (λ taking. taking.runner) l.yielded;
-      room : g.L.Events.shape.shards ≤ vec_capacity l.settlement.taken;
-      runners_room : g.L.Events.shape.shards ≤ vec_capacity l.runners;
+      room : g.L.Events.shape.shards ≤ vec_capacity l.runners;
     }
