@@ -1,5 +1,5 @@
 -- The events of a test.
-use Rattle.std.specs.Prelude.{List, map, replicate}
+use Rattle.std.specs.Prelude.{◌*◌, List, [], ◌∷◌, map, replicate}
 use Rattle.r6_kernels.specs.Blocks.{zeros}
 use Rattle.r6_dev.specs.Memory.{told_by}
 use Rattle.r6_world.specs.declared.values.Op.TheVariants as op
@@ -18,3 +18,9 @@ event_of ask.Wait = Wait
 
 abbrev pub events_of : List Ask → List Event
 events_of asks = map event_of asks
+
+-- two requests, each for a shard of its own, a check, one more request and a new device, of an array with two shards
+abbrev pub five_events : List Event
+five_events =
+    Request (op.Write 0 (zeros 16)) ∷ Request (op.Read 4 (zeros 16)) ∷ Check ∷ Request (op.Read 7 (zeros 16))
+    ∷ Attach 1 (λ shard. told_by (record { first = 2 * shard; block = 16; blocks = replicate 2 (zeros 16) })) ∷ []

@@ -1,4 +1,4 @@
-//! Tests of shards and of what runs them: the caller of a core, a shard, the lists by which it is handed its events, a shard that takes them,
+//! Tests of shards and of what runs them: the caller of a core, a shard, the queues by which it is handed its events, a shard that takes them,
 //! threads, and arrays that are served.
 #![tactic(auto)]
 
@@ -23,6 +23,8 @@ mod guests;
 mod lists;
 #[cfg(test)]
 mod meeting;
+#[cfg(test)]
+mod queues;
 #[cfg(test)]
 mod runner_bench;
 #[cfg(test)]

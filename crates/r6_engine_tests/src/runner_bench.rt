@@ -1,37 +1,39 @@
-//! The one shard of an array of zeros takes events from its list, until all is done.
+//! The one shard of an array of zeros takes events from its queue, until all is done.
 
-ghost use Rattle.std.specs.Prelude.{◌≡◌, ℕ, ◌+◌, ◌-◌, ◌^◌, ◌<◌, ◌≤◌, [], IfSome, Some, if◌then◌else◌, length, replicate, slice_get, true, false};
+ghost use Rattle.std.specs.Prelude.{◌≡◌, ℕ, ◌+◌, ◌-◌, ◌^◌, ◌<◌, ◌≤◌, [], ◌∷◌, MatchOption, None, Some, if◌then◌else◌, length, replicate, slice_get, true, false};
 ghost use Rattle.r6_dev.specs.Memory.{told_by};
 ghost use Rattle.r6_layout.specs.Shape.{IsShape};
 ghost use Rattle.r6_health.specs.Passes.{view_of, IsPassOf};
 ghost use Rattle.r6_health.specs.Registers.{starting};
 ghost use Rattle.r6_shard.specs.Beginnings.{IsFirstPass};
-ghost use Rattle.r6_lists.specs.Events.{duty_of, is_block_of, is_passing, tasks_of};
+ghost use Rattle.r6_lists.specs.Events.{duty_of, is_block_of, is_passing, tasks_of, waits_before};
 ghost use Rattle.r6_lists.specs.Lists.{duty_in};
+ghost use Rattle.r6_lists.specs.Queues.{IsConsumerOf};
+ghost use Rattle.r6_feed.specs.Feeds.{HasPut};
 ghost use Rattle.r6_runner.specs.Runners.{taken_by};
 ghost use Rattle.r6_engine_tests.specs.Asks.{event_of, events_of};
 
 use crate::answers::{Answer, check_all};
 use crate::asks::Ask;
 use crate::blocks::{BLOCK, ROWS, filled, geometry_of, register_of};
+use crate::queues::{end, put};
 use crate::shard_bench::{ALL_ROWS, parts_of};
 use r6_dev::MemoryDevice;
 use r6_health::{Pass, Register, Snapshot};
 use r6_kernels::Buffer;
 use r6_layout::Geometry;
-use r6_lists::{Consumer, Events, Item, List, Producer, Rest, Work};
+use r6_lists::{Consumer, Events, Item, Producer, Queue, Rest, Work};
 use r6_runner::{Runner, Taking};
-use r6_shard::{Parts, Place};
+use r6_shard::{InPlace, Place};
 use std::alloc::Global;
 use std::marker::Brand;
 use std::process::Abort;
-use std::sync::ledger::Blank;
-use std::sync::{Mutex, Wait};
+use std::sync::Wait;
 
 /// A shard that has taken its events, and what the register holds behind them.
 #[derive(Drop)]
 pub(crate) struct Ended {
-    pub(crate) runner: Runner<MemoryDevice>,
+    pub(crate) runner: Runner<InPlace<MemoryDevice>, MemoryDevice>,
     pub(crate) snapshot: Snapshot,
 }
 
@@ -44,7 +46,7 @@ impl Ended {
 }
 
 fn is_own(geometry: &Geometry, block: u64) -> bool
-    ensures { result ≡ true → is_block_of geometry.now 0 block ≡ true }
+    ensures { result ≡ is_block_of geometry.now 0 block }
 {
     match geometry.place(block) {
         Some(place) => place.shard == 0,
@@ -59,7 +61,8 @@ fn work_of<R: Abort>(
     geometry: &Geometry,
     ask: Ask,
 ) -> Option<Work<MemoryDevice>>
-    ensures { IfSome result (λ work. duty_of geometry.now 0 (event_of ask) ≡ Some (duty_in told_by work)) }
+    ensures { MatchOption result (duty_of geometry.now 0 (event_of ask) ≡ None)
+        (λ work. duty_of geometry.now 0 (event_of ask) ≡ Some (duty_in told_by work)) }
 {
     match ask {
         Ask::Write(block, byte) if is_own(geometry, block) => {
@@ -83,21 +86,6 @@ fn work_of<R: Abort>(
     }
 }
 
-// Puts an item in; the list has room for it.
-fn put<L: Events, R: Wait>(
-    rt: &R,
-    list: &Mutex<List<L, MemoryDevice>>,
-    item: Item<L, MemoryDevice>,
-    producer: &mut Producer<L>,
-)
-    ensures { producer.new.lists ≡ producer.old.lists }
-{
-    if producer.lists == 0 || producer.left == 0 {
-        return drop(item);
-    }
-    drop(list.lock(rt).put(item, producer));
-}
-
 fn ask_at(asks: &[Ask], number: usize) -> Ask
     requires { number < length asks.now }
     ensures { slice_get asks.now number ≡ Some result }
@@ -113,42 +101,59 @@ fn waits_behind(waits: u64, ask: Ask) -> u64
     if ask.is_passing() { waits + 1 } else { waits }
 }
 
+// Puts in what the shard is handed of an event, if anything.
+fn put_one<L: Events, R: Wait + Abort>(
+    rt: &R,
+    alloc: Global,
+    geometry: &Geometry,
+    queue: &Queue<L, MemoryDevice>,
+    number: u64,
+    waits: u64,
+    ask: Ask,
+    producer: &mut Producer<L, MemoryDevice>,
+)
+    requires shape { L.shape ≡ geometry.now }
+    requires next { slice_get L.events number ≡ Some (event_of ask) }
+    requires waits { waits ≡ waits_before L.events number }
+    requires none_promised { (shard : ℕ) (slot : ℕ) → L.sound shard slot → ⊥ }
+    requires put { HasPut L.shape L.events (queue.now ∷ []) 0 number producer.old }
+    ensures put { HasPut L.shape L.events (queue.now ∷ []) 0 (number + 1) producer.new }
+{
+    let Some(work) = work_of(rt, alloc, geometry, ask) else {
+        return;
+    };
+    put(rt, queue, producer, Item::new(0, number, waits, work));
+}
+
 // Puts in what the shard is handed of the events.
 fn put_all<L: Events, R: Wait + Abort>(
     rt: &R,
     alloc: Global,
     geometry: &Geometry,
-    list: &Mutex<List<L, MemoryDevice>>,
+    queue: &Queue<L, MemoryDevice>,
     asks: &[Ask],
-    producer: &mut Producer<L>,
+    producer: &mut Producer<L, MemoryDevice>,
 )
     requires shape { L.shape ≡ geometry.now }
     requires events { L.events ≡ events_of asks.now }
     requires none_promised { (shard : ℕ) (slot : ℕ) → L.sound shard slot → ⊥ }
+    requires put { HasPut L.shape L.events (queue.now ∷ []) 0 0 producer.old }
+    ensures put { HasPut L.shape L.events (queue.now ∷ []) 0 (length L.events) producer.new }
 {
     let mut waits: u64 = 0;
     for number in 0..asks.len() {
         let ask = ask_at(asks, number);
-        if let Some(work) = work_of(rt, alloc, geometry, ask) {
-            put(rt, list, Item::new(0, number as u64, waits, work), producer);
-        }
+        put_one(
+            rt,
+            alloc,
+            geometry,
+            queue,
+            number as u64,
+            waits,
+            ask,
+            producer,
+        );
         waits = waits_behind(waits, ask);
-    }
-}
-
-// How many items they are.
-fn works_of(asks: &[Ask]) -> u64 {
-    asks.iter().filter(|ask| !matches!(ask, Ask::Wait)).count() as u64
-}
-
-// Says that nothing more is put in.
-fn end<L: Events, R: Wait>(
-    rt: &R,
-    list: &Mutex<List<L, MemoryDevice>>,
-    producer: &mut Producer<L>,
-) {
-    if producer.lists > 0 && producer.left == 0 {
-        list.lock(rt).end(producer);
     }
 }
 
@@ -159,7 +164,7 @@ fn runner_of<R: Abort>(
     place: Place,
     pass: Pass,
     room: usize,
-) -> Runner<MemoryDevice>
+) -> Runner<InPlace<MemoryDevice>, MemoryDevice>
     requires limits { IsShape place.geometry }
     requires number { place.number < place.geometry.shards }
     requires window { place.window ≡ 1 }
@@ -168,42 +173,42 @@ fn runner_of<R: Abort>(
     ensures room { (result.room ≡ room) × (taken_by result ≡ 0) }
 {
     let snapshot = Snapshot::start(&place.geometry, 0);
-    let Parts { mut parts } = parts_of(rt, alloc, &ALL_ROWS);
+    let mut parts = parts_of(rt, alloc, &ALL_ROWS);
     parts.reserve(room).expect(rt, "memory");
-    let parts = Parts { parts };
+    let parts = InPlace::new(parts);
     Runner::new(alloc, place, &snapshot, pass, parts, room).expect(rt, "memory")
 }
 
-// The shard takes all that its list has.
+// The shard takes all that its queue has.
 fn run<L: Events, R: Wait>(
     rt: &R,
     register: &Register,
-    list: &Mutex<List<L, MemoryDevice>>,
+    queue: &Queue<L, MemoryDevice>,
     rest: &Rest,
-    consumer: Consumer<L>,
-    runner: Runner<MemoryDevice>,
-) -> Runner<MemoryDevice>
+    consumer: Consumer<L, MemoryDevice>,
+    runner: Runner<InPlace<MemoryDevice>, MemoryDevice>,
+) -> Runner<InPlace<MemoryDevice>, MemoryDevice>
     requires fresh { (taken_by runner ≡ 0) × (consumer.numbers.items ≡ []) }
     requires room { length (tasks_of L.shape consumer.shard L.events) ≤ runner.room }
     requires pass { IsPassOf register.now runner.shard.pass }
+    requires consumer { IsConsumerOf queue.now consumer }
 {
     let mut taking = Taking::new(runner, consumer);
-    taking.run(rt, register, list, rest);
+    taking.run(rt, register, queue, rest);
     taking.runner
 }
 
-// The events are put into the shard's list, which is ended, and then it takes them.
+// The events are put into the shard's queue, which is ended, and then it takes them. There are no more than it has room
+// for.
 fn play<L: Events, R: Wait + Abort>(
     rt: &R,
     alloc: Global,
-    blank: Blank,
     place: Place,
     register: &Register,
     pass: Pass,
     rest: &Rest,
     asks: &[Ask],
-) -> Runner<MemoryDevice>
-    requires blank { (blank.name ≡ L.name) × (blank.parts ≡ L.parts) × (L.parts ≡ 3) }
+) -> Runner<InPlace<MemoryDevice>, MemoryDevice>
     requires shape { L.shape ≡ place.geometry }
     requires events { L.events ≡ events_of asks.now }
     requires none_promised { (shard : ℕ) (slot : ℕ) → L.sound shard slot → ⊥ }
@@ -215,17 +220,15 @@ fn play<L: Events, R: Wait + Abort>(
     requires pass { IsPassOf register.now pass }
     requires first { IsFirstPass place.geometry (starting 0) (view_of pass) }
 {
-    let (mut book, mut all) = blank.open::<L>();
-    let list = List::with_capacity(alloc, 0, asks.len(), all.split_off(1, 0)).expect(rt, "memory");
-    let list = Mutex::new(list);
-    let consumer = Consumer::with_capacity(alloc, 0, asks.len(), all.split_off(1, 0)).expect(
-        rt, "memory",
-    );
-    let mut producer = Producer::new(&mut book, all, 1, works_of(asks));
-    put_all(rt, alloc, &place.geometry, &list, asks, &mut producer);
-    end(rt, &list, &mut producer);
+    let (queue, mut producer, consumer) = Queue::<L, MemoryDevice>::new(
+        alloc,
+        0,
+        asks.len(),
+    ).expect(rt, "memory");
+    put_all(rt, alloc, &place.geometry, &queue, asks, &mut producer);
+    end(rt, &queue, &mut producer);
     let runner = runner_of(rt, alloc, place, pass, asks.len());
-    run(rt, register, &list, rest, consumer, runner)
+    run(rt, register, &queue, rest, consumer, runner)
 }
 
 // These slots fail, and then these have new devices.
@@ -265,8 +268,7 @@ pub(crate) fn take<R: Wait + Abort>(
         number: 0,
         window: 1,
     };
-    let blank = Blank::new(3);
-    let runner = play::<Brand, R>(rt, alloc, blank, place, &register, first, rest, asks);
+    let runner = play::<Brand, R>(rt, alloc, place, &register, first, rest, asks);
     let snapshot = register.read(rt, &mut caller);
     drop((register, caller));
     Ended { runner, snapshot }

@@ -12,7 +12,7 @@ use r6_core::{Op, Refusal, Refused};
 use r6_dev::MemoryDevice;
 use r6_health::{Pass, Register, Snapshot};
 use r6_kernels::Buffer;
-use r6_shard::{Part, PartRefusal, Parts, Place, Shard};
+use r6_shard::{InPlace, Part, PartRefusal, Place, Shard};
 use std::alloc::Global;
 use std::process::Abort;
 use std::sync::Wait;
@@ -88,7 +88,7 @@ pub(crate) enum Course<'c> {
     AtOnce(&'c [Request], &'c [Answer]),
 }
 
-type MemoryShard = Shard<Parts<MemoryDevice>>;
+type MemoryShard = Shard<InPlace<MemoryDevice>>;
 
 fn op_of<R: Abort>(rt: &R, alloc: Global, request: Request) -> Op {
     match request {
@@ -117,14 +117,18 @@ fn part_of<R: Abort>(
 }
 
 /// A device of zeros for each slot, with so many rows, and room for a part more.
-pub(crate) fn parts_of<R: Abort>(rt: &R, alloc: Global, rows: &DeviceRows) -> Parts<MemoryDevice> {
+pub(crate) fn parts_of<R: Abort>(
+    rt: &R,
+    alloc: Global,
+    rows: &DeviceRows,
+) -> Vec<Part<MemoryDevice>> {
     let mut parts = Vec::with_capacity(alloc, SLOTS + 1).expect(rt, "memory");
     for slot in 0..SLOTS {
         parts
             .push(part_of(rt, alloc, slot, 0, rows[slot]))
             .expect(rt, "memory");
     }
-    Parts { parts }
+    parts
 }
 
 // Hands a request in; why it is refused, if it is.
@@ -144,7 +148,7 @@ fn run<R: Wait>(rt: &R, shard: &mut MemoryShard, register: &Register)
     ensures { IsPassOf register.now shard.new.pass }
 {
     for _ in rt.forever() {
-        shard.round_when_here(rt, register);
+        shard.round_when_here::<MemoryDevice, R>(rt, register);
         if shard.rests(rt, register) {
             break;
         }
@@ -181,10 +185,10 @@ fn answer<R: Wait>(
 }
 
 // What becomes of a part. The shard's pass stays what it was.
-fn hand_in(shard: &mut MemoryShard, part: Part<MemoryDevice>) -> Handed
+fn hand_in<R: Wait>(rt: &R, shard: &mut MemoryShard, part: Part<MemoryDevice>) -> Handed
     ensures { shard.new.pass ≡ shard.old.pass }
 {
-    match shard.hand_in(part) {
+    match shard.hand_in::<MemoryDevice, R>(rt, part) {
         Ok(None) => Handed::First,
         Ok(Some(_)) => Handed::Later,
         Err(refused) => Handed::Refused(refused.refusal, refused.part.generation),
@@ -231,7 +235,7 @@ fn goes<R: Wait + Abort>(
         }
         Turn::Hands(generation, rows, wanted) => {
             let part = part_of(rt, alloc, 1, generation, rows);
-            return hand_in(shard, part) == wanted;
+            return hand_in(rt, shard, part) == wanted;
         }
         Turn::Attaches => return attach(rt, register, caller),
         Turn::Runs => run(rt, shard, register),
@@ -280,7 +284,7 @@ fn play_in_turn<R: Wait + Abort>(
     ensures { IsPassOf register.now caller.new }
 {
     let snapshot = Snapshot::start(&place.geometry, 0);
-    let parts = parts_of(rt, alloc, rows);
+    let parts = InPlace::new(parts_of(rt, alloc, rows));
     let mut shard = Shard::new(alloc, place, &snapshot, pass, parts, turns.len()).expect(
         rt, "memory",
     );
@@ -328,7 +332,7 @@ fn play_at_once<R: Wait + Abort>(
     requires first { IsFirstPass place.geometry (starting 0) (view_of pass) }
 {
     let snapshot = Snapshot::start(&place.geometry, 0);
-    let parts = parts_of(rt, alloc, rows);
+    let parts = InPlace::new(parts_of(rt, alloc, rows));
     let mut shard = Shard::new(alloc, place, &snapshot, pass, parts, requests.len()).expect(
         rt, "memory",
     );

@@ -4,14 +4,14 @@ use Rattle.r6_engine_tests.specs.Asks.{event_of}
 use Rattle.r6_engine_tests.proofs.Waits.{few_works}
 use Rattle.r6_engine_tests.proofs.runner_bench.play.Goals as goal
 
-pub with_capacity-requires-2-clause-room : goal.with_capacity-requires-2-clause-room
-with_capacity-requires-2-clause-room g c =
+pub new-requires : goal.new-requires
+new-requires g c =
     let few = few_works g.L.Events.shape 0 g.L.Events.events in
     let long : length g.L.Events.events ≡ length c.args.asks.now = ap length c.requires.events ∙ length-map c.args.asks.now event_of in
     omega (arith, few, long)
 
 pub run-requires-clause-room : goal.run-requires-clause-room
 run-requires-clause-room g c =
-    let few = few_works g.L.Events.shape c.expect-consumer.result.shard g.L.Events.events in
+    let few = few_works g.L.Events.shape c.expect-queue.result.2.shard g.L.Events.events in
     let long : length g.L.Events.events ≡ length c.args.asks.now = ap length c.requires.events ∙ length-map c.args.asks.now event_of in
     omega (arith, few, long, c.runner_of-runner.ensures.room.0)
