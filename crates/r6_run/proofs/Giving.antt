@@ -4,7 +4,7 @@ use Rattle.std.proofs.lemmas.List.{append-nil, drop-drop, length-map, map_push}
 use Rattle.std.proofs.lemmas.List.FromFn.{length-map-range_with_len, map-range_with_len_more}
 use Rattle.std.specs.Option.{MatchOption}
 use Rattle.r6_run.specs.Arrays.{AreGiven, parts_at, parts_from}
-use Rattle.r6_shard.specs.declared.parts.Part.{Part}
+use Rattle.r6_exchange.specs.declared.task.Part.{Part}
 use Rattle.r6_shard.specs.declared.parts.Parts.{Parts}
 
 -- the slots before this one are through: their parts are these, and those devices are left

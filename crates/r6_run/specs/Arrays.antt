@@ -2,7 +2,7 @@
 use Rattle.std.specs.Prelude.{◌≡◌, ℕ, zero, suc, ◌+◌, ◌*◌, cond, List, [], ◌∷◌, drop, map, take, Option, None, Some}
 use Rattle.std.specs.List.{range_with_len}
 use Rattle.r6_offline.specs.Parts.{is_lost}
-use Rattle.r6_shard.specs.declared.parts.Part.{Part}
+use Rattle.r6_exchange.specs.declared.task.Part.{Part}
 use Rattle.r6_shard.specs.declared.parts.Parts.{Parts}
 
 -- which of the slots from one on are lost, so many, a bit each, the lowest for the first
