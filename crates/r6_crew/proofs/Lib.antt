@@ -1,0 +1,5 @@
+pub mod Ends
+pub mod Meeting
+pub mod Backs
+pub mod Collected
+pub mod Whole

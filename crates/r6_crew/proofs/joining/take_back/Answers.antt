@@ -1,0 +1,237 @@
+use Rattle.std.proofs.Common.{◌≡◌, ℕ, ◌+◌, ◌*◌, ◌≤◌, ◌++◌, ◌∷◌, [], List, length, vec_capacity, sym, ap, subst, ◌∙◌, arith, refl, IsPermutation}
+use Rattle.std.specs.Prelude.{not}
+use Rattle.std.proofs.lemmas.List.{length-append, length-map}
+use Rattle.r6_exchange.specs.declared.task.Task.{Task}
+use Rattle.r6_exchange.specs.declared.task.Served.{Served}
+use Rattle.r6_exchange.specs.declared.completion.Completion.{Completion}
+use Rattle.r6_exchange.specs.Answering.{nothing, parts_in, state_after, unanswered}
+use Rattle.r6_remote.specs.Lines.{sent_to, received_from}
+use Rattle.r6_remote.specs.Remotes.{AreShardPasses, performer_of}
+use Rattle.r6_remote.proofs.Lines.{same-length}
+use Rattle.r6_crew.specs.Crews.{AreEnded, AreWorkers, IsWorkerAt, is_own, own_parts, stray_parts, all_parts, parts_with_all}
+use Rattle.r6_crew.proofs.Backs.{where-few}
+use Rattle.r6_crew.proofs.Collected.{AreCollected, none-collected, one-more, all-collected, known-there, no-more, one-less, room-for, room-left}
+use Rattle.r6_crew.proofs.Meeting.{last-worker}
+use Rattle.r6_crew.proofs.Whole.{all-sorted, parts-of-last, put-back, none-back, all-back}
+use Rattle.r6_crew.proofs.joining.take_back.Goals as goal
+
+pub join-parts-requires-clause-within : goal.join-parts-requires-clause-within
+join-parts-requires-clause-within g c =
+    let kept = c.loop-worker.invariant in
+    let rest = c.pop.new.self.items in
+    let at : length rest ≡ c.len-at.result = omega arith in
+    let shorter = ap length c.in-Some.ensures.items ∙ length-append rest (c.in-Some.worker ∷ []) in
+    let same = same-length g.D.BlockDevice.told g.D.BlockDevice.promised c.args.remote.exchanges.now c.args.remote.passes.items c.requires.ended.ends in
+    let site = ap length kept.site in
+    let fewer = kept.fewer in
+    let many = c.requires.as_many in
+    omega (arith, at, shorter, same, site, fewer, many)
+
+pub join-parts-requires-clause-worker : goal.join-parts-requires-clause-worker
+join-parts-requires-clause-worker g c =
+    let told = g.D.BlockDevice.told in
+    let promised = g.D.BlockDevice.promised in
+    let kept = c.loop-worker.invariant in
+    let rest = c.pop.new.self.items in
+    let at : length rest ≡ c.len-at.result = omega arith in
+    subst (λ k. IsWorkerAt told promised c.loop-worker.remote.exchanges.now k c.in-Some.worker) at
+    (subst (λ y. IsWorkerAt told promised y (length rest) c.in-Some.worker) (sym kept.site)
+    (last-worker told promised c.args.remote.exchanges.now rest c.in-Some.worker
+    (subst (AreWorkers told promised c.args.remote.exchanges.now) c.in-Some.ensures.items kept.workers)).1)
+
+pub join-parts-requires-clause-ended : goal.join-parts-requires-clause-ended
+join-parts-requires-clause-ended g c =
+    let kept = c.loop-worker.invariant in
+    let rest = c.pop.new.self.items in
+    let at : length rest ≡ c.len-at.result = omega arith in
+    let shorter = ap length c.in-Some.ensures.items ∙ length-append rest (c.in-Some.worker ∷ []) in
+    let fewer = kept.fewer in
+    let many = c.requires.as_many in
+    subst (λ (f : ℕ → List (Task g.row.D.Denot)). AreEnded (f c.len-at.result)) (sym kept.sent)
+    (c.requires.ended.ended c.len-at.result (omega (arith, at, shorter, fewer, many)))
+
+pub join-parts-requires-clause-answered : goal.join-parts-requires-clause-answered
+join-parts-requires-clause-answered g c =
+    let kept = c.loop-worker.invariant in
+    let rest = c.pop.new.self.items in
+    let at : length rest ≡ c.len-at.result = omega arith in
+    let shorter = ap length c.in-Some.ensures.items ∙ length-append rest (c.in-Some.worker ∷ []) in
+    let fewer = kept.fewer in
+    let many = c.requires.as_many in
+    subst (λ (f : ℕ → List (Task g.row.D.Denot)). unanswered (f c.len-at.result) (received_from c.loop-worker.remote.passes.items c.len-at.result) ≡ [])
+    (sym kept.sent)
+    (subst (λ (f : ℕ → List Completion). unanswered (sent_to c.args.remote.passes.items c.len-at.result) (f c.len-at.result) ≡ []) (sym kept.received)
+    (c.requires.ended.answered c.len-at.result (omega (arith, at, shorter, fewer, many))))
+
+pub sort_in-requires-clause-room : goal.sort_in-requires-clause-room
+sort_in-requires-clause-room g c =
+    let kept = c.loop-worker.invariant in
+    let rest = c.pop.new.self.items in
+    let room = vec_capacity c.args.remote.labels in
+    let at : length rest ≡ c.len-at.result = omega arith in
+    let shorter = ap length c.in-Some.ensures.items ∙ length-append rest (c.in-Some.worker ∷ []) in
+    let fewer = kept.fewer in
+    let many = c.requires.as_many in
+    let sent = ap (λ (f : ℕ → List (Task g.row.D.Denot)). parts_in (f c.len-at.result)) kept.sent in
+    let few = c.requires.ended.few c.len-at.result (omega (arith, at, shorter, fewer, many)) in
+    let had = c.join-parts.ensures.few in
+    let parts = ap (λ v. length v.items) c.join-parts.ensures.parts.0 in
+    let most : length c.join-parts.result.parts.items ≤ room = omega (arith, sent, few, had, parts) in
+    let times = one-less (length rest) (length c.loop-worker.workers.items) room shorter in (
+      room-for (length c.loop-worker.back.parts.items) (length c.loop-worker.workers.items * room) (length rest * room) room
+          (vec_capacity c.loop-worker.back.parts) (length c.join-parts.result.parts.items) kept.parts_room times most,
+      room-for (length c.loop-worker.back.others.items) (length c.loop-worker.workers.items * room) (length rest * room) room
+          (vec_capacity c.loop-worker.back.others) (length c.join-parts.result.parts.items) kept.others_room times most,
+    )
+
+pub set_aside-requires : goal.set_aside-requires
+set_aside-requires g c =
+    let kept = c.loop-worker.invariant in
+    let rest = c.pop.new.self.items in
+    let room = vec_capacity c.args.remote.labels in
+    let at : length rest ≡ c.len-at.result = omega arith in
+    let shorter = ap length c.in-Some.ensures.items ∙ length-append rest (c.in-Some.worker ∷ []) in
+    let fewer = kept.fewer in
+    let many = c.requires.as_many in
+    let sent = ap (λ (f : ℕ → List (Task g.row.D.Denot)). parts_in (f c.len-at.result)) kept.sent in
+    let few = c.requires.ended.few c.len-at.result (omega (arith, at, shorter, fewer, many)) in
+    let had = c.join-parts.ensures.few in
+    let parts = ap (λ v. length v.items) c.join-parts.ensures.parts.0 in
+    let replaced = ap (λ v. length v.items) c.join-parts.ensures.parts.1 in
+    let all = length c.join-parts.result.parts.items + length c.join-parts.result.replaced.items in
+    let most : all ≤ room = omega (arith, sent, few, had, parts, replaced) in
+    let times = one-less (length rest) (length c.loop-worker.workers.items) room shorter in
+    let fits = room-for (length c.loop-worker.back.others.items) (length c.loop-worker.workers.items * room) (length rest * room) room
+    (vec_capacity c.loop-worker.back.others) all kept.others_room times most in
+    let strays = stray_parts c.len-count.result c.len-at.result c.join-parts.result.parts.items in
+    let long = ap length c.sort_in.ensures.others ∙ length-append c.loop-worker.back.others.items strays in
+    let few-strays = where-few (λ s. not (is_own c.len-count.result c.len-at.result s)) c.join-parts.result.parts.items in
+    let same = c.sort_in.ensures.room.1 in
+    omega (arith, fits, long, few-strays, same)
+
+pub loop-worker-init : goal.loop-worker-init
+loop-worker-init g c =
+    let told = g.D.BlockDevice.told in
+    let promised = g.D.BlockDevice.promised in
+    let some = c.requires.ended.some in
+    let many = c.requires.as_many in
+    let workers = c.args.workers.items in
+    let no-part = ap length c.requires.empty.0 in
+    let no-other = ap length c.requires.empty.1 in
+    let room = c.requires.room in
+    record {
+      ends = c.requires.ended.ends;
+      site = refl;
+      sent = refl;
+      received = refl;
+      workers = c.requires.workers;
+      fewer = omega arith;
+      collected = none-collected told (length workers) (performer_of told promised c.args.remote).tells c.args.back.parts.items
+          (omega (arith, some, many)) c.requires.empty.0;
+      whole = none-back workers c.args.back.parts.items c.args.back.others.items c.requires.empty.0 c.requires.empty.1;
+      parts_room = omega (arith, no-part, room.0);
+      others_room = omega (arith, no-other, room.1);
+    }
+
+pub loop-worker-preserved : goal.loop-worker-preserved
+loop-worker-preserved g c =
+    let told = g.D.BlockDevice.told in
+    let promised = g.D.BlockDevice.promised in
+    let kept = c.loop-worker.invariant in
+    let rest = c.pop.new.self.items in
+    let worker = c.in-Some.worker in
+    let back = c.loop-worker.back in
+    let first = c.args.remote.passes.items in
+    let room = vec_capacity c.args.remote.labels in
+    let workers = length c.args.workers.items in
+    let at : length rest ≡ c.len-at.result = omega arith in
+    let count : c.len-count.result ≡ workers = omega arith in
+    let shorter : length c.loop-worker.workers.items ≡ length rest + 1 = ap length c.in-Some.ensures.items ∙ length-append rest (worker ∷ []) in
+    let fewer = kept.fewer in
+    let many = c.requires.as_many in
+    let sent = ap (λ (f : ℕ → List (Task g.row.D.Denot)). parts_in (f c.len-at.result)) kept.sent in
+    let few = c.requires.ended.few c.len-at.result (omega (arith, at, shorter, fewer, many)) in
+    let had = c.join-parts.ensures.few in
+    let parts = ap (λ v. length v.items) c.join-parts.ensures.parts.0 in
+    let replaced = ap (λ v. length v.items) c.join-parts.ensures.parts.1 in
+    let came = c.join-parts.result.parts.items in
+    let set-by = c.join-parts.result.replaced.items in
+    let all = length came + length set-by in
+    let most : all ≤ room = omega (arith, sent, few, had, parts, replaced) in
+    let times = one-less (length rest) (length c.loop-worker.workers.items) room shorter in
+    let strays = stray_parts c.len-count.result c.len-at.result came in
+    let own = own_parts c.len-count.result c.len-at.result came in
+    let few-own = where-few (is_own c.len-count.result c.len-at.result) came in
+    let few-strays = where-few (λ s. not (is_own c.len-count.result c.len-at.result s)) came in
+    let long-own = ap (λ v. length v.items) c.set_aside.ensures.parts ∙ ap length c.sort_in.ensures.parts ∙ length-append back.parts.items own in
+    let long-strays = ap length c.sort_in.ensures.others ∙ length-append back.others.items strays in
+    let long-others = ap length c.set_aside.ensures.others ∙ length-append c.sort_in.new.self.others.items (all_parts set-by) in
+    let long-all = length-map set-by (λ (s : Served g.row.D.Denot). s.part) in
+    let more-parts : length c.set_aside.new.self.parts.items ≤ length back.parts.items + all = omega (arith, long-own, few-own) in
+    let more-others : length c.set_aside.new.self.others.items ≤ length back.others.items + all =
+    omega (arith, long-strays, long-others, long-all, few-strays) in
+    let parts-room = ap vec_capacity c.set_aside.ensures.parts ∙ c.sort_in.ensures.room.0 in
+    let others-room = c.set_aside.ensures.room ∙ c.sort_in.ensures.room.1 in
+    let fits-parts = room-left (length back.parts.items) (length c.set_aside.new.self.parts.items) (length c.loop-worker.workers.items * room)
+    (length rest * room) room (vec_capacity back.parts) all kept.parts_room times most more-parts in
+    let fits-others = room-left (length back.others.items) (length c.set_aside.new.self.others.items) (length c.loop-worker.workers.items * room)
+    (length rest * room) room (vec_capacity back.others) all kept.others_room times most more-others in
+    let whole : c.set_aside.new.self.parts.items ≡ back.parts.items ++ own_parts workers (length rest) worker.parts.items =
+    ap (λ v. v.items) c.set_aside.ensures.parts ∙ c.sort_in.ensures.parts
+    ∙ ap (λ v. back.parts.items ++ own_parts c.len-count.result c.len-at.result v.items) c.join-parts.ensures.parts.0
+    ∙ ap (λ n. back.parts.items ++ own_parts n c.len-at.result worker.parts.items) count
+    ∙ ap (λ k. back.parts.items ++ own_parts workers k worker.parts.items) (sym at) in
+    let whole-parts : c.set_aside.new.self.parts.items ≡ back.parts.items ++ own =
+    ap (λ v. v.items) c.set_aside.ensures.parts ∙ c.sort_in.ensures.parts in
+    let whole-others : c.set_aside.new.self.others.items ≡ (back.others.items ++ strays) ++ all_parts set-by =
+    c.set_aside.ensures.others ∙ ap (λ y. y ++ all_parts set-by) c.sort_in.ensures.others in
+    let had-all : parts_with_all c.loop-worker.workers.items ≡ parts_with_all rest ++ (all_parts came ++ all_parts set-by) =
+    ap parts_with_all c.in-Some.ensures.items ∙ parts-of-last rest worker
+    ∙ sym (λ i. parts_with_all rest ++ (all_parts (c.join-parts.ensures.parts.0 i).items ++ all_parts (c.join-parts.ensures.parts.1 i).items)) in
+    let tells = (performer_of told promised c.args.remote).tells in
+    record {
+      ends = subst (λ y. AreShardPasses told promised y c.join-parts.new.passes.items) kept.site c.join-parts.ensures.ends;
+      site = kept.site;
+      sent = c.join-parts.ensures.sent ∙ kept.sent;
+      received = c.join-parts.ensures.received ∙ kept.received;
+      workers = (last-worker told promised c.args.remote.exchanges.now rest worker
+          (subst (AreWorkers told promised c.args.remote.exchanges.now) c.in-Some.ensures.items kept.workers)).0;
+      fewer = omega (arith, shorter, fewer);
+      collected = subst (AreCollected told workers (length rest) tells) (sym whole)
+          (one-more told promised workers (length rest) tells back.parts.items worker.parts.items
+          (state_after told promised nothing (sent_to c.loop-worker.remote.passes.items c.len-at.result)
+          (received_from c.loop-worker.remote.passes.items c.len-at.result))
+          (subst (λ n. AreCollected told workers n tells back.parts.items) shorter kept.collected)
+          c.join-parts.ensures.holds
+          (λ slot generation own'. known-there told promised first c.loop-worker.remote.passes.items workers (length rest) c.len-at.result slot generation
+          many kept.sent kept.received (sym at) own'));
+      whole = subst (λ y. IsPermutation (parts_with_all c.args.workers.items) (parts_with_all rest ++ y))
+          (sym (λ i. whole-parts i ++ whole-others i))
+          (put-back (parts_with_all rest) (all_parts came) (all_parts set-by) back.parts.items back.others.items own strays
+          (all-sorted (is_own c.len-count.result c.len-at.result) came) (parts_with_all c.args.workers.items)
+          (subst (λ y. IsPermutation (parts_with_all c.args.workers.items) (y ++ (back.parts.items ++ back.others.items))) had-all kept.whole));
+      parts_room = subst (λ y. length c.set_aside.new.self.parts.items + length rest * room ≤ y) (sym parts-room) fits-parts;
+      others_room = subst (λ y. length c.set_aside.new.self.others.items + length rest * room ≤ y) (sym others-room) fits-others;
+    }
+
+pub returns-clause-known : goal.returns-clause-known
+returns-clause-known g c =
+    let told = g.D.BlockDevice.told in
+    let performer = performer_of told g.D.BlockDevice.promised c.args.remote in
+    let workers = c.loop-worker.workers in
+    let none = no-more c.pop.result workers.len c.pop.ensures.variant c.in_default.not-Some in
+    let len = workers.ok.0 in
+    let empty : length workers.items ≡ 0 = omega (arith, none, len) in
+    all-collected told (length c.args.workers.items) performer c.loop-worker.back.parts.items
+    (subst (λ n. AreCollected told (length c.args.workers.items) n performer.tells c.loop-worker.back.parts.items) empty
+    c.loop-worker.invariant.collected)
+    c.requires.ended.here
+
+pub returns-clause-all : goal.returns-clause-all
+returns-clause-all g c =
+    let workers = c.loop-worker.workers in
+    let none = no-more c.pop.result workers.len c.pop.ensures.variant c.in_default.not-Some in
+    let len = workers.ok.0 in
+    let empty : length workers.items ≡ 0 = omega (arith, none, len) in
+    all-back (parts_with_all c.args.workers.items) workers.items (c.loop-worker.back.parts.items ++ c.loop-worker.back.others.items) empty
+    c.loop-worker.invariant.whole

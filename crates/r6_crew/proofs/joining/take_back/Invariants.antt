@@ -1,0 +1,25 @@
+use Rattle.std.proofs.Common.{◌≡◌, ◌+◌, ◌*◌, ◌++◌, ◌≤◌, length, vec_capacity, IsPermutation}
+use Rattle.r6_remote.specs.Lines.{sent_to, received_from}
+use Rattle.r6_remote.specs.Remotes.{AreShardPasses, performer_of}
+use Rattle.r6_crew.specs.Crews.{AreWorkers, parts_with_all}
+use Rattle.r6_crew.proofs.Collected.{AreCollected}
+use Rattle.r6_crew.proofs.joining.take_back.Given as goal
+
+abbrev pub invariant-loop-worker : goal.invariant-loop-worker
+invariant-loop-worker g l = record {
+  ends : AreShardPasses g.D.BlockDevice.told g.D.BlockDevice.promised l.fn.remote.exchanges.now l.remote.passes.items;
+  site : l.remote.exchanges.now ≡ l.fn.remote.exchanges.now;
+  sent : sent_to l.remote.passes.items ≡ sent_to l.fn.remote.passes.items;
+  received : received_from l.remote.passes.items ≡ received_from l.fn.remote.passes.items;
+  workers : AreWorkers g.D.BlockDevice.told g.D.BlockDevice.promised l.fn.remote.exchanges.now l.workers.items;
+  fewer : length l.workers.items ≤ length l.fn.workers.items;
+  collected : AreCollected g.D.BlockDevice.told (length l.fn.workers.items) (length l.workers.items)
+      (performer_of g.D.BlockDevice.told g.D.BlockDevice.promised l.fn.remote).tells l.back.parts.items;
+  whole : IsPermutation (parts_with_all l.fn.workers.items)
+      (parts_with_all l.workers.items ++ (l.back.parts.items ++ l.back.others.items));
+  parts_room : length l.back.parts.items + length l.workers.items * vec_capacity l.fn.remote.labels ≤ vec_capacity l.back.parts;
+  others_room : length l.back.others.items + length l.workers.items * vec_capacity l.fn.remote.labels ≤ vec_capacity l.back.others;
+}
+
+abbrev pub decreases-loop-worker : goal.decreases-loop-worker
+decreases-loop-worker g l = length l.workers.items

@@ -1,0 +1,11 @@
+//! A shard and its io workers come together, once their threads have ended: the workers' parts of the devices come back.
+#![tactic(auto)]
+
+mod back;
+mod joining;
+
+pub use back::Back;
+pub use joining::{end, take_back};
+
+#[cfg(test)]
+mod tests;
