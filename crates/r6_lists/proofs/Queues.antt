@@ -1,6 +1,7 @@
 -- Items as they are put into a queue and taken from it.
-use Rattle.std.proofs.Common.{◌≡◌, ℕ, ◌<◌, ◌≤◌, List, [], ◌∷◌, ◌++◌, length, take, false, refl, sym, ap, ◌∙◌, subst, arith, Result, Ok, Err, MatchResult, is_ok}
+use Rattle.std.proofs.Common.{◌≡◌, ℕ, ◌<◌, ◌≤◌, List, [], ◌∷◌, ◌++◌, length, take, false, refl, sym, ap, ◌∙◌, subst, arith, Result, Ok, Err, IfErr, MatchResult, is_ok}
 use Rattle.std.proofs.Math.Seq.{take-append_seam}
+use Rattle.std.proofs.lemmas.Bool.{false≢true}
 use Rattle.std.proofs.lemmas.List.{length-append, length-map, length-take}
 use Rattle.crossbeam_queue.specs.Passes.{view}
 use Rattle.r6_layout.specs.Shape.{Shape}
@@ -108,6 +109,11 @@ module _ {L D : Type 0} {l : _} {d : _} (shape : Shape) (events : List Event) wh
       → has_ended producer ≡ false → HasEnded producer result end → has_end (view end).pushed ≡ is_ok result
   ended-is p (Ok ok) end not ended = ap (λ (v : View (Entry L D l d)). has_end v.pushed) ended ∙ now-ended (view p.end).pushed
   ended-is p (Err back) end not ended = ap (λ (v : View (Entry L D l d)). has_end v.pushed) ended.1 ∙ not
+
+  pub ended-full : (producer : Producer L D l d) (result : Result Unit (Entry L D l d)) (capacity : ℕ) → has_ended producer ≡ false
+      → IfErr result (λ _. HasPushed capacity (view producer.end)) → is_ok result ≡ false → capacity ≤ length (put_by producer)
+  ended-full p (Ok ok) capacity not full refused = absurd (false≢true (sym refused))
+  ended-full p (Err back) capacity not full refused = is-full p capacity not full
 
   -- ---- taking
 

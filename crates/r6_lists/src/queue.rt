@@ -80,7 +80,8 @@ impl<L: Events, D: BlockDevice + Drop> Queue<L, D> {
         }
     }
 
-    /// Puts the end in, after all items of the shard; whether there was room for it. If not, nothing changes.
+    /// Puts the end in, after all items of the shard; whether there was room for it. If not, as many items as there is
+    /// room for were put in before, and nothing changes.
     pub fn end<R: Wait>(&self, rt: &R, producer: &mut Producer<L, D>) -> bool
         requires producer { IsProducerOf L.shape L.events self.now producer.old }
         requires all { put_by producer.old ≡ numbers_of (tasks_of L.shape producer.old.shard L.events) }
@@ -88,6 +89,7 @@ impl<L: Events, D: BlockDevice + Drop> Queue<L, D> {
         ensures producer { IsProducerOf L.shape L.events self.now producer.new }
         ensures ended { has_ended producer.new ≡ result }
         ensures same { (producer.new.shard ≡ producer.old.shard) × (put_by producer.new ≡ put_by producer.old) }
+        ensures full { result ≡ false → room_of self.now ≤ length (put_by producer.old) }
     {
         self.entries.push(rt, &mut producer.end, Entry::End).is_ok()
     }

@@ -1,5 +1,5 @@
 use Rattle.std.proofs.Common.{sym, refl, ◌∙◌}
-use Rattle.r6_lists.proofs.Queues.{may-end, producer-ended, ended-same, ended-is}
+use Rattle.r6_lists.proofs.Queues.{may-end, producer-ended, ended-same, ended-is, ended-full}
 use Rattle.r6_lists.proofs.queue.Queue.end.Goals as goal
 
 pub push-requires-clause-admitted : goal.push-requires-clause-admitted
@@ -19,3 +19,8 @@ pub returns-clause-ended : goal.returns-clause-ended
 returns-clause-ended g c =
     ended-is g.L.Events.shape g.L.Events.events c.args.producer.now c.push.result c.push.new.end c.requires.«open» c.push.ensures.pushed
     ∙ sym c.is_ok.ensures.value
+
+pub returns-clause-full : goal.returns-clause-full
+returns-clause-full g c = λ refused.
+    ended-full g.L.Events.shape g.L.Events.events c.args.producer.now c.push.result _ c.requires.«open» c.push.ensures.full
+    (sym c.is_ok.ensures.value ∙ refused)
