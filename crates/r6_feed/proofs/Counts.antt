@@ -1,11 +1,13 @@
 -- How many tasks there are.
-use Rattle.std.proofs.Common.{◌≡◌, ℕ, suc, ◌+◌, ◌≤◌, List, [], ◌∷◌, ◌++◌, length, filter_map, Option, Some, None, Bool, true, false, is_some, option_map, slice_get, refl, sym, ◌∙◌, ap, arith}
+use Rattle.std.proofs.Common.{◌≡◌, ℕ, suc, ◌+◌, ◌≤◌, List, [], ◌∷◌, ◌++◌, length, take, count_by, filter_map, Option, Some, None, Bool, true, false, is_some, option_map, slice_get, refl, sym, ◌∙◌, ap, arith}
 use Rattle.std.specs.List.{range_with_len, cons_option}
-use Rattle.std.proofs.lemmas.List.{append-nil, length_push}
+use Rattle.std.proofs.lemmas.List.{append-nil, length_push, length-take}
+use Rattle.std.proofs.lemmas.List.Sums.{count_by_more_no, count_by_more_yes, count_by-le-length}
+use Rattle.std.proofs.lemmas.Option.{slice_get_within, get_or_from_slice_get}
 use Rattle.std.proofs.lemmas.List.FromFn.{length-range_with_len}
 use Rattle.r6_layout.specs.Shape.{Shape}
 use Rattle.r6_lists.specs.Events.{Event, Duty, duty_of, Task, task, task_at, waits_before}
-use Rattle.r6_feed.specs.Events.{has_part}
+use Rattle.r6_feed.specs.Events.{has_part, is_attach}
 use Rattle.r6_feed.specs.Feeds.{tasks_before}
 use Rattle.r6_feed.proofs.Putting.{task_is, tasks_more}
 
@@ -49,4 +51,29 @@ pub few_tasks : (shape : Shape) (shard : ℕ) (events : List Event) (number : �
 few_tasks shape shard events number =
     let few = few_kept (task_at shape shard events) (range_with_len 0 number) in
     let long = length-range_with_len 0 number in
+    omega (arith, few, long)
+
+-- ---- new devices
+
+-- one event more, which is a new device or not
+pub attach_counted : (events : List Event) (number : ℕ) (event : Event) (attach : Bool)
+    → slice_get events number ≡ Some event → attach ≡ is_attach event
+    → (before more : ℕ) → before ≡ count_by is_attach (take number events)
+    → (attach ≡ true → more ≡ 1) → (attach ≡ false → more ≡ 0)
+    → before + more ≡ count_by is_attach (take (number + 1) events)
+attach_counted events number event true at is before more was if-attach if-none =
+    let one = if-attach refl in
+    let counted = count_by_more_yes is_attach events number event (slice_get_within events number event at)
+    (ap is_attach (get_or_from_slice_get events number event event at) ∙ sym is) in
+    omega (arith, one, was, counted)
+attach_counted events number event false at is before more was if-attach if-none =
+    let none = if-none refl in
+    let counted = count_by_more_no is_attach events number event (slice_get_within events number event at)
+    (ap is_attach (get_or_from_slice_get events number event event at) ∙ sym is) in
+    omega (arith, none, was, counted)
+
+pub few_attaches : (events : List Event) (number : ℕ) → count_by is_attach (take number events) ≤ number
+few_attaches events number =
+    let few = count_by-le-length is_attach (take number events) in
+    let long = length-take number events in
     omega (arith, few, long)

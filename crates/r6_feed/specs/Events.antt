@@ -1,5 +1,5 @@
 -- The events of a run as they are handed in, and as the shards' lists know them (this project's own).
-use Rattle.std.specs.Prelude.{◌≡◌, ℕ, List, length, map, All, slice_get, Bool, Some, None, is_some, unwrap_or, option_map}
+use Rattle.std.specs.Prelude.{◌≡◌, ℕ, List, length, map, All, slice_get, Bool, true, false, Some, None, is_some, unwrap_or, option_map}
 use Rattle.r6_layout.specs.Shape.{Shape}
 use Rattle.r6_dev.specs.History.{Telling}
 use Rattle.r6_dev.specs.Promises.{Promise, FailsNone}
@@ -71,3 +71,8 @@ work_of_pass pass.Repair = work.Repair
 -- whether a shard is handed a part of the event
 abbrev pub has_part : Shape → (shard : ℕ) → lists.Event → Bool
 has_part shape shard event = is_some (lists.duty_of shape shard event)
+
+-- whether the event is a new device, of which each shard is handed a part
+abbrev pub is_attach : lists.Event → Bool
+is_attach (lists.Attach slot part) = true
+is_attach event = false

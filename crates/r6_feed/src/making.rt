@@ -1,9 +1,9 @@
 //! What is to be handed out is counted, and who hands it out is made.
 
-ghost use Rattle.std.specs.Prelude.{◌≡◌, [], length, IfOk};
+ghost use Rattle.std.specs.Prelude.{◌≡◌, [], count_by, length, IfOk};
 ghost use Rattle.r6_health.specs.Passes.{view_of};
 ghost use Rattle.r6_lists.specs.Events.{tasks_of};
-ghost use Rattle.r6_feed.specs.Events.{event_of, events_of, has_part};
+ghost use Rattle.r6_feed.specs.Events.{event_of, events_of, has_part, is_attach};
 
 use crate::event::Event;
 use crate::feed::Feed;
@@ -27,6 +27,13 @@ impl<D: BlockDevice> Event<D> {
             Event::Wait | Event::Fail(_) => false,
         }
     }
+
+    // Whether it is a new device, of which every shard is handed a part.
+    fn is_attach(&self) -> bool
+        ensures { result ≡ is_attach (event_of D.told self.now) }
+    {
+        matches!(self, Event::Attach(..))
+    }
 }
 
 /// How many tasks a shard has of these events: its requests, and its parts of new devices, checks and repairs.
@@ -36,6 +43,17 @@ pub fn count_tasks<D: BlockDevice>(geometry: &Geometry, events: &[Event<D>], sha
     let mut count = 0;
     for event in events {
         count += u64::from(event.has_part(geometry, shard));
+    }
+    count
+}
+
+/// How many parts of new devices every shard is handed of these events.
+pub fn count_attaches<D: BlockDevice>(events: &[Event<D>]) -> u64
+    ensures { result ≡ count_by is_attach (events_of D.told events.now) }
+{
+    let mut count = 0;
+    for event in events {
+        count += u64::from(event.is_attach());
     }
     count
 }
