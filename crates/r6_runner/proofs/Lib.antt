@@ -9,3 +9,4 @@ pub mod Parts
 pub mod Lost
 pub mod Serving
 pub mod Going
+pub mod Coming

@@ -1,11 +1,16 @@
 -- The parts of devices that a shard was given: none is lost (this project's own).
-use Rattle.std.specs.Prelude.{◌≡◌, ℕ, List, ◌++◌, map, IsPermutation}
+use Rattle.std.specs.Prelude.{◌≡◌, ◌<◌, ℕ, List, ◌++◌, length, map, IsPermutation}
+use Rattle.r6_layout.specs.Shape.{Shape}
 use Rattle.r6_world.specs.Registers.{Snapshot}
+use Rattle.r6_lists.specs.Events.{Event, numbers_of, tasks_of}
+use Rattle.r6_lists.specs.declared.work.Work.{Work}
+use Rattle.r6_lists.specs.declared.work.Work.TheVariants.{Attach}
 use Rattle.r6_shard.specs.Here.{BeginsHere, HasUsed, StaysHere}
 use Rattle.r6_shard.specs.Parts.{labels_of}
 use Rattle.r6_shard.specs.declared.performs.Performs.{Ghosts}
 use Rattle.r6_runner.specs.declared.runner.Handed.{Handed}
 use Rattle.r6_runner.specs.declared.runner.Runner.{Runner}
+use Rattle.r6_runner.specs.Tasks.{NewPart, parts_in}
 
 -- of which slots and generations the parts are that came by the list
 abbrev pub labels_in : List Handed → List (ℕ × ℕ)
@@ -34,6 +39,21 @@ pub record KeepsOwn {P D : Type 0} {g : Ghosts P} (old new : Runner P D g) : Typ
   pub site : g.site new.shard.parts ≡ g.site old.shard.parts
   pub here : StaysHere old.shard new.shard
   pub window : new.shard.core.window ≡ old.shard.core.window
+
+-- the parts of new devices that all tasks of a shard bring
+abbrev pub all_parts : Shape → List Event → (number : ℕ) → List NewPart
+all_parts shape events number = parts_in shape number events (numbers_of (tasks_of shape number events))
+
+-- as many parts came by the list as the tasks of these numbers brought
+abbrev pub HaveCome : {P D : Type 0} {g : Ghosts P} → Shape → List Event → (number : ℕ) → (numbers : List ℕ)
+    → Runner P D g → Type 0
+HaveCome shape events number numbers runner =
+    length runner.handed.items ≡ length (parts_in shape number events numbers)
+
+-- there is room for the part of a new device, if the work brings one
+abbrev pub HasPartRoom : {P D : Type 0} {g : Ghosts P} → Work D → Runner P D g → Type 0
+HasPartRoom (Attach slot generation part) runner = length runner.handed.items < runner.attaches
+HasPartRoom work runner = Unit {0}
 
 -- no part comes or goes
 pub record KeepsParts {P D : Type 0} {g : Ghosts P} (old new : Runner P D g) : Type 0 where

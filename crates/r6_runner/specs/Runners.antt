@@ -82,12 +82,16 @@ taken_by runner =
     count_of runner.refused.items runner.shard.asked.items runner.passing runner.passed.items runner.handed.items
     runner.due.items
 
+-- for how many tasks there is room, and for how many parts of new devices
+abbrev pub rooms_of : {P D : Type 0} {g : Ghosts P} → Runner P D g → ℕ × ℕ
+rooms_of runner = (runner.room, runner.attaches)
+
 -- ---- what calls do
 
 pub record KeepsSelf {P D : Type 0} {g : Ghosts P} (old new : Runner P D g) : Type 0 where
   pub pass : new.shard.pass ≡ old.shard.pass
   pub place : new.shard.core.shard ≡ old.shard.core.shard
-  pub room : new.room ≡ old.room
+  pub room : rooms_of new ≡ rooms_of old
 
 -- one task more is due, and nothing else changes
 pub record IsPut {P D : Type 0} {g : Ghosts P} (due : Due) (old new : Runner P D g) : Type 0 where
@@ -98,7 +102,7 @@ pub record IsPut {P D : Type 0} {g : Ghosts P} (due : Due) (old new : Runner P D
   pub passed : new.passed.items ≡ old.passed.items
   pub handed : new.handed.items ≡ old.handed.items
   pub others : new.others.items ≡ old.others.items
-  pub room : new.room ≡ old.room
+  pub room : rooms_of new ≡ rooms_of old
   pub waits : new.waits ≡ old.waits
   pub rows : new.rows ≡ old.rows
 
@@ -125,7 +129,7 @@ pub record IsHandedIn {P D : Type 0} {g : Ghosts P} (told : D → Telling) (prom
   pub refused : new.refused.items ≡ old.refused.items
   pub passing : new.passing ≡ old.passing
   pub passed : new.passed.items ≡ old.passed.items
-  pub room : new.room ≡ old.room
+  pub room : rooms_of new ≡ rooms_of old
   pub waits : new.waits ≡ old.waits
   pub rows : new.rows ≡ old.rows
 
@@ -136,7 +140,7 @@ pub record KeepsTasks {P D : Type 0} {g : Ghosts P} (old new : Runner P D g) : T
   pub passed : new.passed.items ≡ old.passed.items
   pub handed : new.handed.items ≡ old.handed.items
   pub others : new.others.items ≡ old.others.items
-  pub room : new.room ≡ old.room
+  pub room : rooms_of new ≡ rooms_of old
   pub rows : new.rows ≡ old.rows
 
 -- a request was handed in: it was accepted, with nothing wrong, or it stands among the refused, with the reason
@@ -164,7 +168,7 @@ pub record IsPassing {P D : Type 0} {g : Ghosts P} (event : ℕ) (task : Pass) (
   pub passed : new.passed.items ≡ old.passed.items
   pub handed : new.handed.items ≡ old.handed.items
   pub others : new.others.items ≡ old.others.items
-  pub room : new.room ≡ old.room
+  pub room : rooms_of new ≡ rooms_of old
   pub waits : new.waits ≡ old.waits
   pub rows : new.rows ≡ old.rows
 

@@ -22,7 +22,7 @@ use r6_shard::{Part, Performs, Place, Shard, TakesParts};
 use std::alloc::{AllocError, Global};
 use std::collections::VecDeque;
 
-// Room for so many tasks.
+// Room for so many tasks, and among them for so many parts of new devices.
 #[derive(Drop)]
 struct Rooms<D> {
     due: VecDeque<Due>,
@@ -32,19 +32,19 @@ struct Rooms<D> {
     others: Vec<Part<D>>,
 }
 
-fn rooms_of<D: Drop>(alloc: Global, room: usize) -> Result<Rooms<D>, AllocError>
+fn rooms_of<D: Drop>(alloc: Global, room: usize, attaches: usize) -> Result<Rooms<D>, AllocError>
     ensures { IfOk result (λ rooms. (rooms.due.items ≡ []) × (room ≤ deque_capacity rooms.due)
         × (rooms.refused.items ≡ []) × (room ≤ vec_capacity rooms.refused)
         × (rooms.passed.items ≡ []) × (room ≤ vec_capacity rooms.passed)
-        × (rooms.handed.items ≡ []) × (room ≤ vec_capacity rooms.handed)
-        × (rooms.others.items ≡ []) × (room ≤ vec_capacity rooms.others)) }
+        × (rooms.handed.items ≡ []) × (attaches ≤ vec_capacity rooms.handed)
+        × (rooms.others.items ≡ []) × (attaches ≤ vec_capacity rooms.others)) }
 {
     Ok(Rooms {
         due: VecDeque::with_capacity(alloc, room)?,
         refused: Vec::with_capacity(alloc, room)?,
         passed: Vec::with_capacity(alloc, room)?,
-        handed: Vec::with_capacity(alloc, room)?,
-        others: Vec::with_capacity(alloc, room)?,
+        handed: Vec::with_capacity(alloc, attaches)?,
+        others: Vec::with_capacity(alloc, attaches)?,
     })
 }
 
@@ -52,7 +52,7 @@ impl<P: Performs + Drop, D: BlockDevice + Drop> Runner<P, D>
 where
     P: TakesParts<D>,
 {
-    /// A shard of the array as it begins, with room for so many tasks. Each may bring a part of a new device, so there
+    /// A shard of the array as it begins, with room for so many tasks. So many of them may attach a new device, so there
     /// must be room for as many parts more.
     ///
     /// # Errors
@@ -64,11 +64,12 @@ where
         pass: Pass,
         parts: P,
         room: usize,
+        attaches: usize,
     ) -> Result<Runner<P, D>, AllocError>
         requires limits { IsShape place.geometry }
         requires number { place.number < place.geometry.shards }
         requires window { (1 ≤ place.window) × (place.window ≤ 8) }
-        requires parts_room { length (P.performer parts).labels + room ≤ (P.performer parts).part_room }
+        requires parts_room { length (P.performer parts).labels + attaches ≤ (P.performer parts).part_room }
 
         // the register as it began
         requires no_attach { snapshot.now.attaches ≡ 0 }
@@ -93,10 +94,11 @@ where
         // what it was made of
         ensures pass { IfOk result (λ runner. runner.shard.pass ≡ pass) }
         ensures place { IfOk result (λ runner. runner.shard.core.shard ≡ place.number) }
-        ensures room { IfOk result (λ runner. (runner.room ≡ room) × (taken_by runner ≡ 0)) }
+        ensures room { IfOk result (λ runner. (runner.room ≡ room) × (runner.attaches ≡ attaches)
+            × (taken_by runner ≡ 0)) }
     {
         let rows = place.geometry.shard_rows(place.number);
-        let rooms = rooms_of(alloc, room)?;
+        let rooms = rooms_of(alloc, room, attaches)?;
         let shard = Shard::new(alloc, place, snapshot, pass, parts, room)?;
         let Rooms {
             due,
@@ -116,6 +118,7 @@ where
             waits: 0,
             rows: rows.end - rows.start,
             room,
+            attaches,
         })
     }
 }

@@ -6,8 +6,8 @@ ghost use Rattle.r6_lists.specs.Events.{tasks_of};
 ghost use Rattle.r6_lists.specs.Queues.{IsConsumerOf};
 ghost use Rattle.r6_runner.specs.Counted.{KeepsCounted};
 ghost use Rattle.r6_runner.specs.Going.{TakesNoMore};
-ghost use Rattle.r6_runner.specs.Parts.{KeepsOwn, KeepsParts};
-ghost use Rattle.r6_runner.specs.Runners.{GoesOn, GoesOnSame, IsOver, KeepsSelf, taken_by};
+ghost use Rattle.r6_runner.specs.Parts.{HaveCome, KeepsOwn, KeepsParts, all_parts};
+ghost use Rattle.r6_runner.specs.Runners.{GoesOn, GoesOnSame, IsOver, KeepsSelf, rooms_of, taken_by};
 ghost use Rattle.r6_runner.specs.Sound.{KeepsPromised, KeepsSound};
 ghost use Rattle.r6_runner.specs.Waits.{HasAwaited, KeepsAwaited};
 
@@ -27,6 +27,8 @@ pub struct Taking<L: Events, P: Performs, D: BlockDevice> {
     pub consumer: Consumer<L, D>,
     ghost counted: { taken_by runner ≡ length consumer.numbers.items },
     ghost room: { length (tasks_of L.shape consumer.shard L.events) ≤ runner.room },
+    ghost parts: { HaveCome L.shape L.events consumer.shard consumer.numbers.items runner },
+    ghost attaches: { length (all_parts L.shape L.events consumer.shard) ≤ runner.attaches },
 }
 
 impl<P: Performs + Drop, D: BlockDevice + Drop> Runner<P, D>
@@ -47,7 +49,7 @@ where
 
         ensures goes { TakesNoMore self.old self.new }
         ensures count { taken_by self.new ≡ taken_by self.old }
-        ensures room { self.new.room ≡ self.old.room }
+        ensures room { rooms_of self.new ≡ rooms_of self.old }
 
         ensures over { result ≡ true → IsOver self.new }
     {
@@ -71,7 +73,7 @@ where
         // and nothing more is taken
         ensures parts { KeepsParts self.old self.new }
         ensures count { taken_by self.new ≡ taken_by self.old }
-        ensures room { self.new.room ≡ self.old.room }
+        ensures room { rooms_of self.new ≡ rooms_of self.old }
         ensures place { self.new.shard.core.shard ≡ self.old.shard.core.shard }
     {
         self.shard.round_when_here::<D, R>(rt, register);
@@ -83,7 +85,7 @@ where
 
         ensures goes { TakesNoMore self.old self.new }
         ensures count { taken_by self.new ≡ taken_by self.old }
-        ensures room { self.new.room ≡ self.old.room }
+        ensures room { rooms_of self.new ≡ rooms_of self.old }
     {
         let _ = self.shard.turn(Task::Rebuild);
     }
@@ -96,7 +98,7 @@ where
 
         ensures goes { TakesNoMore self.old self.new }
         ensures count { taken_by self.new ≡ taken_by self.old }
-        ensures room { self.new.room ≡ self.old.room }
+        ensures room { rooms_of self.new ≡ rooms_of self.old }
     {
         self.round(rt, register);
         self.begin_all(rt);
@@ -112,7 +114,7 @@ where
 
         ensures goes { TakesNoMore self.old self.new }
         ensures count { taken_by self.new ≡ taken_by self.old }
-        ensures room { self.new.room ≡ self.old.room }
+        ensures room { rooms_of self.new ≡ rooms_of self.old }
 
         ensures over { result ≡ true → IsOver self.new }
     {
@@ -129,6 +131,7 @@ where
     pub fn new(runner: Runner<P, D>, consumer: Consumer<L, D>) -> Taking<L, P, D>
         requires fresh { (taken_by runner ≡ 0) × (consumer.numbers.items ≡ []) }
         requires room { length (tasks_of L.shape consumer.shard L.events) ≤ runner.room }
+        requires attaches { length (all_parts L.shape L.events consumer.shard) ≤ runner.attaches }
         ensures { (result.runner ≡ runner) × (result.consumer ≡ consumer) }
     {
         Taking { runner, consumer }

@@ -46,6 +46,8 @@ pub struct Runner<P: Performs, D> {
     pub rows: u64,
     /// As many tasks may be taken.
     pub room: usize,
+    /// As many parts of new devices may come.
+    pub attaches: usize,
     pub ghost unskipped: { SkipNone shard.named shard.saw_out passed.items },
     ghost within: { count_of refused.items shard.asked.items passing passed.items handed.items due.items ≤ room },
     ghost others_within: { length others.items ≤ length handed.items },
@@ -53,8 +55,8 @@ pub struct Runner<P: Performs, D> {
     ghost due_room: { room ≤ deque_capacity due },
     ghost refused_room: { room ≤ vec_capacity refused },
     ghost passed_room: { room ≤ vec_capacity passed },
-    ghost handed_room: { room ≤ vec_capacity handed },
-    ghost others_room: { room ≤ vec_capacity others },
-    ghost parts_room: { length (P.performer shard.parts).labels + room
+    ghost handed_room: { attaches ≤ vec_capacity handed },
+    ghost others_room: { attaches ≤ vec_capacity others },
+    ghost parts_room: { length (P.performer shard.parts).labels + attaches
         ≤ (P.performer shard.parts).part_room + length handed.items },
 }

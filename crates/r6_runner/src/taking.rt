@@ -1,9 +1,9 @@
 //! What came by the list is taken up.
 
-ghost use Rattle.std.specs.Prelude.{◌≡◌, ℕ, ◌+◌, ◌<◌, ◌++◌, ◌∷◌, [], option_map, option_to_list};
+ghost use Rattle.std.specs.Prelude.{◌≡◌, ℕ, ◌+◌, ◌<◌, ◌++◌, ◌∷◌, [], length, option_map, option_to_list};
 ghost use Rattle.r6_shard.specs.Sound.{TakesSound};
 ghost use Rattle.r6_runner.specs.Counted.{KeepsCounted};
-ghost use Rattle.r6_runner.specs.Parts.{KeepsOwn};
+ghost use Rattle.r6_runner.specs.Parts.{HasPartRoom, HaveCome, KeepsOwn};
 ghost use Rattle.r6_runner.specs.Runners.{GoesOn, IsPut, IsHandedIn, KeepsSelf, taken_by};
 ghost use Rattle.r6_runner.specs.Sound.{KeepsPromised};
 ghost use Rattle.r6_runner.specs.Waits.{HasAwaited};
@@ -30,7 +30,8 @@ where
 
     // The part of a new device is handed in, unless its core has looked at its generation.
     fn hand_in<R: Wait>(&mut self, rt: &R, event: u64, part: Part<D>)
-        requires { taken_by self.old < self.old.room }
+        requires room { taken_by self.old < self.old.room }
+        requires part_room { length self.old.handed.items < self.old.attaches }
         ensures handed { IsHandedIn D.told D.promised event part self.old self.new }
         ensures sound { TakesSound D.promised part self.old.shard self.new.shard }
     {
@@ -58,7 +59,8 @@ where
     // What came by the list is due, or, the part of a new device, handed in at once, under the generation that came
     // with it.
     pub(crate) fn take_up<L: Events, R: Wait>(&mut self, rt: &R, item: Item<L, D>)
-        requires { taken_by self.old < self.old.room }
+        requires room { taken_by self.old < self.old.room }
+        requires part_room { HasPartRoom item.work self.old }
         ensures course { (numbers : _) → GoesOn L.shape L.events item.shard numbers
             (numbers ++ item.number ∷ []) self.old self.new }
         ensures counted { KeepsCounted self.old self.new }
@@ -67,6 +69,8 @@ where
         ensures same { KeepsSelf self.old self.new }
         ensures own { KeepsOwn self.old self.new }
         ensures count { taken_by self.new ≡ taken_by self.old + 1 }
+        ensures parts { (numbers : _) → HaveCome L.shape L.events item.shard numbers self.old
+            → HaveCome L.shape L.events item.shard (numbers ++ item.number ∷ []) self.new }
     {
         let event = item.number;
         let waits = item.waits;

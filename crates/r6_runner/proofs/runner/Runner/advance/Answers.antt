@@ -23,3 +23,7 @@ returns-clause-goes g c =
     })
     c.go_on.ensures.goes)
     c.rebuild.ensures.goes
+
+pub returns-clause-room : goal.returns-clause-room
+returns-clause-room g c =
+    c.rebuild.ensures.room ∙ c.go_on.ensures.same.room ∙ c.begin_all.ensures.same.room ∙ c.round.ensures.room

@@ -6,9 +6,7 @@ use Rattle.r6_shard.specs.Handing.{HandsIn, RefusesPart}
 use Rattle.r6_shard.specs.Performing.{Performer}
 use Rattle.r6_shard.specs.Sound.{IsSoundIn, TakesSound}
 use Rattle.r6_shard.proofs.Going.{either_way}
-use Rattle.r6_shard.specs.declared.performs.Performs.{Ghosts}
-use Rattle.r6_runner.specs.declared.runner.Runner.{Runner}
-use Rattle.r6_runner.specs.Runners.{IsPartTaken, taken_by}
+use Rattle.r6_runner.specs.Runners.{IsPartTaken}
 use Rattle.r6_runner.proofs.Parts.{grown, only-looked}
 use Rattle.r6_runner.proofs.Keeping.{still-sound}
 use Rattle.r6_runner.proofs.Taken.{KeepsRest, keeps-rest, keeps-same, was-clean}
@@ -29,23 +27,19 @@ pub push_reserved-requires : goal.push_reserved-requires
 push_reserved-requires g c =
     let old = c.args.self.now in
     let long = old.others.ok.0 in
-    omega (arith, long, old.others_within, old.others_room, c.requires)
+    omega (arith, long, old.others_within, old.others_room, c.requires.part_room)
 
 pub push_reserved-requires-in-Err : goal.push_reserved-requires-in-Err
 push_reserved-requires-in-Err g c =
     let old = c.args.self.now in
     let long = old.others.ok.0 in
-    omega (arith, long, old.others_within, old.others_room, c.requires)
+    omega (arith, long, old.others_within, old.others_room, c.requires.part_room)
 
 pub push_reserved-requires-2 : goal.push_reserved-requires-2
 push_reserved-requires-2 g c =
     let old = c.args.self.now in
     let long = old.handed.ok.0 in
-    omega (arith, long, old.handed_room, c.requires)
-
--- the parts that came are among what was taken
-handed-within : {P D : Type 0} {g : Ghosts P} (runner : Runner P D g) → length runner.handed.items ≤ taken_by runner
-handed-within runner = omega arith
+    omega (arith, long, old.handed_room, c.requires.part_room)
 
 pub returns-clause-handed : goal.returns-clause-handed
 returns-clause-handed g c =
@@ -56,8 +50,7 @@ returns-clause-handed g c =
     let old = self.shard in
     let new = c.hand_in.new.self in
     let others = c.match-hand_in.self.1.1.1.1.1.1.1.0 in
-    let count = handed-within self in
-    let few : length (g.P.Performs.performer old.parts).labels < (g.P.Performs.performer old.parts).part_room = omega (arith, count, self.parts_room, c.requires) in
+    let few : length (g.P.Performs.performer old.parts).labels < (g.P.Performs.performer old.parts).part_room = omega (arith, self.parts_room, c.requires.part_room) in
     let came : (back : List (Part g.row.D.Denot)) × IsPartTaken c.match-hand_in.taken told promised part back old new
     × (others.items ≡ self.others.items ++ back) =
     elim c.match-hand_in.branch [
@@ -138,13 +131,13 @@ invariant_of-self g c =
     let most = few.0 in
     record {
       unskipped = λ clean. old.unskipped (was-clean old.shard new kept clean);
-      within = omega (arith, asked, handed, c.requires);
+      within = omega (arith, asked, handed, c.requires.room);
       others_within = omega (arith, most, handed, old.others_within);
       shard_room = subst (λ (room : ℕ). old.room ≤ room) (sym kept.room) old.shard_room;
       due_room = old.due_room;
       refused_room = old.refused_room;
       passed_room = old.passed_room;
-      handed_room = subst (λ (room : ℕ). old.room ≤ room) (sym c.push_reserved-2.ensures.capacity) old.handed_room;
-      others_room = subst (λ (room : ℕ). old.room ≤ room) (sym few.1) old.others_room;
+      handed_room = subst (λ (room : ℕ). old.attaches ≤ room) (sym c.push_reserved-2.ensures.capacity) old.handed_room;
+      others_room = subst (λ (room : ℕ). old.attaches ≤ room) (sym few.1) old.others_room;
       parts_room = let parts = room.0 in let more = room.1 in omega (arith, parts, more, handed, old.parts_room);
     }

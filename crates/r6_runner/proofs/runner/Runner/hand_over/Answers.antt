@@ -95,7 +95,7 @@ invariant_of-self-in-Err g c =
       handed_room = old.handed_room;
       others_room = old.others_room;
       parts_room = let performer = ap (λ s. g.P.Performs.performer s.parts) same in
-          still-room (g.P.Performs.performer old.shard.parts) (g.P.Performs.performer c.submit.new.self.parts) old.room (length old.handed.items)
+          still-room (g.P.Performs.performer old.shard.parts) (g.P.Performs.performer c.submit.new.self.parts) old.attaches (length old.handed.items)
           (ap (λ (p : Performer). p.labels) performer) (ap (λ (p : Performer). p.part_room) performer) old.parts_room;
     }
 
@@ -130,5 +130,5 @@ invariant_of-self-clause-parts_room g c =
     let old = c.args.self.now in
     let parts = c.in-Ok.ensures.accepted.parts in
     let performer = ap g.P.Performs.performer parts in
-    still-room (g.P.Performs.performer old.shard.parts) (g.P.Performs.performer c.submit.new.self.parts) old.room (length old.handed.items)
+    still-room (g.P.Performs.performer old.shard.parts) (g.P.Performs.performer c.submit.new.self.parts) old.attaches (length old.handed.items)
     (ap (λ (p : Performer). p.labels) performer) (ap (λ (p : Performer). p.part_room) performer) old.parts_room

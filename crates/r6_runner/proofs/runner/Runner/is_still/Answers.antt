@@ -56,6 +56,6 @@ invariant_of-self g c =
       passed_room = old.passed_room;
       handed_room = old.handed_room;
       others_room = old.others_room;
-      parts_room = still-room (g.P.Performs.performer old.shard.parts) (g.P.Performs.performer c.is_still.new.self.parts) old.room (length old.handed.items)
+      parts_room = still-room (g.P.Performs.performer old.shard.parts) (g.P.Performs.performer c.is_still.new.self.parts) old.attaches (length old.handed.items)
           c.is_still.ensures.advances.labels_stay c.is_still.ensures.advances.room_stays old.parts_room;
     }

@@ -68,7 +68,7 @@ invariant_of-result g c =
       passed_room = rooms.5;
       handed_room = rooms.7;
       others_room = rooms.9;
-      parts_room = subst (λ p. length (g.P.Performs.performer p).labels + c.args.room ≤ (g.P.Performs.performer p).part_room + length c.in_ok-rooms.rooms.handed.items)
+      parts_room = subst (λ p. length (g.P.Performs.performer p).labels + c.args.attaches ≤ (g.P.Performs.performer p).part_room + length c.in_ok-rooms.rooms.handed.items)
           (sym shard.parts) (omega (arith, c.requires.parts_room));
     }
 

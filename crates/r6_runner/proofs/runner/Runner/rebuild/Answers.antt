@@ -37,4 +37,4 @@ pub invariant_of-self-clause-parts_room : goal.invariant_of-self-clause-parts_ro
 invariant_of-self-clause-parts_room g c =
     let old = c.args.self.now in
     let on = c.turn.ensures.advances in
-    still-room (g.P.Performs.performer old.shard.parts) (g.P.Performs.performer c.turn.new.self.parts) old.room (length old.handed.items) on.labels_stay on.room_stays old.parts_room
+    still-room (g.P.Performs.performer old.shard.parts) (g.P.Performs.performer c.turn.new.self.parts) old.attaches (length old.handed.items) on.labels_stay on.room_stays old.parts_room

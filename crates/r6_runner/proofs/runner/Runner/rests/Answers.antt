@@ -57,6 +57,6 @@ invariant_of-self g c =
       passed_room = old.passed_room;
       handed_room = old.handed_room;
       others_room = old.others_room;
-      parts_room = still-room (g.P.Performs.performer old.shard.parts) (g.P.Performs.performer c.rests.new.self.parts) old.room (length old.handed.items) c.rests.ensures.advances.labels_stay
+      parts_room = still-room (g.P.Performs.performer old.shard.parts) (g.P.Performs.performer c.rests.new.self.parts) old.attaches (length old.handed.items) c.rests.ensures.advances.labels_stay
           c.rests.ensures.advances.room_stays old.parts_room;
     }

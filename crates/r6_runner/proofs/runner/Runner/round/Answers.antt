@@ -32,7 +32,7 @@ pub invariant_of-self-clause-parts_room : goal.invariant_of-self-clause-parts_ro
 invariant_of-self-clause-parts_room g c =
     let old = c.args.self.now in
     let on = c.round_when_here.ensures.advances in
-    still-room (g.P.Performs.performer old.shard.parts) (g.P.Performs.performer c.round_when_here.new.self.parts) old.room (length old.handed.items) on.labels_stay on.room_stays old.parts_room
+    still-room (g.P.Performs.performer old.shard.parts) (g.P.Performs.performer c.round_when_here.new.self.parts) old.attaches (length old.handed.items) on.labels_stay on.room_stays old.parts_room
 
 pub invariant_of-self-clause-unskipped : goal.invariant_of-self-clause-unskipped
 invariant_of-self-clause-unskipped g c = λ clean. c.args.self.now.unskipped (c.round_when_here.ensures.advances.remembers clean)

@@ -46,5 +46,5 @@ invariant_of-self-clause-parts_room g c =
     let old = c.args.self.now in
     let parts = c.split_pass.ensures.kept.parts in
     let performer = ap g.P.Performs.performer parts in
-    still-room (g.P.Performs.performer old.shard.parts) (g.P.Performs.performer c.split_pass.new.self.parts) old.room (length old.handed.items)
+    still-room (g.P.Performs.performer old.shard.parts) (g.P.Performs.performer c.split_pass.new.self.parts) old.attaches (length old.handed.items)
     (ap (λ (p : Performer). p.labels) performer) (ap (λ (p : Performer). p.part_room) performer) old.parts_room

@@ -7,7 +7,9 @@ use Rattle.r6_runner.proofs.Awaiting.{put-awaited, handed-awaited}
 use Rattle.r6_runner.proofs.Done.{put-on, handed-on}
 use Rattle.r6_runner.proofs.Keeping.{still-sound}
 use Rattle.r6_runner.proofs.Taken.{put-counted, put-self, put-count, handed-counted, handed-self, handed-count}
+use Rattle.r6_runner.proofs.Coming.{put-come, handed-come}
 use Rattle.r6_runner.proofs.Parts.{handed-own, put-own}
+use Rattle.r6_runner.specs.Parts.{HasPartRoom}
 use Rattle.r6_runner.proofs.runner.Runner.take_up.Goals as goal
 
 pub returns-in-Read-clause-course : goal.returns-in-Read-clause-course
@@ -170,3 +172,38 @@ pub returns-in-Attach-clause-own : goal.returns-in-Attach-clause-own
 returns-in-Attach-clause-own g c =
     let part : Part _ = record { slot = c.in-Attach.slot; generation = c.in-Attach.generation; device = c.in-Attach.device } in
     handed-own g.D.BlockDevice.told g.D.BlockDevice.promised c.args.self.now c.hand_in.new.self c.args.item.number part c.hand_in.ensures.handed
+
+pub returns-in-Read-clause-parts : goal.returns-in-Read-clause-parts
+returns-in-Read-clause-parts g c = λ numbers x.
+    let i = c.args.item in
+    put-come g.L.Events.shape g.L.Events.events i.shard c.args.self.now c.put.new.self _ numbers i.number i.waits (Serves (op.Read c.in-Read.block c.in-Read.buffer))
+    (i.of_event ∙ ap (λ w. Some (task i.number i.waits (duty_in g.D.BlockDevice.told w))) c.in-Read.is) refl c.put.ensures x
+
+pub returns-in-Write-clause-parts : goal.returns-in-Write-clause-parts
+returns-in-Write-clause-parts g c = λ numbers x.
+    let i = c.args.item in
+    put-come g.L.Events.shape g.L.Events.events i.shard c.args.self.now c.put-in-Write.new.self _ numbers i.number i.waits (Serves (op.Write c.in-Write.block c.in-Write.buffer))
+    (i.of_event ∙ ap (λ w. Some (task i.number i.waits (duty_in g.D.BlockDevice.told w))) c.in-Write.is) refl c.put-in-Write.ensures x
+
+pub returns-in-Check-clause-parts : goal.returns-in-Check-clause-parts
+returns-in-Check-clause-parts g c = λ numbers x.
+    let i = c.args.item in
+    put-come g.L.Events.shape g.L.Events.events i.shard c.args.self.now c.put-in-Check.new.self _ numbers i.number i.waits Checks
+    (i.of_event ∙ ap (λ w. Some (task i.number i.waits (duty_in g.D.BlockDevice.told w))) c.in-Check.is) refl c.put-in-Check.ensures x
+
+pub returns-in-Repair-clause-parts : goal.returns-in-Repair-clause-parts
+returns-in-Repair-clause-parts g c = λ numbers x.
+    let i = c.args.item in
+    put-come g.L.Events.shape g.L.Events.events i.shard c.args.self.now c.put-in-Repair.new.self _ numbers i.number i.waits Repairs
+    (i.of_event ∙ ap (λ w. Some (task i.number i.waits (duty_in g.D.BlockDevice.told w))) c.in-Repair.is) refl c.put-in-Repair.ensures x
+
+pub returns-in-Attach-clause-parts : goal.returns-in-Attach-clause-parts
+returns-in-Attach-clause-parts g c = λ numbers x.
+    let i = c.args.item in
+    let part : Part _ = record { slot = c.in-Attach.slot; generation = c.in-Attach.generation; device = c.in-Attach.device } in
+    handed-come g.L.Events.shape g.L.Events.events i.shard g.D.BlockDevice.told g.D.BlockDevice.promised c.args.self.now c.hand_in.new.self
+    numbers i.number i.waits part
+    (i.of_event ∙ ap (λ w. Some (task i.number i.waits (duty_in g.D.BlockDevice.told w))) c.in-Attach.is) c.hand_in.ensures.handed x
+
+pub hand_in-requires-clause-part_room : goal.hand_in-requires-clause-part_room
+hand_in-requires-clause-part_room g c = subst (λ w. HasPartRoom w c.args.self.now) c.in-Attach.is c.requires.part_room
