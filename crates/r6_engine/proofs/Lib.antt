@@ -21,3 +21,4 @@ mod ServedShard
 mod Unskipped
 mod ServedArray
 mod Alike
+mod Attaches

@@ -1,20 +1,21 @@
 //! What the threads begin with is made, before any of them is there.
 
-ghost use Rattle.std.specs.Prelude.{◌≡◌, ◌+◌, ◌<◌, ◌≤◌, [], All, None, length, vec_capacity, IfOk, OnOk, false};
+ghost use Rattle.std.specs.Prelude.{◌≡◌, ◌+◌, ◌<◌, ◌≤◌, [], All, None, count_by, length, vec_capacity, IfOk, OnOk, false};
 ghost use Rattle.r6_layout.specs.Shape.{IsShape};
 ghost use Rattle.std.specs.List.{AllZip};
 ghost use Rattle.r6_health.specs.Passes.{IsPassOf, view_of};
 ghost use Rattle.r6_shard.specs.Beginnings.{IsFirstPass};
 ghost use Rattle.r6_lists.specs.Events.{tasks_of};
 ghost use Rattle.r6_lists.specs.Queues.{IsConsumerIn};
-ghost use Rattle.r6_feed.specs.Events.{events_of};
+ghost use Rattle.r6_feed.specs.Events.{events_of, is_attach};
+ghost use Rattle.r6_runner.specs.Parts.{all_parts};
 ghost use Rattle.r6_engine.specs.NewQueues.{HaveBegun};
 ghost use Rattle.r6_engine.specs.Named.{BeginsSound};
 ghost use Rattle.r6_engine.specs.Serves.{AreNumbered, Begins};
 
 use crate::lines::Lines;
 use r6_dev::BlockDevice;
-use r6_feed::{Event, count_tasks};
+use r6_feed::{Event, count_attaches, count_tasks};
 use r6_health::{Pass, Register, Snapshot};
 use r6_layout::Geometry;
 use r6_lists::{Consumer, Events, Rest};
@@ -44,6 +45,13 @@ fn with_room<D: BlockDevice + Drop>(parts: Parts<D>, more: usize) -> Result<InPl
     Ok(InPlace::new(parts))
 }
 
+/// As many tasks as a shard may take, and as many parts of new devices as may come among them.
+#[derive(Clone, Copy)]
+pub(crate) struct Room {
+    tasks: usize,
+    attaches: usize,
+}
+
 // A shard as its thread begins, with this room.
 pub(crate) fn taking_of<L: Events, D: BlockDevice + Drop>(
     alloc: Global,
@@ -51,11 +59,12 @@ pub(crate) fn taking_of<L: Events, D: BlockDevice + Drop>(
     start: &Snapshot,
     pass: Pass,
     parts: Parts<D>,
-    tasks: usize,
+    room: Room,
     consumer: Consumer<L, D>,
 ) -> Result<Taking<L, InPlace<D>, D>, AllocError>
     requires shape { place.geometry ≡ L.shape }
-    requires room { length (tasks_of L.shape place.number L.events) ≤ tasks }
+    requires room { (length (tasks_of L.shape place.number L.events) ≤ room.tasks)
+        × (length (all_parts L.shape L.events place.number) ≤ room.attaches) }
     requires consumer { (consumer.shard ≡ place.number) × (consumer.numbers.items ≡ []) }
     requires limits { IsShape place.geometry }
     requires number { place.number < place.geometry.shards }
@@ -75,8 +84,9 @@ pub(crate) fn taking_of<L: Events, D: BlockDevice + Drop>(
     ensures consumer { IfOk result (λ taking. taking.consumer ≡ consumer) }
     ensures pass { IfOk result (λ taking. taking.runner.shard.pass ≡ pass) }
 {
-    let roomy = with_room(parts, tasks)?;
-    let runner = Runner::new(alloc, place, start, pass, roomy, tasks)?;
+    let Room { tasks, attaches } = room;
+    let roomy = with_room(parts, attaches)?;
+    let runner = Runner::new(alloc, place, start, pass, roomy, tasks, attaches)?;
     Ok(Taking::new(runner, consumer))
 }
 
@@ -89,11 +99,15 @@ pub(crate) struct Opening<'a> {
     pub(crate) start: &'a Snapshot,
 }
 
-// As many tasks as a shard has of the events.
-fn room_for<D: BlockDevice>(geometry: &Geometry, events: &[Event<D>], shard: usize) -> usize
-    ensures { result ≡ length (tasks_of geometry.now shard (events_of D.told events.now)) }
+// Room for what a shard is handed of the events.
+fn room_for<D: BlockDevice>(geometry: &Geometry, events: &[Event<D>], shard: usize) -> Room
+    ensures tasks { result.tasks ≡ length (tasks_of geometry.now shard (events_of D.told events.now)) }
+    ensures attaches { result.attaches ≡ count_by is_attach (events_of D.told events.now) }
 {
-    count_tasks(geometry, events, shard) as usize
+    Room {
+        tasks: count_tasks(geometry, events, shard) as usize,
+        attaches: count_attaches(events) as usize,
+    }
 }
 
 // The shards as their threads begin, from the first on, each with a pass of its own.
@@ -149,9 +163,9 @@ pub(crate) fn takings_of<L: Events, D: BlockDevice + Drop>(
             window: opening.window,
         };
         let pass = opening.register.split(first);
-        let tasks = room_for(opening.geometry, events, place.number);
-        let consumer = lines.add(alloc, place.number, tasks)?;
-        let taking = taking_of(alloc, place, opening.start, pass, parts, tasks, consumer)?;
+        let room = room_for(opening.geometry, events, place.number);
+        let consumer = lines.add(alloc, place.number, room.tasks)?;
+        let taking = taking_of(alloc, place, opening.start, pass, parts, room, consumer)?;
         takings.push_reserved(taking);
     }
     Ok(takings)

@@ -7,7 +7,7 @@ use Rattle.r6_shard.proofs.Promises.{begins-sound}
 use Rattle.r6_layout.specs.Shape.{Shape}
 use Rattle.r6_shard.specs.Here.{BeginsHere, HasUsed}
 use Rattle.r6_runner.specs.declared.runner.Runner.{Runner}
-use Rattle.r6_runner.specs.Parts.{HasAll}
+use Rattle.r6_runner.specs.Parts.{HasAll, all_parts}
 use Rattle.r6_runner.specs.Counted.{HasCounted, rows_of_shard}
 use Rattle.r6_runner.specs.Runners.{HasDone}
 use Rattle.r6_runner.specs.Waits.{HasAwaited}
@@ -86,14 +86,21 @@ pub returns-clause-pass : goal.returns-clause-pass
 returns-clause-pass g c = ap (λ runner. runner.shard.pass) c.new-2.ensures.0 ∙ c.in_ok-runner.ensures.pass
 
 pub new-requires-2-clause-fresh : goal.new-requires-2-clause-fresh
-new-requires-2-clause-fresh g c = (c.in_ok-runner.ensures.room.1, c.requires.consumer.1)
+new-requires-2-clause-fresh g c = (c.in_ok-runner.ensures.room.2, c.requires.consumer.1)
 
 pub new-requires-2-clause-room : goal.new-requires-2-clause-room
 new-requires-2-clause-room g c =
     let shape = g.L.Events.shape in
     let events = g.L.Events.events in
     subst (λ (n : ℕ). length (tasks_of shape c.args.consumer.shard events) ≤ n) (sym c.in_ok-runner.ensures.room.0)
-    (subst (λ (n : ℕ). length (tasks_of shape n events) ≤ c.args.tasks) (sym c.requires.consumer.0) c.requires.room)
+    (subst (λ (n : ℕ). length (tasks_of shape n events) ≤ c.args.room.tasks) (sym c.requires.consumer.0) c.requires.room.0)
+
+pub new-requires-2-clause-attaches : goal.new-requires-2-clause-attaches
+new-requires-2-clause-attaches g c =
+    let shape = g.L.Events.shape in
+    let events = g.L.Events.events in
+    subst (λ (n : ℕ). length (all_parts shape events c.args.consumer.shard) ≤ n) (sym c.in_ok-runner.ensures.room.1)
+    (subst (λ (n : ℕ). length (all_parts shape events n) ≤ c.args.room.attaches) (sym c.requires.consumer.0) c.requires.room.1)
 
 pub new-requires-clause-parts_room : goal.new-requires-clause-parts_room
 new-requires-clause-parts_room g c =

@@ -1,4 +1,4 @@
-use Rattle.std.proofs.Common.{arith, ◌+◌, ◌≡◌, ◌∙◌, ◌≤◌, ℕ, length, refl, ap, sym, subst}
+use Rattle.std.proofs.Common.{arith, ◌+◌, ◌≡◌, ◌∙◌, ◌≤◌, ℕ, count_by, length, refl, ap, sym, subst}
 use Rattle.std.specs.List.{AllZip}
 use Rattle.std.proofs.lemmas.Iterator.Adapters.{YieldsList-from_vec}
 use Rattle.std.proofs.lemmas.Iterator.Consumers.{YieldsList-turn, YieldsList-end}
@@ -12,10 +12,11 @@ use Rattle.r6_health.specs.Passes.{IsPassOf, view_of}
 use Rattle.r6_health.specs.Views.{newcomer}
 use Rattle.r6_lists.specs.Events.{tasks_of}
 use Rattle.r6_shard.specs.Beginnings.{IsFirstPass}
-use Rattle.r6_feed.specs.Events.{events_of}
+use Rattle.r6_feed.specs.Events.{events_of, is_attach}
 use Rattle.r6_engine.specs.Named.{BeginsSound}
 use Rattle.r6_engine.specs.Serves.{Begins}
 use Rattle.r6_lists.specs.Queues.{IsConsumerIn}
+use Rattle.r6_engine.proofs.Attaches.{parts-counted}
 use Rattle.r6_engine.proofs.NewQueues.{all-still-in, one-longer}
 use Rattle.r6_engine.proofs.Numbers.{fewer, one_more, unchanged}
 use Rattle.r6_engine.proofs.making.takings_of.Goals as goal
@@ -131,10 +132,11 @@ split-pass-requires g c = c.loop-parts.invariant.2.pass
 pub taking_of-requires-clause-room : goal.taking_of-requires-clause-room
 taking_of-requires-clause-room g c =
     let number = c.len-in-loop-parts.result in
-    let same : c.room_for-tasks.result ≡ length (tasks_of g.L.Events.shape number g.L.Events.events) =
-    c.room_for-tasks.ensures ∙ ap (λ (s : Shape). length (tasks_of s number (events_of g.D.BlockDevice.told c.args.events.now))) c.requires.shape
+    let same : c.room_for-room.result.tasks ≡ length (tasks_of g.L.Events.shape number g.L.Events.events) =
+    c.room_for-room.ensures.tasks ∙ ap (λ (s : Shape). length (tasks_of s number (events_of g.D.BlockDevice.told c.args.events.now))) c.requires.shape
     ∙ ap (λ events. length (tasks_of g.L.Events.shape number events)) c.requires.events in
-    omega (arith, same)
+    let attaches = c.room_for-room.ensures.attaches ∙ ap (count_by is_attach) c.requires.events in
+    let parts = parts-counted g.L.Events.shape g.L.Events.events number in (omega (arith, same), omega (arith, attaches, parts))
 
 pub taking_of-requires-clause-limits : goal.taking_of-requires-clause-limits
 taking_of-requires-clause-limits g c = subst IsShape (sym c.requires.shape) c.requires.limits
