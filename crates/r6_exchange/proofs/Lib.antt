@@ -5,4 +5,5 @@ pub mod Parts
 pub mod Workers
 pub mod Histories
 pub mod Joins
+pub mod Labels
 pub mod Next

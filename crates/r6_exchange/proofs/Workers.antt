@@ -1,5 +1,5 @@
 -- A worker goes on by one task.
-use Rattle.std.proofs.Common.{◌≡◌, ◌≤◌, ◌+◌, arith, List, [], ◌∷◌, ◌++◌, length, vec_capacity, sym, ap, subst, ◌∙◌}
+use Rattle.std.proofs.Common.{◌≡◌, ◌≤◌, ◌+◌, arith, List, [], ◌∷◌, ◌++◌, length, vec_capacity, refl, sym, ap, subst, ◌∙◌, IsPermutation}
 use Rattle.r6_dev.specs.History.{Telling}
 use Rattle.r6_dev.specs.Promises.{Promise}
 use Rattle.r6_world.specs.declared.values.Command.{Command}
@@ -9,11 +9,12 @@ use Rattle.r6_exchange.specs.declared.completion.Completion.{Completion}
 use Rattle.r6_exchange.specs.declared.pass.WorkerPass.{WorkerPass}
 use Rattle.r6_exchange.specs.declared.exchange.Exchange.{Exchange}
 use Rattle.r6_exchange.specs.declared.worker.Worker.{Worker}
-use Rattle.r6_exchange.specs.Answering.{State, nothing, Answered, state_after, unanswered, parts_in}
+use Rattle.r6_exchange.specs.Answering.{State, nothing, Answered, state_after, unanswered, parts_in, label_of, labels_of}
 use Rattle.r6_exchange.specs.Exchanges.{IsWorkerPass, taken_by, given_by, room_of}
 use Rattle.r6_exchange.specs.Parts.{part_in, Holds, Does, TakesUp}
 use Rattle.r6_exchange.specs.Workers.{IsWorker}
 use Rattle.r6_exchange.proofs.Answering.{one-more, state-performed, state-taken-up, state-ended, unanswered-performed, unanswered-taken-up, unanswered-ended, parts-more}
+use Rattle.r6_exchange.proofs.Labels.{as-many, labels-kept, labels-added}
 
 module _ {D : Type 0} (told : D → Telling) (promised : D → Promise) (ex : Exchange D) where
   known-by : WorkerPass D → State
@@ -32,14 +33,13 @@ module _ {D : Type 0} (told : D → Telling) (promised : D → Promise) (ex : Ex
   pub worker-performed : (w w' : Worker D) (c : Command) (a : Completion) → IsWorker told promised ex w → IsWorkerPass told promised ex w'.pass
       → taken_by w'.pass ≡ taken_by w.pass ++ Perform c ∷ [] → given_by w'.pass ≡ given_by w.pass ++ a ∷ []
       → room_of w'.pass ≡ room_of w.pass
-      → Does told promised c a w.parts.items w'.parts.items → length w'.parts.items ≡ length w.parts.items
+      → Does told promised c a w.parts.items w'.parts.items → labels_of w'.parts.items ≡ labels_of w.parts.items
       → vec_capacity w'.parts ≡ vec_capacity w.parts → w'.replaced ≡ w.replaced
       → IsWorker told promised ex w'
-  worker-performed w w' c a x pass taken given room does many capacity replaced =
+  worker-performed w w' c a x pass taken given room does same capacity replaced =
       let before = taken_by w.pass in
       let answers = given_by w.pass in
       let did = does (state_after told promised nothing before answers) x.holds in
-      let few = x.few in
       let room-was = x.parts_room in
       let room-was' = x.replaced_room in
       record {
@@ -49,9 +49,8 @@ module _ {D : Type 0} (told : D → Telling) (promised : D → Promise) (ex : Ex
         holds = subst (λ s. Holds s (part_in told promised w'.parts.items))
             (sym (ap (λ ts. state_after told promised nothing ts (given_by w'.pass)) taken ∙ ap (state_after told promised nothing (before ++ Perform c ∷ [])) given
             ∙ state-performed told promised nothing answers before c a x.pass.honest x.none_owed)) did.1;
-        few = let same : parts_in (taken_by w'.pass) ≡ parts_in before + 0 = ap parts_in taken ∙ parts-more before (Perform c ∷ []) in
-            let same' : length w'.replaced.items ≡ length w.replaced.items = ap (λ v. length v.items) replaced in
-            omega arith;
+        labels = labels-kept before (Perform c) (taken_by w'.pass) w.parts.items w'.parts.items w.replaced.items w'.replaced.items refl taken same
+            (ap (λ v. v.items) replaced) x.labels;
         parts_room = omega arith;
         replaced_room = let same' : vec_capacity w'.replaced ≡ vec_capacity w.replaced = ap vec_capacity replaced in omega arith;
       }
@@ -60,13 +59,12 @@ module _ {D : Type 0} (told : D → Telling) (promised : D → Promise) (ex : Ex
       → taken_by w'.pass ≡ taken_by w.pass ++ TakeUp served ∷ [] → given_by w'.pass ≡ given_by w.pass
       → room_of w'.pass ≡ room_of w.pass
       → TakesUp told promised served w.parts.items w'.parts.items
-      → length w'.parts.items + length w'.replaced.items ≡ 1 + (length w.parts.items + length w.replaced.items)
+      → IsPermutation ((labels_of w.parts.items ++ labels_of w.replaced.items) ++ label_of served ∷ []) (labels_of w'.parts.items ++ labels_of w'.replaced.items)
       → vec_capacity w'.parts ≡ vec_capacity w.parts → vec_capacity w'.replaced ≡ vec_capacity w.replaced
       → IsWorker told promised ex w'
-  worker-took-up w w' served x pass taken given room takes many capacity capacity' =
+  worker-took-up w w' served x pass taken given room takes labels capacity capacity' =
       let before = taken_by w.pass in
       let answers = given_by w.pass in
-      let few = x.few in
       let room-was = x.parts_room in
       let room-was' = x.replaced_room in
       record {
@@ -76,7 +74,8 @@ module _ {D : Type 0} (told : D → Telling) (promised : D → Promise) (ex : Ex
         holds = subst (λ s. Holds s (part_in told promised w'.parts.items))
             (sym (ap (λ ts. state_after told promised nothing ts (given_by w'.pass)) taken ∙ ap (state_after told promised nothing (before ++ TakeUp served ∷ [])) given
             ∙ state-taken-up told promised nothing answers before served)) (takes (state_after told promised nothing before answers) x.holds);
-        few = let same : parts_in (taken_by w'.pass) ≡ parts_in before + (1 + 0) = ap parts_in taken ∙ parts-more before (TakeUp served ∷ []) in omega arith;
+        labels = labels-added before served (taken_by w'.pass) (labels_of w.parts.items ++ labels_of w.replaced.items)
+            (labels_of w'.parts.items ++ labels_of w'.replaced.items) taken x.labels labels;
         parts_room = omega arith;
         replaced_room = omega arith;
       }
@@ -86,7 +85,7 @@ module _ {D : Type 0} (told : D → Telling) (promised : D → Promise) (ex : Ex
       → taken_by p ≡ taken_by w.pass ++ TakeUp served ∷ [] → room_of p ≡ room_of w.pass
       → (length w.parts.items + 1 ≤ vec_capacity w.parts) × (length w.replaced.items + 1 ≤ vec_capacity w.replaced)
   room-there w p served x pass taken room =
-      let few = x.few in
+      let few = as-many (taken_by w.pass) w.parts.items w.replaced.items x.labels in
       let room-was = x.parts_room in
       let room-was' = x.replaced_room in
       let most = pass.room in
@@ -99,11 +98,8 @@ module _ {D : Type 0} (told : D → Telling) (promised : D → Promise) (ex : Ex
   worker-ended w w' x pass taken given room parts replaced =
       let before = taken_by w.pass in
       let answers = given_by w.pass in
-      let few = x.few in
       let room-was = x.parts_room in
       let room-was' = x.replaced_room in
-      let many : length w'.parts.items ≡ length w.parts.items = ap (λ v. length v.items) parts in
-      let many' : length w'.replaced.items ≡ length w.replaced.items = ap (λ v. length v.items) replaced in
       let capacity : vec_capacity w'.parts ≡ vec_capacity w.parts = ap vec_capacity parts in
       let capacity' : vec_capacity w'.replaced ≡ vec_capacity w.replaced = ap vec_capacity replaced in
       record {
@@ -114,7 +110,8 @@ module _ {D : Type 0} (told : D → Telling) (promised : D → Promise) (ex : Ex
             (sym (ap (λ ts. state_after told promised nothing ts (given_by w'.pass)) taken ∙ ap (state_after told promised nothing (before ++ End ∷ [])) given
             ∙ state-ended told promised nothing answers before))
             (subst (λ v. Holds (state_after told promised nothing before answers) (part_in told promised v.items)) (sym parts) x.holds);
-        few = let same : parts_in (taken_by w'.pass) ≡ parts_in before + 0 = ap parts_in taken ∙ parts-more before (End ∷ []) in omega arith;
+        labels = labels-kept before End (taken_by w'.pass) w.parts.items w'.parts.items w.replaced.items w'.replaced.items refl taken
+            (ap (λ v. labels_of v.items) parts) (ap (λ v. v.items) replaced) x.labels;
         parts_room = omega arith;
         replaced_room = omega arith;
       }

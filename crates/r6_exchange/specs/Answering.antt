@@ -1,6 +1,6 @@
 -- What a worker answers to the tasks that it takes, one after another (this project's own; of honest histories and of
 -- promises: r6_dev).
-use Rattle.std.specs.Prelude.{◌≡◌, ℕ, ◌+◌, ◌==◌, ◌&&◌, Bool, true, false, List, [], ◌∷◌, length, if◌then◌else◌, Option, Some, None, Result, Ok, Err, IsOk}
+use Rattle.std.specs.Prelude.{◌≡◌, ℕ, ◌+◌, ◌==◌, ◌&&◌, Bool, true, false, List, [], ◌∷◌, length, map, if◌then◌else◌, Option, Some, None, Result, Ok, Err, IsOk}
 use Rattle.r6_dev.specs.History.{Block, Telling, Entry, Reads, Writes, Fails, put}
 use Rattle.r6_dev.specs.Promises.{Promise, Covers, no_promise}
 use Rattle.r6_world.specs.Values.{buffer_in}
@@ -143,3 +143,19 @@ parts_in [] = 0
 parts_in (TakeUp served ∷ tasks) = 1 + parts_in tasks
 parts_in (End ∷ tasks) = parts_in tasks
 parts_in (Perform c ∷ tasks) = parts_in tasks
+
+-- ---- labels
+
+-- the slot and generation of a part
+abbrev pub label_of : {D : Type 0} → Served D → ℕ × ℕ
+label_of served = (served.part.slot, served.part.generation)
+
+abbrev pub labels_of : {D : Type 0} → List (Served D) → List (ℕ × ℕ)
+labels_of parts = map label_of parts
+
+-- those of the parts among the tasks, in their order
+abbrev pub labels_in : {D : Type 0} → List (Task D) → List (ℕ × ℕ)
+labels_in [] = []
+labels_in (TakeUp served ∷ tasks) = label_of served ∷ labels_in tasks
+labels_in (End ∷ tasks) = labels_in tasks
+labels_in (Perform c ∷ tasks) = labels_in tasks

@@ -1,11 +1,11 @@
 //! An io worker: it performs the commands of a shard on its parts of the devices, one after another.
 
-ghost use Rattle.std.specs.Prelude.{◌≡◌, ◌<◌, ◌≤◌, ◌++◌, ◌+◌, ◌∷◌, [], length, vec_capacity, IfOk, IfSome, IsOk, Some, Err, true};
+ghost use Rattle.std.specs.Prelude.{◌≡◌, ◌<◌, ◌≤◌, ◌++◌, ◌∷◌, [], length, vec_capacity, IfOk, IfSome, IsOk, IsPermutation, Some, Err, true};
 ghost use Rattle.std.specs.List.{position};
 ghost use Rattle.r6_dev.specs.History.{Answers};
 ghost use Rattle.r6_dev.specs.Promises.{Covers};
 ghost use Rattle.r6_world.specs.Values.{buffer_in};
-ghost use Rattle.r6_exchange.specs.Answering.{Answered, nothing, entry_by, gone_for};
+ghost use Rattle.r6_exchange.specs.Answering.{Answered, nothing, entry_by, gone_for, label_of, labels_of};
 ghost use Rattle.r6_exchange.specs.Exchanges.{IsWorkerPass, taken_by, given_by, room_of};
 ghost use Rattle.r6_exchange.specs.Parts.{is_of, kind_of, Does, TakesUp};
 ghost use Rattle.r6_exchange.specs.declared.worker.Step.TheVariants.{Idle, Done, Over};
@@ -190,8 +190,8 @@ impl<D: BlockDevice + Drop> Worker<D> {
         requires place { position (is_of command.slot command.generation) self.old.parts.items ≡ Some at }
         requires within { at < length self.old.parts.items }
         ensures does { Does D.told D.promised command result self.old.parts.items self.new.parts.items }
-        ensures parts { (length self.new.parts.items ≡ length self.old.parts.items)
-            × (vec_capacity self.new.parts ≡ vec_capacity self.old.parts) }
+        ensures labels { labels_of self.new.parts.items ≡ labels_of self.old.parts.items }
+        ensures capacity { vec_capacity self.new.parts ≡ vec_capacity self.old.parts }
         ensures replaced { self.new.replaced ≡ self.old.replaced }
         ensures pass { self.new.pass ≡ self.old.pass }
     {
@@ -216,8 +216,8 @@ impl<D: BlockDevice + Drop> Worker<D> {
     // part is steady.
     fn perform(&mut self, command: Command) -> Completion
         ensures does { Does D.told D.promised command result self.old.parts.items self.new.parts.items }
-        ensures parts { (length self.new.parts.items ≡ length self.old.parts.items)
-            × (vec_capacity self.new.parts ≡ vec_capacity self.old.parts) }
+        ensures labels { labels_of self.new.parts.items ≡ labels_of self.old.parts.items }
+        ensures capacity { vec_capacity self.new.parts ≡ vec_capacity self.old.parts }
         ensures replaced { self.new.replaced ≡ self.old.replaced }
         ensures pass { self.new.pass ≡ self.old.pass }
     {
@@ -236,8 +236,9 @@ impl<D: BlockDevice + Drop> Worker<D> {
         requires room { (length self.old.parts.items < vec_capacity self.old.parts)
             × (length self.old.replaced.items < vec_capacity self.old.replaced) }
         ensures takes { TakesUp D.told D.promised served self.old.parts.items self.new.parts.items }
-        ensures few { length self.new.parts.items + length self.new.replaced.items
-            ≡ 1 + (length self.old.parts.items + length self.old.replaced.items) }
+        ensures labels { IsPermutation
+            ((labels_of self.old.parts.items ++ labels_of self.old.replaced.items) ++ label_of served ∷ [])
+            (labels_of self.new.parts.items ++ labels_of self.new.replaced.items) }
         ensures capacity { (vec_capacity self.new.parts ≡ vec_capacity self.old.parts)
             × (vec_capacity self.new.replaced ≡ vec_capacity self.old.replaced) }
         ensures pass { self.new.pass ≡ self.old.pass }

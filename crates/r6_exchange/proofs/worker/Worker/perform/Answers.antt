@@ -1,5 +1,6 @@
-use Rattle.std.proofs.Common.{List, ap, sym, subst}
+use Rattle.std.proofs.Common.{List, ap, sym, subst, ◌∙◌}
 use Rattle.r6_exchange.specs.declared.task.Served.{Served}
+use Rattle.r6_exchange.specs.Answering.{labels_of}
 use Rattle.r6_exchange.specs.Parts.{Does}
 use Rattle.r6_exchange.proofs.Parts.{gone-missing, gone-stopped, does-kept}
 use Rattle.r6_exchange.proofs.worker.Worker.perform.Goals as goal
@@ -22,3 +23,12 @@ returns-then-not-index-clause-does g c =
     (ap (λ v. v.items) c.goes_on-goes_on.ensures.0) c.gone-then-not-index.ensures
     (gone-stopped g.D.BlockDevice.told g.D.BlockDevice.promised c.goes_on-goes_on.new.self.parts.items c.in-Some.at
     c.index.result.now c.args.command (sym c.in-Some.ensures.place) (sym c.index.ensures) c.if-not-index.true)
+
+pub returns-clause-labels : goal.returns-clause-labels
+returns-clause-labels g c = c.perform_at.ensures.labels ∙ ap (λ v. labels_of v.items) c.goes_on-goes_on.ensures.0
+
+pub returns-in_default-clause-labels : goal.returns-in_default-clause-labels
+returns-in_default-clause-labels g c = ap (λ v. labels_of v.items) c.goes_on-goes_on.ensures.0
+
+pub returns-then-not-index-clause-labels : goal.returns-then-not-index-clause-labels
+returns-then-not-index-clause-labels g c = ap (λ v. labels_of v.items) c.goes_on-goes_on.ensures.0

@@ -37,7 +37,7 @@ returns-in-Perform-clause-worker g c =
     (c.give.ensures.given ∙ ap (λ (p : WorkerPass g.row.D.Denot). given_by p ++ c.perform-completion.result ∷ []) e.pass
     ∙ ap (λ y. y ++ c.perform-completion.result ∷ []) c.take.ensures.given)
     (c.give.ensures.room ∙ ap (λ (p : WorkerPass g.row.D.Denot). room_of p) e.pass ∙ c.take.ensures.room)
-    e.does e.parts.0 e.parts.1 e.replaced
+    e.does e.labels e.capacity e.replaced
 
 pub returns-in-TakeUp-clause-worker : goal.returns-in-TakeUp-clause-worker
 returns-in-TakeUp-clause-worker g c =
@@ -49,7 +49,7 @@ returns-in-TakeUp-clause-worker g c =
     ∙ ap (λ (t : Task g.row.D.Denot). before ++ t ∷ []) c.in-TakeUp.is)
     (ap (λ (p : WorkerPass g.row.D.Denot). given_by p) e.pass ∙ c.take.ensures.given)
     (ap (λ (p : WorkerPass g.row.D.Denot). room_of p) e.pass ∙ c.take.ensures.room)
-    e.takes e.few e.capacity.0 e.capacity.1
+    e.takes e.labels e.capacity.0 e.capacity.1
 
 pub returns-in-End-clause-worker : goal.returns-in-End-clause-worker
 returns-in-End-clause-worker g c =
