@@ -19,6 +19,7 @@ use Rattle.r6_shard.specs.Parts.{TakesIn, label_of}
 use Rattle.r6_remote.specs.Lines.{under, Lines, sent_to, received_from, limit_at, lines_of, having_sent_to, having_received, all_out}
 use Rattle.r6_remote.specs.Remotes.{AreShardPasses, IsKept, performer_in, less_one, usize_max}
 use Rattle.r6_remote.proofs.Lines.{answered-at, room-at}
+use Rattle.r6_remote.proofs.Labels.{few-parts}
 use Rattle.r6_remote.proofs.Handing.{handed-performer, handed-kept}
 use Rattle.r6_remote.proofs.Taking.{taken-kept, takes_in}
 use Rattle.r6_remote.proofs.Receiving.{one-out, received-kept, receives}
@@ -90,7 +91,7 @@ module _ {D : Type 0} (told : D → Telling) (promised : D → Promise) (exchang
       → length labels < room → k < length passes
       → HasRoom (limit_at passes k) (sent_to passes k ++ TakeUp (record { part = part; steady = true }) ∷ [])
   part-room k part held old free below =
-      let few = old.few k in
+      let few = few-parts (sent_to passes k) (length passes) k labels (old.labelled k) in
       let limit = old.limits k below in
       omega (arith, few, limit, free, parts-more (sent_to passes k) (TakeUp (record { part = part; steady = true }) ∷ []))
 

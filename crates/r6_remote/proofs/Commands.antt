@@ -115,19 +115,19 @@ are_of-append workers worker (d ∷ xs) c x is = (x.0, are_of-append workers wor
 
 -- ---- those of all workers
 
-pub joined-same : (n : ℕ) (u v : ℕ → List Command) → ((j : ℕ) → j < n → v j ≡ u j) → joined n v ≡ joined n u
+pub joined-same : {A : Type 0} (n : ℕ) (u v : ℕ → List A) → ((j : ℕ) → j < n → v j ≡ u j) → joined n v ≡ joined n u
 joined-same zero u v same = refl
 joined-same (suc n) u v same =
     ap (λ y. y ++ v n) (joined-same n u v (λ j below. same j (omega arith))) ∙ ap (λ y. joined n u ++ y) (same n (omega arith))
 
 -- where those of one worker stand among them, and others in their place
-pub record Stand (n k : ℕ) (u v : ℕ → List Command) : Type 0 where
-  pub before : List Command
-  pub after : List Command
+pub record Stand {A : Type 0} (n k : ℕ) (u v : ℕ → List A) : Type 0 where
+  pub before : List A
+  pub after : List A
   pub was : joined n u ≡ before ++ (u k ++ after)
   pub is : joined n v ≡ before ++ (v k ++ after)
 
-pub joined-at : (n k : ℕ) (u v : ℕ → List Command) → k < n → ((j : ℕ) → (j ≡ k → ⊥) → v j ≡ u j) → Stand n k u v
+pub joined-at : {A : Type 0} (n k : ℕ) (u v : ℕ → List A) → k < n → ((j : ℕ) → (j ≡ k → ⊥) → v j ≡ u j) → Stand n k u v
 joined-at zero k u v below same = absurd (omega arith)
 joined-at (suc n) k u v below same = elim (cases_eq k n) [
   | inl e ↦ record {

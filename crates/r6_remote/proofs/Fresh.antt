@@ -7,7 +7,7 @@ use Rattle.r6_exchange.specs.declared.pass.ShardPass.{ShardPass}
 use Rattle.r6_remote.specs.Lines.{Lines, sent_to, received_from, limit_at, lines_of, joined, under, promise_of}
 use Rattle.r6_remote.specs.Remotes.{AreFresh, AreDistinct, IsKept, performer_in, fresh_performer}
 
-joined-none : (n : ℕ) → joined n (λ k. []) ≡ []
+pub joined-none : {A : Type 0} (n : ℕ) → joined {A = A} n (λ k. []) ≡ []
 joined-none zero = refl
 joined-none (suc n) = ap (λ y. y ++ []) (joined-none n)
 
@@ -60,7 +60,7 @@ module _ {D : Type 0} (told : D → Telling) (promised : D → Promise) (room : 
         distinct = subst AreDistinct (sym (joined-none (length passes))) tt;
         counted = λ low. ap length (sym (joined-none (length passes)));
         here = λ s g x. absurd (none-here (s, g) x);
-        few = λ k. omega arith;
+        labelled = λ k. refl;
         limits = limits room passes fresh;
         «open» = λ k. tt;
       })

@@ -1,5 +1,5 @@
 -- A command that was held back is handed over to its worker.
-use Rattle.std.proofs.Common.{◌≡◌, ◌≢◌, ℕ, suc, ◌≤◌, List, [], ◌∷◌, ◌++◌, length, length-append, append_assoc, refl, sym, ap, subst, ◌∙◌, arith, Some, None}
+use Rattle.std.proofs.Common.{◌≡◌, ◌≢◌, ℕ, suc, List, [], ◌∷◌, ◌++◌, length, length-append, append_assoc, refl, sym, ap, subst, ◌∙◌, arith, Some, None}
 use Rattle.std.specs.Prelude.{◌%◌}
 use Rattle.std.proofs.Math.Nat.{mod-lt}
 use Rattle.r6_dev.specs.History.{Telling}
@@ -9,12 +9,12 @@ use Rattle.r6_world.proofs.Tables.{at-entry}
 use Rattle.r6_world.specs.declared.values.Command.{Command}
 use Rattle.r6_exchange.specs.declared.task.Task.{Task}
 use Rattle.r6_exchange.specs.declared.task.Task.TheVariants.{Perform}
-use Rattle.r6_exchange.specs.Answering.{State, Answered, nothing, unanswered, parts_in}
+use Rattle.r6_exchange.specs.Answering.{State, Answered, nothing, unanswered, labels_in}
 use Rattle.r6_exchange.specs.Joins.{HasNoEnd}
 use Rattle.r6_exchange.specs.Next.{NoneRenewed}
-use Rattle.r6_exchange.proofs.Answering.{parts-more}
+use Rattle.r6_exchange.proofs.Labels.{labels-same}
 use Rattle.r6_exchange.proofs.Next.{renews_none}
-use Rattle.r6_remote.specs.Lines.{Lines, having_sent_to, waiting, joined, under, known_in, telling_in, promise_of}
+use Rattle.r6_remote.specs.Lines.{Lines, having_sent_to, waiting, joined, under, labels_at, known_in, telling_in, promise_of}
 use Rattle.r6_remote.specs.Remotes.{AreOf, AreDistinct, performer_in, IsKept}
 use Rattle.r6_remote.proofs.Commands.{under-front, under-among, distinct-with, are_of-append, Stand, joined-at}
 use Rattle.r6_remote.proofs.Lines.{state-sent, unanswered-sent, no_end-command}
@@ -89,8 +89,8 @@ module _ {D : Type 0} (told : D → Telling) (promised : D → Promise) where
               let l' = ap length is in
               omega (arith, many, l, l', length-append (stand.before ++ waiting lines k) stand.after, length-append (stand.before ++ waiting lines k) (c ∷ stand.after));
           here = λ slot generation x. subst (λ (y : State). telling_in (y slot generation) ≢ None) (sym known-sent) (old.here slot generation x);
-          few = at-entry (λ m y. parts_in y ≤ length labels) lines.sent k (lines.sent k ++ task ∷ []) old.few
-              (let f = old.few k in omega (arith, f, parts-more (lines.sent k) (task ∷ [])));
+          labelled = at-entry (λ m y. labels_in y ≡ labels_at lines.workers m labels) lines.sent k (lines.sent k ++ task ∷ []) old.labelled
+              (labels-same (lines.sent k) task refl ∙ old.labelled k);
           limits = old.limits;
           «open» = at-entry (λ m y. HasNoEnd y) lines.sent k (lines.sent k ++ task ∷ []) old.«open» (no_end-command (lines.sent k) c (old.«open» k));
         }

@@ -100,7 +100,7 @@ module _ {D : Type 0} (told : D → Telling) (promised : D → Promise) where
             let many : n ≡ length (joined lines.workers (waiting lines)) = old.counted (omega (arith, below, e)) in
             omega (arith, e, many);
         here = old.here;
-        few = old.few;
+        labelled = old.labelled;
         limits = old.limits;
         «open» = old.«open»;
       }

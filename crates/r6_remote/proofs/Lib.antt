@@ -1,6 +1,7 @@
 pub mod Commands
 pub mod Lines
 pub mod Known
+pub mod Labels
 pub mod Kept
 pub mod Handing
 pub mod Receiving

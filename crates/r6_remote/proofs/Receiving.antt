@@ -138,7 +138,7 @@ module _ {D : Type 0} (told : D → Telling) (promised : D → Promise) where
               omega (arith, e, many, l, l', length-append front (c ∷ back), length-append front back);
           here = λ s g x. subst (λ (y : Option Known). telling_in y ≢ None) (sym (now s g))
               (keeps-telling (known_in told promised lines) c.slot c.generation (entry_of c a) s g (old.here s g x));
-          few = old.few;
+          labelled = old.labelled;
           limits = old.limits;
           «open» = old.«open»;
         }

@@ -1,5 +1,5 @@
 -- A part is taken up by the worker of its slot.
-use Rattle.std.proofs.Common.{◌≡◌, ◌≢◌, ℕ, ◌<◌, ◌≤◌, ◌⊎◌, true, List, [], ◌∷◌, ◌++◌, length, length-append, inl, inr, refl, sym, ap, subst, ◌∙◌, arith, Option, Some, None}
+use Rattle.std.proofs.Common.{◌≡◌, ◌≢◌, ℕ, ◌<◌, ◌⊎◌, true, List, [], ◌∷◌, ◌++◌, length, inl, inr, refl, sym, ap, subst, ◌∙◌, Option, Some, None}
 use Rattle.std.specs.Prelude.{◌%◌}
 use Rattle.std.specs.List.{Contains}
 use Rattle.std.specs.Option.{option_to_list}
@@ -13,16 +13,17 @@ use Rattle.r6_exchange.specs.declared.task.Part.{Part}
 use Rattle.r6_exchange.specs.declared.task.Served.{Served}
 use Rattle.r6_exchange.specs.declared.task.Task.{Task}
 use Rattle.r6_exchange.specs.declared.task.Task.TheVariants.{TakeUp}
-use Rattle.r6_exchange.specs.Answering.{Known, nothing, put_at, parts_in}
+use Rattle.r6_exchange.specs.Answering.{Known, nothing, put_at}
 use Rattle.r6_exchange.specs.Joins.{HasNoEnd}
 use Rattle.r6_exchange.specs.Next.{NoneRenewed, AreApart}
-use Rattle.r6_exchange.proofs.Answering.{state-taken-up, unanswered-taken-up, parts-more}
+use Rattle.r6_exchange.proofs.Answering.{state-taken-up, unanswered-taken-up}
 use Rattle.r6_exchange.proofs.Next.{renews_none}
 use Rattle.r6_shard.specs.Parts.{TakesIn, label_of}
 use Rattle.r6_remote.specs.Lines.{Lines, having_sent_to, waiting, joined, all_out, under, known_in, telling_in, promise_of}
 use Rattle.r6_remote.specs.Remotes.{AreOf, AreDistinct, performer_in, IsKept}
 use Rattle.r6_remote.proofs.Commands.{not-both, AreBelow, all-below, below-back, below-front, Stand, joined-at}
 use Rattle.r6_remote.proofs.Lines.{no_end-part}
+use Rattle.r6_remote.proofs.Labels.{labelled-more}
 use Rattle.r6_remote.proofs.Known.{put-keeps, only, known-put, at-place, at-another, apart}
 use Rattle.r6_remote.proofs.Kept.{waiting-same, state-at, state-elsewhere, state-here}
 
@@ -85,7 +86,6 @@ module _ {D : Type 0} (told : D → Telling) (promised : D → Promise) (lines :
   taken-kept =
       let more = lines.sent k ++ task ∷ [] in
       let all-same : all_out longer held ≡ all_out lines held = ap (λ y. option_to_list held ++ joined lines.workers y) left in
-      let longer-labels = length-append labels (label_of part ∷ []) in
       record {
         some = old.some;
         renewed = at-entry (λ j y. NoneRenewed y (lines.received j)) lines.sent k more old.renewed
@@ -94,9 +94,7 @@ module _ {D : Type 0} (told : D → Telling) (promised : D → Promise) (lines :
         distinct = subst AreDistinct (sym all-same) old.distinct;
         counted = λ low. old.counted low ∙ ap length (sym all-same);
         here = λ s g x. there s g (Contains-append_cases labels (label_of part ∷ []) (s, g) x);
-        few = at-entry (λ j y. parts_in y ≤ length (labels ++ label_of part ∷ [])) lines.sent k more
-            (λ j. let f = old.few j in omega (arith, f, longer-labels))
-            (let f = old.few k in omega (arith, f, longer-labels, parts-more (lines.sent k) (task ∷ [])));
+        labelled = labelled-more lines labels (record { part = part; steady = true }) old.labelled;
         limits = old.limits;
         «open» = at-entry (λ j y. HasNoEnd y) lines.sent k more old.«open» (no_end-part (lines.sent k) served (old.«open» k));
       }

@@ -1,5 +1,6 @@
 -- What a shard has sent its workers and received of them (this project's own).
 use Rattle.std.specs.Prelude.{ℕ, zero, suc, ◌==◌, ◌%◌, List, [], ◌∷◌, ◌++◌, length, if◌then◌else◌, Option, Some, None, option_map, unwrap_or}
+use Rattle.std.specs.List.{filter}
 use Rattle.std.specs.Option.{option_to_list}
 use Rattle.r6_dev.specs.History.{Telling}
 use Rattle.r6_dev.specs.Promises.{Promise, no_promise}
@@ -57,9 +58,9 @@ abbrev pub waiting : {D : Type 0} → Lines D → (worker : ℕ) → List Comman
 waiting lines worker = unanswered (lines.sent worker) (lines.received worker)
 
 -- those of the first workers
-abbrev pub joined : (workers : ℕ) → (ℕ → List Command) → List Command
-joined zero commands = []
-joined (suc workers) commands = joined workers commands ++ commands workers
+abbrev pub joined : {A : Type 0} → (workers : ℕ) → (ℕ → List A) → List A
+joined zero each = []
+joined (suc workers) each = joined workers each ++ each workers
 
 -- all that are out: one that is held back, and those that the workers have
 abbrev pub all_out : {D : Type 0} → Lines D → (held : Option Command) → List Command
@@ -71,6 +72,10 @@ under token [] = None
 under token (c ∷ commands) = if token == c.token then Some c else under token commands
 
 -- ---- parts
+
+-- the labels of the slots that a worker serves, in their order
+abbrev pub labels_at : (workers worker : ℕ) → (labels : List (ℕ × ℕ)) → List (ℕ × ℕ)
+labels_at workers worker labels = filter (λ label. (label.0 % workers) == worker) labels
 
 -- slot d is served by worker d mod workers, which tells what is known of it
 abbrev pub known_in : {D : Type 0} → (D → Telling) → (D → Promise) → Lines D → State

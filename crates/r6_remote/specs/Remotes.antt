@@ -7,13 +7,13 @@ use Rattle.r6_world.specs.declared.values.Command.{Command}
 use Rattle.r6_exchange.specs.declared.task.Task.TheVariants.{End}
 use Rattle.r6_exchange.specs.declared.pass.ShardPass.{ShardPass}
 use Rattle.r6_exchange.specs.declared.exchange.Exchange.{Exchange}
-use Rattle.r6_exchange.specs.Answering.{parts_in}
+use Rattle.r6_exchange.specs.Answering.{labels_in}
 use Rattle.r6_exchange.specs.Exchanges.{IsShardPass, sent_by, received_by, limit_of}
 use Rattle.r6_exchange.specs.Joins.{HasNoEnd}
 use Rattle.r6_exchange.specs.Next.{NoneRenewed}
 use Rattle.r6_shard.specs.Performing.{Performer, HasPart}
 use Rattle.r6_remote.specs.declared.remote.Remote.{Remote}
-use Rattle.r6_remote.specs.Lines.{Lines, lines_of, waiting, all_out, under, known_in, telling_in, promise_of}
+use Rattle.r6_remote.specs.Lines.{Lines, lines_of, waiting, all_out, under, labels_at, known_in, telling_in, promise_of}
 
 -- each is the shard's end of its exchange
 abbrev pub AreShardPasses : {D : Type 0} → (D → Telling) → (D → Promise) → List (Exchange D) → List (ShardPass D) → Type 0
@@ -53,7 +53,8 @@ performer_in told promised lines labels part_room held =
 
 -- What a shard has sent and received is in order: no part was sent while a command to its device was unanswered; each
 -- worker has commands of its own slots, and no token is out twice; they are counted, as far as the count goes; there is a
--- part of each label, and room for as many as there may be labels; and no worker was told that nothing more comes
+-- part of each label, and each worker was sent just the parts of the labels of its slots, in their order; it has room for
+-- as many as there may be labels; and no worker was told that nothing more comes
 pub record IsKept {D : Type 0} (told : D → Telling) (promised : D → Promise) (lines : Lines D) (labels : List (ℕ × ℕ))
     (part_room : ℕ) (held : Option Command) (under_way bound : ℕ) : Type 0 where
   pub some : 1 ≤ lines.workers
@@ -63,7 +64,7 @@ pub record IsKept {D : Type 0} (told : D → Telling) (promised : D → Promise)
   pub counted : under_way < bound → under_way ≡ length (all_out lines held)
   pub here : (slot generation : ℕ) → Contains labels (slot, generation)
       → HasPart (performer_in told promised lines labels part_room held).tells slot generation
-  pub few : (worker : ℕ) → parts_in (lines.sent worker) ≤ length labels
+  pub labelled : (worker : ℕ) → labels_in (lines.sent worker) ≡ labels_at lines.workers worker labels
   pub limits : (worker : ℕ) → worker < lines.workers → part_room ≤ lines.limit worker
   pub «open» : (worker : ℕ) → HasNoEnd (lines.sent worker)
 

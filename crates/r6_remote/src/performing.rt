@@ -58,6 +58,32 @@ impl<'a, D: BlockDevice + Drop> Performs for Remote<'a, D> {
     }
 }
 
+impl<'a, D: BlockDevice + Drop> Remote<'a, D> {
+    ghost use Rattle.std.specs.Prelude.{◌≡◌, ◌<◌, ℕ, None, Some, length};
+    ghost use Rattle.r6_shard.specs.Parts.{TakesIn};
+    ghost use Rattle.r6_remote.specs.Remotes.{IsRemote, performer_of};
+
+    /// The worker of its slot takes a part up, for which there is room.
+    pub fn take_up<R: Wait>(&mut self, rt: &R, part: Part<D>)
+        requires holds { IsRemote D.told D.promised self.old }
+        requires room { length (performer_of D.told D.promised self.old).labels
+            < (performer_of D.told D.promised self.old).part_room }
+        requires apart { (token : ℕ) (c : _) → (performer_of D.told D.promised self.old).out token ≡ Some c
+            → c.generation < part.generation }
+        ensures holds { IsRemote D.told D.promised self.new }
+        ensures taken { TakesIn D.told D.promised part None (performer_of D.told D.promised self.old)
+            (performer_of D.told D.promised self.new) }
+        ensures site { self.new.exchanges.now ≡ self.old.exchanges.now }
+        ensures workers { length self.new.passes.items ≡ length self.old.passes.items }
+    {
+        let worker = part.slot % self.passes.len();
+        let label = (part.slot, part.generation);
+        let task = Task::TakeUp(Served { part, steady: true });
+        ends::send_surely(rt, self.exchanges, &mut self.passes, worker, task);
+        self.labels.push_reserved(label);
+    }
+}
+
 impl<'a, D: BlockDevice + Drop> TakesParts<D> for Remote<'a, D> {
     ghost use Rattle.std.specs.Prelude.{◌≡◌, ◌≤◌, ◌<◌, ℕ, Some, MatchResult, length};
     ghost use Rattle.r6_shard.specs.Parts.{TakesIn};
@@ -82,11 +108,7 @@ impl<'a, D: BlockDevice + Drop> TakesParts<D> for Remote<'a, D> {
         if self.labels.len() >= self.labels.capacity() {
             return Err(part);
         }
-        let worker = part.slot % self.passes.len();
-        let label = (part.slot, part.generation);
-        let task = Task::TakeUp(Served { part, steady: true });
-        ends::send_surely(rt, self.exchanges, &mut self.passes, worker, task);
-        self.labels.push_reserved(label);
+        self.take_up(rt, part);
         Ok(None)
     }
 }
