@@ -3,3 +3,4 @@ pub mod Meeting
 pub mod Backs
 pub mod Collected
 pub mod Whole
+pub mod Labels

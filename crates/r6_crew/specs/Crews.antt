@@ -1,5 +1,5 @@
 -- A shard and its workers, once their threads have ended (this project's own).
-use Rattle.std.specs.Prelude.{◌≡◌, ℕ, zero, suc, ◌≤◌, ◌<◌, ◌%◌, ◌==◌, Bool, not, List, [], ◌∷◌, ◌++◌, length, map, if◌then◌else◌, vec_capacity, Some, None}
+use Rattle.std.specs.Prelude.{◌≡◌, ℕ, zero, suc, ◌≤◌, ◌<◌, ◌%◌, ◌==◌, Bool, not, List, [], ◌∷◌, ◌++◌, length, map, if◌then◌else◌, Some, None}
 use Rattle.r6_dev.specs.History.{Block, Telling}
 use Rattle.r6_dev.specs.Promises.{Promise}
 use Rattle.r6_exchange.specs.declared.task.Part.{Part}
@@ -8,14 +8,14 @@ use Rattle.r6_exchange.specs.declared.task.Task.{Task}
 use Rattle.r6_exchange.specs.declared.task.Task.TheVariants.{End}
 use Rattle.r6_exchange.specs.declared.exchange.Exchange.{Exchange}
 use Rattle.r6_exchange.specs.declared.worker.Worker.{Worker}
-use Rattle.r6_exchange.specs.Answering.{parts_in, unanswered}
+use Rattle.r6_exchange.specs.Answering.{labels_in, unanswered}
 use Rattle.r6_exchange.specs.Exchanges.{taken_by}
 use Rattle.r6_exchange.specs.Joins.{HasNoEnd}
 use Rattle.r6_exchange.specs.Workers.{IsWorker}
 use Rattle.r6_shard.specs.Parts.{part_in}
 use Rattle.r6_shard.specs.Performing.{Performer, HasPart, IsHere}
 use Rattle.r6_remote.specs.declared.remote.Remote.{Remote}
-use Rattle.r6_remote.specs.Lines.{sent_to, received_from}
+use Rattle.r6_remote.specs.Lines.{sent_to, received_from, labels_at}
 use Rattle.r6_remote.specs.Remotes.{AreShardPasses, performer_of}
 
 -- ---- the shard's side
@@ -25,15 +25,15 @@ abbrev pub AreEnded : {D : Type 0} → List (Task D) → Type 0
 AreEnded {D = D} sent = (tasks : List (Task D)) × HasNoEnd tasks × (sent ≡ tasks ++ End ∷ [])
 
 -- Each worker was told that nothing more comes, after all else, and each command that it was sent is answered; it was
--- sent no more parts than there is room for; and of each slot and generation of which a part was sent there is one
+-- sent just the parts of the labels of its slots; and of each label there is a part
 pub record IsEnded {D : Type 0} (told : D → Telling) (promised : D → Promise) (r : Remote D) : Type 0 where
   pub some : 1 ≤ length r.passes.items
   pub ends : AreShardPasses told promised r.exchanges.now r.passes.items
   pub ended : (worker : ℕ) → worker < length r.passes.items → AreEnded (sent_to r.passes.items worker)
   pub answered : (worker : ℕ) → worker < length r.passes.items
       → unanswered (sent_to r.passes.items worker) (received_from r.passes.items worker) ≡ []
-  pub few : (worker : ℕ) → worker < length r.passes.items
-      → parts_in (sent_to r.passes.items worker) ≤ vec_capacity r.labels
+  pub labels : (worker : ℕ) → worker < length r.passes.items
+      → labels_in (sent_to r.passes.items worker) ≡ labels_at (length r.passes.items) worker r.labels.items
   pub here : (slot generation : ℕ) → IsHere (performer_of told promised r).labels slot generation
       → HasPart (performer_of told promised r).tells slot generation
 

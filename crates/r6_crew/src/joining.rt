@@ -1,8 +1,9 @@
 //! The threads of a shard's workers have ended: the shard takes their parts back.
 
-ghost use Rattle.std.specs.Prelude.{◌≡◌, ◌≤◌, ◌<◌, ◌+◌, ◌*◌, ◌++◌, ℕ, [], length, vec_capacity, None, IsPermutation};
-ghost use Rattle.r6_exchange.specs.Answering.{nothing, parts_in, state_after, unanswered};
+ghost use Rattle.std.specs.Prelude.{◌≡◌, ◌≤◌, ◌<◌, ◌*◌, ◌++◌, ℕ, [], length, vec_capacity, None, IsPermutation};
+ghost use Rattle.r6_exchange.specs.Answering.{nothing, labels_in, labels_of as served_labels, state_after, unanswered};
 ghost use Rattle.r6_exchange.specs.Parts.{Holds, part_in};
+ghost use Rattle.r6_shard.specs.Parts.{labels_of};
 ghost use Rattle.r6_remote.specs.Lines.{sent_to, received_from};
 ghost use Rattle.r6_remote.specs.Remotes.{AreShardPasses, IsRemote, performer_of};
 ghost use Rattle.r6_crew.specs.Crews.{AreEnded, AreTakenBack, AreWorkers, IsEnded, IsWorkerAt, parts_with_all};
@@ -42,7 +43,8 @@ fn join<D: BlockDevice + Drop>(
     ensures parts { (result.parts ≡ worker.parts) × (result.replaced ≡ worker.replaced) }
     ensures holds { Holds (state_after D.told D.promised nothing (sent_to passes.old.items at)
         (received_from passes.old.items at)) (part_in D.told D.promised worker.parts.items) }
-    ensures few { length worker.parts.items + length worker.replaced.items ≤ parts_in (sent_to passes.old.items at) }
+    ensures labels { IsPermutation (labels_in (sent_to passes.old.items at))
+        (served_labels worker.parts.items ++ served_labels worker.replaced.items) }
 {
     exchanges[at].settle(&mut passes[at], &mut worker.pass);
     worker
@@ -63,7 +65,9 @@ pub fn take_back<D: BlockDevice + Drop>(
     requires room { (length workers.items * (performer_of D.told D.promised remote).part_room ≤ vec_capacity back.parts)
         × (length workers.items * (performer_of D.told D.promised remote).part_room ≤ vec_capacity back.others) }
     ensures known { AreTakenBack D.told (performer_of D.told D.promised remote.entry) result.parts.items }
-    // none is lost
+    // none is lost: there is a part of each label, as often as one was sent
+    ensures labels { IsPermutation (performer_of D.told D.promised remote.entry).labels
+        (labels_of result.parts.items ++ labels_of result.others.items) }
     ensures all { IsPermutation (parts_with_all workers.items) (result.parts.items ++ result.others.items) }
 {
     let count = workers.len();

@@ -1,5 +1,5 @@
-use Rattle.std.proofs.Common.{◌<◌, ◌≤◌, ◌+◌, [], length, sym, subst, arith}
-use Rattle.r6_exchange.specs.Answering.{parts_in}
+use Rattle.std.proofs.Common.{◌<◌, ◌++◌, [], length, sym, subst, arith, IsPermutation}
+use Rattle.r6_exchange.specs.Answering.{labels_in, labels_of}
 use Rattle.r6_exchange.specs.Exchanges.{sent_by, received_by}
 use Rattle.r6_remote.specs.Lines.{sent_to, received_from}
 use Rattle.r6_remote.proofs.Lines.{same-length, pass-at, end-at, ends-set}
@@ -55,8 +55,8 @@ returns-clause-holds g c =
     (sym c.index-exchanges-at.is))
     c.requires.ended c.requires.answered c.settle.ensures.taken c.settle.ensures.received).holds
 
-pub returns-clause-few : goal.returns-clause-few
-returns-clause-few g c =
+pub returns-clause-labels : goal.returns-clause-labels
+returns-clause-labels g c =
     let told = g.D.BlockDevice.told in
     let promised = g.D.BlockDevice.promised in
     let passes = c.args.passes.now.items in
@@ -65,9 +65,9 @@ returns-clause-few g c =
     let below : at < length passes = omega (arith, same) in
     let worker = worker-at told promised c.args.exchanges.now at c.index-exchanges-at.result c.args.worker c.requires.worker c.requires.within
     (sym c.index-exchanges-at.is) in
-    subst (λ tasks. length c.args.worker.parts.items + length c.args.worker.replaced.items ≤ parts_in tasks)
+    subst (λ tasks. IsPermutation (labels_in tasks) (labels_of c.args.worker.parts.items ++ labels_of c.args.worker.replaced.items))
     (met told promised c.index-exchanges-at.result c.index_mut.result.now c.args.worker (sent_to passes at) (received_from passes at)
     (sym (pass-at sent_by [] passes at c.index_mut.result.now below (sym c.index_mut.ensures.value)))
     (sym (pass-at received_by [] passes at c.index_mut.result.now below (sym c.index_mut.ensures.value)))
     worker c.requires.ended c.requires.answered c.settle.ensures.taken c.settle.ensures.received).took_all
-    worker.0.few
+    worker.0.labels

@@ -1,16 +1,20 @@
-use Rattle.std.proofs.Common.{◌≡◌, ℕ, ◌+◌, ◌*◌, ◌≤◌, ◌++◌, ◌∷◌, [], List, length, vec_capacity, sym, ap, subst, ◌∙◌, arith, refl, IsPermutation}
+use Rattle.std.proofs.Common.{◌≡◌, ℕ, suc, ◌+◌, ◌*◌, ◌≤◌, ◌++◌, ◌∷◌, [], List, length, vec_capacity, sym, ap, subst, ◌∙◌, arith, refl, IsPermutation}
 use Rattle.std.specs.Prelude.{not}
 use Rattle.std.proofs.lemmas.List.{length-append, length-map}
 use Rattle.r6_exchange.specs.declared.task.Task.{Task}
 use Rattle.r6_exchange.specs.declared.task.Served.{Served}
 use Rattle.r6_exchange.specs.declared.completion.Completion.{Completion}
-use Rattle.r6_exchange.specs.Answering.{nothing, parts_in, state_after, unanswered}
-use Rattle.r6_remote.specs.Lines.{sent_to, received_from}
+use Rattle.r6_exchange.specs.Answering.{nothing, parts_in, labels_in, labels_of as served_labels, state_after, unanswered}
+use Rattle.r6_exchange.proofs.Labels.{permuted-same, as-many}
+use Rattle.r6_shard.specs.Parts.{labels_of}
+use Rattle.r6_remote.specs.Lines.{sent_to, received_from, joined, labels_at}
 use Rattle.r6_remote.specs.Remotes.{AreShardPasses, performer_of}
 use Rattle.r6_remote.proofs.Lines.{same-length}
 use Rattle.r6_crew.specs.Crews.{AreEnded, AreWorkers, IsWorkerAt, is_own, own_parts, stray_parts, all_parts, parts_with_all}
 use Rattle.r6_crew.proofs.Backs.{where-few}
 use Rattle.r6_crew.proofs.Collected.{AreCollected, none-collected, one-more, all-collected, known-there, no-more, one-less, room-for, room-left}
+use Rattle.r6_crew.proofs.Ends.{few-sent}
+use Rattle.r6_crew.proofs.Labels.{all-sent, labels-back, all-labels}
 use Rattle.r6_crew.proofs.Meeting.{last-worker}
 use Rattle.r6_crew.proofs.Whole.{all-sorted, parts-of-last, put-back, none-back, all-back}
 use Rattle.r6_crew.proofs.joining.take_back.Goals as goal
@@ -73,8 +77,9 @@ sort_in-requires-clause-room g c =
     let fewer = kept.fewer in
     let many = c.requires.as_many in
     let sent = ap (λ (f : ℕ → List (Task g.row.D.Denot)). parts_in (f c.len-at.result)) kept.sent in
-    let few = c.requires.ended.few c.len-at.result (omega (arith, at, shorter, fewer, many)) in
-    let had = c.join-parts.ensures.few in
+    let few = few-sent g.D.BlockDevice.told g.D.BlockDevice.promised c.args.remote c.requires.ended c.len-at.result (omega (arith, at, shorter, fewer, many)) in
+    let had = as-many (sent_to c.loop-worker.remote.passes.items c.len-at.result) c.in-Some.worker.parts.items c.in-Some.worker.replaced.items
+    c.join-parts.ensures.labels in
     let parts = ap (λ v. length v.items) c.join-parts.ensures.parts.0 in
     let most : length c.join-parts.result.parts.items ≤ room = omega (arith, sent, few, had, parts) in
     let times = one-less (length rest) (length c.loop-worker.workers.items) room shorter in (
@@ -94,8 +99,9 @@ set_aside-requires g c =
     let fewer = kept.fewer in
     let many = c.requires.as_many in
     let sent = ap (λ (f : ℕ → List (Task g.row.D.Denot)). parts_in (f c.len-at.result)) kept.sent in
-    let few = c.requires.ended.few c.len-at.result (omega (arith, at, shorter, fewer, many)) in
-    let had = c.join-parts.ensures.few in
+    let few = few-sent g.D.BlockDevice.told g.D.BlockDevice.promised c.args.remote c.requires.ended c.len-at.result (omega (arith, at, shorter, fewer, many)) in
+    let had = as-many (sent_to c.loop-worker.remote.passes.items c.len-at.result) c.in-Some.worker.parts.items c.in-Some.worker.replaced.items
+    c.join-parts.ensures.labels in
     let parts = ap (λ v. length v.items) c.join-parts.ensures.parts.0 in
     let replaced = ap (λ v. length v.items) c.join-parts.ensures.parts.1 in
     let all = length c.join-parts.result.parts.items + length c.join-parts.result.replaced.items in
@@ -129,6 +135,10 @@ loop-worker-init g c =
       collected = none-collected told (length workers) (performer_of told promised c.args.remote).tells c.args.back.parts.items
           (omega (arith, some, many)) c.requires.empty.0;
       whole = none-back workers c.args.back.parts.items c.args.back.others.items c.requires.empty.0 c.requires.empty.1;
+      labels = all-sent (length workers) c.args.remote.labels.items (λ j. labels_in (sent_to c.args.remote.passes.items j))
+          c.args.back.parts.items c.args.back.others.items (omega (arith, some, many))
+          (λ j below. c.requires.ended.labels j (omega (arith, below, many)) ∙ ap (λ n. labels_at n j c.args.remote.labels.items) (sym many))
+          c.requires.empty.0 c.requires.empty.1;
       parts_room = omega (arith, no-part, room.0);
       others_room = omega (arith, no-other, room.1);
     }
@@ -150,8 +160,9 @@ loop-worker-preserved g c =
     let fewer = kept.fewer in
     let many = c.requires.as_many in
     let sent = ap (λ (f : ℕ → List (Task g.row.D.Denot)). parts_in (f c.len-at.result)) kept.sent in
-    let few = c.requires.ended.few c.len-at.result (omega (arith, at, shorter, fewer, many)) in
-    let had = c.join-parts.ensures.few in
+    let few = few-sent g.D.BlockDevice.told g.D.BlockDevice.promised c.args.remote c.requires.ended c.len-at.result (omega (arith, at, shorter, fewer, many)) in
+    let had = as-many (sent_to c.loop-worker.remote.passes.items c.len-at.result) c.in-Some.worker.parts.items c.in-Some.worker.replaced.items
+    c.join-parts.ensures.labels in
     let parts = ap (λ v. length v.items) c.join-parts.ensures.parts.0 in
     let replaced = ap (λ v. length v.items) c.join-parts.ensures.parts.1 in
     let came = c.join-parts.result.parts.items in
@@ -189,6 +200,14 @@ loop-worker-preserved g c =
     ap parts_with_all c.in-Some.ensures.items ∙ parts-of-last rest worker
     ∙ sym (λ i. parts_with_all rest ++ (all_parts (c.join-parts.ensures.parts.0 i).items ++ all_parts (c.join-parts.ensures.parts.1 i).items)) in
     let tells = (performer_of told promised c.args.remote).tells in
+    let one-more' : length c.loop-worker.workers.items ≡ suc (length rest) = omega (arith, shorter) in
+    let sent-labels : ℕ → List (ℕ × ℕ) = λ j. labels_in (sent_to first j) in
+    let has : IsPermutation (sent-labels (length rest)) (served_labels came ++ served_labels set-by) =
+    permuted-same (labels_in (sent_to c.loop-worker.remote.passes.items c.len-at.result)) (sent-labels (length rest))
+    (served_labels worker.parts.items ++ served_labels worker.replaced.items) (served_labels came ++ served_labels set-by)
+    (ap (λ j. labels_in (sent_to first j)) at ∙ sym (ap (λ (f : ℕ → List (Task g.row.D.Denot)). labels_in (f c.len-at.result)) kept.sent))
+    (λ i. served_labels (c.join-parts.ensures.parts.0 i).items ++ served_labels (c.join-parts.ensures.parts.1 i).items)
+    c.join-parts.ensures.labels in
     record {
       ends = subst (λ y. AreShardPasses told promised y c.join-parts.new.passes.items) kept.site c.join-parts.ensures.ends;
       site = kept.site;
@@ -210,6 +229,12 @@ loop-worker-preserved g c =
           (put-back (parts_with_all rest) (all_parts came) (all_parts set-by) back.parts.items back.others.items own strays
           (all-sorted (is_own c.len-count.result c.len-at.result) came) (parts_with_all c.args.workers.items)
           (subst (λ y. IsPermutation (parts_with_all c.args.workers.items) (y ++ (back.parts.items ++ back.others.items))) had-all kept.whole));
+      labels = subst (IsPermutation c.args.remote.labels.items)
+          (sym (λ i. joined (length rest) sent-labels ++ (labels_of (whole-parts i) ++ labels_of (whole-others i))))
+          (labels-back c.len-count.result c.len-at.result (length rest) sent-labels came set-by back.parts.items back.others.items
+          c.args.remote.labels.items has
+          (subst (λ n. IsPermutation c.args.remote.labels.items (joined n sent-labels ++ (labels_of back.parts.items ++ labels_of back.others.items)))
+          one-more' kept.labels));
       parts_room = subst (λ y. length c.set_aside.new.self.parts.items + length rest * room ≤ y) (sym parts-room) fits-parts;
       others_room = subst (λ y. length c.set_aside.new.self.others.items + length rest * room ≤ y) (sym others-room) fits-others;
     }
@@ -235,3 +260,13 @@ returns-clause-all g c =
     let empty : length workers.items ≡ 0 = omega (arith, none, len) in
     all-back (parts_with_all c.args.workers.items) workers.items (c.loop-worker.back.parts.items ++ c.loop-worker.back.others.items) empty
     c.loop-worker.invariant.whole
+
+pub returns-clause-labels : goal.returns-clause-labels
+returns-clause-labels g c =
+    let workers = c.loop-worker.workers in
+    let back = c.loop-worker.back in
+    let none = no-more c.pop.result workers.len c.pop.ensures.variant c.in_default.not-Some in
+    let len = workers.ok.0 in
+    let empty : length workers.items ≡ 0 = omega (arith, none, len) in
+    all-labels (length workers.items) c.args.remote.labels.items (λ j. labels_in (sent_to c.args.remote.passes.items j)) back.parts.items back.others.items
+    empty c.loop-worker.invariant.labels

@@ -1,5 +1,7 @@
 use Rattle.std.proofs.Common.{◌≡◌, ◌+◌, ◌*◌, ◌++◌, ◌≤◌, length, vec_capacity, IsPermutation}
-use Rattle.r6_remote.specs.Lines.{sent_to, received_from}
+use Rattle.r6_exchange.specs.Answering.{labels_in}
+use Rattle.r6_shard.specs.Parts.{labels_of}
+use Rattle.r6_remote.specs.Lines.{sent_to, received_from, joined}
 use Rattle.r6_remote.specs.Remotes.{AreShardPasses, performer_of}
 use Rattle.r6_crew.specs.Crews.{AreWorkers, parts_with_all}
 use Rattle.r6_crew.proofs.Collected.{AreCollected}
@@ -17,6 +19,9 @@ invariant-loop-worker g l = record {
       (performer_of g.D.BlockDevice.told g.D.BlockDevice.promised l.fn.remote).tells l.back.parts.items;
   whole : IsPermutation (parts_with_all l.fn.workers.items)
       (parts_with_all l.workers.items ++ (l.back.parts.items ++ l.back.others.items));
+  labels : IsPermutation l.fn.remote.labels.items
+      (joined (length l.workers.items) (λ worker. labels_in (sent_to l.fn.remote.passes.items worker))
+      ++ (labels_of l.back.parts.items ++ labels_of l.back.others.items));
   parts_room : length l.back.parts.items + length l.workers.items * vec_capacity l.fn.remote.labels ≤ vec_capacity l.back.parts;
   others_room : length l.back.others.items + length l.workers.items * vec_capacity l.fn.remote.labels ≤ vec_capacity l.back.others;
 }
