@@ -15,8 +15,6 @@ use Rattle.r6_world.specs.Registers.{Snapshot, ShardSet, Rebuilding}
 use Rattle.r6_world.proofs.Tables.{None-not_Some}
 use Rattle.r6_core.specs.Shards.{CoreView}
 use Rattle.r6_exchange.specs.declared.task.Part.{Part}
-use Rattle.r6_shard.specs.declared.in_place.InPlace.{InPlace}
-use Rattle.r6_shard.specs.Waiting.{performer_of}
 use Rattle.r6_shard.specs.Parts.{is_of, part_in, part_of, promise_in, TakesIn}
 use Rattle.r6_shard.specs.Performing.{Performer, HasPart}
 use Rattle.r6_shard.specs.Sound.{DeviceFailsNone, IsSound, BeginsSound, StartsSound, MemoryLaw}
@@ -125,17 +123,17 @@ untold told (part ∷ parts) slot generation e = elim (cases_Bool (is_of slot ge
   | inr no' ↦ of-behind part parts slot generation no' ∙ untold told parts slot generation (sym (behind told part parts slot generation no') ∙ e)
 ]
 
-pub begins-sound : {D : Type 0} (told : D → Telling) (promised : D → Promise) (shape : Shape) (number slot : ℕ) (snapshot : Snapshot) (here : InPlace D)
-    → StartsSound promised shape number snapshot slot here.parts.items
-    → BeginsSound (performer_of told promised here) shape number snapshot slot
-begins-sound told promised shape number slot snapshot here x =
-    let parts = here.parts.items in
+pub begins-sound : {D : Type 0} (told : D → Telling) (promised : D → Promise) (shape : Shape) (number slot : ℕ) (snapshot : Snapshot)
+    (parts : List (Part D)) (performer : Performer) → performer.tells ≡ part_in told parts → performer.promised ≡ promise_in promised parts
+    → StartsSound promised shape number snapshot slot parts → BeginsSound performer shape number snapshot slot
+begins-sound told promised shape number slot snapshot parts performer tells promises x =
     record {
       parts = λ g has.
-          let one = one-of told (λ part. DeviceFailsNone promised shape number part.device) parts slot g x.each has in
+          let one = one-of told (λ part. DeviceFailsNone promised shape number part.device) parts slot g x.each
+          (λ none. has ((λ i. tells i slot g) ∙ none)) in
           subst (λ (y : Promise). FailsNone y (IsRowOf (layout_of shape) number) shape.block)
-          (sym (promise-of promised parts slot g one.0 one.1)) one.2;
-      here = λ below sync e. x.first below sync (untold told parts slot 0 e);
+          (sym ((λ i. promises i slot g) ∙ promise-of promised parts slot g one.0 one.1)) one.2;
+      here = λ below sync e. x.first below sync (untold told parts slot 0 ((λ i. sym tells i slot 0) ∙ e));
     }
 
 -- ---- devices in memory
