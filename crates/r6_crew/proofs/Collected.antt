@@ -106,17 +106,6 @@ known-there {D = D} told promised passes now workers n at slot generation count 
     ∙ sym (ap (λ (f : ℕ → List (Task D)). telling_in (state_after told promised nothing (f at) (received_from now at) slot generation)) sent
     ∙ ap (λ (f : ℕ → List Completion). telling_in (state_after told promised nothing (sent_to passes at) (f at) slot generation)) received)
 
-pub one-less : (n all room : ℕ) → all ≡ n + 1 → all * room ≡ n * room + room
-one-less n all room e = let e' : all ≡ suc n = omega (arith, e) in ap (λ y. y * room) e' ∙ suc-mul n room
-
--- there is room for what one worker has, and then for what the others have
-pub room-for : (held all rest room most many : ℕ) → held + all ≤ most → all ≡ rest + room → many ≤ room → held + many ≤ most
-room-for held all rest room most many fits is few = omega (arith, fits, is, few)
-
-pub room-left : (held now all rest room most many : ℕ) → held + all ≤ most → all ≡ rest + room → many ≤ room → now ≤ held + many
-    → now + rest ≤ most
-room-left held now all rest room most many fits is few more = omega (arith, fits, is, few, more)
-
 -- nothing was popped, so nothing is left
 pub no-more : {A : Type 0} (last : Option A) (len : ℕ) → (IsSome last ↔ (0 < len)) → ((x : A) → last ≡ Some x → ⊥) → len ≡ 0
 no-more None zero is none = refl

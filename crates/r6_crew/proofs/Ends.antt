@@ -10,7 +10,6 @@ use Rattle.r6_shard.specs.Performing.{Performer, HasPart, IsHere}
 use Rattle.r6_remote.specs.declared.remote.Remote.{Remote}
 use Rattle.r6_remote.specs.Lines.{lines_of, sent_to, received_from, labels_at}
 use Rattle.r6_remote.specs.Remotes.{AreShardPasses, HasEnded, IsRemote, performer_of}
-use Rattle.r6_remote.proofs.Labels.{few-parts}
 use Rattle.r6_crew.specs.Crews.{IsEnded}
 
 module _ {D : Type 0} (told : D → Telling) (promised : D → Promise) where
@@ -37,12 +36,3 @@ module _ {D : Type 0} (told : D → Telling) (promised : D → Promise) where
         here = subst (λ (p : Performer). (slot generation : ℕ) → IsHere p.labels slot generation → HasPart p.tells slot generation)
             (sym performer) x.kept.here;
       }
-
-  -- no worker was sent more parts than there is room for
-  pub few-sent : (r : Remote D) → IsEnded told promised r → (worker : ℕ) → worker < length r.passes.items
-      → parts_in (sent_to r.passes.items worker) ≤ vec_capacity r.labels
-  few-sent r x worker below =
-      let few = few-parts (sent_to r.passes.items worker) (length r.passes.items) worker r.labels.items (x.labels worker below) in
-      let len = r.labels.ok.0 in
-      let fits = r.labels.ok.1 in
-      omega (arith, few, len, fits)

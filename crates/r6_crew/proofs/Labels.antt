@@ -1,10 +1,10 @@
 -- No label of a part is lost.
-use Rattle.std.proofs.Common.{◌≡◌, ℕ, suc, ◌<◌, ◌≤◌, List, [], ◌∷◌, ◌++◌, append-nil, refl, sym, ap, subst, ◌∙◌, IsPermutation}
+use Rattle.std.proofs.Common.{◌≡◌, ℕ, suc, ◌+◌, ◌<◌, ◌≤◌, List, [], ◌∷◌, ◌++◌, length, arith, append-nil, refl, sym, ap, subst, ◌∙◌, IsPermutation}
 use Rattle.std.specs.Prelude.{◌%◌, cond}
 use Rattle.std.proofs.Math.Nat.{mod-lt}
 use Rattle.std.proofs.lemmas.Bool.{eq-eqb, ne_eqb}
-use Rattle.std.proofs.lemmas.List.{map-append}
-use Rattle.std.proofs.lemmas.List.Sorted.{IsPermutation-refl, IsPermutation-sym, IsPermutation-trans, IsPermutation-cons, IsPermutation-middle, IsPermutation-append_left, IsPermutation-append_right, IsPermutation-map}
+use Rattle.std.proofs.lemmas.List.{length-append, length-map, map-append}
+use Rattle.std.proofs.lemmas.List.Sorted.{IsPermutation-refl, IsPermutation-sym, IsPermutation-trans, IsPermutation-cons, IsPermutation-middle, IsPermutation-append_left, IsPermutation-append_right, IsPermutation-map, length_permutation}
 use Rattle.r6_exchange.specs.declared.task.Part.{Part}
 use Rattle.r6_exchange.specs.declared.task.Served.{Served}
 use Rattle.r6_exchange.specs.Answering.{labels_of as served_labels, label_of as served_label}
@@ -97,3 +97,19 @@ module _ {D : Type 0} (workers worker n : ℕ) (sent : ℕ → List (ℕ × ℕ)
 pub all-labels : {D : Type 0} (n : ℕ) (labels : List (ℕ × ℕ)) (sent : ℕ → List (ℕ × ℕ)) (parts others : List (Part D)) → n ≡ 0
     → IsPermutation labels (joined n sent ++ (labels_of parts ++ labels_of others)) → IsPermutation labels (labels_of parts ++ labels_of others)
 all-labels n labels sent parts others none x = subst (λ k. IsPermutation labels (joined k sent ++ (labels_of parts ++ labels_of others))) none x
+
+-- the parts of one worker, and those that have come back, are no more than the labels
+pub all-fit : {D : Type 0} (labels : List (ℕ × ℕ)) (sent : ℕ → List (ℕ × ℕ)) (workers n : ℕ) (parts others : List (Part D))
+    (came set-by : List (Served D)) → workers ≡ suc n → IsPermutation labels (joined workers sent ++ (labels_of parts ++ labels_of others))
+    → IsPermutation (sent n) (served_labels came ++ served_labels set-by)
+    → length parts + length others + (length came + length set-by) ≤ length labels
+all-fit labels sent workers n parts others came set-by is x y =
+    let all = length_permutation labels (joined (suc n) sent ++ (labels_of parts ++ labels_of others))
+    (subst (λ m. IsPermutation labels (joined m sent ++ (labels_of parts ++ labels_of others))) is x) in
+    let one = length_permutation (sent n) (served_labels came ++ served_labels set-by) y in
+    let back = length-append (labels_of parts) (labels_of others) in
+    let both = length-append (served_labels came) (served_labels set-by) in
+    let first = length-append (joined n sent ++ sent n) (labels_of parts ++ labels_of others) in
+    let before = length-append (joined n sent) (sent n) in
+    omega (arith, all, one, back, both, first, before, length-map parts label_of, length-map others label_of, length-map came served_label,
+    length-map set-by served_label)

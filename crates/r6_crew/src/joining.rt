@@ -61,14 +61,15 @@ pub fn take_back<D: BlockDevice + Drop>(
     requires workers { AreWorkers D.told D.promised remote.exchanges.now workers.items }
     requires as_many { length workers.items ≡ length remote.passes.items }
     requires empty { (back.parts.items ≡ []) × (back.others.items ≡ []) }
-    // as many from each worker as there is room for
-    requires room { (length workers.items * (performer_of D.told D.promised remote).part_room ≤ vec_capacity back.parts)
-        × (length workers.items * (performer_of D.told D.promised remote).part_room ≤ vec_capacity back.others) }
+    // for as many of either kind as the shard has room for
+    requires room { ((performer_of D.told D.promised remote).part_room ≤ vec_capacity back.parts)
+        × ((performer_of D.told D.promised remote).part_room ≤ vec_capacity back.others) }
     ensures known { AreTakenBack D.told (performer_of D.told D.promised remote.entry) result.parts.items }
     // none is lost: there is a part of each label, as often as one was sent
     ensures labels { IsPermutation (performer_of D.told D.promised remote.entry).labels
         (labels_of result.parts.items ++ labels_of result.others.items) }
     ensures all { IsPermutation (parts_with_all workers.items) (result.parts.items ++ result.others.items) }
+    ensures capacity { vec_capacity result.others ≡ vec_capacity back.others }
 {
     let count = workers.len();
     while let Some(worker) = workers.pop() {

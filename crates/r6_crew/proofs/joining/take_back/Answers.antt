@@ -5,16 +5,15 @@ use Rattle.r6_exchange.specs.declared.task.Task.{Task}
 use Rattle.r6_exchange.specs.declared.task.Served.{Served}
 use Rattle.r6_exchange.specs.declared.completion.Completion.{Completion}
 use Rattle.r6_exchange.specs.Answering.{nothing, parts_in, labels_in, labels_of as served_labels, state_after, unanswered}
-use Rattle.r6_exchange.proofs.Labels.{permuted-same, as-many}
+use Rattle.r6_exchange.proofs.Labels.{permuted-same}
 use Rattle.r6_shard.specs.Parts.{labels_of}
 use Rattle.r6_remote.specs.Lines.{sent_to, received_from, joined, labels_at}
 use Rattle.r6_remote.specs.Remotes.{AreShardPasses, performer_of}
 use Rattle.r6_remote.proofs.Lines.{same-length}
 use Rattle.r6_crew.specs.Crews.{AreEnded, AreWorkers, IsWorkerAt, is_own, own_parts, stray_parts, all_parts, parts_with_all}
 use Rattle.r6_crew.proofs.Backs.{where-few}
-use Rattle.r6_crew.proofs.Collected.{AreCollected, none-collected, one-more, all-collected, known-there, no-more, one-less, room-for, room-left}
-use Rattle.r6_crew.proofs.Ends.{few-sent}
-use Rattle.r6_crew.proofs.Labels.{all-sent, labels-back, all-labels}
+use Rattle.r6_crew.proofs.Collected.{AreCollected, none-collected, one-more, all-collected, known-there, no-more}
+use Rattle.r6_crew.proofs.Labels.{all-fit, all-sent, labels-back, all-labels}
 use Rattle.r6_crew.proofs.Meeting.{last-worker}
 use Rattle.r6_crew.proofs.Whole.{all-sorted, parts-of-last, put-back, none-back, all-back}
 use Rattle.r6_crew.proofs.joining.take_back.Goals as goal
@@ -71,49 +70,46 @@ pub sort_in-requires-clause-room : goal.sort_in-requires-clause-room
 sort_in-requires-clause-room g c =
     let kept = c.loop-worker.invariant in
     let rest = c.pop.new.self.items in
-    let room = vec_capacity c.args.remote.labels in
     let at : length rest ≡ c.len-at.result = omega arith in
     let shorter = ap length c.in-Some.ensures.items ∙ length-append rest (c.in-Some.worker ∷ []) in
-    let fewer = kept.fewer in
-    let many = c.requires.as_many in
-    let sent = ap (λ (f : ℕ → List (Task g.row.D.Denot)). parts_in (f c.len-at.result)) kept.sent in
-    let few = few-sent g.D.BlockDevice.told g.D.BlockDevice.promised c.args.remote c.requires.ended c.len-at.result (omega (arith, at, shorter, fewer, many)) in
-    let had = as-many (sent_to c.loop-worker.remote.passes.items c.len-at.result) c.in-Some.worker.parts.items c.in-Some.worker.replaced.items
-    c.join-parts.ensures.labels in
-    let parts = ap (λ v. length v.items) c.join-parts.ensures.parts.0 in
-    let most : length c.join-parts.result.parts.items ≤ room = omega (arith, sent, few, had, parts) in
-    let times = one-less (length rest) (length c.loop-worker.workers.items) room shorter in (
-      room-for (length c.loop-worker.back.parts.items) (length c.loop-worker.workers.items * room) (length rest * room) room
-          (vec_capacity c.loop-worker.back.parts) (length c.join-parts.result.parts.items) kept.parts_room times most,
-      room-for (length c.loop-worker.back.others.items) (length c.loop-worker.workers.items * room) (length rest * room) room
-          (vec_capacity c.loop-worker.back.others) (length c.join-parts.result.parts.items) kept.others_room times most,
-    )
+    let fits = all-fit c.args.remote.labels.items (λ j. labels_in (sent_to c.args.remote.passes.items j)) (length c.loop-worker.workers.items)
+    (length rest) c.loop-worker.back.parts.items c.loop-worker.back.others.items c.join-parts.result.parts.items c.join-parts.result.replaced.items
+    (omega (arith, shorter)) kept.labels (permuted-same (labels_in (sent_to c.loop-worker.remote.passes.items c.len-at.result))
+    (labels_in (sent_to c.args.remote.passes.items (length rest)))
+    (served_labels c.in-Some.worker.parts.items ++ served_labels c.in-Some.worker.replaced.items)
+    (served_labels c.join-parts.result.parts.items ++ served_labels c.join-parts.result.replaced.items)
+    (ap (λ j. labels_in (sent_to c.args.remote.passes.items j)) at
+    ∙ sym (ap (λ (f : ℕ → List (Task g.row.D.Denot)). labels_in (f c.len-at.result)) kept.sent))
+    (λ i. served_labels (c.join-parts.ensures.parts.0 i).items ++ served_labels (c.join-parts.ensures.parts.1 i).items)
+    c.join-parts.ensures.labels) in
+    let len = c.args.remote.labels.ok in
+    let room = c.requires.room in
+    (omega (arith, fits, len.0, len.1, room.0, kept.parts_room), omega (arith, fits, len.0, len.1, room.1, kept.others_room))
 
 pub set_aside-requires : goal.set_aside-requires
 set_aside-requires g c =
     let kept = c.loop-worker.invariant in
     let rest = c.pop.new.self.items in
-    let room = vec_capacity c.args.remote.labels in
     let at : length rest ≡ c.len-at.result = omega arith in
     let shorter = ap length c.in-Some.ensures.items ∙ length-append rest (c.in-Some.worker ∷ []) in
-    let fewer = kept.fewer in
-    let many = c.requires.as_many in
-    let sent = ap (λ (f : ℕ → List (Task g.row.D.Denot)). parts_in (f c.len-at.result)) kept.sent in
-    let few = few-sent g.D.BlockDevice.told g.D.BlockDevice.promised c.args.remote c.requires.ended c.len-at.result (omega (arith, at, shorter, fewer, many)) in
-    let had = as-many (sent_to c.loop-worker.remote.passes.items c.len-at.result) c.in-Some.worker.parts.items c.in-Some.worker.replaced.items
-    c.join-parts.ensures.labels in
-    let parts = ap (λ v. length v.items) c.join-parts.ensures.parts.0 in
-    let replaced = ap (λ v. length v.items) c.join-parts.ensures.parts.1 in
-    let all = length c.join-parts.result.parts.items + length c.join-parts.result.replaced.items in
-    let most : all ≤ room = omega (arith, sent, few, had, parts, replaced) in
-    let times = one-less (length rest) (length c.loop-worker.workers.items) room shorter in
-    let fits = room-for (length c.loop-worker.back.others.items) (length c.loop-worker.workers.items * room) (length rest * room) room
-    (vec_capacity c.loop-worker.back.others) all kept.others_room times most in
-    let strays = stray_parts c.len-count.result c.len-at.result c.join-parts.result.parts.items in
+    let came = c.join-parts.result.parts.items in
+    let fits = all-fit c.args.remote.labels.items (λ j. labels_in (sent_to c.args.remote.passes.items j)) (length c.loop-worker.workers.items)
+    (length rest) c.loop-worker.back.parts.items c.loop-worker.back.others.items came c.join-parts.result.replaced.items
+    (omega (arith, shorter)) kept.labels (permuted-same (labels_in (sent_to c.loop-worker.remote.passes.items c.len-at.result))
+    (labels_in (sent_to c.args.remote.passes.items (length rest)))
+    (served_labels c.in-Some.worker.parts.items ++ served_labels c.in-Some.worker.replaced.items)
+    (served_labels c.join-parts.result.parts.items ++ served_labels c.join-parts.result.replaced.items)
+    (ap (λ j. labels_in (sent_to c.args.remote.passes.items j)) at
+    ∙ sym (ap (λ (f : ℕ → List (Task g.row.D.Denot)). labels_in (f c.len-at.result)) kept.sent))
+    (λ i. served_labels (c.join-parts.ensures.parts.0 i).items ++ served_labels (c.join-parts.ensures.parts.1 i).items)
+    c.join-parts.ensures.labels) in
+    let len = c.args.remote.labels.ok in
+    let room = c.requires.room in
+    let strays = stray_parts c.len-count.result c.len-at.result came in
     let long = ap length c.sort_in.ensures.others ∙ length-append c.loop-worker.back.others.items strays in
-    let few-strays = where-few (λ s. not (is_own c.len-count.result c.len-at.result s)) c.join-parts.result.parts.items in
+    let few-strays = where-few (λ s. not (is_own c.len-count.result c.len-at.result s)) came in
     let same = c.sort_in.ensures.room.1 in
-    omega (arith, fits, long, few-strays, same)
+    omega (arith, fits, long, few-strays, same, len.0, len.1, room.1, kept.others_room)
 
 pub loop-worker-init : goal.loop-worker-init
 loop-worker-init g c =
@@ -122,9 +118,6 @@ loop-worker-init g c =
     let some = c.requires.ended.some in
     let many = c.requires.as_many in
     let workers = c.args.workers.items in
-    let no-part = ap length c.requires.empty.0 in
-    let no-other = ap length c.requires.empty.1 in
-    let room = c.requires.room in
     record {
       ends = c.requires.ended.ends;
       site = refl;
@@ -139,8 +132,8 @@ loop-worker-init g c =
           c.args.back.parts.items c.args.back.others.items (omega (arith, some, many))
           (λ j below. c.requires.ended.labels j (omega (arith, below, many)) ∙ ap (λ n. labels_at n j c.args.remote.labels.items) (sym many))
           c.requires.empty.0 c.requires.empty.1;
-      parts_room = omega (arith, no-part, room.0);
-      others_room = omega (arith, no-other, room.1);
+      parts_room = refl;
+      others_room = refl;
     }
 
 pub loop-worker-preserved : goal.loop-worker-preserved
@@ -152,41 +145,18 @@ loop-worker-preserved g c =
     let worker = c.in-Some.worker in
     let back = c.loop-worker.back in
     let first = c.args.remote.passes.items in
-    let room = vec_capacity c.args.remote.labels in
     let workers = length c.args.workers.items in
     let at : length rest ≡ c.len-at.result = omega arith in
     let count : c.len-count.result ≡ workers = omega arith in
     let shorter : length c.loop-worker.workers.items ≡ length rest + 1 = ap length c.in-Some.ensures.items ∙ length-append rest (worker ∷ []) in
     let fewer = kept.fewer in
     let many = c.requires.as_many in
-    let sent = ap (λ (f : ℕ → List (Task g.row.D.Denot)). parts_in (f c.len-at.result)) kept.sent in
-    let few = few-sent g.D.BlockDevice.told g.D.BlockDevice.promised c.args.remote c.requires.ended c.len-at.result (omega (arith, at, shorter, fewer, many)) in
-    let had = as-many (sent_to c.loop-worker.remote.passes.items c.len-at.result) c.in-Some.worker.parts.items c.in-Some.worker.replaced.items
-    c.join-parts.ensures.labels in
-    let parts = ap (λ v. length v.items) c.join-parts.ensures.parts.0 in
-    let replaced = ap (λ v. length v.items) c.join-parts.ensures.parts.1 in
     let came = c.join-parts.result.parts.items in
     let set-by = c.join-parts.result.replaced.items in
-    let all = length came + length set-by in
-    let most : all ≤ room = omega (arith, sent, few, had, parts, replaced) in
-    let times = one-less (length rest) (length c.loop-worker.workers.items) room shorter in
     let strays = stray_parts c.len-count.result c.len-at.result came in
     let own = own_parts c.len-count.result c.len-at.result came in
-    let few-own = where-few (is_own c.len-count.result c.len-at.result) came in
-    let few-strays = where-few (λ s. not (is_own c.len-count.result c.len-at.result s)) came in
-    let long-own = ap (λ v. length v.items) c.set_aside.ensures.parts ∙ ap length c.sort_in.ensures.parts ∙ length-append back.parts.items own in
-    let long-strays = ap length c.sort_in.ensures.others ∙ length-append back.others.items strays in
-    let long-others = ap length c.set_aside.ensures.others ∙ length-append c.sort_in.new.self.others.items (all_parts set-by) in
-    let long-all = length-map set-by (λ (s : Served g.row.D.Denot). s.part) in
-    let more-parts : length c.set_aside.new.self.parts.items ≤ length back.parts.items + all = omega (arith, long-own, few-own) in
-    let more-others : length c.set_aside.new.self.others.items ≤ length back.others.items + all =
-    omega (arith, long-strays, long-others, long-all, few-strays) in
     let parts-room = ap vec_capacity c.set_aside.ensures.parts ∙ c.sort_in.ensures.room.0 in
     let others-room = c.set_aside.ensures.room ∙ c.sort_in.ensures.room.1 in
-    let fits-parts = room-left (length back.parts.items) (length c.set_aside.new.self.parts.items) (length c.loop-worker.workers.items * room)
-    (length rest * room) room (vec_capacity back.parts) all kept.parts_room times most more-parts in
-    let fits-others = room-left (length back.others.items) (length c.set_aside.new.self.others.items) (length c.loop-worker.workers.items * room)
-    (length rest * room) room (vec_capacity back.others) all kept.others_room times most more-others in
     let whole : c.set_aside.new.self.parts.items ≡ back.parts.items ++ own_parts workers (length rest) worker.parts.items =
     ap (λ v. v.items) c.set_aside.ensures.parts ∙ c.sort_in.ensures.parts
     ∙ ap (λ v. back.parts.items ++ own_parts c.len-count.result c.len-at.result v.items) c.join-parts.ensures.parts.0
@@ -235,9 +205,12 @@ loop-worker-preserved g c =
           c.args.remote.labels.items has
           (subst (λ n. IsPermutation c.args.remote.labels.items (joined n sent-labels ++ (labels_of back.parts.items ++ labels_of back.others.items)))
           one-more' kept.labels));
-      parts_room = subst (λ y. length c.set_aside.new.self.parts.items + length rest * room ≤ y) (sym parts-room) fits-parts;
-      others_room = subst (λ y. length c.set_aside.new.self.others.items + length rest * room ≤ y) (sym others-room) fits-others;
+      parts_room = parts-room ∙ kept.parts_room;
+      others_room = others-room ∙ kept.others_room;
     }
+
+pub returns-clause-capacity : goal.returns-clause-capacity
+returns-clause-capacity g c = c.loop-worker.invariant.others_room
 
 pub returns-clause-known : goal.returns-clause-known
 returns-clause-known g c =

@@ -22,8 +22,8 @@ invariant-loop-worker g l = record {
   labels : IsPermutation l.fn.remote.labels.items
       (joined (length l.workers.items) (λ worker. labels_in (sent_to l.fn.remote.passes.items worker))
       ++ (labels_of l.back.parts.items ++ labels_of l.back.others.items));
-  parts_room : length l.back.parts.items + length l.workers.items * vec_capacity l.fn.remote.labels ≤ vec_capacity l.back.parts;
-  others_room : length l.back.others.items + length l.workers.items * vec_capacity l.fn.remote.labels ≤ vec_capacity l.back.others;
+  parts_room : vec_capacity l.back.parts ≡ vec_capacity l.fn.back.parts;
+  others_room : vec_capacity l.back.others ≡ vec_capacity l.fn.back.others;
 }
 
 abbrev pub decreases-loop-worker : goal.decreases-loop-worker
