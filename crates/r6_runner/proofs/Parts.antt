@@ -36,6 +36,7 @@ parts-on a b c x y = record {
 pub own-on : {P D : Type 0} {g : Ghosts P} (a b c : Runner P D g) → KeepsOwn a b → KeepsOwn b c → KeepsOwn a c
 own-on a b c x y = record {
   all = λ first z. y.all first (x.all first z);
+  room = y.room ∙ x.room;
   site = y.site ∙ x.site;
   here = λ slot z. y.here slot (x.here slot z);
   window = y.window ∙ x.window;
@@ -47,6 +48,7 @@ own-same {g = g} old new k = record {
       subst (λ (h : List Handed). IsPermutation (first ++ labels_in h) ((g.performer new.shard.parts).labels ++ labels_of new.others.items)) (sym k.handed)
       (subst (λ (l : List (ℕ × ℕ)). IsPermutation (first ++ labels_in old.handed.items) (l ++ labels_of new.others.items)) (sym k.labels)
       (subst (λ (o : List (Part _)). IsPermutation (first ++ labels_in old.handed.items) ((g.performer old.shard.parts).labels ++ labels_of o)) (sym k.others) x));
+  room = k.room;
   site = k.site;
   here = k.here;
   window = k.window;
@@ -105,6 +107,11 @@ site-on : {P D : Type 0} {g : Ghosts P} (told : D → Telling) (promised : D →
 site-on told promised true part back old new t = t.1.site
 site-on {P = P} {g = g} told promised false part back old new t = ap (λ (s : Shard P g). g.site s.parts) t.0
 
+room-on : {P D : Type 0} {g : Ghosts P} (told : D → Telling) (promised : D → Promise) (taken : Bool) (part : Part D) (back : List (Part D)) (old new : Shard P g)
+    → IsPartTaken taken told promised part back old new → (g.performer new.parts).part_room ≡ (g.performer old.parts).part_room
+room-on told promised true part back old new t = t.1.taken.part_room
+room-on {P = P} {g = g} told promised false part back old new t = ap (λ (s : Shard P g). (g.performer s.parts).part_room) t.0
+
 pub handed-own : {P D : Type 0} {g : Ghosts P} (told : D → Telling) (promised : D → Promise) (old new : Runner P D g) (number : ℕ) (part : Part D) → IsHandedIn told promised number part old new
     → KeepsOwn old new
 handed-own {g = g} told promised old new number part h = record {
@@ -119,6 +126,7 @@ handed-own {g = g} told promised old new number part h = record {
       (append_assoc first (labels_in old.handed.items) (l ∷ []))
       (subst (λ (y : List (ℕ × ℕ)). IsPermutation ((first ++ labels_in old.handed.items) ++ l ∷ []) ((g.performer new.shard.parts).labels ++ y)) (sym others)
       (taken-in told promised h.taken part h.back old.shard new.shard (first ++ labels_in old.handed.items) (labels_of old.others.items) h.shard x)));
+  room = room-on told promised h.taken part h.back old.shard new.shard h.shard;
   site = site-on told promised h.taken part h.back old.shard new.shard h.shard;
   here = here-on told promised h.taken part h.back old.shard new.shard h.shard;
   window = ap (λ (y : CoreView). y.window) (core-on told promised h.taken part h.back old.shard new.shard h.shard);

@@ -32,10 +32,11 @@ pub record BeginsOwn {P D : Type 0} {g : Ghosts P} (first : List (ℕ × ℕ)) (
       → HasUsed (g.performer runner.shard.parts).labels slot runner.shard.core
   pub window_is : runner.shard.core.window ≡ window
 
--- no part of the shard is lost, those that it uses stay here, and so does its window; and its commands are performed
--- where they were
+-- no part of the shard is lost, those that it uses stay here, and so do its window and its room for parts; and its
+-- commands are performed where they were
 pub record KeepsOwn {P D : Type 0} {g : Ghosts P} (old new : Runner P D g) : Type 0 where
   pub all : (first : List (ℕ × ℕ)) → HasAll first old → HasAll first new
+  pub room : (g.performer new.shard.parts).part_room ≡ (g.performer old.shard.parts).part_room
   pub site : g.site new.shard.parts ≡ g.site old.shard.parts
   pub here : StaysHere old.shard new.shard
   pub window : new.shard.core.window ≡ old.shard.core.window

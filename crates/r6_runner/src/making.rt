@@ -93,6 +93,7 @@ where
 
         // what it was made of
         ensures pass { IfOk result (λ runner. runner.shard.pass ≡ pass) }
+        ensures performer { IfOk result (λ runner. runner.shard.parts ≡ parts) }
         ensures place { IfOk result (λ runner. runner.shard.core.shard ≡ place.number) }
         ensures room { IfOk result (λ runner. (runner.room ≡ room) × (runner.attaches ≡ attaches)
             × (taken_by runner ≡ 0)) }
