@@ -1,8 +1,8 @@
-use Rattle.std.proofs.Common.{arith, ◌≡◌, ◌≤◌, ◌∙◌, ℕ, [], ap, length, subst, sym}
+use Rattle.std.proofs.Common.{arith, ◌≡◌, ◌≤◌, ◌∙◌, ℕ, [], ap, length, refl, subst, sym}
 use Rattle.std.proofs.lemmas.List.{length-map}
 use Rattle.r6_lists.specs.Events.{tasks_of}
 use Rattle.r6_shard.specs.Parts.{label_of, labels_of, part_in}
-use Rattle.r6_shard.specs.Waiting.{out_of}
+use Rattle.r6_shard.specs.Waiting.{out_of, performer_of}
 use Rattle.r6_shard.proofs.Promises.{begins-sound}
 use Rattle.r6_layout.specs.Shape.{Shape}
 use Rattle.r6_shard.specs.Here.{BeginsHere, HasUsed}
@@ -60,7 +60,8 @@ returns-clause-sound g c = λ slot x.
     (subst (λ n. IsSoundIn shape n slot c.in_ok-runner.runner) (sym own)
     (subst (λ s. IsSoundIn s c.args.place.number slot c.in_ok-runner.runner) c.requires.shape
     (c.in_ok-runner.ensures.sound slot
-    (begins-sound told promised c.args.place.geometry c.args.place.number slot start c.in_ok-roomy.roomy
+    (begins-sound told promised c.args.place.geometry c.args.place.number slot start c.in_ok-roomy.roomy.parts.items
+    (performer_of told promised c.in_ok-roomy.roomy) refl refl
     (subst (λ s. StartsSound promised s c.args.place.number start slot c.in_ok-roomy.roomy.parts.items) (sym c.requires.shape)
     (subst (λ n. StartsSound promised shape n start slot c.in_ok-roomy.roomy.parts.items) own roomy))))))
 
