@@ -1,5 +1,5 @@
 -- How many tasks there are, and how many waits stand before one.
-use Rattle.std.proofs.Common.{◌≡◌, ℕ, ◌+◌, ◌<◌, ◌≤◌, List, [], ◌∷◌, length, refl, sym, ap, subst, ◌∙◌, arith, Option, Some, None, Bool, true, false, slice_get, get_or, if◌then◌else◌}
+use Rattle.std.proofs.Common.{◌≡◌, ℕ, ◌+◌, ◌<◌, ◌≤◌, List, [], ◌∷◌, length, refl, sym, ap, subst, ◌∙◌, arith, Option, Some, None, option_and_then, Bool, true, false, slice_get, get_or, if◌then◌else◌}
 use Rattle.std.specs.List.{range_with_len, filter_map, cons_option}
 use Rattle.std.proofs.lemmas.List.FromFn.{length-range_with_len}
 use Rattle.std.proofs.lemmas.List.{length-map}
@@ -7,7 +7,9 @@ use Rattle.std.proofs.lemmas.List.Sums.{count_by_more_no, count_by_more_yes}
 use Rattle.std.proofs.Math.ListN.{get_or-map}
 use Rattle.std.proofs.lemmas.Option.{slice_get_within, get_or_from_slice_get}
 use Rattle.r6_layout.specs.Shape.{Shape}
-use Rattle.r6_lists.specs.Events.{Event, task_at, tasks_of, is_passing, waits_before}
+use Rattle.r6_lists.specs.Events.{Event, Task, task_at, tasks_of, numbers_of, is_passing, waits_before}
+use Rattle.r6_runner.specs.Parts.{all_parts}
+use Rattle.r6_runner.specs.Tasks.{part_in}
 use Rattle.r6_engine_tests.specs.declared.asks.Ask.{Ask}
 use Rattle.r6_engine_tests.specs.Asks.{event_of, events_of}
 
@@ -25,6 +27,14 @@ pub few_works : (shape : Shape) (shard : ℕ) (events : List Event) → length (
 few_works shape shard events =
     subst (λ n. length (tasks_of shape shard events) ≤ n) (length-range_with_len 0 (length events))
     (few_kept (task_at shape shard events) (range_with_len 0 (length events)))
+
+-- nor are more parts of new devices among them
+pub few_parts : (shape : Shape) (events : List Event) (shard : ℕ)
+    → length (all_parts shape events shard) ≤ length (tasks_of shape shard events)
+few_parts shape events shard =
+    subst (λ n. length (all_parts shape events shard) ≤ n) (length-map (tasks_of shape shard events) (λ (t : Task). t.number))
+    (few_kept (λ k. option_and_then (λ (t : Task). part_in k t.duty) (task_at shape shard events k))
+    (numbers_of (tasks_of shape shard events)))
 
 -- one more stands before the next event, if what comes behind this one waits
 more_here : (events : List Event) (number : ℕ) (event : Event) (b : Bool) → is_passing event ≡ b → number < length events

@@ -10,6 +10,7 @@ ghost use Rattle.r6_lists.specs.Events.{duty_of, is_block_of, is_passing, tasks_
 ghost use Rattle.r6_lists.specs.Lists.{duty_in};
 ghost use Rattle.r6_lists.specs.Queues.{IsConsumerOf};
 ghost use Rattle.r6_feed.specs.Feeds.{HasPut};
+ghost use Rattle.r6_runner.specs.Parts.{all_parts};
 ghost use Rattle.r6_runner.specs.Runners.{taken_by};
 ghost use Rattle.r6_engine_tests.specs.Asks.{event_of, events_of};
 
@@ -157,7 +158,7 @@ fn put_all<L: Events, R: Wait + Abort>(
     }
 }
 
-// A shard from the array's beginning on, with room for so many tasks.
+// A shard from the array's beginning on, with room for so many tasks, each of which may attach a device.
 fn runner_of<R: Abort>(
     rt: &R,
     alloc: Global,
@@ -170,13 +171,13 @@ fn runner_of<R: Abort>(
     requires window { place.window ≡ 1 }
     requires first { IsFirstPass place.geometry (starting 0) (view_of pass) }
     ensures pass { result.shard.pass ≡ pass }
-    ensures room { (result.room ≡ room) × (taken_by result ≡ 0) }
+    ensures room { (result.room ≡ room) × (result.attaches ≡ room) × (taken_by result ≡ 0) }
 {
     let snapshot = Snapshot::start(&place.geometry, 0);
     let mut parts = parts_of(rt, alloc, &ALL_ROWS);
     parts.reserve(room).expect(rt, "memory");
     let parts = InPlace::new(parts);
-    Runner::new(alloc, place, &snapshot, pass, parts, room).expect(rt, "memory")
+    Runner::new(alloc, place, &snapshot, pass, parts, room, room).expect(rt, "memory")
 }
 
 // The shard takes all that its queue has.
@@ -190,6 +191,7 @@ fn run<L: Events, R: Wait>(
 ) -> Runner<InPlace<MemoryDevice>, MemoryDevice>
     requires fresh { (taken_by runner ≡ 0) × (consumer.numbers.items ≡ []) }
     requires room { length (tasks_of L.shape consumer.shard L.events) ≤ runner.room }
+    requires attaches { length (all_parts L.shape L.events consumer.shard) ≤ runner.attaches }
     requires pass { IsPassOf register.now runner.shard.pass }
     requires consumer { IsConsumerOf queue.now consumer }
 {
