@@ -111,5 +111,8 @@ all-fit labels sent workers n parts others came set-by is x y =
     let both = length-append (served_labels came) (served_labels set-by) in
     let first = length-append (joined n sent ++ sent n) (labels_of parts ++ labels_of others) in
     let before = length-append (joined n sent) (sent n) in
-    omega (arith, all, one, back, both, first, before, length-map parts label_of, length-map others label_of, length-map came served_label,
-    length-map set-by served_label)
+    let parts-long = length-map parts label_of in
+    let others-long = length-map others label_of in
+    let came-long = length-map came served_label in
+    let set-by-long = length-map set-by served_label in
+    omega (arith, all, one, back, both, first, before, parts-long, others-long, came-long, set-by-long)
