@@ -1,3 +1,5 @@
+mod Attaches
+mod Crews
 mod EachShard
 mod NewQueues
 mod Numbers
@@ -21,4 +23,3 @@ mod ServedShard
 mod Unskipped
 mod ServedArray
 mod Alike
-mod Attaches

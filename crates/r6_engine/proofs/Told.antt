@@ -1,9 +1,9 @@
 -- What the shards of an array told once they had ended.
-use Rattle.std.proofs.Common.{◌≡◌, ◌∙◌, ℕ, ◌+◌, ◌<◌, ◌≤◌, ◌++◌, List, [], ◌∷◌, All, length, map, zero, suc, inl, inr, refl, sym, ap, subst, arith, Option, Some, None, option_map, slice_get, slice_index_or, sum_by, append-nil}
+use Rattle.std.proofs.Common.{◌≡◌, ◌∙◌, ℕ, ◌+◌, ◌<◌, ◌≤◌, ◌++◌, List, [], ◌∷◌, All, length, map, count_by, zero, suc, inl, inr, refl, sym, ap, subst, arith, Option, Some, None, option_map, slice_get, slice_index_or, sum_by, append-nil}
 use Rattle.std.specs.List.{AllZip, cons_option, filter_map}
 use Rattle.std.specs.List.Sorted.{IsPermutation}
-use Rattle.std.proofs.lemmas.List.{length-map}
-use Rattle.std.proofs.lemmas.List.Sorted.{sum_by-IsPermutation}
+use Rattle.std.proofs.lemmas.List.{length-append, length-map}
+use Rattle.std.proofs.lemmas.List.Sorted.{length_permutation, sum_by-IsPermutation}
 use Rattle.std.proofs.lemmas.List.Sums.{sum_by-cons}
 use Rattle.std.proofs.lemmas.Option.{get_or_from_slice_get, slice_get-map, slice_get_within}
 use Rattle.r6_dev.specs.History.{Telling}
@@ -21,15 +21,22 @@ use Rattle.r6_shard.specs.Courses.{AreOf, IsOf}
 use Rattle.r6_shard.specs.Runs.{AreServed}
 use Rattle.r6_shard.specs.declared.performs.Performs.{Ghosts}
 use Rattle.r6_feed.specs.declared.answer.EventAnswer.{EventAnswer}
+use Rattle.r6_feed.specs.Events.{is_attach}
 use Rattle.r6_feed.specs.Feeds.{asked_before, asked_in}
+use Rattle.r6_runner.specs.declared.runner.Handed.{Handed}
+use Rattle.r6_runner.specs.Parts.{labels_in}
+use Rattle.r6_runner.specs.Runners.{IsOver}
+use Rattle.r6_shard.specs.Parts.{label_of, labels_of}
 use Rattle.r6_runner.specs.declared.runner.Runner.{Runner}
-use Rattle.r6_runner.specs.Tasks.{due_requests, request_in, requests_in}
+use Rattle.r6_runner.specs.Tasks.{due_requests, handed_of, parts_in, request_in, requests_in, slot_of}
+use Rattle.r6_engine.specs.declared.handback.PageRoom.{PageRoom}
 use Rattle.r6_engine.specs.declared.ledger.Ledger.{Ledger}
 use Rattle.r6_engine.specs.Answered.{AreReplies}
 use Rattle.r6_engine.specs.Ledgers.{FitsPage, IsLedgerOf}
 use Rattle.r6_engine.specs.Replies.{replies_of}
 use Rattle.r6_engine.specs.ServedArrays.{HasNoMore}
 use Rattle.r6_engine.specs.Serves.{HasServed, HaveServed}
+use Rattle.r6_engine.proofs.Attaches.{parts-counted}
 use Rattle.r6_engine.proofs.EachShard.{all_passed, here_at}
 use Rattle.r6_engine.proofs.Known.{is_of}
 use Rattle.r6_engine.proofs.Replied.{HasAsked, IsLinked, are-replies, there-at}
@@ -100,17 +107,31 @@ module _ {P D : Type 0} {g : Ghosts P} (told : D → Telling) (shape : Shape) (e
     entered = λ event. entered event r.shard.asked.items r.shard.entries.items x.over.rests.each.requests;
   }
 
-  pub fits-page : (most : ℕ) → length (tasks_of shape shard events) ≤ most → FitsPage most shape.slots r
-  fits-page most less =
+  pub fits-page : (room : PageRoom) → length (tasks_of shape shard events) ≤ room.entries → room.slots ≡ shape.slots
+      → (g.performer r.shard.parts).part_room ≤ room.parts → length own.parts.items + count_by is_attach events ≤ room.parts → FitsPage room r
+  fits-page room less slots parts-room fits =
       let numbers = numbers_of (tasks_of shape shard events) in
       let answered = x.over.rests.answered in
       let asked = served-long r.shard.core x.done.begun r.shard.asked.items x.done.ops r.refused.items x.done.served in
       let begun = ap length begun-all in
       let picked = picked-long (λ number. Rattle.std.proofs.Common.option_and_then (λ (t : Task). request_in number t.duty) (task_at shape shard events number)) numbers in
       let count = length-map (tasks_of shape shard events) (λ (t : Task). t.number) in
+      let labels = (g.performer r.shard.parts).labels in
+      let whole = length_permutation (labels_of own.parts.items ++ labels_in r.handed.items) (labels ++ labels_of r.others.items) x.all in
+      let first = length-append (labels_of own.parts.items) (labels_in r.handed.items) in
+      let last = length-append labels (labels_of r.others.items) in
+      let own-long = length-map own.parts.items label_of in
+      let others-long = length-map r.others.items label_of in
+      let handed-long = length-map {B = ℕ × ℕ} r.handed.items (λ (h : Handed). (h.slot, h.generation)) in
+      let came = ap length x.done.parts in
+      let came-long = length-map (parts_in shape shard events numbers) slot_of in
+      let handed-again = length-map r.handed.items handed_of in
+      let counted = parts-counted shape events shard in
       record {
         told = omega (arith, answered, asked, begun, picked, count, less);
-        shape = sym (ap (λ (s : Shape). s.slots) x.done.shape_is);
+        shape = slots ∙ sym (ap (λ (s : Shape). s.slots) x.done.shape_is);
+        parts = parts-room;
+        all = omega (arith, whole, first, last, own-long, others-long, handed-long, came, came-long, handed-again, counted, fits);
       }
 
 -- ---- all shards
@@ -139,9 +160,17 @@ module _ {P D : Type 0} {g : Ghosts P} (told : D → Telling) (shape : Shape) (l
       (λ shard r there. (has-served shard r there).done.place)
       (λ shard r there. (has-served shard r there).classed)
 
-  pub all-fit : (most : ℕ) → HasNoMore shape events most → All (FitsPage most shape.slots) runners
-  all-fit most none k d below =
+  pub all-over : All IsOver runners
+  all-over k d below = let r = slice_index_or runners k d in (has-served k r (here_at runners k d below)).over
+
+  pub all-fit : (room : PageRoom) → HasNoMore shape events room.entries → room.slots ≡ shape.slots
+      → ((shard : ℕ) (own : Parts D) (r : Runner P D g) → slice_get parts shard ≡ Some own → slice_get runners shard ≡ Some r
+      → ((g.performer r.shard.parts).part_room ≤ room.parts) × (length own.parts.items + count_by is_attach events ≤ room.parts))
+      → All (FitsPage room) runners
+  all-fit room none slots fits k d below =
+      let r = slice_index_or runners k d in
       let there = here_at runners k d below in
+      let own = has-parts k r there in
+      let fit = fits k own.0 r own.1 there in
       let many = x.as_many in
-      fits-page told shape events start window (has-parts k (slice_index_or runners k d) there).0 k (slice_index_or runners k d)
-      (has-served k (slice_index_or runners k d) there) most (none k (omega (arith, below, many, whole)))
+      fits-page told shape events start window own.0 k r (has-served k r there) room (none k (omega (arith, below, many, whole))) slots fit.0 fit.1

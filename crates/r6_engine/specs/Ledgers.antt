@@ -1,12 +1,14 @@
 -- The ledger of a shard, as its thread left it (this project's own).
-use Rattle.std.specs.Prelude.{◌≡◌, ℕ, ◌≤◌, List, [], ◌++◌, length, vec_capacity, Option, Some, option_map, filter_map, IsPermutation}
+use Rattle.std.specs.Prelude.{◌≡◌, ℕ, ◌≤◌, ◌+◌, List, [], ◌++◌, length, vec_capacity, Option, Some, option_map, filter_map, IsPermutation}
 use Rattle.std.specs.List.{range_with_len}
 use Rattle.r6_dev.specs.History.{Blocks, Telling}
 use Rattle.r6_world.specs.ShardStates.{Shard}
 use Rattle.r6_core.specs.Shards.{CoreView, synced, world_shard}
 use Rattle.r6_runner.specs.declared.runner.Runner.{Runner}
 use Rattle.r6_engine.specs.Replies.{ledger_entries}
+use Rattle.r6_crew.specs.declared.back.Back.{Back}
 use Rattle.r6_engine.specs.declared.handback.Page.{Page}
+use Rattle.r6_engine.specs.declared.handback.PageRoom.{PageRoom}
 use Rattle.r6_engine.specs.declared.ledger.Ledger.{Ledger}
 use Rattle.r6_engine.specs.declared.part.ShardParts.{ShardParts}
 use Rattle.r6_shard.specs.declared.performs.Performs.{Ghosts}
@@ -55,14 +57,26 @@ pub record AreBack {P D : Type 0} {g : Ghosts P} (told : D → Telling) (r : Run
 
 -- ---- while they are handed back
 
--- a page that is empty, with room for so many entries and slots
-pub record IsPage (entries slots : ℕ) (page : Page) : Type 0 where
+-- nothing has come back, and there is room for so many parts of either kind
+pub record IsEmpty {D : Type 0} (room : ℕ) (back : Back D) : Type 0 where
+  pub no_part : back.parts.items ≡ []
+  pub no_other : back.others.items ≡ []
+  pub parts_room : room ≤ vec_capacity back.parts
+  pub others_room : room ≤ vec_capacity back.others
+
+-- a page that is empty, with this room
+pub record IsPage {D : Type 0} (room : PageRoom) (page : Page D) : Type 0 where
   pub no_entry : page.entries.items ≡ []
   pub no_slot : page.in_sync.items ≡ []
-  pub entries_room : entries ≤ vec_capacity page.entries
-  pub slots_room : slots ≤ vec_capacity page.in_sync
+  pub no_worker : page.workers.items ≡ []
+  pub entries_room : room.entries ≤ vec_capacity page.entries
+  pub slots_room : room.slots ≤ vec_capacity page.in_sync
+  pub workers_room : room.workers ≤ vec_capacity page.workers
+  pub back : IsEmpty room.parts page.back
 
--- a shard's ledger needs no more room
-pub record FitsPage {P D : Type 0} {g : Ghosts P} (entries slots : ℕ) (r : Runner P D g) : Type 0 where
-  pub told : length r.shard.entries.items ≤ entries
-  pub shape : slots ≡ r.shard.core.shape.slots
+-- a shard needs no more room
+pub record FitsPage {P D : Type 0} {g : Ghosts P} (room : PageRoom) (r : Runner P D g) : Type 0 where
+  pub told : length r.shard.entries.items ≤ room.entries
+  pub shape : room.slots ≡ r.shard.core.shape.slots
+  pub parts : (g.performer r.shard.parts).part_room ≤ room.parts
+  pub all : length (g.performer r.shard.parts).labels + length r.others.items ≤ room.parts

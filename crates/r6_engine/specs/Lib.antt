@@ -1,5 +1,7 @@
 pub mod Answered
+pub mod Begun
 pub mod Counted
+pub mod Crews
 pub mod Ending
 pub mod Explained
 pub mod Found

@@ -1,6 +1,6 @@
 -- Which slots the ledgers of an array don't name, and which its shards don't declare lost: those whose devices fail no
 -- command (md(4): a device is failed where it answers a command by an error; the promises are this project's own).
-use Rattle.std.specs.Prelude.{◌≡◌, ◌==◌, ℕ, Bool, false, List, All, slice_get, slice_index_or, Some}
+use Rattle.std.specs.Prelude.{◌≡◌, ◌↔◌, ◌==◌, ℕ, Bool, false, List, All, slice_get, slice_index_or, Some}
 use Rattle.r6_dev.specs.Promises.{Promise}
 use Rattle.r6_layout.specs.Shape.{Shape}
 use Rattle.r6_health.specs.Passes.{view_of}
@@ -24,6 +24,12 @@ AttachFailsNone promised shape shard slot event = Unit {0}
 
 abbrev pub AttachesFailNone : {D : Type 0} → (D → Promise) → Shape → (shard slot : ℕ) → List (Event D) → Type 0
 AttachesFailNone promised shape shard slot events = All (AttachFailsNone promised shape shard slot) events
+
+-- by these slots of shards, the new devices of which fail none of the shard's commands
+abbrev pub AreSoundHere : {D : Type 0} → (D → Promise) → Shape → (Sound : (shard slot : ℕ) → Type 0) → List (Event D)
+    → Type 0
+AreSoundHere promised shape Sound events =
+    (shard slot : ℕ) → Sound shard slot ↔ AttachesFailNone promised shape shard slot events
 
 -- whether a call declares the slot lost
 abbrev pub declares : (slot : ℕ) → Call → Bool

@@ -15,19 +15,22 @@ use r6_dev::BlockDevice;
 use r6_health::{Pass, Register, SlotState, Snapshot};
 use r6_layout::MOST_SLOTS;
 use r6_runner::Runner;
-use r6_shard::InPlace;
+use r6_shard::{Performs, TakesParts};
 use std::sync::Wait;
+use std::thread;
 
 // As many tokens are given in a shard.
 const MOST_TOKENS: u64 = 1 << 60;
 
 // One round of a shard; whether nothing is left to do of what it took. What its pass has seen is heard by this one.
-fn go_round<D: BlockDevice + Drop, R: Wait>(
+fn go_round<P: Performs + Drop, D: BlockDevice + Drop, R: Wait>(
     rt: &R,
     register: &Register,
     pass: &mut Pass,
-    runner: &mut Runner<InPlace<D>, D>,
+    runner: &mut Runner<P, D>,
 ) -> bool
+where
+    P: TakesParts<D>,
     requires pass { IsPassOf register.now pass.old }
     requires runner { IsPassOf register.now runner.old.shard.pass }
     ensures pass { IsPassOf register.now pass.new }
@@ -43,12 +46,14 @@ fn go_round<D: BlockDevice + Drop, R: Wait>(
 }
 
 // One round of each shard; whether nothing is left to do of any.
-fn go_round_all<D: BlockDevice + Drop, R: Wait>(
+fn go_round_all<P: Performs + Drop, D: BlockDevice + Drop, R: Wait>(
     rt: &R,
     register: &Register,
     pass: &mut Pass,
-    runners: &mut [Runner<InPlace<D>, D>],
+    runners: &mut [Runner<P, D>],
 ) -> bool
+where
+    P: TakesParts<D>,
     requires pass { IsPassOf register.now pass.old }
     requires runners { All (λ runner. IsPassOf register.now runner.shard.pass) runners.old }
     ensures pass { IsPassOf register.now pass.new }
@@ -79,7 +84,7 @@ fn has_rebuilding(snapshot: &Snapshot) -> bool
 }
 
 // Whether each shard has tokens to give.
-fn have_tokens<D: BlockDevice + Drop>(runners: &[Runner<InPlace<D>, D>]) -> bool
+fn have_tokens<P: Performs + Drop, D: BlockDevice + Drop>(runners: &[Runner<P, D>]) -> bool
     ensures { result ≡ false → HaveTokens (map tokens_of runners.now) → ⊥ }
 {
     for runner in runners {
@@ -91,8 +96,8 @@ fn have_tokens<D: BlockDevice + Drop>(runners: &[Runner<InPlace<D>, D>]) -> bool
 }
 
 // Whether each shard looked at this last.
-fn have_looked_at<D: BlockDevice + Drop>(
-    runners: &[Runner<InPlace<D>, D>],
+fn have_looked_at<P: Performs + Drop, D: BlockDevice + Drop>(
+    runners: &[Runner<P, D>],
     snapshot: &Snapshot,
 ) -> bool
     ensures { result ≡ true → All (λ runner. runner.shard.last ≡ snapshot.now) runners.now }
@@ -106,7 +111,10 @@ fn have_looked_at<D: BlockDevice + Drop>(
 }
 
 // Whether nothing is left to rebuild: no slot is being rebuilt, or none can be.
-fn is_rebuilt<D: BlockDevice + Drop>(runners: &[Runner<InPlace<D>, D>], snapshot: &Snapshot) -> bool
+fn is_rebuilt<P: Performs + Drop, D: BlockDevice + Drop>(
+    runners: &[Runner<P, D>],
+    snapshot: &Snapshot,
+) -> bool
     ensures { result ≡ true → IsRebuilt snapshot.now (map tokens_of runners.now) }
 {
     snapshot.failed() || !have_tokens(runners) || !has_rebuilding(snapshot)
@@ -137,8 +145,8 @@ fn has_in_sync(core: &Core, slots: usize, snapshot: &Snapshot) -> bool
 }
 
 // Whether each core has, unless the array has failed.
-fn have_in_sync<D: BlockDevice + Drop>(
-    runners: &[Runner<InPlace<D>, D>],
+fn have_in_sync<P: Performs + Drop, D: BlockDevice + Drop>(
+    runners: &[Runner<P, D>],
     slots: usize,
     snapshot: &Snapshot,
 ) -> bool
@@ -157,8 +165,8 @@ fn have_in_sync<D: BlockDevice + Drop>(
 }
 
 // Whether the array is as it stays: each shard has seen what it is, and nothing is left to rebuild.
-fn is_settled<D: BlockDevice + Drop>(
-    runners: &[Runner<InPlace<D>, D>],
+fn is_settled<P: Performs + Drop, D: BlockDevice + Drop>(
+    runners: &[Runner<P, D>],
     slots: usize,
     snapshot: &Snapshot,
 ) -> bool
@@ -173,13 +181,15 @@ fn is_settled<D: BlockDevice + Drop>(
 }
 
 // The shards go on by turns until nothing is left to do, and each has looked at the register as it is then.
-pub(crate) fn end_all<D: BlockDevice + Drop, R: Wait>(
+pub(crate) fn end_all<P: Performs + Drop, D: BlockDevice + Drop, R: Wait>(
     rt: &R,
     register: &Register,
     pass: &mut Pass,
-    runners: &mut [Runner<InPlace<D>, D>],
+    runners: &mut [Runner<P, D>],
     slots: usize,
 ) -> Snapshot
+where
+    P: TakesParts<D>,
     requires slots { slots ≤ 32 }
     requires pass { IsPassOf register.now pass.old }
     requires runners { All (λ runner. IsPassOf register.now runner.shard.pass) runners.old }
@@ -200,6 +210,7 @@ pub(crate) fn end_all<D: BlockDevice + Drop, R: Wait>(
         if over && is_settled(runners, slots, &snapshot) {
             return snapshot;
         }
+        thread::yield_now();
     }
     unreachable!()
 }

@@ -6,7 +6,7 @@ ghost use Rattle.r6_engine.specs.Generations.{HasAgreed, IsAttached, answered_in
 use r6_dev::BlockDevice;
 use r6_feed::{EventAnswer, Outcome};
 use r6_runner::{Handed, Runner};
-use r6_shard::InPlace;
+use r6_shard::Performs;
 use std::sync::Wait;
 
 // Of an attach its event, and the generation that it was answered, 0 where it was refused.
@@ -70,10 +70,10 @@ fn has_agreed(answers: &[EventAnswer], handed: &[Handed]) -> bool
 /// Waits for good unless the parts came to each shard under the generations that their attaches were answered, and
 /// none was taken in whose attach was refused. The calling thread hands each part out with the generation that it was
 /// answered, no thread writes another, and a shard has looked at generation 0 from the start, so this is never met.
-pub(crate) fn await_agreement<D: BlockDevice + Drop, R: Wait>(
+pub(crate) fn await_agreement<P: Performs + Drop, D: BlockDevice + Drop, R: Wait>(
     rt: &R,
     answers: &[EventAnswer],
-    runners: &[Runner<InPlace<D>, D>],
+    runners: &[Runner<P, D>],
 )
     ensures { All (λ runner. HasAgreed answers.now runner.handed.items) runners.now }
 {

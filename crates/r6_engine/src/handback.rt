@@ -1,42 +1,75 @@
 //! What is handed back once the threads have ended.
 
-ghost use Rattle.std.specs.Prelude.{◌≡◌, ◌≤◌, [], All, length, vec_capacity, IfOk};
+ghost use Rattle.std.specs.Prelude.{◌≡◌, ◌≤◌, ◌+◌, ◌++◌, ℕ, [], All, IsPermutation, None, length, reverse, vec_capacity, IfOk};
 ghost use Rattle.std.specs.List.{AllZip};
-ghost use Rattle.r6_engine.specs.Ledgers.{AreBack, FitsPage, IsLedgerOf, IsPage, in_sync_in};
+ghost use Rattle.r6_shard.specs.Parts.{labels_of};
+ghost use Rattle.r6_runner.specs.Runners.{IsOver};
+ghost use Rattle.r6_remote.specs.Remotes.{IsRemote, performer_of};
+ghost use Rattle.r6_crew.specs.Crews.{AreTakenBack};
+ghost use Rattle.r6_engine.specs.Crews.{MeetsAt, StandsAt, exchanges_at};
+ghost use Rattle.r6_engine.specs.Ledgers.{AreBack, FitsPage, IsLedgerOf, IsPage, IsEmpty, in_sync_in};
 ghost use Rattle.r6_engine.specs.Replies.{said_by, said_by_all, with_all};
 
+use crate::crew::Site;
 use crate::ledger::{Ledger, LedgerEntry};
 use crate::part::ShardParts;
+use crate::post::{Post, next_workers};
+use crate::posting::Posting;
 use crate::replies::Replies;
 use r6_core::Core;
+use r6_crew::{Back, take_back};
 use r6_dev::BlockDevice;
+use r6_exchange::{Part, Worker};
+use r6_remote::Remote;
 use r6_runner::Runner;
-use r6_shard::{InPlace, Shard};
+use r6_shard::Shard;
 use std::alloc::{AllocError, Global};
+use std::sync::Wait;
 
-/// Room for the ledger of a shard.
+/// Room for the ledger of a shard, for its workers and for the parts that they hand back.
 #[derive(Drop)]
-pub(crate) struct Page {
+pub(crate) struct Page<D> {
     pub(crate) entries: Vec<LedgerEntry>,
     pub(crate) in_sync: Vec<(usize, u32)>,
+    pub(crate) workers: Vec<Worker<D>>,
+    pub(crate) back: Back<D>,
 }
 
-// Room for so many ledgers, each with so many entries of an array with so many slots.
-pub(crate) fn pages_of(
+/// As much as a shard needs at most.
+#[derive(Clone, Copy, PartialEq, Eq, Debug)]
+pub(crate) struct PageRoom {
+    pub(crate) entries: usize,
+    pub(crate) slots: usize,
+    pub(crate) workers: usize,
+    pub(crate) parts: usize,
+}
+
+impl<D: BlockDevice + Drop> Page<D> {
+    // An empty page.
+    fn new(alloc: Global, room: PageRoom) -> Result<Page<D>, AllocError>
+        ensures { IfOk result (IsPage room) }
+    {
+        Ok(Page {
+            entries: Vec::with_capacity(alloc, room.entries)?,
+            in_sync: Vec::with_capacity(alloc, room.slots)?,
+            workers: Vec::with_capacity(alloc, room.workers)?,
+            back: Back::with_capacity(alloc, room.parts)?,
+        })
+    }
+}
+
+// Pages for so many shards.
+pub(crate) fn pages_of<D: BlockDevice + Drop>(
     alloc: Global,
     shards: usize,
-    entries: usize,
-    slots: usize,
-) -> Result<Vec<Page>, AllocError>
-    ensures pages { IfOk result (λ pages. All (IsPage entries slots) pages.items) }
+    room: PageRoom,
+) -> Result<Vec<Page<D>>, AllocError>
+    ensures pages { IfOk result (λ pages. All (IsPage room) pages.items) }
     ensures count { IfOk result (λ pages. length pages.items ≡ shards) }
 {
     let mut pages = Vec::with_capacity(alloc, shards)?;
     for _ in 0..shards {
-        pages.push_reserved(Page {
-            entries: Vec::with_capacity(alloc, entries)?,
-            in_sync: Vec::with_capacity(alloc, slots)?,
-        });
+        pages.push_reserved(Page::new(alloc, room)?);
     }
     Ok(pages)
 }
@@ -54,21 +87,73 @@ fn add_in_sync(core: &Core, slots: usize, in_sync: &mut Vec<(usize, u32)>)
     }
 }
 
+// The workers of a shard at rest are told that nothing more comes, and hand its parts back.
+fn take_parts<'a, D: BlockDevice + Drop, R: Wait>(
+    rt: &R,
+    mut remote: Remote<'a, D>,
+    site: &Site<D>,
+    posts: &mut Vec<Post<'a, D>>,
+    workers: Vec<Worker<D>>,
+    back: Back<D>,
+) -> Back<D>
+    requires remote { IsRemote D.told D.promised remote }
+    requires idle { (token : ℕ) → (performer_of D.told D.promised remote).out token ≡ None }
+    requires meets { remote.exchanges.now ≡ site.now.exchanges.items }
+    requires posts { (others : _) × AllZip (StandsAt D.told D.promised) (site.now.exchanges.items ++ others)
+        (reverse posts.old.items) }
+    requires workers_room { (workers.items ≡ []) × (length site.now.exchanges.items ≤ vec_capacity workers) }
+    requires room { IsEmpty (performer_of D.told D.promised remote).part_room back }
+    ensures back { AreTakenBack D.told (performer_of D.told D.promised remote.entry) result.parts.items }
+    ensures labels { IsPermutation (performer_of D.told D.promised remote.entry).labels
+        (labels_of result.parts.items ++ labels_of result.others.items) }
+    ensures capacity { vec_capacity result.others ≡ vec_capacity back.others }
+    ensures posts { (others : _) → AllZip (StandsAt D.told D.promised) (site.now.exchanges.items ++ others)
+        (reverse posts.old.items) → AllZip (StandsAt D.told D.promised) others (reverse posts.new.items) }
+{
+    r6_crew::end(rt, &mut remote);
+    let workers = next_workers(rt, site, posts, workers);
+    take_back(remote, workers, back)
+}
+
+// With those that the shard wasn't to use, or no longer.
+fn with_others<D: Drop>(mut back: Back<D>, others: Vec<Part<D>>) -> ShardParts<D>
+    requires { length back.others.items + length others.items ≤ vec_capacity back.others }
+    ensures parts { result.parts.items ≡ back.parts.items }
+    ensures others { result.others.items ≡ back.others.items ++ others.items }
+{
+    for part in others {
+        back.others.push_reserved(part);
+    }
+    let Back { parts, others } = back;
+    ShardParts { parts, others }
+}
+
 // What a shard did is told: its answers stand among the replies, and what else it did in its ledger.
-fn turn_in<D: BlockDevice + Drop>(
-    runner: Runner<InPlace<D>, D>,
-    page: Page,
-    slots: usize,
+fn turn_in<'a, D: BlockDevice + Drop, R: Wait>(
+    rt: &R,
+    runner: Runner<Remote<'a, D>, D>,
+    page: Page<D>,
+    site: &Site<D>,
+    posts: &mut Vec<Post<'a, D>>,
+    room: PageRoom,
     replies: &mut Replies,
 ) -> (Ledger, ShardParts<D>)
-    requires fits { (room : _) × IsPage room slots page × FitsPage room slots runner }
-    ensures said { replies.new.replies.items ≡ with_all replies.old.replies.items (said_by runner) }
-    ensures ledger { IsLedgerOf runner result.0 }
-    ensures back { AreBack D.told runner result.1 }
+    requires over { IsOver runner }
+    requires fits { IsPage room page × FitsPage room runner × (length site.now.exchanges.items ≡ room.workers) }
+    requires meets { MeetsAt site.now runner }
+    requires posts { (others : _) × AllZip (StandsAt D.told D.promised) (site.now.exchanges.items ++ others)
+        (reverse posts.old.items) }
+    ensures said { replies.new.replies.items ≡ with_all replies.old.replies.items (said_by runner.entry) }
+    ensures ledger { IsLedgerOf runner.entry result.0 }
+    ensures back { AreBack D.told runner.entry result.1 }
+    ensures posts { (others : _) → AllZip (StandsAt D.told D.promised) (site.now.exchanges.items ++ others)
+        (reverse posts.old.items) → AllZip (StandsAt D.told D.promised) others (reverse posts.new.items) }
 {
     let Page {
         entries: mut told,
         mut in_sync,
+        workers,
+        back,
     } = page;
     let Runner {
         shard,
@@ -79,7 +164,7 @@ fn turn_in<D: BlockDevice + Drop>(
     } = runner;
     let Shard {
         core,
-        parts,
+        parts: remote,
         asked,
         entries,
         named,
@@ -87,11 +172,10 @@ fn turn_in<D: BlockDevice + Drop>(
         saw_out,
         ..
     } = shard;
-    let InPlace { parts, .. } = parts;
     replies.add_refused(refused.as_slice());
     replies.add_passed(passed.as_slice());
     replies.add_entries(entries, &mut told);
-    add_in_sync(&core, slots, &mut in_sync);
+    add_in_sync(&core, room.slots, &mut in_sync);
     let ledger = Ledger {
         requests: asked,
         entries: told,
@@ -102,7 +186,8 @@ fn turn_in<D: BlockDevice + Drop>(
         tokens: core.tokens(),
         last_look: last,
     };
-    (ledger, ShardParts { parts, others })
+    let back = take_parts(rt, remote, site, posts, workers, back);
+    (ledger, with_others(back, others))
 }
 
 /// What the shards did, from the first on.
@@ -126,28 +211,38 @@ impl<D: Drop> HandedBack<D> {
     }
 }
 
-// What the shards did is told, from the first on.
-pub(crate) fn hand_back<D: BlockDevice + Drop>(
-    runners: Vec<Runner<InPlace<D>, D>>,
-    mut pages: Vec<Page>,
-    slots: usize,
+// What the shards did is told, from the first on, and their workers hand the parts back.
+pub(crate) fn hand_back<'a, D: BlockDevice + Drop, R: Wait>(
+    rt: &R,
+    runners: Vec<Runner<Remote<'a, D>, D>>,
+    posting: Posting<'a, D>,
+    mut pages: Vec<Page<D>>,
+    room: PageRoom,
     replies: &mut Replies,
     mut back: HandedBack<D>,
 ) -> HandedBack<D>
-    requires fits { (room : _) × All (IsPage room slots) pages.items × All (FitsPage room slots) runners.items }
+    requires over { All IsOver runners.items }
+    requires fits { All (IsPage room) pages.items × All (FitsPage room) runners.items
+        × All (λ site. length site.exchanges.items ≡ room.workers) posting.sites.now }
     requires as_many { length pages.items ≡ length runners.items }
+    requires meets { AllZip MeetsAt posting.sites.now runners.items }
+    requires posts { AllZip (StandsAt D.told D.promised) (exchanges_at posting.sites.now) posting.posts.items }
     requires empty { (back.ledgers.items ≡ []) × (back.devices.items ≡ []) }
     requires room { (length runners.items ≤ vec_capacity back.ledgers)
         × (length runners.items ≤ vec_capacity back.devices) }
-    ensures said { replies.new.replies.items ≡ with_all replies.old.replies.items (said_by_all runners.items) }
-    ensures ledgers { AllZip IsLedgerOf runners.items result.ledgers.items }
-    ensures devices { AllZip (AreBack D.told) runners.items result.devices.items }
+    ensures said { replies.new.replies.items ≡ with_all replies.old.replies.items (said_by_all runners.entry.items) }
+    ensures ledgers { AllZip IsLedgerOf runners.entry.items result.ledgers.items }
+    ensures devices { AllZip (AreBack D.told) runners.entry.items result.devices.items }
 {
+    let Posting { sites, mut posts } = posting;
+    posts.reverse();
     for runner in runners {
         let Some(page) = pages.pop() else {
             unreachable!()
         };
-        let (ledger, devices) = turn_in(runner, page, slots, replies);
+        let shard = back.ledgers.len();
+        let site = &sites[shard];
+        let (ledger, devices) = turn_in(rt, runner, page, site, &mut posts, room, replies);
         back.ledgers.push_reserved(ledger);
         back.devices.push_reserved(devices);
     }

@@ -2,6 +2,7 @@
 #![tactic(auto)]
 
 mod beginning;
+mod crew;
 mod ending;
 mod found;
 mod generations;
@@ -10,6 +11,8 @@ mod ledger;
 mod lines;
 mod making;
 mod part;
+mod post;
+mod posting;
 mod replies;
 mod reply;
 mod running;

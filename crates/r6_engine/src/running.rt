@@ -15,7 +15,7 @@ use r6_feed::{Event, EventAnswer, Feed, Shards};
 use r6_health::Pass;
 use r6_lists::Events;
 use r6_runner::Taking;
-use r6_shard::InPlace;
+use r6_shard::{Performs, TakesParts};
 use r6_threads::Refused;
 use std::alloc::Global;
 use std::sync::Wait;
@@ -41,16 +41,18 @@ fn hand_out<L: Events, D: BlockDevice + Drop, R: Wait>(
 }
 
 // The shards run, each in a thread of its own, and the events are handed out in this one.
-pub(crate) fn run_all<L, D, R>(
+pub(crate) fn run_all<L, P, D, R>(
     rt: &R,
     alloc: Global,
     station: &Station<L, D>,
-    takings: Vec<Taking<L, InPlace<D>, D>>,
+    takings: Vec<Taking<L, P, D>>,
     feed: Feed<L, D>,
     events: Vec<Event<D>>,
-) -> Result<((Pass, Vec<EventAnswer>), Vec<Taking<L, InPlace<D>, D>>), Refused>
+) -> Result<((Pass, Vec<EventAnswer>), Vec<Taking<L, P, D>>), Refused>
 where
     L: Events + Send + Sync,
+    P: Performs + Drop + Send,
+    P: TakesParts<D>,
     D: BlockDevice + Drop + Send,
     R: Threads + Wait + Sync,
     requires ready { All (λ taking. IsPassOf station.now.shards.register.now taking.runner.shard.pass

@@ -1,6 +1,6 @@
 //! An array is served.
 
-ghost use Rattle.std.specs.Prelude.{◌≡◌, ◌*◌, ◌≤◌, ◌<◌, ◌^◌, [], IfErr, IfOk, count_ones, length};
+ghost use Rattle.std.specs.Prelude.{◌≡◌, ◌*◌, ◌≤◌, ◌<◌, ◌^◌, [], All, IfErr, IfOk, count_ones, length, map};
 ghost use Rattle.r6_layout.specs.Shape.{IsShape};
 ghost use Rattle.r6_health.specs.Histories.{start_losing};
 ghost use Rattle.r6_health.specs.Registers.{starting};
@@ -8,12 +8,15 @@ ghost use Rattle.r6_health.specs.Views.{first_of};
 ghost use Rattle.r6_feed.specs.Events.{events_of, AreWhole};
 ghost use Rattle.r6_offline.specs.Errors.{IsRefusal};
 ghost use Rattle.r6_engine.specs.Answered.{AreReplies};
+ghost use Rattle.r6_engine.specs.Crews.{HaveCrews};
 ghost use Rattle.r6_engine.specs.ServedArrays.{HasNoMore, HasServedArray};
 
+use crate::crew::{Crew, Crews, Site, crews_of};
 use crate::generations::await_agreement;
-use crate::handback::{HandedBack, hand_back, pages_of};
+use crate::handback::{HandedBack, PageRoom, hand_back, pages_of};
 use crate::ledger::Ledger;
 use crate::part::ShardParts;
+use crate::posting::Posting;
 use crate::replies::Replies;
 use crate::reply::EventReply;
 use crate::serving::{Config, Ran, run_array};
@@ -23,6 +26,7 @@ use r6_health::Snapshot;
 use r6_layout::Geometry;
 use r6_offline::EngineError;
 use r6_shard::Parts;
+use r6_threads::Refused;
 use std::alloc::Global;
 use std::sync::Wait;
 use std::thread::Threads;
@@ -51,9 +55,77 @@ fn most_tasks<D: BlockDevice>(geometry: &Geometry, events: &[Event<D>]) -> usize
     most
 }
 
-/// Serves an array: its shards, each in a thread of its own with its parts of the devices, take the events from the
-/// first to the last, while this thread hands them out and fails and attaches slots. It returns once all is done, as
-/// after a wait.
+// The most room for parts that a shard has.
+fn most_parts<D: BlockDevice>(crews: &[Crew<D>]) -> usize
+    ensures { All (λ crew. crew.room ≤ result) crews.now }
+{
+    let mut most = 0;
+    for crew in crews {
+        most = most.max(crew.room);
+    }
+    most
+}
+
+// Serves an array with these workers, of whom none is at his post yet.
+fn serve_at<D, R>(
+    rt: &R,
+    alloc: Global,
+    config: &Config,
+    sites: &[Site<D>],
+    crews: Vec<Crew<D>>,
+    events: Vec<Event<D>>,
+) -> Result<Served<D>, Refused>
+where
+    D: BlockDevice + Drop + Send,
+    R: Threads + Wait + Sync,
+    requires limits { IsShape config.now.geometry }
+    requires window { (1 ≤ config.now.window) × (config.now.window ≤ 8) }
+    requires slots { config.now.lost < 2 ^ config.now.geometry.slots }
+    requires few { count_ones config.now.lost ≤ 2 }
+    requires crews { HaveCrews D.told D.promised config.now.workers (events_of D.told events.items) sites.now
+        crews.items }
+    requires as_many { length crews.items ≡ config.now.geometry.shards }
+    requires whole { AreWhole config.now.geometry.shards events.items }
+    ensures served { IfOk result (HasServedArray D.told D.promised config.now.geometry events.items
+        (starting config.now.lost)
+        (first_of (start_losing config.now.geometry.slots config.now.geometry.shards config.now.lost))
+        (map (λ crew. crew.parts) crews.items)) }
+    ensures replies { IfOk result (λ served. AreReplies config.now.geometry (events_of D.told events.items)
+        served.ledgers.items served.replies.items) }
+{
+    let geometry = config.geometry;
+    let mut replies = Replies::new(alloc, events.len())?;
+    let room = PageRoom {
+        entries: most_tasks(&geometry, &events),
+        slots: geometry.slots(),
+        workers: config.workers,
+        parts: most_parts(&crews),
+    };
+    let pages = pages_of(alloc, geometry.shards(), room)?;
+    let back = HandedBack::with_capacity(alloc, geometry.shards())?;
+    let posting = Posting::new(alloc, sites)?;
+    let (ran, posting) = run_array(rt, alloc, config, posting, crews, events)?;
+    let Ran {
+        runners,
+        answers,
+        pass: _,
+        snapshot,
+    } = ran;
+    await_agreement(rt, answers.as_slice(), runners.as_slice());
+    let back = hand_back(rt, runners, posting, pages, room, &mut replies, back);
+    replies.add_answers(answers.as_slice());
+    Ok(Served {
+        replies: replies.replies,
+        ledgers: back.ledgers,
+        devices: back.devices,
+        snapshot,
+    })
+}
+
+/// Serves an array: its shards, each in a thread of its own, take the events from the first to the last, while this
+/// thread hands them out and fails and attaches slots. The io workers of a shard, each in a thread of its own too,
+/// perform its commands: slot d, with its parts of the devices, is served by worker d modulo their number. It returns
+/// once all is done, as after a wait.
 ///
 /// Each shard must have its parts, and each new device a part for every shard. All memory is taken, and all threads
 /// are there, before the first command.
@@ -86,25 +158,8 @@ where
         served.ledgers.items served.replies.items) }
     ensures refused { IfErr result IsRefusal }
 {
-    let geometry = config.geometry;
-    let mut replies = Replies::new(alloc, events.len())?;
-    let most = most_tasks(&geometry, &events);
-    let pages = pages_of(alloc, geometry.shards(), most, geometry.slots())?;
-    let back = HandedBack::with_capacity(alloc, geometry.shards())?;
-    let ran = run_array(rt, alloc, config, parts, events)?;
-    let Ran {
-        runners,
-        answers,
-        pass: _,
-        snapshot,
-    } = ran;
-    await_agreement(rt, answers.as_slice(), runners.as_slice());
-    let back = hand_back(runners, pages, geometry.slots(), &mut replies, back);
-    replies.add_answers(answers.as_slice());
-    Ok(Served {
-        replies: replies.replies,
-        ledgers: back.ledgers,
-        devices: back.devices,
-        snapshot,
-    })
+    let made = crews_of(alloc, &config.geometry, config.workers, parts, &events)?;
+    let Crews { sites, crews } = made;
+    let served = serve_at(rt, alloc, &config, &sites, crews, events)?;
+    Ok(served)
 }

@@ -1,17 +1,23 @@
 //! The shards of an array run, each in a thread of its own.
 
-ghost use Rattle.std.specs.Prelude.{◌≡◌, ◌↔◌, ℕ, ◌≤◌, ◌<◌, ◌^◌, IfOk, count_ones, length};
+ghost use Rattle.std.specs.Prelude.{◌≡◌, ◌≤◌, ◌<◌, ◌^◌, IfOk, count_ones, length, map};
+ghost use Rattle.std.specs.List.{AllZip};
 ghost use Rattle.r6_layout.specs.Shape.{IsShape};
 ghost use Rattle.r6_health.specs.Passes.{view_of};
 ghost use Rattle.r6_health.specs.Histories.{start_losing};
 ghost use Rattle.r6_health.specs.Registers.{starting};
 ghost use Rattle.r6_health.specs.Views.{first_of};
 ghost use Rattle.r6_feed.specs.Events.{events_of, AreWhole};
-ghost use Rattle.r6_engine.specs.Named.{AttachesFailNone};
+ghost use Rattle.r6_engine.specs.Begun.{HasBegun};
+ghost use Rattle.r6_engine.specs.Crews.{HasRoomOf, HaveRoomyCrews, MeetsAt, StandsAt, StaysAt, exchanges_at};
+ghost use Rattle.r6_engine.specs.Named.{AreSoundHere};
 ghost use Rattle.r6_engine.specs.RanArrays.{HasRunArray};
 
 use crate::beginning::{Begun, Rooms, begin};
+use crate::crew::Crew;
 use crate::ending::end_all;
+use crate::post::Closing;
+use crate::posting::Posting;
 use crate::running::run_all;
 use crate::settling::settle;
 use crate::worker::Station;
@@ -20,8 +26,9 @@ use r6_feed::{Event, EventAnswer, Shards};
 use r6_health::{Pass, Snapshot};
 use r6_layout::Geometry;
 use r6_lists::Events;
+use r6_remote::Remote;
 use r6_runner::Runner;
-use r6_shard::{InPlace, Parts, Performs};
+use r6_shard::{Performs, TakesParts};
 use r6_threads::Refused;
 use std::alloc::Global;
 use std::marker::Brand;
@@ -34,7 +41,7 @@ pub struct Config {
     pub geometry: Geometry,
     /// Rows of a slot that may be rebuilt at one time, 1 to 8.
     pub window: usize,
-    /// Io workers of a shard, 1 to 8. Today each shard performs its commands in place, whatever it is.
+    /// Io workers of a shard, 1 to 8: slot d is served by worker d modulo their number.
     pub workers: usize,
     /// The slots that are lost at the start, a bit each.
     pub lost: u32,
@@ -53,37 +60,36 @@ pub(crate) struct Ran<P: Performs, D> {
     pub(crate) snapshot: Snapshot,
 }
 
-fn run_as<L, D, R>(
+// The shards take the events from the first to the last, each in a thread of its own, while this thread hands them out
+// and fails and attaches slots. Then they go on in this thread, until nothing is left to do.
+fn serve_all<L, P, D, R>(
     rt: &R,
     alloc: Global,
-    config: Config,
-    parts: Vec<Parts<D>>,
+    geometry: &Geometry,
+    begun: Begun<L, P, D>,
     events: Vec<Event<D>>,
-) -> Result<Ran<InPlace<D>, D>, Refused>
+) -> Result<Ran<P, D>, Refused>
 where
     L: Events + Send + Sync,
+    P: Performs + Drop + Send,
+    P: TakesParts<D>,
     D: BlockDevice + Drop + Send,
     R: Threads + Wait + Sync,
-    requires shape { config.geometry ≡ L.shape }
-    requires events { events_of D.told events.items ≡ L.events }
-
-    // the array and its parts
     requires limits { IsShape L.shape }
-    requires window { (1 ≤ config.window) × (config.window ≤ 8) }
-    requires slots { config.lost < 2 ^ L.shape.slots }
-    requires few { count_ones config.lost ≤ 2 }
-    requires parts { length parts.items ≡ L.shape.shards }
+    requires shape { geometry.now ≡ L.shape }
+    requires events { events_of D.told events.items ≡ L.events }
     requires whole { AreWhole L.shape.shards events.items }
-
-    requires sound { (shard : ℕ) (slot : ℕ)
-        → L.sound shard slot ↔ AttachesFailNone D.promised L.shape shard slot events.items }
-
-    ensures run { IfOk result (λ ran. HasRunArray D.told D.promised L.shape events.items (starting config.lost)
-        config.window (first_of (start_losing L.shape.slots L.shape.shards config.lost)) parts.items ran.runners.items
-        ran.answers.items (view_of ran.pass) ran.snapshot) }
+    requires sound { AreSoundHere D.promised L.shape L.sound events.items }
+    requires begun { (lost : _) × (window : _) × (parts : _)
+        × HasBegun D.told D.promised L.shape L.events lost window parts begun }
+    ensures run { (lost : _) (window : _) (parts : _)
+        → HasBegun D.told D.promised L.shape L.events lost window parts begun
+        → IfOk result (λ ran. HasRunArray D.told D.promised L.shape events.items (starting lost) window
+        (first_of (start_losing L.shape.slots L.shape.shards lost)) parts ran.runners.items ran.answers.items
+        (view_of ran.pass) ran.snapshot) }
+    ensures stays { IfOk result (λ ran.
+        AllZip (λ taking runner. StaysAt taking.runner runner) begun.takings.items ran.runners.items) }
 {
-    let geometry = config.geometry;
-    let begun = begin::<L, D, R>(rt, alloc, config, parts, &events)?;
     let Begun {
         register,
         rooms,
@@ -97,7 +103,7 @@ where
     } = rooms;
     let station = Station {
         shards: Shards {
-            geometry: &geometry,
+            geometry,
             register: &register,
             queues: &queues,
             rests: &rests,
@@ -114,28 +120,100 @@ where
     })
 }
 
-// The shards of an array run, each in a thread of its own with its parts of the devices: they take the events from the
-// first to the last, while this thread hands them out and fails and attaches slots.
-pub(crate) fn run_array<D, R>(
+fn run_as<'a, L, D, R>(
     rt: &R,
     alloc: Global,
-    config: Config,
-    parts: Vec<Parts<D>>,
+    config: &Config,
+    posting: Posting<'a, D>,
+    crews: Vec<Crew<D>>,
     events: Vec<Event<D>>,
-) -> Result<Ran<InPlace<D>, D>, Refused>
+) -> Result<(Ran<Remote<'a, D>, D>, Posting<'a, D>), Refused>
+where
+    L: Events + Send + Sync,
+    D: BlockDevice + Drop + Send,
+    R: Threads + Wait + Sync,
+    requires shape { config.now.geometry ≡ L.shape }
+    requires events { events_of D.told events.items ≡ L.events }
+
+    // the array
+    requires limits { IsShape L.shape }
+    requires window { (1 ≤ config.now.window) × (config.now.window ≤ 8) }
+    requires slots { config.now.lost < 2 ^ L.shape.slots }
+    requires few { count_ones config.now.lost ≤ 2 }
+    requires whole { AreWhole L.shape.shards events.items }
+    requires sound { AreSoundHere D.promised L.shape L.sound events.items }
+
+    // the workers, none of which is posted yet
+    requires crews { HaveRoomyCrews D.told D.promised L.shape L.events posting crews.items }
+
+    ensures run { IfOk result (λ r. HasRunArray D.told D.promised L.shape events.items (starting config.now.lost)
+        config.now.window (first_of (start_losing L.shape.slots L.shape.shards config.now.lost))
+        (map (λ crew. crew.parts) crews.items) r.0.runners.items r.0.answers.items (view_of r.0.pass) r.0.snapshot) }
+    ensures posts { IfOk result (λ r. AllZip (StandsAt D.told D.promised) (exchanges_at posting.entry.sites.now)
+        r.1.posts.items × (r.1.sites.now ≡ posting.entry.sites.now)) }
+    ensures meets { IfOk result (λ r. AllZip MeetsAt posting.entry.sites.now r.0.runners.items) }
+    ensures roomy { IfOk result (λ r. AllZip HasRoomOf crews.items r.0.runners.items) }
+{
+    let mut posting = posting;
+    let begun = begin::<L, D, R>(rt, alloc, config, crews, &events, &mut posting)?;
+    let Posting { sites, posts } = posting;
+    let closing = Closing::new();
+    let closing = &closing;
+    let geometry = &config.geometry;
+    let serving = move || -> Result<Ran<Remote<'_, D>, D>, Refused>
+        requires limits { IsShape L.shape }
+        requires shape { geometry.now ≡ L.shape }
+        requires events { events_of D.told events.items ≡ L.events }
+        requires whole { AreWhole L.shape.shards events.items }
+        requires sound { AreSoundHere D.promised L.shape L.sound events.items }
+        requires begun { (lost : _) × (window : _) × (parts : _)
+            × HasBegun D.told D.promised L.shape L.events lost window parts begun }
+        ensures run { (lost : _) (window : _) (parts : _)
+            → HasBegun D.told D.promised L.shape L.events lost window parts begun.entry
+            → IfOk result (λ ran. HasRunArray D.told D.promised L.shape events.items (starting lost) window
+            (first_of (start_losing L.shape.slots L.shape.shards lost)) parts ran.runners.items ran.answers.items
+            (view_of ran.pass) ran.snapshot) }
+        ensures stays { IfOk result (λ ran.
+            AllZip (λ taking runner. StaysAt taking.runner runner) begun.entry.takings.items ran.runners.items) }
+    {
+        let ran = serve_all(rt, alloc, geometry, begun, events);
+        closing.close();
+        ran
+    };
+    let (ran, posts) = r6_threads::run_all(rt, alloc, closing, posts, serving)?;
+    Ok((ran?, Posting { sites, posts }))
+}
+
+// The shards of an array run, each in a thread of its own, and so does each of their workers, which perform the shards'
+// commands: they take the events from the first to the last, while this thread hands them out and fails and attaches
+// slots.
+pub(crate) fn run_array<'a, D, R>(
+    rt: &R,
+    alloc: Global,
+    config: &Config,
+    posting: Posting<'a, D>,
+    crews: Vec<Crew<D>>,
+    events: Vec<Event<D>>,
+) -> Result<(Ran<Remote<'a, D>, D>, Posting<'a, D>), Refused>
 where
     D: BlockDevice + Drop + Send,
     R: Threads + Wait + Sync,
-    requires limits { IsShape config.geometry }
-    requires window { (1 ≤ config.window) × (config.window ≤ 8) }
-    requires slots { config.lost < 2 ^ config.geometry.slots }
-    requires few { count_ones config.lost ≤ 2 }
-    requires parts { length parts.items ≡ config.geometry.shards }
-    requires whole { AreWhole config.geometry.shards events.items }
+    requires limits { IsShape config.now.geometry }
+    requires window { (1 ≤ config.now.window) × (config.now.window ≤ 8) }
+    requires slots { config.now.lost < 2 ^ config.now.geometry.slots }
+    requires few { count_ones config.now.lost ≤ 2 }
+    requires whole { AreWhole config.now.geometry.shards events.items }
+    requires crews { HaveRoomyCrews D.told D.promised config.now.geometry (events_of D.told events.items) posting
+        crews.items }
 
-    ensures run { IfOk result (λ ran. HasRunArray D.told D.promised config.geometry events.items (starting config.lost)
-        config.window (first_of (start_losing config.geometry.slots config.geometry.shards config.lost)) parts.items
-        ran.runners.items ran.answers.items (view_of ran.pass) ran.snapshot) }
+    ensures run { IfOk result (λ r. HasRunArray D.told D.promised config.now.geometry events.items
+        (starting config.now.lost) config.now.window
+        (first_of (start_losing config.now.geometry.slots config.now.geometry.shards config.now.lost))
+        (map (λ crew. crew.parts) crews.items) r.0.runners.items r.0.answers.items (view_of r.0.pass) r.0.snapshot) }
+    ensures posts { IfOk result (λ r. AllZip (StandsAt D.told D.promised) (exchanges_at posting.entry.sites.now)
+        r.1.posts.items × (r.1.sites.now ≡ posting.entry.sites.now)) }
+    ensures meets { IfOk result (λ r. AllZip MeetsAt posting.entry.sites.now r.0.runners.items) }
+    ensures roomy { IfOk result (λ r. AllZip HasRoomOf crews.items r.0.runners.items) }
 {
-    run_as::<Brand, D, R>(rt, alloc, config, parts, events)
+    run_as::<Brand, D, R>(rt, alloc, config, posting, crews, events)
 }

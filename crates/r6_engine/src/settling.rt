@@ -7,12 +7,12 @@ ghost use Rattle.r6_engine.specs.Serves.{AreNumbered};
 use r6_dev::BlockDevice;
 use r6_lists::Events;
 use r6_runner::{Runner, Taking};
-use r6_shard::InPlace;
+use r6_shard::Performs;
 
 // Settles what the shards took, from the first on: all of their tasks, each once, in the order of the events.
-pub(crate) fn settle<L: Events, D: BlockDevice + Drop>(
-    takings: Vec<Taking<L, InPlace<D>, D>>,
-    runners: &mut Vec<Runner<InPlace<D>, D>>,
+pub(crate) fn settle<L: Events, P: Performs + Drop, D: BlockDevice + Drop>(
+    takings: Vec<Taking<L, P, D>>,
+    runners: &mut Vec<Runner<P, D>>,
 )
     // one of each shard, in their order, each at the end of its queue
     requires shards { length takings.items ≡ L.shape.shards }

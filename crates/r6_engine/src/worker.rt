@@ -9,7 +9,7 @@ use r6_dev::BlockDevice;
 use r6_feed::Shards;
 use r6_lists::Events;
 use r6_runner::Taking;
-use r6_shard::InPlace;
+use r6_shard::{Performs, TakesParts};
 use r6_threads::Work;
 use std::sync::Wait;
 
@@ -20,11 +20,13 @@ pub(crate) struct Station<'a, L: Events, D: BlockDevice> {
 }
 
 // The shard takes from its queue until its end, and does all that it took.
-fn run_on<L: Events, D: BlockDevice + Drop, R: Wait>(
-    taking: &mut Taking<L, InPlace<D>, D>,
+fn run_on<L: Events, P: Performs + Drop, D: BlockDevice + Drop, R: Wait>(
+    taking: &mut Taking<L, P, D>,
     rt: &R,
     shards: &Shards<L, D>,
 )
+where
+    P: TakesParts<D>,
     requires { IsPassOf shards.now.register.now taking.old.runner.shard.pass
         × IsConsumerIn shards.now.queues.now taking.old.consumer }
     ensures pass { IsPassOf shards.now.register.now taking.new.runner.shard.pass }
@@ -39,7 +41,11 @@ fn run_on<L: Events, D: BlockDevice + Drop, R: Wait>(
     taking.run(rt, shards.register, queue, &shards.rests[shard]);
 }
 
-impl<'a, L: Events, D: BlockDevice + Drop> Work<Station<'a, L, D>> for Taking<L, InPlace<D>, D> {
+impl<'a, L: Events, P: Performs + Drop, D: BlockDevice + Drop> Work<Station<'a, L, D>>
+    for Taking<L, P, D>
+where
+    P: TakesParts<D>,
+{
     ghost ready = { λ station taking. IsPassOf station.shards.register.now taking.runner.shard.pass
         × IsConsumerIn station.shards.queues.now taking.consumer };
 

@@ -1,14 +1,17 @@
 use Rattle.std.proofs.Common.{arith, ℕ, ◌^◌, ◌<◌, ◌≤◌, ◌∙◌, ap, subst, sym, vec_capacity}
+use Rattle.std.proofs.lemmas.List.{length-map}
 use Rattle.std.specs.List.{AllZip}
 use Rattle.r6_layout.specs.Shape.{Shape}
 use Rattle.r6_world.specs.Registers.{Snapshot}
 use Rattle.r6_health.specs.declared.history.View.{View}
 use Rattle.r6_health.specs.Histories.{start_losing}
 use Rattle.r6_health.specs.Passes.{IsPassOf, view_of}
+use Rattle.r6_health.specs.Registers.{starting}
 use Rattle.r6_health.specs.Views.{first_of, newcomer}
 use Rattle.r6_feed.specs.Feeds.{AreAt}
 use Rattle.r6_engine.specs.Named.{BeginsSound}
 use Rattle.r6_engine.specs.Serves.{Begins}
+use Rattle.r6_engine.proofs.Crews.{zip-of-map}
 use Rattle.r6_engine.proofs.beginning.begin.Goals as goal
 
 pub split-caller-requires : goal.split-caller-requires
@@ -17,11 +20,9 @@ split-caller-requires g c = c.in-Ok.ensures.pass
 pub takings_of-requires-clause-shape : goal.takings_of-requires-clause-shape
 takings_of-requires-clause-shape g c = c.requires.shape
 
-pub takings_of-requires-clause-no_attach : goal.takings_of-requires-clause-no_attach
-takings_of-requires-clause-no_attach g c = ap (λ (s : Snapshot). s.attaches) c.start-start.ensures
-
-pub takings_of-requires-clause-unfailed : goal.takings_of-requires-clause-unfailed
-takings_of-requires-clause-unfailed g c = ap (λ (s : Snapshot). s.failed) c.start-start.ensures
+pub takings_of-requires-clause-start : goal.takings_of-requires-clause-start
+takings_of-requires-clause-start g c =
+    (ap (λ (s : Snapshot). s.attaches) c.start-start.ensures, ap (λ (s : Snapshot). s.failed) c.start-start.ensures)
 
 pub takings_of-requires-clause-pass : goal.takings_of-requires-clause-pass
 takings_of-requires-clause-pass g c = c.split-caller.ensures.pass
@@ -37,48 +38,46 @@ takings_of-requires-clause-first g c =
       mine = ap (λ (v : View). v.mine) known;
     }
 
-pub returns-clause-calling : goal.returns-clause-calling
-returns-clause-calling g c =
-    let lost = c.args.config.lost in (
-      subst (IsPassOf c.in-Ok.register) (sym c.in_ok-feed.ensures.begins.1) c.split-caller.ensures.new,
-      ap view_of c.in_ok-feed.ensures.begins.1 ∙ c.split-caller.ensures.newcomer ∙ ap newcomer c.in-Ok.ensures.first
-          ∙ ap (λ (s : Shape). first_of (start_losing s.slots s.shards lost)) c.requires.shape,
-      c.in_ok-feed.ensures.begins.0,
-    )
-
-pub returns-clause-shards : goal.returns-clause-shards
-returns-clause-shards g c = (
-  subst (λ start. AllZip (λ p t. Begins g.D.BlockDevice.told g.L.Events.shape g.L.Events.events start c.args.config.window p
-      t.consumer.shard t.consumer.numbers.items t.runner) c.args.parts.items c.in_ok-takings.takings.items)
-      c.start-start.ensures c.in_ok-takings.ensures.begins,
-  subst (λ start. AllZip (λ p t. BeginsSound g.D.BlockDevice.promised g.L.Events.shape start p
-      t.consumer.shard t.runner) c.args.parts.items c.in_ok-takings.takings.items)
-      c.start-start.ensures c.in_ok-takings.ensures.sound,
-  c.in_ok-takings.ensures.numbered,
-  c.in_ok-takings.ensures.passes,
-  c.in_ok-takings.ensures.consumers,
-)
-
-pub returns-clause-rooms : goal.returns-clause-rooms
-returns-clause-rooms g c =
+pub returns-clause-begun : goal.returns-clause-begun
+returns-clause-begun g c =
+    let told = g.D.BlockDevice.told in
+    let promised = g.D.BlockDevice.promised in
+    let L = g.L.Events in
+    let lost = c.args.config.now.lost in
+    let window = c.args.config.now.window in
+    let crews = c.args.crews.items in
+    let takings = c.in_ok-takings.takings.items in
     let shape = c.requires.shape in
     let first = c.in-Ok.ensures.first in
     let start = c.in-Ok.ensures.pass.same_start in
+    let lines = c.in_ok-takings.ensures.lines in
     let shards = c.shards.ensures.value ∙ ap (λ (s : Shape). s.shards) shape in
-    let rests = c.shards-2.ensures.value ∙ ap (λ (s : Shape). s.shards) shape in (
-      sym (ap (λ s. s.slots) start) ∙ ap (λ (v : View). v.start.slots) first ∙ ap (λ (s : Shape). s.slots) shape,
-      sym (ap (λ s. s.shards) start) ∙ ap (λ (v : View). v.start.shards) first ∙ ap (λ (s : Shape). s.shards) shape,
-      c.in_ok-runners.ensures.items,
-      subst (λ (n : ℕ). n ≤ vec_capacity c.in_ok-runners.runners) shards c.in_ok-runners.ensures.capacity,
-      c.in_ok-takings.ensures.lines.1,
-      c.in_ok-rests.ensures ∙ rests,
-    )
-
-pub returns-clause-producers : goal.returns-clause-producers
-returns-clause-producers g c =
-    let begun = c.in_ok-takings.ensures.lines in
-    subst (λ ps. AreAt g.L.Events.shape g.L.Events.events c.takings_of.new.lines.queues.items 0 ps.items) (sym c.in_ok-feed.ensures.producers)
-    (record { shards = begun.0.as_many ∙ begun.1; each = begun.0.each })
+    let rests = c.shards-2.ensures.value ∙ ap (λ (s : Shape). s.shards) shape in
+    record {
+      pass = subst (IsPassOf c.in-Ok.register) (sym c.in_ok-feed.ensures.begins.1) c.split-caller.ensures.new;
+      first = ap view_of c.in_ok-feed.ensures.begins.1 ∙ c.split-caller.ensures.newcomer ∙ ap newcomer c.in-Ok.ensures.first
+          ∙ ap (λ (s : Shape). first_of (start_losing s.slots s.shards lost)) shape;
+      none_handed = c.in_ok-feed.ensures.begins.0;
+      producers = subst (λ ps. AreAt L.shape L.events c.takings_of.new.lines.queues.items 0 ps.items) (sym c.in_ok-feed.ensures.producers)
+          (record { shards = lines.0.as_many ∙ lines.1; each = lines.0.each });
+      as_many = length-map crews (λ crew. crew.parts) ∙ c.requires.crews.whole;
+      begins = zip-of-map (λ crew. crew.parts) (λ p t. Begins told L.shape L.events (starting lost) window p t.consumer.shard
+          t.consumer.numbers.items t.runner) crews takings
+          (subst (λ start. AllZip (λ crew t. Begins told L.shape L.events start window crew.parts t.consumer.shard
+          t.consumer.numbers.items t.runner) crews takings) c.start-start.ensures c.in_ok-takings.ensures.begins);
+      sound = zip-of-map (λ crew. crew.parts) (λ p t. BeginsSound promised L.shape (starting lost) p t.consumer.shard t.runner) crews takings
+          (subst (λ start. AllZip (λ crew t. BeginsSound promised L.shape start crew.parts t.consumer.shard t.runner) crews takings)
+          c.start-start.ensures c.in_ok-takings.ensures.sound);
+      numbered = c.in_ok-takings.ensures.numbered;
+      passes = c.in_ok-takings.ensures.passes;
+      consumers = c.in_ok-takings.ensures.consumers;
+      slots = sym (ap (λ s. s.slots) start) ∙ ap (λ (v : View). v.start.slots) first ∙ ap (λ (s : Shape). s.slots) shape;
+      shards = sym (ap (λ s. s.shards) start) ∙ ap (λ (v : View). v.start.shards) first ∙ ap (λ (s : Shape). s.shards) shape;
+      no_runner = c.in_ok-runners.ensures.items;
+      runners_room = subst (λ (n : ℕ). n ≤ vec_capacity c.in_ok-runners.runners) shards c.in_ok-runners.ensures.capacity;
+      queues = lines.1;
+      rests = c.in_ok-rests.ensures ∙ rests;
+    }
 
 pub takings_of-requires-clause-none : goal.takings_of-requires-clause-none
 takings_of-requires-clause-none g c = c.in_ok-lines.ensures.empty
@@ -94,13 +93,13 @@ pub new-requires-clause-few : goal.new-requires-clause-few
 new-requires-clause-few g c = c.requires.few
 
 pub new-requires-clause-slots : goal.new-requires-clause-slots
-new-requires-clause-slots g c = subst (λ (s : Shape). c.args.config.lost < 2 ^ s.slots) (sym c.requires.shape) c.requires.slots
+new-requires-clause-slots g c = subst (λ (s : Shape). c.args.config.now.lost < 2 ^ s.slots) (sym c.requires.shape) c.requires.slots
 
 pub start-start-requires-clause-few : goal.start-start-requires-clause-few
 start-start-requires-clause-few g c = c.requires.few
 
 pub start-start-requires-clause-slots : goal.start-start-requires-clause-slots
-start-start-requires-clause-slots g c = subst (λ (s : Shape). c.args.config.lost < 2 ^ s.slots) (sym c.requires.shape) c.requires.slots
+start-start-requires-clause-slots g c = subst (λ (s : Shape). c.args.config.now.lost < 2 ^ s.slots) (sym c.requires.shape) c.requires.slots
 
 pub takings_of-requires-clause-events : goal.takings_of-requires-clause-events
 takings_of-requires-clause-events g c = c.requires.events
@@ -111,8 +110,8 @@ takings_of-requires-clause-limits g c = c.requires.limits
 pub takings_of-requires-clause-window : goal.takings_of-requires-clause-window
 takings_of-requires-clause-window g c = c.requires.window
 
-pub takings_of-requires-clause-whole : goal.takings_of-requires-clause-whole
-takings_of-requires-clause-whole g c = c.requires.parts
+pub takings_of-requires-clause-crews : goal.takings_of-requires-clause-crews
+takings_of-requires-clause-crews g c = c.requires.crews
 
 pub new-requires-2-clause-events : goal.new-requires-2-clause-events
 new-requires-2-clause-events g c = c.requires.events

@@ -59,3 +59,9 @@ returns-then-is_settled-clause-over g c = c.go_round_all-over.ensures.over c.if-
 
 pub returns-then-is_settled-clause-in_sync : goal.returns-then-is_settled-clause-in_sync
 returns-then-is_settled-clause-in_sync g c = c.is_settled.ensures.in_sync c.if-is_settled.true
+
+pub returns-then-is_settled-clause-looked : goal.returns-then-is_settled-clause-looked
+returns-then-is_settled-clause-looked g c = c.is_settled.ensures.looked c.if-is_settled.true
+
+pub returns-then-is_settled-clause-rebuilt : goal.returns-then-is_settled-clause-rebuilt
+returns-then-is_settled-clause-rebuilt g c = c.is_settled.ensures.rebuilt c.if-is_settled.true

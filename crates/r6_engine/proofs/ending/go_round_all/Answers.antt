@@ -23,6 +23,12 @@ loop-k-init g c = record {
   over = λ yes i d less. absurd (omega (arith, less));
 }
 
+pub go_round-requires-clause-runner : goal.go_round-requires-clause-runner
+go_round-requires-clause-runner g c =
+    let long = AllZip-long TakesNoMore c.args.runners.now c.loop-k.runners c.loop-k.invariant.goes in
+    let test = c.loop-k-test.true in
+    c.loop-k.invariant.passes c.loop-k.k c.index-runners-k.result (omega (arith, long, test))
+
 pub loop-k-preserved : goal.loop-k-preserved
 loop-k-preserved g c =
     let register = c.args.register.now in

@@ -1,13 +1,12 @@
-use Rattle.std.proofs.Common.{arith, ◌≡◌, ◌≤◌, ◌∙◌, ℕ, [], ap, length, refl, subst, sym}
-use Rattle.std.proofs.lemmas.List.{length-map}
+use Rattle.std.proofs.Common.{◌≡◌, ◌≤◌, ◌∙◌, ◌++◌, ℕ, List, [], ap, length, subst, sym, IsPermutation}
+use Rattle.std.proofs.lemmas.List.Sorted.{Contains-permutation, IsPermutation-append_left, IsPermutation-trans}
 use Rattle.r6_lists.specs.Events.{tasks_of}
-use Rattle.r6_shard.specs.Parts.{label_of, labels_of, part_in}
-use Rattle.r6_shard.specs.Waiting.{out_of, performer_of}
+use Rattle.r6_shard.specs.Parts.{labels_of, part_in}
 use Rattle.r6_shard.proofs.Promises.{begins-sound}
 use Rattle.r6_layout.specs.Shape.{Shape}
 use Rattle.r6_shard.specs.Here.{BeginsHere, HasUsed}
 use Rattle.r6_runner.specs.declared.runner.Runner.{Runner}
-use Rattle.r6_runner.specs.Parts.{HasAll, all_parts}
+use Rattle.r6_runner.specs.Parts.{HasAll, all_parts, labels_in}
 use Rattle.r6_runner.specs.Counted.{HasCounted, rows_of_shard}
 use Rattle.r6_runner.specs.Runners.{HasDone}
 use Rattle.r6_runner.specs.Waits.{HasAwaited}
@@ -16,54 +15,56 @@ use Rattle.r6_runner.specs.Sound.{IsSoundIn}
 use Rattle.r6_engine.proofs.making.taking_of.Goals as goal
 
 pub returns-clause-begins : goal.returns-clause-begins
-returns-clause-begins g c =
+returns-clause-begins g c = λ parts taken.
     let told = g.D.BlockDevice.told in
     let shape = g.L.Events.shape in
     let events = g.L.Events.events in
+    let labels = (g.P.Performs.performer c.args.performer).labels in
+    let runner = c.in_ok-runner.runner in
     let done = c.in_ok-runner.ensures.begins shape events in
     let own : c.new-2.result.consumer.shard ≡ c.args.place.number = ap (λ consumer. consumer.shard) c.new-2.ensures.1 ∙ c.requires.consumer.0 in
     record {
       none_taken = ap (λ consumer. consumer.numbers.items) c.new-2.ensures.1 ∙ c.requires.consumer.1;
       place = ap (λ runner. runner.shard.core.shard) c.new-2.ensures.0 ∙ c.in_ok-runner.ensures.place ∙ sym own;
-      done = subst (λ r. HasDone shape events shape c.new-2.result.consumer.shard c.args.start.now (part_in told c.args.parts.parts.items) [] r)
+      done = subst (λ r. HasDone shape events shape c.new-2.result.consumer.shard c.args.start.now (part_in told parts.parts.items) [] r)
           (sym c.new-2.ensures.0)
-          (subst (λ s. HasDone shape events s c.new-2.result.consumer.shard c.args.start.now (part_in told c.args.parts.parts.items) []
-          c.in_ok-runner.runner) c.requires.shape
-          (subst (λ n. HasDone shape events c.args.place.geometry n c.args.start.now (part_in told c.args.parts.parts.items) [] c.in_ok-runner.runner)
-          (sym own)
-          (subst (λ items. HasDone shape events c.args.place.geometry c.args.place.number c.args.start.now (part_in told items) []
-          c.in_ok-runner.runner) c.in_ok-roomy.ensures.items done)));
+          (subst (λ s. HasDone shape events s c.new-2.result.consumer.shard c.args.start.now (part_in told parts.parts.items) [] runner)
+          c.requires.shape
+          (subst (λ n. HasDone shape events c.args.place.geometry n c.args.start.now (part_in told parts.parts.items) [] runner) (sym own)
+          (subst (λ before. HasDone shape events c.args.place.geometry c.args.place.number c.args.start.now before [] runner) taken.tells done)));
       counted = subst (λ r. HasCounted (rows_of_shard shape c.new-2.result.consumer.shard) r) (sym c.new-2.ensures.0)
-          (subst (λ s. HasCounted (rows_of_shard s c.new-2.result.consumer.shard) c.in_ok-runner.runner) c.requires.shape
-          (subst (λ n. HasCounted (rows_of_shard c.args.place.geometry n) c.in_ok-runner.runner) (sym own)
-          c.in_ok-runner.ensures.counted));
+          (subst (λ s. HasCounted (rows_of_shard s c.new-2.result.consumer.shard) runner) c.requires.shape
+          (subst (λ n. HasCounted (rows_of_shard c.args.place.geometry n) runner) (sym own) c.in_ok-runner.ensures.counted));
       awaited = subst (HasAwaited events) (sym c.new-2.ensures.0) (c.in_ok-runner.ensures.awaited events);
-      all = subst (HasAll (labels_of c.args.parts.parts.items)) (sym c.new-2.ensures.0)
-          (subst (λ items. HasAll (labels_of items) c.in_ok-runner.runner) c.in_ok-roomy.ensures.items c.in_ok-runner.ensures.own.all);
-      here = λ slot begun. subst (λ (r : Runner _ _ _). HasUsed (labels_of r.shard.parts.parts.items) slot r.shard.core) (sym c.new-2.ensures.0)
+      all = subst (HasAll (labels_of parts.parts.items)) (sym c.new-2.ensures.0)
+          (IsPermutation-trans (labels_of parts.parts.items ++ labels_in runner.handed.items) (labels ++ labels_in runner.handed.items)
+          ((g.P.Performs.performer runner.shard.parts).labels ++ labels_of runner.others.items)
+          (IsPermutation-append_left (labels_in runner.handed.items) (labels_of parts.parts.items) labels taken.labels)
+          c.in_ok-runner.ensures.own.all);
+      here = λ slot begun. subst (λ (r : Runner _ _ _). HasUsed (g.P.Performs.performer r.shard.parts).labels slot r.shard.core) (sym c.new-2.ensures.0)
           (c.in_ok-runner.ensures.own.here slot
-          (subst (λ (s : Shape). BeginsHere (labels_of c.in_ok-roomy.roomy.parts.items) s.slots c.args.start.now slot) (sym c.requires.shape)
-          (subst (λ items. BeginsHere (labels_of items) shape.slots c.args.start.now slot) (sym c.in_ok-roomy.ensures.items) begun)));
+          (subst (λ (s : Shape). BeginsHere labels s.slots c.args.start.now slot) (sym c.requires.shape)
+          (λ below sync. Contains-permutation (labels_of parts.parts.items) labels (slot, 0) taken.labels (begun below sync))));
       window_is = ap (λ (r : Runner _ _ _). r.shard.core.window) c.new-2.ensures.0 ∙ c.in_ok-runner.ensures.own.window_is;
     }
 
 pub returns-clause-sound : goal.returns-clause-sound
-returns-clause-sound g c = λ slot x.
+returns-clause-sound g c = λ parts taken slot x.
     let told = g.D.BlockDevice.told in
     let promised = g.D.BlockDevice.promised in
     let shape = g.L.Events.shape in
     let start = c.args.start.now in
     let number = c.new-2.result.consumer.shard in
+    let items = parts.parts.items in
     let own : number ≡ c.args.place.number = ap (λ consumer. consumer.shard) c.new-2.ensures.1 ∙ c.requires.consumer.0 in
-    let roomy = subst (λ items. StartsSound promised shape number start slot items) (sym c.in_ok-roomy.ensures.items) x in
     subst (λ r. IsSoundIn shape number slot r) (sym c.new-2.ensures.0)
     (subst (λ n. IsSoundIn shape n slot c.in_ok-runner.runner) (sym own)
     (subst (λ s. IsSoundIn s c.args.place.number slot c.in_ok-runner.runner) c.requires.shape
     (c.in_ok-runner.ensures.sound slot
-    (begins-sound told promised c.args.place.geometry c.args.place.number slot start c.in_ok-roomy.roomy.parts.items
-    (performer_of told promised c.in_ok-roomy.roomy) refl refl
-    (subst (λ s. StartsSound promised s c.args.place.number start slot c.in_ok-roomy.roomy.parts.items) (sym c.requires.shape)
-    (subst (λ n. StartsSound promised shape n start slot c.in_ok-roomy.roomy.parts.items) own roomy))))))
+    (begins-sound told promised c.args.place.geometry c.args.place.number slot start items (g.P.Performs.performer c.args.performer)
+    taken.tells taken.promises
+    (subst (λ s. StartsSound promised s c.args.place.number start slot items) (sym c.requires.shape)
+    (subst (λ n. StartsSound promised shape n start slot items) own x))))))
 
 pub new-requires-clause-limits : goal.new-requires-clause-limits
 new-requires-clause-limits g c = c.requires.limits
@@ -104,16 +105,16 @@ new-requires-2-clause-attaches g c =
     (subst (λ (n : ℕ). length (all_parts shape events n) ≤ c.args.room.attaches) (sym c.requires.consumer.0) c.requires.room.1)
 
 pub new-requires-clause-parts_room : goal.new-requires-clause-parts_room
-new-requires-clause-parts_room g c =
-    let room = c.in_ok-roomy.ensures.room in
-    let same = ap length c.in_ok-roomy.ensures.items in
-    let long = length-map c.in_ok-roomy.roomy.parts.items label_of in omega (arith, room, same, long)
+new-requires-clause-parts_room g c = c.requires.parts_room
 
 pub returns-clause-consumer : goal.returns-clause-consumer
 returns-clause-consumer g c = c.new-2.ensures.1
 
 pub new-requires-clause-holds : goal.new-requires-clause-holds
-new-requires-clause-holds g c = tt
+new-requires-clause-holds g c = c.requires.holds
 
 pub new-requires-clause-idle : goal.new-requires-clause-idle
-new-requires-clause-idle g c = λ token. ap (λ o. out_of o token) c.in_ok-roomy.ensures.none
+new-requires-clause-idle g c = c.requires.idle
+
+pub returns-clause-performer : goal.returns-clause-performer
+returns-clause-performer g c = ap (λ (r : Runner _ _ _). r.shard.parts) c.new-2.ensures.0 ∙ c.in_ok-runner.ensures.performer

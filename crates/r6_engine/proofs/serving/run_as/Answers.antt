@@ -1,144 +1,20 @@
-use Rattle.std.proofs.Common.{◌≡◌, ◌∙◌, ◌++◌, ℕ, All, ap, drop, length, take, slice_index_or, subst, sym, true}
+use Rattle.std.proofs.Common.{◌≡◌, ◌∙◌, List, ap, length, subst, sym}
 use Rattle.std.specs.List.{AllZip}
-use Rattle.std.proofs.lemmas.Slice.Zip.{AllZip-long}
-use Rattle.r6_health.specs.Histories.{start_losing}
-use Rattle.r6_health.specs.Passes.{IsPassOf, view_of}
-use Rattle.r6_health.specs.Registers.{starting}
-use Rattle.r6_health.specs.Views.{first_of}
-use Rattle.r6_lists.specs.Queues.{IsConsumerIn}
+use Rattle.std.proofs.lemmas.Result.{IfOk-at_ok}
+use Rattle.r6_exchange.specs.declared.exchange.Exchange.{Exchange}
+use Rattle.r6_exchange.specs.Workers.{IsWorker}
 use Rattle.r6_feed.specs.Events.{events_of}
-use Rattle.r6_feed.specs.Feeds.{AreAt}
-use Rattle.r6_runner.specs.Going.{TakesNoMore}
-use Rattle.r6_runner.specs.Sound.{KeepsPromised}
-use Rattle.r6_layout.specs.Shape.{Shape}
-use Rattle.r6_engine.specs.Ending.{HaveInSync}
-use Rattle.r6_engine.specs.RanArrays.{HasRunArray}
-use Rattle.r6_engine.specs.Serves.{HasAnswered, HasRun, HaveServed}
-use Rattle.r6_engine.proofs.EachShard.{all-again, all-map, each_of, have_served, less, numbered_still, read_again, zip-map}
-use Rattle.r6_engine.proofs.Named.{are-promised, leave_sound_alone}
-use Rattle.r6_engine.proofs.Passes.{call_as_they_may, each_saw_with_pass, is_shown}
+use Rattle.r6_engine.specs.declared.crew.Site.{Site}
+use Rattle.r6_engine.specs.Crews.{HasRoomOf, MeetsAt, StandsAt, StaysAt, exchanges_at}
+use Rattle.r6_engine.proofs.Crews.{same-exchanges}
+use Rattle.r6_engine.proofs.EachShard.{each_of, zip-then}
 use Rattle.r6_engine.proofs.serving.run_as.Goals as goal
-
-pub run_all-requires-clause-ready : goal.run_all-requires-clause-ready
-run_all-requires-clause-ready g c κs within = λ k d below.
-    let made = c.in_ok-begun.ensures.shards in (
-      made.3 k d below,
-      subst (λ qs. IsConsumerIn qs (slice_index_or c.in_ok-begun.begun.takings.items k d).consumer) (sym c.deref-2.ensures.value) (made.4 k d below),
-    )
-
-pub run_all-requires-clause-producers : goal.run_all-requires-clause-producers
-run_all-requires-clause-producers g c κs within =
-    subst (λ qs. AreAt g.L.Events.shape g.L.Events.events qs c.in_ok-begun.begun.feed.number c.in_ok-begun.begun.feed.producers.items)
-    (sym c.deref-2.ensures.value)
-    (subst (λ (n : ℕ). AreAt g.L.Events.shape g.L.Events.events c.in_ok-begun.begun.rooms.queues.items n c.in_ok-begun.begun.feed.producers.items)
-    (sym c.in_ok-begun.ensures.calling.2) c.in_ok-begun.ensures.producers)
-
-pub settle-requires-clause-shards : goal.settle-requires-clause-shards
-settle-requires-clause-shards g c =
-    AllZip-long _ c.in_ok-begun.begun.takings.items c.in_ok-pass.ended.items c.in_ok-pass.ensures.run
-    ∙ AllZip-long _ c.args.parts.items c.in_ok-begun.begun.takings.items c.in_ok-begun.ensures.shards.0 ∙ c.requires.parts
-
-pub settle-requires-clause-numbered : goal.settle-requires-clause-numbered
-settle-requires-clause-numbered g c =
-    numbered_still _ (λ t. t.consumer.shard) (λ old new ran. ran.1.same) c.in_ok-begun.begun.takings.items
-    c.in_ok-pass.ended.items c.in_ok-pass.ensures.run c.in_ok-begun.ensures.shards.2
-
-pub settle-requires-clause-finished : goal.settle-requires-clause-finished
-settle-requires-clause-finished g c =
-    each_of _ (λ t. t.consumer.finished ≡ true) (λ old new ran. ran.1.all_taken) c.in_ok-begun.begun.takings.items
-    c.in_ok-pass.ended.items c.in_ok-pass.ensures.run
-
-pub run_all-requires-clause-promised : goal.run_all-requires-clause-promised
-run_all-requires-clause-promised g c κs within =
-    are-promised g.D.BlockDevice.promised g.L.Events.shape g.L.Events.sound c.args.events.items (λ shard slot. (c.requires.sound shard slot).0)
-
-pub end_all-snapshot-requires-clause-pass : goal.end_all-snapshot-requires-clause-pass
-end_all-snapshot-requires-clause-pass g c = c.in_ok-pass.ensures.pass
-
-pub end_all-snapshot-requires-clause-runners : goal.end_all-snapshot-requires-clause-runners
-end_all-snapshot-requires-clause-runners g c =
-    subst (All (λ r. IsPassOf c.in_ok-begun.begun.register r.shard.pass)) (sym (c.deref_mut.ensures.value ∙ c.settle.ensures.runners))
-    (all-map (λ t. t.runner) (λ r. IsPassOf c.in_ok-begun.begun.register r.shard.pass) c.in_ok-pass.ended.items
-    (each_of _ (λ t. IsPassOf c.in_ok-begun.begun.register t.runner.shard.pass) (λ old new ran. ran.0) c.in_ok-begun.begun.takings.items
-    c.in_ok-pass.ended.items c.in_ok-pass.ensures.run))
-
-pub returns : goal.returns
-returns g c =
-    let told = g.D.BlockDevice.told in
-    let promised = g.D.BlockDevice.promised in
-    let shape = g.L.Events.shape in
-    let events = g.L.Events.events in
-    let given = c.args.events.items in
-    let start = starting c.args.config.lost in
-    let window = c.args.config.window in
-    let parts = c.args.parts.items in
-    let olds = c.in_ok-begun.begun.takings.items in
-    let news = c.in_ok-pass.ended.items in
-    let ends = c.end_all-snapshot.new.runners in
-    let ended = c.end_all-snapshot.ensures in
-    let last = view_of c.end_all-snapshot.new.pass in
-    let answers = c.in_ok-pass.answers.items in
-    let begins = c.in_ok-begun.ensures.shards.0 in
-    let numbered = c.in_ok-begun.ensures.shards.2 in
-    let run = less _ (λ old new. HasRun shape events old.consumer.shard old.consumer.numbers.items old.runner new.consumer.shard
-    new.consumer.numbers.items new.consumer.finished new.runner) (λ old new ran. ran.1) olds news c.in_ok-pass.ensures.run in
-    let goes : AllZip (λ t r. TakesNoMore t.runner r) news ends =
-    zip-map (λ t. t.runner) (TakesNoMore) news ends
-    (subst (λ rs. AllZip (TakesNoMore) rs ends) (c.deref_mut.ensures.value ∙ c.settle.ensures.runners) ended.goes) in
-    let calls = call_as_they_may told shape events start window (λ t. t.consumer.shard) (λ t. t.consumer.numbers.items)
-    (λ t. t.consumer.finished) (λ t. t.runner) parts olds news ends begins run numbered goes in
-    let same : length ends ≡ length c.settle.new.runners.items =
-    AllZip-long (TakesNoMore) c.settle.new.runners.items ends
-    (subst (λ rs. AllZip (TakesNoMore) rs ends) c.deref_mut.ensures.value ended.goes) in
-    let whole : take c.settle.new.runners.len (ends ++ drop (length ends) c.settle.new.runners.items) ≡ ends =
-    all-again ends c.settle.new.runners.items c.settle.new.runners.len same c.settle.new.runners.ok.0 in
-    record {
-      run = subst (λ rs. HasRunArray told promised shape given start window
-          (first_of (start_losing shape.slots shape.shards c.args.config.lost)) parts rs answers last c.end_all-snapshot.result) (sym whole) (record {
-            done = subst (λ ev. HaveServed told shape ev start window parts ends) (sym c.requires.events)
-                (have_served told shape events start window (λ t. t.consumer.shard) (λ t. t.consumer.numbers.items)
-                (λ t. t.consumer.finished) (λ t. t.runner) parts olds news ends c.requires.limits c.requires.parts begins run numbered
-                c.settle.ensures.taken goes ended.over);
-            answered = subst (λ ev. HasAnswered shape ev (first_of (start_losing shape.slots shape.shards c.args.config.lost)) answers last)
-                (sym c.requires.events)
-                (subst (λ v. HasAnswered shape events v answers last) c.in_ok-begun.ensures.calling.1
-                (read_again shape events (view_of c.in_ok-begun.begun.feed.pass) answers (view_of c.in_ok-pass.pass) last
-                c.in_ok-pass.ensures.answered ended.back));
-            held = ended.snapshot.0;
-            legal = ended.snapshot.1;
-            calls = calls;
-            sound = leave_sound_alone promised shape g.L.Events.sound start given (λ t. t.consumer.shard) (λ t. t.runner) parts olds news ends
-                c.in_ok-begun.ensures.shards.1
-                (less _ (λ old new. KeepsPromised shape g.L.Events.sound old.consumer.shard old.runner new.runner)
-                (λ old new ran. ran.2) olds news c.in_ok-pass.ensures.run)
-                numbered goes calls (λ shard slot. (c.requires.sound shard slot).1);
-            unskipped = λ k d below. (slice_index_or ends k d).unskipped;
-            seen = ended.seen;
-            saw = each_saw_with_pass last ends ended.seen;
-            failure = is_shown last c.end_all-snapshot.result ends ended.seen ended.snapshot.0;
-            looked = ended.looked;
-            rebuilt = ended.rebuilt;
-            in_sync = subst (λ (n : ℕ). HaveInSync n c.end_all-snapshot.result ends) (c.slots.ensures.value ∙ ap (λ (s : Shape). s.slots) c.requires.shape) ended.in_sync;
-          });
-    }
-
-pub run_all-requires-clause-begins : goal.run_all-requires-clause-begins
-run_all-requires-clause-begins g c κs within = c.in_ok-begun.ensures.calling.2
-
-pub run_all-requires-clause-pass : goal.run_all-requires-clause-pass
-run_all-requires-clause-pass g c κs within = c.in_ok-begun.ensures.calling.0
-
-pub settle-requires-clause-room : goal.settle-requires-clause-room
-settle-requires-clause-room g c = (c.in_ok-begun.ensures.rooms.2, c.in_ok-begun.ensures.rooms.3)
 
 pub begin-requires-clause-few : goal.begin-requires-clause-few
 begin-requires-clause-few g c = c.requires.few
 
 pub begin-requires-clause-limits : goal.begin-requires-clause-limits
 begin-requires-clause-limits g c = c.requires.limits
-
-pub begin-requires-clause-parts : goal.begin-requires-clause-parts
-begin-requires-clause-parts g c = c.requires.parts
 
 pub begin-requires-clause-shape : goal.begin-requires-clause-shape
 begin-requires-clause-shape g c = c.requires.shape
@@ -149,21 +25,41 @@ begin-requires-clause-slots g c = c.requires.slots
 pub begin-requires-clause-window : goal.begin-requires-clause-window
 begin-requires-clause-window g c = c.requires.window
 
-pub run_all-requires-clause-events : goal.run_all-requires-clause-events
-run_all-requires-clause-events g c κs within = c.requires.events
-
-pub run_all-requires-clause-whole : goal.run_all-requires-clause-whole
-run_all-requires-clause-whole g c κs within = c.requires.whole
-
 pub begin-requires-clause-events : goal.begin-requires-clause-events
 begin-requires-clause-events g c = ap (events_of g.D.BlockDevice.told) c.deref.ensures.value ∙ c.requires.events
 
-pub invariant_of-station : goal.invariant_of-station
-invariant_of-station g c =
-    let made = c.in_ok-begun.ensures.rooms in
-    record {
-      shape = c.requires.shape;
-      slots = (made.0, made.1);
-      shards = ap length c.deref-2.ensures.value ∙ made.4;
-      rested = ap length c.deref-3.ensures.value ∙ made.5;
-    }
+pub run_all-requires-clause-ready : goal.run_all-requires-clause-ready
+run_all-requires-clause-ready g c κs within =
+    let told = g.D.BlockDevice.told in
+    let promised = g.D.BlockDevice.promised in
+    each_of (StandsAt told promised) (λ post. IsWorker told promised post.exchange.now post.worker)
+    (λ e post stands. subst (λ (x : Exchange _). IsWorker told promised x post.worker) (sym stands.0) stands.1)
+    (exchanges_at c.begin.new.posting.sites.now) c.begin.new.posting.posts.items c.in_ok-begun.ensures.posts
+
+pub returns-clause-posts : goal.returns-clause-posts
+returns-clause-posts g c =
+    let told = g.D.BlockDevice.told in
+    let promised = g.D.BlockDevice.promised in
+    let posting = c.begin.new.posting in (
+      subst (λ (ss : List (Site _)). AllZip (StandsAt told promised) (exchanges_at ss) c.in_ok-ran.posts.items) c.in_ok-begun.ensures.sites
+          (same-exchanges told promised (exchanges_at posting.sites.now) posting.posts.items c.in_ok-ran.posts.items c.in_ok-begun.ensures.posts
+          c.in_ok-ran.ensures.done),
+      c.in_ok-begun.ensures.sites,
+    )
+
+pub returns-clause-meets : goal.returns-clause-meets
+returns-clause-meets g c =
+    let takings = c.in_ok-begun.begun.takings.items in
+    let runners = c.in_ok-ran-2.field-0.runners.items in
+    let stays = IfOk-at_ok _ c.in_ok-ran-2.was c.in_ok-ran.ensures.call.1 in
+    subst (λ (ss : List (Site _)). AllZip MeetsAt ss runners) c.in_ok-begun.ensures.sites
+    (zip-then (λ site t. MeetsAt site t.runner) (λ t r. StaysAt t.runner r) MeetsAt (λ site t r meets stay. stay.0 ∙ meets)
+    c.begin.new.posting.sites.now takings runners c.in_ok-begun.ensures.meets stays)
+
+pub returns-clause-roomy : goal.returns-clause-roomy
+returns-clause-roomy g c =
+    let takings = c.in_ok-begun.begun.takings.items in
+    let runners = c.in_ok-ran-2.field-0.runners.items in
+    let stays = IfOk-at_ok _ c.in_ok-ran-2.was c.in_ok-ran.ensures.call.1 in
+    zip-then (λ crew t. HasRoomOf crew t.runner) (λ t r. StaysAt t.runner r) HasRoomOf (λ crew t r room stay. stay.1 ∙ room)
+    c.args.crews.items takings runners c.in_ok-begun.ensures.roomy stays

@@ -1,4 +1,4 @@
-use Rattle.std.proofs.Common.{arith, ◌≡◌, ◌∙◌, ◌≤◌, ◌++◌, ◌∷◌, [], ℕ, length, map, true, ap, sym, subst}
+use Rattle.std.proofs.Common.{arith, ◌≡◌, ◌∙◌, ◌≤◌, ◌<◌, ◌++◌, ◌∷◌, [], List, ℕ, length, map, true, ap, sym, subst, vec_capacity}
 use Rattle.std.proofs.lemmas.Iterator.Adapters.{YieldsList-from_vec}
 use Rattle.std.proofs.lemmas.Iterator.Consumers.{YieldsList-turn, YieldsList-end}
 use Rattle.std.proofs.lemmas.List.{length-map, map_push}
@@ -6,6 +6,11 @@ use Rattle.std.proofs.lemmas.Option.{get_or_from_slice_get, slice_get_within}
 use Rattle.r6_lists.specs.Events.{numbers_of, tasks_of}
 use Rattle.r6_engine.proofs.Numbers.{unchanged}
 use Rattle.r6_engine.proofs.settling.settle.Goals as goal
+
+-- one of the shards is to come, so there is room
+below-room : {A B : Type 0} (len : ℕ) (runners : List A) (yielded takings : List B) (capacity shards : ℕ) → len ≡ length runners
+    → length runners ≡ length yielded → length yielded < length takings → length takings ≡ shards → shards ≤ capacity → len < capacity
+below-room len runners yielded takings capacity shards is long turned whole room = omega (arith, is, long, turned, whole, room)
 
 pub push_reserved-requires : goal.push_reserved-requires
 push_reserved-requires g c =
@@ -15,10 +20,9 @@ push_reserved-requires g c =
     c.loop-taking.yielded c.loop-taking.taking-iterator c.loop-taking.yielded_by c.next.result c.next.new.self c.in-Some.taking
     c.in-Some.is c.next.ensures.steps in
     let kept = c.loop-taking.invariant.2 in
-    let long = ap length kept.runners ∙ length-map c.loop-taking.yielded (λ taking. taking.runner) in
-    let room = kept.room in
-    let shards = c.requires.shards in
-    omega (arith, long, turn.0, shards, room)
+    below-room c.loop-taking.runners.len c.loop-taking.runners.items c.loop-taking.yielded c.args.takings.items (vec_capacity c.loop-taking.runners)
+    g.L.Events.shape.shards c.loop-taking.runners.ok.0
+    (ap length kept.runners ∙ length-map c.loop-taking.yielded (λ taking. taking.runner)) turn.0 c.requires.shards kept.room
 
 pub loop-taking-init : goal.loop-taking-init
 loop-taking-init g c = (tt, tt, record { runners = c.requires.room.0; room = c.requires.room.1 })

@@ -1,0 +1,16 @@
+use Rattle.std.proofs.Common.{◌≡◌, ◌≤◌, length, vec_capacity}
+use Rattle.std.specs.List.{AllZip}
+use Rattle.r6_exchange.specs.Workers.{IsWorker}
+use Rattle.r6_remote.specs.Remotes.{AreFresh, AreShardPasses}
+use Rattle.r6_engine.proofs.crew.crew_of.Given as goal
+
+abbrev pub invariant-loop : goal.invariant-loop
+invariant-loop g l = record {
+  ends : AreShardPasses g.D.BlockDevice.told g.D.BlockDevice.promised l.exchanges.items l.ends.items;
+  fresh : AreFresh l.fn.room l.ends.items;
+  workers : AllZip (IsWorker g.D.BlockDevice.told g.D.BlockDevice.promised) l.exchanges.items l.own.items;
+  as_many : length l.exchanges.items ≡ l.counter;
+  exchanges_room : l.fn.workers ≤ vec_capacity l.exchanges;
+  ends_room : l.fn.workers ≤ vec_capacity l.ends;
+  own_room : l.fn.workers ≤ vec_capacity l.own;
+}

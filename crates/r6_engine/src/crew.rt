@@ -1,0 +1,95 @@
+//! A shard's io workers, as they are made.
+
+ghost use Rattle.std.specs.Prelude.{◌≡◌, ◌≤◌, IfOk, length, map};
+ghost use Rattle.r6_feed.specs.Events.{events_of};
+ghost use Rattle.r6_engine.specs.Crews.{HaveCrews, IsCrew};
+
+use r6_dev::BlockDevice;
+use r6_exchange::{Exchange, ShardPass, Worker};
+use r6_feed::{Event, count_attaches};
+use r6_layout::Geometry;
+use r6_shard::Parts;
+use r6_threads::Refused;
+use std::alloc::{AllocError, Global};
+
+/// Where a shard and its io workers meet.
+#[derive(Drop)]
+pub(crate) struct Site<D: BlockDevice> {
+    /// One for each worker, from the first on.
+    pub(crate) exchanges: Vec<Exchange<D>>,
+}
+
+/// A shard's parts of the devices, its ends of the exchanges, and its io workers.
+#[derive(Drop)]
+pub(crate) struct Crew<D> {
+    pub(crate) parts: Parts<D>,
+    pub(crate) ends: Vec<ShardPass<D>>,
+    pub(crate) workers: Vec<Worker<D>>,
+    /// As many parts may be taken up.
+    pub(crate) room: usize,
+}
+
+// So many workers for a shard with these parts, each with room for as many parts.
+fn crew_of<D: BlockDevice + Drop>(
+    alloc: Global,
+    geometry: &Geometry,
+    workers: usize,
+    parts: Parts<D>,
+    room: usize,
+) -> Result<(Site<D>, Crew<D>), AllocError>
+    requires { 1 ≤ workers }
+    ensures crew { IfOk result (λ made. IsCrew D.told D.promised workers made.0 made.1) }
+    ensures parts { IfOk result (λ made. (made.1.parts ≡ parts) × (made.1.room ≡ room)) }
+{
+    let mut exchanges = Vec::with_capacity(alloc, workers)?;
+    let mut ends = Vec::with_capacity(alloc, workers)?;
+    let mut own = Vec::with_capacity(alloc, workers)?;
+    for _ in 0..workers {
+        let (exchange, end, pass) = Exchange::new(alloc, geometry, room)?;
+        let worker = Worker::new(alloc, pass, room, None)?;
+        exchanges.push_reserved(exchange);
+        ends.push_reserved(end);
+        own.push_reserved(worker);
+    }
+    let crew = Crew {
+        parts,
+        ends,
+        workers: own,
+        room,
+    };
+    Ok((Site { exchanges }, crew))
+}
+
+/// The shards' workers, and where they meet their shards.
+#[derive(Drop)]
+pub(crate) struct Crews<D: BlockDevice> {
+    pub(crate) sites: Vec<Site<D>>,
+    pub(crate) crews: Vec<Crew<D>>,
+}
+
+// So many workers for each shard, which may be handed all parts of the events.
+pub(crate) fn crews_of<D: BlockDevice + Drop>(
+    alloc: Global,
+    geometry: &Geometry,
+    workers: usize,
+    parts: Vec<Parts<D>>,
+    events: &[Event<D>],
+) -> Result<Crews<D>, Refused>
+    requires { 1 ≤ workers }
+    ensures crews { IfOk result (λ made. HaveCrews D.told D.promised workers (events_of D.told events.now)
+        made.sites.items made.crews.items) }
+    ensures parts { IfOk result (λ made. map (λ crew. crew.parts) made.crews.items ≡ parts.items) }
+{
+    let mut sites = Vec::with_capacity(alloc, parts.len())?;
+    let mut crews = Vec::with_capacity(alloc, parts.len())?;
+    let attaches = count_attaches(events) as usize;
+    for parts in parts {
+        let Some(room) = parts.parts.len().checked_add(attaches) else {
+            return Err(Refused::NoMemory);
+        };
+        let (site, crew) = crew_of(alloc, geometry, workers, parts, room)?;
+        sites.push_reserved(site);
+        crews.push_reserved(crew);
+    }
+    Ok(Crews { sites, crews })
+}
