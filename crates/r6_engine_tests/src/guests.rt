@@ -1,4 +1,5 @@
-//! Two devices of two shards meet, each at its first command, so that one thread for both shards would never end well.
+//! Two devices meet, each at its first command: one thread for both shards, or for both workers of one shard, would
+//! never end well.
 
 ghost use Rattle.std.specs.Prelude.{◌≡◌, length};
 ghost use Rattle.r6_layout.specs.Shape.{IsShape};
@@ -79,12 +80,27 @@ impl BlockDevice for Guest<'_> {
     }
 }
 
-// A write of block 0 first reads slot 2 of shard 0, and one of block 4 slot 0 of shard 1.
-fn role_of(shard: usize, slot: usize) -> Role {
-    match (shard, slot) {
-        (0, 2) => Role::First,
-        (1, 0) => Role::Second,
-        _ => Role::Other,
+// Who is to meet, and what is written so that they do.
+#[derive(Drop)]
+struct Party {
+    shards: usize,
+    // Of each shard.
+    workers: usize,
+    // The shard and slot of one, and of the other.
+    first: (usize, usize),
+    second: (usize, usize),
+    blocks: [u64; 2],
+}
+
+impl Party {
+    fn role_of(&self, shard: usize, slot: usize) -> Role {
+        if (shard, slot) == self.first {
+            Role::First
+        } else if (shard, slot) == self.second {
+            Role::Second
+        } else {
+            Role::Other
+        }
     }
 }
 
@@ -93,6 +109,7 @@ fn parts_of_shard<'h, R: Abort>(
     alloc: Global,
     geometry: &Geometry,
     shard: usize,
+    party: &Party,
     house: &'h House,
 ) -> Parts<Guest<'h>> {
     let mut parts = Vec::with_capacity(alloc, geometry.slots()).expect(rt, "memory");
@@ -102,7 +119,7 @@ fn parts_of_shard<'h, R: Abort>(
         );
         let device = Guest {
             house,
-            role: role_of(shard, slot),
+            role: party.role_of(shard, slot),
             zeros,
         };
         let part = Part {
@@ -119,6 +136,7 @@ fn parts_of<'h, R: Abort>(
     rt: &R,
     alloc: Global,
     geometry: &Geometry,
+    party: &Party,
     house: &'h House,
 ) -> Vec<Parts<Guest<'h>>>
     ensures { length result.items ≡ geometry.now.shards }
@@ -126,35 +144,38 @@ fn parts_of<'h, R: Abort>(
     let mut parts = Vec::with_capacity(alloc, geometry.shards()).expect(rt, "memory");
     for shard in 0..geometry.shards() {
         parts
-            .push(parts_of_shard(rt, alloc, geometry, shard, house))
+            .push(parts_of_shard(rt, alloc, geometry, shard, party, house))
             .expect(rt, "memory");
     }
     parts
 }
 
-// Blocks 0 and 4 are written.
+// The blocks of the party are written.
 fn serve_guests<'h, R: Threads + Wait + Abort + Sync>(
     rt: &R,
     alloc: Global,
     geometry: &Geometry,
+    party: &Party,
     house: &'h House,
 ) -> Result<Served<Guest<'h>>, EngineError>
     requires { IsShape geometry.now }
 {
+    assert!(rt; 1 <= party.workers && party.workers <= 8);
     let config = Config {
         geometry: *geometry,
         window: 1,
-        workers: 1,
+        workers: party.workers,
         lost: 0,
     };
-    let parts = parts_of(rt, alloc, geometry, house);
+    let parts = parts_of(rt, alloc, geometry, party, house);
+    let [first, second] = party.blocks;
     let mut events = Vec::with_capacity(alloc, 2).expect(rt, "memory");
-    events.push_reserved(Event::Request(Op::Write(0, filled(rt, alloc, 0x5a))));
-    events.push_reserved(Event::Request(Op::Write(4, filled(rt, alloc, 0x5a))));
+    events.push_reserved(Event::Request(Op::Write(first, filled(rt, alloc, 0x5a))));
+    events.push_reserved(Event::Request(Op::Write(second, filled(rt, alloc, 0x5a))));
     serve(rt, alloc, config, parts, events)
 }
 
-// Both writes were done, and no command failed.
+// Each write was done, and no command failed.
 fn check_met<R: Abort>(rt: &R, served: &Served<Guest<'_>>) {
     check_answer(rt, "guests", served, 0, &Answer::Done);
     check_answer(rt, "guests", served, 1, &Answer::Done);
@@ -163,16 +184,19 @@ fn check_met<R: Abort>(rt: &R, served: &Served<Guest<'_>>) {
 }
 
 // Where memory or a thread is wanting, no device was told anything.
-#[test]
-fn each_shard_has_a_thread_of_its_own(rt: HostRuntime) -> Result<(), Fail> {
-    let geometry = Geometry::new(4, 1, 16, 4, 2)?;
+fn meet<R: Threads + Wait + Abort + Sync>(
+    rt: &R,
+    alloc: Global,
+    party: &Party,
+) -> Result<(), Fail> {
+    let geometry = Geometry::new(4, 1, 16, 4, party.shards)?;
     let house = House {
         meeting: Meeting::new(),
         commands: AtomicU64::new(0),
     };
-    match serve_guests(&rt, rt.alloc(), &geometry, &house) {
+    match serve_guests(rt, alloc, &geometry, party, &house) {
         Ok(served) => {
-            check_met(&rt, &served);
+            check_met(rt, &served);
             drop(served);
         }
         Err(error) => {
@@ -181,4 +205,30 @@ fn each_shard_has_a_thread_of_its_own(rt: HostRuntime) -> Result<(), Fail> {
         }
     }
     Ok(())
+}
+
+// A write of block 0 first reads slot 2 of shard 0, and one of block 4 slot 0 of shard 1.
+#[test]
+fn each_shard_has_a_thread_of_its_own(rt: HostRuntime) -> Result<(), Fail> {
+    let party = Party {
+        shards: 2,
+        workers: 1,
+        first: (0, 2),
+        second: (1, 0),
+        blocks: [0, 4],
+    };
+    meet(&rt, rt.alloc(), &party)
+}
+
+// A write of block 0 writes slots 0, 1 and 3, and one of block 1, of the same row, slots 0, 2 and 3.
+#[test]
+fn each_worker_has_a_thread_of_its_own(rt: HostRuntime) -> Result<(), Fail> {
+    let party = Party {
+        shards: 1,
+        workers: 2,
+        first: (0, 0),
+        second: (0, 1),
+        blocks: [0, 1],
+    };
+    meet(&rt, rt.alloc(), &party)
 }

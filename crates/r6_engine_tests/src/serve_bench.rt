@@ -12,19 +12,29 @@ use std::process::Abort;
 use std::sync::Wait;
 use std::thread::Threads;
 
-/// An array with so many shards is served: of zeros, but for byte 0 of slot 1 if it is spoiled.
+/// How many threads serve an array.
+#[derive(Clone, Copy)]
+pub(crate) struct Crowd {
+    pub(crate) shards: usize,
+    /// Of each shard, 1 to 8.
+    pub(crate) workers: usize,
+}
+
+/// An array is served by so many: of zeros, but for byte 0 of slot 1 if it is spoiled.
 pub(crate) fn play<R: Threads + Wait + Abort + Sync>(
     rt: &R,
     alloc: Global,
-    shards: usize,
+    crowd: Crowd,
     is_spoiled: bool,
     steps: &[Step],
 ) -> Served<MemoryDevice> {
+    let Crowd { shards, workers } = crowd;
     let geometry = geometry_of(rt, shards);
+    assert!(rt; 1 <= workers && workers <= 8);
     let config = Config {
         geometry,
         window: 1,
-        workers: 1,
+        workers,
         lost: 0,
     };
     let parts = parts_of(rt, alloc, &geometry, is_spoiled);

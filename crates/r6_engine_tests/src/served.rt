@@ -3,15 +3,21 @@
 use crate::answers::Answer;
 use crate::array::{Held, find};
 use crate::blocks::{SLOTS, filled};
-use crate::serve_bench::{check_steps, play};
+use crate::serve_bench::{Crowd, check_steps, play};
 use crate::steps::{Ask, Step};
 use r6_dev::MemoryDevice;
 use r6_engine::Served;
 use r6_health::{Answer as Told, Refusal, Snapshot};
+use std::alloc::Global;
 use std::process::Abort;
+use std::sync::Wait;
+use std::thread::Threads;
 
 // How many shards the arrays have.
 const SHARDS: &[usize] = &[1, 2, 4];
+
+// How many io workers each shard has.
+const WORKERS: &[usize] = &[1, 2, 8];
 
 /// How an array ends.
 #[derive(Clone, Copy)]
@@ -127,13 +133,29 @@ fn check_array<R: Abort>(rt: &R, array: &Array<'_>, served: &Served<MemoryDevice
     assert!(rt; has_ended(served, array.end), "{}", array.name);
 }
 
+// An array is served by shards with one worker each, with two, and with eight.
+fn play_with_all<R: Threads + Wait + Abort + Sync>(
+    rt: &R,
+    alloc: Global,
+    array: &Array<'_>,
+    shards: usize,
+) {
+    for workers in WORKERS {
+        let crowd = Crowd {
+            shards,
+            workers: *workers,
+        };
+        let served = play(rt, alloc, crowd, array.is_spoiled, array.steps);
+        check_array(rt, array, &served);
+        drop(served);
+    }
+}
+
 #[test]
 fn arrays_are_served(rt: HostRuntime) {
     for array in ARRAYS {
         for shards in array.shards {
-            let served = play(&rt, rt.alloc(), *shards, array.is_spoiled, array.steps);
-            check_array(&rt, array, &served);
-            drop(served);
+            play_with_all(&rt, rt.alloc(), array, *shards);
         }
     }
 }
@@ -173,13 +195,26 @@ const HELD: Held = Held {
 };
 
 // All blocks stand where they are to stand, and the device came back that had 0x11 throughout.
+fn check_rebuilt<R: Threads + Wait + Abort + Sync>(rt: &R, alloc: Global, shards: usize) {
+    let mut room = filled(rt, alloc, 0);
+    for workers in WORKERS {
+        let crowd = Crowd {
+            shards,
+            workers: *workers,
+        };
+        let served = play(rt, alloc, crowd, false, REBUILT.steps);
+        check_array(rt, REBUILT, &served);
+        let found = find(served.devices, &mut room, &HELD, 0x11);
+        assert!(rt;
+            (found.right, found.back) == (16, 4),
+            "{shards} shards, {workers} workers"
+        );
+    }
+}
+
 #[test]
 fn a_new_device_is_rebuilt(rt: HostRuntime) {
-    let mut room = filled(&rt, rt.alloc(), 0);
     for shards in REBUILT.shards {
-        let served = play(&rt, rt.alloc(), *shards, false, REBUILT.steps);
-        check_array(&rt, REBUILT, &served);
-        let found = find(served.devices, &mut room, &HELD, 0x11);
-        assert!(rt; (found.right, found.back) == (16, 4), "{shards} shards");
+        check_rebuilt(&rt, rt.alloc(), *shards);
     }
 }
