@@ -158,6 +158,7 @@ fn commands_take_their_courses_over_files(rt: HostRuntime) {
             refused(),
             long(),
             served::one_two_and_four_shards(),
+            served::two_and_eight_workers(),
             served::refused(),
             served::courses(),
         ],

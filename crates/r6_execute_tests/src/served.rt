@@ -56,6 +56,43 @@ pub(crate) fn one_two_and_four_shards() -> &'static [Course<'static>] {
     ONE_TWO_AND_FOUR_SHARDS
 }
 
+const TWO_AND_EIGHT_WORKERS: &[Course<'static>] = &[
+    Course {
+        name: "two-workers-print-the-same-1",
+        settings: "slots = 4\nchunk = 1\nblock = 16\nrows = 4\nshards = 1\nworkers = 2\n",
+        steps: IN_SHARDS,
+    },
+    Course {
+        name: "eight-workers-print-the-same-1",
+        settings: "slots = 4\nchunk = 1\nblock = 16\nrows = 4\nshards = 1\nworkers = 8\n",
+        steps: IN_SHARDS,
+    },
+    Course {
+        name: "two-workers-print-the-same-2",
+        settings: "slots = 4\nchunk = 1\nblock = 16\nrows = 4\nshards = 2\nworkers = 2\n",
+        steps: IN_SHARDS,
+    },
+    Course {
+        name: "eight-workers-print-the-same-2",
+        settings: "slots = 4\nchunk = 1\nblock = 16\nrows = 4\nshards = 2\nworkers = 8\n",
+        steps: IN_SHARDS,
+    },
+    Course {
+        name: "two-workers-print-the-same-4",
+        settings: "slots = 4\nchunk = 1\nblock = 16\nrows = 4\nshards = 4\nworkers = 2\n",
+        steps: IN_SHARDS,
+    },
+    Course {
+        name: "eight-workers-print-the-same-4",
+        settings: "slots = 4\nchunk = 1\nblock = 16\nrows = 4\nshards = 4\nworkers = 8\n",
+        steps: IN_SHARDS,
+    },
+];
+
+pub(crate) fn two_and_eight_workers() -> &'static [Course<'static>] {
+    TWO_AND_EIGHT_WORKERS
+}
+
 const REFUSED: &[Course<'static>] = &[
     // What is refused, and from the third loss on all is. Slot 4 and block 8 aren't there.
     Course {
