@@ -18,8 +18,9 @@ use r6_dev::BlockDevice;
 use r6_shard::{Performs, TakesParts};
 use std::sync::Wait;
 
-// As many requests may be open at one time.
-const MOST_OPEN: usize = 256;
+// As many requests may be open at one time, of the 256 that a core may have: as many as it may hold rows, and as read
+// without one. More wait in the core and are no quicker there (docs/BENCHMARKS.md).
+const MOST_OPEN: usize = 64;
 
 impl<P: Performs + Drop, D: BlockDevice + Drop> Runner<P, D>
 where

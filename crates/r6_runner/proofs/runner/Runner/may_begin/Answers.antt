@@ -47,7 +47,7 @@ returns-then-due-self-clause-few g c = λ may.
     let shard = c.args.self.now.shard in
     let unanswered = open-is c.len.result c.len-2.result _ _ shard.core.unanswered (c.len.ensures ∙ shard.asked.ok.0) (c.len-2.ensures ∙ shard.entries.ok.0)
     shard.counted in
-    let few = ltb-true (c.len.result - c.len-2.result) 256 may in
+    let few = ltb-true (c.len.result - c.len-2.result) 64 may in
     omega (arith, unanswered, few)
 
 pub returns-then-due-self-clause-follows : goal.returns-then-due-self-clause-follows
