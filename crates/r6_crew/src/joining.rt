@@ -79,6 +79,7 @@ pub fn take_back<D: BlockDevice + Drop>(
             parts,
             replaced,
             left: _,
+            idle: _,
         } = join(remote.exchanges, &mut remote.passes, at, worker);
         back.sort_in(count, at, parts);
         back.set_aside(replaced);

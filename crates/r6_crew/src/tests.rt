@@ -7,7 +7,8 @@ ghost use Rattle.r6_remote.specs.Remotes.{IsRemote, performer_of};
 
 use crate::{Back, end, take_back};
 use r6_dev::MemoryDevice;
-use r6_exchange::{Exchange, Part, Worker};
+use r6_exchange::{Exchange, Part, Wakers, Worker};
+use r6_idle::Idle;
 use r6_layout::Geometry;
 use r6_remote::Remote;
 use r6_shard::TakesParts;
@@ -82,10 +83,22 @@ fn drive<R: Abort + Wait>(
 fn the_parts_of_two_workers_come_back(rt: HostRuntime) -> Result<(), Fail> {
     let alloc = rt.alloc();
     let geometry = Geometry::new(4, 1, 16, 4, 1).expect(&rt, "four slots");
-    let (first, first_end, first_pass) = Exchange::new(alloc, &geometry, 4)?;
-    let (second, second_end, second_pass) = Exchange::new(alloc, &geometry, 4)?;
-    let one = Worker::new(alloc, first_pass, 4, None)?;
-    let two = Worker::new(alloc, second_pass, 4, None)?;
+    let (first_idle, second_idle) = (Idle::new(alloc)?, Idle::new(alloc)?);
+    let shard = Idle::new(alloc)?;
+    let (first, first_end, first_pass) = Exchange::new(
+        alloc,
+        &geometry,
+        4,
+        Wakers::of(&shard, &first_idle)?,
+    )?;
+    let (second, second_end, second_pass) = Exchange::new(
+        alloc,
+        &geometry,
+        4,
+        Wakers::of(&shard, &second_idle)?,
+    )?;
+    let one = Worker::new(alloc, first_pass, 4, None, first_idle)?;
+    let two = Worker::new(alloc, second_pass, 4, None, second_idle)?;
     let mut ends = Vec::with_capacity(alloc, 2)?;
     ends.push_reserved(first_end);
     ends.push_reserved(second_end);

@@ -15,6 +15,7 @@ use crate::serving::Config;
 use r6_dev::BlockDevice;
 use r6_feed::{Event, Feed};
 use r6_health::{Register, Snapshot};
+use r6_idle::Idle;
 use r6_lists::{Events, Queue, Rest};
 use r6_remote::Remote;
 use r6_runner::{Runner, Taking};
@@ -92,7 +93,8 @@ where
     };
     let start = Snapshot::start(&geometry, lost);
     let runners = Vec::with_capacity(alloc, geometry.shards())?;
-    let rests = rests_of(alloc, geometry.shards())?;
+    let idle = Idle::new(alloc)?;
+    let rests = rests_of(alloc, &crews, idle.waker())?;
     let mut lines = Lines::with_capacity(alloc, geometry.shards())?;
     let opening = Opening {
         geometry: &geometry,
@@ -104,7 +106,7 @@ where
     let caller = register.split(&mut first);
     let takings = takings_of(rt, alloc, &opening, &mut first, crews, &mut lines, posting)?;
     let Lines { queues, producers } = lines;
-    let feed = Feed::new(alloc, events, producers, caller)?;
+    let feed = Feed::new(alloc, events, producers, caller, idle)?;
     Ok(Begun {
         register,
         rooms: Rooms {

@@ -5,8 +5,9 @@ ghost use Rattle.r6_feed.specs.Events.{events_of};
 ghost use Rattle.r6_engine.specs.Crews.{HaveCrews, IsCrew};
 
 use r6_dev::BlockDevice;
-use r6_exchange::{Exchange, ShardPass, Worker};
+use r6_exchange::{Exchange, ShardPass, Wakers, Worker};
 use r6_feed::{Event, count_attaches};
+use r6_idle::Idle;
 use r6_layout::Geometry;
 use r6_shard::Parts;
 use r6_threads::Refused;
@@ -19,17 +20,19 @@ pub(crate) struct Site<D: BlockDevice> {
     pub(crate) exchanges: Vec<Exchange<D>>,
 }
 
-/// A shard's parts of the devices, its ends of the exchanges, and its io workers.
+/// A shard's parts of the devices, its ends of the exchanges, and its io workers, as they are made.
 #[derive(Drop)]
 pub(crate) struct Crew<D> {
     pub(crate) parts: Parts<D>,
     pub(crate) ends: Vec<ShardPass<D>>,
     pub(crate) workers: Vec<Worker<D>>,
+    /// How the shard's thread sleeps.
+    pub(crate) idle: Idle,
     /// As many parts may be taken up.
     pub(crate) room: usize,
 }
 
-// So many workers for a shard with these parts, each with room for as many parts.
+// So many workers for a shard with these parts, each with room for so many parts.
 fn crew_of<D: BlockDevice + Drop>(
     alloc: Global,
     geometry: &Geometry,
@@ -44,9 +47,12 @@ fn crew_of<D: BlockDevice + Drop>(
     let mut exchanges = Vec::with_capacity(alloc, workers)?;
     let mut ends = Vec::with_capacity(alloc, workers)?;
     let mut own = Vec::with_capacity(alloc, workers)?;
+    let idle = Idle::new(alloc)?;
     for _ in 0..workers {
-        let (exchange, end, pass) = Exchange::new(alloc, geometry, room)?;
-        let worker = Worker::new(alloc, pass, room, None)?;
+        let worker_idle = Idle::new(alloc)?;
+        let wakers = Wakers::of(&idle, &worker_idle)?;
+        let (exchange, end, pass) = Exchange::new(alloc, geometry, room, wakers)?;
+        let worker = Worker::new(alloc, pass, room, None, worker_idle)?;
         exchanges.push_reserved(exchange);
         ends.push_reserved(end);
         own.push_reserved(worker);
@@ -55,6 +61,7 @@ fn crew_of<D: BlockDevice + Drop>(
         parts,
         ends,
         workers: own,
+        idle,
         room,
     };
     Ok((Site { exchanges }, crew))

@@ -5,6 +5,7 @@ ghost use Rattle.std.specs.List.{AllZip};
 ghost use Rattle.r6_health.specs.Histories.{IsLegal, held};
 ghost use Rattle.r6_health.specs.Passes.{IsPassOf, view_of};
 ghost use Rattle.r6_health.specs.Views.{joined, newcomer};
+ghost use Rattle.r6_runner.specs.declared.left.Left.TheVariants.{Nothing};
 ghost use Rattle.r6_runner.specs.Going.{TakesNoMore};
 ghost use Rattle.r6_runner.specs.Runners.{IsOver};
 ghost use Rattle.r6_engine.specs.Ending.{HasInSync, HaveInSync, HaveTokens, IsKept, IsRebuilt, NoneIsRebuilding, tokens_of};
@@ -13,22 +14,22 @@ ghost use Rattle.r6_engine.specs.Passes.{IsHeard, IsSeen, TakesBack};
 use r6_core::Core;
 use r6_dev::BlockDevice;
 use r6_health::{Pass, Register, SlotState, Snapshot};
+use r6_idle::Idle;
 use r6_layout::MOST_SLOTS;
-use r6_runner::Runner;
+use r6_runner::{Left, Runner};
 use r6_shard::{Performs, TakesParts};
 use std::sync::Wait;
-use std::thread;
 
 // As many tokens are given in a shard.
 const MOST_TOKENS: u64 = 1 << 60;
 
-// One round of a shard; whether nothing is left to do of what it took. What its pass has seen is heard by this one.
+// One round of a shard; what is left to do of what it took. What its pass has seen is heard by this one.
 fn go_round<P: Performs + Drop, D: BlockDevice + Drop, R: Wait>(
     rt: &R,
     register: &Register,
     pass: &mut Pass,
     runner: &mut Runner<P, D>,
-) -> bool
+) -> Left
 where
     P: TakesParts<D>,
     requires pass { IsPassOf register.now pass.old }
@@ -37,21 +38,21 @@ where
     ensures heard { view_of pass.new ≡ joined (view_of pass.old) (newcomer (view_of runner.new.shard.pass)) }
     ensures runner { IsPassOf register.now runner.new.shard.pass }
     ensures goes { TakesNoMore runner.old runner.new }
-    ensures over { result ≡ true → IsOver runner.new }
+    ensures over { result ≡ Nothing → IsOver runner.new }
 {
-    let over = runner.go_round(rt, register);
+    let left = runner.go_round(rt, register);
     let seen = runner.split_pass(register);
     register.join(pass, seen);
-    over
+    left
 }
 
-// One round of each shard; whether nothing is left to do of any.
+// One round of each shard; what is left to do of any.
 fn go_round_all<P: Performs + Drop, D: BlockDevice + Drop, R: Wait>(
     rt: &R,
     register: &Register,
     pass: &mut Pass,
     runners: &mut [Runner<P, D>],
-) -> bool
+) -> Left
 where
     P: TakesParts<D>,
     requires pass { IsPassOf register.now pass.old }
@@ -60,15 +61,13 @@ where
     ensures back { TakesBack (view_of pass.old) (view_of pass.new) }
     ensures heard { All (IsHeard register.now (view_of pass.new)) runners.new }
     ensures goes { AllZip TakesNoMore runners.old runners.new }
-    ensures over { result ≡ true → All IsOver runners.new }
+    ensures over { result ≡ Nothing → All IsOver runners.new }
 {
-    let mut over = true;
+    let mut left = Left::Nothing;
     for k in 0..runners.len() {
-        if !go_round(rt, register, pass, &mut runners[k]) {
-            over = false;
-        }
+        left = left.and(go_round(rt, register, pass, &mut runners[k]));
     }
-    over
+    left
 }
 
 // Whether a slot is being rebuilt.
@@ -180,13 +179,15 @@ fn is_settled<P: Performs + Drop, D: BlockDevice + Drop>(
         && have_in_sync(runners, slots, snapshot)
 }
 
-// The shards go on by turns until nothing is left to do, and each has looked at the register as it is then.
+// The shards go on by turns until nothing is left to do, and each has looked at the register as it is then. While all
+// wait for their workers this thread sleeps.
 pub(crate) fn end_all<P: Performs + Drop, D: BlockDevice + Drop, R: Wait>(
     rt: &R,
     register: &Register,
     pass: &mut Pass,
     runners: &mut [Runner<P, D>],
     slots: usize,
+    idle: &mut Idle,
 ) -> Snapshot
 where
     P: TakesParts<D>,
@@ -205,12 +206,12 @@ where
     ensures in_sync { HaveInSync slots result runners.new }
 {
     for _ in rt.forever() {
-        let over = go_round_all(rt, register, pass, runners);
+        let left = go_round_all(rt, register, pass, runners);
         let snapshot = register.read(rt, pass);
-        if over && is_settled(runners, slots, &snapshot) {
+        if left.is_nothing() && is_settled(runners, slots, &snapshot) {
             return snapshot;
         }
-        thread::yield_now();
+        left.pause(rt, idle);
     }
     unreachable!()
 }

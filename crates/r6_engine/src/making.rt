@@ -21,6 +21,7 @@ use crate::posting::Posting;
 use r6_dev::BlockDevice;
 use r6_feed::{Event, count_attaches, count_tasks};
 use r6_health::{Pass, Register, Snapshot};
+use r6_idle::{Idle, Waker};
 use r6_layout::Geometry;
 use r6_lists::{Consumer, Events, Rest};
 use r6_remote::Remote;
@@ -29,13 +30,18 @@ use r6_shard::{Performs, Place, TakesParts};
 use std::alloc::{AllocError, Global};
 use std::sync::Wait;
 
-// Where each shard is asked for its rest.
-pub(crate) fn rests_of(alloc: Global, shards: usize) -> Result<Vec<Rest>, AllocError>
-    ensures { IfOk result (λ rests. length rests.items ≡ shards) }
+// Where each shard is asked for its rest, by the thread that this waker wakes.
+pub(crate) fn rests_of<D: BlockDevice + Drop>(
+    alloc: Global,
+    crews: &[Crew<D>],
+    caller: &Waker,
+) -> Result<Vec<Rest>, AllocError>
+    ensures { IfOk result (λ rests. length rests.items ≡ length crews.now) }
 {
-    let mut rests = Vec::with_capacity(alloc, shards)?;
-    for _ in 0..shards {
-        rests.push_reserved(Rest::new());
+    let mut rests = Vec::with_capacity(alloc, crews.len())?;
+    for crew in crews {
+        let shard = crew.idle.waker().clone()?;
+        rests.push_reserved(Rest::new(shard, caller.clone()?));
     }
     Ok(rests)
 }
@@ -67,6 +73,7 @@ pub(crate) fn taking_of<L: Events, P: Performs + Drop, D: BlockDevice + Drop>(
     performer: P,
     room: Room,
     consumer: Consumer<L, D>,
+    idle: Idle,
 ) -> Result<Taking<L, P, D>, AllocError>
 where
     P: TakesParts<D>,
@@ -102,7 +109,7 @@ where
 {
     let Room { tasks, attaches } = room;
     let runner = Runner::new(alloc, place, start, pass, performer, tasks, attaches)?;
-    Ok(Taking::new(runner, consumer))
+    Ok(Taking::new(runner, consumer, idle))
 }
 
 /// An array, as its shards' threads begin.
@@ -181,8 +188,9 @@ pub(crate) fn takings_of<'a, L: Events, D: BlockDevice + Drop, R: Wait>(
         let pass = opening.register.split(first);
         let room = room_for(opening.geometry, opening.events, place.number);
         let consumer = lines.add(alloc, place.number, room.tasks)?;
-        let remote = posting.post(rt, alloc, place.number, crew)?;
-        let taking = taking_of(alloc, place, opening.start, pass, remote, room, consumer)?;
+        let (remote, idle) = posting.post(rt, alloc, place.number, crew)?;
+        let start = opening.start;
+        let taking = taking_of(alloc, place, start, pass, remote, room, consumer, idle)?;
         takings.push_reserved(taking);
     }
     Ok(takings)

@@ -9,30 +9,55 @@ ghost use Rattle.r6_engine.specs.Crews.{StandsAt};
 use crate::crew::Site;
 use r6_dev::BlockDevice;
 use r6_exchange::{Exchange, Step, Worker};
+use r6_idle::Waker;
 use r6_threads::Work;
 use std::sync::Wait;
 use std::sync::atomic::{AtomicBool, Ordering};
-use std::thread;
 
-/// Whether the shards have ended: then no worker waits for a task.
+/// How far the shards are, as their workers are told.
 #[derive(Drop)]
 pub(crate) struct Closing {
+    // Whether their threads have ended, and they go on in the calling thread.
+    taken_over: AtomicBool,
+    // Whether they have ended: then no worker waits for a task.
     closed: AtomicBool,
+    // Who wakes the calling thread.
+    caller: Waker,
 }
 
 impl Closing {
-    pub(crate) fn new() -> Closing {
+    pub(crate) fn new(caller: Waker) -> Closing {
         Closing {
+            taken_over: AtomicBool::new(false),
             closed: AtomicBool::new(false),
+            caller,
         }
     }
 
-    pub(crate) fn close(&self) {
+    // The shards go on in the calling thread.
+    pub(crate) fn take_over(&self) {
+        self.taken_over.store(true, Ordering::SeqCst);
+    }
+
+    // The shards have ended; their workers are woken.
+    pub(crate) fn close<D: BlockDevice + Drop>(&self, sites: &[Site<D>]) {
         self.closed.store(true, Ordering::SeqCst);
+        for site in sites {
+            for exchange in &site.exchanges {
+                exchange.wake_worker();
+            }
+        }
     }
 
     fn is_closed(&self) -> bool {
         self.closed.load(Ordering::SeqCst)
+    }
+
+    // A worker has done a task. Its shard was woken at the exchange; if it goes on in the calling thread, that one is.
+    fn tell_done(&self) {
+        if self.taken_over.load(Ordering::SeqCst) {
+            self.caller.wake();
+        }
     }
 }
 
@@ -43,7 +68,7 @@ pub(crate) struct Post<'a, D: BlockDevice> {
     pub(crate) worker: Worker<D>,
 }
 
-// Does its tasks as they come, until it finds none once the shards have ended.
+// Does its tasks as they come, and sleeps while there is none, until it finds none once the shards have ended.
 fn work_on<D: BlockDevice + Drop, R: Wait>(post: &mut Post<'_, D>, rt: &R, closing: &Closing)
     requires { IsWorker D.told D.promised post.old.exchange.now post.old.worker }
     ensures exchange { post.new.exchange.now ≡ post.old.exchange.now }
@@ -52,8 +77,13 @@ fn work_on<D: BlockDevice + Drop, R: Wait>(post: &mut Post<'_, D>, rt: &R, closi
     for _ in rt.forever() {
         let closed = closing.is_closed();
         match post.worker.step(rt, post.exchange) {
-            Step::Done => {}
-            Step::Idle if !closed => thread::yield_now(),
+            Step::Done => {
+                post.worker.idle.found();
+                closing.tell_done();
+            }
+            Step::Idle if !closed => {
+                post.worker.idle.wait(rt);
+            }
             Step::Idle | Step::Over => return,
         }
     }

@@ -10,6 +10,7 @@ use crate::crew::{Crew, Site};
 use crate::post::{Post, post_all};
 use r6_dev::BlockDevice;
 use r6_exchange::{Exchange, Part, Worker};
+use r6_idle::Idle;
 use r6_remote::Remote;
 use r6_threads::Refused;
 use std::alloc::{AllocError, Global};
@@ -56,13 +57,13 @@ fn take_up<D: BlockDevice + Drop, R: Wait>(
     }
 }
 
-// The shard's ends, and its workers, which have taken its parts up.
+// The shard's ends, its workers, which have taken its parts up, and how its thread sleeps.
 fn remote_of<'a, D: BlockDevice + Drop, R: Wait>(
     rt: &R,
     alloc: Global,
     site: &'a Site<D>,
     crew: Crew<D>,
-) -> Result<(Remote<'a, D>, Vec<Worker<D>>), AllocError>
+) -> Result<(Remote<'a, D>, Vec<Worker<D>>, Idle), AllocError>
     requires crew { (workers : ℕ) × IsCrew D.told D.promised workers site.now crew }
     requires room { length crew.parts.parts.items ≤ crew.room }
     ensures remote { IfOk result (λ made. IsRemote D.told D.promised made.0) }
@@ -76,11 +77,12 @@ fn remote_of<'a, D: BlockDevice + Drop, R: Wait>(
         parts,
         ends,
         mut workers,
+        idle,
         room,
     } = crew;
     let mut remote = Remote::new(alloc, &site.exchanges, ends, room)?;
     take_up(rt, &mut remote, &mut workers, parts.parts);
-    Ok((remote, workers))
+    Ok((remote, workers, idle))
 }
 
 /// Where the shards and their workers meet, and the workers of the first shards at their posts.
@@ -118,33 +120,33 @@ impl<'a, D: BlockDevice + Drop> Posting<'a, D> {
         Ok(Posting { sites, posts })
     }
 
-    // Posts the workers of the next shard; its ends.
+    // Posts the workers of the next shard; its ends, and how its thread sleeps.
     pub(crate) fn post<R: Wait>(
         &mut self,
         rt: &R,
         alloc: Global,
         shard: usize,
         crew: Crew<D>,
-    ) -> Result<Remote<'a, D>, AllocError>
+    ) -> Result<(Remote<'a, D>, Idle), AllocError>
         requires crew { (site : _) × (workers : ℕ) × (slice_get self.old.sites.now shard ≡ Some site)
             × IsCrew D.told D.promised workers site crew }
         requires room { length crew.parts.parts.items ≤ crew.room }
         requires posted { ArePosted D.told D.promised self.old.sites.now shard self.old.posts.items }
         requires posts_room { length (exchanges_at self.old.sites.now) ≤ vec_capacity self.old.posts }
-        ensures remote { IfOk result (λ remote. IsRemote D.told D.promised remote) }
-        ensures taken { IfOk result (λ remote. HasTakenUp D.told D.promised crew.parts.parts.items
-            (performer_of D.told D.promised remote)) }
-        ensures room { IfOk result (λ remote. (performer_of D.told D.promised remote).part_room ≡ crew.room) }
-        ensures site { IfOk result (λ remote. (site : _) → slice_get self.old.sites.now shard ≡ Some site
-            → remote.exchanges.now ≡ site.exchanges.items) }
+        ensures remote { IfOk result (λ made. IsRemote D.told D.promised made.0) }
+        ensures taken { IfOk result (λ made. HasTakenUp D.told D.promised crew.parts.parts.items
+            (performer_of D.told D.promised made.0)) }
+        ensures room { IfOk result (λ made. (performer_of D.told D.promised made.0).part_room ≡ crew.room) }
+        ensures site { IfOk result (λ made. (site : _) → slice_get self.old.sites.now shard ≡ Some site
+            → made.0.exchanges.now ≡ site.exchanges.items) }
         ensures posted { OnOk result (ArePosted D.told D.promised self.new.sites.now (shard + 1) self.new.posts.items) }
         ensures same { (self.new.sites.now ≡ self.old.sites.now)
             × (vec_capacity self.new.posts ≡ vec_capacity self.old.posts) }
     {
         let sites = self.sites;
         let site = &sites[shard];
-        let (remote, workers) = remote_of(rt, alloc, site, crew)?;
+        let (remote, workers, idle) = remote_of(rt, alloc, site, crew)?;
         post_all(site, workers, &mut self.posts);
-        Ok(remote)
+        Ok((remote, idle))
     }
 }

@@ -24,6 +24,7 @@ use crate::worker::Station;
 use r6_dev::BlockDevice;
 use r6_feed::{Event, EventAnswer, Shards};
 use r6_health::{Pass, Snapshot};
+use r6_idle::Idle;
 use r6_layout::Geometry;
 use r6_lists::Events;
 use r6_remote::Remote;
@@ -68,6 +69,8 @@ fn serve_all<L, P, D, R>(
     geometry: &Geometry,
     begun: Begun<L, P, D>,
     events: Vec<Event<D>>,
+    closing: &Closing,
+    mut idle: Idle,
 ) -> Result<Ran<P, D>, Refused>
 where
     L: Events + Send + Sync,
@@ -110,8 +113,10 @@ where
         },
     };
     let ((mut pass, answers), ended) = run_all(rt, alloc, &station, takings, feed, events)?;
+    closing.take_over();
     settle(ended, &mut runners);
-    let snapshot = end_all(rt, &register, &mut pass, &mut runners, geometry.slots());
+    let slots = geometry.slots();
+    let snapshot = end_all(rt, &register, &mut pass, &mut runners, slots, &mut idle);
     Ok(Ran {
         runners,
         answers,
@@ -155,9 +160,11 @@ where
     ensures roomy { IfOk result (λ r. AllZip HasRoomOf crews.items r.0.runners.items) }
 {
     let mut posting = posting;
+    let idle = Idle::new(alloc)?;
+    let caller = idle.waker().clone()?;
     let begun = begin::<L, D, R>(rt, alloc, config, crews, &events, &mut posting)?;
     let Posting { sites, posts } = posting;
-    let closing = Closing::new();
+    let closing = Closing::new(caller);
     let closing = &closing;
     let geometry = &config.geometry;
     let serving = move || -> Result<Ran<Remote<'_, D>, D>, Refused>
@@ -176,8 +183,8 @@ where
         ensures stays { IfOk result (λ ran.
             AllZip (λ taking runner. StaysAt taking.runner runner) begun.entry.takings.items ran.runners.items) }
     {
-        let ran = serve_all(rt, alloc, geometry, begun, events);
-        closing.close();
+        let ran = serve_all(rt, alloc, geometry, begun, events, closing, idle);
+        closing.close(sites);
         ran
     };
     let (ran, posts) = r6_threads::run_all(rt, alloc, closing, posts, serving)?;

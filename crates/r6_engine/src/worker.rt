@@ -38,7 +38,7 @@ where
 {
     let shard = taking.consumer.shard;
     let queue = &shards.queues[shard];
-    taking.run(rt, shards.register, queue, &shards.rests[shard]);
+    taking.run(rt, shards.register, queue, shards.rests);
 }
 
 impl<'a, L: Events, P: Performs + Drop, D: BlockDevice + Drop> Work<Station<'a, L, D>>

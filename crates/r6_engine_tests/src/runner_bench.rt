@@ -21,6 +21,7 @@ use crate::queues::{end, put};
 use crate::shard_bench::{ALL_ROWS, parts_of};
 use r6_dev::MemoryDevice;
 use r6_health::{Pass, Register, Snapshot};
+use r6_idle::Idle;
 use r6_kernels::Buffer;
 use r6_layout::Geometry;
 use r6_lists::{Consumer, Events, Item, Producer, Queue, Rest, Work};
@@ -185,18 +186,20 @@ fn run<L: Events, R: Wait>(
     rt: &R,
     register: &Register,
     queue: &Queue<L, MemoryDevice>,
-    rest: &Rest,
+    rests: &[Rest],
     consumer: Consumer<L, MemoryDevice>,
     runner: Runner<InPlace<MemoryDevice>, MemoryDevice>,
+    idle: Idle,
 ) -> Runner<InPlace<MemoryDevice>, MemoryDevice>
+    requires shard { consumer.shard < length rests.now }
     requires fresh { (taken_by runner ≡ 0) × (consumer.numbers.items ≡ []) }
     requires room { length (tasks_of L.shape consumer.shard L.events) ≤ runner.room }
     requires attaches { length (all_parts L.shape L.events consumer.shard) ≤ runner.attaches }
     requires pass { IsPassOf register.now runner.shard.pass }
     requires consumer { IsConsumerOf queue.now consumer }
 {
-    let mut taking = Taking::new(runner, consumer);
-    taking.run(rt, register, queue, rest);
+    let mut taking = Taking::new(runner, consumer, idle);
+    taking.run(rt, register, queue, rests);
     taking.runner
 }
 
@@ -208,9 +211,10 @@ fn play<L: Events, R: Wait + Abort>(
     place: Place,
     register: &Register,
     pass: Pass,
-    rest: &Rest,
+    rests: &[Rest],
     asks: &[Ask],
 ) -> Runner<InPlace<MemoryDevice>, MemoryDevice>
+    requires rests { 0 < length rests.now }
     requires shape { L.shape ≡ place.geometry }
     requires events { L.events ≡ events_of asks.now }
     requires none_promised { (shard : ℕ) (slot : ℕ) → L.sound shard slot → ⊥ }
@@ -230,7 +234,8 @@ fn play<L: Events, R: Wait + Abort>(
     put_all(rt, alloc, &place.geometry, &queue, asks, &mut producer);
     end(rt, &queue, &mut producer);
     let runner = runner_of(rt, alloc, place, pass, asks.len());
-    run(rt, register, &queue, rest, consumer, runner)
+    let idle = Idle::new(alloc).expect(rt, "memory");
+    run(rt, register, &queue, rests, consumer, runner, idle)
 }
 
 // These slots fail, and then these have new devices.
@@ -252,15 +257,18 @@ fn prepare<R: Wait>(
     }
 }
 
-/// The shard takes the events once these slots have failed and these have new devices.
+/// The shard, which is asked for its rest at the first of `rests`, takes the events once these slots have failed and these
+/// have new devices.
 pub(crate) fn take<R: Wait + Abort>(
     rt: &R,
     alloc: Global,
     failed: &[usize],
     attached: &[usize],
-    rest: &Rest,
+    rests: &[Rest],
     asks: &[Ask],
-) -> Ended {
+) -> Ended
+    requires { 0 < length rests.now }
+{
     let geometry = geometry_of(rt, 1);
     let (register, mut first) = register_of(rt, alloc, &geometry);
     let mut caller = register.split(&mut first);
@@ -270,7 +278,7 @@ pub(crate) fn take<R: Wait + Abort>(
         number: 0,
         window: 1,
     };
-    let runner = play::<Brand, R>(rt, alloc, place, &register, first, rest, asks);
+    let runner = play::<Brand, R>(rt, alloc, place, &register, first, rests, asks);
     let snapshot = register.read(rt, &mut caller);
     drop((register, caller));
     Ended { runner, snapshot }

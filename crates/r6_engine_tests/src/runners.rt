@@ -4,6 +4,7 @@ use crate::answers::Answer;
 use crate::asks::Ask;
 use crate::runner_bench::{Ended, take};
 use r6_core::Task;
+use r6_idle::Idle;
 use r6_lists::Rest;
 use r6_runner::Passed;
 use std::alloc::Global;
@@ -158,10 +159,22 @@ fn check_end<R: Abort>(rt: &R, name: &str, ended: &Ended, end: &End<'_>, is_foun
 }
 
 /// A course on a new array, beside a rest that is asked for before.
-fn play<R: Wait + Abort>(rt: &R, alloc: Global, course: &Course<'_>, rest: &Rest) {
+fn play<R: Wait + Abort>(rt: &R, alloc: Global, course: &Course<'_>) {
+    let idle = Idle::new(alloc).expect(rt, "memory");
+    let shard = idle.waker().clone().expect(rt, "a waker");
+    let caller = idle.waker().clone().expect(rt, "a waker");
+    let rests = [Rest::new(shard, caller)];
+    let rest = &rests[0];
     let number = rest.ask();
     assert!(rt; !rest.is_found(number));
-    let ended = take(rt, alloc, course.failed, course.attached, rest, course.asks);
+    let ended = take(
+        rt,
+        alloc,
+        course.failed,
+        course.attached,
+        &rests,
+        course.asks,
+    );
     let is_found = rest.is_found(number) && !rest.is_found(rest.ask());
     check_end(rt, course.name, &ended, &course.end, is_found);
     drop(ended);
@@ -170,6 +183,6 @@ fn play<R: Wait + Abort>(rt: &R, alloc: Global, course: &Course<'_>, rest: &Rest
 #[test]
 fn a_shard_takes_its_courses(rt: HostRuntime) {
     for course in COURSES {
-        play(&rt, rt.alloc(), course, &Rest::new());
+        play(&rt, rt.alloc(), course);
     }
 }

@@ -2,6 +2,7 @@
 
 ghost use Rattle.std.specs.Prelude.{◌≡◌, ◌+◌, ◌*◌, ◌≤◌, ◌++◌, ◌∷◌, [], length, IfErr, IfOk, MatchResult, MatchOption};
 ghost use Rattle.r6_queues.specs.Queues.{StartsWith};
+ghost use Rattle.r6_idle.specs.Idles.{IsWakerOf};
 ghost use Rattle.r6_exchange.specs.Answering.{Answered, nothing};
 ghost use Rattle.r6_exchange.specs.Deliveries.{HasRoom};
 ghost use Rattle.r6_exchange.specs.Exchanges.{IsShardPass, IsWorkerPass, sent_by, received_by, known_taken, taken_by, given_by, room_of, limit_of, task_room, completion_room};
@@ -11,16 +12,42 @@ use crate::pass::{ShardPass, WorkerPass};
 use crate::rules::{Completions, Tasks};
 use crate::task::Task;
 use r6_dev::BlockDevice;
+use r6_idle::{Idle, Waker};
 use r6_layout::Geometry;
 use std::alloc::{AllocError, Global};
 use std::sync::Wait;
 
+/// Who wakes the threads at both ends of an exchange.
+#[derive(Drop)]
+pub struct Wakers {
+    /// Who wakes the shard's thread, once a completion is there.
+    pub shard: Waker,
+    /// Who wakes the worker's thread, once a task is there.
+    pub worker: Waker,
+}
+
+impl Wakers {
+    /// Those who wake these threads.
+    ///
+    /// # Errors
+    /// `AllocError`, where a waker can't be cloned.
+    pub fn of(shard: &Idle, worker: &Idle) -> Result<Wakers, AllocError>
+        ensures { IfOk result (λ wakers. IsWakerOf shard.now wakers.shard × IsWakerOf worker.now wakers.worker) }
+    {
+        Ok(Wakers {
+            shard: shard.waker().clone()?,
+            worker: worker.waker().clone()?,
+        })
+    }
+}
+
 /// Two queues between a shard and a worker: tasks one way, completions the other. Both keep their order, and each has
-/// room for 64 entries a slot and 192 besides.
+/// room for 64 entries a slot and 192 besides. Whoever puts something in wakes the thread at the other end.
 #[derive(Drop)]
 pub struct Exchange<D: BlockDevice> {
     tasks: Tasks<D>,
     completions: Completions<D>,
+    wakers: Wakers,
 }
 
 // As many entries a device as a shard may have commands out, with three devices' worth to spare.
@@ -35,6 +62,7 @@ impl<D: BlockDevice + Drop> Exchange<D> {
         alloc: Global,
         geometry: &Geometry,
         room: usize,
+        wakers: Wakers,
     ) -> Result<(Exchange<D>, ShardPass<D>, WorkerPass<D>), AllocError>
         ensures room { IfOk result (λ r. (task_room r.0 ≡ 64 * (geometry.now.slots + 3))
             × (completion_room r.0 ≡ 64 * (geometry.now.slots + 3))) }
@@ -55,10 +83,15 @@ impl<D: BlockDevice + Drop> Exchange<D> {
             tasks: taker,
             completions: giver,
         };
-        Ok((Exchange { tasks, completions }, shard, worker))
+        let exchange = Exchange {
+            tasks,
+            completions,
+            wakers,
+        };
+        Ok((exchange, shard, worker))
     }
 
-    /// Sends a task to the worker. No more parts may be sent, all in all, than `new` was told.
+    /// Sends a task to the worker, and wakes it. No more parts may be sent, all in all, than `new` was told.
     ///
     /// # Errors
     /// The task, where the queue is full: as many tasks as it has room for were sent and aren't known to be taken.
@@ -78,7 +111,14 @@ impl<D: BlockDevice + Drop> Exchange<D> {
         ensures received { received_by pass.new ≡ received_by pass.old }
         ensures limit { limit_of pass.new ≡ limit_of pass.old }
     {
-        self.tasks.push(rt, &mut pass.tasks, task)
+        let sent = self.tasks.push(rt, &mut pass.tasks, task);
+        self.wake_worker();
+        sent
+    }
+
+    /// Wakes the worker's thread: something else than a task is to be found.
+    pub fn wake_worker(&self) {
+        self.wakers.worker.wake();
     }
 
     /// Receives the next completion; `None` where none is there. All that was received then answers the tasks that were
@@ -111,7 +151,8 @@ impl<D: BlockDevice + Drop> Exchange<D> {
         self.tasks.pop(rt, &mut pass.tasks)
     }
 
-    /// Gives the completion of the oldest command that was taken and isn't answered, as its part may answer it.
+    /// Gives the completion of the oldest command that was taken and isn't answered, as its part may answer it, and
+    /// wakes the shard.
     ///
     /// # Errors
     /// The completion, where the queue is full: as many completions as it has room for were given before.
@@ -136,7 +177,10 @@ impl<D: BlockDevice + Drop> Exchange<D> {
             acknowledgement,
         };
         match self.completions.push(rt, &mut pass.completions, delivery) {
-            Ok(()) => Ok(()),
+            Ok(()) => {
+                self.wakers.shard.wake();
+                Ok(())
+            }
             Err(delivery) => {
                 let Delivery {
                     completion,

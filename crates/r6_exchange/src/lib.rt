@@ -11,7 +11,7 @@ mod threads;
 mod worker;
 
 pub use completion::{Completion, CompletionEnd, Delivery, TaskEnd};
-pub use exchange::Exchange;
+pub use exchange::{Exchange, Wakers};
 pub use laws::{history_law, join_law, next_law};
 pub use pass::{ShardPass, WorkerPass};
 pub use task::{Part, Served, Task};

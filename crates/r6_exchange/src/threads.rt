@@ -11,11 +11,12 @@ ghost use Rattle.r6_exchange.specs.Workers.{IsWorker};
 ghost use Rattle.r6_exchange.specs.Joins.{HasNoEnd, IsCollecting};
 
 use crate::completion::Completion;
-use crate::exchange::Exchange;
+use crate::exchange::{Exchange, Wakers};
 use crate::pass::ShardPass;
 use crate::task::{Served, Task};
 use crate::worker::Worker;
 use r6_dev::BlockDevice;
+use r6_idle::Idle;
 use r6_layout::Geometry;
 use std::alloc::{AllocError, Global};
 use std::collections::VecDeque;
@@ -23,14 +24,14 @@ use std::sync::Wait;
 use std::thread;
 use std::thread::Threads;
 
-// Receives the next completion, if it is there and is one of so many.
+// Receives the next completion, if it is there and is one of so many; whether it did.
 fn receive_next<D: BlockDevice + Drop, R: Wait>(
     rt: &R,
     exchange: &Exchange<D>,
     pass: &mut ShardPass<D>,
     completions: &mut Vec<Completion>,
     count: usize,
-)
+) -> bool
     requires { IsCollecting D.told D.promised exchange.now count pass.old completions.old.items (vec_capacity completions.old) }
     ensures collecting { IsCollecting D.told D.promised exchange.now count pass.new completions.new.items
         (vec_capacity completions.new) }
@@ -38,12 +39,13 @@ fn receive_next<D: BlockDevice + Drop, R: Wait>(
     ensures limit { limit_of pass.new ≡ limit_of pass.old }
 {
     if completions.len() >= count {
-        return thread::yield_now();
+        return false;
     }
-    match exchange.receive(rt, pass) {
-        Some(completion) => completions.push_reserved(completion),
-        None => thread::yield_now(),
-    }
+    let Some(completion) = exchange.receive(rt, pass) else {
+        return false;
+    };
+    completions.push_reserved(completion);
+    true
 }
 
 // Sends a task, once the queue has room. Until then it receives completions, so that neither thread waits for the other.
@@ -68,7 +70,9 @@ fn send<D: BlockDevice + Drop, R: Wait>(
             Ok(()) => return,
             Err(back) => {
                 task = back;
-                receive_next(rt, exchange, pass, completions, count);
+                if !receive_next(rt, exchange, pass, completions, count) {
+                    thread::yield_now();
+                }
             }
         }
     }
@@ -97,13 +101,14 @@ fn send_all<D: BlockDevice + Drop, R: Wait>(
     }
 }
 
-// Receives until so many completions are there.
+// Receives until so many completions are there, and sleeps where none is there yet.
 fn receive_all<D: BlockDevice + Drop, R: Wait>(
     rt: &R,
     exchange: &Exchange<D>,
     pass: &mut ShardPass<D>,
     completions: &mut Vec<Completion>,
     count: usize,
+    idle: &mut Idle,
 )
     requires { IsCollecting D.told D.promised exchange.now count pass.old completions.old.items (vec_capacity completions.old) }
     ensures collecting { IsCollecting D.told D.promised exchange.now count pass.new completions.new.items
@@ -115,7 +120,11 @@ fn receive_all<D: BlockDevice + Drop, R: Wait>(
         if completions.len() == count {
             return;
         }
-        receive_next(rt, exchange, pass, completions, count);
+        if receive_next(rt, exchange, pass, completions, count) {
+            idle.found();
+        } else {
+            idle.wait(rt);
+        }
     }
     unreachable!()
 }
@@ -137,6 +146,7 @@ fn drive<D: BlockDevice + Drop, R: Wait>(
     tasks: VecDeque<Task<D>>,
     count: usize,
     mut completions: Vec<Completion>,
+    idle: &mut Idle,
 ) -> (ShardPass<D>, Vec<Completion>)
     requires pass { IsShardPass D.told D.promised exchange.now pass }
     requires new { (sent_by pass ≡ []) × (received_by pass ≡ []) × (completions.items ≡ []) }
@@ -149,7 +159,7 @@ fn drive<D: BlockDevice + Drop, R: Wait>(
     let all = &mut completions;
     send_all(rt, exchange, &mut pass, tasks, all, count);
     send(rt, exchange, &mut pass, Task::End, all, count);
-    receive_all(rt, exchange, &mut pass, all, count);
+    receive_all(rt, exchange, &mut pass, all, count, idle);
     (pass, completions)
 }
 
@@ -195,8 +205,11 @@ where
         × Holds (state_after D.told D.promised nothing tasks.items given) (part_in D.told D.promised done.parts.items)) }
 {
     let completions = Vec::with_capacity(alloc, count)?;
-    let (exchange, shard, worker) = Exchange::new(alloc, geometry, room)?;
-    let worker = Worker::new(alloc, worker, room, stop)?;
+    let mut shard_idle = Idle::new(alloc)?;
+    let worker_idle = Idle::new(alloc)?;
+    let wakers = Wakers::of(&shard_idle, &worker_idle)?;
+    let (exchange, shard, worker) = Exchange::new(alloc, geometry, room, wakers)?;
+    let worker = Worker::new(alloc, worker, room, stop, worker_idle)?;
     let line = &exchange;
     let ((mut shard, completions), mut worker) = thread::join(
         rt,
@@ -208,7 +221,7 @@ where
             ensures sent { sent_by result.0 ≡ tasks.items ++ End ∷ [] }
             ensures received { received_by result.0 ≡ result.1.items }
             ensures count { length result.1.items ≡ count }
-        { drive(rt, line, shard, tasks, count, completions) },
+        { drive(rt, line, shard, tasks, count, completions, &mut shard_idle) },
         move ||
             requires { IsWorker D.told D.promised line.now worker }
             ensures worker { IsWorker D.told D.promised line.entry.now result }
@@ -221,6 +234,7 @@ where
         parts,
         replaced,
         left: _,
+        idle: _,
     } = worker;
     Ok(Performed {
         completions,

@@ -44,6 +44,8 @@ pub struct Worker<D> {
     /// If it may stop: after so many commands more it has stopped. Then it performs none but those to parts that are
     /// steady, and answers each other by 3 `Gone`.
     pub left: Option<u64>,
+    /// How its thread sleeps where it finds no task.
+    pub idle: r6_idle::Idle,
 }
 
 fn kind_of(fault: Fault) -> FaultKind
@@ -135,7 +137,7 @@ impl<D: BlockDevice + Drop> Worker<D> {
     ghost use Rattle.r6_exchange.specs.Workers.{IsWorker};
 
     /// A worker that has done nothing yet, and that is handed at most so many parts. If a number is given it stops after
-    /// so many commands.
+    /// so many commands. The exchange has to have been given the waker of `idle`.
     ///
     /// # Errors
     /// `AllocError` where there is no memory for all room.
@@ -144,6 +146,7 @@ impl<D: BlockDevice + Drop> Worker<D> {
         pass: WorkerPass<D>,
         room: usize,
         left: Option<u64>,
+        idle: r6_idle::Idle,
     ) -> Result<Worker<D>, AllocError>
         requires room { room ≡ room_of pass }
         ensures pass { IfOk result (λ w. w.pass ≡ pass) }
@@ -158,6 +161,7 @@ impl<D: BlockDevice + Drop> Worker<D> {
             parts,
             replaced,
             left,
+            idle,
         })
     }
 
@@ -277,7 +281,7 @@ impl<D: BlockDevice + Drop> Worker<D> {
         }
     }
 
-    /// Does all tasks, until nothing more comes.
+    /// Does all tasks, until nothing more comes, and sleeps where it finds none.
     pub fn run<R: Wait>(&mut self, rt: &R, exchange: &Exchange<D>)
         requires { IsWorker D.told D.promised exchange.now self.old }
         ensures worker { IsWorker D.told D.promised exchange.now self.new }
@@ -286,8 +290,10 @@ impl<D: BlockDevice + Drop> Worker<D> {
         for _ in rt.forever() {
             match self.step(rt, exchange) {
                 Step::Over => return,
-                Step::Done => {}
-                Step::Idle => thread::yield_now(),
+                Step::Done => self.idle.found(),
+                Step::Idle => {
+                    self.idle.wait(rt);
+                }
             }
         }
         unreachable!()

@@ -12,6 +12,7 @@ use crate::handing::PassOver;
 use crate::shards::Shards;
 use r6_dev::BlockDevice;
 use r6_health::Pass;
+use r6_idle::Idle;
 use r6_lists::{Events, Producer};
 use std::sync::Wait;
 
@@ -21,6 +22,8 @@ pub struct Feed<L: Events, D: BlockDevice> {
     /// Who puts the items of each shard into its queue, from the first on.
     pub producers: Vec<Producer<L, D>>,
     pub pass: Pass,
+    /// How this thread sleeps where it waits for a shard.
+    pub idle: Idle,
     /// What those events were answered that no shard answers, in the order of the events.
     pub answers: Vec<EventAnswer>,
     /// How many events were handed out.
@@ -112,7 +115,15 @@ impl<L: Events, D: BlockDevice + Drop> Feed<L, D> {
         ensures later { IsLater (view_of self.pass) (view_of result.0) }
     {
         self.hand_all(rt, shards, events);
-        shards.end_all(rt, &mut self.producers);
-        (self.pass, self.answers)
+        let Feed {
+            mut producers,
+            pass,
+            mut idle,
+            answers,
+            number: _,
+            waits: _,
+        } = self;
+        shards.end_all(rt, &mut producers, &mut idle);
+        (pass, answers)
     }
 }

@@ -8,6 +8,7 @@ ghost use Rattle.r6_lists.specs.Queues.{has_ended};
 
 use crate::shards::Shards;
 use r6_dev::BlockDevice;
+use r6_idle::Idle;
 use r6_lists::{Events, Item, Producer, Work};
 use std::sync::Wait;
 
@@ -56,6 +57,7 @@ impl<'a, L: Events, D: BlockDevice + Drop> Shards<'a, L, D> {
         producers: &mut [Producer<L, D>],
         at: Position,
         device: NewDevice<D>,
+        idle: &mut Idle,
     )
         requires next { slice_get L.events at.number
             ≡ Some (Attach device.slot (part_for D.told device.parts.items)) }
@@ -79,7 +81,7 @@ impl<'a, L: Events, D: BlockDevice + Drop> Shards<'a, L, D> {
                 part,
             };
             let item = Item::new(shard, at.number, at.waits, work);
-            self.put(rt, item, &mut producers[shard]);
+            self.put(rt, item, &mut producers[shard], idle);
             shard += 1;
         }
     }
@@ -91,6 +93,7 @@ impl<'a, L: Events, D: BlockDevice + Drop> Shards<'a, L, D> {
         producers: &mut [Producer<L, D>],
         at: Position,
         task: PassOver,
+        idle: &mut Idle,
     )
         requires next { slice_get L.events at.number ≡ Some (event_of_pass task) }
         requires waits { at.waits ≡ waits_before L.events at.number }
@@ -99,17 +102,17 @@ impl<'a, L: Events, D: BlockDevice + Drop> Shards<'a, L, D> {
     {
         for shard in 0..producers.len() {
             let item = Item::new(shard, at.number, at.waits, task.work());
-            self.put(rt, item, &mut producers[shard]);
+            self.put(rt, item, &mut producers[shard], idle);
         }
     }
 
     // The queue of each shard is ended, once all items were put in.
-    pub(crate) fn end_all<R: Wait>(&self, rt: &R, producers: &mut [Producer<L, D>])
+    pub(crate) fn end_all<R: Wait>(&self, rt: &R, producers: &mut [Producer<L, D>], idle: &mut Idle)
         requires { AreAt L.shape L.events self.now.queues.now (length L.events) producers.old }
         ensures { All (λ producer. has_ended producer ≡ true) producers.new }
     {
         for shard in 0..producers.len() {
-            self.end(rt, &mut producers[shard]);
+            self.end(rt, &mut producers[shard], idle);
         }
     }
 }

@@ -9,6 +9,7 @@ use crate::event::Event;
 use crate::feed::Feed;
 use r6_dev::BlockDevice;
 use r6_health::Pass;
+use r6_idle::Idle;
 use r6_layout::Geometry;
 use r6_lists::{Events, Producer};
 use std::alloc::{AllocError, Global};
@@ -69,6 +70,7 @@ impl<L: Events, D: BlockDevice> Feed<L, D> {
         events: &[Event<D>],
         producers: Vec<Producer<L, D>>,
         pass: Pass,
+        idle: Idle,
     ) -> Result<Feed<L, D>, AllocError>
         requires events { events_of D.told events.now ≡ L.events }
         requires first { (view_of pass).mine ≡ [] }
@@ -79,6 +81,7 @@ impl<L: Events, D: BlockDevice> Feed<L, D> {
         Ok(Feed {
             producers,
             pass,
+            idle,
             answers,
             number: 0,
             waits: 0,

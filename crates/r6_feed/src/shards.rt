@@ -6,10 +6,10 @@ ghost use Rattle.r6_lists.specs.Queues.{IsNext, IsProducerIn, has_ended, put_by}
 
 use r6_dev::BlockDevice;
 use r6_health::Register;
+use r6_idle::Idle;
 use r6_layout::Geometry;
-use r6_lists::{Events, Item, Producer, Queue, Rest};
+use r6_lists::{Events, Item, Producer, Queue, Rest, wake_shards};
 use std::sync::Wait;
-use std::thread;
 
 /// The shards of an array, as other threads meet them: the queue of each, what it says of its rest, and the register.
 #[derive(Drop)]
@@ -29,23 +29,29 @@ pub struct Shards<'a, L: Events, D: BlockDevice> {
 }
 
 // Waits until each of these shards has done all that it was handed. All are asked before one is waited for.
-fn await_each<R: Wait>(rt: &R, rests: &[Rest]) {
+fn await_each<R: Wait>(rt: &R, rests: &[Rest], idle: &mut Idle) {
     let Some((rest, others)) = rests.split_first() else {
         return;
     };
     let question = rest.ask();
-    await_each(rt, others);
+    await_each(rt, others, idle);
     for _ in rt.forever() {
         if rest.is_found(question) {
-            return;
+            return idle.found();
         }
-        thread::yield_now();
+        idle.wait(rt);
     }
 }
 
 impl<'a, L: Events, D: BlockDevice + Drop> Shards<'a, L, D> {
-    // Puts an item into the queue of its shard, once that has room.
-    pub(crate) fn put<R: Wait>(&self, rt: &R, mut item: Item<L, D>, producer: &mut Producer<L, D>)
+    // Puts an item into the queue of its shard, once that has room, and wakes the shard.
+    pub(crate) fn put<R: Wait>(
+        &self,
+        rt: &R,
+        mut item: Item<L, D>,
+        producer: &mut Producer<L, D>,
+        idle: &mut Idle,
+    )
         requires shard { item.shard < L.shape.shards }
         requires producer { IsProducerIn L.shape L.events self.now.queues.now producer.old }
         requires next { IsNext L.shape L.events producer.old item }
@@ -54,18 +60,22 @@ impl<'a, L: Events, D: BlockDevice + Drop> Shards<'a, L, D> {
         ensures same { (producer.new.shard ≡ producer.old.shard) × (has_ended producer.new ≡ false) }
     {
         let queue = &self.queues[item.shard];
+        let rest = &self.rests[item.shard];
         for _ in rt.forever() {
             match queue.put(rt, producer, item) {
-                Ok(()) => return,
+                Ok(()) => {
+                    rest.wake_shard();
+                    return idle.found();
+                }
                 Err(back) => item = back,
             }
-            thread::yield_now();
+            idle.wait(rt);
         }
         unreachable!()
     }
 
-    // Puts the end into the queue of a shard of which all items were put in, once that has room.
-    pub(crate) fn end<R: Wait>(&self, rt: &R, producer: &mut Producer<L, D>)
+    // Puts the end into the queue of a shard of which all items were put in, once that has room, and wakes the shard.
+    pub(crate) fn end<R: Wait>(&self, rt: &R, producer: &mut Producer<L, D>, idle: &mut Idle)
         requires shard { producer.old.shard < L.shape.shards }
         requires producer { IsProducerIn L.shape L.events self.now.queues.now producer.old }
         requires all { put_by producer.old ≡ numbers_of (tasks_of L.shape producer.old.shard L.events) }
@@ -73,17 +83,24 @@ impl<'a, L: Events, D: BlockDevice + Drop> Shards<'a, L, D> {
         ensures { has_ended producer.new ≡ true }
     {
         let queue = &self.queues[producer.shard];
+        let rest = &self.rests[producer.shard];
         for _ in rt.forever() {
             if queue.end(rt, producer) {
-                return;
+                rest.wake_shard();
+                return idle.found();
             }
-            thread::yield_now();
+            idle.wait(rt);
         }
         unreachable!()
     }
 
     // Waits until each shard has done all that it was handed.
-    pub(crate) fn await_rest<R: Wait>(&self, rt: &R) {
-        await_each(rt, self.rests);
+    pub(crate) fn await_rest<R: Wait>(&self, rt: &R, idle: &mut Idle) {
+        await_each(rt, self.rests, idle);
+    }
+
+    // Wakes every shard: the register has changed.
+    pub(crate) fn wake_all(&self) {
+        wake_shards(self.rests);
     }
 }

@@ -69,7 +69,7 @@ impl<L: Events, D: BlockDevice + Drop> Feed<L, D> {
         ensures same { (self.new.pass ≡ self.old.pass) × (self.new.answers.items ≡ self.old.answers.items) }
     {
         let item = Item::new(shard, self.number, self.waits, work_of(op));
-        shards.put(rt, item, &mut self.producers[shard]);
+        shards.put(rt, item, &mut self.producers[shard], &mut self.idle);
         self.number += 1;
     }
 
@@ -101,6 +101,7 @@ impl<L: Events, D: BlockDevice + Drop> Feed<L, D> {
             (view_of self.new.pass) self.new.answers.items }
     {
         let answer = calling::fail(rt, shards.register, &mut self.pass, slot);
+        shards.wake_all();
         self.answers.push_reserved(EventAnswer {
             event: self.number,
             outcome: Outcome::Failed(slot, answer),
@@ -116,7 +117,7 @@ impl<L: Events, D: BlockDevice + Drop> Feed<L, D> {
         ensures at { AreAt L.shape L.events shards.now.queues.now self.new.number self.new.producers.items }
         ensures same { (self.new.pass ≡ self.old.pass) × (self.new.answers.items ≡ self.old.answers.items) }
     {
-        shards.await_rest(rt);
+        shards.await_rest(rt, &mut self.idle);
         self.waits += 1;
         self.number += 1;
     }
@@ -149,7 +150,7 @@ impl<L: Events, D: BlockDevice + Drop> Feed<L, D> {
             generation: generation_of(answer),
             parts,
         };
-        shards.hand_parts(rt, &mut self.producers, at, device);
+        shards.hand_parts(rt, &mut self.producers, at, device, &mut self.idle);
         self.answers.push_reserved(EventAnswer {
             event: self.number,
             outcome: Outcome::Attached(slot, answer),
@@ -165,9 +166,9 @@ impl<L: Events, D: BlockDevice + Drop> Feed<L, D> {
         ensures at { AreAt L.shape L.events shards.now.queues.now self.new.number self.new.producers.items }
         ensures same { (self.new.pass ≡ self.old.pass) × (self.new.answers.items ≡ self.old.answers.items) }
     {
-        shards.await_rest(rt);
         let at = self.position();
-        shards.hand_pass(rt, &mut self.producers, at, task);
+        shards.await_rest(rt, &mut self.idle);
+        shards.hand_pass(rt, &mut self.producers, at, task, &mut self.idle);
         self.waits += 1;
         self.number += 1;
     }

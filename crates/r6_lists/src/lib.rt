@@ -18,5 +18,5 @@ pub use item::Item;
 pub use laws::event_law;
 pub use producer::Producer;
 pub use queue::{QUEUE_ROOM, Queue};
-pub use rest::Rest;
+pub use rest::{Rest, wake_shards};
 pub use work::Work;

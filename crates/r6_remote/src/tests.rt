@@ -7,7 +7,8 @@ ghost use Rattle.r6_remote.specs.Remotes.{IsRemote, performer_of, AreUnused, is_
 
 use crate::Remote;
 use r6_dev::MemoryDevice;
-use r6_exchange::{Exchange, Part, Worker};
+use r6_exchange::{Exchange, Part, Wakers, Worker};
+use r6_idle::Idle;
 use r6_kernels::Buffer;
 use r6_layout::Geometry;
 use r6_shard::{Performs, TakesParts};
@@ -226,10 +227,22 @@ fn drive<R: Abort + Wait>(
 fn each_slot_has_its_worker(rt: HostRuntime) -> Result<(), Fail> {
     let alloc = rt.alloc();
     let geometry = Geometry::new(4, 1, 16, 4, 1).expect(&rt, "four slots");
-    let (first, first_end, first_pass) = Exchange::new(alloc, &geometry, 2)?;
-    let (second, second_end, second_pass) = Exchange::new(alloc, &geometry, 2)?;
-    let one = Worker::new(alloc, first_pass, 2, None)?;
-    let two = Worker::new(alloc, second_pass, 2, None)?;
+    let (first_idle, second_idle) = (Idle::new(alloc)?, Idle::new(alloc)?);
+    let shard = Idle::new(alloc)?;
+    let (first, first_end, first_pass) = Exchange::new(
+        alloc,
+        &geometry,
+        2,
+        Wakers::of(&shard, &first_idle)?,
+    )?;
+    let (second, second_end, second_pass) = Exchange::new(
+        alloc,
+        &geometry,
+        2,
+        Wakers::of(&shard, &second_idle)?,
+    )?;
+    let one = Worker::new(alloc, first_pass, 2, None, first_idle)?;
+    let two = Worker::new(alloc, second_pass, 2, None, second_idle)?;
     let mut ends = Vec::with_capacity(alloc, 2)?;
     ends.push_reserved(first_end);
     ends.push_reserved(second_end);
@@ -242,8 +255,10 @@ fn each_slot_has_its_worker(rt: HostRuntime) -> Result<(), Fail> {
 fn a_full_queue_holds_a_command_back(rt: HostRuntime) -> Result<(), Fail> {
     let alloc = rt.alloc();
     let geometry = Geometry::new(4, 1, 16, 4, 1).expect(&rt, "four slots");
-    let (exchange, end, pass) = Exchange::new(alloc, &geometry, 0)?;
-    let worker = Worker::new(alloc, pass, 0, None)?;
+    let (shard, idle) = (Idle::new(alloc)?, Idle::new(alloc)?);
+    let wakers = Wakers::of(&shard, &idle)?;
+    let (exchange, end, pass) = Exchange::new(alloc, &geometry, 0, wakers)?;
+    let worker = Worker::new(alloc, pass, 0, None, idle)?;
     let mut ends = Vec::with_capacity(alloc, 1)?;
     ends.push_reserved(end);
     let exchanges = [exchange];

@@ -3,6 +3,7 @@
 
 mod beginning;
 mod due;
+mod left;
 mod making;
 mod pass;
 mod passing;
@@ -12,6 +13,7 @@ mod splitting;
 mod taking;
 
 pub use due::{Due, Duty};
+pub use left::Left;
 pub use pass::{Passed, Passing};
 pub use run::Taking;
 pub use runner::{Handed, Runner};

@@ -1,9 +1,10 @@
 //! A shard takes what its queue has, until all is done.
 
-ghost use Rattle.std.specs.Prelude.{◌≡◌, ◌≤◌, [], length, None, true, false};
+ghost use Rattle.std.specs.Prelude.{◌≡◌, ◌<◌, ◌≤◌, [], length, None, true, false};
 ghost use Rattle.r6_health.specs.Passes.{IsPassOf};
 ghost use Rattle.r6_lists.specs.Events.{tasks_of};
 ghost use Rattle.r6_lists.specs.Queues.{IsConsumerOf};
+ghost use Rattle.r6_runner.specs.declared.left.Left.TheVariants.{Nothing};
 ghost use Rattle.r6_runner.specs.Counted.{KeepsCounted};
 ghost use Rattle.r6_runner.specs.Going.{TakesNoMore};
 ghost use Rattle.r6_runner.specs.Parts.{HaveCome, KeepsOwn, KeepsParts, all_parts};
@@ -11,20 +12,23 @@ ghost use Rattle.r6_runner.specs.Runners.{GoesOn, GoesOnSame, IsOver, KeepsSelf,
 ghost use Rattle.r6_runner.specs.Sound.{KeepsPromised, KeepsSound};
 ghost use Rattle.r6_runner.specs.Waits.{HasAwaited, KeepsAwaited};
 
+use crate::left::Left;
 use crate::runner::Runner;
 use r6_core::Task;
 use r6_dev::BlockDevice;
 use r6_health::Register;
-use r6_lists::{Consumer, Events, Queue, Rest};
+use r6_idle::Idle;
+use r6_lists::{Consumer, Events, Queue, Rest, wake_shards};
 use r6_shard::{Performs, TakesParts};
 use std::sync::Wait;
-use std::thread;
 
 /// A shard, and who takes from its queue.
 #[derive(Drop)]
 pub struct Taking<L: Events, P: Performs, D: BlockDevice> {
     pub runner: Runner<P, D>,
     pub consumer: Consumer<L, D>,
+    /// How its thread sleeps where it finds nothing to do.
+    pub idle: Idle,
     ghost counted: { taken_by runner ≡ length consumer.numbers.items },
     ghost room: { length (tasks_of L.shape consumer.shard L.events) ≤ runner.room },
     ghost parts: { HaveCome L.shape L.events consumer.shard consumer.numbers.items runner },
@@ -79,20 +83,20 @@ where
         self.shard.round_when_here::<D, R>(rt, register);
     }
 
-    // Takes up the next row that is to be rebuilt, if there is one.
-    fn rebuild(&mut self)
+    // Takes up the next row that is to be rebuilt; whether there was one.
+    fn rebuild(&mut self) -> bool
         ensures pass { self.new.shard.pass ≡ self.old.shard.pass }
 
         ensures goes { TakesNoMore self.old self.new }
         ensures count { taken_by self.new ≡ taken_by self.old }
         ensures room { rooms_of self.new ≡ rooms_of self.old }
     {
-        let _ = self.shard.turn(Task::Rebuild);
+        self.shard.turn(Task::Rebuild).is_ok()
     }
 
     // The shard makes a round, so that it has looked at the register before anything begins; what may begin begins,
-    // and what is under way goes on.
-    fn advance<R: Wait>(&mut self, rt: &R, register: &Register)
+    // and what is under way goes on. Whether a row was taken up that is to be rebuilt.
+    fn advance<R: Wait>(&mut self, rt: &R, register: &Register) -> bool
         requires { IsPassOf register.now self.old.shard.pass }
         ensures pass { IsPassOf register.now self.new.shard.pass }
 
@@ -103,12 +107,12 @@ where
         self.round(rt, register);
         self.begin_all(rt);
         self.go_on(rt);
-        self.rebuild();
+        self.rebuild()
     }
 
-    /// Goes on with what was taken; whether nothing is left to do of it. The core looks at the register if the part of
-    /// each device is here that is rebuilt there.
-    pub fn go_round<R: Wait>(&mut self, rt: &R, register: &Register) -> bool
+    /// Goes on with what was taken; what is left to do of it. The core looks at the register if the part of each device
+    /// is here that is rebuilt there.
+    pub fn go_round<R: Wait>(&mut self, rt: &R, register: &Register) -> Left
         requires { IsPassOf register.now self.old.shard.pass }
         ensures pass { IsPassOf register.now self.new.shard.pass }
 
@@ -116,10 +120,11 @@ where
         ensures count { taken_by self.new ≡ taken_by self.old }
         ensures room { rooms_of self.new ≡ rooms_of self.old }
 
-        ensures over { result ≡ true → IsOver self.new }
+        ensures over { result ≡ Nothing → IsOver self.new }
     {
-        self.advance(rt, register);
-        self.rests(rt, register)
+        let more = self.advance(rt, register);
+        let rests = self.rests(rt, register);
+        Left::of(rests, more)
     }
 }
 
@@ -128,13 +133,17 @@ where
     P: TakesParts<D>,
 {
     /// A shard that is to take from its queue, of which nothing was taken yet.
-    pub fn new(runner: Runner<P, D>, consumer: Consumer<L, D>) -> Taking<L, P, D>
+    pub fn new(runner: Runner<P, D>, consumer: Consumer<L, D>, idle: Idle) -> Taking<L, P, D>
         requires fresh { (taken_by runner ≡ 0) × (consumer.numbers.items ≡ []) }
         requires room { length (tasks_of L.shape consumer.shard L.events) ≤ runner.room }
         requires attaches { length (all_parts L.shape L.events consumer.shard) ≤ runner.attaches }
         ensures { (result.runner ≡ runner) × (result.consumer ≡ consumer) }
     {
-        Taking { runner, consumer }
+        Taking {
+            runner,
+            consumer,
+            idle,
+        }
     }
 
     // Takes the next item of the queue; whether there was one.
@@ -163,8 +172,8 @@ where
         true
     }
 
-    // Takes what stands in the queue.
-    fn take_all<R: Wait>(&mut self, rt: &R, queue: &Queue<L, D>)
+    // Takes what stands in the queue; whether there was anything.
+    fn take_all<R: Wait>(&mut self, rt: &R, queue: &Queue<L, D>) -> bool
         requires { IsConsumerOf queue.now self.old.consumer }
         ensures consumer { IsConsumerOf queue.now self.new.consumer }
         ensures course { GoesOn L.shape L.events self.old.consumer.shard self.old.consumer.numbers.items
@@ -178,23 +187,27 @@ where
         ensures shard { self.new.consumer.shard ≡ self.old.consumer.shard }
         ensures finished { self.old.consumer.finished ≡ true → self.new.consumer.finished ≡ true }
     {
+        let mut took = false;
         for _ in rt.forever() {
             if !self.take_one(rt, queue) {
                 break;
             }
+            took = true;
         }
+        took
     }
 
-    // Takes what the queue has and goes on with it; whether all is done. Once the end was taken all goes round once
+    // Takes what the queue has and goes on with it; what is left to do. Once the end was taken all goes round once
     // more, so that the register is looked at after the last event. What was asked is read before the queue, so that
-    // what was put in before it was asked is taken before a rest is found.
+    // what was put in before it was asked is taken before a rest is found. Whoever puts items in is woken once there is
+    // room for more.
     fn go_on<R: Wait>(
         &mut self,
         rt: &R,
         register: &Register,
         queue: &Queue<L, D>,
         rest: &Rest,
-    ) -> bool
+    ) -> Left
         requires pass { IsPassOf register.now self.old.runner.shard.pass }
         requires consumer { IsConsumerOf queue.now self.old.consumer }
         ensures pass { IsPassOf register.now self.new.runner.shard.pass }
@@ -213,23 +226,29 @@ where
         ensures shard { self.new.consumer.shard ≡ self.old.consumer.shard }
         ensures place { self.new.runner.shard.core.shard ≡ self.old.runner.shard.core.shard }
 
-        ensures over { result ≡ true → IsOver self.new.runner × (self.new.consumer.finished ≡ true) }
+        ensures over { result ≡ Nothing → IsOver self.new.runner × (self.new.consumer.finished ≡ true) }
     {
         let asked = rest.asked();
         let finished = self.consumer.finished;
-        self.take_all(rt, queue);
-        if !self.runner.go_round(rt, register) {
-            return false;
+        if self.take_all(rt, queue) {
+            rest.wake_caller();
+        }
+        let left = self.runner.go_round(rt, register);
+        if !left.is_nothing() {
+            return left;
         }
         rest.found(asked);
-        finished
+        Left::of(finished, false)
     }
 
     /// Takes what the queue has, as it comes, and does it, until the end was taken and all is done. Whenever nothing is
-    /// left to do of what was taken, `rest` is told so.
-    pub fn run<R: Wait>(&mut self, rt: &R, register: &Register, queue: &Queue<L, D>, rest: &Rest)
+    /// left to do of what was taken, the shard's `Rest` is told so. `rests` are those of all shards, from the first on:
+    /// where the core saw that the register had changed, perhaps by a call of its own, all are woken. Where nothing is
+    /// to be done the thread sleeps.
+    pub fn run<R: Wait>(&mut self, rt: &R, register: &Register, queue: &Queue<L, D>, rests: &[Rest])
         requires pass { IsPassOf register.now self.old.runner.shard.pass }
         requires consumer { IsConsumerOf queue.now self.old.consumer }
+        requires shard { self.old.consumer.shard < length rests.now }
         ensures pass { IsPassOf register.now self.new.runner.shard.pass }
 
         // all that was taken is done
@@ -249,11 +268,18 @@ where
         ensures finished { self.new.consumer.finished ≡ true }
         ensures over { IsOver self.new.runner }
     {
+        let rest = &rests[self.consumer.shard];
+        let mut last = self.runner.shard.last;
         for _ in rt.forever() {
-            if self.go_on(rt, register, queue, rest) {
+            let left = self.go_on(rt, register, queue, rest);
+            if self.runner.shard.last != last {
+                last = self.runner.shard.last;
+                wake_shards(rests);
+            }
+            if left.is_nothing() {
                 return;
             }
-            thread::yield_now();
+            left.pause(rt, &mut self.idle);
         }
         unreachable!()
     }

@@ -1,4 +1,4 @@
-use Rattle.std.proofs.Common.{arith, ℕ, ◌^◌, ◌<◌, ◌≤◌, ◌∙◌, ap, subst, sym, vec_capacity}
+use Rattle.std.proofs.Common.{arith, ℕ, ◌^◌, ◌<◌, ◌≤◌, ◌∙◌, ap, length, subst, sym, vec_capacity}
 use Rattle.std.proofs.lemmas.List.{length-map}
 use Rattle.std.specs.List.{AllZip}
 use Rattle.r6_layout.specs.Shape.{Shape}
@@ -52,7 +52,6 @@ returns-clause-begun g c =
     let start = c.in-Ok.ensures.pass.same_start in
     let lines = c.in_ok-takings.ensures.lines in
     let shards = c.shards.ensures.value ∙ ap (λ (s : Shape). s.shards) shape in
-    let rests = c.shards-2.ensures.value ∙ ap (λ (s : Shape). s.shards) shape in
     record {
       pass = subst (IsPassOf c.in-Ok.register) (sym c.in_ok-feed.ensures.begins.1) c.split-caller.ensures.new;
       first = ap view_of c.in_ok-feed.ensures.begins.1 ∙ c.split-caller.ensures.newcomer ∙ ap newcomer c.in-Ok.ensures.first
@@ -76,7 +75,7 @@ returns-clause-begun g c =
       no_runner = c.in_ok-runners.ensures.items;
       runners_room = subst (λ (n : ℕ). n ≤ vec_capacity c.in_ok-runners.runners) shards c.in_ok-runners.ensures.capacity;
       queues = lines.1;
-      rests = c.in_ok-rests.ensures ∙ rests;
+      rests = c.in_ok-rests.ensures ∙ ap length c.deref.ensures.value ∙ c.requires.crews.whole;
     }
 
 pub takings_of-requires-clause-none : goal.takings_of-requires-clause-none
@@ -84,7 +83,7 @@ takings_of-requires-clause-none g c = c.in_ok-lines.ensures.empty
 
 pub takings_of-requires-clause-room : goal.takings_of-requires-clause-room
 takings_of-requires-clause-room g c =
-    let shards = c.shards-3.ensures.value ∙ ap (λ (s : Shape). s.shards) c.requires.shape in
+    let shards = c.shards-2.ensures.value ∙ ap (λ (s : Shape). s.shards) c.requires.shape in
     let room = c.in_ok-lines.ensures.room in
     let queues = room.0 in
     let producers = room.1 in (omega (arith, shards, queues), omega (arith, shards, producers))
@@ -113,8 +112,8 @@ takings_of-requires-clause-window g c = c.requires.window
 pub takings_of-requires-clause-crews : goal.takings_of-requires-clause-crews
 takings_of-requires-clause-crews g c = c.requires.crews
 
-pub new-requires-2-clause-events : goal.new-requires-2-clause-events
-new-requires-2-clause-events g c = c.requires.events
+pub new-requires-3-clause-events : goal.new-requires-3-clause-events
+new-requires-3-clause-events g c = c.requires.events
 
-pub new-requires-2-clause-first : goal.new-requires-2-clause-first
-new-requires-2-clause-first g c = ap (λ (v : View). v.mine) c.split-caller.ensures.newcomer
+pub new-requires-3-clause-first : goal.new-requires-3-clause-first
+new-requires-3-clause-first g c = ap (λ (v : View). v.mine) c.split-caller.ensures.newcomer

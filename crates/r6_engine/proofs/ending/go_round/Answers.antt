@@ -11,8 +11,8 @@ returns-clause-heard g c =
 
 pub returns-clause-goes : goal.returns-clause-goes
 returns-clause-goes g c =
-    none-then c.args.runner.now c.go_round-over.new.self c.split_pass-seen.new.self
-    c.go_round-over.ensures.goes c.split_pass-seen.ensures.kept.goes
+    none-then c.args.runner.now c.go_round-left.new.self c.split_pass-seen.new.self
+    c.go_round-left.ensures.goes c.split_pass-seen.ensures.kept.goes
 
 pub returns-clause-over : goal.returns-clause-over
-returns-clause-over g c = λ all. c.split_pass-seen.ensures.kept.over (c.go_round-over.ensures.over all)
+returns-clause-over g c = λ all. c.split_pass-seen.ensures.kept.over (c.go_round-left.ensures.over all)

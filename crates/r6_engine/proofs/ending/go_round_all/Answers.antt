@@ -1,5 +1,4 @@
-use Rattle.std.proofs.Common.{◌≡◌, ◌<◌, ◌∙◌, arith, length, slice_index_or, subst, sym, true}
-use Rattle.std.proofs.lemmas.Bool.{false≢true}
+use Rattle.std.proofs.Common.{◌≡◌, ◌<◌, ◌∙◌, arith, length, slice_index_or, subst, sym}
 use Rattle.std.proofs.lemmas.List.Elements.{All-set}
 use Rattle.std.proofs.lemmas.Slice.Zip.{AllZip-long}
 use Rattle.r6_health.specs.Passes.{IsPassOf, view_of}
@@ -11,7 +10,6 @@ use Rattle.r6_engine.specs.Passes.{IsHeard}
 use Rattle.r6_engine.proofs.EachShard.{all-below, below-set, zip-same, zip-set}
 use Rattle.r6_engine.proofs.Passes.{heard_of, heard_on, none_back, one_back}
 use Rattle.r6_engine.proofs.ending.go_round_all.Goals as goal
-use Rattle.r6_engine.proofs.ending.go_round_all.Goals.{else-not-go_round, then-not-go_round}
 
 pub loop-k-init : goal.loop-k-init
 loop-k-init g c = record {
@@ -53,10 +51,7 @@ loop-k-preserved g c =
           (λ i d less. heard_on register v (newcomer (view_of new.shard.pass)) w (slice_index_or olds i d) (before.heard i d less) now.heard)
           (heard_of register v w new now.runner now.heard);
       over = λ all.
-          let both : (c.loop-k.over ≡ true) × (c.go_round.result ≡ true) = elim c.if-not-go_round.branch [
-            | then-not-go_round w ↦ absurd (false≢true (sym w.over-is ∙ all))
-            | else-not-go_round w ↦ (sym w.over-is ∙ all, w.if-not-go_round.false)
-          ] in
+          let both = c.and-left.ensures all in
           below-set IsOver olds k new within (before.over both.0) (now.over both.1);
     }
 

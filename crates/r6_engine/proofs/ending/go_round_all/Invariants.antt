@@ -1,6 +1,7 @@
-use Rattle.std.proofs.Common.{◌≡◌, All, true}
+use Rattle.std.proofs.Common.{◌≡◌, All}
 use Rattle.std.specs.List.{AllZip}
 use Rattle.r6_health.specs.Passes.{IsPassOf, view_of}
+use Rattle.r6_runner.specs.declared.left.Left.TheVariants.{Nothing}
 use Rattle.r6_runner.specs.Going.{TakesNoMore}
 use Rattle.r6_runner.specs.Runners.{IsOver}
 use Rattle.r6_engine.specs.Passes.{IsHeard, TakesBack}
@@ -14,5 +15,5 @@ invariant-loop-k g l = record {
   back : TakesBack (view_of l.fn.pass) (view_of l.pass);
   goes : AllZip TakesNoMore l.fn.runners l.runners;
   heard : AllBelow l.k (IsHeard l.register (view_of l.pass)) l.runners;
-  over : l.over ≡ true → AllBelow l.k IsOver l.runners;
+  over : l.left ≡ Nothing → AllBelow l.k IsOver l.runners;
 }

@@ -1,5 +1,5 @@
 use Rattle.std.proofs.Common.{◌≡◌, ◌≤◌, length, vec_capacity}
 use Rattle.r6_engine.proofs.making.rests_of.Given as goal
 
-abbrev pub invariant-loop : goal.invariant-loop
-invariant-loop l = (length l.rests.items ≡ l.counter) × (l.shards ≤ vec_capacity l.rests)
+abbrev pub invariant-loop-crew : goal.invariant-loop-crew
+invariant-loop-crew g l = (length l.rests.items ≡ l.crew-index) × (length l.fn.crews ≤ vec_capacity l.rests)

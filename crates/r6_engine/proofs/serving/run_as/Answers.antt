@@ -63,3 +63,6 @@ returns-clause-roomy g c =
     let stays = IfOk-at_ok _ c.in_ok-ran-2.was c.in_ok-ran.ensures.call.1 in
     zip-then (λ crew t. HasRoomOf crew t.runner) (λ t r. StaysAt t.runner r) HasRoomOf (λ crew t r room stay. stay.1 ∙ room)
     c.args.crews.items takings runners c.in_ok-begun.ensures.roomy stays
+
+pub returns-clause-run : goal.returns-clause-run
+returns-clause-run g c = IfOk-at_ok _ c.in_ok-ran-2.was (c.in_ok-ran.ensures.call.0 _ _ _ c.in_ok-begun.ensures.begun)

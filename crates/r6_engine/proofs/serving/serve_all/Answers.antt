@@ -119,7 +119,7 @@ returns-clause-run g c = λ lost window parts begun.
       failure = is_shown last c.end_all-snapshot.result ends ended.seen ended.snapshot.0;
       looked = ended.looked;
       rebuilt = ended.rebuilt;
-      in_sync = subst (λ (n : ℕ). HaveInSync n c.end_all-snapshot.result ends) (c.slots.ensures.value ∙ ap (λ (s : Shape). s.slots) c.requires.shape) ended.in_sync;
+      in_sync = subst (λ (n : ℕ). HaveInSync n c.end_all-snapshot.result ends) (c.slots-slots.ensures.value ∙ ap (λ (s : Shape). s.slots) c.requires.shape) ended.in_sync;
     })
 
 -- from what it was as its thread began

@@ -30,7 +30,7 @@ returns-in-Perform-clause-worker g c =
     let e = c.perform-completion.ensures in
     let new = c.perform-completion.new.self in
     worker-performed g.D.BlockDevice.told g.D.BlockDevice.promised c.args.exchange.now c.args.self.now
-    (record { pass = c.give.new.pass; parts = new.parts; replaced = new.replaced; left = new.left }) c.in-Perform.command
+    (record new { pass = c.give.new.pass }) c.in-Perform.command
     c.perform-completion.result c.requires c.give.ensures.pass
     (c.give.ensures.taken ∙ ap (λ (p : WorkerPass g.row.D.Denot). taken_by p) e.pass ∙ c.in-Some.ensures.taken
     ∙ ap (λ (t : Task g.row.D.Denot). before ++ t ∷ []) c.in-Perform.is)
@@ -56,6 +56,6 @@ returns-in-End-clause-worker g c =
     let before = taken_by c.args.self.now.pass in
     let w = c.args.self.now in
     worker-ended g.D.BlockDevice.told g.D.BlockDevice.promised c.args.exchange.now w
-    (record { pass = c.take.new.pass; parts = w.parts; replaced = w.replaced; left = w.left }) c.requires c.take.ensures.pass
+    (record w { pass = c.take.new.pass }) c.requires c.take.ensures.pass
     (c.in-Some.ensures.taken ∙ ap (λ (t : Task g.row.D.Denot). before ++ t ∷ []) c.in-End.is)
     c.take.ensures.given c.take.ensures.room refl refl
