@@ -1,6 +1,7 @@
 //! A core over devices in memory, which does one step at a time.
 
 use crate::devices::{BLOCK, byte_of, devices_of, fail, fill, filled, perform, stored};
+use crate::trouble::Trouble;
 use r6_core::{
     Call, Command, Core, Counts, DeviceFault, FaultKind, Op, OpId, Receipt, Refused, Reply, Task,
     Turn,
@@ -19,12 +20,6 @@ const SLOTS: usize = 4;
 
 /// A token that no command has here.
 pub(crate) const NO_TOKEN: u64 = 999;
-
-const NO_TROUBLE: Trouble = Trouble {
-    errors: [NO_TOKEN; 3],
-    slot: 0,
-    at: NO_TOKEN,
-};
 
 /// What the register says of a call.
 pub(crate) type Told = Result<RegisterAnswer, RegisterRefusal>;
@@ -140,16 +135,6 @@ pub(crate) enum Answer {
     Wrong,
 }
 
-/// What goes wrong while commands are answered.
-#[derive(Clone, Copy)]
-pub(crate) struct Trouble {
-    /// The commands of these tokens have an error.
-    pub(crate) errors: [u64; 3],
-    /// This slot is lost, and looked at, before the command of the token is answered.
-    pub(crate) slot: usize,
-    pub(crate) at: u64,
-}
-
 /// An array with so many rows and shards, of whose rows so many may be rebuilt at one time, and at whose start these
 /// slots are lost; and the steps that it has to take, each with its answer.
 pub(crate) struct Course<'a> {
@@ -164,12 +149,14 @@ pub(crate) struct Course<'a> {
 /// The core of shard 0 over devices in memory, beside what the register holds.
 #[derive(Drop)]
 pub(crate) struct Bench {
-    alloc: Global,
-    core: Core,
-    devices: Vec<MemoryDevice>,
-    rows: u64,
-    register: Snapshot,
-    taken: Vec<Command>,
+    pub(crate) alloc: Global,
+    pub(crate) core: Core,
+    pub(crate) devices: Vec<MemoryDevice>,
+    pub(crate) rows: u64,
+    pub(crate) register: Snapshot,
+    pub(crate) taken: Vec<Command>,
+    /// A command that was performed, and of which the core hears last.
+    pub(crate) kept: Option<Command>,
 }
 
 impl Answer {
@@ -233,7 +220,7 @@ fn told(register: &mut Snapshot, call: RegisterCall) -> Told {
     Ok(answer)
 }
 
-fn change(register: &mut Snapshot, call: RegisterCall) -> Answer {
+pub(crate) fn change(register: &mut Snapshot, call: RegisterCall) -> Answer {
     match told(register, call) {
         Ok(RegisterAnswer::Generation(generation)) => Answer::Generation(Some(generation)),
         Ok(_) => Answer::Lost,
@@ -254,22 +241,18 @@ fn register_without(geometry: &Geometry, lost: &[usize]) -> Snapshot {
 pub(crate) fn play_all<R: Abort>(rt: &R, alloc: Global, tables: &[&[Course<'_>]]) {
     for courses in tables {
         for course in *courses {
-            if let Err(step) = play(alloc, course, None) {
+            if let Err(step) = play(alloc, course) {
                 panic!(rt; "step {step} of {}", course.name);
             }
         }
     }
 }
 
-/// A core takes the steps of a course; with a trouble, each is a request that is run to its reply. Of the steps, or of
-/// the commands then, there were so many. `Err`: this step isn't answered as it has to be, or the core can't begin.
-pub(crate) fn play(
-    alloc: Global,
-    course: &Course<'_>,
-    trouble: Option<&Trouble>,
-) -> Result<u64, usize> {
+/// A core takes the steps of a course: their number. `Err`: this step isn't answered as it has to be, or the core can't
+/// begin.
+fn play(alloc: Global, course: &Course<'_>) -> Result<u64, usize> {
     match Bench::new(alloc, course) {
-        Some(mut bench) => bench.play(course, trouble),
+        Some(mut bench) => bench.take_steps(course),
         None => Err(course.steps.len()),
     }
 }
@@ -277,7 +260,7 @@ pub(crate) fn play(
 impl Bench {
     /// An array of four slots, chunks of one block and blocks of 16 bytes, as the course has it. Of the values that
     /// have to be dropped the core is made last, so that nothing ends early beside it.
-    fn new(alloc: Global, course: &Course<'_>) -> Option<Bench> {
+    pub(crate) fn new(alloc: Global, course: &Course<'_>) -> Option<Bench> {
         let Ok(geometry) = Geometry::new(SLOTS, 1, BLOCK, course.rows, course.shards) else {
             return None;
         };
@@ -300,14 +283,8 @@ impl Bench {
             rows: course.rows,
             register,
             taken: Vec::new(alloc),
+            kept: None,
         })
-    }
-
-    fn play(&mut self, course: &Course<'_>, trouble: Option<&Trouble>) -> Result<u64, usize> {
-        match trouble {
-            Some(trouble) => self.run_all(course, trouble),
-            None => self.take_steps(course),
-        }
     }
 
     fn take_steps(&mut self, course: &Course<'_>) -> Result<u64, usize> {
@@ -320,7 +297,7 @@ impl Bench {
     }
 
     /// What a step answers. Where memory is wanting, that is wrong.
-    fn answer(&mut self, step: &Step) -> Answer {
+    pub(crate) fn answer(&mut self, step: &Step) -> Answer {
         match step {
             Step::Write(block, byte) => self.request(*block, BLOCK, Some(*byte)),
             Step::Read(block) => self.request(*block, BLOCK, None),
@@ -332,7 +309,7 @@ impl Bench {
             Step::Fail(token) => self.answer_taken(*token, false),
             Step::Deliver(token, len, byte) => self.deliver_filled(*token, *len, *byte),
             Step::DeliverLate(first, end) => self.deliver_late(*first, *end),
-            Step::Drive(most) => self.drive(*most, &NO_TROUBLE),
+            Step::Drive(most) => self.drive(*most, &Trouble::NONE),
             Step::Reply => self.take_reply(),
             step => self.answer_beside(step),
         }
@@ -350,7 +327,7 @@ impl Bench {
             Step::InSync(slot) => Answer::Generation(self.core.in_sync(*slot)),
             Step::Turn(task) => self.turn(*task),
             Step::Pass(task) => match self.turn(*task) {
-                Answer::Started => self.drive(9, &NO_TROUBLE),
+                Answer::Started => self.drive(9, &Trouble::NONE),
                 answer => answer,
             },
             Step::Counts(wanted) => {
@@ -417,7 +394,7 @@ impl Bench {
         }
     }
 
-    fn take_all(&mut self) -> Answer {
+    pub(crate) fn take_all(&mut self) -> Answer {
         for count in 0..usize::MAX {
             match self.take() {
                 Answer::Command(_, _, _) => {}
@@ -440,7 +417,7 @@ impl Bench {
     }
 
     /// The device of a command performs it, or answers an error, and its completion is delivered.
-    fn complete(&mut self, mut command: Command, is_good: bool) -> Answer {
+    pub(crate) fn complete(&mut self, mut command: Command, is_good: bool) -> Answer {
         let kind = FaultKind::Gone;
         if is_good {
             perform(&mut self.devices, &mut command);
@@ -452,7 +429,11 @@ impl Bench {
         }
     }
 
-    fn deliver(&mut self, token: u64, completion: Result<Buffer, DeviceFault>) -> Answer {
+    pub(crate) fn deliver(
+        &mut self,
+        token: u64,
+        completion: Result<Buffer, DeviceFault>,
+    ) -> Answer {
         match self.core.deliver(token, completion) {
             Ok(Receipt::Taken) => Answer::Taken,
             Ok(Receipt::Late) => Answer::Late,
@@ -460,7 +441,7 @@ impl Bench {
         }
     }
 
-    fn deliver_filled(&mut self, token: u64, len: usize, byte: u8) -> Answer {
+    pub(crate) fn deliver_filled(&mut self, token: u64, len: usize, byte: u8) -> Answer {
         let block = filled(self.alloc, len, byte);
         self.deliver(token, Ok(block))
     }
@@ -472,33 +453,6 @@ impl Bench {
             };
         }
         Answer::AllLate
-    }
-
-    /// Takes and answers commands until there is none, so many at the most.
-    fn drive(&mut self, most: usize, trouble: &Trouble) -> Answer {
-        let (mut taken, mut late): (usize, usize) = (0, 0);
-        for _ in 0..most {
-            let Some(command) = self.core.take_command() else {
-                break;
-            };
-            let is_good = self.is_good(command.token, trouble);
-            match self.complete(command, is_good) {
-                Answer::Taken => taken = taken.saturating_add(1),
-                Answer::Late => late = late.saturating_add(1),
-                _ => return Answer::Wrong,
-            }
-        }
-        Answer::Driven(taken, late)
-    }
-
-    /// Whether the device of a command performs it. A slot may be lost before.
-    fn is_good(&mut self, token: u64, trouble: &Trouble) -> bool {
-        if token == trouble.at {
-            change(&mut self.register, RegisterCall::Fail(trouble.slot));
-            self.look();
-        }
-        let [first, second, third] = trouble.errors;
-        token != first && token != second && token != third
     }
 
     fn take_call(&mut self) -> Answer {
@@ -516,7 +470,7 @@ impl Bench {
         }
     }
 
-    fn tell_all(&mut self) -> Answer {
+    pub(crate) fn tell_all(&mut self) -> Answer {
         for count in 0..SLOTS {
             let Some(call) = self.core.take_call() else {
                 return Answer::Told(count, self.register.failed());
@@ -533,7 +487,7 @@ impl Bench {
         Answer::Wrong
     }
 
-    fn look(&mut self) -> Answer {
+    pub(crate) fn look(&mut self) -> Answer {
         match self.core.look(&self.register) {
             Ok(()) => Answer::Looked,
             Err(refusal) => Answer::Refused(refusal.number()),
@@ -548,7 +502,7 @@ impl Bench {
         }
     }
 
-    fn take_reply(&mut self) -> Answer {
+    pub(crate) fn take_reply(&mut self) -> Answer {
         let Some((OpId(id), reply)) = self.core.take_reply() else {
             return Answer::Nothing;
         };
@@ -557,40 +511,5 @@ impl Bench {
             Reply::Data(buffer) => Answer::Data(id, byte_of(&buffer)),
             Reply::ArrayFailed(_) => Answer::Failed(id),
         }
-    }
-
-    /// Runs each request to its reply, with this trouble: the number of the commands. Each reply is the course's; with
-    /// three errors, until one has failed, and each behind that one is refused.
-    fn run_all(&mut self, course: &Course<'_>, trouble: &Trouble) -> Result<u64, usize> {
-        let (mut tokens, mut has_failed): (u64, bool) = (0, false);
-        for (index, (step, answer)) in course.steps.iter().enumerate() {
-            let (commands, given) = self.run(step, trouble);
-            tokens = tokens.saturating_add(commands);
-            if has_failed {
-                let Answer::Refused(5) = given else {
-                    return Err(index);
-                };
-            } else if !is(&given, answer) {
-                has_failed = true;
-                if trouble.errors[2] == NO_TOKEN || !is(&given, &Answer::Failed(index as u64)) {
-                    return Err(index);
-                }
-            }
-        }
-        Ok(tokens)
-    }
-
-    /// A request is run to its reply: the number of its commands, and the answer.
-    fn run(&mut self, request: &Step, trouble: &Trouble) -> (u64, Answer) {
-        let answer = self.answer(request);
-        let Answer::Accepted(_) = answer else {
-            return (0, answer);
-        };
-        let Answer::Driven(taken, late) = self.drive(99, trouble) else {
-            return (0, Answer::Wrong);
-        };
-        self.tell_all();
-        self.look();
-        (taken.saturating_add(late) as u64, self.take_reply())
     }
 }

@@ -20,3 +20,5 @@ mod scripts;
 mod scrubs;
 #[cfg(test)]
 mod starts;
+#[cfg(test)]
+mod trouble;

@@ -1,0 +1,237 @@
+//! Requests that are run to their replies while completions go wrong.
+
+use crate::bench::{Answer, Bench, Course, NO_TOKEN, Step, change, is};
+use crate::devices::{BLOCK, perform};
+use r6_core::Command;
+use r6_health::Call as RegisterCall;
+use std::alloc::Global;
+
+/// What goes wrong while commands are answered.
+#[derive(Clone, Copy)]
+pub(crate) struct Trouble {
+    /// The commands of these tokens have an error.
+    pub(crate) errors: [u64; 3],
+    /// This slot is lost, and looked at, before the command of the token is answered.
+    pub(crate) slot: usize,
+    pub(crate) at: u64,
+    /// Of the commands that are out the last is answered first.
+    pub(crate) is_reversed: bool,
+    /// Each completion comes once more, with a block that no device has.
+    pub(crate) is_doubled: bool,
+    /// The completion of this token comes once nothing else is left to do.
+    pub(crate) last: u64,
+}
+
+/// Of two writes and a read of each, in this order, those that were replied to.
+type Replied = [bool; 4];
+
+impl Trouble {
+    pub(crate) const NONE: Trouble = Trouble {
+        errors: [NO_TOKEN; 3],
+        slot: 0,
+        at: NO_TOKEN,
+        is_reversed: false,
+        is_doubled: false,
+        last: NO_TOKEN,
+    };
+}
+
+/// The requests of a course are each run to their reply, with a trouble: the number of the commands. `Err`: this one
+/// isn't answered as it has to be, or the core can't begin.
+pub(crate) fn run_through(
+    alloc: Global,
+    course: &Course<'_>,
+    trouble: &Trouble,
+) -> Result<u64, usize> {
+    match Bench::new(alloc, course) {
+        Some(mut bench) => bench.run_all(course, trouble),
+        None => Err(course.steps.len()),
+    }
+}
+
+/// Two writes and a read of each are run, with a trouble, and then the last completion comes: the number of the commands.
+/// `Err`: this one isn't answered as it has to be, or the core can't begin.
+pub(crate) fn run_to_the_last(
+    alloc: Global,
+    course: &Course<'_>,
+    trouble: &Trouble,
+) -> Result<u64, usize> {
+    match Bench::new(alloc, course) {
+        Some(mut bench) => bench.run_with_last(course, trouble),
+        None => Err(course.steps.len()),
+    }
+}
+
+/// A reply that the course has, or, of a read whose write wasn't replied to, what stood there before.
+fn is_right(course: &Course<'_>, replied: &Replied, id: u64, found: &Answer) -> bool {
+    let Some((_, wanted)) = course.steps.get(id as usize) else {
+        return false;
+    };
+    let is_early = id >= 2 && replied.get(id as usize - 2) == Some(&false);
+    is(found, wanted) || (is_early && is(found, &Answer::Data(id, 0)))
+}
+
+impl Bench {
+    /// Takes and answers commands until there is none, so many at the most.
+    pub(crate) fn drive(&mut self, most: usize, trouble: &Trouble) -> Answer {
+        let (mut taken, mut late): (usize, usize) = (0, 0);
+        for _ in 0..most {
+            let Some(command) = self.next_command(trouble) else {
+                break;
+            };
+            match self.complete_in(command, trouble) {
+                Answer::Taken => taken = taken.saturating_add(1),
+                Answer::Late => late = late.saturating_add(1),
+                Answer::Nothing => {}
+                _ => return Answer::Wrong,
+            }
+        }
+        Answer::Driven(taken, late)
+    }
+
+    /// The command that is answered next.
+    fn next_command(&mut self, trouble: &Trouble) -> Option<Command> {
+        if !trouble.is_reversed {
+            return self.core.take_command();
+        }
+        self.take_all();
+        self.taken.pop()
+    }
+
+    /// Answers a command, or keeps its completion to the last.
+    fn complete_in(&mut self, mut command: Command, trouble: &Trouble) -> Answer {
+        let token = command.token;
+        if token == trouble.last {
+            perform(&mut self.devices, &mut command);
+            self.kept = Some(command);
+            return Answer::Nothing;
+        }
+        let is_good = self.is_good(token, trouble);
+        let answer = self.complete(command, is_good);
+        if trouble.is_doubled
+            && !is(
+                &self.deliver_filled(token, BLOCK, 0xdd),
+                &Answer::Refused(7),
+            )
+        {
+            return Answer::Wrong;
+        }
+        answer
+    }
+
+    /// Whether the device of a command performs it. A slot may be lost before.
+    fn is_good(&mut self, token: u64, trouble: &Trouble) -> bool {
+        if token == trouble.at {
+            change(&mut self.register, RegisterCall::Fail(trouble.slot));
+            self.look();
+        }
+        !trouble.errors.contains(&token)
+    }
+
+    /// Each reply is the course's; with three errors, until one has failed, and each after that one is refused.
+    fn run_all(&mut self, course: &Course<'_>, trouble: &Trouble) -> Result<u64, usize> {
+        let (mut tokens, mut has_failed): (u64, bool) = (0, false);
+        for (index, (step, answer)) in course.steps.iter().enumerate() {
+            let (commands, given) = self.run(step, trouble);
+            tokens = tokens.saturating_add(commands);
+            if has_failed {
+                let Answer::Refused(5) = given else {
+                    return Err(index);
+                };
+            } else if !is(&given, answer) {
+                has_failed = true;
+                if trouble.errors[2] == NO_TOKEN || !is(&given, &Answer::Failed(index as u64)) {
+                    return Err(index);
+                }
+            }
+        }
+        Ok(tokens)
+    }
+
+    /// A request is run to its reply: the number of its commands, and the answer.
+    fn run(&mut self, request: &Step, trouble: &Trouble) -> (u64, Answer) {
+        let answer = self.answer(request);
+        let Answer::Accepted(_) = answer else {
+            return (0, answer);
+        };
+        let Some(commands) = self.drive_and_look(trouble) else {
+            return (0, Answer::Wrong);
+        };
+        (commands, self.take_reply())
+    }
+
+    /// Answers all commands, makes all calls, and looks: the number of the commands, unless a completion was refused.
+    fn drive_and_look(&mut self, trouble: &Trouble) -> Option<u64> {
+        let Answer::Driven(taken, late) = self.drive(99, trouble) else {
+            return None;
+        };
+        self.tell_all();
+        self.look();
+        Some(taken.saturating_add(late) as u64)
+    }
+
+    /// Before the last completion comes, the requests of one of both blocks have their replies; then all have, each its
+    /// own and none twice.
+    fn run_with_last(&mut self, course: &Course<'_>, trouble: &Trouble) -> Result<u64, usize> {
+        let mut replied = [false; 4];
+        let mut tokens: u64 = 0;
+        for (index, (step, _)) in course.steps.iter().enumerate() {
+            let Answer::Accepted(_) = self.answer(step) else {
+                return Err(index);
+            };
+            tokens = tokens.saturating_add(self.go_on(course, trouble, &mut replied)?);
+        }
+        let [first, second, third, fourth] = replied;
+        if !(first && third) && !(second && fourth) {
+            return Err(course.steps.len());
+        }
+        tokens = tokens.saturating_add(self.deliver_last());
+        tokens = tokens.saturating_add(self.go_on(course, trouble, &mut replied)?);
+        match replied.iter().position(|has| !*has) {
+            Some(unanswered) => Err(unanswered),
+            None => Ok(tokens),
+        }
+    }
+
+    /// The completion comes that was kept to the last, if one was: how many there were.
+    fn deliver_last(&mut self) -> u64 {
+        let Some(command) = self.kept.take() else {
+            return 0;
+        };
+        self.deliver(command.token, Ok(command.buffer));
+        1
+    }
+
+    /// Goes on until nothing is left to do but for the last completion, and takes the replies: the number of commands.
+    fn go_on(
+        &mut self,
+        course: &Course<'_>,
+        trouble: &Trouble,
+        replied: &mut Replied,
+    ) -> Result<u64, usize> {
+        let Some(commands) = self.drive_and_look(trouble) else {
+            return Err(replied.len());
+        };
+        self.take_replies(course, replied)?;
+        Ok(commands)
+    }
+
+    fn take_replies(&mut self, course: &Course<'_>, replied: &mut Replied) -> Result<(), usize> {
+        for _ in 0..replied.len() {
+            let answer = self.take_reply();
+            let id = match answer {
+                Answer::Done(id, _) | Answer::Data(id, _) => id,
+                Answer::Nothing => return Ok(()),
+                _ => return Err(replied.len()),
+            };
+            if !is_right(course, replied, id, &answer) {
+                return Err(id as usize);
+            }
+            match replied.get_mut(id as usize) {
+                Some(has) if !*has => *has = true,
+                _ => return Err(id as usize),
+            }
+        }
+        Ok(())
+    }
+}
