@@ -9,14 +9,14 @@ use Rattle.std.proofs.lemmas.Option.{none-some, slice_get-map, slice_get_within}
 use Rattle.r6_core.specs.declared.refusal.Refusal.{Refusal}
 use Rattle.r6_layout.specs.Shape.{Shape, blocks}
 use Rattle.r6_world.specs.declared.values.Op.{Op}
-use Rattle.r6_lists.specs.Events.{Event, Request, Serves, is_block_of, duty_of}
+use Rattle.r6_engine.specs.lists.Events.{Event, Request, Serves, is_block_of, duty_of}
 use Rattle.r6_shard.specs.declared.ledger.Entry.{Entry}
 use Rattle.r6_shard.specs.declared.performs.Performs.{Ghosts}
-use Rattle.r6_feed.specs.declared.answer.EventAnswer.{EventAnswer}
-use Rattle.r6_feed.specs.Feeds.{asked_before, asked_in, asking_at, asking_of}
-use Rattle.r6_feed.specs.Feeds as feeds
-use Rattle.r6_runner.specs.declared.pass.Passed.{Passed}
-use Rattle.r6_runner.specs.declared.runner.Runner.{Runner}
+use Rattle.r6_engine.specs.declared.feed.answer.EventAnswer.{EventAnswer}
+use Rattle.r6_engine.specs.feed.Feeds.{asked_before, asked_in, asking_at, asking_of}
+use Rattle.r6_engine.specs.feed.Feeds as feeds
+use Rattle.r6_engine.specs.declared.runner.pass.Passed.{Passed}
+use Rattle.r6_engine.specs.declared.runner.runner.Runner.{Runner}
 use Rattle.r6_engine.specs.declared.reply.EventReply.{EventReply}
 use Rattle.r6_engine.specs.declared.reply.EventReply.TheVariants as reply
 use Rattle.r6_engine.specs.declared.reply.EventReply.TheVariants.{Waited, Replied, Refused}

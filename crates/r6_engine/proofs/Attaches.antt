@@ -8,14 +8,14 @@ use Rattle.r6_layout.specs.Shape.{Shape}
 use Rattle.r6_world.specs.PlainArray.{block_of}
 use Rattle.r6_world.specs.declared.values.Op.{Op}
 use Rattle.r6_world.specs.Values.{op_of}
-use Rattle.r6_lists.specs.Events.{Event, Request, Attach, Fail, Check, Repair, Wait, Duty, Serves, Takes_up, Checks, Repairs, Task, task, task_at, duty_of, is_block_of, waits_before, numbers_of}
-use Rattle.r6_feed.specs.Events.{is_attach}
-use Rattle.r6_feed.specs.Feeds.{tasks_before}
-use Rattle.r6_feed.proofs.Counts.{attach_counted}
-use Rattle.r6_feed.proofs.Putting.{task_is, tasks_more}
-use Rattle.r6_runner.specs.Parts.{all_parts}
-use Rattle.r6_runner.specs.Tasks.{NewPart, parts_in}
-use Rattle.r6_runner.proofs.Coming.{none-more, one-more}
+use Rattle.r6_engine.specs.lists.Events.{Event, Request, Attach, Fail, Check, Repair, Wait, Duty, Serves, Takes_up, Checks, Repairs, Task, task, task_at, duty_of, is_block_of, waits_before, numbers_of}
+use Rattle.r6_engine.specs.feed.Events.{is_attach}
+use Rattle.r6_engine.specs.feed.Feeds.{tasks_before}
+use Rattle.r6_engine.proofs.FeedLemmas.Counts.{attach_counted}
+use Rattle.r6_engine.proofs.FeedLemmas.Putting.{task_is, tasks_more}
+use Rattle.r6_engine.specs.runner.Parts.{all_parts}
+use Rattle.r6_engine.specs.runner.Tasks.{NewPart, parts_in}
+use Rattle.r6_engine.proofs.RunnerLemmas.Coming.{none-more, one-more}
 
 abbrev brings : Option Duty → Bool
 brings None = false

@@ -20,9 +20,9 @@ use Rattle.r6_shard.specs.Performing.{HasPart, IsHere, Performer}
 use Rattle.r6_shard.proofs.Handed.{of-first, of-behind}
 use Rattle.r6_shard.proofs.Places.{first-of, behind, label-is, not-both}
 use Rattle.r6_shard.proofs.Promises.{promise-of, same-or-not}
-use Rattle.r6_remote.specs.declared.remote.Remote.{Remote}
-use Rattle.r6_remote.specs.Remotes.{AreFresh, AreShardPasses, IsRemote, fresh_performer}
-use Rattle.r6_crew.specs.Crews.{AreWorkers, IsOver}
+use Rattle.r6_engine.specs.declared.remote.remote.Remote.{Remote}
+use Rattle.r6_engine.specs.remote.Remotes.{AreFresh, AreShardPasses, IsRemote, fresh_performer}
+use Rattle.r6_engine.specs.joining.Crews.{AreWorkers, IsOver}
 use Rattle.r6_layout.specs.Shape.{Shape}
 use Rattle.r6_world.specs.ShardStates as world
 use Rattle.r6_world.specs.declared.values.Command.{Command}

@@ -7,28 +7,28 @@ use Rattle.std.proofs.lemmas.Option.{none-some, get_or_from_slice_get, slice_get
 use Rattle.r6_dev.specs.History.{Telling}
 use Rattle.r6_layout.specs.Shape.{Shape, IsShape}
 use Rattle.r6_world.specs.Registers.{Snapshot}
-use Rattle.r6_lists.specs.Events.{Event, tasks_of, numbers_of}
+use Rattle.r6_engine.specs.lists.Events.{Event, tasks_of, numbers_of}
 use Rattle.r6_shard.specs.declared.parts.Parts.{Parts}
 use Rattle.r6_shard.specs.Here.{BeginsHere}
 use Rattle.r6_shard.specs.declared.performs.Performs.{Ghosts}
 use Rattle.r6_shard.specs.Parts.{labels_of, part_in}
-use Rattle.r6_runner.specs.Parts.{HasAll}
-use Rattle.r6_runner.specs.declared.runner.Runner.{Runner}
-use Rattle.r6_runner.specs.Tasks.{passes_in, passed_of, under_way, due_passes, requests_in, due_requests}
-use Rattle.r6_runner.specs.Counted.{HasCounted, rows_of_shard}
-use Rattle.r6_runner.specs.Going.{TakesNoMore}
-use Rattle.r6_runner.specs.Runners.{HasDone, IsOver}
-use Rattle.r6_runner.specs.Waits.{AreBehindWaits, HasAwaited}
+use Rattle.r6_engine.specs.runner.Parts.{HasAll}
+use Rattle.r6_engine.specs.declared.runner.runner.Runner.{Runner}
+use Rattle.r6_engine.specs.runner.Tasks.{passes_in, passed_of, under_way, due_passes, requests_in, due_requests}
+use Rattle.r6_engine.specs.runner.Counted.{HasCounted, rows_of_shard}
+use Rattle.r6_engine.specs.runner.Going.{TakesNoMore}
+use Rattle.r6_engine.specs.runner.Runners.{HasDone, IsOver}
+use Rattle.r6_engine.specs.runner.Waits.{AreBehindWaits, HasAwaited}
 use Rattle.r6_health.specs.declared.history.View.{View}
-use Rattle.r6_feed.specs.declared.answer.EventAnswer.{EventAnswer}
+use Rattle.r6_engine.specs.declared.feed.answer.EventAnswer.{EventAnswer}
 use Rattle.r6_engine.specs.Passes.{TakesBack}
 use Rattle.r6_engine.specs.Serves.{AreNumbered, Begins, HasAnswered, HasRun, HasServed, HaveServed}
 use Rattle.r6_engine.specs.Refusals.{HadReasons, WereRight}
 use Rattle.r6_engine.proofs.InOrder.{are-behind}
 use Rattle.r6_engine.proofs.Reasons.{IsOf, each-of, reasons}
 use Rattle.r6_engine.proofs.Rows.{count-each-row}
-use Rattle.r6_runner.proofs.Counting.{classed-at-end, counted-at-end}
-use Rattle.r6_runner.proofs.Parts.{own-same}
+use Rattle.r6_engine.proofs.RunnerLemmas.Counting.{classed-at-end, counted-at-end}
+use Rattle.r6_engine.proofs.RunnerLemmas.Parts.{own-same}
 
 pub some_same : {A : Type 0} (x y : A) → Some x ≡ Some y → x ≡ y
 some_same x y is = ap (λ o. elim o [ None ↦ x | Some z ↦ z ]) is

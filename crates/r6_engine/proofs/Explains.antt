@@ -13,7 +13,7 @@ use Rattle.r6_world.specs.Values.{op_of}
 use Rattle.r6_world.proofs.Tables.{None-not_Some, Some-inj, not_both}
 use Rattle.r6_core.specs.declared.refusal.Refusal.{Refusal}
 use Rattle.r6_core.specs.Shards.{CoreView, core_layout, world_shard}
-use Rattle.r6_lists.specs.Events.{Event}
+use Rattle.r6_engine.specs.lists.Events.{Event}
 use Rattle.r6_shard.specs.declared.ledger.Asked.{Asked}
 use Rattle.r6_shard.specs.declared.ledger.Asking.{Asking}
 use Rattle.r6_shard.specs.declared.ledger.Entry.{Entry}
@@ -29,7 +29,7 @@ use Rattle.r6_shard.specs.declared.performs.Performs.{Ghosts}
 use Rattle.r6_course.specs.Courses.{AreFailed, Stand}
 use Rattle.r6_course.proofs.Ledger.{order_law}
 use Rattle.r6_course.proofs.Ends.{failure_law, idle_law}
-use Rattle.r6_runner.specs.declared.runner.Runner.{Runner}
+use Rattle.r6_engine.specs.declared.runner.runner.Runner.{Runner}
 use Rattle.r6_engine.specs.declared.ledger.Ledger.{Ledger}
 use Rattle.r6_engine.specs.declared.part.ShardParts.{ShardParts}
 use Rattle.r6_engine.specs.declared.reply.EventReply.{EventReply}

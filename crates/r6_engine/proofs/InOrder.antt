@@ -9,15 +9,15 @@ use Rattle.r6_world.specs.PlainArray as world
 use Rattle.r6_world.proofs.Tables.{Some-inj}
 use Rattle.r6_core.specs.declared.refusal.Refusal.{Refusal}
 use Rattle.r6_core.specs.Shards.{CoreView}
-use Rattle.r6_lists.specs.Events.{Event, Duty, Serves, Takes_up, Checks, Repairs, Task, task_at, tasks_of, numbers_of, has_task, is_passing, waits_before}
-use Rattle.r6_lists.proofs.Rising.{RisesFrom, rises_from, range_rises}
-use Rattle.r6_lists.proofs.Tasks.{numbers_of_tasks}
+use Rattle.r6_engine.specs.lists.Events.{Event, Duty, Serves, Takes_up, Checks, Repairs, Task, task_at, tasks_of, numbers_of, has_task, is_passing, waits_before}
+use Rattle.r6_engine.proofs.ListLemmas.Rising.{RisesFrom, rises_from, range_rises}
+use Rattle.r6_engine.proofs.ListLemmas.Tasks.{numbers_of_tasks}
 use Rattle.r6_shard.specs.declared.ledger.Asked.{Asked}
 use Rattle.r6_shard.specs.declared.ledger.Asking.{Asking}
 use Rattle.r6_shard.specs.Refusing.{IsEnding}
 use Rattle.r6_shard.specs.Runs.{AreServed}
-use Rattle.r6_runner.specs.Tasks.{request_in, requests_in}
-use Rattle.r6_runner.specs.Waits.{AreBehindWaits, IsBehindWait}
+use Rattle.r6_engine.specs.runner.Tasks.{request_in, requests_in}
+use Rattle.r6_engine.specs.runner.Waits.{AreBehindWaits, IsBehindWait}
 use Rattle.r6_engine.specs.ServedShards.{AreInOrder}
 
 -- ---- numbers that rise

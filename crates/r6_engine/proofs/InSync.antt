@@ -9,7 +9,7 @@ use Rattle.r6_world.specs.ShardStates.{SlotState, Synced, Missing, Building, InS
 use Rattle.r6_world.specs.Tables.{count_below}
 use Rattle.r6_course.specs.Ends.{IsInUse}
 use Rattle.r6_core.specs.Shards.{CoreView, synced, world_shard}
-use Rattle.r6_feed.proofs.Putting.{range_more}
+use Rattle.r6_engine.proofs.FeedLemmas.Putting.{range_more}
 use Rattle.r6_engine.specs.Ledgers.{in_sync_at, in_sync_in}
 use Rattle.r6_engine.proofs.EachShard.{some_same}
 

@@ -1,3 +1,8 @@
+pub mod ListLemmas
+pub mod FeedLemmas
+pub mod RunnerLemmas
+pub mod RemoteLemmas
+pub mod JoiningLemmas
 mod Attaches
 mod Crews
 mod EachShard

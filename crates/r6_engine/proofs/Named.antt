@@ -14,12 +14,12 @@ use Rattle.r6_shard.specs.declared.parts.Parts.{Parts}
 use Rattle.r6_shard.specs.Own.{AreOwn, is_own}
 use Rattle.r6_shard.specs.Sound.{StartsSound}
 use Rattle.r6_shard.specs.declared.performs.Performs.{Ghosts}
-use Rattle.r6_feed.specs.declared.event.Event.{Event}
-use Rattle.r6_feed.specs.declared.event.Event.TheVariants.{Request, Wait, Fail, Attach, Check, Repair}
-use Rattle.r6_feed.specs.Events.{IsPromised, ArePromised}
-use Rattle.r6_runner.specs.declared.runner.Runner.{Runner}
-use Rattle.r6_runner.specs.Sound.{KeepsPromised}
-use Rattle.r6_runner.specs.Going.{TakesNoMore}
+use Rattle.r6_engine.specs.declared.feed.event.Event.{Event}
+use Rattle.r6_engine.specs.declared.feed.event.Event.TheVariants.{Request, Wait, Fail, Attach, Check, Repair}
+use Rattle.r6_engine.specs.feed.Events.{IsPromised, ArePromised}
+use Rattle.r6_engine.specs.declared.runner.runner.Runner.{Runner}
+use Rattle.r6_engine.specs.runner.Sound.{KeepsPromised}
+use Rattle.r6_engine.specs.runner.Going.{TakesNoMore}
 use Rattle.r6_engine.specs.Named.{AttachFailsNone, AttachesFailNone, declares, LeaveSoundAlone, BeginsSound}
 use Rattle.r6_engine.specs.Passes.{CallAsTheyMay}
 use Rattle.r6_engine.specs.Serves.{AreNumbered}

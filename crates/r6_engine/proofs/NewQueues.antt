@@ -4,12 +4,12 @@ use Rattle.std.specs.Prelude.{IsSomeAnd, All}
 use Rattle.std.proofs.Math.Seq.{get_or-append_seam}
 use Rattle.std.proofs.lemmas.List.{get_or_append_left, length_push}
 use Rattle.r6_layout.specs.Shape.{Shape}
-use Rattle.r6_lists.specs.Events.{Event}
-use Rattle.r6_lists.specs.declared.consumer.Consumer.{Consumer}
-use Rattle.r6_lists.specs.declared.producer.Producer.{Producer}
-use Rattle.r6_lists.specs.declared.queue.Queue.{Queue}
-use Rattle.r6_lists.specs.Queues.{IsConsumerIn, IsConsumerOf, IsProducerOf, has_ended, put_by}
-use Rattle.r6_feed.specs.Feeds.{HasPut}
+use Rattle.r6_engine.specs.lists.Events.{Event}
+use Rattle.r6_engine.specs.declared.lists.consumer.Consumer.{Consumer}
+use Rattle.r6_engine.specs.declared.lists.producer.Producer.{Producer}
+use Rattle.r6_engine.specs.declared.lists.queue.Queue.{Queue}
+use Rattle.r6_engine.specs.lists.Queues.{IsConsumerIn, IsConsumerOf, IsProducerOf, has_ended, put_by}
+use Rattle.r6_engine.specs.feed.Feeds.{HasPut}
 use Rattle.r6_engine.specs.NewQueues.{HaveBegun, IsLonger}
 
 -- ---- what holds of an element that is there

@@ -3,8 +3,8 @@ use Rattle.std.proofs.Common.{◌≡◌, ◌≢◌, ◌∙◌, ℕ, ◌+◌, ◌
 use Rattle.std.specs.List.{range_with_len, filter_map, cons_option}
 use Rattle.std.proofs.lemmas.List.Sums.{sum_by-cons}
 use Rattle.r6_layout.specs.Shape.{Shape}
-use Rattle.r6_lists.specs.Events.{Event, Duty, Task, task, task_at, tasks_of, numbers_of, duty_of, waits_before}
-use Rattle.r6_runner.specs.Tasks.{of_tasks}
+use Rattle.r6_engine.specs.lists.Events.{Event, Duty, Task, task, task_at, tasks_of, numbers_of, duty_of, waits_before}
+use Rattle.r6_engine.specs.runner.Tasks.{of_tasks}
 use Rattle.r6_engine.proofs.Known.{is_of, is-not_of}
 use Rattle.r6_engine.proofs.Rows.{one-there}
 

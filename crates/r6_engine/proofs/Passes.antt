@@ -11,15 +11,15 @@ use Rattle.r6_health.specs.Histories.{held}
 use Rattle.r6_health.specs.Passes.{IsPassOf, start_of, view_of}
 use Rattle.r6_health.specs.Views.{joined, newcomer, Looks}
 use Rattle.r6_world.specs.Registers.{Snapshot}
-use Rattle.r6_lists.specs.Events.{Event}
+use Rattle.r6_engine.specs.lists.Events.{Event}
 use Rattle.r6_shard.specs.declared.parts.Parts.{Parts}
 use Rattle.r6_shard.specs.Own.{AreOwn, HasFailed}
 use Rattle.r6_shard.proofs.Own.{failed-later}
 use Rattle.r6_shard.proofs.Whole.{saw-later}
 use Rattle.r6_shard.specs.declared.performs.Performs.{Ghosts}
-use Rattle.r6_feed.specs.Feeds.{Joins, Sees}
-use Rattle.r6_runner.specs.declared.runner.Runner.{Runner}
-use Rattle.r6_runner.specs.Going.{TakesNoMore}
+use Rattle.r6_engine.specs.feed.Feeds.{Joins, Sees}
+use Rattle.r6_engine.specs.declared.runner.runner.Runner.{Runner}
+use Rattle.r6_engine.specs.runner.Going.{TakesNoMore}
 use Rattle.r6_engine.specs.Counted.{EachSawWithPass}
 use Rattle.r6_engine.specs.Passes.{CallAsTheyMay, IsHeard, IsSeen, IsShown, TakesBack}
 use Rattle.r6_engine.specs.Serves.{AreNumbered, Begins, HasRun}

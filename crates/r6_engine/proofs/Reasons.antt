@@ -11,13 +11,13 @@ use Rattle.r6_core.specs.declared.refusal.Refusal.{Refusal}
 use Rattle.r6_core.specs.declared.refusal.Refusal.TheVariants.{ArrayFailed, Exhausted}
 use Rattle.r6_core.specs.Shards.{CoreView}
 use Rattle.r6_core.specs.Refusals.{HasSubmitFault, HasNone}
-use Rattle.r6_lists.specs.Events.{Event, Request, Attach, Fail, Check, Repair, Wait, Serves, Task, task, task_at, duty_of, is_block_of, waits_before}
-use Rattle.r6_lists.proofs.Sharing.{IsBlockOf, block_of_shard}
+use Rattle.r6_engine.specs.lists.Events.{Event, Request, Attach, Fail, Check, Repair, Wait, Serves, Task, task, task_at, duty_of, is_block_of, waits_before}
+use Rattle.r6_engine.proofs.ListLemmas.Sharing.{IsBlockOf, block_of_shard}
 use Rattle.r6_shard.specs.declared.ledger.Asked.{Asked}
 use Rattle.r6_shard.specs.declared.ledger.Asking.{Asking}
 use Rattle.r6_shard.specs.Refusing.{own_faults, IsEnding, IsRefusedFor}
 use Rattle.r6_shard.specs.Runs.{AreServed}
-use Rattle.r6_runner.specs.Tasks.{request_in, requests_in}
+use Rattle.r6_engine.specs.runner.Tasks.{request_in, requests_in}
 use Rattle.r6_engine.specs.Refusals.{IsReason, HadReason, HadReasons, WasRight, WereRight}
 
 -- ---- each request of a shard is one of the events, for a block of the shard

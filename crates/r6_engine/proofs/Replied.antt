@@ -15,19 +15,19 @@ use Rattle.r6_world.specs.declared.values.Op.{Op}
 use Rattle.r6_world.specs.Values.{buffer_of}
 use Rattle.r6_core.specs.declared.refusal.Refusal.{Refusal}
 use Rattle.r6_core.specs.declared.refusal.Refusal.TheVariants.{NoSuchBlock, WrongLength, ArrayFailed, Exhausted}
-use Rattle.r6_lists.specs.Events.{Event, Request, Attach, Fail, Check, Repair, Wait, Serves, duty_of, is_block_of}
+use Rattle.r6_engine.specs.lists.Events.{Event, Request, Attach, Fail, Check, Repair, Wait, Serves, duty_of, is_block_of}
 use Rattle.r6_shard.specs.declared.ledger.Asked.{Asked}
 use Rattle.r6_shard.specs.declared.ledger.Entry.{Entry}
 use Rattle.r6_shard.specs.declared.performs.Performs.{Ghosts}
-use Rattle.r6_feed.specs.declared.answer.EventAnswer.{EventAnswer}
-use Rattle.r6_feed.specs.declared.answer.Outcome as told
-use Rattle.r6_feed.specs.declared.answer.Outcome.TheVariants.{OutOfRange, Failed, Attached}
-use Rattle.r6_feed.specs.Feeds.{asked_before, asked_in, asking_in, asking_of}
-use Rattle.r6_feed.specs.Feeds as feeds
+use Rattle.r6_engine.specs.declared.feed.answer.EventAnswer.{EventAnswer}
+use Rattle.r6_engine.specs.declared.feed.answer.Outcome as told
+use Rattle.r6_engine.specs.declared.feed.answer.Outcome.TheVariants.{OutOfRange, Failed, Attached}
+use Rattle.r6_engine.specs.feed.Feeds.{asked_before, asked_in, asking_in, asking_of}
+use Rattle.r6_engine.specs.feed.Feeds as feeds
 use Rattle.r6_dev.specs.History.{Telling}
-use Rattle.r6_runner.specs.declared.pass.Passed.{Passed}
-use Rattle.r6_runner.specs.declared.runner.Runner.{Runner}
-use Rattle.r6_runner.specs.Counted.{AreClassed, rows_of_shard}
+use Rattle.r6_engine.specs.declared.runner.pass.Passed.{Passed}
+use Rattle.r6_engine.specs.declared.runner.runner.Runner.{Runner}
+use Rattle.r6_engine.specs.runner.Counted.{AreClassed, rows_of_shard}
 use Rattle.r6_engine.specs.declared.found.Found.{Found}
 use Rattle.r6_engine.specs.declared.ledger.Ledger.{Ledger}
 use Rattle.r6_engine.specs.declared.ledger.LedgerEntry.{LedgerEntry}

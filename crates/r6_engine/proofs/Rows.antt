@@ -11,11 +11,11 @@ use Rattle.r6_layout.proofs.Shards.{first_row_zero, first_row_last, first_row_gr
 use Rattle.r6_core.specs.declared.turn.Task.{Task as Pass}
 use Rattle.r6_core.specs.declared.turn.Task.TheVariants as pass
 use Rattle.r6_core.specs.Shards.{CoreView}
-use Rattle.r6_lists.specs.Events.{Event, Check, Repair, Duty, Serves, Takes_up, Checks, Repairs, Task, task, task_at, tasks_of, numbers_of, duty_of, waits_before}
-use Rattle.r6_runner.specs.declared.pass.Passed.{Passed}
-use Rattle.r6_runner.specs.declared.runner.Runner.{Runner}
-use Rattle.r6_runner.specs.Tasks.{pass_in, passes_in, passed_of}
-use Rattle.r6_runner.specs.Counted.{AddUp, AreCounted, IsUsedUp, LeavesNoneOut, rows_in, rows_of_shard}
+use Rattle.r6_engine.specs.lists.Events.{Event, Check, Repair, Duty, Serves, Takes_up, Checks, Repairs, Task, task, task_at, tasks_of, numbers_of, duty_of, waits_before}
+use Rattle.r6_engine.specs.declared.runner.pass.Passed.{Passed}
+use Rattle.r6_engine.specs.declared.runner.runner.Runner.{Runner}
+use Rattle.r6_engine.specs.runner.Tasks.{pass_in, passes_in, passed_of}
+use Rattle.r6_engine.specs.runner.Counted.{AddUp, AreCounted, IsUsedUp, LeavesNoneOut, rows_in, rows_of_shard}
 use Rattle.r6_engine.specs.Counted.{CountEachRow, MayGoOn, rows_for}
 use Rattle.r6_shard.specs.declared.performs.Performs.{Ghosts}
 

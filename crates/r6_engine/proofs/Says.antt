@@ -7,17 +7,17 @@ use Rattle.r6_world.specs.PlainArray as world
 use Rattle.r6_core.specs.declared.refusal.Refusal.{Refusal}
 use Rattle.r6_core.specs.declared.turn.Task.{Task as Pass}
 use Rattle.r6_core.specs.Shards.{CoreView}
-use Rattle.r6_lists.specs.Events.{Event, Duty, Serves, Takes_up, Checks, Repairs, tasks_of, numbers_of}
+use Rattle.r6_engine.specs.lists.Events.{Event, Duty, Serves, Takes_up, Checks, Repairs, tasks_of, numbers_of}
 use Rattle.r6_shard.specs.declared.ledger.Asked.{Asked}
 use Rattle.r6_shard.specs.declared.ledger.Asking.{Asking}
 use Rattle.r6_shard.specs.Runs.{AreServed}
 use Rattle.r6_shard.specs.declared.performs.Performs.{Ghosts}
-use Rattle.r6_feed.specs.declared.answer.EventAnswer.{EventAnswer}
-use Rattle.r6_feed.specs.Feeds.{asked_before, asked_in, asking_at, asking_of}
-use Rattle.r6_feed.specs.Feeds as feeds
-use Rattle.r6_runner.specs.declared.pass.Passed.{Passed}
-use Rattle.r6_runner.specs.declared.runner.Runner.{Runner}
-use Rattle.r6_runner.specs.Tasks.{request_in, requests_in, pass_in, passes_in, passed_of}
+use Rattle.r6_engine.specs.declared.feed.answer.EventAnswer.{EventAnswer}
+use Rattle.r6_engine.specs.feed.Feeds.{asked_before, asked_in, asking_at, asking_of}
+use Rattle.r6_engine.specs.feed.Feeds as feeds
+use Rattle.r6_engine.specs.declared.runner.pass.Passed.{Passed}
+use Rattle.r6_engine.specs.declared.runner.runner.Runner.{Runner}
+use Rattle.r6_engine.specs.runner.Tasks.{request_in, requests_in, pass_in, passes_in, passed_of}
 use Rattle.r6_engine.specs.declared.reply.EventReply.{EventReply}
 use Rattle.r6_engine.specs.Replies.{Said, said_by, said_by_all, said_of_answer, said_of_entry, said_of_pass, said_of_refusal}
 use Rattle.r6_engine.proofs.EachShard.{some_same}

@@ -9,7 +9,7 @@ use Rattle.r6_layout.specs.Shape.{Shape, IsShape, blocks}
 use Rattle.r6_health.specs.declared.history.View.{View}
 use Rattle.r6_world.specs.Registers.{Snapshot}
 use Rattle.r6_world.specs.ShardStates.{limit}
-use Rattle.r6_lists.specs.Events.{Event, Request, Attach, Fail, Check, Repair, Wait, duty_of}
+use Rattle.r6_engine.specs.lists.Events.{Event, Request, Attach, Fail, Check, Repair, Wait, duty_of}
 use Rattle.r6_shard.specs.declared.ledger.Entry.{Entry}
 use Rattle.r6_shard.specs.declared.parts.Parts.{Parts}
 use Rattle.r6_shard.specs.declared.ledger.Asked.{Asked}
@@ -19,12 +19,12 @@ use Rattle.r6_shard.specs.declared.performs.Performs.{Ghosts}
 use Rattle.r6_world.specs.declared.values.Op.{Op}
 use Rattle.r6_world.specs.declared.values.Reply.{Reply}
 use Rattle.r6_core.specs.declared.refusal.Refusal.{Refusal}
-use Rattle.r6_feed.specs.declared.answer.EventAnswer.{EventAnswer}
-use Rattle.r6_feed.specs.declared.event.Event as feed
-use Rattle.r6_feed.specs.Events.{event_of, events_of}
-use Rattle.r6_feed.specs.Feeds.{asking_of}
-use Rattle.r6_runner.specs.declared.pass.Passed.{Passed}
-use Rattle.r6_runner.specs.declared.runner.Runner.{Runner}
+use Rattle.r6_engine.specs.declared.feed.answer.EventAnswer.{EventAnswer}
+use Rattle.r6_engine.specs.declared.feed.event.Event as feed
+use Rattle.r6_engine.specs.feed.Events.{event_of, events_of}
+use Rattle.r6_engine.specs.feed.Feeds.{asking_of}
+use Rattle.r6_engine.specs.declared.runner.pass.Passed.{Passed}
+use Rattle.r6_engine.specs.declared.runner.runner.Runner.{Runner}
 use Rattle.r6_engine.specs.declared.found.Found.{Found}
 use Rattle.r6_engine.specs.declared.ledger.Ledger.{Ledger}
 use Rattle.r6_engine.specs.declared.part.ShardParts.{ShardParts}
@@ -50,7 +50,7 @@ use Rattle.r6_engine.proofs.ServedShard.{served-shard}
 use Rattle.r6_engine.proofs.Stands.{answer-stands, entry-stands}
 use Rattle.r6_engine.proofs.Told.{all-reply, begun-all, has-said, linked}
 use Rattle.r6_engine.proofs.Unskipped.{none-skipped}
-use Rattle.r6_runner.proofs.Serving.{clean-serves}
+use Rattle.r6_engine.proofs.RunnerLemmas.Serving.{clean-serves}
 use Rattle.r6_engine.proofs.InOrder.{ended-before}
 
 -- ---- what all shards skipped

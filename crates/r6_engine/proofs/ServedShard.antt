@@ -14,7 +14,7 @@ use Rattle.r6_world.specs.PlainArray.{ArrayFailed}
 use Rattle.r6_world.specs.Registers.{Snapshot, status_of}
 use Rattle.r6_world.specs.Values.{reply_of}
 use Rattle.r6_core.specs.Shards.{world_shard}
-use Rattle.r6_lists.specs.Events.{Event}
+use Rattle.r6_engine.specs.lists.Events.{Event}
 use Rattle.r6_shard.specs.declared.ledger.Asked.{Asked}
 use Rattle.r6_shard.specs.declared.ledger.Entry.{Entry}
 use Rattle.r6_exchange.specs.declared.task.Part.{Part}
@@ -24,12 +24,12 @@ use Rattle.r6_shard.specs.Performing.{IsHere}
 use Rattle.r6_shard.specs.Own.{AreOwn}
 use Rattle.r6_shard.specs.Parts.{labels_of}
 use Rattle.r6_shard.specs.Whole.{SawWithPass}
-use Rattle.r6_feed.specs.declared.answer.EventAnswer.{EventAnswer}
-use Rattle.r6_feed.specs.declared.event.Event as feed
-use Rattle.r6_feed.specs.Events.{events_of}
-use Rattle.r6_runner.specs.declared.runner.Runner.{Runner}
-use Rattle.r6_runner.specs.Parts.{labels_in}
-use Rattle.r6_runner.specs.Waits.{AreBehindWaits}
+use Rattle.r6_engine.specs.declared.feed.answer.EventAnswer.{EventAnswer}
+use Rattle.r6_engine.specs.declared.feed.event.Event as feed
+use Rattle.r6_engine.specs.feed.Events.{events_of}
+use Rattle.r6_engine.specs.declared.runner.runner.Runner.{Runner}
+use Rattle.r6_engine.specs.runner.Parts.{labels_in}
+use Rattle.r6_engine.specs.runner.Waits.{AreBehindWaits}
 use Rattle.r6_engine.specs.declared.ledger.Ledger.{Ledger}
 use Rattle.r6_engine.specs.declared.ledger.LedgerEntry.{LedgerEntry}
 use Rattle.r6_engine.specs.declared.part.ShardParts.{ShardParts}
@@ -54,7 +54,7 @@ use Rattle.r6_engine.proofs.InSync.{in-sync-of, of-synced, synced-used}
 use Rattle.r6_engine.proofs.Reasons.{IsOf, each-of}
 use Rattle.r6_engine.proofs.Replied.{there-at}
 use Rattle.r6_engine.proofs.Told.{begun-all}
-use Rattle.r6_lists.specs.Events.{numbers_of, tasks_of}
+use Rattle.r6_engine.specs.lists.Events.{numbers_of, tasks_of}
 
 mapped-there : {A B : Type 0} (f : A → B) (xs : List A) (k : ℕ) (d : B) (x : A) → slice_get xs k ≡ Some x → slice_index_or (map f xs) k d ≡ f x
 mapped-there f xs k d x at = get_or_from_slice_get (map f xs) k (f x) d (slice_get-map f xs k ∙ ap (option_map f) at)

@@ -7,13 +7,13 @@ use Rattle.std.proofs.lemmas.Option.{slice_get-map, slice_get_within}
 use Rattle.r6_layout.specs.Shape.{Shape, blocks}
 use Rattle.r6_world.specs.PlainArray.{block_of}
 use Rattle.r6_world.specs.Values.{op_of}
-use Rattle.r6_lists.specs.Events.{Event, Request, Attach, Fail, Check, Repair, Wait, Serves, duty_of}
+use Rattle.r6_engine.specs.lists.Events.{Event, Request, Attach, Fail, Check, Repair, Wait, Serves, duty_of}
 use Rattle.r6_shard.specs.declared.ledger.Entry.{Entry}
 use Rattle.r6_shard.specs.declared.performs.Performs.{Ghosts}
-use Rattle.r6_feed.specs.declared.answer.EventAnswer.{EventAnswer}
-use Rattle.r6_feed.specs.Feeds.{asked_before, asked_in, asking_at, asking_of}
-use Rattle.r6_feed.specs.Feeds as feeds
-use Rattle.r6_runner.specs.declared.runner.Runner.{Runner}
+use Rattle.r6_engine.specs.declared.feed.answer.EventAnswer.{EventAnswer}
+use Rattle.r6_engine.specs.feed.Feeds.{asked_before, asked_in, asking_at, asking_of}
+use Rattle.r6_engine.specs.feed.Feeds as feeds
+use Rattle.r6_engine.specs.declared.runner.runner.Runner.{Runner}
 use Rattle.r6_engine.specs.declared.reply.EventReply.{EventReply}
 use Rattle.r6_engine.specs.declared.reply.EventReply.TheVariants.{Waited, Replied}
 use Rattle.r6_engine.specs.Answered.{block_in, shard_with}

@@ -12,7 +12,7 @@ use Rattle.r6_world.specs.PlainArray as world
 use Rattle.r6_world.specs.Registers.{Snapshot}
 use Rattle.r6_core.specs.declared.refusal.Refusal.{Refusal}
 use Rattle.r6_core.specs.Shards.{CoreView}
-use Rattle.r6_lists.specs.Events.{Event, Task, numbers_of, tasks_of, task_at}
+use Rattle.r6_engine.specs.lists.Events.{Event, Task, numbers_of, tasks_of, task_at}
 use Rattle.r6_shard.specs.declared.ledger.Asked.{Asked}
 use Rattle.r6_shard.specs.declared.ledger.Asking.{Asking}
 use Rattle.r6_shard.specs.declared.ledger.Entry.{Entry}
@@ -20,15 +20,15 @@ use Rattle.r6_shard.specs.declared.parts.Parts.{Parts}
 use Rattle.r6_shard.specs.Courses.{AreOf, IsOf}
 use Rattle.r6_shard.specs.Runs.{AreServed}
 use Rattle.r6_shard.specs.declared.performs.Performs.{Ghosts}
-use Rattle.r6_feed.specs.declared.answer.EventAnswer.{EventAnswer}
-use Rattle.r6_feed.specs.Events.{is_attach}
-use Rattle.r6_feed.specs.Feeds.{asked_before, asked_in}
-use Rattle.r6_runner.specs.declared.runner.Handed.{Handed}
-use Rattle.r6_runner.specs.Parts.{labels_in}
-use Rattle.r6_runner.specs.Runners.{IsOver}
+use Rattle.r6_engine.specs.declared.feed.answer.EventAnswer.{EventAnswer}
+use Rattle.r6_engine.specs.feed.Events.{is_attach}
+use Rattle.r6_engine.specs.feed.Feeds.{asked_before, asked_in}
+use Rattle.r6_engine.specs.declared.runner.runner.Handed.{Handed}
+use Rattle.r6_engine.specs.runner.Parts.{labels_in}
+use Rattle.r6_engine.specs.runner.Runners.{IsOver}
 use Rattle.r6_shard.specs.Parts.{label_of, labels_of}
-use Rattle.r6_runner.specs.declared.runner.Runner.{Runner}
-use Rattle.r6_runner.specs.Tasks.{due_requests, handed_of, parts_in, request_in, requests_in, slot_of}
+use Rattle.r6_engine.specs.declared.runner.runner.Runner.{Runner}
+use Rattle.r6_engine.specs.runner.Tasks.{due_requests, handed_of, parts_in, request_in, requests_in, slot_of}
 use Rattle.r6_engine.specs.declared.handback.PageRoom.{PageRoom}
 use Rattle.r6_engine.specs.declared.ledger.Ledger.{Ledger}
 use Rattle.r6_engine.specs.Answered.{AreReplies}

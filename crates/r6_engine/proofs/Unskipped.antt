@@ -12,15 +12,15 @@ use Rattle.r6_layout.proofs.Shards.{first_row_grows, first_row_last}
 use Rattle.r6_world.specs.Registers.{Snapshot}
 use Rattle.r6_world.specs.ShardStates.{limit}
 use Rattle.r6_core.specs.Shards.{CoreView, world_shard}
-use Rattle.r6_lists.specs.Events.{Event, Task, numbers_of, task_at, tasks_of}
+use Rattle.r6_engine.specs.lists.Events.{Event, Task, numbers_of, task_at, tasks_of}
 use Rattle.r6_shard.specs.declared.parts.Parts.{Parts}
 use Rattle.r6_shard.specs.Counted.{IsInService, counted_in}
 use Rattle.r6_shard.specs.Whole.{IsClean}
 use Rattle.r6_shard.specs.declared.performs.Performs.{Ghosts}
-use Rattle.r6_runner.specs.declared.pass.Passed.{Passed}
-use Rattle.r6_runner.specs.declared.runner.Runner.{Runner}
-use Rattle.r6_runner.specs.Counted.{AddUp, IsUsedUp, LeavesNoneOut, rows_in, rows_of_shard}
-use Rattle.r6_runner.specs.Tasks.{pass_in, passed_of, passes_in}
+use Rattle.r6_engine.specs.declared.runner.pass.Passed.{Passed}
+use Rattle.r6_engine.specs.declared.runner.runner.Runner.{Runner}
+use Rattle.r6_engine.specs.runner.Counted.{AddUp, IsUsedUp, LeavesNoneOut, rows_in, rows_of_shard}
+use Rattle.r6_engine.specs.runner.Tasks.{pass_in, passed_of, passes_in}
 use Rattle.r6_engine.specs.Serves.{HasServed}
 use Rattle.r6_engine.proofs.EachShard.{all_passed}
 use Rattle.r6_engine.proofs.Told.{picked-long}

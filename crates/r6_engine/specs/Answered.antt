@@ -8,7 +8,7 @@ use Rattle.r6_world.specs.declared.values.Op.{Op}
 use Rattle.r6_world.specs.Values.{buffer_of, op_of}
 use Rattle.r6_core.specs.declared.refusal.Refusal.{Refusal}
 use Rattle.r6_core.specs.declared.refusal.Refusal.TheVariants.{NoSuchBlock, WrongLength, ArrayFailed, Exhausted}
-use Rattle.r6_lists.specs.Events.{Event, Request, Attach, Fail, Check, Repair, Wait}
+use Rattle.r6_engine.specs.lists.Events.{Event, Request, Attach, Fail, Check, Repair, Wait}
 use Rattle.r6_engine.specs.Found.{rows_of}
 use Rattle.r6_engine.specs.declared.ledger.Ledger.{Ledger}
 use Rattle.r6_engine.specs.declared.reply.EventReply.{EventReply}

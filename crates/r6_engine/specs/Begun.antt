@@ -8,11 +8,11 @@ use Rattle.r6_health.specs.Histories.{start_losing}
 use Rattle.r6_health.specs.Passes.{IsPassOf, view_of}
 use Rattle.r6_health.specs.Registers.{starting}
 use Rattle.r6_health.specs.Views.{first_of}
-use Rattle.r6_lists.specs.Events.{Event}
-use Rattle.r6_lists.specs.Queues.{IsConsumerIn}
+use Rattle.r6_engine.specs.lists.Events.{Event}
+use Rattle.r6_engine.specs.lists.Queues.{IsConsumerIn}
 use Rattle.r6_shard.specs.declared.parts.Parts.{Parts}
 use Rattle.r6_shard.specs.declared.performs.Performs.{Ghosts}
-use Rattle.r6_feed.specs.Feeds.{AreAt}
+use Rattle.r6_engine.specs.feed.Feeds.{AreAt}
 use Rattle.r6_engine.specs.declared.beginning.Begun.{Begun}
 use Rattle.r6_engine.specs.Named.{BeginsSound}
 use Rattle.r6_engine.specs.Serves.{AreNumbered, Begins}

@@ -3,14 +3,14 @@ use Rattle.std.specs.Prelude.{◌≡◌, ℕ, ◌-◌, ◌==◌, ◌⊎◌, List
 use Rattle.r6_layout.specs.Shape.{Shape}
 use Rattle.r6_health.specs.declared.history.View.{View}
 use Rattle.r6_core.specs.Shards.{CoreView}
-use Rattle.r6_lists.specs.Events.{Event, Check, Repair}
+use Rattle.r6_engine.specs.lists.Events.{Event, Check, Repair}
 use Rattle.r6_shard.specs.Counted.{IsInService}
 use Rattle.r6_shard.specs.Whole.{SawWithPass}
 use Rattle.r6_shard.specs.declared.performs.Performs.{Ghosts}
-use Rattle.r6_runner.specs.declared.pass.Passed.{Passed}
-use Rattle.r6_runner.specs.declared.runner.Runner.{Runner}
-use Rattle.r6_runner.specs.Counted.{IsUsedUp, rows_in}
-use Rattle.r6_runner.specs.Skipping.{SkipNone}
+use Rattle.r6_engine.specs.declared.runner.pass.Passed.{Passed}
+use Rattle.r6_engine.specs.declared.runner.runner.Runner.{Runner}
+use Rattle.r6_engine.specs.runner.Counted.{IsUsedUp, rows_in}
+use Rattle.r6_engine.specs.runner.Skipping.{SkipNone}
 
 -- the rows that a shard counted for the event with this number, of whichever class or none
 abbrev pub rows_for : (event : ℕ) → List Passed → ℕ

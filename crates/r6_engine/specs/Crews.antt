@@ -7,14 +7,14 @@ use Rattle.r6_layout.specs.Shape.{Shape}
 use Rattle.r6_exchange.specs.declared.exchange.Exchange.{Exchange}
 use Rattle.r6_exchange.specs.declared.task.Part.{Part}
 use Rattle.r6_exchange.specs.Workers.{IsWorker}
-use Rattle.r6_feed.specs.Events.{is_attach}
-use Rattle.r6_lists.specs.Events.{Event}
+use Rattle.r6_engine.specs.feed.Events.{is_attach}
+use Rattle.r6_engine.specs.lists.Events.{Event}
 use Rattle.r6_shard.specs.Parts.{labels_of, part_in, promise_in}
 use Rattle.r6_shard.specs.Performing.{Performer}
 use Rattle.r6_shard.specs.declared.performs.Performs.{Ghosts}
-use Rattle.r6_runner.specs.declared.runner.Runner.{Runner}
-use Rattle.r6_remote.specs.declared.remote.Remote.{Remote}
-use Rattle.r6_remote.specs.Remotes.{AreFresh, AreShardPasses}
+use Rattle.r6_engine.specs.declared.runner.runner.Runner.{Runner}
+use Rattle.r6_engine.specs.declared.remote.remote.Remote.{Remote}
+use Rattle.r6_engine.specs.remote.Remotes.{AreFresh, AreShardPasses}
 use Rattle.r6_engine.specs.declared.crew.Site.{Site}
 use Rattle.r6_engine.specs.declared.crew.Crew.{Crew}
 use Rattle.r6_engine.specs.declared.post.Post.{Post}

@@ -3,7 +3,7 @@ use Rattle.std.specs.Prelude.{◌≡◌, ℕ, ◌<◌, List, All, false, Some}
 use Rattle.r6_world.specs.Registers.{Snapshot, ShardSet, InSync, Rebuilding, status_of}
 use Rattle.r6_world.specs.ShardStates.{limit}
 use Rattle.r6_core.specs.Shards.{CoreView, synced, world_shard}
-use Rattle.r6_runner.specs.declared.runner.Runner.{Runner}
+use Rattle.r6_engine.specs.declared.runner.runner.Runner.{Runner}
 use Rattle.r6_shard.specs.declared.performs.Performs.{Ghosts}
 
 abbrev pub NoneIsRebuilding : Snapshot → Type 0

@@ -14,13 +14,13 @@ use Rattle.r6_world.specs.Counting.{all_counted}
 use Rattle.r6_world.specs.ShardStates.{Shard, limit}
 use Rattle.r6_course.specs.Courses.{AreFailed, Mark, Reached, Start, looked_of}
 use Rattle.r6_course.specs.Ledgers.{IsWellFormed, Leads, OthersStay}
-use Rattle.r6_lists.specs.Events.{Event, Request, numbers_of, tasks_of}
+use Rattle.r6_engine.specs.lists.Events.{Event, Request, numbers_of, tasks_of}
 use Rattle.r6_shard.specs.declared.ledger.Asked.{Asked}
 use Rattle.r6_shard.specs.Behind.{IsBehindAll, StandsBefore}
 use Rattle.r6_shard.specs.Histories.{answered_before, asked_in, numbered, replied_in}
 use Rattle.r6_shard.specs.Parts.{part_in}
-use Rattle.r6_runner.specs.Counted.{rows_of_shard}
-use Rattle.r6_runner.specs.Tasks.{passes_in}
+use Rattle.r6_engine.specs.runner.Counted.{rows_of_shard}
+use Rattle.r6_engine.specs.runner.Tasks.{passes_in}
 use Rattle.r6_engine.specs.declared.ledger.Ledger.{Ledger}
 use Rattle.r6_engine.specs.declared.ledger.LedgerEntry.{LedgerEntry}
 use Rattle.r6_engine.specs.declared.part.ShardParts.{ShardParts}

@@ -1,7 +1,7 @@
 -- What checks and repairs find, by class (md(4): a check reads every row of the array; the classes are Anvin's,
 -- section 4).
 use Rattle.std.specs.Prelude.{ℕ, ◌+◌, ◌-◌, ◌^◌, min}
-use Rattle.r6_runner.specs.declared.pass.Passed.{Passed}
+use Rattle.r6_engine.specs.declared.runner.pass.Passed.{Passed}
 use Rattle.r6_engine.specs.declared.found.Found.{Found}
 
 -- the rows of some class

@@ -1,10 +1,10 @@
 -- Under which generations the parts of new devices came, and what their attaches were answered (this project's own).
 use Rattle.std.specs.Prelude.{◌≡◌, ◌≤◌, ℕ, true, All, List, map, filter_map, Option, Some, None}
-use Rattle.r6_feed.specs.declared.answer.EventAnswer.{EventAnswer}
-use Rattle.r6_feed.specs.declared.answer.Outcome.{Outcome}
-use Rattle.r6_feed.specs.declared.answer.Outcome.TheVariants.{OutOfRange, Failed, Attached}
-use Rattle.r6_feed.specs.Feeds.{generation_of}
-use Rattle.r6_runner.specs.declared.runner.Handed.{Handed}
+use Rattle.r6_engine.specs.declared.feed.answer.EventAnswer.{EventAnswer}
+use Rattle.r6_engine.specs.declared.feed.answer.Outcome.{Outcome}
+use Rattle.r6_engine.specs.declared.feed.answer.Outcome.TheVariants.{OutOfRange, Failed, Attached}
+use Rattle.r6_engine.specs.feed.Feeds.{generation_of}
+use Rattle.r6_engine.specs.declared.runner.runner.Handed.{Handed}
 
 -- an attach: its event, and the generation that it was answered, 0 where it was refused
 abbrev pub attach_of : (event : ℕ) → Outcome → Option (ℕ × ℕ)

@@ -4,9 +4,9 @@ use Rattle.std.specs.List.{range_with_len}
 use Rattle.r6_dev.specs.History.{Blocks, Telling}
 use Rattle.r6_world.specs.ShardStates.{Shard}
 use Rattle.r6_core.specs.Shards.{CoreView, synced, world_shard}
-use Rattle.r6_runner.specs.declared.runner.Runner.{Runner}
+use Rattle.r6_engine.specs.declared.runner.runner.Runner.{Runner}
 use Rattle.r6_engine.specs.Replies.{ledger_entries}
-use Rattle.r6_crew.specs.declared.back.Back.{Back}
+use Rattle.r6_engine.specs.declared.joining.back.Back.{Back}
 use Rattle.r6_engine.specs.declared.handback.Page.{Page}
 use Rattle.r6_engine.specs.declared.handback.PageRoom.{PageRoom}
 use Rattle.r6_engine.specs.declared.ledger.Ledger.{Ledger}

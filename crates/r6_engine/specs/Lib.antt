@@ -1,3 +1,8 @@
+pub mod lists
+pub mod feed
+pub mod runner
+pub mod remote
+pub mod joining
 pub mod Answered
 pub mod Begun
 pub mod Counted

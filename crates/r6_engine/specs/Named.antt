@@ -10,11 +10,11 @@ use Rattle.r6_world.specs.Registers.{Snapshot}
 use Rattle.r6_shard.specs.declared.parts.Parts.{Parts}
 use Rattle.r6_shard.specs.Sound.{StartsSound}
 use Rattle.r6_shard.specs.declared.performs.Performs.{Ghosts}
-use Rattle.r6_feed.specs.declared.event.Event.{Event}
-use Rattle.r6_feed.specs.declared.event.Event.TheVariants.{Attach}
-use Rattle.r6_feed.specs.Events.{PartFailsNone}
-use Rattle.r6_runner.specs.declared.runner.Runner.{Runner}
-use Rattle.r6_runner.specs.Sound.{IsSoundIn}
+use Rattle.r6_engine.specs.declared.feed.event.Event.{Event}
+use Rattle.r6_engine.specs.declared.feed.event.Event.TheVariants.{Attach}
+use Rattle.r6_engine.specs.feed.Events.{PartFailsNone}
+use Rattle.r6_engine.specs.declared.runner.runner.Runner.{Runner}
+use Rattle.r6_engine.specs.runner.Sound.{IsSoundIn}
 
 -- the parts for this shard of the new devices of this slot fail no command of the shard
 abbrev pub AttachFailsNone : {D : Type 0} → (D → Promise) → Shape → (shard slot : ℕ) → Event D → Type 0

@@ -1,10 +1,10 @@
 -- The queues of an array's shards, as they are made (this project's own).
 use Rattle.std.specs.Prelude.{◌≡◌, ℕ, ◌<◌, List, [], ◌∷◌, ◌++◌, length, slice_index_or}
 use Rattle.r6_layout.specs.Shape.{Shape}
-use Rattle.r6_lists.specs.Events.{Event}
-use Rattle.r6_lists.specs.declared.producer.Producer.{Producer}
-use Rattle.r6_lists.specs.declared.queue.Queue.{Queue}
-use Rattle.r6_feed.specs.Feeds.{HasPut}
+use Rattle.r6_engine.specs.lists.Events.{Event}
+use Rattle.r6_engine.specs.declared.lists.producer.Producer.{Producer}
+use Rattle.r6_engine.specs.declared.lists.queue.Queue.{Queue}
+use Rattle.r6_engine.specs.feed.Feeds.{HasPut}
 
 -- there is one more at the end
 abbrev pub IsLonger : {A : Type 0} → (new old : List A) → Type 0

@@ -11,9 +11,9 @@ use Rattle.r6_world.specs.Values.{reply_of}
 use Rattle.r6_core.specs.Shards.{world_shard}
 use Rattle.r6_shard.specs.Own.{AreOwn}
 use Rattle.r6_shard.specs.declared.performs.Performs.{Ghosts}
-use Rattle.r6_feed.specs.declared.answer.EventAnswer.{EventAnswer}
-use Rattle.r6_feed.specs.Feeds.{WereTold}
-use Rattle.r6_runner.specs.declared.runner.Runner.{Runner}
+use Rattle.r6_engine.specs.declared.feed.answer.EventAnswer.{EventAnswer}
+use Rattle.r6_engine.specs.feed.Feeds.{WereTold}
+use Rattle.r6_engine.specs.declared.runner.runner.Runner.{Runner}
 
 -- a shard declared lost none but slots that its ledger names, and reported the rows of no shard but itself as rebuilt:
 -- it made no other calls

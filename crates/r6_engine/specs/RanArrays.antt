@@ -8,10 +8,10 @@ use Rattle.r6_health.specs.Histories as history
 use Rattle.r6_world.specs.Registers.{Snapshot}
 use Rattle.r6_shard.specs.declared.parts.Parts.{Parts}
 use Rattle.r6_shard.specs.declared.performs.Performs.{Ghosts}
-use Rattle.r6_feed.specs.declared.answer.EventAnswer.{EventAnswer}
-use Rattle.r6_feed.specs.declared.event.Event as feed
-use Rattle.r6_feed.specs.Events.{events_of}
-use Rattle.r6_runner.specs.declared.runner.Runner.{Runner}
+use Rattle.r6_engine.specs.declared.feed.answer.EventAnswer.{EventAnswer}
+use Rattle.r6_engine.specs.declared.feed.event.Event as feed
+use Rattle.r6_engine.specs.feed.Events.{events_of}
+use Rattle.r6_engine.specs.declared.runner.runner.Runner.{Runner}
 use Rattle.r6_engine.specs.Counted.{EachSawWithPass, EachSkipsNone}
 use Rattle.r6_engine.specs.Ending.{HaveInSync, IsRebuilt, tokens_of}
 use Rattle.r6_engine.specs.Named.{LeaveSoundAlone}

@@ -6,7 +6,7 @@ use Rattle.r6_world.specs.Values.{buffer_of}
 use Rattle.r6_core.specs.declared.refusal.Refusal.{Refusal}
 use Rattle.r6_core.specs.declared.refusal.Refusal.TheVariants.{WrongLength, ArrayFailed, Exhausted}
 use Rattle.r6_core.specs.Shards.{CoreView, world_shard}
-use Rattle.r6_lists.specs.Events.{Event, Request}
+use Rattle.r6_engine.specs.lists.Events.{Event, Request}
 use Rattle.r6_shard.specs.declared.ledger.Asked.{Asked}
 
 -- its buffer is not one block; or it is, and the shard has seen that the array failed, or has given 2^60 tokens or

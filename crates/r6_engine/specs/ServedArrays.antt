@@ -7,12 +7,12 @@ use Rattle.r6_health.specs.declared.history.View.{View}
 use Rattle.r6_health.specs.Histories as history
 use Rattle.r6_world.specs.Registers.{Snapshot}
 use Rattle.r6_world.specs.ShardStates.{limit}
-use Rattle.r6_lists.specs.Events.{Event, tasks_of}
+use Rattle.r6_engine.specs.lists.Events.{Event, tasks_of}
 use Rattle.r6_shard.specs.declared.parts.Parts.{Parts}
 use Rattle.r6_shard.specs.Whole.{IsClean}
-use Rattle.r6_feed.specs.declared.answer.EventAnswer.{EventAnswer}
-use Rattle.r6_feed.specs.declared.event.Event as feed
-use Rattle.r6_feed.specs.Events.{events_of}
+use Rattle.r6_engine.specs.declared.feed.answer.EventAnswer.{EventAnswer}
+use Rattle.r6_engine.specs.declared.feed.event.Event as feed
+use Rattle.r6_engine.specs.feed.Events.{events_of}
 use Rattle.r6_engine.specs.declared.found.Found.{Found}
 use Rattle.r6_engine.specs.declared.ledger.Ledger.{Ledger}
 use Rattle.r6_engine.specs.declared.part.ShardParts.{ShardParts}

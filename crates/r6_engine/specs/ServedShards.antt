@@ -14,7 +14,7 @@ use Rattle.r6_world.specs.declared.values.Op.{Op}
 use Rattle.r6_world.specs.Worlds.{Devices}
 use Rattle.r6_core.specs.declared.refusal.Refusal.{Refusal}
 use Rattle.r6_world.specs.Claims.{IsLawfulStart}
-use Rattle.r6_lists.specs.Events.{Event, Request, numbers_of, tasks_of}
+use Rattle.r6_engine.specs.lists.Events.{Event, Request, numbers_of, tasks_of}
 use Rattle.r6_shard.specs.declared.ledger.Asked.{Asked}
 use Rattle.r6_shard.specs.declared.parts.Parts.{Parts}
 use Rattle.r6_shard.specs.Beginnings.{Hold, start_of}
@@ -25,14 +25,14 @@ use Rattle.r6_shard.specs.Parts.{labels_of, part_in}
 use Rattle.r6_shard.specs.Refusing.{IsEnding}
 use Rattle.r6_shard.specs.Sound.{StartsSound}
 use Rattle.r6_shard.specs.Whole.{SawWithPass}
-use Rattle.r6_feed.specs.declared.answer.EventAnswer.{EventAnswer}
-use Rattle.r6_feed.specs.declared.event.Event as feed
-use Rattle.r6_feed.specs.Events.{events_of}
-use Rattle.r6_runner.specs.declared.runner.Handed.{Handed}
-use Rattle.r6_runner.specs.Parts.{labels_in}
-use Rattle.r6_runner.specs.Runners.{NoneIsSilent, taken_up}
-use Rattle.r6_runner.specs.Tasks.{NewPart, handed_of, parts_in, slot_of}
-use Rattle.r6_runner.specs.Waits.{AreBehindWaits}
+use Rattle.r6_engine.specs.declared.feed.answer.EventAnswer.{EventAnswer}
+use Rattle.r6_engine.specs.declared.feed.event.Event as feed
+use Rattle.r6_engine.specs.feed.Events.{events_of}
+use Rattle.r6_engine.specs.declared.runner.runner.Handed.{Handed}
+use Rattle.r6_engine.specs.runner.Parts.{labels_in}
+use Rattle.r6_engine.specs.runner.Runners.{NoneIsSilent, taken_up}
+use Rattle.r6_engine.specs.runner.Tasks.{NewPart, handed_of, parts_in, slot_of}
+use Rattle.r6_engine.specs.runner.Waits.{AreBehindWaits}
 use Rattle.r6_engine.specs.declared.ledger.Ledger.{Ledger}
 use Rattle.r6_engine.specs.declared.ledger.LedgerEntry.{LedgerEntry}
 use Rattle.r6_engine.specs.declared.part.ShardParts.{ShardParts}

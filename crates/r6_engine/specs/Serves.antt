@@ -4,18 +4,18 @@ use Rattle.r6_dev.specs.History.{Telling}
 use Rattle.r6_layout.specs.Shape.{Shape}
 use Rattle.r6_health.specs.declared.history.View.{View}
 use Rattle.r6_world.specs.Registers.{Snapshot}
-use Rattle.r6_lists.specs.Events.{Event, tasks_of, numbers_of}
+use Rattle.r6_engine.specs.lists.Events.{Event, tasks_of, numbers_of}
 use Rattle.r6_shard.specs.declared.parts.Parts.{Parts}
 use Rattle.r6_shard.specs.Here.{BeginsHere, HasUsed}
 use Rattle.r6_shard.specs.declared.performs.Performs.{Ghosts}
 use Rattle.r6_shard.specs.Parts.{labels_of, part_in}
-use Rattle.r6_feed.specs.declared.answer.EventAnswer.{EventAnswer}
-use Rattle.r6_feed.specs.Feeds.{asked_before, asked_in, calls_of, is_unsettled, WereTold}
-use Rattle.r6_runner.specs.declared.runner.Runner.{Runner}
-use Rattle.r6_runner.specs.Counted.{AreClassed, AreCounted, HasCounted, KeepsCounted, rows_of_shard}
-use Rattle.r6_runner.specs.Parts.{HasAll, KeepsOwn}
-use Rattle.r6_runner.specs.Runners.{GoesOn, HasDone, IsOver}
-use Rattle.r6_runner.specs.Waits.{AreBehindWaits, HasAwaited}
+use Rattle.r6_engine.specs.declared.feed.answer.EventAnswer.{EventAnswer}
+use Rattle.r6_engine.specs.feed.Feeds.{asked_before, asked_in, calls_of, is_unsettled, WereTold}
+use Rattle.r6_engine.specs.declared.runner.runner.Runner.{Runner}
+use Rattle.r6_engine.specs.runner.Counted.{AreClassed, AreCounted, HasCounted, KeepsCounted, rows_of_shard}
+use Rattle.r6_engine.specs.runner.Parts.{HasAll, KeepsOwn}
+use Rattle.r6_engine.specs.runner.Runners.{GoesOn, HasDone, IsOver}
+use Rattle.r6_engine.specs.runner.Waits.{AreBehindWaits, HasAwaited}
 use Rattle.r6_engine.specs.Counted.{CountEachRow}
 use Rattle.r6_engine.specs.Refusals.{HadReasons, WereRight}
 

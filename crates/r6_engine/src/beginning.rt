@@ -3,22 +3,22 @@
 ghost use Rattle.std.specs.Prelude.{◌≡◌, ◌≤◌, ◌<◌, ◌^◌, IfOk, OnOk, count_ones, map};
 ghost use Rattle.std.specs.List.{AllZip};
 ghost use Rattle.r6_layout.specs.Shape.{IsShape};
-ghost use Rattle.r6_feed.specs.Events.{events_of};
+ghost use Rattle.r6_engine.specs.feed.Events.{events_of};
 ghost use Rattle.r6_engine.specs.Begun.{HasBegun};
 ghost use Rattle.r6_engine.specs.Crews.{HasRoomOf, HaveRoomyCrews, MeetsAt, StandsAt, exchanges_at};
 
 use crate::crew::Crew;
+use crate::feed::{Event, Feed};
 use crate::lines::Lines;
+use crate::lists::{Events, Queue, Rest};
 use crate::making::{Opening, rests_of, takings_of};
 use crate::posting::Posting;
+use crate::remote::Remote;
+use crate::runner::{Runner, Taking};
 use crate::serving::Config;
 use r6_dev::BlockDevice;
-use r6_feed::{Event, Feed};
 use r6_health::{Register, Snapshot};
 use r6_idle::Idle;
-use r6_lists::{Events, Queue, Rest};
-use r6_remote::Remote;
-use r6_runner::{Runner, Taking};
 use r6_shard::Performs;
 use r6_threads::Refused;
 use std::alloc::Global;

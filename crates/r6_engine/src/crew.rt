@@ -1,12 +1,12 @@
 //! A shard's io workers, as they are made.
 
 ghost use Rattle.std.specs.Prelude.{◌≡◌, ◌≤◌, IfOk, length, map};
-ghost use Rattle.r6_feed.specs.Events.{events_of};
+ghost use Rattle.r6_engine.specs.feed.Events.{events_of};
 ghost use Rattle.r6_engine.specs.Crews.{HaveCrews, IsCrew};
 
+use crate::feed::{Event, count_attaches};
 use r6_dev::BlockDevice;
 use r6_exchange::{Exchange, ShardPass, Wakers, Worker};
-use r6_feed::{Event, count_attaches};
 use r6_idle::Idle;
 use r6_layout::Geometry;
 use r6_shard::Parts;

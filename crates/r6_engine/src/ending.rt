@@ -5,18 +5,18 @@ ghost use Rattle.std.specs.List.{AllZip};
 ghost use Rattle.r6_health.specs.Histories.{IsLegal, held};
 ghost use Rattle.r6_health.specs.Passes.{IsPassOf, view_of};
 ghost use Rattle.r6_health.specs.Views.{joined, newcomer};
-ghost use Rattle.r6_runner.specs.declared.left.Left.TheVariants.{Nothing};
-ghost use Rattle.r6_runner.specs.Going.{TakesNoMore};
-ghost use Rattle.r6_runner.specs.Runners.{IsOver};
+ghost use Rattle.r6_engine.specs.declared.runner.left.Left.TheVariants.{Nothing};
+ghost use Rattle.r6_engine.specs.runner.Going.{TakesNoMore};
+ghost use Rattle.r6_engine.specs.runner.Runners.{IsOver};
 ghost use Rattle.r6_engine.specs.Ending.{HasInSync, HaveInSync, HaveTokens, IsKept, IsRebuilt, NoneIsRebuilding, tokens_of};
 ghost use Rattle.r6_engine.specs.Passes.{IsHeard, IsSeen, TakesBack};
 
+use crate::runner::{Left, Runner};
 use r6_core::Core;
 use r6_dev::BlockDevice;
 use r6_health::{Pass, Register, SlotState, Snapshot};
 use r6_idle::Idle;
 use r6_layout::MOST_SLOTS;
-use r6_runner::{Left, Runner};
 use r6_shard::{Performs, TakesParts};
 use std::sync::Wait;
 

@@ -3,7 +3,7 @@
 ghost use Rattle.std.specs.Prelude.{◌≡◌};
 ghost use Rattle.r6_engine.specs.Found.{found_by, found_in};
 
-use r6_runner::Passed;
+use crate::runner::Passed;
 
 /// How many rows of each class a check or repair found, how many it skipped, and how many wrong ones it repaired.
 ///

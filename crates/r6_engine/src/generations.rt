@@ -3,9 +3,9 @@
 ghost use Rattle.std.specs.Prelude.{◌≡◌, ◌↔◌, All, true};
 ghost use Rattle.r6_engine.specs.Generations.{HasAgreed, IsAttached, answered_in, attach_in, handed_in};
 
+use crate::feed::{EventAnswer, Outcome};
+use crate::runner::{Handed, Runner};
 use r6_dev::BlockDevice;
-use r6_feed::{EventAnswer, Outcome};
-use r6_runner::{Handed, Runner};
 use r6_shard::Performs;
 use std::sync::Wait;
 

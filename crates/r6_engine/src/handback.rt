@@ -3,25 +3,25 @@
 ghost use Rattle.std.specs.Prelude.{◌≡◌, ◌≤◌, ◌+◌, ◌++◌, ℕ, [], All, IsPermutation, None, length, reverse, vec_capacity, IfOk};
 ghost use Rattle.std.specs.List.{AllZip};
 ghost use Rattle.r6_shard.specs.Parts.{labels_of};
-ghost use Rattle.r6_runner.specs.Runners.{IsOver};
-ghost use Rattle.r6_remote.specs.Remotes.{IsRemote, performer_of};
-ghost use Rattle.r6_crew.specs.Crews.{AreTakenBack};
+ghost use Rattle.r6_engine.specs.runner.Runners.{IsOver};
+ghost use Rattle.r6_engine.specs.remote.Remotes.{IsRemote, performer_of};
+ghost use Rattle.r6_engine.specs.joining.Crews.{AreTakenBack};
 ghost use Rattle.r6_engine.specs.Crews.{MeetsAt, StandsAt, exchanges_at};
 ghost use Rattle.r6_engine.specs.Ledgers.{AreBack, FitsPage, IsLedgerOf, IsPage, IsEmpty, in_sync_in};
 ghost use Rattle.r6_engine.specs.Replies.{said_by, said_by_all, with_all};
 
 use crate::crew::Site;
+use crate::joining::{Back, take_back};
 use crate::ledger::{Ledger, LedgerEntry};
 use crate::part::ShardParts;
 use crate::post::{Post, next_workers};
 use crate::posting::Posting;
+use crate::remote::Remote;
 use crate::replies::Replies;
+use crate::runner::Runner;
 use r6_core::Core;
-use r6_crew::{Back, take_back};
 use r6_dev::BlockDevice;
 use r6_exchange::{Part, Worker};
-use r6_remote::Remote;
-use r6_runner::Runner;
 use r6_shard::Shard;
 use std::alloc::{AllocError, Global};
 use std::sync::Wait;
@@ -110,7 +110,7 @@ fn take_parts<'a, D: BlockDevice + Drop, R: Wait>(
     ensures posts { (others : _) → AllZip (StandsAt D.told D.promised) (site.now.exchanges.items ++ others)
         (reverse posts.old.items) → AllZip (StandsAt D.told D.promised) others (reverse posts.new.items) }
 {
-    r6_crew::end(rt, &mut remote);
+    crate::joining::end(rt, &mut remote);
     let workers = next_workers(rt, site, posts, workers);
     take_back(remote, workers, back)
 }

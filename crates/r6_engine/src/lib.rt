@@ -4,27 +4,32 @@
 mod beginning;
 mod crew;
 mod ending;
+pub mod feed;
 mod found;
 mod generations;
 mod handback;
+pub mod joining;
 mod ledger;
 mod lines;
+pub mod lists;
 mod making;
 mod part;
 mod post;
 mod posting;
+pub mod remote;
 mod replies;
 mod reply;
+pub mod runner;
 mod running;
 mod served;
 mod serving;
 mod settling;
 mod worker;
 
+pub use feed::Event;
 pub use found::Found;
 pub use ledger::{Ledger, LedgerEntry};
 pub use part::ShardParts;
-pub use r6_feed::Event;
 pub use r6_offline::{
     Counts, EngineError, Rebuilt, Report, RowFault, Unwatched, Watch, WrongRow, check_all,
     create_files, is_absent, open_parts, open_slot, rebuild_all, verify,

@@ -1,12 +1,12 @@
 //! The queues of the shards are made, one after another.
 
 ghost use Rattle.std.specs.Prelude.{◌≡◌, ◌≤◌, ◌<◌, [], IfOk, OnErr, OnOk, length, vec_capacity};
-ghost use Rattle.r6_lists.specs.Events.{tasks_of};
-ghost use Rattle.r6_lists.specs.Queues.{IsConsumerIn};
+ghost use Rattle.r6_engine.specs.lists.Events.{tasks_of};
+ghost use Rattle.r6_engine.specs.lists.Queues.{IsConsumerIn};
 ghost use Rattle.r6_engine.specs.NewQueues.{HaveBegun, IsLonger};
 
+use crate::lists::{Consumer, Events, Producer, Queue};
 use r6_dev::BlockDevice;
-use r6_lists::{Consumer, Events, Producer, Queue};
 use std::alloc::{AllocError, Global};
 
 /// The queues of the first shards, and who puts items into each.

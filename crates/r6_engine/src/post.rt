@@ -3,7 +3,7 @@
 ghost use Rattle.std.specs.Prelude.{◌≡◌, ◌++◌, ◌+◌, ◌≤◌, [], length, reverse, vec_capacity};
 ghost use Rattle.std.specs.List.{AllZip};
 ghost use Rattle.r6_exchange.specs.Workers.{IsWorker};
-ghost use Rattle.r6_crew.specs.Crews.{AreWorkers};
+ghost use Rattle.r6_engine.specs.joining.Crews.{AreWorkers};
 ghost use Rattle.r6_engine.specs.Crews.{StandsAt};
 
 use crate::crew::Site;

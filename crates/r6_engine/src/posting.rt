@@ -3,15 +3,15 @@
 ghost use Rattle.std.specs.Prelude.{◌≡◌, ◌+◌, ◌<◌, ◌≤◌, ℕ, [], IfOk, IfSome, OnOk, Some, length, slice_get, vec_capacity};
 ghost use Rattle.std.specs.List.{AllZip};
 ghost use Rattle.r6_exchange.specs.Workers.{IsWorker};
-ghost use Rattle.r6_remote.specs.Remotes.{IsRemote, fresh_performer, performer_of};
+ghost use Rattle.r6_engine.specs.remote.Remotes.{IsRemote, fresh_performer, performer_of};
 ghost use Rattle.r6_engine.specs.Crews.{ArePosted, HasTakenUp, IsCrew, exchanges_at};
 
 use crate::crew::{Crew, Site};
 use crate::post::{Post, post_all};
+use crate::remote::Remote;
 use r6_dev::BlockDevice;
 use r6_exchange::{Exchange, Part, Worker};
 use r6_idle::Idle;
-use r6_remote::Remote;
 use r6_threads::Refused;
 use std::alloc::{AllocError, Global};
 use std::sync::Wait;

@@ -4,12 +4,12 @@ ghost use Rattle.std.specs.Prelude.{◌≡◌, ◌++◌, ◌≤◌, [], length, 
 ghost use Rattle.r6_engine.specs.declared.reply.EventReply.TheVariants.{Waited};
 ghost use Rattle.r6_engine.specs.Replies.{ledger_entries, said_of_answer, said_of_entry, said_of_pass, said_of_refusal, with_all, with_one};
 
+use crate::feed::EventAnswer;
 use crate::found::Found;
 use crate::ledger::LedgerEntry;
 use crate::reply::EventReply;
+use crate::runner::Passed;
 use r6_core::Refusal;
-use r6_feed::EventAnswer;
-use r6_runner::Passed;
 use r6_shard::Entry;
 use std::alloc::{AllocError, Global};
 

@@ -3,9 +3,9 @@
 ghost use Rattle.std.specs.Prelude.{◌≡◌};
 ghost use Rattle.r6_engine.specs.Replies.{known_with, reply_of_answer};
 
+use crate::feed::Outcome;
 use crate::found::Found;
 use r6_core::{Refusal, Reply};
-use r6_feed::Outcome;
 use r6_health::{Answer, Refusal as RegisterRefusal};
 use std::mem;
 

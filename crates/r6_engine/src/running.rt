@@ -3,18 +3,18 @@
 ghost use Rattle.std.specs.Prelude.{◌≡◌, All, IfOk};
 ghost use Rattle.std.specs.List.{AllZip};
 ghost use Rattle.r6_health.specs.Passes.{IsPassOf, view_of};
-ghost use Rattle.r6_lists.specs.Queues.{IsConsumerIn};
-ghost use Rattle.r6_feed.specs.Events.{events_of, AreWhole, ArePromised};
-ghost use Rattle.r6_feed.specs.Feeds.{AreAt};
-ghost use Rattle.r6_runner.specs.Sound.{KeepsPromised};
+ghost use Rattle.r6_engine.specs.lists.Queues.{IsConsumerIn};
+ghost use Rattle.r6_engine.specs.feed.Events.{events_of, AreWhole, ArePromised};
+ghost use Rattle.r6_engine.specs.feed.Feeds.{AreAt};
+ghost use Rattle.r6_engine.specs.runner.Sound.{KeepsPromised};
 ghost use Rattle.r6_engine.specs.Serves.{HasAnswered, HasRun};
 
+use crate::feed::{Event, EventAnswer, Feed, Shards};
+use crate::lists::Events;
+use crate::runner::Taking;
 use crate::worker::Station;
 use r6_dev::BlockDevice;
-use r6_feed::{Event, EventAnswer, Feed, Shards};
 use r6_health::Pass;
-use r6_lists::Events;
-use r6_runner::Taking;
 use r6_shard::{Performs, TakesParts};
 use r6_threads::Refused;
 use std::alloc::Global;

@@ -1,12 +1,12 @@
 //! What the shards took is settled.
 
 ghost use Rattle.std.specs.Prelude.{◌≡◌, ◌≤◌, [], All, Some, length, map, slice_get, true, vec_capacity};
-ghost use Rattle.r6_lists.specs.Events.{numbers_of, tasks_of};
+ghost use Rattle.r6_engine.specs.lists.Events.{numbers_of, tasks_of};
 ghost use Rattle.r6_engine.specs.Serves.{AreNumbered};
 
+use crate::lists::Events;
+use crate::runner::{Runner, Taking};
 use r6_dev::BlockDevice;
-use r6_lists::Events;
-use r6_runner::{Runner, Taking};
 use r6_shard::Performs;
 
 // Settles what the shards took, from the first on: all of their tasks, each once, in the order of the events.

@@ -1,14 +1,14 @@
 //! What the thread of a shard does.
 
 ghost use Rattle.r6_health.specs.Passes.{IsPassOf};
-ghost use Rattle.r6_lists.specs.Queues.{IsConsumerIn};
-ghost use Rattle.r6_runner.specs.Sound.{KeepsPromised};
+ghost use Rattle.r6_engine.specs.lists.Queues.{IsConsumerIn};
+ghost use Rattle.r6_engine.specs.runner.Sound.{KeepsPromised};
 ghost use Rattle.r6_engine.specs.Serves.{HasRun};
 
+use crate::feed::Shards;
+use crate::lists::Events;
+use crate::runner::Taking;
 use r6_dev::BlockDevice;
-use r6_feed::Shards;
-use r6_lists::Events;
-use r6_runner::Taking;
 use r6_shard::{Performs, TakesParts};
 use r6_threads::Work;
 use std::sync::Wait;

@@ -2,12 +2,12 @@
 use Rattle.std.proofs.Common.{◌≡◌, ◌∙◌, ℕ, List, [], ◌∷◌, ◌++◌, ap, sym, subst}
 use Rattle.std.specs.Prelude.{IsSomeAnd, slice_get}
 use Rattle.r6_layout.specs.Shape.{Shape, shape_of}
-use Rattle.r6_lists.specs.declared.item.Item.{Item}
-use Rattle.r6_lists.specs.declared.producer.Producer.{Producer}
-use Rattle.r6_lists.specs.declared.queue.Queue.{Queue}
-use Rattle.r6_lists.specs.Events.{Event, numbers_of, tasks_of}
-use Rattle.r6_lists.specs.Queues.{IsNext, IsProducerIn, IsProducerOf, put_by}
-use Rattle.r6_feed.specs.Feeds.{HasPut}
+use Rattle.r6_engine.specs.declared.lists.item.Item.{Item}
+use Rattle.r6_engine.specs.declared.lists.producer.Producer.{Producer}
+use Rattle.r6_engine.specs.declared.lists.queue.Queue.{Queue}
+use Rattle.r6_engine.specs.lists.Events.{Event, numbers_of, tasks_of}
+use Rattle.r6_engine.specs.lists.Queues.{IsNext, IsProducerIn, IsProducerOf, put_by}
+use Rattle.r6_engine.specs.feed.Feeds.{HasPut}
 use Rattle.r6_engine_tests.specs.Asks.{five_events}
 
 pub numbers-of-five : (shape : Shape) (events : List Event) (shard : ℕ) → shape ≡ shape_of 4 1 16 4 2 → events ≡ five_events

@@ -7,9 +7,9 @@ use Rattle.std.proofs.lemmas.List.Sums.{count_by_more_no, count_by_more_yes}
 use Rattle.std.proofs.Math.ListN.{get_or-map}
 use Rattle.std.proofs.lemmas.Option.{slice_get_within, get_or_from_slice_get}
 use Rattle.r6_layout.specs.Shape.{Shape}
-use Rattle.r6_lists.specs.Events.{Event, Task, task_at, tasks_of, numbers_of, is_passing, waits_before}
-use Rattle.r6_runner.specs.Parts.{all_parts}
-use Rattle.r6_runner.specs.Tasks.{part_in}
+use Rattle.r6_engine.specs.lists.Events.{Event, Task, task_at, tasks_of, numbers_of, is_passing, waits_before}
+use Rattle.r6_engine.specs.runner.Parts.{all_parts}
+use Rattle.r6_engine.specs.runner.Tasks.{part_in}
 use Rattle.r6_engine_tests.specs.declared.asks.Ask.{Ask}
 use Rattle.r6_engine_tests.specs.Asks.{event_of, events_of}
 

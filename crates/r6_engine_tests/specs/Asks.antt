@@ -3,7 +3,7 @@ use Rattle.std.specs.Prelude.{◌*◌, List, [], ◌∷◌, map, replicate}
 use Rattle.r6_kernels.specs.Blocks.{zeros}
 use Rattle.r6_dev.specs.Memory.{told_by}
 use Rattle.r6_world.specs.declared.values.Op.TheVariants as op
-use Rattle.r6_lists.specs.Events.{Event, Request, Attach, Check, Repair, Wait}
+use Rattle.r6_engine.specs.lists.Events.{Event, Request, Attach, Check, Repair, Wait}
 use Rattle.r6_engine_tests.specs.declared.asks.Ask.{Ask}
 use Rattle.r6_engine_tests.specs.declared.asks.Ask.TheVariants as ask
 

@@ -1,7 +1,7 @@
 //! What the events of a test ask of the shard that takes them.
 
 ghost use Rattle.std.specs.Prelude.{◌≡◌};
-ghost use Rattle.r6_lists.specs.Events.{is_passing};
+ghost use Rattle.r6_engine.specs.lists.Events.{is_passing};
 ghost use Rattle.r6_engine_tests.specs.Asks.{event_of};
 
 /// What an event asks.

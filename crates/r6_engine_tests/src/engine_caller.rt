@@ -2,7 +2,7 @@
 
 ghost use Rattle.std.specs.Prelude.{◌≡◌, length, IfOk};
 ghost use Rattle.r6_layout.specs.Shape.{IsShape};
-ghost use Rattle.r6_feed.specs.Events.{AreWhole};
+ghost use Rattle.r6_engine.specs.feed.Events.{AreWhole};
 
 use r6_core::{Op, Reply};
 use r6_dev::MemoryDevice;

@@ -20,11 +20,15 @@ mod engine_served;
 #[cfg(test)]
 mod guests;
 #[cfg(test)]
+mod joins;
+#[cfg(test)]
 mod lists;
 #[cfg(test)]
 mod meeting;
 #[cfg(test)]
 mod queues;
+#[cfg(test)]
+mod remotes;
 #[cfg(test)]
 mod runner_bench;
 #[cfg(test)]
@@ -37,6 +41,8 @@ mod served;
 mod shard_bench;
 #[cfg(test)]
 mod shards;
+#[cfg(test)]
+mod sleepers;
 #[cfg(test)]
 mod steps;
 #[cfg(test)]

@@ -2,14 +2,14 @@
 
 ghost use Rattle.std.specs.Prelude.{◌≡◌, ℕ, [], false};
 ghost use Rattle.r6_layout.specs.Shape.{shape_of};
-ghost use Rattle.r6_lists.specs.Events.{tasks_of, numbers_of};
+ghost use Rattle.r6_engine.specs.lists.Events.{tasks_of, numbers_of};
 ghost use Rattle.r6_engine_tests.specs.Asks.{five_events};
-ghost use Rattle.r6_lists.specs.Queues.{IsConsumerOf, IsProducerOf, has_ended, put_by};
+ghost use Rattle.r6_engine.specs.lists.Queues.{IsConsumerOf, IsProducerOf, has_ended, put_by};
 
 use crate::blocks::filled;
 use crate::queues::{end, put};
 use r6_dev::MemoryDevice;
-use r6_lists::{Consumer, Events, Item, Producer, Queue, Work};
+use r6_engine::lists::{Consumer, Events, Item, Producer, Queue, Work};
 use std::alloc::Global;
 use std::marker::Brand;
 use std::process::Abort;

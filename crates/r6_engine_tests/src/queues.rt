@@ -1,11 +1,11 @@
 //! Items are put into queues.
 
 ghost use Rattle.std.specs.Prelude.{◌≡◌, ◌++◌, ◌∷◌, [], false};
-ghost use Rattle.r6_lists.specs.Events.{numbers_of, tasks_of};
-ghost use Rattle.r6_lists.specs.Queues.{IsNext, IsProducerOf, has_ended, put_by};
+ghost use Rattle.r6_engine.specs.lists.Events.{numbers_of, tasks_of};
+ghost use Rattle.r6_engine.specs.lists.Queues.{IsNext, IsProducerOf, has_ended, put_by};
 
 use r6_dev::MemoryDevice;
-use r6_lists::{Events, Item, Producer, Queue};
+use r6_engine::lists::{Events, Item, Producer, Queue};
 use std::sync::Wait;
 use std::thread;
 

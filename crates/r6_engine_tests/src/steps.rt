@@ -1,6 +1,6 @@
 //! What the events of a test ask, and what each is to be answered.
 
-ghost use Rattle.r6_feed.specs.Events.{IsWhole, AreWhole};
+ghost use Rattle.r6_engine.specs.feed.Events.{IsWhole, AreWhole};
 
 use crate::answers::Answer;
 use crate::array::device_of;

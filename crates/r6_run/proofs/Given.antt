@@ -4,9 +4,9 @@ use Rattle.std.specs.List.{AllZip}
 use Rattle.std.proofs.lemmas.List.{take_more}
 use Rattle.r6_dev.specs.FilePart.{FilePart}
 use Rattle.r6_layout.specs.Shape.{Shape}
-use Rattle.r6_feed.specs.Events.{AreWhole, IsWhole}
-use Rattle.r6_feed.specs.declared.event.Event as feed
-use Rattle.r6_feed.specs.declared.event.Event.TheVariants as fed
+use Rattle.r6_engine.specs.feed.Events.{AreWhole, IsWhole}
+use Rattle.r6_engine.specs.declared.feed.event.Event as feed
+use Rattle.r6_engine.specs.declared.feed.event.Event.TheVariants as fed
 use Rattle.r6_script.specs.declared.run_event.RunEvent.{RunEvent}
 use Rattle.r6_script.specs.declared.run_event.RunEvent.TheVariants.{Read, Write, Wait, Fail, Attach, Check, Repair}
 use Rattle.r6_run.specs.Runs.{IsAsked}

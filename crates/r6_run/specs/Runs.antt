@@ -16,9 +16,9 @@ use Rattle.r6_offline.specs.Files.{AreOpened, IsSlotOpened}
 use Rattle.r6_offline.specs.Parts.{tells_nothing}
 use Rattle.r6_settings.specs.Settings.{Values}
 use Rattle.r6_shard.specs.declared.parts.Parts.{Parts}
-use Rattle.r6_feed.specs.Events.{events_of}
-use Rattle.r6_feed.specs.declared.event.Event as feed
-use Rattle.r6_feed.specs.declared.event.Event.TheVariants as fed
+use Rattle.r6_engine.specs.feed.Events.{events_of}
+use Rattle.r6_engine.specs.declared.feed.event.Event as feed
+use Rattle.r6_engine.specs.declared.feed.event.Event.TheVariants as fed
 use Rattle.r6_engine.specs.declared.reply.EventReply.{EventReply}
 use Rattle.r6_engine.specs.declared.served.Served.{Served}
 use Rattle.r6_engine.specs.Answered.{AreReplies}

@@ -8,7 +8,7 @@ use Rattle.r6_health.specs.Histories.{start_losing}
 use Rattle.r6_health.specs.Passes.{IsPassOf, view_of}
 use Rattle.r6_health.specs.Registers.{starting}
 use Rattle.r6_health.specs.Views.{first_of, newcomer}
-use Rattle.r6_feed.specs.Feeds.{AreAt}
+use Rattle.r6_engine.specs.feed.Feeds.{AreAt}
 use Rattle.r6_engine.specs.Named.{BeginsSound}
 use Rattle.r6_engine.specs.Serves.{Begins}
 use Rattle.r6_engine.proofs.Crews.{zip-of-map}

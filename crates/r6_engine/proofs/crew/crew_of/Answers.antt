@@ -4,7 +4,7 @@ use Rattle.std.proofs.lemmas.List.{length_push}
 use Rattle.std.proofs.lemmas.Slice.Zip.{AllZip-long, all_zipped_more}
 use Rattle.r6_exchange.specs.Exchanges.{limit_of}
 use Rattle.r6_exchange.specs.Workers.{IsWorker}
-use Rattle.r6_remote.specs.Remotes.{AreFresh, AreShardPasses}
+use Rattle.r6_engine.specs.remote.Remotes.{AreFresh, AreShardPasses}
 use Rattle.r6_engine.proofs.Crews.{ends-long, ends-more, fresh-more}
 use Rattle.r6_engine.proofs.crew.crew_of.Goals as goal
 

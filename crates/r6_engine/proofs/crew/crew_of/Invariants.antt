@@ -1,7 +1,7 @@
 use Rattle.std.proofs.Common.{◌≡◌, ◌≤◌, length, vec_capacity}
 use Rattle.std.specs.List.{AllZip}
 use Rattle.r6_exchange.specs.Workers.{IsWorker}
-use Rattle.r6_remote.specs.Remotes.{AreFresh, AreShardPasses}
+use Rattle.r6_engine.specs.remote.Remotes.{AreFresh, AreShardPasses}
 use Rattle.r6_engine.proofs.crew.crew_of.Given as goal
 
 abbrev pub invariant-loop : goal.invariant-loop

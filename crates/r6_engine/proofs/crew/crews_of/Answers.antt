@@ -5,7 +5,7 @@ use Rattle.std.proofs.lemmas.Iterator.Consumers.{YieldsList-turn, YieldsList-end
 use Rattle.std.proofs.lemmas.List.{length-map, map_push}
 use Rattle.std.proofs.lemmas.List.Elements.{All-nil, All-push}
 use Rattle.std.proofs.lemmas.Slice.Zip.{AllZip-long, all_zipped_more}
-use Rattle.r6_feed.specs.Events.{events_of, is_attach}
+use Rattle.r6_engine.specs.feed.Events.{events_of, is_attach}
 use Rattle.r6_shard.specs.declared.parts.Parts.{Parts}
 use Rattle.r6_engine.specs.Crews.{HasRoom, IsCrew}
 use Rattle.r6_engine.proofs.Numbers.{unchanged}

@@ -1,6 +1,6 @@
 use Rattle.std.proofs.Common.{◌≡◌, ◌≤◌, All, count_by, length, map, vec_capacity}
 use Rattle.std.specs.List.{AllZip}
-use Rattle.r6_feed.specs.Events.{events_of, is_attach}
+use Rattle.r6_engine.specs.feed.Events.{events_of, is_attach}
 use Rattle.r6_engine.specs.Crews.{HasRoom, IsCrew}
 use Rattle.r6_engine.proofs.crew.crews_of.Given as goal
 

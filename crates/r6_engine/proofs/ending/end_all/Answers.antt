@@ -1,7 +1,7 @@
 use Rattle.std.proofs.Common.{slice_index_or}
 use Rattle.r6_health.specs.Passes.{view_of}
-use Rattle.r6_runner.specs.Going.{TakesNoMore}
-use Rattle.r6_runner.proofs.Going.{none-same, none-then}
+use Rattle.r6_engine.specs.runner.Going.{TakesNoMore}
+use Rattle.r6_engine.proofs.RunnerLemmas.Going.{none-same, none-then}
 use Rattle.r6_engine.proofs.EachShard.{zip-same, zip-then}
 use Rattle.r6_engine.proofs.Passes.{back_on, look_back, none_back, seen_before}
 use Rattle.r6_engine.proofs.ending.end_all.Goals as goal

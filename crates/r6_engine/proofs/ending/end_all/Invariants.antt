@@ -1,7 +1,7 @@
 use Rattle.std.proofs.Common.{All}
 use Rattle.std.specs.List.{AllZip}
 use Rattle.r6_health.specs.Passes.{IsPassOf, view_of}
-use Rattle.r6_runner.specs.Going.{TakesNoMore}
+use Rattle.r6_engine.specs.runner.Going.{TakesNoMore}
 use Rattle.r6_engine.specs.Passes.{TakesBack}
 use Rattle.r6_engine.proofs.ending.end_all.Given as goal
 

@@ -1,7 +1,7 @@
 use Rattle.std.proofs.Common.{ap, sym, ◌∙◌}
 use Rattle.r6_health.specs.Passes.{view_of}
 use Rattle.r6_health.specs.Views.{joined, newcomer}
-use Rattle.r6_runner.proofs.Going.{none-then}
+use Rattle.r6_engine.proofs.RunnerLemmas.Going.{none-then}
 use Rattle.r6_engine.proofs.ending.go_round.Goals as goal
 
 pub returns-clause-heard : goal.returns-clause-heard

@@ -3,9 +3,9 @@ use Rattle.std.proofs.lemmas.List.Elements.{All-set}
 use Rattle.std.proofs.lemmas.Slice.Zip.{AllZip-long}
 use Rattle.r6_health.specs.Passes.{IsPassOf, view_of}
 use Rattle.r6_health.specs.Views.{newcomer}
-use Rattle.r6_runner.specs.Going.{TakesNoMore}
-use Rattle.r6_runner.specs.Runners.{IsOver}
-use Rattle.r6_runner.proofs.Going.{none-same, none-then}
+use Rattle.r6_engine.specs.runner.Going.{TakesNoMore}
+use Rattle.r6_engine.specs.runner.Runners.{IsOver}
+use Rattle.r6_engine.proofs.RunnerLemmas.Going.{none-same, none-then}
 use Rattle.r6_engine.specs.Passes.{IsHeard}
 use Rattle.r6_engine.proofs.EachShard.{all-below, below-set, zip-same, zip-set}
 use Rattle.r6_engine.proofs.Passes.{heard_of, heard_on, none_back, one_back}
@@ -51,7 +51,7 @@ loop-k-preserved g c =
           (λ i d less. heard_on register v (newcomer (view_of new.shard.pass)) w (slice_index_or olds i d) (before.heard i d less) now.heard)
           (heard_of register v w new now.runner now.heard);
       over = λ all.
-          let both = c.and-left.ensures all in
+          let both = c.and-left.ensures.nothing.0 all in
           below-set IsOver olds k new within (before.over both.0) (now.over both.1);
     }
 

@@ -1,9 +1,9 @@
 use Rattle.std.proofs.Common.{◌≡◌, All}
 use Rattle.std.specs.List.{AllZip}
 use Rattle.r6_health.specs.Passes.{IsPassOf, view_of}
-use Rattle.r6_runner.specs.declared.left.Left.TheVariants.{Nothing}
-use Rattle.r6_runner.specs.Going.{TakesNoMore}
-use Rattle.r6_runner.specs.Runners.{IsOver}
+use Rattle.r6_engine.specs.declared.runner.left.Left.TheVariants.{Nothing}
+use Rattle.r6_engine.specs.runner.Going.{TakesNoMore}
+use Rattle.r6_engine.specs.runner.Runners.{IsOver}
 use Rattle.r6_engine.specs.Passes.{IsHeard, TakesBack}
 use Rattle.r6_engine.proofs.EachShard.{AllBelow}
 use Rattle.r6_engine.proofs.ending.go_round_all.Given as goal

@@ -4,7 +4,7 @@ use Rattle.std.proofs.lemmas.Iterator.Adapters.{YieldsList-from_vec}
 use Rattle.std.proofs.lemmas.Iterator.Consumers.{YieldsList-turn, YieldsList-end}
 use Rattle.std.proofs.lemmas.List.{length-append}
 use Rattle.std.proofs.lemmas.Slice.Zip.{AllZip-long, all_zipped_more}
-use Rattle.r6_runner.specs.Runners.{IsOver}
+use Rattle.r6_engine.specs.runner.Runners.{IsOver}
 use Rattle.r6_engine.specs.declared.crew.Site.{Site}
 use Rattle.r6_engine.specs.Crews.{MeetsAt, StandsAt, exchanges_at}
 use Rattle.r6_engine.specs.Ledgers.{AreBack, FitsPage, IsLedgerOf, IsPage}

@@ -5,7 +5,7 @@ use Rattle.r6_core.specs.Shards.{world_shard}
 use Rattle.r6_exchange.specs.declared.task.Part.{Part}
 use Rattle.r6_shard.specs.Parts.{label_of, labels_of, part_in}
 use Rattle.r6_shard.specs.Performing.{IsHere}
-use Rattle.r6_remote.specs.Remotes.{performer_of}
+use Rattle.r6_engine.specs.remote.Remotes.{performer_of}
 use Rattle.r6_engine.specs.Replies.{said_of_entry, said_of_pass, said_of_refusal, with_all}
 use Rattle.r6_engine.proofs.Crews.{none-out, told-here}
 use Rattle.r6_engine.proofs.Saying.{three_kinds}

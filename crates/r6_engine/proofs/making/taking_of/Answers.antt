@@ -1,17 +1,17 @@
 use Rattle.std.proofs.Common.{◌≡◌, ◌≤◌, ◌∙◌, ◌++◌, ℕ, List, [], ap, length, subst, sym, IsPermutation}
 use Rattle.std.proofs.lemmas.List.Sorted.{Contains-permutation, IsPermutation-append_left, IsPermutation-trans}
-use Rattle.r6_lists.specs.Events.{tasks_of}
+use Rattle.r6_engine.specs.lists.Events.{tasks_of}
 use Rattle.r6_shard.specs.Parts.{labels_of, part_in}
 use Rattle.r6_shard.proofs.Promises.{begins-sound}
 use Rattle.r6_layout.specs.Shape.{Shape}
 use Rattle.r6_shard.specs.Here.{BeginsHere, HasUsed}
-use Rattle.r6_runner.specs.declared.runner.Runner.{Runner}
-use Rattle.r6_runner.specs.Parts.{HasAll, all_parts, labels_in}
-use Rattle.r6_runner.specs.Counted.{HasCounted, rows_of_shard}
-use Rattle.r6_runner.specs.Runners.{HasDone}
-use Rattle.r6_runner.specs.Waits.{HasAwaited}
+use Rattle.r6_engine.specs.declared.runner.runner.Runner.{Runner}
+use Rattle.r6_engine.specs.runner.Parts.{HasAll, all_parts, labels_in}
+use Rattle.r6_engine.specs.runner.Counted.{HasCounted, rows_of_shard}
+use Rattle.r6_engine.specs.runner.Runners.{HasDone}
+use Rattle.r6_engine.specs.runner.Waits.{HasAwaited}
 use Rattle.r6_shard.specs.Sound.{StartsSound}
-use Rattle.r6_runner.specs.Sound.{IsSoundIn}
+use Rattle.r6_engine.specs.runner.Sound.{IsSoundIn}
 use Rattle.r6_engine.proofs.making.taking_of.Goals as goal
 
 pub returns-clause-begins : goal.returns-clause-begins

@@ -14,16 +14,16 @@ use Rattle.r6_world.specs.Registers.{Snapshot}
 use Rattle.r6_health.specs.declared.history.View.{View}
 use Rattle.r6_health.specs.Passes.{IsPassOf, view_of}
 use Rattle.r6_health.specs.Views.{newcomer}
-use Rattle.r6_lists.specs.Events.{Event, tasks_of}
+use Rattle.r6_engine.specs.lists.Events.{Event, tasks_of}
 use Rattle.r6_shard.specs.Beginnings.{IsFirstPass}
-use Rattle.r6_feed.specs.Events.{events_of, is_attach}
-use Rattle.r6_remote.specs.Remotes.{performer_of}
+use Rattle.r6_engine.specs.feed.Events.{events_of, is_attach}
+use Rattle.r6_engine.specs.remote.Remotes.{performer_of}
 use Rattle.r6_shard.specs.Parts.{label_of, labels_of}
 use Rattle.r6_engine.specs.declared.crew.Crew.{Crew}
 use Rattle.r6_engine.specs.Crews.{ArePosted, HasRoom, HasRoomOf, MeetsAt, StandsAt, exchanges_at}
 use Rattle.r6_engine.specs.Named.{BeginsSound}
 use Rattle.r6_engine.specs.Serves.{Begins}
-use Rattle.r6_lists.specs.Queues.{IsConsumerIn}
+use Rattle.r6_engine.specs.lists.Queues.{IsConsumerIn}
 use Rattle.r6_engine.proofs.Attaches.{parts-counted}
 use Rattle.r6_engine.proofs.Crews.{crew-at}
 use Rattle.r6_engine.proofs.NewQueues.{all-still-in, one-longer}

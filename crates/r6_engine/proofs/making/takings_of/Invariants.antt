@@ -1,7 +1,7 @@
 use Rattle.std.proofs.Common.{◌≡◌, ◌≤◌, All, length, take, vec_capacity}
 use Rattle.std.specs.List.{AllZip}
 use Rattle.r6_health.specs.Passes.{IsPassOf, view_of}
-use Rattle.r6_lists.specs.Queues.{IsConsumerIn}
+use Rattle.r6_engine.specs.lists.Queues.{IsConsumerIn}
 use Rattle.r6_engine.specs.Crews.{ArePosted, HasRoomOf, MeetsAt}
 use Rattle.r6_engine.specs.NewQueues.{HaveBegun}
 use Rattle.r6_engine.specs.Named.{BeginsSound}

@@ -1,7 +1,7 @@
 use Rattle.std.proofs.Common.{◌≡◌, ◌+◌, ◌<◌, ◌≤◌, ◌++◌, ◌∷◌, [], List, ℕ, ap, arith, drop, get_or, length, subst, sym, ◌∙◌, vec_capacity}
 use Rattle.std.proofs.lemmas.List.{drop_more, length_push}
-use Rattle.r6_crew.specs.Crews.{AreWorkers}
-use Rattle.r6_crew.proofs.Collected.{no-more}
+use Rattle.r6_engine.specs.joining.Crews.{AreWorkers}
+use Rattle.r6_engine.proofs.JoiningLemmas.Collected.{no-more}
 use Rattle.r6_exchange.specs.Workers.{IsWorker}
 use Rattle.r6_exchange.specs.declared.exchange.Exchange.{Exchange}
 use Rattle.r6_engine.proofs.Crews.{next-post, some-exchange, some-post, workers-more}

@@ -1,7 +1,7 @@
 use Rattle.std.proofs.Common.{◌≡◌, ◌≤◌, ◌++◌, List, length, drop, reverse, vec_capacity}
 use Rattle.std.specs.List.{AllZip}
 use Rattle.r6_exchange.specs.declared.exchange.Exchange.{Exchange}
-use Rattle.r6_crew.specs.Crews.{AreWorkers}
+use Rattle.r6_engine.specs.joining.Crews.{AreWorkers}
 use Rattle.r6_engine.specs.Crews.{StandsAt}
 use Rattle.r6_engine.proofs.post.next_workers.Given as goal
 

@@ -8,7 +8,7 @@ use Rattle.std.proofs.lemmas.Slice.Zip.{AllZip-long}
 use Rattle.r6_exchange.specs.Workers.{IsWorker}
 use Rattle.r6_shard.specs.Parts.{label_of, labels_of}
 use Rattle.r6_shard.specs.Performing.{Performer}
-use Rattle.r6_remote.specs.Remotes.{performer_of}
+use Rattle.r6_engine.specs.remote.Remotes.{performer_of}
 use Rattle.r6_engine.specs.Crews.{HasTakenUp}
 use Rattle.r6_engine.proofs.Crews.{none-taken, some-workers, taken-more}
 use Rattle.r6_engine.proofs.posting.take_up.Goals as goal

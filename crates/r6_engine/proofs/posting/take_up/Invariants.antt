@@ -2,7 +2,7 @@ use Rattle.std.proofs.Common.{◌≡◌, ◌≤◌, ◌++◌, List, length}
 use Rattle.std.specs.List.{AllZip}
 use Rattle.r6_exchange.specs.declared.task.Part.{Part}
 use Rattle.r6_exchange.specs.Workers.{IsWorker}
-use Rattle.r6_remote.specs.Remotes.{IsRemote, performer_of}
+use Rattle.r6_engine.specs.remote.Remotes.{IsRemote, performer_of}
 use Rattle.r6_engine.specs.Crews.{HasTakenUp}
 use Rattle.r6_engine.proofs.posting.take_up.Given as goal
 

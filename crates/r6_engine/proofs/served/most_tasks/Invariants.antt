@@ -1,6 +1,6 @@
 use Rattle.std.proofs.Common.{◌≤◌, ◌<◌, ℕ, length}
-use Rattle.r6_lists.specs.Events.{tasks_of}
-use Rattle.r6_feed.specs.Events.{events_of}
+use Rattle.r6_engine.specs.lists.Events.{tasks_of}
+use Rattle.r6_engine.specs.feed.Events.{events_of}
 use Rattle.r6_engine.proofs.served.most_tasks.Given as goal
 
 abbrev pub invariant-loop-shard : goal.invariant-loop-shard

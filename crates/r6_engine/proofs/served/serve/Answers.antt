@@ -3,7 +3,7 @@ use Rattle.std.proofs.lemmas.List.{length-map}
 use Rattle.r6_health.specs.Histories.{start_losing}
 use Rattle.r6_health.specs.Registers.{starting}
 use Rattle.r6_health.specs.Views.{first_of}
-use Rattle.r6_feed.specs.Events.{events_of}
+use Rattle.r6_engine.specs.feed.Events.{events_of}
 use Rattle.r6_engine.specs.Crews.{HaveCrews}
 use Rattle.r6_engine.specs.ServedArrays.{HasServedArray}
 use Rattle.r6_engine.proofs.served.serve.Goals as goal

@@ -5,16 +5,16 @@ use Rattle.r6_health.specs.Passes.{view_of}
 use Rattle.r6_health.specs.Histories.{start_losing}
 use Rattle.r6_health.specs.Registers.{starting}
 use Rattle.r6_health.specs.Views.{first_of}
-use Rattle.r6_feed.specs.Events.{event_of, events_of, is_attach}
-use Rattle.r6_lists.specs.Events.{Event}
+use Rattle.r6_engine.specs.feed.Events.{event_of, events_of, is_attach}
+use Rattle.r6_engine.specs.lists.Events.{Event}
 use Rattle.r6_shard.specs.declared.parts.Parts.{Parts}
 use Rattle.r6_shard.specs.declared.performs.Performs.{Ghosts}
 use Rattle.r6_engine.specs.declared.crew.Crew.{Crew}
 use Rattle.r6_engine.specs.declared.crew.Site.{Site}
 use Rattle.r6_engine.specs.declared.handback.PageRoom.{PageRoom}
 use Rattle.r6_engine.specs.Crews.{HasRoom, HasRoomOf, HaveCrews, exchanges_at}
-use Rattle.r6_feed.specs.declared.answer.EventAnswer.{EventAnswer}
-use Rattle.r6_runner.specs.declared.runner.Runner.{Runner}
+use Rattle.r6_engine.specs.declared.feed.answer.EventAnswer.{EventAnswer}
+use Rattle.r6_engine.specs.declared.runner.runner.Runner.{Runner}
 use Rattle.r6_engine.specs.Answered.{AreReplies}
 use Rattle.r6_engine.specs.Generations.{HasAgreed}
 use Rattle.r6_engine.specs.Replies.{replies_of, said_by_all, said_of_answer, with_all}

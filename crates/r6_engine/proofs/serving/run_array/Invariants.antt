@@ -1,4 +1,4 @@
-use Rattle.r6_feed.specs.Events.{events_of}
+use Rattle.r6_engine.specs.feed.Events.{events_of}
 use Rattle.r6_engine.specs.Named.{AttachesFailNone}
 use Rattle.r6_engine.proofs.serving.run_array.Given as goal
 

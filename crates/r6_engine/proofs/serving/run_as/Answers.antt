@@ -3,7 +3,7 @@ use Rattle.std.specs.List.{AllZip}
 use Rattle.std.proofs.lemmas.Result.{IfOk-at_ok}
 use Rattle.r6_exchange.specs.declared.exchange.Exchange.{Exchange}
 use Rattle.r6_exchange.specs.Workers.{IsWorker}
-use Rattle.r6_feed.specs.Events.{events_of}
+use Rattle.r6_engine.specs.feed.Events.{events_of}
 use Rattle.r6_engine.specs.declared.crew.Site.{Site}
 use Rattle.r6_engine.specs.Crews.{HasRoomOf, MeetsAt, StandsAt, StaysAt, exchanges_at}
 use Rattle.r6_engine.proofs.Crews.{same-exchanges}

@@ -5,15 +5,15 @@ use Rattle.r6_health.specs.Histories.{start_losing}
 use Rattle.r6_health.specs.Passes.{IsPassOf, view_of}
 use Rattle.r6_health.specs.Registers.{starting}
 use Rattle.r6_health.specs.Views.{first_of}
-use Rattle.r6_lists.specs.Queues.{IsConsumerIn}
-use Rattle.r6_feed.specs.Events.{events_of}
-use Rattle.r6_feed.specs.Feeds.{AreAt}
-use Rattle.r6_runner.specs.Going.{TakesNoMore}
-use Rattle.r6_runner.specs.Parts.{KeepsOwn}
-use Rattle.r6_runner.specs.declared.runner.Runner.{Runner}
+use Rattle.r6_engine.specs.lists.Queues.{IsConsumerIn}
+use Rattle.r6_engine.specs.feed.Events.{events_of}
+use Rattle.r6_engine.specs.feed.Feeds.{AreAt}
+use Rattle.r6_engine.specs.runner.Going.{TakesNoMore}
+use Rattle.r6_engine.specs.runner.Parts.{KeepsOwn}
+use Rattle.r6_engine.specs.declared.runner.runner.Runner.{Runner}
 use Rattle.r6_shard.specs.declared.performs.Performs.{Ghosts}
 use Rattle.r6_engine.specs.Crews.{StaysAt}
-use Rattle.r6_runner.specs.Sound.{KeepsPromised}
+use Rattle.r6_engine.specs.runner.Sound.{KeepsPromised}
 use Rattle.r6_layout.specs.Shape.{Shape}
 use Rattle.r6_engine.specs.Ending.{HaveInSync}
 use Rattle.r6_engine.specs.RanArrays.{HasRunArray}

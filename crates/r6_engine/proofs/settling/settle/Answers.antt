@@ -3,7 +3,7 @@ use Rattle.std.proofs.lemmas.Iterator.Adapters.{YieldsList-from_vec}
 use Rattle.std.proofs.lemmas.Iterator.Consumers.{YieldsList-turn, YieldsList-end}
 use Rattle.std.proofs.lemmas.List.{length-map, map_push}
 use Rattle.std.proofs.lemmas.Option.{get_or_from_slice_get, slice_get_within}
-use Rattle.r6_lists.specs.Events.{numbers_of, tasks_of}
+use Rattle.r6_engine.specs.lists.Events.{numbers_of, tasks_of}
 use Rattle.r6_engine.proofs.Numbers.{unchanged}
 use Rattle.r6_engine.proofs.settling.settle.Goals as goal
 

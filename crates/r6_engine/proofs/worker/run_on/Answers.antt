@@ -1,4 +1,4 @@
-use Rattle.r6_lists.specs.Queues.{IsConsumerOf}
+use Rattle.r6_engine.specs.lists.Queues.{IsConsumerOf}
 use Rattle.r6_engine.proofs.NewQueues.{some-at}
 use Rattle.r6_engine.proofs.worker.run_on.Goals as goal
 

@@ -1,5 +1,5 @@
 use Rattle.std.proofs.Common.{◌≡◌, [], ◌∷◌, ◌++◌, ◌∙◌, ap}
-use Rattle.r6_lists.specs.Queues.{put_by}
+use Rattle.r6_engine.specs.lists.Queues.{put_by}
 use Rattle.r6_engine_tests.proofs.Queued.{next-of, numbers-of-five}
 use Rattle.r6_engine_tests.proofs.lists.put_far.Goals as goal
 

@@ -1,5 +1,5 @@
 use Rattle.std.proofs.Common.{◌≡◌}
-use Rattle.r6_lists.specs.Queues.{IsConsumerOf}
+use Rattle.r6_engine.specs.lists.Queues.{IsConsumerOf}
 use Rattle.r6_engine_tests.proofs.lists.take_all.Given as goal
 
 abbrev pub invariant-loop : goal.invariant-loop

@@ -1,5 +1,5 @@
 use Rattle.std.proofs.Common.{◌≡◌, false}
-use Rattle.r6_lists.specs.Queues.{IsProducerOf, has_ended, put_by}
+use Rattle.r6_engine.specs.lists.Queues.{IsProducerOf, has_ended, put_by}
 use Rattle.r6_engine_tests.proofs.queues.end.Given as goal
 
 abbrev pub invariant-loop : goal.invariant-loop

@@ -1,5 +1,5 @@
 use Rattle.std.proofs.Common.{◌≡◌}
-use Rattle.r6_lists.specs.Queues.{IsProducerOf, put_by}
+use Rattle.r6_engine.specs.lists.Queues.{IsProducerOf, put_by}
 use Rattle.r6_engine_tests.proofs.queues.put.Given as goal
 
 abbrev pub invariant-loop : goal.invariant-loop

@@ -1,6 +1,6 @@
 use Rattle.std.proofs.Common.{◌≡◌, ◌≤◌, ◌∷◌, []}
-use Rattle.r6_lists.specs.Events.{waits_before}
-use Rattle.r6_feed.specs.Feeds.{HasPut}
+use Rattle.r6_engine.specs.lists.Events.{waits_before}
+use Rattle.r6_engine.specs.feed.Feeds.{HasPut}
 use Rattle.r6_engine_tests.proofs.runner_bench.put_all.Given as goal
 
 abbrev pub invariant-loop-number : goal.invariant-loop-number

@@ -1,9 +1,9 @@
 use Rattle.std.proofs.Common.{◌≡◌, ◌∙◌, [], ◌∷◌, Some, None, ap}
 use Rattle.r6_layout.specs.Shape.{Shape}
 use Rattle.r6_dev.specs.Memory.{told_by}
-use Rattle.r6_lists.specs.Events.{duty_of}
-use Rattle.r6_lists.specs.Lists.{duty_in}
-use Rattle.r6_feed.proofs.Putting.{is-next, put-none, put-one, task_is}
+use Rattle.r6_engine.specs.lists.Events.{duty_of}
+use Rattle.r6_engine.specs.lists.Lists.{duty_in}
+use Rattle.r6_engine.proofs.FeedLemmas.Putting.{is-next, put-none, put-one, task_is}
 use Rattle.r6_engine_tests.specs.Asks.{event_of}
 use Rattle.r6_engine_tests.proofs.Queued.{in-one}
 use Rattle.r6_engine_tests.proofs.runner_bench.put_one.Goals as goal

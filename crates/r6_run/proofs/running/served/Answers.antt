@@ -6,7 +6,7 @@ use Rattle.r6_health.specs.Registers.{starting}
 use Rattle.r6_health.specs.Views.{first_of}
 use Rattle.r6_dev.specs.Promises.{no_promise}
 use Rattle.r6_offline.specs.Parts.{tells_nothing}
-use Rattle.r6_feed.specs.Events.{AreWhole, event_of, events_of}
+use Rattle.r6_engine.specs.feed.Events.{AreWhole, event_of, events_of}
 use Rattle.r6_engine.specs.declared.serving.Config.{Config}
 use Rattle.r6_engine.specs.Answered.{AreReplies}
 use Rattle.r6_engine.specs.ServedArrays.{HasServedArray}

@@ -1,5 +1,5 @@
 use Rattle.std.proofs.Common.{◌++◌, ◌∷◌, [], ◌∙◌, sym, subst}
-use Rattle.r6_lists.specs.Queues.{IsConsumerIn}
+use Rattle.r6_engine.specs.lists.Queues.{IsConsumerIn}
 use Rattle.r6_engine.specs.NewQueues.{HaveBegun}
 use Rattle.r6_engine.proofs.NewQueues.{begun-more, last-in}
 use Rattle.r6_engine.proofs.lines.Lines.add.Goals as goal

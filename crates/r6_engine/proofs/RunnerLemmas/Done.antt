@@ -1,0 +1,458 @@
+-- What was done, with one thing more.
+use Rattle.std.proofs.Common.{◌≡◌, ◌≢◌, ℕ, List, [], ◌∷◌, ◌++◌, map, length, if◌then◌else◌, true, false, Bool, inl, inr, refl, sym, ap, subst, ◌∙◌, append_assoc, append-nil, Option, Some, None}
+use Rattle.std.specs.List.{cons_option}
+use Rattle.std.proofs.lemmas.List.{length-map, map-append}
+use Rattle.std.proofs.lemmas.List.Elements.{filter_map-append}
+use Rattle.r6_dev.specs.History.{Telling}
+use Rattle.r6_dev.specs.Promises.{Promise}
+use Rattle.r6_layout.specs.Shape.{Shape}
+use Rattle.r6_world.specs.PlainArray as world
+use Rattle.r6_world.specs.Registers.{Snapshot}
+use Rattle.r6_world.specs.Tables.{put_in}
+use Rattle.r6_world.specs.declared.values.Op.{Op}
+use Rattle.r6_world.specs.Values.{op_of}
+use Rattle.r6_core.specs.declared.turn.Task.{Task as Pass}
+use Rattle.r6_core.specs.declared.refusal.Refusal.{Refusal}
+use Rattle.r6_core.specs.Shards.{CoreView}
+use Rattle.r6_engine.specs.lists.Events.{Event, Duty, Takes_up, task, task_at}
+use Rattle.r6_exchange.specs.declared.task.Part.{Part}
+use Rattle.r6_shard.specs.declared.shard.Shard.{Shard}
+use Rattle.r6_shard.specs.declared.ledger.Asked.{Asked}
+use Rattle.r6_shard.specs.Shards as shards
+use Rattle.r6_shard.specs.Shards.{ComesFrom}
+use Rattle.r6_shard.specs.Beginnings.{start_of}
+use Rattle.r6_shard.specs.declared.ledger.Asking.{Asking}
+use Rattle.r6_shard.specs.Refusing.{Lasts}
+use Rattle.r6_shard.specs.Runs.{AreServed}
+use Rattle.r6_shard.proofs.FromStarts.{handed_law}
+use Rattle.r6_shard.proofs.Lasting.{lasts_on, lasts_still, was-right, was-serving}
+use Rattle.r6_shard.proofs.Ledgers.{one-accepted, one-refused, served-on as served-kept}
+use Rattle.r6_shard.specs.declared.performs.Performs.{Ghosts}
+use Rattle.r6_engine.specs.declared.runner.due.Due.{Due}
+use Rattle.r6_engine.specs.declared.runner.pass.Passing.{Passing}
+use Rattle.r6_engine.specs.declared.runner.pass.Passed.{Passed}
+use Rattle.r6_engine.specs.declared.runner.runner.Handed.{Handed}
+use Rattle.r6_engine.specs.declared.runner.runner.Runner.{Runner}
+use Rattle.r6_engine.specs.runner.Tasks.{NewPart, request_in, pass_in, part_in, requests_in, passes_in, parts_in, due_requests, due_passes, request_of, pass_of, under_way, passed_of, slot_of, handed_of}
+use Rattle.r6_engine.specs.runner.Runners.{taken_up, NoneIsSilent, IsDone, IsPartTaken, IsOutcome, HasDone, GoesOn, IsPut, IsHandedIn, IsPassing, ShardGoesOn, KeepsSelf}
+use Rattle.r6_engine.proofs.RunnerLemmas.Tasks.{of_tasks-more, taken_up-more, tell-less, none-silent, put_if}
+
+-- ---- the same, of equal things
+
+pub is-like : {P : Type 0} {g : Ghosts P} (shape : Shape) (events : List Event) (geometry : Shape) (number : ℕ) (snapshot : Snapshot)
+    (before : ℕ → ℕ → Option Telling) (numbers : List ℕ) (shard shard' : Shard P g) (refused refused' : List (ℕ × Refusal))
+    (passing passing' : Option Passing) (passed passed' : List Passed) (handed handed' : List Handed) (due due' : List Due)
+    → shard' ≡ shard → refused' ≡ refused → passing' ≡ passing → passed' ≡ passed → handed' ≡ handed → due' ≡ due
+    → IsDone shape events geometry number snapshot before numbers shard refused passing passed handed due
+    → IsDone shape events geometry number snapshot before numbers shard' refused' passing' passed' handed' due'
+is-like shape events geometry number snapshot before numbers shard shard' refused refused' passing passing' passed passed' handed handed' due due' e0 e1 e2 e3 e4 e5 x =
+    subst (λ y. IsDone shape events geometry number snapshot before numbers y refused' passing' passed' handed' due') (sym e0)
+    (subst (λ y. IsDone shape events geometry number snapshot before numbers shard y passing' passed' handed' due') (sym e1)
+    (subst (λ y. IsDone shape events geometry number snapshot before numbers shard refused y passed' handed' due') (sym e2)
+    (subst (λ y. IsDone shape events geometry number snapshot before numbers shard refused passing y handed' due') (sym e3)
+    (subst (λ y. IsDone shape events geometry number snapshot before numbers shard refused passing passed y due') (sym e4)
+    (subst (λ y. IsDone shape events geometry number snapshot before numbers shard refused passing passed handed y) (sym e5) x)))))
+
+-- ---- what came by the list
+
+pub is-put : {P : Type 0} {g : Ghosts P} (shape : Shape) (events : List Event) (geometry : Shape) (number : ℕ) (snapshot : Snapshot)
+    (before : ℕ → ℕ → Option Telling) (numbers : List ℕ) (shard : Shard P g) (refused : List (ℕ × Refusal))
+    (passing : Option Passing) (passed : List Passed) (handed : List Handed) (due : List Due)
+    (d : Due) (n waits : ℕ) (duty : Duty) → task_at shape number events n ≡ Some (task n waits duty)
+    → request_in n duty ≡ request_of d.event d.duty → pass_in n duty ≡ pass_of d.event d.duty → part_in n duty ≡ None
+    → IsDone shape events geometry number snapshot before numbers shard refused passing passed handed due
+    → IsDone shape events geometry number snapshot before (numbers ++ n ∷ []) shard refused passing passed handed (due ++ d ∷ [])
+is-put shape events geometry number snapshot before numbers shard refused passing passed handed due d n waits duty at request pass part x =
+    let same : parts_in shape number events (numbers ++ n ∷ []) ≡ parts_in shape number events numbers =
+    of_tasks-more part_in shape number events numbers n waits duty at
+    ∙ ap (λ o. parts_in shape number events numbers ++ cons_option o []) part
+    ∙ append-nil (parts_in shape number events numbers) in
+    let A = map passed_of passed in
+    record {
+      shape_is = x.shape_is;
+      place = x.place;
+      begun = x.begun;
+      ops = x.ops;
+      requests = of_tasks-more request_in shape number events numbers n waits duty at
+          ∙ ap (λ y. y ++ cons_option (request_in n duty) []) x.requests
+          ∙ append_assoc x.begun (due_requests due) (cons_option (request_in n duty) [])
+          ∙ ap (λ o. x.begun ++ (due_requests due ++ cons_option o [])) request
+          ∙ ap (λ y. x.begun ++ y) (sym (filter_map-append (λ (e : Due). request_of e.event e.duty) due (d ∷ [])));
+      served = x.served;
+      passes = of_tasks-more pass_in shape number events numbers n waits duty at
+          ∙ ap (λ y. y ++ cons_option (pass_in n duty) []) x.passes
+          ∙ append_assoc A (under_way passing ++ due_passes due) (cons_option (pass_in n duty) [])
+          ∙ ap (λ y. A ++ y) (append_assoc (under_way passing) (due_passes due) (cons_option (pass_in n duty) []))
+          ∙ ap (λ o. A ++ (under_way passing ++ (due_passes due ++ cons_option o []))) pass
+          ∙ ap (λ y. A ++ (under_way passing ++ y)) (sym (filter_map-append (λ (e : Due). pass_of e.event e.duty) due (d ∷ [])));
+      parts = ap (λ y. map slot_of y) same ∙ x.parts;
+      comes = λ all.
+          subst (λ y. ComesFrom geometry number snapshot (taken_up before y handed) x.ops shard) (sym same)
+          (x.comes (subst (NoneIsSilent before) same all));
+    }
+
+part-on : {P D : Type 0} {g : Ghosts P} (told : D → Telling) (promised : D → Promise) (geometry : Shape) (number : ℕ) (snapshot : Snapshot) (at : ℕ → ℕ → Option Telling)
+    (ops : List world.Op) (taken : Bool) (part : Part D) (back : List (Part D)) (old new : Shard P g) (p : NewPart) (h : Handed)
+    → p.slot ≡ part.slot → p.telling ≡ told part.device → h.generation ≡ part.generation → h.taken ≡ taken
+    → ((d g : ℕ) → at d g ≢ Some None)
+    → IsPartTaken taken told promised part back old new
+    → ComesFrom geometry number snapshot at ops old
+    → ComesFrom geometry number snapshot (put_if at p h) ops new
+part-on {D = D} {g = g} told promised geometry number snapshot at ops true part back old new p h slot telling generation is none taken comes =
+    let there : put_if at p h ≡ put_in at part.slot part.generation (Some (told part.device)) =
+    ap (λ (b : Bool). if b then put_in at p.slot h.generation (Some p.telling) else at) is
+    ∙ ap (λ (k : ℕ). put_in at k h.generation (Some p.telling)) slot
+    ∙ ap (λ (k : ℕ). put_in at part.slot k (Some p.telling)) generation
+    ∙ ap (λ (t : Telling). put_in at part.slot part.generation (Some t)) telling in
+    subst (λ y. ComesFrom geometry number snapshot y ops new) (sym there)
+    (handed_law g told promised part taken.0 old new taken.1 geometry number snapshot at ops (none part.slot part.generation) comes)
+part-on told promised geometry number snapshot at ops false part back old new p h slot telling generation is none same comes =
+    let there : put_if at p h ≡ at = ap (λ (b : Bool). if b then put_in at p.slot h.generation (Some p.telling) else at) is in
+    subst (λ y. ComesFrom geometry number snapshot y ops new) (sym there)
+    (subst (λ y. ComesFrom geometry number snapshot at ops y) (sym same.0) comes)
+
+pub asked-on : {P D : Type 0} {g : Ghosts P} (told : D → Telling) (promised : D → Promise) (taken : Bool) (part : Part D) (back : List (Part D)) (old new : Shard P g)
+    → IsPartTaken taken told promised part back old new → new.asked.items ≡ old.asked.items
+asked-on told promised true part back old new taken = taken.1.ledger.asked
+asked-on told promised false part back old new same = ap (λ (y : Shard _ _). y.asked.items) same.0
+
+pub core-on : {P D : Type 0} {g : Ghosts P} (told : D → Telling) (promised : D → Promise) (taken : Bool) (part : Part D) (back : List (Part D)) (old new : Shard P g)
+    → IsPartTaken taken told promised part back old new → new.core ≡ old.core
+core-on told promised true part back old new taken = taken.1.core
+core-on told promised false part back old new same = ap (λ (y : Shard _ _). y.core) same.0
+
+pub is-handed : {P D : Type 0} {g : Ghosts P} (told : D → Telling) (promised : D → Promise) (shape : Shape) (events : List Event) (geometry : Shape) (number : ℕ) (snapshot : Snapshot)
+    (before : ℕ → ℕ → Option Telling) (numbers : List ℕ) (shard shard' : Shard P g) (refused : List (ℕ × Refusal))
+    (passing : Option Passing) (passed : List Passed) (handed : List Handed) (due : List Due)
+    (n waits : ℕ) (part : Part D) (taken : Bool) (back : List (Part D))
+    → task_at shape number events n ≡ Some (task n waits (Takes_up part.slot (told part.device)))
+    → IsPartTaken taken told promised part back shard shard'
+    → IsDone shape events geometry number snapshot before numbers shard refused passing passed handed due
+    → IsDone shape events geometry number snapshot before (numbers ++ n ∷ []) shard' refused passing passed
+    (handed ++ record { event = n; slot = part.slot; generation = part.generation; taken = taken } ∷ []) due
+is-handed told promised shape events geometry number snapshot before numbers shard shard' refused passing passed handed due n waits part taken back at into x =
+    let duty : Duty = Takes_up part.slot (told part.device) in
+    let p : NewPart = record { event = n; slot = part.slot; telling = told part.device } in
+    let h : Handed = record { event = n; slot = part.slot; generation = part.generation; taken = taken } in
+    let ps : List NewPart = parts_in shape number events numbers in
+    let more : parts_in shape number events (numbers ++ n ∷ []) ≡ ps ++ p ∷ [] =
+    of_tasks-more part_in shape number events numbers n waits duty at in
+    let core : shard'.core ≡ shard.core = core-on told promised taken part back shard shard' into in
+    let long : length ps ≡ length handed =
+    sym (length-map ps slot_of) ∙ ap length x.parts ∙ length-map handed handed_of in
+    record {
+      shape_is = ap (λ (y : CoreView). y.shape) core ∙ x.shape_is;
+      place = ap (λ (y : CoreView). y.shard) core ∙ x.place;
+      begun = x.begun;
+      ops = x.ops;
+      requests = of_tasks-more request_in shape number events numbers n waits duty at
+          ∙ append-nil (requests_in shape number events numbers) ∙ x.requests;
+      served = subst (λ y. AreServed shard'.core x.begun y x.ops refused) (sym (asked-on told promised taken part back shard shard' into))
+          (subst (λ y. AreServed y x.begun shard.asked.items x.ops refused) (sym core) x.served);
+      passes = of_tasks-more pass_in shape number events numbers n waits duty at
+          ∙ append-nil (passes_in shape number events numbers) ∙ x.passes;
+      parts = ap (λ y. map slot_of y) more
+          ∙ map-append slot_of ps (p ∷ [])
+          ∙ ap (λ y. y ++ (n, part.slot) ∷ []) x.parts
+          ∙ sym (map-append handed_of handed (h ∷ []));
+      comes = λ all.
+          let told-all = tell-less before ps p (subst (NoneIsSilent before) more all) in
+          subst (λ y. ComesFrom geometry number snapshot (taken_up before y (handed ++ h ∷ [])) x.ops shard') (sym more)
+          (subst (λ y. ComesFrom geometry number snapshot y x.ops shard') (sym (taken_up-more before ps handed p h long))
+          (part-on told promised geometry number snapshot (taken_up before ps handed) x.ops taken part back shard shard' p h refl refl refl refl
+          (none-silent before ps handed told-all.0) into (x.comes told-all.0)));
+    }
+
+-- ---- what was due begins
+
+-- a request begins
+pub has-begun : {P : Type 0} {g : Ghosts P} (shape : Shape) (events : List Event) (geometry : Shape) (number : ℕ) (snapshot : Snapshot)
+    (before : ℕ → ℕ → Option Telling) (numbers : List ℕ) (shard shard' : Shard P g) (refused refused' : List (ℕ × Refusal))
+    (passing : Option Passing) (passed : List Passed) (handed : List Handed) (d : Due) (due : List Due)
+    (event : ℕ) (op : Op)
+    → request_of d.event d.duty ≡ Some (record { event = event; op = op }) → pass_of d.event d.duty ≡ None
+    → IsOutcome event op shard shard' refused refused'
+    → IsDone shape events geometry number snapshot before numbers shard refused passing passed handed (d ∷ due)
+    → IsDone shape events geometry number snapshot before numbers shard' refused' passing passed handed due
+has-begun shape events geometry number snapshot before numbers shard shard' refused refused' passing passed handed d due event op request pass outcome x =
+    let asking : Asking = record { event = event; op = op } in
+    let begun = x.begun ++ asking ∷ [] in
+    let all : requests_in shape number events numbers ≡ begun ++ due_requests due =
+    x.requests ∙ ap (λ o. x.begun ++ cons_option o (due_requests due)) request ∙ sym (append_assoc x.begun (asking ∷ []) (due_requests due)) in
+    let passes : passes_in shape number events numbers ≡ map passed_of passed ++ (under_way passing ++ due_passes due) =
+    x.passes ∙ ap (λ o. map passed_of passed ++ (under_way passing ++ cons_option o (due_passes due))) pass in
+    elim outcome [
+      | inl p ↦
+          let a : Asked = record { event = event; block = world.block_of (op_of op); answered = length shard.entries.items } in
+          let still = lasts_still shard.core in
+          record {
+            shape_is = p.3.same.0 ∙ x.shape_is;
+            place = p.3.same.1 ∙ x.place;
+            begun = begun;
+            ops = x.ops ++ op_of op ∷ [];
+            requests = all;
+            served = subst (λ y. AreServed shard'.core begun y (x.ops ++ op_of op ∷ []) refused') (sym p.1.asked)
+                (subst (AreServed shard'.core begun (shard.asked.items ++ a ∷ []) (x.ops ++ op_of op ∷ [])) (sym p.4)
+                (served-kept shard.core shard'.core begun (shard.asked.items ++ a ∷ []) (x.ops ++ op_of op ∷ []) refused p.3
+                (one-accepted shard.core x.begun asking shard.asked.items a x.ops refused refl (was-right shard.core shard.core op still p.2)
+                (was-serving shard.core shard.core op still p.2) x.served)));
+            passes = passes;
+            parts = x.parts;
+            comes = λ tell device array lawful hold.
+                p.1.course (start_of geometry number snapshot device array) x.ops (x.comes tell device array lawful hold);
+          }
+      | inr p ↦ record {
+        shape_is = ap (λ (y : Shard _ _). y.core.shape) p.1 ∙ x.shape_is;
+        place = ap (λ (y : Shard _ _). y.core.shard) p.1 ∙ x.place;
+        begun = begun;
+        ops = x.ops;
+        requests = all;
+        served = subst (λ (y : Shard _ _). AreServed y.core begun y.asked.items x.ops refused') (sym p.1)
+            (subst (AreServed shard.core begun shard.asked.items x.ops) (sym p.3)
+            (one-refused shard.core x.begun asking shard.asked.items x.ops refused p.0 p.2 x.served));
+        passes = passes;
+        parts = x.parts;
+        comes = λ tell. subst (ComesFrom geometry number snapshot (taken_up before (parts_in shape number events numbers) handed) x.ops)
+            (sym p.1) (x.comes tell);
+      }
+    ]
+
+-- a check or repair begins
+pub has-passing : {P : Type 0} {g : Ghosts P} (shape : Shape) (events : List Event) (geometry : Shape) (number : ℕ) (snapshot : Snapshot)
+    (before : ℕ → ℕ → Option Telling) (numbers : List ℕ) (shard : Shard P g) (refused : List (ℕ × Refusal))
+    (passed : List Passed) (handed : List Handed) (d : Due) (due : List Due) (p : Passing)
+    → request_of d.event d.duty ≡ None → pass_of d.event d.duty ≡ Some (p.event, p.task)
+    → IsDone shape events geometry number snapshot before numbers shard refused None passed handed (d ∷ due)
+    → IsDone shape events geometry number snapshot before numbers shard refused (Some p) passed handed due
+has-passing shape events geometry number snapshot before numbers shard refused passed handed d due p request pass x =
+    record {
+      shape_is = x.shape_is;
+      place = x.place;
+      begun = x.begun;
+      ops = x.ops;
+      requests = x.requests ∙ ap (λ o. x.begun ++ cons_option o (due_requests due)) request;
+      served = x.served;
+      passes = x.passes ∙ ap (λ o. map passed_of passed ++ cons_option o (due_passes due)) pass;
+      parts = x.parts;
+      comes = x.comes;
+    }
+
+-- ---- what is under way goes on
+
+-- it goes on
+pub same-passing : {P : Type 0} {g : Ghosts P} (shape : Shape) (events : List Event) (geometry : Shape) (number : ℕ) (snapshot : Snapshot)
+    (before : ℕ → ℕ → Option Telling) (numbers : List ℕ) (shard : Shard P g) (refused : List (ℕ × Refusal))
+    (passing passing' : Passing) (passed : List Passed) (handed : List Handed) (due : List Due)
+    → passing'.event ≡ passing.event → passing'.task ≡ passing.task
+    → IsDone shape events geometry number snapshot before numbers shard refused (Some passing) passed handed due
+    → IsDone shape events geometry number snapshot before numbers shard refused (Some passing') passed handed due
+same-passing shape events geometry number snapshot before numbers shard refused passing passing' passed handed due event task x =
+    record {
+      shape_is = x.shape_is;
+      place = x.place;
+      begun = x.begun;
+      ops = x.ops;
+      requests = x.requests;
+      served = x.served;
+      passes = x.passes
+          ∙ ap (λ (k : ℕ). map passed_of passed ++ (k, passing.task) ∷ due_passes due) (sym event)
+          ∙ ap (λ (k : Pass). map passed_of passed ++ (passing'.event, k) ∷ due_passes due) (sym task);
+      parts = x.parts;
+      comes = x.comes;
+    }
+
+-- it is over
+has-ended : {P : Type 0} {g : Ghosts P} (shape : Shape) (events : List Event) (geometry : Shape) (number : ℕ) (snapshot : Snapshot)
+    (before : ℕ → ℕ → Option Telling) (numbers : List ℕ) (shard : Shard P g) (refused : List (ℕ × Refusal))
+    (passing : Passing) (passed : List Passed) (last : Passed) (handed : List Handed) (due : List Due)
+    → last.event ≡ passing.event → last.task ≡ passing.task
+    → IsDone shape events geometry number snapshot before numbers shard refused (Some passing) passed handed due
+    → IsDone shape events geometry number snapshot before numbers shard refused None (passed ++ last ∷ []) handed due
+has-ended shape events geometry number snapshot before numbers shard refused passing passed last handed due event task x =
+    let A = map passed_of passed in
+    record {
+      shape_is = x.shape_is;
+      place = x.place;
+      begun = x.begun;
+      ops = x.ops;
+      requests = x.requests;
+      served = x.served;
+      passes = x.passes
+          ∙ ap (λ (k : ℕ). A ++ (k, passing.task) ∷ due_passes due) (sym event)
+          ∙ ap (λ (k : Pass). A ++ (last.event, k) ∷ due_passes due) (sym task)
+          ∙ sym (append_assoc A (passed_of last ∷ []) (due_passes due))
+          ∙ ap (λ y. y ++ due_passes due) (sym (map-append passed_of passed (last ∷ [])));
+      parts = x.parts;
+      comes = x.comes;
+    }
+
+-- the shard goes on
+pub has-gone : {P : Type 0} {g : Ghosts P} (shape : Shape) (events : List Event) (geometry : Shape) (number : ℕ) (snapshot : Snapshot)
+    (before : ℕ → ℕ → Option Telling) (numbers : List ℕ) (shard shard' : Shard P g) (refused : List (ℕ × Refusal))
+    (passing : Option Passing) (passed : List Passed) (handed : List Handed) (due : List Due)
+    → shards.GoesOn shard shard' → Lasts shard.core shard'.core → shard'.asked.items ≡ shard.asked.items
+    → IsDone shape events geometry number snapshot before numbers shard refused passing passed handed due
+    → IsDone shape events geometry number snapshot before numbers shard' refused passing passed handed due
+has-gone shape events geometry number snapshot before numbers shard shard' refused passing passed handed due goes lasts asked x =
+    record {
+      shape_is = lasts.same.0 ∙ x.shape_is;
+      place = lasts.same.1 ∙ x.place;
+      begun = x.begun;
+      ops = x.ops;
+      requests = x.requests;
+      served = subst (λ y. AreServed shard'.core x.begun y x.ops refused) (sym asked)
+          (served-kept shard.core shard'.core x.begun shard.asked.items x.ops refused lasts x.served);
+      passes = x.passes;
+      parts = x.parts;
+      comes = λ tell device array lawful hold.
+          goes (start_of geometry number snapshot device array) x.ops (x.comes tell device array lawful hold);
+    }
+
+-- ---- at the start
+
+pub is-first : {P : Type 0} {g : Ghosts P} (shape : Shape) (events : List Event) (geometry : Shape) (number : ℕ) (snapshot : Snapshot)
+    (parts : P) (shard : Shard P g) → shard.parts ≡ parts → shard.asked.items ≡ []
+    → shard.core.shape ≡ geometry → shard.core.shard ≡ number
+    → shards.Begins geometry number snapshot shard
+    → IsDone shape events geometry number snapshot (g.performer parts).tells [] shard [] None [] [] []
+is-first {g = g} shape events geometry number snapshot parts shard same none shape_is place begins =
+    record {
+      shape_is = shape_is;
+      place = place;
+      begun = [];
+      ops = [];
+      requests = refl;
+      served = (none, refl, refl);
+      passes = refl;
+      parts = refl;
+      comes = λ tell.
+          subst (λ y. ComesFrom geometry number snapshot (g.performer y).tells [] shard) same begins;
+    }
+
+-- ---- as calls do it
+
+pub put-on : {P D : Type 0} {g : Ghosts P} (shape : Shape) (events : List Event) (geometry : Shape) (number : ℕ) (snapshot : Snapshot)
+    (before : ℕ → ℕ → Option Telling) (numbers : List ℕ) (old new : Runner P D g)
+    (d : Due) (n waits : ℕ) (duty : Duty) → task_at shape number events n ≡ Some (task n waits duty)
+    → request_in n duty ≡ request_of d.event d.duty → pass_in n duty ≡ pass_of d.event d.duty → part_in n duty ≡ None
+    → IsPut d old new
+    → HasDone shape events geometry number snapshot before numbers old
+    → HasDone shape events geometry number snapshot before (numbers ++ n ∷ []) new
+put-on shape events geometry number snapshot before numbers old new d n waits duty at request pass part h x =
+    is-like shape events geometry number snapshot before (numbers ++ n ∷ []) old.shard new.shard old.refused.items new.refused.items
+    old.passing new.passing old.passed.items new.passed.items old.handed.items new.handed.items (old.due.items ++ d ∷ []) new.due.items
+    h.shard h.refused h.passing h.passed h.handed h.due_is
+    (is-put shape events geometry number snapshot before numbers old.shard old.refused.items old.passing old.passed.items old.handed.items
+    old.due.items d n waits duty at request pass part x)
+
+pub handed-on : {P D : Type 0} {g : Ghosts P} (told : D → Telling) (promised : D → Promise) (shape : Shape) (events : List Event) (geometry : Shape) (number : ℕ) (snapshot : Snapshot)
+    (before : ℕ → ℕ → Option Telling) (numbers : List ℕ) (old new : Runner P D g) (n waits : ℕ) (part : Part D)
+    → task_at shape number events n ≡ Some (task n waits (Takes_up part.slot (told part.device)))
+    → IsHandedIn told promised n part old new
+    → HasDone shape events geometry number snapshot before numbers old
+    → HasDone shape events geometry number snapshot before (numbers ++ n ∷ []) new
+handed-on told promised shape events geometry number snapshot before numbers old new n waits part at h x =
+    let more : List Handed = old.handed.items ++ record { event = n; slot = part.slot; generation = part.generation; taken = h.taken } ∷ [] in
+    is-like shape events geometry number snapshot before (numbers ++ n ∷ []) new.shard new.shard old.refused.items new.refused.items
+    old.passing new.passing old.passed.items new.passed.items more new.handed.items old.due.items new.due.items
+    refl h.refused h.passing h.passed h.handed h.due
+    (is-handed told promised shape events geometry number snapshot before numbers old.shard new.shard old.refused.items old.passing old.passed.items
+    old.handed.items old.due.items n waits part h.taken h.back at h.shard x)
+
+pub served-on : {P D : Type 0} {g : Ghosts P} (shape : Shape) (events : List Event) (geometry : Shape) (number : ℕ) (snapshot : Snapshot)
+    (before : ℕ → ℕ → Option Telling) (numbers : List ℕ) (old new : Runner P D g) (d : Due) (due : List Due) (event : ℕ) (op : Op)
+    → request_of d.event d.duty ≡ Some (record { event = event; op = op }) → pass_of d.event d.duty ≡ None
+    → new.due.items ≡ due → new.passing ≡ old.passing → new.passed.items ≡ old.passed.items → new.handed.items ≡ old.handed.items
+    → IsOutcome event op old.shard new.shard old.refused.items new.refused.items
+    → old.due.items ≡ d ∷ due
+    → HasDone shape events geometry number snapshot before numbers old
+    → HasDone shape events geometry number snapshot before numbers new
+served-on shape events geometry number snapshot before numbers old new d due event op request pass e5 e2 e3 e4 outcome first x =
+    is-like shape events geometry number snapshot before numbers new.shard new.shard new.refused.items new.refused.items
+    old.passing new.passing old.passed.items new.passed.items old.handed.items new.handed.items due new.due.items refl refl e2 e3 e4 e5
+    (has-begun shape events geometry number snapshot before numbers old.shard new.shard old.refused.items new.refused.items old.passing
+    old.passed.items old.handed.items d due event op request pass outcome
+    (subst (λ y. IsDone shape events geometry number snapshot before numbers old.shard old.refused.items old.passing old.passed.items old.handed.items y)
+    first x))
+
+-- a check or repair that was due began
+pub passing-on : {P D : Type 0} {g : Ghosts P} (shape : Shape) (events : List Event) (geometry : Shape) (number : ℕ) (snapshot : Snapshot)
+    (before : ℕ → ℕ → Option Telling) (numbers : List ℕ) (old mid new : Runner P D g) (d : Due) (due : List Due) (task : Pass)
+    → request_of d.event d.duty ≡ None → pass_of d.event d.duty ≡ Some (d.event, task) → IsPassing d.event task mid new
+    → old.passing ≡ None → mid.shard ≡ old.shard → mid.refused.items ≡ old.refused.items → mid.passed.items ≡ old.passed.items
+    → mid.handed.items ≡ old.handed.items → mid.due.items ≡ due → old.due.items ≡ d ∷ due
+    → HasDone shape events geometry number snapshot before numbers old
+    → HasDone shape events geometry number snapshot before numbers new
+passing-on shape events geometry number snapshot before numbers old mid new d due task request pass h none e1 e2 e3 e4 e5 first x =
+    is-like shape events geometry number snapshot before numbers old.shard new.shard old.refused.items new.refused.items
+    (Some h.passing) new.passing old.passed.items new.passed.items old.handed.items new.handed.items due new.due.items
+    (h.shard ∙ e1) (h.refused ∙ e2) h.under_way (h.passed ∙ e3) (h.handed ∙ e4) (h.due ∙ e5)
+    (has-passing shape events geometry number snapshot before numbers old.shard old.refused.items old.passed.items old.handed.items
+    d due h.passing request (pass ∙ (λ i. Some (sym h.event_is i, sym h.task_is i)))
+    (subst (λ y. IsDone shape events geometry number snapshot before numbers old.shard old.refused.items y old.passed.items old.handed.items (d ∷ due))
+    none
+    (subst (λ y. IsDone shape events geometry number snapshot before numbers old.shard old.refused.items old.passing old.passed.items old.handed.items y)
+    first x)))
+
+-- ---- one call after another
+
+pub shard-on : {P D : Type 0} {g : Ghosts P} (a b c : Runner P D g) → ShardGoesOn a b → ShardGoesOn b c → ShardGoesOn a c
+shard-on a b c x y =
+    record {
+      course = λ s ops h. y.course s ops (x.course s ops h);
+      lasts = lasts_on a.shard.core b.shard.core c.shard.core x.lasts y.lasts;
+      asked = y.asked ∙ x.asked;
+      waits = y.waits ∙ x.waits;
+      refused = y.refused ∙ x.refused;
+      kept = record {
+        due = y.kept.due ∙ x.kept.due;
+        passing = y.kept.passing ∙ x.kept.passing;
+        passed = y.kept.passed ∙ x.kept.passed;
+        handed = y.kept.handed ∙ x.kept.handed;
+        others = y.kept.others ∙ x.kept.others;
+        room = y.kept.room ∙ x.kept.room;
+        rows = y.kept.rows ∙ x.kept.rows;
+      };
+    }
+
+pub self-on : {P D : Type 0} {g : Ghosts P} (a b c : Runner P D g) → KeepsSelf a b → KeepsSelf b c → KeepsSelf a c
+self-on a b c x y = record { pass = y.pass ∙ x.pass; place = y.place ∙ x.place; room = y.room ∙ x.room }
+
+-- a check or repair goes on with the shard
+pub gone-passing : {P D : Type 0} {g : Ghosts P} (shape : Shape) (events : List Event) (geometry : Shape) (number : ℕ) (snapshot : Snapshot)
+    (before : ℕ → ℕ → Option Telling) (numbers : List ℕ) (old mid : Runner P D g) (passing passing' : Passing)
+    → old.passing ≡ Some passing → ShardGoesOn old mid → passing'.event ≡ passing.event → passing'.task ≡ passing.task
+    → HasDone shape events geometry number snapshot before numbers old
+    → IsDone shape events geometry number snapshot before numbers mid.shard mid.refused.items (Some passing') mid.passed.items mid.handed.items
+    mid.due.items
+gone-passing shape events geometry number snapshot before numbers old mid passing passing' is h event task x =
+    same-passing shape events geometry number snapshot before numbers mid.shard mid.refused.items passing passing' mid.passed.items
+    mid.handed.items mid.due.items event task
+    (is-like shape events geometry number snapshot before numbers mid.shard mid.shard old.refused.items mid.refused.items old.passing (Some passing)
+    old.passed.items mid.passed.items old.handed.items mid.handed.items old.due.items mid.due.items refl
+    h.refused (sym is) h.kept.passed h.kept.handed h.kept.due
+    (has-gone shape events geometry number snapshot before numbers old.shard mid.shard old.refused.items old.passing old.passed.items
+    old.handed.items old.due.items h.course h.lasts h.asked x))
+
+-- a check or repair is over
+pub gone-over : {P D : Type 0} {g : Ghosts P} (shape : Shape) (events : List Event) (geometry : Shape) (number : ℕ) (snapshot : Snapshot)
+    (before : ℕ → ℕ → Option Telling) (numbers : List ℕ) (old : Runner P D g) (passing : Passing) (passed : List Passed) (last : Passed)
+    → old.passing ≡ Some passing → passed ≡ old.passed.items ++ last ∷ [] → last.event ≡ passing.event → last.task ≡ passing.task
+    → HasDone shape events geometry number snapshot before numbers old
+    → IsDone shape events geometry number snapshot before numbers old.shard old.refused.items None passed old.handed.items old.due.items
+gone-over shape events geometry number snapshot before numbers old passing passed last is more event task x =
+    subst (λ y. IsDone shape events geometry number snapshot before numbers old.shard old.refused.items None y old.handed.items old.due.items)
+    (sym more)
+    (has-ended shape events geometry number snapshot before numbers old.shard old.refused.items passing old.passed.items last
+    old.handed.items old.due.items event task
+    (subst (λ y. IsDone shape events geometry number snapshot before numbers old.shard old.refused.items y old.passed.items old.handed.items old.due.items)
+    is x))
+
+-- of one shard, one taking behind another
+pub goes-then : {P D : Type 0} {g : Ghosts P} (shape : Shape) (events : List Event) (number number' : ℕ) (a b c : List ℕ) (r s t : Runner P D g)
+    → number' ≡ number → GoesOn shape events number a b r s → GoesOn shape events number' b c s t
+    → GoesOn shape events number a c r t
+goes-then shape events number number' a b c r s t same x y = λ geometry snapshot before h.
+    subst (λ (n : ℕ). HasDone shape events geometry n snapshot before c t) same
+    (y geometry snapshot before (subst (λ (n : ℕ). HasDone shape events geometry n snapshot before b s) (sym same)
+    (x geometry snapshot before h)))

@@ -1,0 +1,55 @@
+//! Calls at the register, each made until others no longer come between.
+
+ghost use Rattle.std.specs.Prelude.{◌≡◌, ◌++◌, false};
+ghost use Rattle.r6_health.specs.Passes.{IsPassOf, Tells, Adds, view_of};
+ghost use Rattle.r6_health.specs.Views.{Attached, attached_by};
+ghost use Rattle.r6_health.specs.declared.call.Call.TheVariants.{Fail};
+ghost use Rattle.r6_engine.specs.feed.Feeds.{is_contended};
+
+use r6_health::{Answer, Pass, Refusal, Register};
+use std::sync::Wait;
+use std::thread;
+
+// The slot is lost.
+pub(crate) fn fail<R: Wait>(
+    rt: &R,
+    register: &Register,
+    pass: &mut Pass,
+    slot: usize,
+) -> Result<Answer, Refusal>
+    requires { IsPassOf register.now pass.old }
+    ensures pass { IsPassOf register.now pass.new }
+    ensures answered { Tells pass.old (Fail slot) result pass.new }
+    ensures own { Adds pass.old (Fail slot) result pass.new }
+    ensures settled { is_contended result ≡ false }
+{
+    for _ in rt.forever() {
+        match register.fail(rt, pass, slot) {
+            Err(Refusal::Contended) => thread::yield_now(),
+            answer => return answer,
+        }
+    }
+    unreachable!()
+}
+
+// The slot gets a new device.
+pub(crate) fn attach<R: Wait>(
+    rt: &R,
+    register: &Register,
+    pass: &mut Pass,
+    slot: usize,
+) -> Result<u32, Refusal>
+    requires { IsPassOf register.now pass.old }
+    ensures pass { IsPassOf register.now pass.new }
+    ensures answered { Attached (view_of pass.old) slot result (view_of pass.new) }
+    ensures own { (view_of pass.new).mine ≡ (view_of pass.old).mine ++ attached_by slot result }
+    ensures settled { is_contended result ≡ false }
+{
+    for _ in rt.forever() {
+        match register.attach(rt, pass, slot) {
+            Err(Refusal::Contended) => thread::yield_now(),
+            attached => return attached,
+        }
+    }
+    unreachable!()
+}

@@ -1,0 +1,7 @@
+//! The workers of a shard, as the shard's thread meets them: who performs its commands, elsewhere.
+
+mod ends;
+mod performing;
+mod remote;
+
+pub use remote::Remote;

@@ -1,0 +1,18 @@
+//! A shard whose thread takes what the events of a run ask of it from a list.
+
+mod beginning;
+mod due;
+mod left;
+mod making;
+mod pass;
+mod passing;
+mod run;
+mod runner;
+mod splitting;
+mod taking;
+
+pub use due::{Due, Duty};
+pub use left::Left;
+pub use pass::{Passed, Passing};
+pub use run::Taking;
+pub use runner::{Handed, Runner};

@@ -1,0 +1,132 @@
+//! What is due is begun.
+
+ghost use Rattle.std.specs.Prelude.{◌≡◌, ◌<◌, true, Some, None, slice_get};
+ghost use Rattle.r6_core.specs.Refusals.{most_unanswered};
+ghost use Rattle.r6_engine.specs.lists.Events.{waits_before};
+ghost use Rattle.r6_shard.specs.Counted.{rows_of};
+ghost use Rattle.r6_engine.specs.runner.Counted.{KeepsCounted};
+ghost use Rattle.r6_engine.specs.runner.Parts.{KeepsParts};
+ghost use Rattle.r6_engine.specs.runner.Runners.{GoesOnSame, IsServed, IsPassing, KeepsSelf, taken_by};
+ghost use Rattle.r6_engine.specs.runner.Sound.{KeepsSound};
+ghost use Rattle.r6_engine.specs.runner.Waits.{HasAwaited, KeepsAwaited, MayFollow};
+
+use crate::runner::due::{Due, Duty};
+use crate::runner::pass::Passing;
+use crate::runner::runner::Runner;
+use r6_core::{Op, Task};
+use r6_dev::BlockDevice;
+use r6_shard::{Performs, TakesParts};
+use std::sync::Wait;
+
+// As many requests may be open at one time, of the 256 that a core may have: as many as it may hold rows, and as read
+// without one. More wait in the core and are no quicker there (docs/BENCHMARKS.md).
+const MOST_OPEN: usize = 64;
+
+impl<P: Performs + Drop, D: BlockDevice + Drop> Runner<P, D>
+where
+    P: TakesParts<D>,
+{
+    // A request is handed in, behind so many waits.
+    fn hand_over(&mut self, event: u64, waits: u64, op: Op)
+        requires room { taken_by self.old < self.old.room }
+        requires few { self.old.shard.core.unanswered < most_unanswered }
+        requires follows { MayFollow waits self.old }
+
+        ensures served { IsServed event op self.old self.new }
+        ensures parts { KeepsParts self.old self.new }
+
+        ensures counted { KeepsCounted self.old self.new }
+        ensures sound { KeepsSound self.old self.new }
+        ensures place { self.new.shard.core.shard ≡ self.old.shard.core.shard }
+        ensures awaited { (events : _) → waits ≡ waits_before events event
+            → HasAwaited events self.old → HasAwaited events self.new }
+    {
+        match self.shard.submit(event, op) {
+            Ok(_) => self.waits = waits,
+            Err(refused) => self.refused.push_reserved((event, refused.refusal)),
+        }
+    }
+
+    // Every row is to be passed over.
+    fn begin_pass(&mut self, event: u64, task: Task)
+        requires room { taken_by self.old < self.old.room }
+        requires none { self.old.passing ≡ None }
+        requires task { rows_of task ≡ 1 }
+        ensures begun { IsPassing event task self.old self.new }
+        ensures parts { KeepsParts self.old self.new }
+        ensures counted { KeepsCounted self.old self.new }
+        ensures sound { KeepsSound self.old self.new }
+        ensures awaited { KeepsAwaited self.old self.new }
+    {
+        self.passing = Some(Passing {
+            event,
+            task,
+            left: self.rows,
+            given_up: false,
+            before: self.shard.core.counts(),
+        });
+    }
+
+    // Whether what is due next may begin: a request once all that came before a wait before it are answered, a check
+    // or repair once all are; and nothing while every row is passed over.
+    fn may_begin(&self) -> bool
+        ensures none { result ≡ true → self.now.passing ≡ None }
+        ensures few { result ≡ true → self.now.shard.core.unanswered < most_unanswered }
+        ensures follows { result ≡ true → (due : _) → slice_get self.now.due.items 0 ≡ Some due
+            → MayFollow due.waits self.now }
+    {
+        let Some(due) = self.due.front() else {
+            return false;
+        };
+        if self.passing.is_some() {
+            return false;
+        }
+        let open = self.shard.asked.len() - self.shard.entries.len();
+        match due.duty {
+            Duty::Serve(_) => open == 0 || (due.waits == self.waits && open < MOST_OPEN),
+            Duty::Check | Duty::Repair => open == 0,
+        }
+    }
+
+    // Begins what is due next, if it may begin; whether it did.
+    fn begin_next(&mut self) -> bool
+        ensures course { GoesOnSame self.old self.new }
+        ensures counted { KeepsCounted self.old self.new }
+        ensures sound { KeepsSound self.old self.new }
+        ensures awaited { KeepsAwaited self.old self.new }
+        ensures same { KeepsSelf self.old self.new }
+        ensures parts { KeepsParts self.old self.new }
+        ensures count { taken_by self.new ≡ taken_by self.old }
+    {
+        if !self.may_begin() {
+            return false;
+        }
+        let Some(due) = self.due.pop_front() else {
+            return false;
+        };
+        let Due { event, waits, duty } = due;
+        match duty {
+            Duty::Serve(op) => self.hand_over(event, waits, op),
+            Duty::Check => self.begin_pass(event, Task::Check),
+            Duty::Repair => self.begin_pass(event, Task::Repair),
+        }
+        true
+    }
+
+    // Begins all that may begin.
+    pub(crate) fn begin_all<R: Wait>(&mut self, rt: &R)
+        ensures course { GoesOnSame self.old self.new }
+        ensures counted { KeepsCounted self.old self.new }
+        ensures sound { KeepsSound self.old self.new }
+        ensures awaited { KeepsAwaited self.old self.new }
+        ensures same { KeepsSelf self.old self.new }
+        ensures parts { KeepsParts self.old self.new }
+        ensures count { taken_by self.new ≡ taken_by self.old }
+    {
+        for _ in rt.forever() {
+            if !self.begin_next() {
+                break;
+            }
+        }
+    }
+}

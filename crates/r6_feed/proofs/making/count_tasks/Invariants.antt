@@ -1,8 +1,0 @@
-use Rattle.std.proofs.Common.{◌≡◌, length}
-use Rattle.r6_feed.specs.Events.{events_of}
-use Rattle.r6_feed.specs.Feeds.{tasks_before}
-use Rattle.r6_feed.proofs.making.count_tasks.Given as goal
-
-abbrev pub invariant-loop-event : goal.invariant-loop-event
-invariant-loop-event g l =
-    l.count ≡ length (tasks_before l.fn.geometry l.fn.shard (events_of g.D.BlockDevice.told l.fn.events) l.event-index)

@@ -1,9 +1,0 @@
-use Rattle.std.proofs.Common.{◌≡◌, length}
-use Rattle.r6_feed.proofs.Putting.{Each, IsEnding, next_below}
-use Rattle.r6_feed.proofs.shards.Shards.end_all.Given as goal
-
-abbrev pub invariant-loop-shard : goal.invariant-loop-shard
-invariant-loop-shard g l = record {
-  shards : length l.producers ≡ g.L.Events.shape.shards;
-  each : Each (IsEnding g.L.Events.shape g.L.Events.events l.self.queues.now) l.producers (next_below l.shard 0);
-}

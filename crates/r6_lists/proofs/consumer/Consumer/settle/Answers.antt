@@ -1,9 +1,0 @@
-use Rattle.std.proofs.Common.{ap, filter, ◌∙◌}
-use Rattle.r6_lists.specs.Events.{asks_at}
-use Rattle.r6_lists.proofs.Tasks.{requests_taken}
-use Rattle.r6_lists.proofs.consumer.Consumer.settle.Goals as goal
-
-pub returns-clause-requests : goal.returns-clause-requests
-returns-clause-requests g c =
-    ap (filter (asks_at g.L.Events.events)) (c.args.self.whole c.requires.finished)
-    ∙ requests_taken g.L.Events.shape c.args.self.shard g.L.Events.events

@@ -1,5 +1,0 @@
-use Rattle.r6_lists.proofs.Entries.{due-rule}
-use Rattle.r6_lists.proofs.queue.Queue.new.Goals as goal
-
-pub new-requires-clause-lawful : goal.new-requires-clause-lawful
-new-requires-clause-lawful g c = due-rule g.L.Events.shape g.L.Events.events
